@@ -1,0 +1,36 @@
+//! Addresses of both protocols, and where a datagram came from.
+ghost use Rattle.std.specs.Prelude.{◌≡◌, ◌<◌, ◌^◌};
+ghost use Rattle.types.specs.Addr.{number4, addr4};
+
+/// An IPv4 address, its first byte first.
+#[derive(Clone, Copy, Debug, Default, PartialEq, Eq)]
+pub struct Addr4(pub [u8; 4]);
+
+/// An IPv6 address, its first byte first.
+#[derive(Clone, Copy, Debug, PartialEq, Eq)]
+pub struct Addr6(pub [u8; 16]);
+
+/// The address and UDP port that a datagram came from.
+#[derive(Clone, Copy, Debug, PartialEq, Eq)]
+pub struct Source {
+    pub addr: Addr4,
+    pub port: u16,
+}
+
+impl Addr4 {
+    /// The address as a number, its first byte the most significant.
+    pub fn number(self) -> u32
+        ensures value { result ≡ number4 self }
+        ensures within { result < 2 ^ 32 }
+    {
+        u32::from_be_bytes(self.0)
+    }
+
+    /// The address of a number.
+    pub fn from_number(number: u32) -> Addr4
+        ensures address { result ≡ addr4 number }
+        ensures number { number4 result ≡ number }
+    {
+        Addr4(number.to_be_bytes())
+    }
+}

@@ -1,0 +1,84 @@
+//! What tells DHCPv4 clients apart.
+ghost use Rattle.std.specs.Prelude.{◌≡◌, ◌≤◌, ◌↔◌, length, IsSome, IfSome};
+ghost use Rattle.std.specs.Str.{bytes_eq};
+
+use std::marker::Model;
+
+/// The fewest bytes of a client identifier (RFC 2132, section 9.14).
+pub const MIN_KEY4: usize = 2;
+
+/// The most bytes of a client identifier that is served.
+pub const MAX_KEY4: usize = 64;
+
+/// A DHCPv4 client: the 2 to 64 bytes of its client identifier (option 61), or the 7 bytes of its
+/// hardware type and address. Two are equal where their bytes are.
+#[derive(Clone, Copy, Debug)]
+pub struct Key4 {
+    len: u8,
+    // zeros past `len`
+    bytes: [u8; 64],
+}
+
+impl Model for Key4 {
+    ghost use Rattle.std.specs.Prelude.{ℕ, List, take};
+
+    ghost Value = { List ℕ };
+
+    ghost use Rattle.types.specs.Key4.{IsKey4, padded, fields_again};
+    ghost use Rattle.std.specs.Prelude.{length};
+
+    ghost view = { λ k. take k.len k.bytes };
+
+    ghost invariant = { λ k. IsKey4 k.len k.bytes };
+
+    ghost inverse = { λ xs. record { len = length xs; bytes = padded xs } };
+
+    ghost inverse_ok = { λ k h. fields_again k h };
+}
+
+impl Key4 {
+    /// The key of these bytes; none where they are fewer than 2 or more than 64.
+    pub fn new(bytes: &[u8]) -> Option<Key4>
+        ensures within { IsSome result ↔ ((MIN_KEY4 ≤ length bytes.now) × (length bytes.now ≤ MAX_KEY4)) }
+        ensures value { IfSome result (λ key. key ≡ bytes.now) }
+    {
+        if bytes.len() < MIN_KEY4 || bytes.len() > MAX_KEY4 {
+            return None;
+        }
+        let mut padded = [0; 64];
+        padded[..bytes.len()].copy_from_slice(bytes);
+        Some(Key4 {
+            len: bytes.len() as u8,
+            bytes: padded,
+        })
+    }
+
+    pub fn as_bytes(&self) -> &[u8]
+        ensures value { result.now ≡ self.now }
+        ensures least { MIN_KEY4 ≤ length self.now }
+        ensures most { length self.now ≤ MAX_KEY4 }
+    {
+        &self.bytes[..usize::from(self.len)]
+    }
+}
+
+impl PartialEq for Key4 {
+    ghost use Rattle.std.specs.Str.{bytes_eq};
+    ghost use Rattle.std.proofs.Common.{rules};
+    ghost use Rattle.std.specs.Cmp.Rules.{comparing};
+
+    ghost eq = { bytes_eq };
+
+    ghost laws = { Prim.search (comparing, rules) };
+
+    fn eq(&self, other: &Key4) -> bool {
+        self.as_bytes() == other.as_bytes()
+    }
+}
+
+impl Eq for Key4 {
+    ghost use Rattle.std.proofs.Common.{rules};
+    ghost use Rattle.std.specs.Cmp.Rules.{comparing};
+
+    ghost laws = { Prim.search (comparing, rules) };
+}

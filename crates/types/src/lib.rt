@@ -1,0 +1,35 @@
+//! The values that every crate speaks of, each within its limits, and the numbered reasons for which
+//! a frame or a datagram is dropped.
+#![tactic(auto)]
+
+mod addr;
+mod circuit;
+mod circuit_id;
+mod count;
+mod dest;
+mod discard;
+mod key4;
+mod kind4;
+mod limits;
+mod moment;
+mod pool4;
+mod relay_no;
+mod request4;
+mod slot4;
+#[cfg(test)]
+mod tests;
+
+pub use addr::{Addr4, Addr6, Source};
+pub use circuit::Circuit;
+pub use circuit_id::{CircuitId, MAX_CIRCUIT_ID};
+pub use count::Count;
+pub use dest::{Dest, Proto};
+pub use discard::Discard;
+pub use key4::{Key4, MAX_KEY4, MIN_KEY4};
+pub use kind4::Kind4;
+pub use limits::{MAX_CIRCUITS, MAX_DATAGRAM, MAX_FRAME, MAX_RELAYS};
+pub use moment::{LAST_MOMENT, Moment};
+pub use pool4::{MAX_LEASE, MAX_POOL, MIN_LEASE, Pool4};
+pub use relay_no::RelayNo;
+pub use request4::{Reply4, Request4};
+pub use slot4::Slot4;

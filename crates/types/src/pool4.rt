@@ -1,0 +1,72 @@
+//! The DHCPv4 addresses of one circuit.
+ghost use Rattle.std.specs.Prelude.{◌≡◌, ◌+◌, ◌^◌, ◌<◌, ◌≤◌, ◌↔◌, IsSome, IfSome};
+ghost use Rattle.types.specs.Addr.{number4};
+ghost use Rattle.types.specs.Pool4.{IsPool4};
+
+use crate::addr::Addr4;
+
+/// The most addresses of a pool.
+pub const MAX_POOL: usize = 16;
+
+/// The shortest lease, in seconds.
+pub const MIN_LEASE: u32 = 60;
+
+/// The longest lease, in seconds: a week.
+pub const MAX_LEASE: u32 = 604_800;
+
+/// A circuit's DHCPv4 pool: 1 to 16 consecutive addresses, none past the last IPv4 address, its
+/// gateway, and the lease time, 60 to 604800 seconds.
+#[derive(Clone, Copy, Debug, PartialEq, Eq)]
+pub struct Pool4 {
+    pub first: Addr4,
+    pub count: u8,
+    pub gateway: Addr4,
+    pub lease: u32,
+    pub ghost within: { IsPool4 first count lease },
+}
+
+impl Pool4 {
+    /// The pool with these values; none where one of them is outside its limits.
+    pub fn new(first: Addr4, count: u8, gateway: Addr4, lease: u32) -> Option<Pool4>
+        ensures within { IsSome result ↔ IsPool4 first count lease }
+        ensures first { IfSome result (λ pool. pool.first ≡ first) }
+        ensures count { IfSome result (λ pool. pool.count ≡ count) }
+        ensures gateway { IfSome result (λ pool. pool.gateway ≡ gateway) }
+        ensures lease { IfSome result (λ pool. pool.lease ≡ lease) }
+    {
+        let in_limits = 1 <= count
+            && usize::from(count) <= MAX_POOL
+            && MIN_LEASE <= lease
+            && lease <= MAX_LEASE;
+        if !in_limits || u64::from(first.number()) + u64::from(count) > 1 << 32 {
+            return None;
+        }
+        Some(Pool4 {
+            first,
+            count,
+            gateway,
+            lease,
+        })
+    }
+
+    /// The address at this place of the pool, 0 the lowest; none past the pool's end.
+    pub fn address(self, place: usize) -> Option<Addr4>
+        ensures within { IsSome result ↔ (place < self.count) }
+        ensures value { IfSome result (λ address. number4 address ≡ number4 self.first + place) }
+    {
+        if place >= usize::from(self.count) {
+            return None;
+        }
+        Some(Addr4::from_number(self.first.number() + place as u32))
+    }
+
+    /// The place of an address in the pool, 0 the lowest; none where the pool has no such address.
+    pub fn place(self, address: Addr4) -> Option<usize>
+        ensures within { IsSome result ↔ ((number4 self.first ≤ number4 address) × (number4 address < number4 self.first + self.count)) }
+        ensures value { IfSome result (λ place. number4 self.first + place ≡ number4 address) }
+        ensures below { IfSome result (λ place. place < self.count) }
+    {
+        let place = address.number().checked_sub(self.first.number())? as usize;
+        (place < usize::from(self.count)).then_some(place)
+    }
+}

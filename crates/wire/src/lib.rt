@@ -1,0 +1,13 @@
+//! Bytes as they come and go: a cursor over a source, a buffer of one datagram, and the laws of
+//! big-endian numbers.
+#![tactic(auto)]
+
+mod cursor;
+mod numbers;
+mod packet_buf;
+#[cfg(test)]
+mod tests;
+
+pub use cursor::{Cursor, Short};
+pub use numbers::{bytes_again, number_again};
+pub use packet_buf::{Full, PacketBuf};
