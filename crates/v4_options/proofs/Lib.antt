@@ -1,0 +1,10 @@
+pub mod Steps
+pub mod Places
+pub mod Distinct
+pub mod Fronts
+pub mod Exact
+pub mod Left
+pub mod Substeps
+pub mod Subplaces
+pub mod Subexact
+pub mod Lengths

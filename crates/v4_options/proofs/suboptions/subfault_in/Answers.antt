@@ -1,0 +1,18 @@
+use Rattle.std.proofs.Common.{ℕ, Bool, ap, ◌∙◌}
+use Rattle.v4_options.specs.Subreading.{subfault_from}
+use Rattle.v4_options.proofs.Subplaces.{subfault_is}
+use Rattle.v4_options.proofs.suboptions.subfault_in.Goals as goal
+
+pub returns-in-Nothing : goal.returns-in-Nothing
+returns-in-Nothing c = rw (subfault_is _ _ _ c.in-Nothing.ensures) at c.row.invariant
+
+pub returns-in-Cut : goal.returns-in-Cut
+returns-in-Cut c = rw (subfault_is _ _ _ c.in-Cut.ensures) at c.row.invariant
+
+pub returns-then-has : goal.returns-then-has
+returns-then-has c = rw (subfault_is _ _ _ c.in-Whole.ensures, ← c.has.ensures, c.if-has.true) at c.row.invariant
+
+pub row-preserved : goal.row-preserved
+row-preserved c =
+    let e = rw (subfault_is _ _ _ c.in-Whole.ensures, ← c.has.ensures, c.if-has.false) at c.row.invariant in
+    ap (λ (seen : ℕ → Bool). subfault_from seen 0 c.in-Whole.after.now) c.add.ensures ∙ e

@@ -1,0 +1,74 @@
+-- Which lists of options bytes spell (RFC 2132, section 2), and why others spell none.
+use Rattle.std.specs.Prelude.{◌≡◌, ◌≢◌, ℕ, ◌<◌, ◌==◌, List, [], ◌∷◌, ◌++◌, length, Option, Some, None, IsSome, if◌then◌else◌}
+use Rattle.v4_options.specs.declared.code.TheConstants.{PAD, END}
+use Rattle.v4_options.specs.declared.fault.OptFault.{OptFault}
+use Rattle.v4_options.specs.declared.fault.OptFault.TheVariants.{NoEnd, Cut, Twice}
+
+-- The bytes of an option are its code, the length of its value, and its value.
+abbrev pub option : ℕ → List ℕ → List ℕ
+option code value = code ∷ length value ∷ value
+
+-- The bytes of a list are those of its options, one behind the other.
+abbrev pub spelling : List (ℕ × List ℕ) → List ℕ
+spelling [] = []
+spelling (o ∷ os) = option o.0 o.1 ++ spelling os
+
+-- The value of the first option with this code.
+abbrev pub look_up : ℕ → List (ℕ × List ℕ) → Option (List ℕ)
+look_up code [] = None
+look_up code (o ∷ os) = if o.0 == code then Some o.1 else look_up code os
+
+-- A list without the options of this code.
+abbrev pub without : ℕ → List (ℕ × List ℕ) → List (ℕ × List ℕ)
+without code [] = []
+without code (o ∷ os) = if o.0 == code then without code os else o ∷ without code os
+
+-- The codes are neither the pad's nor the end's, and none comes again.
+abbrev pub AreOptions : List (ℕ × List ℕ) → Type 0
+AreOptions [] = Unit {0}
+AreOptions (o ∷ os) = (o.0 ≢ PAD) × (o.0 ≢ END) × (look_up o.0 os ≡ None) × AreOptions os
+
+-- A front is a row of pieces, each a pad or a whole option.
+pub data Piece : Type 0 where
+  Pad : Piece
+  Whole : ℕ → List ℕ → Piece
+
+abbrev pub row : List Piece → List ℕ
+row [] = []
+row (Pad ∷ pieces) = PAD ∷ row pieces
+row (Whole code value ∷ pieces) = option code value ++ row pieces
+
+-- The options of a front, in order.
+abbrev pub options : List Piece → List (ℕ × List ℕ)
+options [] = []
+options (Pad ∷ pieces) = options pieces
+options (Whole code value ∷ pieces) = (code, value) ∷ options pieces
+
+-- Bytes spell a list where they are a front with distinct codes, an end and any rest, and the list
+-- is the front's options.
+pub record Spells (bytes : List ℕ) (list : List (ℕ × List ℕ)) : Type 0 where
+  pub front : List Piece
+  pub rest : List ℕ
+  pub whole : bytes ≡ row front ++ END ∷ rest
+  pub distinct : AreOptions (options front)
+  pub in_order : list ≡ options front
+
+-- Behind a code comes no length, or one that goes past the last byte.
+abbrev pub IsShort : List ℕ → Type 0
+IsShort [] = Unit {0}
+IsShort (len ∷ bytes) = length bytes < len
+
+-- What can follow the longest front, whose options these are, in place of an end: nothing, a code
+-- without its whole length and value, or a whole option with a code of the front.
+abbrev pub Stops : OptFault → List (ℕ × List ℕ) → List ℕ → Type 0
+Stops NoEnd list rest = rest ≡ []
+Stops Cut list rest = (code : ℕ) × (bytes : List ℕ) × (rest ≡ code ∷ bytes) × (code ≢ PAD) × (code ≢ END) × IsShort bytes
+Stops Twice list rest = (code : ℕ) × (value : List ℕ) × (more : List ℕ) × (rest ≡ option code value ++ more) × (code ≢ PAD) × (code ≢ END) × IsSome (look_up code list)
+
+-- Bytes have a fault where they are a front with distinct codes and what can follow it for that fault.
+pub record Fails (fault : OptFault) (bytes : List ℕ) : Type 0 where
+  pub front : List Piece
+  pub rest : List ℕ
+  pub whole : bytes ≡ row front ++ rest
+  pub distinct : AreOptions (options front)
+  pub stops : Stops fault (options front) rest

@@ -1,0 +1,54 @@
+//! Laws of the definitions alone: what any reader and writer of options can rely on.
+ghost use Rattle.std.specs.Prelude.{◌≡◌, ◌≢◌, ℕ, List, [], ◌∷◌, ◌++◌, Ok, None};
+ghost use Rattle.v4_options.specs.declared.code.TheConstants.{PAD, END};
+ghost use Rattle.v4_options.specs.declared.fault.OptFault.{OptFault};
+ghost use Rattle.v4_options.specs.declared.fault.SuboptFault.{SuboptFault};
+ghost use Rattle.v4_options.specs.Reading.{options_of};
+ghost use Rattle.v4_options.specs.Spelling.{spelling, look_up, without, AreOptions, Spells, Fails};
+ghost use Rattle.v4_options.specs.Suboptions.{AreDistinct, SpellsSuboptions, FailsSuboptions};
+ghost use Rattle.v4_options.specs.Subreading.{suboptions_of};
+
+/// What was written reads again to the same list, whatever follows its end option.
+pub fn written_is_read()
+    ensures read { (list : List (ℕ × List ℕ)) (rest : List ℕ) → AreOptions list → options_of (spelling list ++ END ∷ rest) ≡ Ok list }
+    ensures spelled { (list : List (ℕ × List ℕ)) (rest : List ℕ) → AreOptions list → Spells (spelling list ++ END ∷ rest) list }
+{}
+
+/// Bytes spell at most one list, have at most one fault, and never both. Lists that are spelled have
+/// distinct codes.
+pub fn one_reading()
+    ensures list { (bytes : List ℕ) (a : List (ℕ × List ℕ)) (b : List (ℕ × List ℕ)) → Spells bytes a → Spells bytes b → a ≡ b }
+    ensures fault { (bytes : List ℕ) (a : OptFault) (b : OptFault) → Fails a bytes → Fails b bytes → a ≡ b }
+    ensures never_both { (bytes : List ℕ) (list : List (ℕ × List ℕ)) (fault : OptFault) → Spells bytes list → Fails fault bytes → ⊥ }
+    ensures distinct { (bytes : List ℕ) (list : List (ℕ × List ℕ)) → Spells bytes list → AreOptions list }
+{}
+
+/// A list from which a code is left out has no option of that code, has each other one as it was, and
+/// has distinct codes where they were distinct.
+pub fn left_out()
+    ensures gone { (code : ℕ) (list : List (ℕ × List ℕ)) → look_up code (without code list) ≡ None }
+    ensures others { (code : ℕ) (other : ℕ) (list : List (ℕ × List ℕ)) → other ≢ code → look_up other (without code list) ≡ look_up other list }
+    ensures distinct { (code : ℕ) (list : List (ℕ × List ℕ)) → AreOptions list → AreOptions (without code list) }
+{}
+
+/// An option behind a list has its bytes behind the list's, and keeps the codes distinct where its code
+/// is new. It is found by its code, and each other option as before.
+pub fn appended()
+    ensures bytes { (a : List (ℕ × List ℕ)) (b : List (ℕ × List ℕ)) → spelling (a ++ b) ≡ spelling a ++ spelling b }
+    ensures distinct { (list : List (ℕ × List ℕ)) (code : ℕ) (value : List ℕ) → code ≢ PAD → code ≢ END → look_up code list ≡ None → AreOptions list → AreOptions (list ++ (code, value) ∷ []) }
+    ensures found { (list : List (ℕ × List ℕ)) (code : ℕ) (value : List ℕ) → look_up code list ≡ None → look_up code (list ++ (code, value) ∷ []) ≡ Some value }
+    ensures others { (list : List (ℕ × List ℕ)) (code : ℕ) (other : ℕ) (value : List ℕ) → other ≢ code → look_up other (list ++ (code, value) ∷ []) ≡ look_up other list }
+{}
+
+/// Suboptions that were written read again to the same list.
+pub fn subwritten_is_read()
+    ensures read { (list : List (ℕ × List ℕ)) → AreDistinct list → suboptions_of (spelling list) ≡ Ok list }
+    ensures spelled { (list : List (ℕ × List ℕ)) → AreDistinct list → SpellsSuboptions (spelling list) list }
+{}
+
+/// Bytes spell at most one list of suboptions, have at most one fault, and never both.
+pub fn one_subreading()
+    ensures list { (bytes : List ℕ) (a : List (ℕ × List ℕ)) (b : List (ℕ × List ℕ)) → SpellsSuboptions bytes a → SpellsSuboptions bytes b → a ≡ b }
+    ensures fault { (bytes : List ℕ) (a : SuboptFault) (b : SuboptFault) → FailsSuboptions a bytes → FailsSuboptions b bytes → a ≡ b }
+    ensures never_both { (bytes : List ℕ) (list : List (ℕ × List ℕ)) (fault : SuboptFault) → SpellsSuboptions bytes list → FailsSuboptions fault bytes → ⊥ }
+{}
