@@ -1,0 +1,177 @@
+-- A header's bytes give its fields back, and the fields of bytes are written as those bytes.
+use Rattle.std.proofs.Common.{◌≡◌, ℕ, ◌+◌, ◌^◌, ◌≤◌, ◌<◌, List, [], ◌∷◌, ◌++◌, length, take, drop, get_or, refl, sym, ap, ◌∙◌, append_assoc, arith, inl, inr, lit<}
+use Rattle.std.proofs.Math.Seq.{drop-cons}
+use Rattle.std.proofs.lemmas.Bool.{cases_lt}
+use Rattle.std.proofs.lemmas.List.{append-nil, take_at, drop_at, take-append-drop, drop-drop, length-append, length-take, length-take-le, length-drop, get_or-drop, get_or-take, get_or_past}
+use Rattle.std.proofs.lemmas.Nat.{be_bytes_2, from_be_bytes-to_be_bytes_2}
+use Rattle.std.specs.Int.{w16, from_be_bytes, to_be_bytes}
+use Rattle.wire.specs.Bytes.{AreBytes}
+use Rattle.v4_message.specs.declared.field.TheConstants.{OP, HTYPE, HLEN, HOPS, XID, SECS, FLAGS, CIADDR, YIADDR, SIADDR, GIADDR, CHADDR, SNAME, FILE, COOKIE, OPTIONS, XID_LEN, SECS_LEN, FLAGS_LEN, ADDR_LEN, CHADDR_LEN, SNAME_LEN, FILE_LEN, COOKIE_LEN, ETHERNET, ETHERNET_LEN, MAGIC_COOKIE}
+use Rattle.v4_message.specs.Header.{HeaderValue, IsSized, joined, fields_of, header_bytes, part, header_at}
+use Rattle.v4_message.specs.Spelling.{HasCookie, IsEthernet}
+
+-- Fields that are appended one after the other.
+pub gathered : (out first xid secs flags ciaddr yiaddr siaddr giaddr chaddr sname file cookie : List ℕ)
+    → (((((((((((out ++ first) ++ xid) ++ secs) ++ flags) ++ ciaddr) ++ yiaddr) ++ siaddr) ++ giaddr) ++ chaddr) ++ sname) ++ file) ++ cookie
+    ≡ out ++ ((first ++ (xid ++ (secs ++ (flags ++ (ciaddr ++ (yiaddr ++ (siaddr ++ (giaddr ++ (chaddr ++ (sname ++ (file ++ []))))))))))) ++ cookie)
+gathered out first xid secs flags ciaddr yiaddr siaddr giaddr chaddr sname file cookie = simp (append_assoc, append-nil)
+
+-- ---- parts of given sizes, in a row
+
+abbrev cut : ℕ → List ℕ → List ℕ → List (List ℕ)
+cut at [] bytes = []
+cut at (n ∷ ns) bytes = part bytes at n ∷ cut (at + n) ns bytes
+
+-- where they end
+abbrev end : ℕ → List ℕ → ℕ
+end at [] = at
+end at (n ∷ ns) = end (at + n) ns
+
+abbrev AreSized : List ℕ → List (List ℕ) → Type 0
+AreSized [] [] = Unit {0}
+AreSized [] (f ∷ fs) = ⊥
+AreSized (n ∷ ns) [] = ⊥
+AreSized (n ∷ ns) (f ∷ fs) = (length f ≡ n) × AreSized ns fs
+
+-- Fields that are joined are cut into the same fields.
+cut-joined : (at : ℕ) (ns : List ℕ) (front : List ℕ) (fields : List (List ℕ)) (rest : List ℕ) → length front ≡ at → AreSized ns fields → cut at ns (front ++ (joined fields ++ rest)) ≡ fields
+cut-joined at [] front [] rest e h = refl
+cut-joined at [] front (f ∷ fs) rest e h = absurd h
+cut-joined at (n ∷ ns) front [] rest e h = absurd h
+cut-joined at (n ∷ ns) front (f ∷ fs) rest e h =
+    let regroup : front ++ ((f ++ joined fs) ++ rest) ≡ (front ++ f) ++ (joined fs ++ rest) = simp append_assoc in
+    let len : length (front ++ f) ≡ at + n = omega (arith, length-append front f, e, h.0) in
+    let first : part (front ++ ((f ++ joined fs) ++ rest)) at n ≡ f =
+    ap (take n) (drop_at front ((f ++ joined fs) ++ rest) at e)
+    ∙ ap (take n) (append_assoc f (joined fs) rest)
+    ∙ take_at f (joined fs ++ rest) n h.0 in
+    let others : cut (at + n) ns (front ++ ((f ++ joined fs) ++ rest)) ≡ fs =
+    ap (cut (at + n) ns) regroup ∙ cut-joined (at + n) ns (front ++ f) fs rest len h.1 in
+    λ i. first i ∷ others i
+
+length-joined : (at : ℕ) (ns : List ℕ) (fields : List (List ℕ)) → AreSized ns fields → at + length (joined fields) ≡ end at ns
+length-joined at [] [] h = omega arith
+length-joined at [] (f ∷ fs) h = absurd h
+length-joined at (n ∷ ns) [] h = absurd h
+length-joined at (n ∷ ns) (f ∷ fs) h = omega (arith, length-append f (joined fs), h.0, length-joined (at + n) ns fs h.1)
+
+-- Parts that are cut are joined to the same bytes.
+joined-cut : (at : ℕ) (ns : List ℕ) (bytes : List ℕ) → joined (cut at ns bytes) ++ drop (end at ns) bytes ≡ drop at bytes
+joined-cut at [] bytes = refl
+joined-cut at (n ∷ ns) bytes =
+    append_assoc (part bytes at n) (joined (cut (at + n) ns bytes)) (drop (end (at + n) ns) bytes)
+    ∙ ap (λ (t : List ℕ). part bytes at n ++ t) (joined-cut (at + n) ns bytes ∙ sym (drop-drop n at bytes))
+    ∙ take-append-drop n (drop at bytes)
+
+-- ---- the header's fields
+
+abbrev sizes : List ℕ
+sizes = 1 ∷ 1 ∷ 1 ∷ 1 ∷ XID_LEN ∷ SECS_LEN ∷ FLAGS_LEN ∷ ADDR_LEN ∷ ADDR_LEN ∷ ADDR_LEN ∷ ADDR_LEN ∷ CHADDR_LEN ∷ SNAME_LEN ∷ FILE_LEN ∷ []
+
+sized_fields : (h : HeaderValue) → IsSized h → AreSized sizes (fields_of h)
+sized_fields h s = (refl, (refl, (refl, (refl, (s.xid, (s.secs, (refl, (s.ciaddr, (s.yiaddr, (s.siaddr, (s.giaddr, (s.chaddr, (s.sname, (s.file, tt))))))))))))))
+
+pub length-header_bytes : (h : HeaderValue) → IsSized h → length (header_bytes h) ≡ COOKIE
+length-header_bytes h s = omega (arith, length-joined 0 sizes (fields_of h) (sized_fields h s))
+
+pub length-part : (bytes : List ℕ) (at len : ℕ) → at + len ≤ length bytes → length (part bytes at len) ≡ len
+length-part bytes at len h =
+    let fits : len ≤ length (drop at bytes) = omega (arith, length-drop at bytes) in
+    length-take-le len (drop at bytes) fits
+
+one_byte : (bytes : List ℕ) (at : ℕ) → at < length bytes → part bytes at 1 ≡ get_or bytes at 0 ∷ []
+one_byte bytes at h = ap (take 1) (drop-cons bytes at 0 h)
+
+-- ---- from fields to bytes and back
+
+-- Bytes that begin with a header have that header.
+pub record Begins (bytes : List ℕ) (h : HeaderValue) (tail : List ℕ) : Type 0 where
+  pub long : OPTIONS ≤ length bytes
+  pub cookie : HasCookie bytes
+  pub ethernet : IsEthernet bytes
+  pub header : header_at bytes ≡ h
+  pub behind : drop OPTIONS bytes ≡ tail
+
+pub begins : (bytes : List ℕ) (h : HeaderValue) (tail : List ℕ) → IsSized h → bytes ≡ header_bytes h ++ (MAGIC_COOKIE ++ tail) → Begins bytes h tail
+begins bytes h tail s whole =
+    let front = length-header_bytes h s in
+    let behind_header : drop COOKIE bytes ≡ MAGIC_COOKIE ++ tail = ap (drop COOKIE) whole ∙ drop_at (header_bytes h) (MAGIC_COOKIE ++ tail) COOKIE front in
+    let parts : cut 0 sizes bytes ≡ fields_of h = ap (cut 0 sizes) whole ∙ cut-joined 0 sizes [] (fields_of h) (MAGIC_COOKIE ++ tail) refl (sized_fields h s) in
+    let long : OPTIONS ≤ length bytes = omega (arith, ap length whole, length-append (header_bytes h) (MAGIC_COOKIE ++ tail), front, length-append MAGIC_COOKIE tail) in
+    let op_byte : part bytes OP 1 ≡ get_or bytes OP 0 ∷ [] = one_byte bytes OP (omega arith) in
+    let htype_byte : part bytes HTYPE 1 ≡ get_or bytes HTYPE 0 ∷ [] = one_byte bytes HTYPE (omega arith) in
+    let hlen_byte : part bytes HLEN 1 ≡ get_or bytes HLEN 0 ∷ [] = one_byte bytes HLEN (omega arith) in
+    let hops_byte : part bytes HOPS 1 ≡ get_or bytes HOPS 0 ∷ [] = one_byte bytes HOPS (omega arith) in
+    let op : get_or bytes OP 0 ≡ h.op = cc in
+    let htype : get_or bytes HTYPE 0 ≡ ETHERNET = cc in
+    let hlen : get_or bytes HLEN 0 ≡ ETHERNET_LEN = cc in
+    let hops : get_or bytes HOPS 0 ≡ h.hops = cc in
+    let xid : part bytes XID XID_LEN ≡ h.xid = cc in
+    let secs : part bytes SECS SECS_LEN ≡ h.secs = cc in
+    let flag_bytes : part bytes FLAGS FLAGS_LEN ≡ to_be_bytes w16 h.flags = cc in
+    let flags : from_be_bytes w16 (part bytes FLAGS FLAGS_LEN) ≡ h.flags = ap (from_be_bytes w16) flag_bytes ∙ from_be_bytes-to_be_bytes_2 h.flags s.flags in
+    let ciaddr : part bytes CIADDR ADDR_LEN ≡ h.ciaddr = cc in
+    let yiaddr : part bytes YIADDR ADDR_LEN ≡ h.yiaddr = cc in
+    let siaddr : part bytes SIADDR ADDR_LEN ≡ h.siaddr = cc in
+    let giaddr : part bytes GIADDR ADDR_LEN ≡ h.giaddr = cc in
+    let chaddr : part bytes CHADDR CHADDR_LEN ≡ h.chaddr = cc in
+    let sname : part bytes SNAME SNAME_LEN ≡ h.sname = cc in
+    let file : part bytes FILE FILE_LEN ≡ h.file = cc in
+    record {
+      long = long;
+      cookie = ap (take COOKIE_LEN) behind_header ∙ take_at MAGIC_COOKIE tail COOKIE_LEN refl;
+      ethernet = (htype, hlen);
+      header = λ i. record { op = op i; hops = hops i; xid = xid i; secs = secs i; flags = flags i; ciaddr = ciaddr i; yiaddr = yiaddr i; siaddr = siaddr i; giaddr = giaddr i; chaddr = chaddr i; sname = sname i; file = file i };
+      behind = sym (drop-drop COOKIE_LEN COOKIE bytes) ∙ ap (drop COOKIE_LEN) behind_header ∙ drop_at MAGIC_COOKIE tail COOKIE_LEN refl;
+    }
+
+part_fits : (bytes : List ℕ) (at len i : ℕ) → AreBytes bytes → get_or (part bytes at len) i 0 < 256
+part_fits bytes at len i fits =
+    elim (cases_lt i len) [
+      | inl lt ↦ rw (get_or-take len (drop at bytes) i 0 lt, get_or-drop at bytes i 0) (fits.each (at + i))
+      | inr le ↦ past len (drop at bytes) i le
+    ]
+  where
+    past : (len : ℕ) (bytes : List ℕ) (i : ℕ) → len ≤ i → get_or (take len bytes) i 0 < 256
+    past len bytes i le =
+        let short : length (take len bytes) ≤ i = omega (arith, length-take len bytes) in
+        rw (get_or_past (take len bytes) i 0 short) (lit< tt)
+
+-- The fields of bytes are sized.
+pub sized_from_flags : (bytes : List ℕ) → OPTIONS ≤ length bytes → from_be_bytes w16 (part bytes FLAGS FLAGS_LEN) < 2 ^ 16 → IsSized (header_at bytes)
+sized_from_flags bytes long flags = record {
+  xid = length-part bytes XID XID_LEN (omega arith);
+  secs = length-part bytes SECS SECS_LEN (omega arith);
+  flags = flags;
+  ciaddr = length-part bytes CIADDR ADDR_LEN (omega arith);
+  yiaddr = length-part bytes YIADDR ADDR_LEN (omega arith);
+  siaddr = length-part bytes SIADDR ADDR_LEN (omega arith);
+  giaddr = length-part bytes GIADDR ADDR_LEN (omega arith);
+  chaddr = length-part bytes CHADDR CHADDR_LEN (omega arith);
+  sname = length-part bytes SNAME SNAME_LEN (omega arith);
+  file = length-part bytes FILE FILE_LEN (omega arith);
+}
+
+pub sized_at : (bytes : List ℕ) → AreBytes bytes → OPTIONS ≤ length bytes → IsSized (header_at bytes)
+sized_at bytes fits long = sized_from_flags bytes long (omega (arith, part_fits bytes FLAGS FLAGS_LEN 0 fits, part_fits bytes FLAGS FLAGS_LEN 1 fits))
+
+-- Bytes with a cookie are their header, the cookie, and what is behind it.
+pub whole : (bytes : List ℕ) → AreBytes bytes → OPTIONS ≤ length bytes → HasCookie bytes → IsEthernet bytes → bytes ≡ header_bytes (header_at bytes) ++ (MAGIC_COOKIE ++ drop OPTIONS bytes)
+whole bytes fits long cookie ethernet =
+    let op : part bytes OP 1 ≡ get_or bytes OP 0 ∷ [] = one_byte bytes OP (omega arith) in
+    let htype : part bytes HTYPE 1 ≡ ETHERNET ∷ [] = one_byte bytes HTYPE (omega arith) ∙ ap (λ (n : ℕ). n ∷ []) ethernet.0 in
+    let hlen : part bytes HLEN 1 ≡ ETHERNET_LEN ∷ [] = one_byte bytes HLEN (omega arith) ∙ ap (λ (n : ℕ). n ∷ []) ethernet.1 in
+    let hops : part bytes HOPS 1 ≡ get_or bytes HOPS 0 ∷ [] = one_byte bytes HOPS (omega arith) in
+    let flags : to_be_bytes w16 (from_be_bytes w16 (part bytes FLAGS FLAGS_LEN)) ≡ part bytes FLAGS FLAGS_LEN =
+    be_bytes_2 (part bytes FLAGS FLAGS_LEN) _ (length-part bytes FLAGS FLAGS_LEN (omega arith)) (λ i. part_fits bytes FLAGS FLAGS_LEN i fits) refl in
+    let parts : cut 0 sizes bytes ≡ fields_of (header_at bytes) =
+    λ i. op i ∷ htype i ∷ hlen i ∷ hops i ∷ part bytes XID XID_LEN ∷ part bytes SECS SECS_LEN ∷ sym flags i
+    ∷ part bytes CIADDR ADDR_LEN ∷ part bytes YIADDR ADDR_LEN ∷ part bytes SIADDR ADDR_LEN ∷ part bytes GIADDR ADDR_LEN
+    ∷ part bytes CHADDR CHADDR_LEN ∷ part bytes SNAME SNAME_LEN ∷ part bytes FILE FILE_LEN ∷ [] in
+    let tail : drop COOKIE bytes ≡ MAGIC_COOKIE ++ drop OPTIONS bytes =
+    sym (take-append-drop COOKIE_LEN (drop COOKIE bytes))
+    ∙ ap (λ (t : List ℕ). t ++ drop COOKIE_LEN (drop COOKIE bytes)) cookie
+    ∙ ap (λ (t : List ℕ). MAGIC_COOKIE ++ t) (drop-drop COOKIE_LEN COOKIE bytes) in
+    sym (joined-cut 0 sizes bytes)
+    ∙ ap (λ (fields : List (List ℕ)). joined fields ++ drop COOKIE bytes) parts
+    ∙ ap (λ (t : List ℕ). header_bytes (header_at bytes) ++ t) tail

@@ -1,0 +1,4 @@
+pub mod Headers
+pub mod Decisions
+pub mod Exact
+pub mod Lengths

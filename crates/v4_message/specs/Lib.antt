@@ -1,0 +1,5 @@
+pub mod Header
+pub mod Read
+pub mod Reading
+pub mod Spelling
+pub mod Written

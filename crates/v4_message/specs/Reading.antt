@@ -1,0 +1,59 @@
+-- Reading a message: the tests in their order, and the message.
+use Rattle.std.specs.Prelude.{ℕ, Bool, true, ◌&&◌, ◌||◌, ◌==◌, nat_le, List, [], ◌∷◌, length, drop, slice_index, Option, Some, None, Result, Ok, Err, is_some, is_none, if◌then◌else◌}
+use Rattle.std.specs.Str.{bytes_eq}
+use Rattle.v4_options.specs.declared.code.TheConstants.{REQUESTED_ADDRESS, OPTION_OVERLOAD, MESSAGE_TYPE, SERVER_IDENTIFIER}
+use Rattle.v4_options.specs.declared.fault.OptFault.{OptFault}
+use Rattle.v4_options.specs.Spelling.{look_up}
+use Rattle.v4_options.specs.Reading.{options_of}
+use Rattle.v4_message.specs.declared.field.TheConstants.{OP, HTYPE, HLEN, COOKIE, OPTIONS, COOKIE_LEN, ADDR_LEN, ETHERNET, ETHERNET_LEN, MAGIC_COOKIE}
+use Rattle.v4_message.specs.declared.header.TheConstants.{OP_REQUEST, OP_REPLY}
+use Rattle.v4_message.specs.declared.fault.MessageFault.{MessageFault}
+use Rattle.v4_message.specs.declared.fault.MessageFault.TheVariants.{Short, Cookie, Hardware, Options, Kind}
+use Rattle.v4_message.specs.Header.{header_at, part}
+use Rattle.v4_message.specs.Spelling.{MessageValue}
+
+abbrev pub has_cookie : List ℕ → Bool
+has_cookie bytes = bytes_eq (part bytes COOKIE COOKIE_LEN) MAGIC_COOKIE
+
+abbrev pub is_ethernet : List ℕ → Bool
+is_ethernet bytes = slice_index bytes HTYPE == ETHERNET && slice_index bytes HLEN == ETHERNET_LEN
+
+-- An address, where it is there.
+abbrev pub may_be_addr : Option (List ℕ) → Bool
+may_be_addr None = true
+may_be_addr (Some value) = length value == ADDR_LEN
+
+abbrev pub are_allowed : List (ℕ × List ℕ) → Bool
+are_allowed list = is_none (look_up OPTION_OVERLOAD list) && (may_be_addr (look_up REQUESTED_ADDRESS list) && may_be_addr (look_up SERVER_IDENTIFIER list))
+
+abbrev pub is_op : ℕ → Bool
+is_op op = op == OP_REQUEST || op == OP_REPLY
+
+-- The message type that option 53 says.
+abbrev pub kind_in : Option (List ℕ) → Option ℕ
+kind_in None = None
+kind_in (Some []) = None
+kind_in (Some (code ∷ [])) = if nat_le 1 code && nat_le code 8 then Some code else None
+kind_in (Some (code ∷ other ∷ more)) = None
+
+abbrev pub has_kind : List (ℕ × List ℕ) → Bool
+has_kind list = is_some (kind_in (look_up MESSAGE_TYPE list))
+
+abbrev pub judged : List ℕ → List (ℕ × List ℕ) → Result MessageValue MessageFault
+judged bytes list =
+    if are_allowed list then
+    (if is_op (slice_index bytes OP) && has_kind list then Ok (record { header = header_at bytes; options = list }) else Err Kind)
+    else Err Options
+
+abbrev pub with_options : List ℕ → Result (List (ℕ × List ℕ)) OptFault → Result MessageValue MessageFault
+with_options bytes (Ok list) = judged bytes list
+with_options bytes (Err fault) = Err Options
+
+-- What reading gives.
+abbrev pub message_of : List ℕ → Result MessageValue MessageFault
+message_of bytes =
+    if nat_le OPTIONS (length bytes) then
+    (if has_cookie bytes then
+    (if is_ethernet bytes then with_options bytes (options_of (drop OPTIONS bytes)) else Err Hardware)
+    else Err Cookie)
+    else Err Short

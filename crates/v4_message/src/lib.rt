@@ -1,0 +1,16 @@
+//! DHCPv4 messages (RFC 2131, section 2): what message some bytes spell, and the bytes of a message.
+#![tactic(auto)]
+
+mod fault;
+pub mod field;
+mod header;
+mod laws;
+mod message;
+mod parts;
+#[cfg(test)]
+mod tests;
+
+pub use fault::MessageFault;
+pub use header::{BROADCAST, Header, OP_REPLY, OP_REQUEST};
+pub use laws::{one_reading, written_is_read};
+pub use message::Message;

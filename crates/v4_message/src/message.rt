@@ -1,0 +1,290 @@
+//! Whole messages (RFC 2131, section 2).
+ghost use Rattle.std.specs.Prelude.{◌≡◌, ◌≤◌, ◌<◌, ◌+◌, ◌↔◌, ℕ, List, [], ◌∷◌, ◌++◌, length, Some, Ok, Err, IsOk, OnOk, OnErr, IfSome, option_map};
+ghost use Rattle.types.specs.Kind4.{code_of_kind};
+ghost use Rattle.v4_options.specs.declared.code.TheConstants.{REQUESTED_ADDRESS, MESSAGE_TYPE, SERVER_IDENTIFIER, CLIENT_IDENTIFIER, RELAY_AGENT_INFORMATION};
+ghost use Rattle.v4_options.specs.Spelling.{look_up};
+ghost use Rattle.v4_message.specs.declared.field.TheConstants.{OPTIONS};
+ghost use Rattle.v4_message.specs.Header.{IsSized};
+ghost use Rattle.v4_message.specs.Reading.{are_allowed, has_cookie, is_ethernet, is_op, kind_in, may_be_addr, message_of};
+ghost use Rattle.v4_message.specs.Spelling.{MessageValue, IsValid, Spells, Fails, message_bytes};
+ghost use Rattle.v4_message.specs.Written.{header_value};
+
+use crate::fault::MessageFault;
+use crate::field;
+use crate::header::{Header, OP_REPLY, OP_REQUEST};
+use crate::parts::{addr_of, array_at};
+use std::marker::Model;
+use types::{Addr4, Kind4, MAX_DATAGRAM};
+use v4_options::{Options, code};
+use wire::{Full, PacketBuf};
+
+/// A message as it was read. What it gives are slices of the source, or small values.
+#[derive(Debug, Drop)]
+pub struct Message<'a> {
+    bytes: &'a [u8],
+    options: Options<'a>,
+    kind: Kind4,
+}
+
+impl<'a> Model for Message<'a> {
+    ghost use Rattle.v4_message.specs.Spelling.{MessageValue};
+    ghost use Rattle.v4_message.specs.Header.{header_at};
+    ghost use Rattle.v4_message.specs.Read.{IsRead};
+
+    ghost Value = { MessageValue };
+
+    ghost view = { λ m. record { header = header_at m.bytes.now; options = m.options } };
+
+    ghost invariant = { λ m. IsRead m.bytes.now m.options m.kind };
+}
+
+impl<'a> Message<'a> {
+    /// The message that these bytes spell. What is behind the end option is not read.
+    pub fn read(bytes: &'a [u8]) -> Result<Message<'a>, MessageFault>
+        ensures exact { result ≡ message_of bytes.now }
+        ensures spelled { (m : MessageValue) → result ≡ Ok m ↔ Spells bytes.now m }
+        ensures fails { (fault : MessageFault) → result ≡ Err fault ↔ Fails fault bytes.now }
+    {
+        tested(bytes)
+    }
+
+    pub fn op(&self) -> u8
+        ensures { result ≡ self.now.header.op }
+    {
+        self.bytes[field::OP]
+    }
+
+    pub fn hops(&self) -> u8
+        ensures { result ≡ self.now.header.hops }
+    {
+        self.bytes[field::HOPS]
+    }
+
+    pub fn xid(&self) -> [u8; 4]
+        ensures { result ≡ self.now.header.xid }
+    {
+        *array_at(self.bytes, field::XID)
+    }
+
+    pub fn secs(&self) -> [u8; 2]
+        ensures { result ≡ self.now.header.secs }
+    {
+        *array_at(self.bytes, field::SECS)
+    }
+
+    pub fn flags(&self) -> u16
+        ensures { result ≡ self.now.header.flags }
+    {
+        u16::from_be_bytes(*array_at(self.bytes, field::FLAGS))
+    }
+
+    pub fn ciaddr(&self) -> Addr4
+        ensures { result.0 ≡ self.now.header.ciaddr }
+    {
+        Addr4(*array_at(self.bytes, field::CIADDR))
+    }
+
+    pub fn yiaddr(&self) -> Addr4
+        ensures { result.0 ≡ self.now.header.yiaddr }
+    {
+        Addr4(*array_at(self.bytes, field::YIADDR))
+    }
+
+    pub fn siaddr(&self) -> Addr4
+        ensures { result.0 ≡ self.now.header.siaddr }
+    {
+        Addr4(*array_at(self.bytes, field::SIADDR))
+    }
+
+    /// The first relay agent's address, 0 where the message has passed none.
+    pub fn giaddr(&self) -> Addr4
+        ensures { result.0 ≡ self.now.header.giaddr }
+    {
+        Addr4(*array_at(self.bytes, field::GIADDR))
+    }
+
+    /// 16 bytes, of which an Ethernet client uses 6.
+    pub fn chaddr(&self) -> &'a [u8; 16]
+        ensures { result.now ≡ self.now.header.chaddr }
+    {
+        array_at(self.bytes, field::CHADDR)
+    }
+
+    pub fn sname(&self) -> &'a [u8; 64]
+        ensures { result.now ≡ self.now.header.sname }
+    {
+        array_at(self.bytes, field::SNAME)
+    }
+
+    pub fn file(&self) -> &'a [u8; 128]
+        ensures { result.now ≡ self.now.header.file }
+    {
+        array_at(self.bytes, field::FILE)
+    }
+
+    pub fn options(&self) -> &Options<'a>
+        ensures { result.now ≡ self.now.options }
+    {
+        &self.options
+    }
+
+    /// Option 53.
+    pub fn kind(&self) -> Kind4
+        ensures value { look_up MESSAGE_TYPE self.now.options ≡ Some (code_of_kind result ∷ []) }
+        ensures valid { IsValid self.now }
+    {
+        self.kind
+    }
+
+    /// Option 50.
+    pub fn requested_address(&self) -> Option<Addr4>
+        ensures { option_map (λ addr. addr.0) result ≡ look_up REQUESTED_ADDRESS self.now.options }
+    {
+        match self.options.get(code::REQUESTED_ADDRESS) {
+            None => None,
+            Some(value) => Some(addr_of(value)),
+        }
+    }
+
+    /// Option 54.
+    pub fn server_identifier(&self) -> Option<Addr4>
+        ensures { option_map (λ addr. addr.0) result ≡ look_up SERVER_IDENTIFIER self.now.options }
+    {
+        match self.options.get(code::SERVER_IDENTIFIER) {
+            None => None,
+            Some(value) => Some(addr_of(value)),
+        }
+    }
+
+    /// Option 61, of any length.
+    pub fn client_identifier(&self) -> Option<&'a [u8]>
+        ensures { option_map (λ value. value.now) result ≡ look_up CLIENT_IDENTIFIER self.now.options }
+    {
+        self.options.get(code::CLIENT_IDENTIFIER)
+    }
+
+    /// Option 82, a row of suboptions that is still to be read.
+    pub fn relay_agent_information(&self) -> Option<&'a [u8]>
+        ensures value { option_map (λ value. value.now) result ≡ look_up RELAY_AGENT_INFORMATION self.now.options }
+        ensures fits { IfSome result (λ value. length value.now < 256) }
+    {
+        self.options.get(code::RELAY_AGENT_INFORMATION)
+    }
+
+    /// The header as values.
+    pub fn header(&self) -> Header<'a>
+        ensures value { header_value result ≡ self.now.header }
+        ensures sized { IsSized self.now.header }
+    {
+        let bytes = self.bytes;
+        Header {
+            op: bytes[field::OP],
+            hops: self.hops(),
+            xid: self.xid(),
+            secs: self.secs(),
+            flags: self.flags(),
+            ciaddr: self.ciaddr(),
+            yiaddr: self.yiaddr(),
+            siaddr: self.siaddr(),
+            giaddr: self.giaddr(),
+            chaddr: self.chaddr(),
+            sname: self.sname(),
+            file: self.file(),
+        }
+    }
+
+    /// Appends the message: its options in order, without pads, and nothing behind the end option.
+    pub fn write(&self, out: &mut PacketBuf) -> Result<(), Full>
+        ensures full { IsOk result ↔ (length out.old + length (message_bytes self.now) ≤ MAX_DATAGRAM) }
+        ensures ok { OnOk result (out.new ≡ out.old ++ message_bytes self.now) }
+        ensures err { OnErr result (out.new ≡ []) }
+    {
+        self.header().write(out)?;
+        self.options.write(out)?;
+        if out.push(code::END).is_err() {
+            out.clear();
+            return Err(Full);
+        }
+        Ok(())
+    }
+}
+
+/// The tests in their order.
+fn tested(bytes: &[u8]) -> Result<Message<'_>, MessageFault>
+    ensures { result ≡ message_of bytes.now }
+{
+    if bytes.len() < field::OPTIONS {
+        return Err(MessageFault::Short);
+    }
+    if !with_cookie(bytes) {
+        return Err(MessageFault::Cookie);
+    }
+    if !on_ethernet(bytes) {
+        return Err(MessageFault::Hardware);
+    }
+    let (_, tail) = bytes.split_at(field::OPTIONS);
+    let Ok(options) = Options::read(tail) else {
+        return Err(MessageFault::Options);
+    };
+    if !allowed(&options) {
+        return Err(MessageFault::Options);
+    }
+    if !known_op(bytes[field::OP]) {
+        return Err(MessageFault::Kind);
+    }
+    match kind_of(&options) {
+        None => Err(MessageFault::Kind),
+        Some(kind) => Ok(Message {
+            bytes,
+            options,
+            kind,
+        }),
+    }
+}
+
+fn with_cookie(bytes: &[u8]) -> bool
+    requires { OPTIONS ≤ length bytes.now }
+    ensures { result ≡ has_cookie bytes.now }
+{
+    &bytes[field::COOKIE..field::COOKIE + field::COOKIE_LEN] == field::MAGIC_COOKIE.as_slice()
+}
+
+fn on_ethernet(bytes: &[u8]) -> bool
+    requires { OPTIONS ≤ length bytes.now }
+    ensures { result ≡ is_ethernet bytes.now }
+{
+    bytes[field::HTYPE] == field::ETHERNET && bytes[field::HLEN] == field::ETHERNET_LEN
+}
+
+fn known_op(op: u8) -> bool
+    ensures { result ≡ is_op op }
+{
+    op == OP_REQUEST || op == OP_REPLY
+}
+
+fn allowed(options: &Options<'_>) -> bool
+    ensures { result ≡ are_allowed options.now }
+{
+    options.get(code::OPTION_OVERLOAD).is_none()
+        && has_addr_at_most(options, code::REQUESTED_ADDRESS)
+        && has_addr_at_most(options, code::SERVER_IDENTIFIER)
+}
+
+/// Whether the option of this code is an address, or absent.
+fn has_addr_at_most(options: &Options<'_>, code: u8) -> bool
+    ensures { result ≡ may_be_addr (look_up code options.now) }
+{
+    match options.get(code) {
+        None => true,
+        Some(value) => value.len() == field::ADDR_LEN,
+    }
+}
+
+fn kind_of(options: &Options<'_>) -> Option<Kind4>
+    ensures { option_map code_of_kind result ≡ kind_in (look_up MESSAGE_TYPE options.now) }
+{
+    match options.get(code::MESSAGE_TYPE) {
+        Some([code]) => Kind4::new(*code),
+        _ => None,
+    }
+}

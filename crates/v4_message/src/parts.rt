@@ -1,0 +1,27 @@
+//! Parts of known length.
+ghost use Rattle.std.specs.Prelude.{◌≡◌, ◌+◌, ◌≤◌, length};
+ghost use Rattle.types.specs.declared.addr.Addr4.{Addr4};
+ghost use Rattle.v4_message.specs.Header.{part};
+
+use types::Addr4;
+
+/// As many bytes from here on as the array has.
+pub(crate) fn array_at<const N: usize>(bytes: &[u8], at: usize) -> &[u8; N]
+    requires { at + N ≤ length bytes.now }
+    ensures { result.now ≡ part bytes.now at N }
+{
+    match bytes[at..].split_first_chunk() {
+        Some((array, _)) => array,
+        None => unreachable!(),
+    }
+}
+
+/// The address of these four bytes.
+pub(crate) fn addr_of(bytes: &[u8]) -> Addr4
+    requires { length bytes.now ≡ 4 }
+    ensures { result.0 ≡ bytes.now }
+{
+    let mut addr = [0; 4];
+    addr.copy_from_slice(bytes);
+    Addr4(addr)
+}
