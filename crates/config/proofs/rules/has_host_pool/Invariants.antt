@@ -1,0 +1,8 @@
+use Rattle.std.proofs.Common.{ℕ, ◌+◌, ◌<◌}
+use Rattle.types.specs.Addr.{number4}
+use Rattle.config.specs.Rules.{IsHost}
+use Rattle.config.proofs.rules.has_host_pool.Given as goal
+
+abbrev pub invariant-loop-place : goal.invariant-loop-place
+invariant-loop-place l =
+    (k : ℕ) → k < l.place → IsHost l.circuit.prefix4 (number4 l.circuit.gateway4) (number4 l.circuit.first4 + k)

@@ -1,0 +1,163 @@
+//! A configuration that keeps every rule.
+ghost use Rattle.std.specs.Prelude.{◌≡◌, ◌<◌, ◌≤◌, ◌↔◌, [], ◌∷◌, length, IsSome, IfOk, IfErr, IfSome, IfNone, slice_get, option_copied, ℕ, Some};
+ghost use Rattle.toml.specs.Parse.{parse_document};
+ghost use Rattle.toml.specs.View.{table_view};
+ghost use Rattle.types.specs.declared.limits.TheConstants.{MAX_RELAYS, MAX_CIRCUITS};
+ghost use Rattle.config.specs.Fault.{number_of};
+ghost use Rattle.config.specs.Rules.{IsSound, IsWithinLimits, IsIdAt, KeepsRules, one_each};
+ghost use Rattle.config.specs.Valid.{IsConfig, IsFaultOf};
+
+use crate::fault::ConfigFault;
+use crate::reading::{Values, tables_in, values_in};
+use crate::rules::rules;
+use crate::settings::{CircuitConfig, RelayConfig, ServerConfig};
+use std::alloc::{AllocError, Global};
+use std::marker::Model;
+use toml::Table;
+use types::{Circuit, CircuitId, RelayNo};
+
+/// A configuration: the server, its relays and its circuits, which keep every rule.
+#[derive(Debug, Drop)]
+pub struct Config {
+    server: ServerConfig,
+    relays: Vec<RelayConfig>,
+    circuits: Vec<CircuitConfig>,
+}
+
+impl Model for Config {
+    ghost use Rattle.config.specs.Rules.{Settings, IsSound};
+
+    ghost Value = { Settings };
+
+    ghost view = { λ c. record { server = c.server; relays = c.relays.items; circuits = c.circuits.items } };
+
+    ghost invariant = { λ c. IsSound (record { server = c.server; relays = c.relays.items; circuits = c.circuits.items }) };
+}
+
+/// The data of a text.
+fn document(alloc: Global, text: &str) -> Result<Table, ConfigFault>
+    ensures ok { IfOk result (λ t. parse_document text.now ≡ Some (table_view t)) }
+    ensures err { IfErr result (IsFaultOf text.now) }
+{
+    match toml::table_from_str(alloc, text) {
+        Ok(table) => Ok(table),
+        Err(error) => {
+            if error.is_memory() {
+                return Err(ConfigFault::Memory);
+            }
+            Err(ConfigFault::Text(error))
+        }
+    }
+}
+
+/// The place of the first circuit with exactly this id.
+fn place_of(circuits: &[CircuitConfig], id: &CircuitId) -> Option<usize>
+    ensures found { IfSome result (λ place. IsIdAt circuits.now place id.now) }
+    ensures within { IfSome result (λ place. place < length circuits.now) }
+    ensures none { IfNone result ((place : ℕ) → ¬ IsIdAt circuits.now place id.now) }
+{
+    for (place, circuit) in circuits.iter().enumerate() {
+        if circuit.id.as_bytes() == id.as_bytes() {
+            return Some(place);
+        }
+    }
+    None
+}
+
+impl Config {
+    /// The configuration of values that keep the rules; none where memory is refused.
+    fn of(alloc: Global, values: Values) -> Result<Config, AllocError>
+        requires limits { IsWithinLimits (values.relay ∷ []) values.circuit }
+        requires rules { KeepsRules (one_each values.server values.relay values.circuit) }
+        ensures { IfOk result (λ config. config ≡ one_each values.server values.relay values.circuit) }
+    {
+        let mut relays = Vec::new(alloc);
+        relays.push(values.relay)?;
+        let mut circuits = Vec::new(alloc);
+        circuits.push(values.circuit)?;
+        Ok(Config {
+            server: values.server,
+            relays,
+            circuits,
+        })
+    }
+
+    /// The configuration that a text is.
+    pub fn read(alloc: Global, text: &str) -> Result<Config, ConfigFault>
+        ensures valid { IfOk result (IsConfig text.now) }
+        ensures broken { IfErr result (IsFaultOf text.now) }
+    {
+        let doc = match document(alloc, text) {
+            Ok(doc) => doc,
+            Err(fault) => return Err(fault),
+        };
+        let tables = match tables_in(&doc) {
+            Ok(tables) => tables,
+            Err(place) => return Err(ConfigFault::Missing(place)),
+        };
+        let values = match values_in(tables.server, tables.relays, tables.circuits) {
+            Ok(values) => values,
+            Err(place) => return Err(ConfigFault::Limit(place)),
+        };
+        if let Err(fault) = rules(&values.server, &values.relay, &values.circuit) {
+            return Err(fault);
+        }
+        match Config::of(alloc, values) {
+            Ok(config) => Ok(config),
+            Err(_) => Err(ConfigFault::Memory),
+        }
+    }
+
+    pub fn server(&self) -> &ServerConfig
+        ensures value { result.now ≡ self.now.server }
+        ensures sound { IsSound self.now }
+    {
+        &self.server
+    }
+
+    /// How many relays there are.
+    pub fn relays(&self) -> usize
+        ensures value { result ≡ length self.now.relays }
+        ensures sound { IsSound self.now }
+    {
+        self.relays.len()
+    }
+
+    /// How many circuits there are.
+    pub fn circuits(&self) -> usize
+        ensures value { result ≡ length self.now.circuits }
+        ensures sound { IsSound self.now }
+    {
+        self.circuits.len()
+    }
+
+    /// The relay of this number; none where there are fewer.
+    pub fn relay(&self, relay: RelayNo) -> Option<&RelayConfig>
+        ensures value { option_copied result ≡ slice_get self.now.relays relay }
+        ensures sound { IsSound self.now }
+    {
+        self.relays.get(relay.place())
+    }
+
+    /// The circuit at this place.
+    pub fn at(&self, circuit: Circuit) -> &CircuitConfig
+        requires { circuit < length self.now.circuits }
+        ensures value { slice_get self.now.circuits circuit ≡ Some result.now }
+        ensures limits { IsWithinLimits self.now.relays result.now }
+        ensures sound { IsSound self.now }
+    {
+        &self.circuits[circuit.place()]
+    }
+
+    /// The circuit with exactly this id.
+    pub fn circuit(&self, id: &CircuitId) -> Option<Circuit>
+        ensures found { IfSome result (λ circuit. IsIdAt self.now.circuits circuit id.now) }
+        ensures within { IfSome result (λ circuit. circuit < length self.now.circuits) }
+        ensures none { IfNone result ((place : ℕ) → ¬ IsIdAt self.now.circuits place id.now) }
+    {
+        match place_of(&self.circuits, id) {
+            Some(place) => Circuit::new(place),
+            None => None,
+        }
+    }
+}

@@ -1,0 +1,181 @@
+//! Whether every table and key is there, of its type.
+ghost use Rattle.std.specs.Prelude.{◌≡◌, ◌↔◌, Some, IsNone, IsTrue, IfOk, IfErr, ⊤};
+ghost use Rattle.toml.specs.View.{view, items_view, table_view};
+ghost use Rattle.config.specs.Field.{Value as Told, HasValue, text_of, each};
+ghost use Rattle.config.specs.Keys.{AllThere, IsRelayName, HasServerKeys, HasRelayKeys, HasCircuitKeys};
+ghost use Rattle.config.specs.Tables.{server_keys, relay_keys, circuit_keys, relay_entry, circuit_entry};
+
+use crate::lookup::{integer_at, list_at, text_at};
+use toml::{Table, Value};
+
+/// A key of the server that is not there, or of another type.
+pub fn server_lacks(server: &Table) -> Option<&'static str>
+    ensures { IsNone result ↔ HasServerKeys (server_keys (table_view server.now)) }
+{
+    if text_at(server, "listen4").is_none() {
+        return Some("listen4");
+    }
+    if text_at(server, "listen6").is_none() {
+        return Some("listen6");
+    }
+    if text_at(server, "duid").is_none() {
+        return Some("duid");
+    }
+    None
+}
+
+/// A key of a relay that is not there, or of another type.
+fn relay_lacks(relay: &Table) -> Option<&'static str>
+    ensures { IsNone result ↔ HasRelayKeys (relay_keys (table_view relay.now)) }
+{
+    if text_at(relay, "name").is_none() {
+        return Some("name");
+    }
+    if text_at(relay, "source").is_none() {
+        return Some("source");
+    }
+    None
+}
+
+/// A place in the list of relays where a table or a key is not there: the entry, from 0, and the
+/// key.
+pub fn relays_lack(entries: &[Value]) -> Option<(usize, &'static str)>
+    ensures { IsNone result ↔ AllThere HasRelayKeys (each relay_entry (items_view entries.now)) }
+{
+    for (i, entry) in entries.iter().enumerate() {
+        if let Some(key) = relay_entry_lacks(entry) {
+            return Some((i, key));
+        }
+    }
+    None
+}
+
+/// A key of an entry of the list of relays that is not there: `name` where the entry is no table.
+fn relay_entry_lacks(entry: &Value) -> Option<&'static str>
+    ensures { IsNone result ↔ HasValue (relay_entry (Some (view entry.now))) HasRelayKeys }
+{
+    match entry.as_table() {
+        Some(relay) => relay_lacks(relay),
+        None => Some("name"),
+    }
+}
+
+/// Whether some relay has this name.
+fn is_relay_name(relays: &[Value], name: &str) -> bool
+    ensures { IsTrue result ↔ IsRelayName (each relay_entry (items_view relays.now)) name.now }
+{
+    for entry in relays {
+        if has_name(entry, name) {
+            return true;
+        }
+    }
+    false
+}
+
+/// Whether the entry is a relay with this name.
+fn has_name(entry: &Value, name: &str) -> bool
+    ensures { IsTrue result ↔ HasValue (relay_entry (Some (view entry.now))) (λ relay. relay.name ≡ Told name.now) }
+{
+    match entry.as_table() {
+        Some(relay) => text_at(relay, "name") == Some(name),
+        None => false,
+    }
+}
+
+/// Whether each entry is a text.
+fn are_texts(entries: &[Value]) -> bool
+    ensures { IsTrue result ↔ AllThere (λ _. ⊤) (each text_of (items_view entries.now)) }
+{
+    for entry in entries {
+        if !entry.is_str() {
+            return false;
+        }
+    }
+    true
+}
+
+/// Whether the name servers are a list of texts.
+fn has_dns(circuit: &Table) -> bool
+    ensures { IsTrue result ↔ HasValue (circuit_keys (table_view circuit.now)).dns (AllThere (λ _. ⊤)) }
+{
+    match list_at(circuit, "dns") {
+        Some(entries) => are_texts(entries),
+        None => false,
+    }
+}
+
+/// Whether the circuit names a relay.
+fn has_relay(circuit: &Table, relays: &[Value]) -> bool
+    ensures { IsTrue result ↔ HasValue (circuit_keys (table_view circuit.now)).relay (IsRelayName (each relay_entry (items_view relays.now))) }
+{
+    match text_at(circuit, "relay") {
+        Some(name) => is_relay_name(relays, name),
+        None => false,
+    }
+}
+
+/// A key of a circuit that is not there, or of another type, or `relay` where it is no relay's name.
+fn circuit_lacks(circuit: &Table, relays: &[Value]) -> Option<&'static str>
+    ensures { IsNone result ↔ HasCircuitKeys (each relay_entry (items_view relays.now)) (circuit_keys (table_view circuit.now)) }
+{
+    if text_at(circuit, "id").is_none() {
+        return Some("id");
+    }
+    if !has_relay(circuit, relays) {
+        return Some("relay");
+    }
+    if integer_at(circuit, "region").is_none() {
+        return Some("region");
+    }
+    if integer_at(circuit, "lease").is_none() {
+        return Some("lease");
+    }
+    if text_at(circuit, "gateway4").is_none() {
+        return Some("gateway4");
+    }
+    if integer_at(circuit, "prefix4").is_none() {
+        return Some("prefix4");
+    }
+    if text_at(circuit, "first4").is_none() {
+        return Some("first4");
+    }
+    if integer_at(circuit, "count4").is_none() {
+        return Some("count4");
+    }
+    if !has_dns(circuit) {
+        return Some("dns");
+    }
+    if text_at(circuit, "link6").is_none() {
+        return Some("link6");
+    }
+    if text_at(circuit, "first6").is_none() {
+        return Some("first6");
+    }
+    if integer_at(circuit, "count6").is_none() {
+        return Some("count6");
+    }
+    None
+}
+
+/// A key of an entry of the list of circuits that is not there: `id` where the entry is no table.
+fn circuit_entry_lacks(entry: &Value, relays: &[Value]) -> Option<&'static str>
+    ensures { IsNone result ↔ HasValue (circuit_entry (Some (view entry.now))) (HasCircuitKeys (each relay_entry (items_view relays.now))) }
+{
+    match entry.as_table() {
+        Some(circuit) => circuit_lacks(circuit, relays),
+        None => Some("id"),
+    }
+}
+
+/// A place in the list of circuits where a table or a key is not there: the entry, from 0, and the
+/// key.
+pub fn circuits_lack(entries: &[Value], relays: &[Value]) -> Option<(usize, &'static str)>
+    ensures { IsNone result ↔ AllThere (HasCircuitKeys (each relay_entry (items_view relays.now))) (each circuit_entry (items_view entries.now)) }
+{
+    for (i, entry) in entries.iter().enumerate() {
+        if let Some(key) = circuit_entry_lacks(entry, relays) {
+            return Some((i, key));
+        }
+    }
+    None
+}

@@ -1,0 +1,127 @@
+//! The rules about a configuration's values, as far as one relay and one circuit can break them.
+ghost use Rattle.std.specs.Prelude.{◌≡◌, ◌≢◌, ℕ, ◌+◌, ◌/◌, ◌^◌, ◌≤◌, ◌<◌, ◌↔◌, IsTrue, IsNone, OnOk, IfErr};
+ghost use Rattle.types.specs.Addr.{number4};
+ghost use Rattle.config.specs.Rules.{IsInPool4, IsInPool6, IsHost, KeepsRules, one_each};
+ghost use Rattle.config.specs.Valid.{IsLeastRule};
+ghost use Rattle.config.specs.Values.{number6};
+
+use crate::fault::{ConfigFault, Place};
+use crate::pools::number6;
+use crate::settings::{CircuitConfig, RelayConfig, ServerConfig};
+
+/// Whether the circuit's DHCPv4 pool has its gateway.
+pub fn has_gateway4(circuit: &CircuitConfig) -> bool
+    ensures { IsTrue result ↔ IsInPool4 circuit.now (number4 circuit.now.gateway4) }
+{
+    let first = u64::from(circuit.first4.number());
+    let gateway = u64::from(circuit.gateway4.number());
+    first <= gateway && gateway < first + u64::from(circuit.count4)
+}
+
+/// Whether the circuit's DHCPv6 pool has its link address.
+pub fn has_link6(circuit: &CircuitConfig) -> bool
+    ensures { IsTrue result ↔ IsInPool6 circuit.now (number6 circuit.now.link6) }
+{
+    let first = number6(circuit.first6);
+    let link = number6(circuit.link6);
+    first <= link && link - first < u128::from(circuit.count6)
+}
+
+/// Whether an address is a host's in the gateway's network.
+fn is_host(address: u64, gateway: u64, prefix: u8) -> bool
+    requires { prefix ≤ 30 }
+    ensures { IsTrue result ↔ IsHost prefix gateway address }
+{
+    let size = 2u64.pow(32 - u32::from(prefix));
+    address / size == gateway / size && address % size != 0 && address % size != size - 1
+}
+
+/// Whether the gateway is a host's address in its network.
+pub fn has_host_gateway(circuit: &CircuitConfig) -> bool
+    requires prefix { circuit.now.prefix4 ≤ 30 }
+    ensures { IsTrue result ↔ IsHost circuit.now.prefix4 (number4 circuit.now.gateway4) (number4 circuit.now.gateway4) }
+{
+    let gateway = u64::from(circuit.gateway4.number());
+    is_host(gateway, gateway, circuit.prefix4)
+}
+
+/// Whether every address of the DHCPv4 pool is a host's in the gateway's network.
+pub fn has_host_pool(circuit: &CircuitConfig) -> bool
+    requires prefix { circuit.now.prefix4 ≤ 30 }
+    ensures { IsTrue result ↔ ((n : ℕ) → IsInPool4 circuit.now n → IsHost circuit.now.prefix4 (number4 circuit.now.gateway4) n) }
+{
+    let first = u64::from(circuit.first4.number());
+    let gateway = u64::from(circuit.gateway4.number());
+    for place in 0..u64::from(circuit.count4) {
+        if !is_host(first + place, gateway, circuit.prefix4) {
+            return false;
+        }
+    }
+    true
+}
+
+/// Whether every address of the DHCPv6 pool has the link's first 64 bits.
+pub fn is_on_link6(circuit: &CircuitConfig) -> bool
+    requires within { number6 circuit.now.first6 + circuit.now.count6 ≤ 2 ^ 128 }
+    ensures { IsTrue result ↔ ((n : ℕ) → IsInPool6 circuit.now n → n / 2 ^ 64 ≡ number6 circuit.now.link6 / 2 ^ 64) }
+{
+    let first = number6(circuit.first6);
+    let link = number6(circuit.link6);
+    for place in 0..u128::from(circuit.count6) {
+        if (first + place) / LINK_SIZE != link / LINK_SIZE {
+            return false;
+        }
+    }
+    true
+}
+
+/// How many addresses have one first half.
+const LINK_SIZE: u128 = 1 << 64;
+
+/// Two places whose sources have to differ and don't.
+pub fn same_source(server: &ServerConfig, relay: &RelayConfig) -> Option<(Place, Place)>
+    ensures { IsNone result ↔ ((server.now.listen4 ≢ server.now.listen6) × (relay.now.source ≢ server.now.listen4) × (relay.now.source ≢ server.now.listen6)) }
+{
+    if server.listen4 == server.listen6 {
+        return Some((Place::Server("listen4"), Place::Server("listen6")));
+    }
+    if relay.source == server.listen4 {
+        return Some((Place::Server("listen4"), Place::Relay(1, "source")));
+    }
+    if relay.source == server.listen6 {
+        return Some((Place::Server("listen6"), Place::Relay(1, "source")));
+    }
+    None
+}
+
+/// The rules about the server's, one relay's and one circuit's values, in order.
+pub fn rules(
+    server: &ServerConfig,
+    relay: &RelayConfig,
+    circuit: &CircuitConfig,
+) -> Result<(), ConfigFault>
+    requires prefix { circuit.now.prefix4 ≤ 30 }
+    requires within { number6 circuit.now.first6 + circuit.now.count6 ≤ 2 ^ 128 }
+    ensures ok { OnOk result (KeepsRules (one_each server.now relay.now circuit.now)) }
+    ensures err { IfErr result (IsLeastRule (one_each server.now relay.now circuit.now)) }
+{
+    if let Some((first, second)) = same_source(server, relay) {
+        return Err(ConfigFault::IdTwice(first, second));
+    }
+    if has_gateway4(circuit) {
+        return Err(ConfigFault::GatewayInPool(Place::Circuit(1, "gateway4"), 1));
+    }
+    if has_link6(circuit) {
+        return Err(ConfigFault::GatewayInPool(Place::Circuit(1, "link6"), 1));
+    }
+    if !has_host_gateway(circuit) {
+        return Err(ConfigFault::OffSubnet(Place::Circuit(1, "gateway4")));
+    }
+    if !has_host_pool(circuit) {
+        return Err(ConfigFault::OffSubnet(Place::Circuit(1, "first4")));
+    }
+    if !is_on_link6(circuit) {
+        return Err(ConfigFault::OffSubnet(Place::Circuit(1, "first6")));
+    }
+    Ok(())
+}

@@ -1,0 +1,384 @@
+use super::*;
+use std::alloc::{AllocError, Global};
+use std::process::Abort;
+use types::{Addr4, Addr6, CircuitId, RelayNo};
+
+/// One relay and one circuit, a line an entry.
+const GOOD: [&str; 20] = [
+    "[server]",
+    "listen4 = '127.0.0.1:6767'",
+    "listen6 = '127.0.0.1:6547'",
+    "duid = '00030001020000000001'",
+    "[[relay]]",
+    "name = 'r1'",
+    "source = '127.0.0.1:6801'",
+    "[[circuit]]",
+    "id = 'a'",
+    "relay = 'r1'",
+    "region = 0",
+    "lease = 600",
+    "gateway4 = '10.0.0.1'",
+    "prefix4 = 24",
+    "first4 = '10.0.0.10'",
+    "count4 = 1",
+    "dns = ['10.255.0.53']",
+    "link6 = '20010db8000000000000000000000001'",
+    "first6 = '20010db8000000000000000000000100'",
+    "count6 = 1",
+];
+
+/// What stands in a line's place: the edit whose beginning the line has.
+fn replaced(line: &'static str, edits: &[(&'static str, &'static str)]) -> &'static str {
+    for (old, new) in edits {
+        if line.starts_with(*old) {
+            return *new;
+        }
+    }
+    line
+}
+
+/// The good text, with each line that begins as an edit says replaced.
+fn edited(alloc: Global, edits: &[(&'static str, &'static str)]) -> Result<String, AllocError> {
+    let mut text = String::new(alloc);
+    for line in GOOD {
+        text.push_str(replaced(line, edits))?;
+        text.push('\n')?;
+    }
+    Ok(text)
+}
+
+/// The number of the fault, or 0 where the text is a configuration.
+fn number(alloc: Global, text: &str) -> u8 {
+    match Config::read(alloc, text) {
+        Ok(_) => 0,
+        Err(fault) => fault.number(),
+    }
+}
+
+#[test]
+fn good(rt: HostRuntime) -> Result<(), AllocError> {
+    let text = edited(rt.alloc(), &[])?;
+    let Ok(config) = Config::read(rt.alloc(), text.as_str()) else {
+        assert!(rt; false);
+        return Ok(());
+    };
+    let server = config.server();
+    assert_eq!(rt; server.listen4.addr, Addr4([127, 0, 0, 1]));
+    assert_eq!(rt; server.listen4.port, 6767);
+    assert_eq!(rt; server.listen6.port, 6547);
+    assert_eq!(rt;
+        server.duid.as_slice(),
+        [0, 3, 0, 1, 2, 0, 0, 0, 0, 1].as_slice()
+    );
+    assert_eq!(rt; config.relays(), 1);
+    assert_eq!(rt; config.circuits(), 1);
+    assert!(rt; config.relay(RelayNo::new(1).unwrap()).is_none());
+    if let Some(relay) = config.relay(RelayNo::new(0).unwrap()) {
+        assert_eq!(rt; relay.name.as_slice(), b"r1".as_slice());
+        assert_eq!(rt; relay.source.port, 6801);
+    } else {
+        assert!(rt; false);
+    }
+    for (id, there) in [(b"a".as_slice(), true), (b"a1".as_slice(), false)] {
+        if let Some(id) = CircuitId::new(id) {
+            assert_eq!(rt; config.circuit(&id).is_some(), there);
+            if let Some(place) = config.circuit(&id) {
+                circuit_of_good(&rt, config.at(place));
+            }
+        }
+    }
+    Ok(())
+}
+
+fn circuit_of_good(rt: &impl Abort, circuit: &CircuitConfig) {
+    assert_eq!(rt; circuit.id.as_bytes(), b"a".as_slice());
+    assert_eq!(rt; circuit.relay.place(), 0);
+    assert_eq!(rt; circuit.region, 0);
+    assert_eq!(rt; circuit.lease, 600);
+    assert_eq!(rt; circuit.gateway4, Addr4([10, 0, 0, 1]));
+    assert_eq!(rt; circuit.prefix4, 24);
+    assert_eq!(rt; circuit.first4, Addr4([10, 0, 0, 10]));
+    assert_eq!(rt; circuit.count4, 1);
+    assert_eq!(rt;
+        circuit.dns.as_slice(),
+        [Addr4([10, 255, 0, 53])].as_slice()
+    );
+    let mut link = [0; 16];
+    link[0] = 0x20;
+    link[1] = 0x01;
+    link[2] = 0x0d;
+    link[3] = 0xb8;
+    link[15] = 1;
+    assert_eq!(rt; circuit.link6, Addr6(link));
+    link[14] = 1;
+    link[15] = 0;
+    assert_eq!(rt; circuit.first6, Addr6(link));
+    assert_eq!(rt; circuit.count6, 1);
+}
+
+/// A line's beginning, what stands in its place, and the number of the fault.
+type Row = (&'static str, &'static str, u8);
+
+/// Keys and tables that are not there, or of another type.
+#[rattlefmt::skip]
+const MISSING: [Row; 25] = [
+    ("listen4", "", 42),
+    ("listen6", "listen6 = 1", 42),
+    ("duid", "duid = []", 42),
+    ("name", "name = 1", 42),
+    ("source", "", 42),
+    ("id", "", 42),
+    ("relay", "relay = 'r2'", 42),
+    ("relay", "relay = 1", 42),
+    ("region", "region = '0'", 42),
+    ("lease", "lease = 600.0", 42),
+    ("gateway4", "", 42),
+    ("prefix4", "prefix4 = true", 42),
+    ("first4", "first4 = 10", 42),
+    ("count4", "", 42),
+    ("dns", "", 42),
+    ("dns", "dns = '10.255.0.53'", 42),
+    ("dns", "dns = ['10.255.0.53', 1]", 42),
+    ("dns", "dns = ['10.255.0.53', '1.1.1.1', '1.1.1.2', '1.1.1.3', 4]", 42),
+    ("link6", "", 42),
+    ("first6", "first6 = 1", 42),
+    ("count6", "", 42),
+    ("[server]", "[other]", 42),
+    ("[server]", "[[server]]", 42),
+    ("[[circuit]]", "[circuit]", 42),
+    ("[[relay]]", "[relay]", 42),
+];
+
+/// Texts at the edges of their forms.
+#[rattlefmt::skip]
+const TEXTS: [Row; 34] = [
+    ("listen4", "listen4 = '127.0.0.1:1'", 0),
+    ("listen4", "listen4 = '127.0.0.1:0'", 43),
+    ("listen4", "listen4 = '127.0.0.1:65535'", 0),
+    ("listen4", "listen4 = '127.0.0.1:65536'", 43),
+    ("listen4", "listen4 = '127.0.0.1:067'", 43),
+    ("listen4", "listen4 = '127.0.0.1:+67'", 43),
+    ("listen4", "listen4 = '127.0.0.1'", 43),
+    ("listen4", "listen4 = '127.0.0.1:'", 43),
+    ("listen4", "listen4 = '127.0.0.1:1:1'", 43),
+    ("listen4", "listen4 = '127.0.0.01:67'", 43),
+    ("listen4", "listen4 = '127.0.0.256:67'", 43),
+    ("listen4", "listen4 = '255.255.255.255:67'", 0),
+    ("duid", "duid = '000300'", 0),
+    ("duid", "duid = '0003'", 43),
+    ("duid", "duid = '0003000'", 43),
+    ("duid", "duid = '00030g'", 43),
+    ("duid", "duid = 'ABCDEF'", 0),
+    ("name", "name = ''", 42),
+    ("id", "id = ''", 43),
+    ("id", "id = 'a b'", 43),
+    ("id", "id = '!~'", 0),
+    ("id", "id = 'eth0/1:2.100=x0123456789abcdefgh'", 0),
+    ("id", "id = 'eth0/1:2.100=x0123456789abcdefghi'", 43),
+    ("gateway4", "gateway4 = '10.0.0'", 43),
+    ("gateway4", "gateway4 = '10.0.0.1 '", 43),
+    ("first4", "first4 = '10.0.0.010'", 43),
+    ("dns", "dns = []", 0),
+    ("dns", "dns = ['1.1.1.1', '1.1.1.2', '1.1.1.3', '1.1.1.4']", 0),
+    ("dns", "dns = ['1.1.1.1', '1.1.1.2', '1.1.1.3', '1.1.1.4', '1.1.1.5']", 43),
+    ("dns", "dns = ['1.1.1']", 43),
+    ("link6", "link6 = '20010DB8000000000000000000000001'", 0),
+    ("link6", "link6 = '20010db800000000000000000000001'", 43),
+    ("link6", "link6 = '20010db80000000000000000000000010'", 43),
+    ("link6", "link6 = '20010db800000000000000000000000g'", 43),
+];
+
+/// Numbers at their limits.
+#[rattlefmt::skip]
+const NUMBERS: [Row; 20] = [
+    ("region", "region = 1023", 0),
+    ("region", "region = 1024", 43),
+    ("region", "region = -1", 43),
+    ("region", "region = 0x10", 0),
+    ("lease", "lease = 60", 0),
+    ("lease", "lease = 59", 43),
+    ("lease", "lease = 604800", 0),
+    ("lease", "lease = 604801", 43),
+    ("lease", "lease = 4294967896", 43),
+    ("lease", "lease = 9223372036854775807", 43),
+    ("lease", "lease = 9223372036854775808", 41),
+    ("prefix4", "prefix4 = 8", 0),
+    ("prefix4", "prefix4 = 7", 43),
+    ("prefix4", "prefix4 = 31", 43),
+    ("count4", "count4 = 16", 0),
+    ("count4", "count4 = 17", 43),
+    ("count4", "count4 = 0", 43),
+    ("count6", "count6 = 16", 0),
+    ("count6", "count6 = 17", 43),
+    ("count6", "count6 = 0", 43),
+];
+
+/// The rules about values, keys that are not asked for, and no TOML.
+#[rattlefmt::skip]
+const RULES: [Row; 20] = [
+    ("listen6", "listen6 = '127.0.0.1:6767'", 44),
+    ("source", "source = '127.0.0.1:6767'", 44),
+    ("source", "source = '127.0.0.1:6547'", 44),
+    ("gateway4", "gateway4 = '10.0.0.10'", 48),
+    ("link6", "link6 = '20010db8000000000000000000000100'", 48),
+    ("gateway4", "gateway4 = '10.0.1.1'", 49),
+    ("gateway4", "gateway4 = '10.0.0.0'", 49),
+    ("gateway4", "gateway4 = '10.0.0.255'", 49),
+    ("first4", "first4 = '10.0.0.254'", 0),
+    ("first4", "first4 = '10.0.0.255'", 49),
+    ("first4", "first4 = '10.0.0.0'", 49),
+    ("first4", "first4 = '10.0.1.10'", 49),
+    ("prefix4", "prefix4 = 28", 0),
+    ("prefix4", "prefix4 = 29", 49),
+    ("prefix4", "prefix4 = 30", 49),
+    ("first6", "first6 = '20010db8000000010000000000000100'", 49),
+    ("count6", "count6 = 1\nmore = 'x'", 0),
+    ("count6", "count6 = 1\n[more]\nlisten4 = 1", 0),
+    ("[server]", "[server", 41),
+    ("id", "id = 'a'\nid = 'a'", 41),
+];
+
+#[test]
+fn one_line_edited(rt: HostRuntime) -> Result<(), AllocError> {
+    for rows in [&MISSING[..], &TEXTS[..], &NUMBERS[..], &RULES[..]] {
+        for (old, new, wanted) in rows {
+            let text = edited(rt.alloc(), &[(*old, *new)])?;
+            assert_eq!(rt; number(rt.alloc(), text.as_str()), *wanted, "{new}");
+        }
+    }
+    Ok(())
+}
+
+/// Two edits, and the number of the lesser rule.
+#[rattlefmt::skip]
+const PAIRS: [((&str, &str), (&str, &str), u8); 19] = [
+    (("id", ""), ("lease", "lease = 59"), 42),
+    (("lease", "lease = 59"), ("listen6", "listen6 = '127.0.0.1:6767'"), 43),
+    (("source", "source = '127.0.0.1:6767'"), ("gateway4", "gateway4 = '10.0.0.10'"), 44),
+    (("link6", "link6 = '20010db8000000000000000000000100'"), ("prefix4", "prefix4 = 30"), 48),
+    (("id", ""), ("lease", "lease = 9223372036854775808"), 41),
+    // pools that end with the last address, and one behind it
+    (("gateway4", "gateway4 = '255.255.255.1'"), ("first4", "first4 = '255.255.255.254'"), 0),
+    (("first4", "first4 = '255.255.255.250'"), ("count4", "count4 = 7"), 43),
+    (("first4", "first4 = '255.255.255.250'"), ("count4", "count4 = 6"), 49),
+    (("first6", "first6 = 'fffffffffffffffffffffffffffffffe'"), ("count6", "count6 = 2"), 49),
+    (("first6", "first6 = 'fffffffffffffffffffffffffffffffe'"), ("count6", "count6 = 3"), 43),
+    // a pool with its gateway as the last address, and beside it
+    (("first4", "first4 = '10.0.0.2'"), ("gateway4", "gateway4 = '10.0.0.3'"), 0),
+    (("count4", "count4 = 2"), ("gateway4", "gateway4 = '10.0.0.11'"), 48),
+    (("count4", "count4 = 2"), ("gateway4", "gateway4 = '10.0.0.12'"), 0),
+    (("count4", "count4 = 6"), ("prefix4", "prefix4 = 28"), 49),
+    (("count4", "count4 = 5"), ("prefix4", "prefix4 = 28"), 0),
+    // names
+    (("name", "name = 'a name of 32 bytes, no more ....'"), ("relay", "relay = 'a name of 32 bytes, no more ....'"), 0),
+    (("name", "name = 'a name of 33 bytes, one more ....'"), ("relay", "relay = 'a name of 33 bytes, one more ....'"), 43),
+    (("name", "name = ''"), ("relay", "relay = ''"), 43),
+    // how many entries
+    (("[[circuit]]", "[[circuit]]\n[[circuit]]"), ("count6", "count6 = 1"), 42),
+];
+
+#[test]
+fn least_of_two(rt: HostRuntime) -> Result<(), AllocError> {
+    for (first, second, wanted) in PAIRS {
+        let text = edited(rt.alloc(), &[first, second])?;
+        assert_eq!(rt;
+            number(rt.alloc(), text.as_str()),
+            wanted,
+            "{} {}",
+            first.1,
+            second.1
+        );
+    }
+    Ok(())
+}
+
+#[test]
+fn written_otherwise(rt: HostRuntime) -> Result<(), AllocError> {
+    let server = "server = { listen4 = '1.1.1.1:1', listen6 = '1.1.1.1:2', duid = '000102' }\n";
+    let dotted =
+        "server.listen4 = '1.1.1.1:1'\nserver.listen6 = '1.1.1.1:2'\nserver.duid = '000102'\n";
+    let relay = "relay = [{ name = 'r', source = '1.1.1.1:3' }]\n";
+    let second_relay =
+        "relay = [{ name = 'r', source = '1.1.1.1:3' }, { name = 's', source = '1.1.1.1:4' }]\n";
+    let one =
+        "{ id = 'c', relay = 'r', region = 1, lease = 60, gateway4 = '9.0.0.1', prefix4 = 24, first4 = '9.0.0.2', count4 = 1, dns = [], link6 = '00000000000000000000000000000001', first6 = '00000000000000000000000000000002', count6 = 1 }";
+    let none = "relay = []\ncircuit = []\n";
+    let rows = [
+        (server, relay, "circuit = [", one, "]\n", 0),
+        (dotted, relay, "circuit = [", one, "]\n", 0),
+        (server, second_relay, "circuit = [", one, "]\n", 43),
+        (server, relay, "circuit = [ 1, ", one, "]\n", 42),
+        (server, relay, "circuit = ", one, "\n", 42),
+        (server, relay, "", "", "", 42),
+        (server, relay, "circuit = []", "", "\n", 43),
+        (server, none, "", "", "", 43),
+        ("", "", "", "", "", 42),
+    ];
+    for (first, second, third, fourth, fifth, wanted) in rows {
+        let text = format!(in rt.alloc(); "{first}{second}{third}{fourth}{fifth}")?;
+        assert_eq!(rt; number(rt.alloc(), text.as_str()), wanted, "{text}");
+    }
+    let two = format!(in rt.alloc(); "{server}{relay}circuit = [{one}, {one}]\n")?;
+    assert_eq!(rt; number(rt.alloc(), two.as_str()), 43);
+    Ok(())
+}
+
+#[test]
+fn faults_have_words(rt: HostRuntime) -> Result<(), AllocError> {
+    let rows = [
+        (
+            ("id", "id = ''"),
+            "`id` of circuit 1 is outside its limits, or not of its form",
+        ),
+        (
+            ("source", ""),
+            "`source` of relay 1 is missing, of another type, or names no relay",
+        ),
+        (
+            ("[server]", "[other]"),
+            "`server` is missing, of another type, or names no relay",
+        ),
+        (
+            ("listen6", "listen6 = '127.0.0.1:6767'"),
+            "`listen4` of the server and `listen6` of the server are the same",
+        ),
+        (
+            ("gateway4", "gateway4 = '10.0.0.10'"),
+            "`gateway4` of circuit 1 is in the pool of circuit 1",
+        ),
+        (
+            ("first4", "first4 = '10.0.0.255'"),
+            "`first4` of circuit 1 gives an address off the circuit's subnet, or one that no host may have",
+        ),
+        (
+            ("id", "id = "),
+            "TOML parse error at line 9, column 6\ninvalid value, expected a string, number, boolean, date-time, array or inline table\n",
+        ),
+    ];
+    for (edit, wanted) in rows {
+        let text = edited(rt.alloc(), &[edit])?;
+        match Config::read(rt.alloc(), text.as_str()) {
+            Ok(_) => assert!(rt; false),
+            Err(fault) => {
+                let words = format!(in rt.alloc(); "{fault}")?;
+                assert_eq!(rt; words.as_str(), wanted);
+            }
+        }
+    }
+    Ok(())
+}
+
+/// To be run with each allocation refused in turn: the answer is right, or it is want of memory.
+#[test]
+fn right_or_out_of_memory(rt: HostRuntime) {
+    let Ok(text) = edited(rt.alloc(), &[]) else {
+        return;
+    };
+    match Config::read(rt.alloc(), text.as_str()) {
+        Ok(config) => {
+            assert_eq!(rt; config.circuits(), 1);
+            assert_eq!(rt; config.relays(), 1);
+        }
+        Err(fault) => assert_eq!(rt; fault, ConfigFault::Memory),
+    }
+}
