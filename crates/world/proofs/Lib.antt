@@ -1,0 +1,10 @@
+pub mod AddresseeLemmas
+pub mod BookLemmas
+pub mod ExampleLemmas
+pub mod FreeLemmas
+pub mod PlaceLemmas
+pub mod RelayLemmas
+pub mod ReplyLemmas
+pub mod RowLemmas
+pub mod Runs
+pub mod ServeLemmas

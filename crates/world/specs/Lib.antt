@@ -1,0 +1,17 @@
+pub mod Addressed
+pub mod Addressee
+pub mod Alone
+pub mod Answer
+pub mod Book
+pub mod CircuitPart
+pub mod Examples
+pub mod ForCircuit
+pub mod Headline
+pub mod Leaves
+pub mod Part
+pub mod Places
+pub mod Relay
+pub mod Reply
+pub mod Seen
+pub mod Served
+pub mod Unset

@@ -1,0 +1,17 @@
+//! What happens to a world.
+use types::{Circuit, Moment, Proto};
+
+/// One thing that happens, taken whole before the next. It lends its bytes.
+#[derive(Clone, Copy, Debug)]
+pub enum Event<'a> {
+    /// A client of the circuit sends a frame, and the relay gets it.
+    Frame(Circuit, Proto, &'a [u8]),
+    /// The datagram towards the server with this number, 0 the newest of the circuit, is delivered
+    /// at this moment. The last number says which call of the disk fails in this step's save, 1 the
+    /// first and 0 none; without a save it has no effect.
+    Up(Circuit, u16, Moment, u8),
+    /// The datagram towards the relay with this number, 0 the newest of the circuit, is delivered.
+    Down(Circuit, u16),
+    /// The moment passes for all circuits.
+    Tick(Moment),
+}

@@ -1,0 +1,25 @@
+//! Relay, network and server together: events, what each circuit sees of them, and the frames that
+//! leave towards it.
+#![tactic(auto)]
+
+mod addressee;
+mod event;
+pub mod examples;
+mod machine;
+mod outcome;
+mod own;
+mod places;
+mod relay;
+mod reply;
+mod server;
+mod sink;
+mod store;
+#[cfg(test)]
+mod tests;
+mod two_runs;
+
+pub use event::Event;
+pub use machine::{Machine, run};
+pub use outcome::Outcome;
+pub use sink::Sink;
+pub use two_runs::isolation;

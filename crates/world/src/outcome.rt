@@ -1,0 +1,18 @@
+//! What comes of an event.
+use types::{Circuit, Dest, Discard};
+
+/// What came of an event.
+#[derive(Clone, Copy, Debug, PartialEq, Eq)]
+pub enum Outcome {
+    /// A frame or a datagram was dropped.
+    Dropped(Discard),
+    /// There is no such circuit or datagram.
+    Gone,
+    /// The relay sent a datagram of this many bytes to the server.
+    SentUp(usize),
+    /// The server sent a datagram of this many bytes to the relay.
+    SentDown(usize),
+    /// A frame leaves the relay towards this circuit; its bytes are in the output buffer.
+    Framed(Circuit, Dest),
+    Done,
+}
