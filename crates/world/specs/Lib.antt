@@ -14,4 +14,5 @@ pub mod Relay
 pub mod Reply
 pub mod Seen
 pub mod Served
+pub mod Start
 pub mod Unset
