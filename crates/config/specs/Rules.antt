@@ -4,7 +4,7 @@ use Rattle.types.specs.Addr.{number4}
 use Rattle.types.specs.CircuitId.{IsCircuitId}
 use Rattle.types.specs.declared.pool4.TheConstants.{MAX_POOL, MIN_LEASE, MAX_LEASE}
 use Rattle.types.specs.declared.limits.TheConstants.{MAX_RELAYS, MAX_CIRCUITS}
-use Rattle.config.specs.declared.limits.TheConstants.{MAX_REGION, LEAST_PREFIX4, MAX_PREFIX4, MAX_DNS}
+use Rattle.config.specs.declared.limits.TheConstants.{MAX_REGION, LEAST_PREFIX4, MAX_PREFIX4, MAX_DNS, READ_CIRCUITS}
 use Rattle.config.specs.declared.settings.ServerConfig.{ServerConfig}
 use Rattle.config.specs.declared.settings.RelayConfig.{RelayConfig}
 use Rattle.config.specs.declared.settings.CircuitConfig.{CircuitConfig}
@@ -102,6 +102,9 @@ pub record KeepsRules (settings : Settings) : Type 0 where
 pub record IsSound (settings : Settings) : Type 0 where
   pub relays : length settings.relays ≤ MAX_RELAYS
   pub circuits : length settings.circuits ≤ MAX_CIRCUITS
+  pub some_circuit : 1 ≤ length settings.circuits
+  -- for now no more are read
+  pub few_circuits : length settings.circuits ≤ READ_CIRCUITS
   pub limits : All (IsWithinLimits settings.relays) settings.circuits
   pub rules : KeepsRules settings
 

@@ -28,6 +28,13 @@ impl Model for Moment {
 }
 
 impl Moment {
+    /// The moment 0, where every clock begins.
+    pub fn first() -> Moment
+        ensures { result ≡ 0 }
+    {
+        Moment { seconds: 0 }
+    }
+
     /// The moment at this many seconds; none past the last.
     pub fn new(seconds: u64) -> Option<Moment>
         ensures within { IsSome result ↔ (seconds ≤ LAST_MOMENT) }

@@ -9,6 +9,7 @@ fn moments(rt: HostRuntime) {
     ] {
         assert_eq!(rt; Moment::new(seconds).is_some(), there, "at {seconds}");
     }
+    assert_eq!(rt; Moment::first().seconds(), 0);
     let early = Moment::new(99).unwrap();
     let late = Moment::new(100).unwrap();
     assert_eq!(rt; early.later(late).seconds(), 100);
