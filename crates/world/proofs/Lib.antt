@@ -1,10 +1,16 @@
 pub mod AddresseeLemmas
 pub mod BookLemmas
+pub mod DispatchLemmas
 pub mod ExampleLemmas
 pub mod FreeLemmas
+pub mod MarkedLemmas
+pub mod OnePlace
+pub mod OwnLemmas
 pub mod PlaceLemmas
 pub mod RelayLemmas
 pub mod ReplyLemmas
 pub mod RowLemmas
 pub mod Runs
 pub mod ServeLemmas
+pub mod StartLemmas
+pub mod WorldLemmas

@@ -3,9 +3,11 @@
 #![tactic(auto)]
 
 mod addressee;
+mod dispatch;
 mod event;
 pub mod examples;
 mod machine;
+mod model_disk;
 mod outcome;
 mod own;
 mod places;
@@ -17,9 +19,12 @@ mod store;
 #[cfg(test)]
 mod tests;
 mod two_runs;
+mod world;
 
 pub use event::Event;
 pub use machine::{Machine, run};
+pub use model_disk::{ModelDisk, REGION};
 pub use outcome::Outcome;
 pub use sink::Sink;
 pub use two_runs::isolation;
+pub use world::{MAX_QUOTA, OpenFault, World};

@@ -1,9 +1,12 @@
 //! The relay's part of a world: what a circuit's relay makes of a client's frame and of a datagram
 //! from the server, by the circuit's id and its gateway alone.
-ghost use Rattle.std.specs.Prelude.{◌≡◌, ◌+◌, ◌≤◌, ◌<◌, [], ◌++◌, length, Ok, Err, IsOk, IfOk, IfErr, OnOk, OnErr, IfSome, IfNone};
-ghost use Rattle.v4_options.specs.Spelling.{option};
+ghost use Rattle.std.specs.Prelude.{◌≡◌, ◌+◌, ◌≤◌, ◌<◌, false, [], ◌++◌, length, Ok, Err, IsOk, IfOk, IfErr, OnOk, OnErr, IfSome, IfNone};
+ghost use Rattle.types.specs.declared.addr.Source.{Source};
+ghost use Rattle.v4_options.specs.Spelling.{look_up, option};
 ghost use Rattle.v4_options.specs.declared.code.TheConstants.{RELAY_AGENT_INFORMATION, CIRCUIT_ID, SERVER_IDENTIFIER_OVERRIDE};
+ghost use Rattle.v4_message.specs.declared.field.TheConstants.{ADDR_LEN};
 ghost use Rattle.v4_message.specs.Spelling.{message_bytes};
+ghost use Rattle.world.specs.Addressed.{ComesTo};
 ghost use Rattle.world.specs.CircuitPart.{CircuitPart};
 ghost use Rattle.world.specs.ForCircuit.{ForCircuit};
 ghost use Rattle.world.specs.Relay.{dest_of, down_of, is_unset, marked, padded_to, relayed_down, relayed_up, unmarked, up_of};
@@ -37,6 +40,7 @@ pub(crate) fn up(
     ensures ok { OnOk result (ForCircuit id.now gateway (λ own. relayed_up own frame.now ≡ Ok out.new)) }
     ensures err { IfErr result (λ why. ForCircuit id.now gateway (λ own. relayed_up own frame.now ≡ Err why)) }
     ensures empty { OnErr result (out.new ≡ []) }
+    ensures addressed { is_unset gateway.0 ≡ false → OnOk result ((relay : Source) → ComesTo relay id.now gateway relay out.new (Ok 0)) }
 {
     out.clear();
     if frame.len() > MAX_FRAME {
@@ -84,6 +88,8 @@ pub(crate) fn down(
 fn refusal_up(message: &Message<'_>) -> Option<Discard>
     ensures passes { IfNone result ((own : CircuitPart) → up_of own (Ok message.now) ≡ Ok (message_bytes (marked own message.now))) }
     ensures refused { IfSome result (λ why. (own : CircuitPart) → up_of own (Ok message.now) ≡ Err why) }
+    ensures op { IfNone result (message.now.header.op ≡ OP_REQUEST) }
+    ensures no_mark { IfNone result (look_up RELAY_AGENT_INFORMATION message.now.options ≡ None) }
     ensures hops { IfNone result (message.now.header.hops < MAX_HOPS) }
 {
     if message.op() != OP_REQUEST {
@@ -138,6 +144,8 @@ fn write_marked(
     requires hops { message.now.header.hops < MAX_HOPS }
     ensures ok { OnOk result (ForCircuit id.now gateway (λ own. out.new ≡ message_bytes (marked own message.now))) }
     ensures room { length (message_bytes message.now) ≤ MAX_FRAME → IsOk result }
+    ensures fits { OnOk result (length out.new ≤ MAX_DATAGRAM) }
+    ensures sized { OnOk result (length gateway.0 ≡ ADDR_LEN) }
 {
     let mut header = message.header();
     header.hops += 1;

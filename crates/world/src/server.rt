@@ -1,5 +1,5 @@
 //! The server's part of a world: what it answers a client of one circuit.
-ghost use Rattle.std.specs.Prelude.{◌≡◌, ℕ, ◌+◌, ◌^◌, ◌≤◌, length, true, false, Option, option_map, IfSome, IfNone};
+ghost use Rattle.std.specs.Prelude.{◌≡◌, ℕ, ◌+◌, ◌^◌, ◌≤◌, length, true, false, Option, option_map, OnErr, IfSome, IfNone};
 ghost use Rattle.types.specs.Addr.{number4};
 ghost use Rattle.types.specs.Kind4.{kind_of_code};
 ghost use Rattle.types.specs.declared.kind4.Kind4.{Kind4};
@@ -90,6 +90,8 @@ pub(crate) fn serve(
         × IsServed (part_of own.now) message.now (answer (part_of own.now) (shown clock (number4 own.now.first4) places.old) (asked_of message.now kind))
         result out.new (shown clock (number4 own.now.first4) places.new) }
     ensures distinct { AreDistinct (entries_of clock (number4 own.now.first4) places.new) }
+    ensures kept { OnErr result (out.new ≡ out.old) }
+    ensures size { length places.new ≡ length places.old }
 {
     let kind = message.kind();
     if is_servers(kind) {
