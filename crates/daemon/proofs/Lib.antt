@@ -1,0 +1,4 @@
+pub mod CircuitLemmas
+pub mod CutLemmas
+pub mod NumberLemmas
+pub mod SendLemmas

@@ -1,0 +1,17 @@
+-- The lines of a text, and the fields of a line.
+use Rattle.std.specs.Prelude.{ℕ, List, [], ◌∷◌, ◌==◌, if◌then◌else◌}
+
+-- a byte before what is cut already
+abbrev pub with_byte : ℕ → List (List ℕ) → List (List ℕ)
+with_byte b [] = (b ∷ []) ∷ []
+with_byte b (part ∷ parts) = (b ∷ part) ∷ parts
+
+-- The lines of a text. Each ends with a line feed (10), which is no part of it. The last may lack it.
+unfoldable pub lines_of : List ℕ → List (List ℕ)
+lines_of [] = []
+lines_of (b ∷ text) = if b == 10 then [] ∷ lines_of text else with_byte b (lines_of text)
+
+-- The fields of a line, with exactly one space (32) between two of them.
+unfoldable pub fields_of : List ℕ → List (List ℕ)
+fields_of [] = [] ∷ []
+fields_of (b ∷ line) = if b == 32 then [] ∷ fields_of line else with_byte b (fields_of line)

@@ -1,0 +1,19 @@
+//! Circuits by name.
+ghost use Rattle.std.specs.Prelude.{◌≡◌, ◌<◌, length, IfSome};
+ghost use Rattle.daemon.specs.Fields.{circuit_named};
+
+use config::Config;
+use types::{Circuit, CircuitId};
+
+/// The circuit with exactly this id.
+pub(crate) fn circuit_named(config: &Config, id: &[u8]) -> Option<Circuit>
+    ensures value { result ≡ circuit_named config.now id.now }
+    ensures within { IfSome result (λ circuit. circuit < length config.now.circuits) }
+{
+    // No effect at run time. The proof reads from it that no two circuits have one id.
+    let _ = config.circuits();
+    let Some(id) = CircuitId::new(id) else {
+        return None;
+    };
+    config.circuit(&id)
+}

@@ -1,0 +1,27 @@
+//! Bytes as hexadecimal digits.
+ghost use Rattle.std.specs.Prelude.{◌≡◌, ◌≤◌, take, option_map, IfSome};
+ghost use Rattle.daemon.specs.Fields.{bytes_of};
+
+/// The most bytes that a field spells.
+pub const MAX_BYTES: usize = 2048;
+
+/// Puts the bytes that a text spells to the front, and tells how many they are.
+pub(crate) fn bytes_at(text: &[u8], bytes: &mut [u8; MAX_BYTES]) -> Option<usize>
+    ensures value { option_map (λ n. take n bytes.new) result ≡ bytes_of text.now }
+    ensures within { IfSome result (λ n. n ≤ MAX_BYTES) }
+{
+    if text.is_empty() {
+        return None;
+    }
+    if text == b"-".as_slice() {
+        return Some(0);
+    }
+    if text.len() > 2 * MAX_BYTES {
+        return None;
+    }
+    let count = text.len() / 2;
+    match hex::decode_to_slice(text, &mut bytes[..count]) {
+        Ok(()) => Some(count),
+        Err(_) => None,
+    }
+}
