@@ -2,12 +2,7 @@
 use Rattle.std.proofs.Common.{◌≡◌, ℕ, ◌+◌, ◌<◌, Bool, true, false, cond, eqb, List, [], ◌∷◌, ◌++◌, length, take, drop, get_or, refl, ap, sym, ◌∙◌, arith, append_assoc, ne_eqb}
 use Rattle.std.proofs.lemmas.Bool.{false≢true}
 use Rattle.std.proofs.lemmas.List.{take_more, drop_more, take-append-drop}
-use Rattle.daemon.specs.Lines.{with_byte, lines_of, fields_of}
-
--- no byte is this one
-unfoldable pub lacks : ℕ → List ℕ → Bool
-lacks s [] = true
-lacks s (b ∷ bs) = cond (eqb b s) false (lacks s bs)
+use Rattle.daemon.specs.Lines.{lacks, with_byte, lines_of, fields_of}
 
 not_here : (t x : Bool) → cond t false x ≡ true → (t ≡ false) × (x ≡ true)
 not_here true x h = absurd (false≢true h)

@@ -21,7 +21,7 @@ pub data Turn : Type 0 where
 
 -- circuit c's machine in its next state, and each other one as it was
 abbrev pub moved : ℕ → Alone → (ℕ → Alone) → ℕ → Alone
-moved c next machines d = if d == c then next else machines d
+moved c next machines d = if c == d then next else machines d
 
 -- a circuit's machine takes what happens to it
 abbrev pub by_step : ℕ → List ℕ → Step → (ℕ → Alone) → Turn

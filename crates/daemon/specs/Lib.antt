@@ -1,3 +1,4 @@
+pub mod Ending
 pub mod Fields
 pub mod Lab
 pub mod Left
@@ -5,4 +6,7 @@ pub mod Line
 pub mod Lines
 pub mod Said
 pub mod Sending
+pub mod Short
+pub mod Standing
 pub mod Told
+pub mod Within

@@ -1,5 +1,10 @@
 -- The lines of a text, and the fields of a line.
-use Rattle.std.specs.Prelude.{ℕ, List, [], ◌∷◌, ◌==◌, if◌then◌else◌}
+use Rattle.std.specs.Prelude.{ℕ, List, [], ◌∷◌, ◌==◌, if◌then◌else◌, Bool, true, false}
+
+-- no byte is this one
+unfoldable pub lacks : ℕ → List ℕ → Bool
+lacks byte [] = true
+lacks byte (b ∷ bytes) = if b == byte then false else lacks byte bytes
 
 -- a byte before what is cut already
 abbrev pub with_byte : ℕ → List (List ℕ) → List (List ℕ)

@@ -3,13 +3,14 @@ mod circuits;
 mod digits;
 mod fields;
 mod hexadecimal;
-mod lab;
+mod engine;
 mod line;
 mod put;
 mod reading;
 mod status;
 mod tell;
+mod turn;
 
-// pub use lab::lab;
+pub use engine::lab;
 pub use line::MAX_LINE;
 pub use status::{BAD_LINE, DONE, FAILED, REFUSED, UNOPENED, UNREADABLE};

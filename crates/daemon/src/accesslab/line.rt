@@ -1,3 +1,67 @@
 //! Lines of input.
+ghost use Rattle.std.specs.Prelude.{◌≡◌, ◌≤◌, ◌∷◌, [], IfOk, IfSome, IfNone, OnErr, Some};
+ghost use Rattle.std.specs.Io.KnownBytes.{Consumes, IsAtEnd};
+ghost use Rattle.daemon.specs.Ending.{IsEnding, IsCut};
+ghost use Rattle.daemon.specs.Short.{len_of};
+
+use super::put::Failed;
+use std::io::{ErrorKind, Read};
+
 /// The most bytes of a line, without its line feed.
 pub const MAX_LINE: usize = 8192;
+
+/// How a line ended, and how many bytes it has.
+#[derive(Clone, Copy, Debug, PartialEq, Eq)]
+pub(crate) enum Ending {
+    /// With a line feed.
+    Feed(usize),
+    /// With the input.
+    Input(usize),
+    /// It has more than a line may have.
+    TooLong,
+}
+
+/// The next byte; none at the end.
+fn next_byte<R: Read>(reader: &mut R) -> Result<Option<u8>, Failed>
+    ensures some { IfOk result (λ next. IfSome next (λ b. Consumes (R.remaining reader.old) (R.remaining reader.new) (b ∷ []))) }
+    ensures none { IfOk result (λ next. IfNone next (Consumes (R.remaining reader.old) (R.remaining reader.new) [])) }
+    ensures end { IfOk result (λ next. IfNone next (IsAtEnd (R.remaining reader.new))) }
+    ensures err { OnErr result (Consumes (R.remaining reader.old) (R.remaining reader.new) []) }
+{
+    let mut byte = [0];
+    'turns: for _ in 0..u64::MAX {
+        match reader.read(&mut byte) {
+            Ok(0) => return Ok(None),
+            Ok(_) => return Ok(Some(byte[0])),
+            Err(error) => {
+                if error.kind() != ErrorKind::Interrupted {
+                    return Err(Failed);
+                }
+            }
+        }
+    }
+    Err(Failed)
+}
+
+/// Puts the next line to the front of the array.
+pub(crate) fn read_line<R: Read>(reader: &mut R, line: &mut [u8; MAX_LINE]) -> Result<Ending, Failed>
+    ensures ending { IfOk result (IsEnding (R.remaining reader.old) (R.remaining reader.new) line.new) }
+    ensures within { IfOk result (λ ending. len_of ending ≤ MAX_LINE) }
+    ensures cut { OnErr result (IsCut (R.remaining reader.old) (R.remaining reader.new)) }
+{
+    'bytes: for len in 0..MAX_LINE + 1 {
+        let byte = match next_byte(reader) {
+            Ok(Some(byte)) => byte,
+            Ok(None) => return Ok(Ending::Input(len)),
+            Err(failed) => return Err(failed),
+        };
+        if byte == b'\n' {
+            return Ok(Ending::Feed(len));
+        }
+        if len == MAX_LINE {
+            return Ok(Ending::TooLong);
+        }
+        line[len] = byte;
+    }
+    Err(Failed)
+}

@@ -1,11 +1,13 @@
 //! What a line says.
 ghost use Rattle.std.specs.Prelude.{◌≡◌, ℕ, List, option_map};
+ghost use Rattle.config.specs.Rules.{Settings};
 ghost use Rattle.types.specs.declared.moment.TheConstants.{LAST_MOMENT};
 ghost use Rattle.daemon.specs.Fields.{number_to};
 ghost use Rattle.daemon.specs.Lines.{fields_of};
 ghost use Rattle.daemon.specs.Left.{left, next_left};
 ghost use Rattle.daemon.specs.Line.{frame_line, up_line, down_line, tick_line, by_word, short_line};
 ghost use Rattle.daemon.specs.Said.{said};
+ghost use Rattle.daemon.specs.Within.{IsWithin};
 
 use super::circuits::circuit_named;
 use super::digits::number;
@@ -63,7 +65,8 @@ fn moment(text: &[u8]) -> Option<Moment>
 
 /// `frame CID 4 HEX`.
 fn frame(config: &Config, rest: Option<&[u8]>, bytes: &mut [u8; MAX_BYTES]) -> Reading
-    ensures { said result bytes.new ≡ frame_line config.now (left (option_map (λ line. line.now) rest.entry)) }
+    ensures value { said result bytes.new ≡ frame_line config.now (left (option_map (λ line. line.now) rest.entry)) }
+    ensures within { IsWithin config.now result }
 {
     let Some((circuit, rest)) = next_field(rest) else {
         return Reading::Bad;
@@ -91,7 +94,8 @@ fn frame(config: &Config, rest: Option<&[u8]>, bytes: &mut [u8; MAX_BYTES]) -> R
 
 /// `up CID J NOW FAULT`.
 fn up(config: &Config, rest: Option<&[u8]>) -> Reading
-    ensures { (bytes : List ℕ) → said result bytes ≡ up_line config.now (left (option_map (λ line. line.now) rest.entry)) }
+    ensures value { (bytes : List ℕ) → said result bytes ≡ up_line config.now (left (option_map (λ line. line.now) rest.entry)) }
+    ensures within { IsWithin config.now result }
 {
     let Some((circuit, rest)) = next_field(rest) else {
         return Reading::Bad;
@@ -119,7 +123,8 @@ fn up(config: &Config, rest: Option<&[u8]>) -> Reading
 
 /// `down CID J`.
 fn down(config: &Config, rest: Option<&[u8]>) -> Reading
-    ensures { (bytes : List ℕ) → said result bytes ≡ down_line config.now (left (option_map (λ line. line.now) rest.entry)) }
+    ensures value { (bytes : List ℕ) → said result bytes ≡ down_line config.now (left (option_map (λ line. line.now) rest.entry)) }
+    ensures within { IsWithin config.now result }
 {
     let Some((circuit, rest)) = next_field(rest) else {
         return Reading::Bad;
@@ -138,7 +143,8 @@ fn down(config: &Config, rest: Option<&[u8]>) -> Reading
 
 /// `tick NOW`.
 fn tick(rest: Option<&[u8]>) -> Reading
-    ensures { (bytes : List ℕ) → said result bytes ≡ tick_line (left (option_map (λ line. line.now) rest.entry)) }
+    ensures value { (bytes : List ℕ) → said result bytes ≡ tick_line (left (option_map (λ line. line.now) rest.entry)) }
+    ensures within { (settings : Settings) → IsWithin settings result }
 {
     let Some((now, rest)) = next_field(rest) else {
         return Reading::Bad;
@@ -154,7 +160,8 @@ fn tick(rest: Option<&[u8]>) -> Reading
 
 /// What a line says by its first field.
 fn event(config: &Config, line: &[u8], bytes: &mut [u8; MAX_BYTES]) -> Reading
-    ensures { said result bytes.new ≡ by_word config.now (fields_of line.now) }
+    ensures value { said result bytes.new ≡ by_word config.now (fields_of line.now) }
+    ensures within { IsWithin config.now result }
 {
     let (word, rest) = first_field(line);
     if word == b"frame".as_slice() {
@@ -174,7 +181,8 @@ fn event(config: &Config, line: &[u8], bytes: &mut [u8; MAX_BYTES]) -> Reading
 
 /// What a line says that is not too long.
 pub(crate) fn read(config: &Config, line: &[u8], bytes: &mut [u8; MAX_BYTES]) -> Reading
-    ensures { said result bytes.new ≡ short_line config.now line.now }
+    ensures value { said result bytes.new ≡ short_line config.now line.now }
+    ensures within { IsWithin config.now result }
 {
     if line.is_empty() || line[0] == b'#' {
         return Reading::Passed;

@@ -1,7 +1,7 @@
 use Rattle.std.proofs.Common.{◌≡◌, ◌+◌, ◌-◌, List, ◌∷◌, take, drop, length, arith, sym, ap, ◌∙◌, true}
 use Rattle.std.proofs.lemmas.List.{take_all, take_rest}
-use Rattle.daemon.specs.Lines.{fields_of}
-use Rattle.daemon.proofs.CutLemmas.{lacks, lacks_none, lacks_next, field_before, field_alone}
+use Rattle.daemon.specs.Lines.{lacks, fields_of}
+use Rattle.daemon.proofs.CutLemmas.{lacks_none, lacks_next, field_before, field_alone}
 use Rattle.daemon.proofs.accesslab.fields.first_field.Goals as goal
 
 pub loop-i-init : goal.loop-i-init

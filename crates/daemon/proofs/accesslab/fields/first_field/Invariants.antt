@@ -1,5 +1,5 @@
 use Rattle.std.proofs.Common.{◌≡◌, take, true}
-use Rattle.daemon.proofs.CutLemmas.{lacks}
+use Rattle.daemon.specs.Lines.{lacks}
 use Rattle.daemon.proofs.accesslab.fields.first_field.Given as goal
 
 abbrev pub invariant-loop-i : goal.invariant-loop-i

@@ -1,0 +1,44 @@
+-- Bytes that are read one behind the other.
+use Rattle.std.proofs.Common.{◌≡◌, ℕ, ◌+◌, ◌<◌, ◌≤◌, Bool, true, List, [], ◌∷◌, ◌++◌, length, take, refl, ap, sym, ◌∙◌, arith, append_assoc, ne_eqb, subst}
+use Rattle.std.specs.Prelude.{Option, Some, None, slice_set}
+use Rattle.std.specs.Io.KnownBytes.{Consumes, Keeps}
+use Rattle.std.proofs.lemmas.List.{take_more_set, length_push, length-take-le}
+use Rattle.daemon.specs.declared.accesslab.line.TheConstants.{MAX_LINE}
+use Rattle.daemon.specs.Ending.{IsPart, IsLong}
+use Rattle.daemon.proofs.CutLemmas.{lacks_none, lacks_more}
+
+pub consumes_none : (o : Option (List ℕ)) → Consumes o o []
+consumes_none None = tt
+consumes_none (Some xs) = refl
+
+pub consumes_kept : (a b : Option (List ℕ)) → Keeps a b → Consumes a b []
+consumes_kept None b h = tt
+consumes_kept (Some xs) None h = absurd h
+consumes_kept (Some xs) (Some ys) h = sym h
+
+pub consumes_more : (a b c : Option (List ℕ)) (xs ys : List ℕ) → Consumes a b xs → Consumes b c ys → Consumes a c (xs ++ ys)
+consumes_more None b c xs ys h k = tt
+consumes_more (Some x) None c xs ys h k = absurd h
+consumes_more (Some x) (Some y) None xs ys h k = absurd k
+consumes_more (Some x) (Some y) (Some z) xs ys h k = h ∙ ap (λ v. xs ++ v) k ∙ sym (append_assoc xs ys z)
+
+pub part_none : (o : Option (List ℕ)) → IsPart o o []
+part_none o = record { plain = lacks_none 10; read = consumes_none o }
+
+-- a byte more
+pub part_more : (a b c : Option (List ℕ)) (part : List ℕ) (byte : ℕ) → IsPart a b part → Consumes b c (byte ∷ []) → (byte ≡ 10 → ⊥) → IsPart a c (part ++ byte ∷ [])
+part_more a b c part byte h k other = record {
+  plain = lacks_more 10 byte part h.plain (ne_eqb byte 10 other);
+  read = consumes_more a b c part (byte ∷ []) h.read k;
+}
+
+pub part_next : (a b c : Option (List ℕ)) (line : List ℕ) (len byte : ℕ) → len < length line → IsPart a b (take len line) → Consumes b c (byte ∷ []) → (byte ≡ 10 → ⊥) → IsPart a c (take (len + 1) (slice_set line len byte))
+part_next a b c line len byte inside h k other =
+    subst (IsPart a c) (sym (take_more_set line len byte inside)) (part_more a b c (take len line) byte h k other)
+
+pub part_long : (a b c : Option (List ℕ)) (line : List ℕ) (len byte : ℕ) → length line ≡ len → len ≡ MAX_LINE → IsPart a b (take len line) → Consumes b c (byte ∷ []) → (byte ≡ 10 → ⊥) → IsLong a c
+part_long a b c line len byte size is h k other = record {
+  front = take len line ++ byte ∷ [];
+  long = let e = length_push (take len line) byte in let f = length-take-le len line (omega arith) in omega arith;
+  part = part_more a b c (take len line) byte h k other;
+}
