@@ -1,9 +1,8 @@
 -- The circuit with an id.
-use Rattle.std.proofs.Common.{◌≡◌, ℕ, zero, suc, ◌+◌, ◌<◌, ◌≤◌, ◌⊎◌, inl, inr, Bool, true, false, cond, List, [], ◌∷◌, length, get_or, refl, ap, sym, subst, ◌∙◌, arith, add-one}
-use Rattle.std.specs.Prelude.{Option, Some, None, position, slice_get, option_map, IfSome, IfNone, All, AllPairs}
+use Rattle.std.proofs.Common.{◌≡◌, ℕ, zero, suc, ◌+◌, ◌<◌, Bool, true, false, cond, List, [], ◌∷◌, get_or, refl, ap, sym, subst, ◌∙◌, arith}
+use Rattle.std.specs.Prelude.{Option, Some, None, slice_get, option_map, IfSome, IfNone, AllPairs}
 use Rattle.std.specs.Str.{bytes_eq}
 use Rattle.std.specs.List.{position_from}
-use Rattle.std.proofs.lemmas.Bool.{false≢true}
 use Rattle.std.proofs.lemmas.Iterator.Adapters.{position_from-zero}
 use Rattle.std.proofs.lemmas.Option.{same_Some, slice_get_within, slice_get-get_or}
 use Rattle.std.proofs.lemmas.Slice.Eq.{bytes_eq-Decides}
@@ -22,6 +21,7 @@ named_is settings id = position_from-zero (has_id id) settings.circuits
 none_at : (id : List ℕ) (i : ℕ) (c : CircuitConfig) (cs : List CircuitConfig) (t : Bool) → bytes_eq c.id id ≡ t → (c.id ≡ id → ⊥) → position_from (has_id id) (i + 1) cs ≡ None → cond t (Some i) (position_from (has_id id) (i + 1) cs) ≡ None
 none_at id i c cs true is other rest = absurd (other ((bytes_eq-Decides c.id id).0 is))
 none_at id i c cs false is other rest = rest
+
 none_from : (id : List ℕ) (i : ℕ) (circuits : List CircuitConfig) → ((place : ℕ) → IsIdAt circuits place id → ⊥) → position_from (has_id id) i circuits ≡ None
 none_from id i [] h = refl
 none_from id i (c ∷ cs) h =
@@ -33,6 +33,7 @@ none_named settings id h = sym (named_is settings id ∙ none_from id 0 settings
 found_at : (id : List ℕ) (i : ℕ) (c : CircuitConfig) (cs : List CircuitConfig) (place : ℕ) (t : Bool) → bytes_eq c.id id ≡ t → (c.id ≡ id → 0 ≡ suc place) → position_from (has_id id) (i + 1) cs ≡ Some (i + 1 + place) → cond t (Some i) (position_from (has_id id) (i + 1) cs) ≡ Some (i + suc place)
 found_at id i c cs place true is other rest = let e : 0 ≡ suc place = other ((bytes_eq-Decides c.id id).0 is) in absurd (omega arith)
 found_at id i c cs place false is other rest = let e : i + 1 + place ≡ i + suc place = omega arith in rest ∙ ap Some e
+
 found_from : (id : List ℕ) (i : ℕ) (circuits : List CircuitConfig) (place : ℕ) → IsIdAt circuits place id → ((j : ℕ) → IsIdAt circuits j id → j ≡ place) → position_from (has_id id) i circuits ≡ Some (i + place)
 found_from id i [] place h one = absurd (cc)
 found_from id i (c ∷ cs) zero h one =
@@ -80,10 +81,10 @@ found_named settings id place sound h =
 pub no_id : (settings : Settings) (id : List ℕ) → IsSound settings → (IsCircuitId id → ⊥) → None ≡ circuit_named settings id
 no_id settings id sound h =
     none_named settings id (λ place e.
-        let s = stood settings.circuits place id e in
-        let inside = slice_get_within settings.circuits place s.circuit s.there in
-        let limits = sound.limits place s.circuit inside in
-        h (subst IsCircuitId (ap (λ c. c.id) (read_at settings.circuits place s.circuit s.circuit s.there) ∙ s.is) limits.id))
+    let s = stood settings.circuits place id e in
+    let inside = slice_get_within settings.circuits place s.circuit s.there in
+    let limits = sound.limits place s.circuit inside in
+    h (subst IsCircuitId (ap (λ c. c.id) (read_at settings.circuits place s.circuit s.circuit s.there) ∙ s.is) limits.id))
 
 pub named_result : (settings : Settings) (id : List ℕ) (r : Option ℕ) → IsSound settings → IfSome r (λ place. IsIdAt settings.circuits place id) → IfNone r ((place : ℕ) → IsIdAt settings.circuits place id → ⊥) → r ≡ circuit_named settings id
 named_result settings id None sound found none = none_named settings id none

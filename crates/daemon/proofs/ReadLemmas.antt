@@ -1,5 +1,5 @@
 -- Bytes that are read one behind the other.
-use Rattle.std.proofs.Common.{◌≡◌, ℕ, ◌+◌, ◌<◌, ◌≤◌, Bool, true, List, [], ◌∷◌, ◌++◌, length, take, refl, ap, sym, ◌∙◌, arith, append_assoc, ne_eqb, subst}
+use Rattle.std.proofs.Common.{◌≡◌, ℕ, ◌+◌, ◌<◌, ◌≤◌, List, [], ◌∷◌, ◌++◌, length, take, refl, ap, sym, ◌∙◌, arith, append_assoc, ne_eqb, subst}
 use Rattle.std.specs.Prelude.{Option, Some, None, slice_set}
 use Rattle.std.specs.Io.KnownBytes.{Consumes, Keeps}
 use Rattle.std.proofs.lemmas.List.{take_more_set, length_push, length-take-le}
@@ -42,3 +42,6 @@ part_long a b c line len byte size is h k other = record {
   long = let e = length_push (take len line) byte in let f = length-take-le len line (omega arith) in omega arith;
   part = part_more a b c (take len line) byte h k other;
 }
+
+pub some_bytes : (line : List ℕ) (len : ℕ) → length line ≡ MAX_LINE → len ≤ MAX_LINE → (len ≡ 0 → ⊥) → length (take len line) ≡ 0 → ⊥
+some_bytes line len size within some none = let e = length-take-le len line (omega arith) in some (sym e ∙ none)

@@ -1,5 +1,5 @@
 -- A run, one line more at a time.
-use Rattle.std.proofs.Common.{◌≡◌, ℕ, ◌+◌, ◌<◌, ◌≤◌, ◌⊎◌, inl, inr, Bool, true, List, [], ◌∷◌, ◌++◌, length, refl, ap, sym, subst, ◌∙◌, arith, append_assoc, append-nil, length-append}
+use Rattle.std.proofs.Common.{◌≡◌, ℕ, ◌+◌, ◌<◌, ◌⊎◌, inl, inr, true, List, [], ◌∷◌, ◌++◌, length, refl, ap, sym, subst, ◌∙◌, arith, append_assoc, append-nil, length-append}
 use Rattle.std.specs.Prelude.{Option, Some, None}
 use Rattle.std.specs.Io.KnownBytes.{Appends, Consumes, IsAtEnd}
 use Rattle.std.proofs.lemmas.Option.{same_Some}
@@ -9,14 +9,14 @@ use Rattle.world.specs.Headline.{Place}
 use Rattle.world.specs.Start.{Starts}
 use Rattle.daemon.specs.declared.accesslab.line.TheConstants.{MAX_LINE}
 use Rattle.daemon.specs.declared.accesslab.status.TheConstants.{DONE, BAD_LINE, FAILED}
-use Rattle.daemon.specs.Ending.{IsPart, IsLine, IsLast, IsLong, IsCut}
+use Rattle.daemon.specs.Ending.{IsLine, IsLast, IsLong, IsCut}
 use Rattle.daemon.specs.Lab.{Output, Turn, Refused, Taken, turn, and_then, lab_from, lab_output}
 use Rattle.daemon.specs.Line.{line_of}
 use Rattle.daemon.specs.Lines.{lacks, lines_of}
 use Rattle.daemon.specs.Sending.{AppendsFront}
-use Rattle.daemon.specs.Standing.{AreStanding, IsTaken, IsRefusal, LeadsOn, Ends, Began}
+use Rattle.daemon.specs.Standing.{AreStanding, IsRefusal, LeadsOn, Ends}
 use Rattle.daemon.specs.Told.{bad_text}
-use Rattle.daemon.proofs.CutLemmas.{line_before, line_begins, line_last, Begins}
+use Rattle.daemon.proofs.CutLemmas.{line_before, line_begins, line_last}
 use Rattle.daemon.proofs.ReadLemmas.{consumes_none, consumes_more}
 use Rattle.daemon.proofs.SendLemmas.{appends_none, appends_more, front_behind, front_longer}
 use Rattle.daemon.proofs.TurnLemmas.{long_is}
@@ -138,3 +138,137 @@ ends_at settings quota number given left left2 held holds holds2 places places2 
       subst (λ o. AppendsFront held holds2 o.text) (sym all)
       (front_behind held holds holds2 s.told (told ++ (f [] machines).text) s.appended (front_longer holds holds2 told (f [] machines).text wrote));
 }
+
+-- where the lines of a text end, however it goes on
+pub ends_feed : (settings : Settings) (quota number : ℕ) (given left left2 held holds holds2 : Option (List ℕ)) (places places2 : List Place) (line : List ℕ) (status : ℕ)
+    → SoFar settings quota number given left held holds places → IsLine left left2 line
+    → ((machines : ℕ → Alone) → AreStanding settings quota places machines → LeadsOn settings quota number (turn settings quota machines (line_of settings line)) places2 holds holds2 (Some status))
+    → Ends settings quota given left2 held holds2 status
+ends_feed settings quota number given left left2 held holds holds2 places places2 line status s read leads =
+    ends_at settings quota number given left left2 held holds holds2 places places2 (line ++ 10 ∷ []) status (turn settings quota s.machines (line_of settings line)) s read.read
+    (λ rest next. lab_from settings quota (number + 1) next (lines_of rest)) (λ rest here. line_on settings quota number s.machines line rest read.plain)
+    (leads s.machines s.standing)
+
+-- a line that is too long
+long_on : (settings : Settings) (quota number : ℕ) (machines : ℕ → Alone) (front rest : List ℕ) → lacks 10 front ≡ true → MAX_LINE < length front
+    → lab_from settings quota number machines (lines_of (front ++ rest)) ≡ record { text = bad_text number; status = BAD_LINE }
+long_on settings quota number machines [] rest plain long = absurd (omega arith)
+long_on settings quota number machines (b ∷ front) rest plain long =
+    let begins = line_begins b front rest plain in
+    let line = (b ∷ front) ++ begins.more in
+    let size = length-append (b ∷ front) begins.more in
+    ap (lab_from settings quota number machines) begins.is ∙ one_line settings quota number machines line begins.others
+    ∙ ap (λ l. and_then number (turn settings quota machines l) (λ next. lab_from settings quota (number + 1) next begins.others)) (long_is settings line (omega arith))
+
+pub ends_long : (settings : Settings) (quota number : ℕ) (given left left2 held holds holds2 : Option (List ℕ)) (places : List Place) (status : ℕ)
+    → SoFar settings quota number given left held holds places → IsLong left left2 → IsRefusal number holds holds2 status → Ends settings quota given left2 held holds2 status
+ends_long settings quota number given left left2 held holds holds2 places status s read wrote =
+    ends_at settings quota number given left left2 held holds holds2 places places read.front status Refused s read.part.read
+    (λ rest next. record { text = []; status = DONE }) (λ rest here. long_on settings quota number s.machines read.front rest read.part.plain read.long) wrote
+
+-- nothing is left behind the end
+none_left : (left : Option (List ℕ)) (rest : List ℕ) → IsAtEnd left → Left left rest → rest ≡ []
+none_left None rest end (inl h) = absurd (cc)
+none_left (Some xs) rest end (inl h) = sym (same_Some _ _ h) ∙ end
+none_left left rest end (inr h) = h
+
+last_on : (settings : Settings) (quota number : ℕ) (machines : ℕ → Alone) (line rest : List ℕ) → lacks 10 line ≡ true → (length line ≡ 0 → ⊥) → rest ≡ []
+    → lab_from settings quota number machines (lines_of (line ++ rest)) ≡ and_then number (turn settings quota machines (line_of settings line)) (λ next. lab_from settings quota (number + 1) next [])
+last_on settings quota number machines [] rest plain some none = absurd (some refl)
+last_on settings quota number machines (b ∷ front) rest plain some none =
+    ap (λ text. lab_from settings quota number machines (lines_of text)) (ap (λ v. (b ∷ front) ++ v) none ∙ append-nil (b ∷ front))
+    ∙ ap (lab_from settings quota number machines) (line_last b front plain)
+    ∙ one_line settings quota number machines (b ∷ front) []
+
+pub ends_last : (settings : Settings) (quota number : ℕ) (given left left2 held holds holds2 : Option (List ℕ)) (places places2 : List Place) (line : List ℕ) (status : ℕ)
+    → SoFar settings quota number given left held holds places → IsLast left left2 line → (length line ≡ 0 → ⊥)
+    → ((machines : ℕ → Alone) → AreStanding settings quota places machines → LeadsOn settings quota number (turn settings quota machines (line_of settings line)) places2 holds holds2 (Some status))
+    → Ends settings quota given left2 held holds2 status
+ends_last settings quota number given left left2 held holds holds2 places places2 line status s read some leads =
+    ends_at settings quota number given left left2 held holds holds2 places places2 line status (turn settings quota s.machines (line_of settings line)) s read.part.read
+    (λ rest next. lab_from settings quota (number + 1) next [])
+    (λ rest here. last_on settings quota number s.machines line rest read.part.plain some (none_left left2 rest read.end here)) (leads s.machines s.standing)
+
+-- The run ends at the end of the text, of which all was told.
+ends_done : (settings : Settings) (quota : ℕ) (given left held holds : Option (List ℕ)) (read told : List ℕ) → Consumes given left read → IsAtEnd left → Appends held holds told
+    → lab_output settings quota (read ++ []) ≡ record { text = told; status = DONE } → Ends settings quota given left held holds DONE
+ends_done settings quota given left held holds read told consumed end wrote all = record {
+  read = read;
+  consumed = consumed;
+  exact = λ fine rest here.
+      let so = ap (λ v. lab_output settings quota (read ++ v)) (none_left left rest end (inl here)) ∙ all in
+      (subst (λ o. Appends held holds o.text) (sym so) wrote, sym (ap (λ o. o.status) so));
+  begun = λ failed. let e : DONE ≡ FAILED = failed in absurd (omega arith);
+}
+
+last_done : (settings : Settings) (quota number : ℕ) (given left left2 held holds holds2 : Option (List ℕ)) (places places2 : List Place) (line : List ℕ) (t : Turn)
+    → (s : SoFar settings quota number given left held holds places) → IsLast left left2 line → (length line ≡ 0 → ⊥) → turn settings quota s.machines (line_of settings line) ≡ t
+    → LeadsOn settings quota number t places2 holds holds2 None → Ends settings quota given left2 held holds2 DONE
+last_done settings quota number given left left2 held holds holds2 places places2 line Refused s read some is leads = absurd leads
+last_done settings quota number given left left2 held holds holds2 places places2 line (Taken told machines) s read some is leads =
+    ends_done settings quota given left2 held holds2 (s.read ++ line) (s.told ++ told) (consumes_more given left left2 s.read line s.consumed read.part.read) read.end
+    (appends_more held holds holds2 s.told told s.appended leads.appended)
+    (goes_on settings quota number given left held holds places s line []
+    ∙ ap (after s.told) (last_on settings quota number s.machines line [] read.part.plain some refl
+    ∙ ap (λ t. and_then number t (λ next. lab_from settings quota (number + 1) next [])) is
+    ∙ ap (after told) (none_told settings quota (number + 1) machines)
+    ∙ ap (λ text. record { text = text; status = DONE }) (append-nil told)))
+
+pub ends_last_done : (settings : Settings) (quota number : ℕ) (given left left2 held holds holds2 : Option (List ℕ)) (places places2 : List Place) (line : List ℕ)
+    → SoFar settings quota number given left held holds places → IsLast left left2 line → (length line ≡ 0 → ⊥)
+    → ((machines : ℕ → Alone) → AreStanding settings quota places machines → LeadsOn settings quota number (turn settings quota machines (line_of settings line)) places2 holds holds2 None)
+    → Ends settings quota given left2 held holds2 DONE
+ends_last_done settings quota number given left left2 held holds holds2 places places2 line s read some leads =
+    last_done settings quota number given left left2 held holds holds2 places places2 line (turn settings quota s.machines (line_of settings line)) s read some refl (leads s.machines s.standing)
+
+-- no line is left
+pub ends_none : (settings : Settings) (quota number : ℕ) (given left left2 held holds : Option (List ℕ)) (places : List Place)
+    → SoFar settings quota number given left held holds places → IsLast left left2 [] → Ends settings quota given left2 held holds DONE
+ends_none settings quota number given left left2 held holds places s read =
+    ends_done settings quota given left2 held holds (s.read ++ []) s.told (consumes_more given left left2 s.read [] s.consumed read.part.read) read.end s.appended
+    (goes_on settings quota number given left held holds places s [] []
+    ∙ ap (after s.told) (ap (lab_from settings quota number s.machines) no_lines ∙ none_told settings quota number s.machines)
+    ∙ ap (λ text. record { text = text; status = DONE }) (append-nil s.told))
+
+-- the reader failed
+pub ends_cut : (settings : Settings) (quota number : ℕ) (given left left2 held holds : Option (List ℕ)) (places : List Place)
+    → SoFar settings quota number given left held holds places → IsCut left left2 → Ends settings quota given left2 held holds FAILED
+ends_cut settings quota number given left left2 held holds places s cut = record {
+  read = s.read ++ cut.front;
+  consumed = consumes_more given left left2 s.read cut.front s.consumed cut.part.read;
+  exact = λ fine rest here. absurd (fine refl);
+  begun = λ failed. record {
+    front = s.told;
+    rest = (lab_from settings quota number s.machines (lines_of cut.front)).text;
+    parted = ap (λ o. o.text) (s.whole cut.front);
+    appended = s.appended;
+  };
+}
+
+-- there are too many lines
+pub ends_stop : (settings : Settings) (quota number : ℕ) (given left held holds : Option (List ℕ)) (places : List Place)
+    → SoFar settings quota number given left held holds places → Ends settings quota given left held holds FAILED
+ends_stop settings quota number given left held holds places s = record {
+  read = s.read;
+  consumed = s.consumed;
+  exact = λ fine rest here. absurd (fine refl);
+  begun = λ failed. record {
+    front = s.told;
+    rest = (lab_from settings quota number s.machines (lines_of [])).text;
+    parted = ap (λ o. o.text) (ap (lab_output settings quota) (sym (append-nil s.read)) ∙ s.whole []);
+    appended = s.appended;
+  };
+}
+
+-- what is written for a known text
+ended_known : (settings : Settings) (quota : ℕ) (text read : List ℕ) (left held holds : Option (List ℕ)) (status : ℕ) → Consumes (Some text) left read
+    → ((rest : List ℕ) → left ≡ Some rest → Appends held holds (lab_output settings quota (read ++ rest)).text × (status ≡ (lab_output settings quota (read ++ rest)).status))
+    → Appends held holds (lab_output settings quota text).text × (status ≡ (lab_output settings quota text).status)
+ended_known settings quota text read None held holds status consumed exact = absurd consumed
+ended_known settings quota text read (Some rest) held holds status consumed exact =
+    subst (λ v. Appends held holds (lab_output settings quota v).text × (status ≡ (lab_output settings quota v).status)) (sym consumed) (exact rest refl)
+
+pub ended_written : (settings : Settings) (quota : ℕ) (text : List ℕ) (given left held holds : Option (List ℕ)) (status : ℕ) → Ends settings quota given left held holds status → given ≡ Some text → (status ≡ FAILED → ⊥)
+    → Appends held holds (lab_output settings quota text).text × (status ≡ (lab_output settings quota text).status)
+ended_written settings quota text given left held holds status ends is fine =
+    ended_known settings quota text ends.read left held holds status (subst (λ g. Consumes g left ends.read) is ends.consumed) (ends.exact fine)

@@ -1,5 +1,5 @@
 -- A step of the world as a turn of the machines.
-use Rattle.std.proofs.Common.{◌≡◌, ℕ, ◌+◌, ◌<◌, ◌≤◌, ◌⊎◌, inl, inr, Bool, true, false, cond, eqb, eqb-true, eq-eqb, le-ltb, lt-ltb, List, [], ◌∷◌, ◌++◌, length, refl, ap, sym, subst, ◌∙◌, arith}
+use Rattle.std.proofs.Common.{◌≡◌, ℕ, ◌<◌, ◌≤◌, inl, inr, Bool, true, false, cond, eqb, eqb-true, eq-eqb, le-ltb, lt-ltb, List, length, refl, ap, sym, subst, ◌∙◌, arith}
 use Rattle.std.specs.Prelude.{Option, Some, None, slice_get}
 use Rattle.std.specs.Io.KnownBytes.{Appends}
 use Rattle.std.proofs.lemmas.Option.{same_Some, slice_get_cases}
@@ -9,18 +9,17 @@ use Rattle.config.specs.declared.settings.RelayConfig.{RelayConfig}
 use Rattle.world.specs.Alone.{Alone, Effect, Dropped, Gone, SentUp, SentDown, Framed, Done, alone_step}
 use Rattle.world.specs.CircuitPart.{CircuitPart}
 use Rattle.world.specs.Headline.{Place, Stands, Steps, IsOutcome, Answers, after_seen}
-use Rattle.world.specs.Seen.{Seen, Tick, seen_of}
+use Rattle.world.specs.Seen.{Seen, seen_of}
 use Rattle.world.specs.Start.{part_in, with_circuit, with_relay}
 use Rattle.world.specs.declared.event.Event.{Event}
 use Rattle.world.specs.declared.event.Event.TheVariants as event
 use Rattle.world.specs.declared.outcome.Outcome.{Outcome}
-use Rattle.world.specs.declared.outcome.Outcome.TheVariants as outcome
 use Rattle.daemon.specs.declared.accesslab.status.TheConstants.{FAILED}
 use Rattle.daemon.specs.declared.accesslab.line.TheConstants.{MAX_LINE}
-use Rattle.daemon.specs.Lab.{Taken, by_part, moved, ticked, turn}
-use Rattle.daemon.specs.Line.{Bad, Passes, line_of, short_line}
+use Rattle.daemon.specs.Lab.{by_part, moved, ticked}
+use Rattle.daemon.specs.Line.{Bad, line_of, short_line}
 use Rattle.daemon.specs.Sending.{AppendsFront}
-use Rattle.daemon.specs.Standing.{AreStanding, Names, IsTaken, LeadsOn}
+use Rattle.daemon.specs.Standing.{AreStanding, Names, LeadsOn}
 use Rattle.daemon.specs.Told.{effect_text, outcome_effect, whole}
 
 -- the outcome tells the effect

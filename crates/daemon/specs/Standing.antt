@@ -1,5 +1,5 @@
 -- What a turn and a run of turns lead to, in the world and at the writer.
-use Rattle.std.specs.Prelude.{◌≡◌, ℕ, ◌⊎◌, ◌==◌, if◌then◌else◌, List, [], ◌++◌, Option, Some, None}
+use Rattle.std.specs.Prelude.{◌≡◌, ℕ, ◌⊎◌, ◌==◌, if◌then◌else◌, List, ◌++◌, Option, Some, None}
 use Rattle.std.specs.Io.KnownBytes.{Appends, Consumes}
 use Rattle.config.specs.Rules.{Settings}
 use Rattle.world.specs.Alone.{Alone}
@@ -8,7 +8,7 @@ use Rattle.world.specs.Headline.{Place, Stands}
 use Rattle.world.specs.Seen.{Seen, seen_of}
 use Rattle.world.specs.declared.event.Event.{Event}
 use Rattle.world.specs.Start.{part_in}
-use Rattle.daemon.specs.declared.accesslab.status.TheConstants.{DONE, BAD_LINE, FAILED}
+use Rattle.daemon.specs.declared.accesslab.status.TheConstants.{BAD_LINE, FAILED}
 use Rattle.daemon.specs.Lab.{Turn, Refused, Taken, lab_output}
 use Rattle.daemon.specs.Sending.{AppendsFront}
 use Rattle.daemon.specs.Told.{bad_text}

@@ -2,7 +2,6 @@
 use Rattle.std.specs.Prelude.{ℕ, List, [], ◌∷◌, ◌++◌, codes, decimal, slice_index}
 use Rattle.hex.specs.Hex.{encode_lower}
 use Rattle.types.specs.Discard.{number_of}
-use Rattle.types.specs.declared.addr.Addr4.{Addr4}
 use Rattle.types.specs.declared.dest.Dest.{Dest}
 use Rattle.types.specs.declared.dest.Dest.TheVariants.{Broadcast, Unicast, Peer}
 use Rattle.world.specs.declared.outcome.Outcome.{Outcome}

@@ -1,5 +1,5 @@
 -- Readings that name only what there is.
-use Rattle.std.specs.Prelude.{ℕ, ◌<◌, ◌≤◌, length, ⊤}
+use Rattle.std.specs.Prelude.{◌<◌, ◌≤◌, length, ⊤}
 use Rattle.config.specs.Rules.{Settings}
 use Rattle.daemon.specs.declared.accesslab.hexadecimal.TheConstants.{MAX_BYTES}
 use Rattle.daemon.specs.declared.accesslab.reading.Reading.{Reading}

@@ -1,9 +1,9 @@
 //! The events of a text, one a line, and what comes of them, one line an event.
 mod circuits;
 mod digits;
+mod engine;
 mod fields;
 mod hexadecimal;
-mod engine;
 mod line;
 mod put;
 mod reading;

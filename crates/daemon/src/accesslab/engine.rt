@@ -34,13 +34,33 @@ fn take_lines<M: Machine, R: Read, W: Write>(
         };
         match ending {
             Ending::TooLong => return refuse(number, writer),
-            Ending::Input(0) => return DONE,
             Ending::Input(len) => {
-                let last = take_line(machine, config, number, &line[..len], &mut bytes, &mut out, writer);
-                return last.unwrap_or(DONE);
+                if len == 0 {
+                    return DONE;
+                }
+                match take_line(
+                    machine,
+                    config,
+                    number,
+                    &line[..len],
+                    &mut bytes,
+                    &mut out,
+                    writer,
+                ) {
+                    Some(status) => return status,
+                    None => return DONE,
+                }
             }
             Ending::Feed(len) => {
-                if let Some(status) = take_line(machine, config, number, &line[..len], &mut bytes, &mut out, writer) {
+                if let Some(status) = take_line(
+                    machine,
+                    config,
+                    number,
+                    &line[..len],
+                    &mut bytes,
+                    &mut out,
+                    writer,
+                ) {
                     return status;
                 }
             }
@@ -64,7 +84,7 @@ pub fn lab<M: Machine, R: Read, W: Write>(
     ensures written { (quota : ℕ) (text : List ℕ) → Starts config.now quota (M.places machine.old)
         → R.remaining reader.old ≡ Some text → ¬ (result ≡ FAILED)
         → Appends (W.contents writer.old) (W.contents writer.new) (lab_output config.now quota text).text
-            × (result ≡ (lab_output config.now quota text).status) }
+        × (result ≡ (lab_output config.now quota text).status) }
 
     // Where a reader or a writer failed, a beginning of the answer to what was read is written.
     ensures begun { (quota : ℕ) → Starts config.now quota (M.places machine.old) → result ≡ FAILED

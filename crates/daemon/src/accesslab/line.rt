@@ -44,7 +44,10 @@ fn next_byte<R: Read>(reader: &mut R) -> Result<Option<u8>, Failed>
 }
 
 /// Puts the next line to the front of the array.
-pub(crate) fn read_line<R: Read>(reader: &mut R, line: &mut [u8; MAX_LINE]) -> Result<Ending, Failed>
+pub(crate) fn read_line<R: Read>(
+    reader: &mut R,
+    line: &mut [u8; MAX_LINE],
+) -> Result<Ending, Failed>
     ensures ending { IfOk result (IsEnding (R.remaining reader.old) (R.remaining reader.new) line.new) }
     ensures within { IfOk result (λ ending. len_of ending ≤ MAX_LINE) }
     ensures cut { OnErr result (IsCut (R.remaining reader.old) (R.remaining reader.new)) }

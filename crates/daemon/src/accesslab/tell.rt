@@ -48,7 +48,12 @@ pub(crate) fn tell_bad<W: Write>(writer: &mut W, number: u64) -> Result<(), Fail
 }
 
 /// Writes that a frame leaves towards the circuit with this id.
-fn tell_frame<W: Write>(writer: &mut W, id: &[u8], dest: Dest, frame: &PacketBuf) -> Result<(), Failed>
+fn tell_frame<W: Write>(
+    writer: &mut W,
+    id: &[u8],
+    dest: Dest,
+    frame: &PacketBuf,
+) -> Result<(), Failed>
     ensures ok { OnOk result (Appends (W.contents writer.old) (W.contents writer.new)
         (whole (effect_text id.now (Framed (record { dest = dest; bytes = frame.now }))))) }
     ensures err { OnErr result (AppendsFront (W.contents writer.old) (W.contents writer.new)
@@ -106,7 +111,13 @@ fn put_hardware<W: Write>(writer: &mut W, id: &[u8], chaddr: [u8; 6]) -> Result<
     put_all(writer, &[b"to ", id, b" unicast ", &digits, b" "])
 }
 
-fn tell_unicast<W: Write>(writer: &mut W, id: &[u8], chaddr: [u8; 6], yiaddr: Addr4, frame: &[u8]) -> Result<(), Failed>
+fn tell_unicast<W: Write>(
+    writer: &mut W,
+    id: &[u8],
+    chaddr: [u8; 6],
+    yiaddr: Addr4,
+    frame: &[u8],
+) -> Result<(), Failed>
     ensures ok { OnOk result (Appends (W.contents writer.old) (W.contents writer.new)
         (codes "to " ++ (id.now ++ (codes " unicast " ++ (encode_lower chaddr ++ codes " "))) ++ (dotted yiaddr.0 ++ (codes " " ++ (frame.now ++ codes "\n"))))) }
     ensures err { OnErr result (AppendsFront (W.contents writer.old) (W.contents writer.new)
@@ -121,7 +132,12 @@ fn tell_unicast<W: Write>(writer: &mut W, id: &[u8], chaddr: [u8; 6], yiaddr: Ad
     put_all(writer, &[b" ", frame, b"\n"])
 }
 
-fn tell_peer<W: Write>(writer: &mut W, id: &[u8], address: Addr6, frame: &[u8]) -> Result<(), Failed>
+fn tell_peer<W: Write>(
+    writer: &mut W,
+    id: &[u8],
+    address: Addr6,
+    frame: &[u8],
+) -> Result<(), Failed>
     ensures ok { OnOk result (Appends (W.contents writer.old) (W.contents writer.new)
         (codes "to " ++ id.now ++ codes " peer " ++ encode_lower address.0 ++ codes " " ++ frame.now ++ codes "\n")) }
     ensures err { OnErr result (AppendsFront (W.contents writer.old) (W.contents writer.new)
@@ -129,7 +145,10 @@ fn tell_peer<W: Write>(writer: &mut W, id: &[u8], address: Addr6, frame: &[u8]) 
 {
     let mut digits = [0; 32];
     let _ = hex::encode_to_slice(address.0.as_slice(), &mut digits);
-    put_all(writer, &[b"to ", id, b" peer ", &digits, b" ", frame, b"\n"])
+    put_all(
+        writer,
+        &[b"to ", id, b" peer ", &digits, b" ", frame, b"\n"],
+    )
 }
 
 /// Writes that it is done.
@@ -141,7 +160,12 @@ pub(crate) fn tell_done<W: Write>(writer: &mut W) -> Result<(), Failed>
 }
 
 /// Writes what came of an event of the circuit with this id.
-pub(crate) fn tell<W: Write>(writer: &mut W, id: &[u8], outcome: Outcome, out: &PacketBuf) -> Result<(), Failed>
+pub(crate) fn tell<W: Write>(
+    writer: &mut W,
+    id: &[u8],
+    outcome: Outcome,
+    out: &PacketBuf,
+) -> Result<(), Failed>
     ensures ok { OnOk result (Appends (W.contents writer.old) (W.contents writer.new)
         (whole (effect_text id.now (outcome_effect outcome out.now)))) }
     ensures err { OnErr result (AppendsFront (W.contents writer.old) (W.contents writer.new)

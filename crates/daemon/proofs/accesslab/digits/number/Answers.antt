@@ -1,4 +1,4 @@
-use Rattle.std.proofs.Common.{sym, ap, ◌∙◌, ◌+◌, ◌*◌, drop, arith}
+use Rattle.std.proofs.Common.{sym, ap, ◌∙◌, ◌+◌, ◌*◌, drop}
 use Rattle.daemon.specs.Fields.{digits_after}
 use Rattle.daemon.proofs.NumberLemmas.{digit_next, no_digit, too_great, all_digits}
 use Rattle.daemon.proofs.accesslab.digits.number.Goals as goal
@@ -17,7 +17,7 @@ returns-then-number-most-clause-value c =
     (ap (λ n. digits_after (10 * c.digits.number + n) (drop (c.digits.digit-index + 1) text)) c.from.ensures ∙ more ∙ c.digits.invariant.rest)
 
 pub digits-preserved : goal.digits-preserved
-digits-preserved c = 
+digits-preserved c =
     let text = c.args.text.now in
     let more = digit_next c.digits.number text c.digits.digit-index c.digits-test.true (sym c.is_ascii_digit.ensures.value ∙ c.if-not-is_ascii_digit.false) in
     record {

@@ -1,4 +1,4 @@
-use Rattle.std.proofs.Common.{◌≡◌, ◌+◌, ◌-◌, List, ◌∷◌, take, drop, length, arith, sym, ap, ◌∙◌, true}
+use Rattle.std.proofs.Common.{◌+◌, ◌∷◌, take, sym, ap, ◌∙◌}
 use Rattle.std.proofs.lemmas.List.{take_all, take_rest}
 use Rattle.daemon.specs.Lines.{lacks, fields_of}
 use Rattle.daemon.proofs.CutLemmas.{lacks_none, lacks_next, field_before, field_alone}

@@ -1,4 +1,4 @@
-use Rattle.std.proofs.Common.{◌≡◌, ℕ, length, List, []}
+use Rattle.std.proofs.Common.{◌≡◌, length, []}
 use Rattle.std.specs.Io.KnownBytes.{Consumes}
 use Rattle.daemon.proofs.accesslab.line.next_byte.Given as goal
 

@@ -1,4 +1,4 @@
-use Rattle.std.proofs.Common.{ℕ, List, [], ◌∷◌, ◌++◌, codes}
+use Rattle.std.proofs.Common.{ℕ, List, ◌++◌, codes}
 use Rattle.hex.specs.Hex.{encode_lower}
 use Rattle.daemon.specs.Told.{dotted}
 use Rattle.daemon.proofs.SendLemmas.{front_longer, front_behind, ok_behind, err_behind}

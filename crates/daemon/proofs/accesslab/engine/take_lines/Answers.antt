@@ -1,0 +1,58 @@
+use Rattle.std.proofs.Common.{refl, take, subst}
+use Rattle.daemon.specs.Ending.{IsLast}
+use Rattle.daemon.proofs.ReadLemmas.{some_bytes}
+use Rattle.daemon.proofs.RunLemmas.{at_first, next_line, ends_cut, ends_long, ends_none, ends_last, ends_last_done, ends_feed, ends_stop}
+use Rattle.daemon.proofs.accesslab.engine.take_lines.Goals as goal
+
+pub lines-init : goal.lines-init
+lines-init g c = record {
+  line = refl;
+  bytes = refl;
+  so_far = λ quota starts. at_first c.args.config.now quota _ _ _ starts;
+}
+
+pub returns-in-Err : goal.returns-in-Err
+returns-in-Err g c = λ quota starts.
+    ends_cut c.args.config.now quota c.lines.number _ _ _ _ _ _ (c.lines.invariant.so_far quota starts) c.in-Err.ensures.cut
+
+pub returns-in-TooLong : goal.returns-in-TooLong
+returns-in-TooLong g c = λ quota starts.
+    ends_long c.args.config.now quota c.lines.number _ _ _ _ _ _ _ c.refuse.result (c.lines.invariant.so_far quota starts)
+    (rw c.in-TooLong.is at c.in-Ok.ensures.ending) c.refuse.ensures
+
+pub returns-then-len-eq0 : goal.returns-then-len-eq0
+returns-then-len-eq0 g c = λ quota starts.
+    let last = rw c.in-Input.is at c.in-Ok.ensures.ending in
+    ends_none c.args.config.now quota c.lines.number _ _ _ _ _ _ (c.lines.invariant.so_far quota starts)
+    (subst (λ n. IsLast (g.R.Read.remaining c.lines.reader) (g.R.Read.remaining c.read_line.new.reader) (take n c.read_line.new.line)) c.if-len-eq0.true last)
+
+pub returns-in-Some : goal.returns-in-Some
+returns-in-Some g c = λ quota starts.
+    ends_last c.args.config.now quota c.lines.number _ _ _ _ _ _ _ _ (take c.in-Input.len c.read_line.new.line) c.in-Some.status
+    (c.lines.invariant.so_far quota starts) (rw c.in-Input.is at c.in-Ok.ensures.ending)
+    (some_bytes c.read_line.new.line c.in-Input.len c.read_line.array_long (rw c.in-Input.is at c.in-Ok.ensures.within) c.if-len-eq0.false)
+    (λ machines standing. c.in-Some.ensures quota machines standing)
+
+pub returns-in-None : goal.returns-in-None
+returns-in-None g c = λ quota starts.
+    ends_last_done c.args.config.now quota c.lines.number _ _ _ _ _ _ _ _ (take c.in-Input.len c.read_line.new.line)
+    (c.lines.invariant.so_far quota starts) (rw c.in-Input.is at c.in-Ok.ensures.ending)
+    (some_bytes c.read_line.new.line c.in-Input.len c.read_line.array_long (rw c.in-Input.is at c.in-Ok.ensures.within) c.if-len-eq0.false)
+    (λ machines standing. c.in-None.ensures quota machines standing)
+
+pub returns-in-Some-take_line : goal.returns-in-Some-take_line
+returns-in-Some-take_line g c = λ quota starts.
+    ends_feed c.args.config.now quota c.lines.number _ _ _ _ _ _ _ _ (take c.in-Feed.len c.read_line.new.line) c.in-Some-take_line.status
+    (c.lines.invariant.so_far quota starts) (rw c.in-Feed.is at c.in-Ok.ensures.ending) (λ machines standing. c.in-Some-take_line.ensures quota machines standing)
+
+pub lines-preserved : goal.lines-preserved
+lines-preserved g c = record {
+  line = c.read_line.array_long;
+  bytes = c.take_line-in-Feed.array_long;
+  so_far = λ quota starts.
+      next_line c.args.config.now quota c.lines.number _ _ _ _ _ _ _ _ (take c.in-Feed.len c.read_line.new.line)
+      (c.lines.invariant.so_far quota starts) (rw c.in-Feed.is at c.in-Ok.ensures.ending) (λ machines standing. c.in_default.ensures quota machines standing);
+}
+
+pub returns : goal.returns
+returns g c = λ quota starts. ends_stop c.args.config.now quota c.lines.number _ _ _ _ _ (c.lines.invariant.so_far quota starts)
