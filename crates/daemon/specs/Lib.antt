@@ -10,3 +10,4 @@ pub mod Short
 pub mod Standing
 pub mod Told
 pub mod Within
+pub mod Words

@@ -1,5 +1,6 @@
 //! The events of a text, one a line, and what comes of them, one line an event.
 mod circuits;
+mod command_line;
 mod digits;
 mod engine;
 mod fields;
@@ -11,6 +12,7 @@ mod status;
 mod tell;
 mod turn;
 
+pub use command_line::{LabWords, MAX_QUOTA, Refusal, words};
 pub use engine::lab;
 pub use line::MAX_LINE;
 pub use status::{BAD_LINE, DONE, FAILED, REFUSED, UNOPENED, UNREADABLE};
