@@ -1,7 +1,8 @@
 pub mod CircuitLemmas
 pub mod CutLemmas
 pub mod NumberLemmas
-pub mod SendLemmas
+pub mod OpeningLemmas
 pub mod ReadLemmas
-pub mod TurnLemmas
 pub mod RunLemmas
+pub mod SendLemmas
+pub mod TurnLemmas

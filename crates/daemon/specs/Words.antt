@@ -5,7 +5,7 @@ use Rattle.clap.specs.Words.{App, Row, Rule, Text, new_app, new_rule, with_rule,
 use Rattle.clap.specs.Simple.{on_top}
 use Rattle.clap.specs.declared.builder.ArgAction.TheVariants.{Set}
 use Rattle.clap.specs.declared.builder.value_parser.ValueParser.TheVariants as parser
-use Rattle.daemon.specs.declared.accesslab.command_line.TheConstants.{MAX_QUOTA}
+use Rattle.world.specs.declared.world.TheConstants.{MAX_QUOTA}
 
 -- the path of the configuration, which has to be there
 abbrev pub config_rule : Rule

@@ -6,13 +6,15 @@ mod engine;
 mod fields;
 mod hexadecimal;
 mod line;
+mod opening;
 mod put;
 mod reading;
 mod status;
 mod tell;
 mod turn;
 
-pub use command_line::{LabWords, MAX_QUOTA, Refusal, words};
+pub use command_line::{LabWords, Refusal, words};
 pub use engine::lab;
 pub use line::MAX_LINE;
+pub use opening::run;
 pub use status::{BAD_LINE, DONE, FAILED, REFUSED, UNOPENED, UNREADABLE};

@@ -5,9 +5,7 @@ ghost use Rattle.daemon.specs.Words.{config_rule, quota_rule, bare_app, lab_app,
 
 use clap::{Arg, ArgAction, Command};
 use std::alloc::{AllocError, Global};
-
-/// The most datagrams of a circuit that the network keeps in each direction.
-pub const MAX_QUOTA: u16 = 256;
+use world::MAX_QUOTA;
 
 /// The values of the words behind the program's name.
 #[derive(Clone, Copy, Debug)]

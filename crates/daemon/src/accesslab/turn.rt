@@ -1,5 +1,5 @@
 //! What a line does.
-ghost use Rattle.std.specs.Prelude.{◌≡◌, ◌<◌, ◌≤◌, ℕ, length};
+ghost use Rattle.std.specs.Prelude.{◌≡◌, ◌<◌, ◌≤◌, ℕ, length, IfSome};
 ghost use Rattle.config.specs.Rules.{Settings};
 ghost use Rattle.world.specs.Alone.{Alone};
 ghost use Rattle.world.specs.Seen.{Seen};
@@ -9,6 +9,7 @@ ghost use Rattle.daemon.specs.Line.{line_of, Passes};
 ghost use Rattle.daemon.specs.Said.{said};
 ghost use Rattle.daemon.specs.Standing.{AreStanding, Names, IsRefusal, LeadsOn};
 ghost use Rattle.daemon.specs.Within.{IsWithin};
+ghost use Rattle.daemon.specs.declared.accesslab.status.TheConstants.{UNOPENED};
 
 use super::hexadecimal::MAX_BYTES;
 use super::line::MAX_LINE;
@@ -23,7 +24,8 @@ use world::{Event, Machine};
 
 /// Writes that the line is bad, and tells the status.
 pub(crate) fn refuse<W: Write>(number: u64, writer: &mut W) -> u8
-    ensures { IsRefusal number (W.contents writer.old) (W.contents writer.new) result }
+    ensures refusal { IsRefusal number (W.contents writer.old) (W.contents writer.new) result }
+    ensures status { ¬ (result ≡ UNOPENED) }
 {
     match tell_bad(writer, number) {
         Ok(()) => BAD_LINE,
@@ -41,8 +43,9 @@ fn happen<M: Machine, W: Write>(
     writer: &mut W,
 ) -> Option<u8>
     requires { circuit < length config.now.circuits }
-    ensures { (quota number : ℕ) (machines : ℕ → Alone) (seen : Seen) → Names circuit seen event.now → AreStanding config.now quota (M.places machine.old) machines
+    ensures leads { (quota number : ℕ) (machines : ℕ → Alone) (seen : Seen) → Names circuit seen event.now → AreStanding config.now quota (M.places machine.old) machines
         → LeadsOn config.now quota number (by_part circuit seen machines (part_in config.now quota circuit)) (M.places machine.new) (W.contents writer.old) (W.contents writer.new) result }
+    ensures status { IfSome result (λ status. ¬ (status ≡ UNOPENED)) }
 {
     let outcome = machine.step(event, out);
     let named = config.at(circuit);
@@ -59,8 +62,9 @@ fn pass<M: Machine, W: Write>(
     out: &mut PacketBuf,
     writer: &mut W,
 ) -> Option<u8>
-    ensures { (settings : Settings) (quota number : ℕ) (machines : ℕ → Alone) → AreStanding settings quota (M.places machine.old) machines
+    ensures leads { (settings : Settings) (quota number : ℕ) (machines : ℕ → Alone) → AreStanding settings quota (M.places machine.old) machines
         → LeadsOn settings quota number (turn settings quota machines (Passes now)) (M.places machine.new) (W.contents writer.old) (W.contents writer.new) result }
+    ensures status { IfSome result (λ status. ¬ (status ≡ UNOPENED)) }
 {
     let _ = machine.step(&Event::Tick(now), out);
     match tell_done(writer) {
@@ -80,8 +84,9 @@ fn act<M: Machine, W: Write>(
     writer: &mut W,
 ) -> Option<u8>
     requires { IsWithin config.now reading }
-    ensures { (quota : ℕ) (machines : ℕ → Alone) → AreStanding config.now quota (M.places machine.old) machines
+    ensures leads { (quota : ℕ) (machines : ℕ → Alone) → AreStanding config.now quota (M.places machine.old) machines
         → LeadsOn config.now quota number (turn config.now quota machines (said reading bytes.now)) (M.places machine.new) (W.contents writer.old) (W.contents writer.new) result }
+    ensures status { IfSome result (λ status. ¬ (status ≡ UNOPENED)) }
 {
     match reading {
         Reading::Passed => None,
@@ -113,8 +118,9 @@ pub(crate) fn take_line<M: Machine, W: Write>(
     writer: &mut W,
 ) -> Option<u8>
     requires { length line.now ≤ MAX_LINE }
-    ensures { (quota : ℕ) (machines : ℕ → Alone) → AreStanding config.now quota (M.places machine.old) machines
+    ensures leads { (quota : ℕ) (machines : ℕ → Alone) → AreStanding config.now quota (M.places machine.old) machines
         → LeadsOn config.now quota number (turn config.now quota machines (line_of config.now line.now)) (M.places machine.new) (W.contents writer.old) (W.contents writer.new) result }
+    ensures status { IfSome result (λ status. ¬ (status ≡ UNOPENED)) }
 {
     let reading = read(config, line, bytes);
     act(machine, config, number, reading, bytes, out, writer)

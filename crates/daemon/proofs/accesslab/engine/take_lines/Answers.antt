@@ -11,39 +11,39 @@ lines-init g c = record {
   so_far = λ quota starts. at_first c.args.config.now quota _ _ _ starts;
 }
 
-pub returns-in-Err : goal.returns-in-Err
-returns-in-Err g c = λ quota starts.
+pub returns-in-Err-clause-ends : goal.returns-in-Err-clause-ends
+returns-in-Err-clause-ends g c = λ quota starts.
     ends_cut c.args.config.now quota c.lines.number _ _ _ _ _ _ (c.lines.invariant.so_far quota starts) c.in-Err.ensures.cut
 
-pub returns-in-TooLong : goal.returns-in-TooLong
-returns-in-TooLong g c = λ quota starts.
+pub returns-in-TooLong-clause-ends : goal.returns-in-TooLong-clause-ends
+returns-in-TooLong-clause-ends g c = λ quota starts.
     ends_long c.args.config.now quota c.lines.number _ _ _ _ _ _ _ c.refuse.result (c.lines.invariant.so_far quota starts)
-    (rw c.in-TooLong.is at c.in-Ok.ensures.ending) c.refuse.ensures
+    (rw c.in-TooLong.is at c.in-Ok.ensures.ending) c.refuse.ensures.refusal
 
-pub returns-then-len-eq0 : goal.returns-then-len-eq0
-returns-then-len-eq0 g c = λ quota starts.
+pub returns-then-len-eq0-clause-ends : goal.returns-then-len-eq0-clause-ends
+returns-then-len-eq0-clause-ends g c = λ quota starts.
     let last = rw c.in-Input.is at c.in-Ok.ensures.ending in
     ends_none c.args.config.now quota c.lines.number _ _ _ _ _ _ (c.lines.invariant.so_far quota starts)
     (subst (λ n. IsLast (g.R.Read.remaining c.lines.reader) (g.R.Read.remaining c.read_line.new.reader) (take n c.read_line.new.line)) c.if-len-eq0.true last)
 
-pub returns-in-Some : goal.returns-in-Some
-returns-in-Some g c = λ quota starts.
+pub returns-in-Some-clause-ends : goal.returns-in-Some-clause-ends
+returns-in-Some-clause-ends g c = λ quota starts.
     ends_last c.args.config.now quota c.lines.number _ _ _ _ _ _ _ _ (take c.in-Input.len c.read_line.new.line) c.in-Some.status
     (c.lines.invariant.so_far quota starts) (rw c.in-Input.is at c.in-Ok.ensures.ending)
     (some_bytes c.read_line.new.line c.in-Input.len c.read_line.array_long (rw c.in-Input.is at c.in-Ok.ensures.within) c.if-len-eq0.false)
-    (λ machines standing. c.in-Some.ensures quota machines standing)
+    (λ machines standing. c.in-Some.ensures.leads quota machines standing)
 
-pub returns-in-None : goal.returns-in-None
-returns-in-None g c = λ quota starts.
+pub returns-in-None-clause-ends : goal.returns-in-None-clause-ends
+returns-in-None-clause-ends g c = λ quota starts.
     ends_last_done c.args.config.now quota c.lines.number _ _ _ _ _ _ _ _ (take c.in-Input.len c.read_line.new.line)
     (c.lines.invariant.so_far quota starts) (rw c.in-Input.is at c.in-Ok.ensures.ending)
     (some_bytes c.read_line.new.line c.in-Input.len c.read_line.array_long (rw c.in-Input.is at c.in-Ok.ensures.within) c.if-len-eq0.false)
-    (λ machines standing. c.in-None.ensures quota machines standing)
+    (λ machines standing. c.in-None.ensures.leads quota machines standing)
 
-pub returns-in-Some-take_line : goal.returns-in-Some-take_line
-returns-in-Some-take_line g c = λ quota starts.
+pub returns-in-Some-take_line-clause-ends : goal.returns-in-Some-take_line-clause-ends
+returns-in-Some-take_line-clause-ends g c = λ quota starts.
     ends_feed c.args.config.now quota c.lines.number _ _ _ _ _ _ _ _ (take c.in-Feed.len c.read_line.new.line) c.in-Some-take_line.status
-    (c.lines.invariant.so_far quota starts) (rw c.in-Feed.is at c.in-Ok.ensures.ending) (λ machines standing. c.in-Some-take_line.ensures quota machines standing)
+    (c.lines.invariant.so_far quota starts) (rw c.in-Feed.is at c.in-Ok.ensures.ending) (λ machines standing. c.in-Some-take_line.ensures.leads quota machines standing)
 
 pub lines-preserved : goal.lines-preserved
 lines-preserved g c = record {
@@ -51,8 +51,8 @@ lines-preserved g c = record {
   bytes = c.take_line-in-Feed.array_long;
   so_far = λ quota starts.
       next_line c.args.config.now quota c.lines.number _ _ _ _ _ _ _ _ (take c.in-Feed.len c.read_line.new.line)
-      (c.lines.invariant.so_far quota starts) (rw c.in-Feed.is at c.in-Ok.ensures.ending) (λ machines standing. c.in_default.ensures quota machines standing);
+      (c.lines.invariant.so_far quota starts) (rw c.in-Feed.is at c.in-Ok.ensures.ending) (λ machines standing. c.in_default.ensures.leads quota machines standing);
 }
 
-pub returns : goal.returns
-returns g c = λ quota starts. ends_stop c.args.config.now quota c.lines.number _ _ _ _ _ (c.lines.invariant.so_far quota starts)
+pub returns-clause-ends : goal.returns-clause-ends
+returns-clause-ends g c = λ quota starts. ends_stop c.args.config.now quota c.lines.number _ _ _ _ _ (c.lines.invariant.so_far quota starts)
