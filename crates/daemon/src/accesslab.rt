@@ -11,6 +11,8 @@ mod put;
 mod reading;
 mod status;
 mod tell;
+#[cfg(test)]
+mod tests;
 mod turn;
 
 pub use command_line::{LabWords, Refusal, words};

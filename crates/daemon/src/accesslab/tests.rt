@@ -1,0 +1,266 @@
+ghost use Rattle.std.specs.Prelude.{◌<◌};
+
+use super::*;
+use config::{Config, ConfigFault};
+use std::alloc::{AllocError, Global};
+use std::io::{self, BufReader, Read};
+use wire::PacketBuf;
+use world::{Event, Machine, Outcome};
+
+/// A world without circuits, whatever the configuration says: what names one is gone.
+#[derive(Drop)]
+struct Nowhere;
+
+impl Machine for Nowhere {
+    ghost use Rattle.std.specs.Prelude.{[]};
+
+    ghost places = { λ _. [] };
+
+    fn step(&mut self, event: &Event<'_>, out: &mut PacketBuf) -> Outcome {
+        out.clear();
+        match event {
+            Event::Frame(_, _, _) => Outcome::Gone,
+            Event::Up(_, _, _, _) => Outcome::Gone,
+            Event::Down(_, _) => Outcome::Gone,
+            Event::Tick(_) => Outcome::Done,
+        }
+    }
+}
+
+/// A reader that gives so many bytes at a time at most, and fails where it has no more of them.
+#[derive(Drop)]
+struct Pieces<'a> {
+    rest: &'a [u8],
+    most: usize,
+    ghost some: { 0 < most },
+}
+
+impl<'a> Read for Pieces<'a> {
+    ghost use Rattle.std.specs.Prelude.{Some};
+
+    ghost remaining = { λ p. Some p.rest.now };
+
+    fn read(&mut self, buf: &mut [u8]) -> io::Result<usize> {
+        let count = self.most.min(buf.len()).min(self.rest.len());
+        let (front, rest) = self.rest.split_at(count);
+        buf[..count].copy_from_slice(front);
+        self.rest = rest;
+        Ok(count)
+    }
+}
+
+const K1: &str = "[server]
+listen4 = '127.0.0.1:6767'
+listen6 = '127.0.0.1:6547'
+duid = '00030001020000000001'
+[[relay]]
+name = 'r1'
+source = '127.0.0.1:6801'
+[[circuit]]
+id = 'a'
+relay = 'r1'
+region = 0
+lease = 600
+gateway4 = '10.0.0.1'
+prefix4 = 24
+first4 = '10.0.0.10'
+count4 = 1
+dns = ['10.255.0.53']
+link6 = '20010db8000000000000000000000001'
+first6 = '20010db8000000000000000000000100'
+count6 = 1
+";
+
+/// A text ends with this status, after these lines were written.
+fn gives(alloc: Global, text: &[u8], lines: &str, status: u8) -> bool {
+    let Ok(config) = Config::read(alloc, K1) else {
+        return false;
+    };
+    let mut reader = text;
+    let mut writer = Vec::new(alloc);
+    let told = lab(&mut Nowhere, &config, &mut reader, &mut writer);
+    told == status && writer.as_slice() == lines.as_bytes()
+}
+
+#[test]
+fn lines_that_are_right(rt: HostRuntime) {
+    let rows = [
+        ("", ""),
+        ("\n", ""),
+        ("# a comment\n", ""),
+        ("#", ""),
+        ("tick 0\n", "ok\n"),
+        ("tick 0", "ok\n"),
+        ("tick 10\ntick 9\n", "ok\nok\n"),
+        ("tick 1099511627775\n", "ok\n"),
+        ("frame a 4 -\n", "gone\n"),
+        ("frame a 4 00\n", "gone\n"),
+        ("frame a 4 aAfF09\n", "gone\n"),
+        ("up a 0 100 0\n", "gone\n"),
+        ("up a 65535 1099511627775 0\n", "gone\n"),
+        ("down a 0\n", "gone\n"),
+        ("down a 65535", "gone\n"),
+        ("\n#\ntick 1\n\n\ndown a 0\n", "ok\ngone\n"),
+    ];
+    for (text, lines) in rows {
+        assert!(rt; gives(rt.alloc(), text.as_bytes(), lines, DONE));
+    }
+}
+
+#[test]
+fn lines_that_are_bad(rt: HostRuntime) {
+    let rows = [
+        " ",
+        " tick 1",
+        "tick",
+        "tick ",
+        "tick  1",
+        "tick 1 ",
+        "tick 1 1",
+        "tick 00",
+        "tick 01",
+        "tick +1",
+        "tick -1",
+        "tick 0x1",
+        "tick 1099511627776",
+        "tick 99999999999999999999999999",
+        "tick 1\r",
+        "\r",
+        "Tick 1",
+        "tock 1",
+        "frame",
+        "frame a 4",
+        "frame a 4 ",
+        "frame a 4 0",
+        "frame a 4 0g",
+        "frame a 4 --",
+        "frame a 4 00 ",
+        "frame a 6 00",
+        "frame a 04 00",
+        "frame b 4 00",
+        "frame aa 4 00",
+        "frame  4 00",
+        "frame A 4 00",
+        "up a 0 100",
+        "up a 0 100 1",
+        "up a 0 100 00",
+        "up a 0 100 0 0",
+        "up a 65536 100 0",
+        "up a 00 100 0",
+        "up a 0 1099511627776 0",
+        "up b 0 100 0",
+        "down a",
+        "down a 65536",
+        "down a 0 0",
+        "down b 0",
+        "fill a 00",
+        "restart",
+        "restart a=00",
+        "strayup 4 127.0.0.1:9 00 100",
+        "straydown r1 127.0.0.1:9 00",
+    ];
+    for text in rows {
+        assert!(rt; gives(rt.alloc(), text.as_bytes(), "line 1 bad\n", BAD_LINE));
+    }
+}
+
+#[test]
+fn a_bad_line_is_the_last(rt: HostRuntime) {
+    let rows = [
+        ("tick 1\n\n# c\ntick\ntick 2\n", "ok\nline 4 bad\n"),
+        ("tick 1\ntick 2\r\ntick 3\n", "ok\nline 2 bad\n"),
+        ("\n\n\n\n\n\n\n\n\nx", "line 10 bad\n"),
+    ];
+    for (text, lines) in rows {
+        assert!(rt; gives(rt.alloc(), text.as_bytes(), lines, BAD_LINE));
+    }
+}
+
+#[test]
+fn bytes_that_are_no_text(rt: HostRuntime) {
+    assert!(rt; gives(rt.alloc(), &[255, 254, 10], "line 1 bad\n", BAD_LINE));
+    assert!(rt; gives(rt.alloc(), &[35, 255, 10, 0], "line 2 bad\n", BAD_LINE));
+}
+
+/// A line of this beginning and so many more bytes.
+fn long(alloc: Global, front: &str, more: usize, byte: u8) -> Result<Vec<u8>, AllocError> {
+    let mut line = Vec::from_slice(alloc, front.as_bytes())?;
+    for _ in 0..more {
+        line.push(byte)?;
+    }
+    Ok(line)
+}
+
+#[test]
+fn long_lines(rt: HostRuntime) -> Result<(), AllocError> {
+    let alloc = rt.alloc();
+    let comment = long(alloc, "#", MAX_LINE - 1, b'x')?;
+    assert!(rt; gives(alloc, &comment, "", DONE));
+    let comment = long(alloc, "#", MAX_LINE, b'x')?;
+    assert!(rt; gives(alloc, &comment, "line 1 bad\n", BAD_LINE));
+    let line = long(alloc, "tick 1\n\n", MAX_LINE + 1, b'1')?;
+    assert!(rt; gives(alloc, &line, "ok\nline 3 bad\n", BAD_LINE));
+    let line = long(alloc, "tick ", MAX_LINE - 5, b'1')?;
+    assert!(rt; gives(alloc, &line, "line 1 bad\n", BAD_LINE));
+    let frame = long(alloc, "frame a 4 ", 4096, b'7')?;
+    assert!(rt; gives(alloc, &frame, "gone\n", DONE));
+    let frame = long(alloc, "frame a 4 ", 4097, b'7')?;
+    assert!(rt; gives(alloc, &frame, "line 1 bad\n", BAD_LINE));
+    let frame = long(alloc, "frame a 4 ", 4098, b'7')?;
+    assert!(rt; gives(alloc, &frame, "line 1 bad\n", BAD_LINE));
+    Ok(())
+}
+
+/// The same text in pieces of so many bytes, through a buffer.
+fn gives_in_pieces(alloc: Global, text: &[u8], most: usize, lines: &str, status: u8) -> bool
+    requires { 0 < most }
+{
+    let Ok(config) = Config::read(alloc, K1) else {
+        return false;
+    };
+    let pieces = Pieces { rest: text, most };
+    let Ok(mut reader) = BufReader::new(alloc, pieces) else {
+        return false;
+    };
+    let mut writer = Vec::new(alloc);
+    let told = lab(&mut Nowhere, &config, &mut reader, &mut writer);
+    told == status && writer.as_slice() == lines.as_bytes()
+}
+
+#[test]
+fn pieces_make_no_difference(rt: HostRuntime) {
+    let text = "# c\ntick 1\n\nframe a 4 0011\nup a 0 100 0\ndown a 0\ntick 2\ntick 03\n";
+    let lines = "ok\ngone\ngone\ngone\nok\nline 8 bad\n";
+    let alloc = rt.alloc();
+    assert!(rt; gives_in_pieces(alloc, text.as_bytes(), 1, lines, BAD_LINE));
+    assert!(rt; gives_in_pieces(alloc, text.as_bytes(), 2, lines, BAD_LINE));
+    assert!(rt; gives_in_pieces(alloc, text.as_bytes(), 7, lines, BAD_LINE));
+    assert!(rt; gives_in_pieces(alloc, text.as_bytes(), 8192, lines, BAD_LINE));
+}
+
+/// The quota that words give, and 0 where they are refused.
+fn quota_of(alloc: Global, given: &[&str]) -> Result<u16, AllocError> {
+    let mut texts = Vec::new(alloc);
+    for word in given {
+        texts.push(String::from_str(alloc, *word)?)?;
+    }
+    match words(alloc, &texts) {
+        Ok(values) => Ok(values.quota),
+        Err(_) => Ok(0),
+    }
+}
+
+#[test]
+fn command_lines(rt: HostRuntime) -> Result<(), AllocError> {
+    let alloc = rt.alloc();
+    assert_eq!(rt; quota_of(alloc, &["k1.toml"])?, 16);
+    assert_eq!(rt; quota_of(alloc, &["k1.toml", "--quota", "1"])?, 1);
+    assert_eq!(rt; quota_of(alloc, &["--quota=256", "k1.toml"])?, 256);
+    assert_eq!(rt; quota_of(alloc, &["k1.toml", "--quota", "0"])?, 0);
+    assert_eq!(rt; quota_of(alloc, &["k1.toml", "--quota", "257"])?, 0);
+    assert_eq!(rt; quota_of(alloc, &["k1.toml", "--quota"])?, 0);
+    assert_eq!(rt; quota_of(alloc, &["k1.toml", "k2.toml"])?, 0);
+    assert_eq!(rt; quota_of(alloc, &["--help"])?, 0);
+    assert_eq!(rt; quota_of(alloc, &[])?, 0);
+    Ok(())
+}
