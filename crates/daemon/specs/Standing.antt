@@ -8,7 +8,7 @@ use Rattle.world.specs.Headline.{Place, Stands}
 use Rattle.world.specs.Seen.{Seen, seen_of}
 use Rattle.world.specs.declared.event.Event.{Event}
 use Rattle.world.specs.Start.{part_in}
-use Rattle.daemon.specs.declared.accesslab.status.TheConstants.{BAD_LINE, FAILED}
+use Rattle.daemon.specs.declared.accesslab.status.TheConstants.{DONE, BAD_LINE, FAILED}
 use Rattle.daemon.specs.Lab.{Turn, Refused, Taken, lab_output}
 use Rattle.daemon.specs.Sending.{AppendsFront}
 use Rattle.daemon.specs.Told.{bad_text}
@@ -25,6 +25,14 @@ Names circuit seen event = (c : ℕ) → seen_of c event ≡ (if circuit == c th
 pub record IsTaken (settings : Settings) (quota : ℕ) (told : List ℕ) (machines : ℕ → Alone) (places : List Place) (held holds : Option (List ℕ)) : Type 0 where
   pub appended : Appends held holds told
   pub standing : AreStanding settings quota places machines
+
+-- how a run ends before the end of the text
+abbrev pub IsEnd : ℕ → Type 0
+IsEnd status = (status ≡ BAD_LINE) ⊎ (status ≡ FAILED)
+
+-- how a run ends
+abbrev pub IsStatus : ℕ → Type 0
+IsStatus status = (status ≡ DONE) ⊎ IsEnd status
 
 -- the last line was written, or a beginning of it
 abbrev pub IsRefusal : ℕ → Option (List ℕ) → Option (List ℕ) → ℕ → Type 0

@@ -3,8 +3,7 @@ ghost use Rattle.std.specs.Prelude.{◌≡◌, ℕ, List, Some};
 ghost use Rattle.std.specs.Io.KnownBytes.{Appends, Consumes};
 ghost use Rattle.world.specs.Start.{Starts};
 ghost use Rattle.daemon.specs.Lab.{lab_output};
-ghost use Rattle.daemon.specs.Standing.{Ends, Began};
-ghost use Rattle.daemon.specs.declared.accesslab.status.TheConstants.{UNOPENED};
+ghost use Rattle.daemon.specs.Standing.{Began, Ends, IsStatus};
 
 use super::hexadecimal::MAX_BYTES;
 use super::line::{Ending, MAX_LINE, read_line};
@@ -24,7 +23,7 @@ fn take_lines<M: Machine, R: Read, W: Write>(
 ) -> u8
     ensures ends { (quota : ℕ) → Starts config.now quota (M.places machine.old)
         → Ends config.now quota (R.remaining reader.old) (R.remaining reader.new) (W.contents writer.old) (W.contents writer.new) result }
-    ensures status { ¬ (result ≡ UNOPENED) }
+    ensures status { IsStatus result }
 {
     let mut line = [0; MAX_LINE];
     let mut bytes = [0; MAX_BYTES];
@@ -91,7 +90,9 @@ pub fn lab<M: Machine, R: Read, W: Write>(
     // Where a reader or a writer failed, a beginning of the answer to what was read is written.
     ensures begun { (quota : ℕ) → Starts config.now quota (M.places machine.old) → result ≡ FAILED
         → Began config.now quota (R.remaining reader.old) (R.remaining reader.new) (W.contents writer.old) (W.contents writer.new) }
-    ensures status { ¬ (result ≡ UNOPENED) }
+
+    // No other status is told.
+    ensures status { IsStatus result }
 {
     take_lines(machine, config, reader, writer)
 }

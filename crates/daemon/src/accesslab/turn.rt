@@ -7,7 +7,7 @@ ghost use Rattle.world.specs.Start.{part_in};
 ghost use Rattle.daemon.specs.Lab.{by_part, turn};
 ghost use Rattle.daemon.specs.Line.{line_of, Passes};
 ghost use Rattle.daemon.specs.Said.{said};
-ghost use Rattle.daemon.specs.Standing.{AreStanding, Names, IsRefusal, LeadsOn};
+ghost use Rattle.daemon.specs.Standing.{AreStanding, Names, IsEnd, IsRefusal, LeadsOn};
 ghost use Rattle.daemon.specs.Within.{IsWithin};
 ghost use Rattle.daemon.specs.declared.accesslab.status.TheConstants.{UNOPENED};
 
@@ -25,7 +25,7 @@ use world::{Event, Machine};
 /// Writes that the line is bad, and tells the status.
 pub(crate) fn refuse<W: Write>(number: u64, writer: &mut W) -> u8
     ensures refusal { IsRefusal number (W.contents writer.old) (W.contents writer.new) result }
-    ensures status { ¬ (result ≡ UNOPENED) }
+    ensures status { IsEnd result }
 {
     match tell_bad(writer, number) {
         Ok(()) => BAD_LINE,
@@ -45,7 +45,7 @@ fn happen<M: Machine, W: Write>(
     requires { circuit < length config.now.circuits }
     ensures leads { (quota number : ℕ) (machines : ℕ → Alone) (seen : Seen) → Names circuit seen event.now → AreStanding config.now quota (M.places machine.old) machines
         → LeadsOn config.now quota number (by_part circuit seen machines (part_in config.now quota circuit)) (M.places machine.new) (W.contents writer.old) (W.contents writer.new) result }
-    ensures status { IfSome result (λ status. ¬ (status ≡ UNOPENED)) }
+    ensures status { IfSome result IsEnd }
 {
     let outcome = machine.step(event, out);
     let named = config.at(circuit);
@@ -64,7 +64,7 @@ fn pass<M: Machine, W: Write>(
 ) -> Option<u8>
     ensures leads { (settings : Settings) (quota number : ℕ) (machines : ℕ → Alone) → AreStanding settings quota (M.places machine.old) machines
         → LeadsOn settings quota number (turn settings quota machines (Passes now)) (M.places machine.new) (W.contents writer.old) (W.contents writer.new) result }
-    ensures status { IfSome result (λ status. ¬ (status ≡ UNOPENED)) }
+    ensures status { IfSome result IsEnd }
 {
     let _ = machine.step(&Event::Tick(now), out);
     match tell_done(writer) {
@@ -86,7 +86,7 @@ fn act<M: Machine, W: Write>(
     requires { IsWithin config.now reading }
     ensures leads { (quota : ℕ) (machines : ℕ → Alone) → AreStanding config.now quota (M.places machine.old) machines
         → LeadsOn config.now quota number (turn config.now quota machines (said reading bytes.now)) (M.places machine.new) (W.contents writer.old) (W.contents writer.new) result }
-    ensures status { IfSome result (λ status. ¬ (status ≡ UNOPENED)) }
+    ensures status { IfSome result IsEnd }
 {
     match reading {
         Reading::Passed => None,
@@ -120,7 +120,7 @@ pub(crate) fn take_line<M: Machine, W: Write>(
     requires { length line.now ≤ MAX_LINE }
     ensures leads { (quota : ℕ) (machines : ℕ → Alone) → AreStanding config.now quota (M.places machine.old) machines
         → LeadsOn config.now quota number (turn config.now quota machines (line_of config.now line.now)) (M.places machine.new) (W.contents writer.old) (W.contents writer.new) result }
-    ensures status { IfSome result (λ status. ¬ (status ≡ UNOPENED)) }
+    ensures status { IfSome result IsEnd }
 {
     let reading = read(config, line, bytes);
     act(machine, config, number, reading, bytes, out, writer)
