@@ -1,9 +1,9 @@
 //! A run of a world that is opened for it.
-ghost use Rattle.std.specs.Prelude.{◌≡◌, ℕ, ◌<◌, ◌≤◌, List, Some, IfOk, slice_get};
+ghost use Rattle.std.specs.Prelude.{◌≡◌, ◌⊎◌, ℕ, ◌<◌, ◌≤◌, List, Some, IfOk, slice_get};
 ghost use Rattle.std.specs.Io.KnownBytes.{Appends};
 ghost use Rattle.config.specs.declared.settings.CircuitConfig.{CircuitConfig};
 ghost use Rattle.daemon.specs.Lab.{lab_output};
-ghost use Rattle.daemon.specs.Standing.{Began};
+ghost use Rattle.daemon.specs.Standing.{Began, IsStatus};
 ghost use Rattle.daemon.specs.declared.accesslab.status.TheConstants.{UNOPENED, FAILED};
 ghost use Rattle.world.specs.Start.{Starts};
 ghost use Rattle.world.specs.World.{places};
@@ -66,6 +66,9 @@ pub fn run<R: Read, W: Write>(
     // Without a world nothing is read or written.
     ensures unread { result ≡ UNOPENED → R.remaining reader.new ≡ R.remaining reader.old }
     ensures unwritten { result ≡ UNOPENED → W.contents writer.new ≡ W.contents writer.old }
+
+    // No other status is told than 4 and those of `lab`.
+    ensures status { (result ≡ UNOPENED) ⊎ IsStatus result }
 
     // Where a reader or a writer failed, a beginning of the answer to what was read is written.
     ensures begun { result ≡ FAILED → Began config.now quota (R.remaining reader.old) (R.remaining reader.new) (W.contents writer.old) (W.contents writer.new) }

@@ -9,7 +9,6 @@ ghost use Rattle.daemon.specs.Line.{line_of, Passes};
 ghost use Rattle.daemon.specs.Said.{said};
 ghost use Rattle.daemon.specs.Standing.{AreStanding, Names, IsEnd, IsRefusal, LeadsOn};
 ghost use Rattle.daemon.specs.Within.{IsWithin};
-ghost use Rattle.daemon.specs.declared.accesslab.status.TheConstants.{UNOPENED};
 
 use super::hexadecimal::MAX_BYTES;
 use super::line::MAX_LINE;
