@@ -19,7 +19,11 @@ fn complain<D: std::fmt::Display + Drop>(rt: &HostRuntime, why: D, status: u8) -
 fn show(rt: &HostRuntime, refusal: &Refusal) -> u8 {
     match refusal {
         Refusal::Memory => complain(rt, "open memory", UNOPENED),
-        Refusal::Unspelled => complain(rt, "error: a word spells no value within its limits", REFUSED),
+        Refusal::Unspelled => complain(
+            rt,
+            "error: a word spells no value within its limits",
+            REFUSED,
+        ),
         Refusal::Usage(error) => {
             if error.print(rt).is_err() {
                 return FAILED;
