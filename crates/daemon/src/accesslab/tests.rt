@@ -27,7 +27,7 @@ impl Machine for Nowhere {
     }
 }
 
-/// A reader that gives so many bytes at a time at most, and fails where it has no more of them.
+/// A reader that gives so many bytes at a time at most.
 #[derive(Drop)]
 struct Pieces<'a> {
     rest: &'a [u8],
