@@ -1,10 +1,12 @@
 -- The command line of `accesslab`, and the values that its words spell.
-use Rattle.std.specs.Prelude.{◌≡◌, ℕ, pos, ◌≤◌, true, List, [], ◌∷◌, Some, codes}
+use Rattle.std.specs.Prelude.{◌≡◌, ℕ, pos, ◌≤◌, true, List, [], ◌∷◌, Some, codes, ⊤}
 use Rattle.std.specs.Str.Parse.{IsNumeral, digits_value, without_leading_plus}
-use Rattle.clap.specs.Words.{App, Row, Rule, Text, new_app, new_rule, with_rule, matches_of, first_of}
+use Rattle.clap.specs.Words.{App, Row, Rule, Text, new_app, new_rule, with_rule, matches_of, first_of, fault_of, HasKind}
 use Rattle.clap.specs.Simple.{on_top}
 use Rattle.clap.specs.declared.builder.ArgAction.TheVariants.{Set}
 use Rattle.clap.specs.declared.builder.value_parser.ValueParser.TheVariants as parser
+use Rattle.daemon.specs.declared.accesslab.command_line.Refusal.{Refusal}
+use Rattle.daemon.specs.declared.accesslab.command_line.Refusal.TheVariants.{Memory, Usage, Unspelled}
 use Rattle.world.specs.declared.world.TheConstants.{MAX_QUOTA}
 
 -- the path of the configuration, which has to be there
@@ -28,6 +30,8 @@ given words = matches_of lab_app words
 
 -- The words spell these values.
 pub record Spells (words : List Text) (config : List ℕ) (quota : ℕ) : Type 0 where
+  -- clap finds no fault in them
+  pub right : fault_of lab_app words ≡ []
   pub config_is : first_of (codes "CONFIG") (given words) ≡ Some config
   pub text : Text
   pub quota_text : first_of (codes "quota") (given words) ≡ Some text
@@ -36,3 +40,9 @@ pub record Spells (words : List Text) (config : List ℕ) (quota : ℕ) : Type 0
   pub value : digits_value 10 (without_leading_plus text) ≡ quota
   pub least : 1 ≤ quota
   pub most : quota ≤ MAX_QUOTA
+
+-- Why words are refused: but for want of memory, clap finds this fault in them, or they spell no values.
+abbrev pub IsRefused : List Text → Refusal → Type 0
+IsRefused words Memory = ⊤
+IsRefused words (Usage error) = HasKind (fault_of lab_app words) error
+IsRefused words Unspelled = (config : List ℕ) (quota : ℕ) → ¬ Spells words config quota

@@ -1,7 +1,7 @@
 //! The command line.
-ghost use Rattle.std.specs.Prelude.{◌≡◌, false, map, string_bytes, IfOk};
+ghost use Rattle.std.specs.Prelude.{◌≡◌, false, map, string_bytes, IfOk, IfErr};
 ghost use Rattle.clap.specs.Words.{app_of, rule_of};
-ghost use Rattle.daemon.specs.Words.{config_rule, quota_rule, bare_app, lab_app, Spells};
+ghost use Rattle.daemon.specs.Words.{config_rule, quota_rule, bare_app, lab_app, Spells, IsRefused};
 
 use clap::{Arg, ArgAction, Command};
 use std::alloc::{AllocError, Global};
@@ -69,7 +69,8 @@ fn command<'a>(alloc: Global) -> Result<Command<'a>, AllocError>
 
 /// The values that the words behind the program's name give.
 pub fn words<'a>(alloc: Global, words: &'a [String]) -> Result<LabWords<'a>, Refusal>
-    ensures { IfOk result (λ values. Spells (map string_bytes words.entry.now) values.config.now values.quota) }
+    ensures values { IfOk result (λ values. Spells (map string_bytes words.entry.now) values.config.now values.quota) }
+    ensures refused { IfErr result (IsRefused (map string_bytes words.entry.now)) }
 {
     let Ok(command) = command(alloc) else {
         return Err(Refusal::Memory);
@@ -87,7 +88,10 @@ pub fn words<'a>(alloc: Global, words: &'a [String]) -> Result<LabWords<'a>, Ref
     let Ok(quota) = text.parse::<u16>() else {
         return Err(Refusal::Unspelled);
     };
-    if quota < 1 || quota > MAX_QUOTA {
+    if quota < 1 {
+        return Err(Refusal::Unspelled);
+    }
+    if quota > MAX_QUOTA {
         return Err(Refusal::Unspelled);
     }
     Ok(LabWords { config, quota })

@@ -33,11 +33,8 @@ fn next_byte<R: Read>(reader: &mut R) -> Result<Option<u8>, Failed>
         match reader.read(&mut byte) {
             Ok(0) => return Ok(None),
             Ok(_) => return Ok(Some(byte[0])),
-            Err(error) => {
-                if error.kind() != ErrorKind::Interrupted {
-                    return Err(Failed);
-                }
-            }
+            Err(error) if error.kind() == ErrorKind::Interrupted => (),
+            Err(_) => return Err(Failed),
         }
     }
     Err(Failed)
