@@ -3,7 +3,7 @@ ghost use Rattle.std.specs.Prelude.{◌<◌};
 use super::*;
 use config::{Config, ConfigFault};
 use std::alloc::{AllocError, Global};
-use std::io::{self, BufReader, Read};
+use std::io::{self, BufReader, ErrorKind, Read, Write};
 use wire::PacketBuf;
 use world::{Event, Machine, Outcome};
 
@@ -236,6 +236,91 @@ fn pieces_make_no_difference(rt: HostRuntime) {
     assert!(rt; gives_in_pieces(alloc, text.as_bytes(), 2, lines, BAD_LINE));
     assert!(rt; gives_in_pieces(alloc, text.as_bytes(), 7, lines, BAD_LINE));
     assert!(rt; gives_in_pieces(alloc, text.as_bytes(), 8192, lines, BAD_LINE));
+}
+
+/// A reader or a writer that fails behind so many calls.
+#[derive(Drop)]
+struct Failing<T> {
+    inner: T,
+    calls: usize,
+}
+
+impl<T> Failing<T> {
+    fn call(&mut self) -> io::Result<()> {
+        if self.calls == 0 {
+            return Err(io::Error::from(ErrorKind::WouldBlock));
+        }
+        self.calls -= 1;
+        Ok(())
+    }
+}
+
+impl<T: Read> Read for Failing<T> {
+    fn read(&mut self, buf: &mut [u8]) -> io::Result<usize> {
+        self.call()?;
+        self.inner.read(buf)
+    }
+}
+
+impl<T: Write> Write for Failing<T> {
+    fn write(&mut self, buf: &[u8]) -> io::Result<usize> {
+        self.call()?;
+        self.inner.write(buf)
+    }
+
+    fn flush(&mut self) -> io::Result<()> {
+        Ok(())
+    }
+}
+
+const TICKS: &str = "tick 1\ntick 2\n";
+
+/// The status and the bytes that are written where reader and writer fail behind so many calls.
+fn cut_short(alloc: Global, reads: usize, writes: usize) -> Option<(u8, Vec<u8>)> {
+    let config = Config::read(alloc, K1).ok()?;
+    let mut reader = Failing {
+        inner: TICKS.as_bytes(),
+        calls: reads,
+    };
+    let mut writer = Failing {
+        inner: Vec::new(alloc),
+        calls: writes,
+    };
+    let status = lab(&mut Nowhere, &config, &mut reader, &mut writer);
+    Some((status, writer.inner))
+}
+
+#[test]
+fn a_reader_that_fails(rt: HostRuntime) {
+    // 14 bytes, a call for each, and one that finds the end
+    for (calls, status, told) in [
+        (0, FAILED, ""),
+        (6, FAILED, ""),
+        (7, FAILED, "ok\n"),
+        (13, FAILED, "ok\n"),
+        (14, FAILED, "ok\nok\n"),
+        (15, DONE, "ok\nok\n"),
+    ] {
+        if let Some((ended, written)) = cut_short(rt.alloc(), calls, 100) {
+            assert_eq!(rt; ended, status);
+            assert_eq!(rt; written.as_slice(), told.as_bytes());
+        } else {
+            assert!(rt; false);
+        }
+    }
+}
+
+#[test]
+fn a_writer_that_fails(rt: HostRuntime) {
+    for calls in 0..8 {
+        if let Some((ended, written)) = cut_short(rt.alloc(), 100, calls) {
+            let whole = written.as_slice() == b"ok\nok\n".as_slice();
+            assert_eq!(rt; ended, if whole { DONE } else { FAILED });
+            assert!(rt; b"ok\nok\n".starts_with(&written));
+        } else {
+            assert!(rt; false);
+        }
+    }
 }
 
 /// The quota that words give, and 0 where they are refused.
