@@ -178,6 +178,18 @@ fn a_clock_never_goes_back(rt: HostRuntime) {
 }
 
 #[test]
+fn a_fault_of_the_disk_has_no_effect_yet(rt: HostRuntime) {
+    let Some(mut world) = opened(rt.alloc(), "count4 = 1", 16) else {
+        assert!(rt; false);
+        return;
+    };
+    let mut out = PacketBuf::new();
+    assert_eq!(rt; discover(&mut world, 1), Outcome::SentUp(255));
+    let event = Event::Up(only(), 0, moment(100), 6);
+    assert_eq!(rt; world.step(&event, &mut out), Outcome::SentDown(300));
+}
+
+#[test]
 fn what_was_not_sent_is_gone(rt: HostRuntime) {
     let Some(mut world) = opened(rt.alloc(), "count4 = 1", 16) else {
         assert!(rt; false);
@@ -219,6 +231,7 @@ fn another_circuit_does_not_exist(rt: HostRuntime) {
         assert_eq!(rt; world.step(event, &mut out), Outcome::Gone);
         assert!(rt; out.is_empty());
     }
+    assert_eq!(rt; up(&mut world, 0, 100), Outcome::SentDown(300));
 }
 
 #[test]
