@@ -1,5 +1,5 @@
 -- What shows of a world of one circuit.
-use Rattle.std.specs.Prelude.{◌≡◌, ℕ, List, [], ◌∷◌, Ok}
+use Rattle.std.specs.Prelude.{◌≡◌, ℕ, List, [], ◌∷◌, map, Ok}
 use Rattle.types.specs.declared.dest.Proto.TheVariants.{V4}
 use Rattle.world.specs.Addressee.{addressee}
 use Rattle.world.specs.Alone.{Alone, Datagram, alone_step}
@@ -18,8 +18,7 @@ pub record WorldValue : Type 0 where
   pub disk : List (List ℕ)
 
 abbrev pub datagrams : List (List ℕ) → List Datagram
-datagrams [] = []
-datagrams (bytes ∷ more) = record { proto = V4; bytes = bytes } ∷ datagrams more
+datagrams kept = map (λ bytes. record { proto = V4; bytes = bytes }) kept
 
 abbrev pub place_of : WorldValue → Place
 place_of w = record { part = w.server.part; up = datagrams w.up; down = datagrams w.down; book = book_of w.server }
