@@ -1,6 +1,6 @@
 //! Addresses of both protocols, and where a datagram came from.
 ghost use Rattle.std.specs.Prelude.{◌≡◌, ◌<◌, ◌^◌};
-ghost use Rattle.types.specs.Addr.{number4, addr4};
+ghost use Rattle.types.specs.Addr.{number4, addr4, number6, is_unspecified};
 
 /// An IPv4 address, its first byte first.
 #[derive(Clone, Copy, Debug, Default, PartialEq, Eq)]
@@ -18,6 +18,16 @@ pub struct Source {
 }
 
 impl Addr4 {
+    /// 0.0.0.0, which stands for an address that is not given (RFC 1122, section 3.2.1.3).
+    pub const UNSPECIFIED: Addr4 = Addr4([0; 4]);
+
+    /// Whether this is 0.0.0.0.
+    pub fn is_unspecified(self) -> bool
+        ensures { result ≡ is_unspecified self.0 }
+    {
+        self.0 == [0; 4]
+    }
+
     /// The address as a number, its first byte the most significant.
     pub fn number(self) -> u32
         ensures value { result ≡ number4 self }
@@ -32,5 +42,15 @@ impl Addr4 {
         ensures number { number4 result ≡ number }
     {
         Addr4(number.to_be_bytes())
+    }
+}
+
+impl Addr6 {
+    /// The address as a number, its first byte the most significant.
+    pub fn number(self) -> u128
+        ensures value { result ≡ number6 self }
+        ensures within { result < 2 ^ 128 }
+    {
+        u128::from_be_bytes(self.0)
     }
 }

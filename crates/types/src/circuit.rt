@@ -1,15 +1,15 @@
-//! Circuits, by number.
+//! Circuits, by their index.
 ghost use Rattle.std.specs.Prelude.{◌≡◌, ◌<◌, ◌↔◌, IsSome, IfSome};
 ghost use Rattle.types.specs.declared.limits.TheConstants.{MAX_CIRCUITS};
 
 use crate::limits::MAX_CIRCUITS;
 use std::marker::Model;
 
-/// A circuit, by its place in the configuration: 0 is the first. It may name none of a
-/// configuration that has fewer.
+/// A circuit, by its index in the configuration: 0 is the first. A configuration with fewer circuits
+/// has none of this index.
 #[derive(Clone, Copy, Debug, PartialEq, Eq)]
 pub struct Circuit {
-    place: u16,
+    index: u16,
 }
 
 impl Model for Circuit {
@@ -18,31 +18,31 @@ impl Model for Circuit {
 
     ghost Value = { ℕ };
 
-    ghost view = { λ c. c.place };
+    ghost view = { λ c. c.index };
 
-    ghost invariant = { λ c. c.place < MAX_CIRCUITS };
+    ghost invariant = { λ c. c.index < MAX_CIRCUITS };
 
-    ghost inverse = { λ n. record { place = n } };
+    ghost inverse = { λ n. record { index = n } };
 }
 
 impl Circuit {
-    /// The circuit at this place; none where no configuration has one.
-    pub fn new(place: usize) -> Option<Circuit>
-        ensures within { IsSome result ↔ (place < MAX_CIRCUITS) }
-        ensures value { IfSome result (λ circuit. circuit ≡ place) }
+    /// The circuit of this index; `None` from 1024 on, which no configuration has.
+    pub fn new(index: usize) -> Option<Circuit>
+        ensures within { IsSome result ↔ (index < MAX_CIRCUITS) }
+        ensures value { IfSome result (λ circuit. circuit ≡ index) }
     {
-        if place >= MAX_CIRCUITS {
+        if index >= MAX_CIRCUITS {
             return None;
         }
         Some(Circuit {
-            place: place as u16,
+            index: index as u16,
         })
     }
 
-    pub fn place(self) -> usize
+    pub fn index(self) -> usize
         ensures value { result ≡ self }
         ensures within { result < MAX_CIRCUITS }
     {
-        usize::from(self.place)
+        usize::from(self.index)
     }
 }

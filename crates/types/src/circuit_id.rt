@@ -44,6 +44,16 @@ impl CircuitId {
         Some(CircuitId { bytes: id })
     }
 
+    /// A copy of the id.
+    pub fn copy(&self) -> CircuitId
+        ensures { result ≡ self.now }
+    {
+        let mut bytes = ArrayVec::new();
+        let copied = bytes.try_extend_from_slice(self.as_bytes());
+        prove!(copied.is_ok());
+        CircuitId { bytes }
+    }
+
     pub fn as_bytes(&self) -> &[u8]
         ensures value { result.now ≡ self.now }
         ensures within { IsCircuitId self.now }

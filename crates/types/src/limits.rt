@@ -1,4 +1,4 @@
-//! Limits that belong to no single type.
+//! Limits that belong to no single type, and those of values that several crates read.
 
 /// The most circuits of a configuration.
 pub const MAX_CIRCUITS: usize = 1024;
@@ -11,3 +11,12 @@ pub const MAX_FRAME: usize = 1024;
 
 /// The most bytes of a datagram between relay and server.
 pub const MAX_DATAGRAM: usize = 1280;
+
+/// The fewest bytes of a DUID, the two of its type included (RFC 8415, section 11.1).
+pub const MIN_DUID: usize = 3;
+
+/// The most bytes of a DUID, the two of its type included (RFC 8415, section 11.1).
+pub const MAX_DUID: usize = 130;
+
+/// The last region of a disk.
+pub const MAX_REGION: u32 = 1023;

@@ -26,7 +26,7 @@ pub struct Pool4 {
 }
 
 impl Pool4 {
-    /// The pool with these values; none where one of them is outside its limits.
+    /// The pool with these values; `None` where one of them is outside its limits.
     pub fn new(first: Addr4, count: u8, gateway: Addr4, lease: u32) -> Option<Pool4>
         ensures within { IsSome result ↔ IsPool4 first count lease }
         ensures first { IfSome result (λ pool. pool.first ≡ first) }
@@ -49,24 +49,24 @@ impl Pool4 {
         })
     }
 
-    /// The address at this place of the pool, 0 the lowest; none past the pool's end.
-    pub fn address(self, place: usize) -> Option<Addr4>
-        ensures within { IsSome result ↔ (place < self.count) }
-        ensures value { IfSome result (λ address. number4 address ≡ number4 self.first + place) }
+    /// The address of this slot of the pool, 0 the lowest; `None` past the pool's end.
+    pub fn address(self, slot: usize) -> Option<Addr4>
+        ensures within { IsSome result ↔ (slot < self.count) }
+        ensures value { IfSome result (λ address. number4 address ≡ number4 self.first + slot) }
     {
-        if place >= usize::from(self.count) {
+        if slot >= usize::from(self.count) {
             return None;
         }
-        Some(Addr4::from_number(self.first.number() + place as u32))
+        Some(Addr4::from_number(self.first.number() + slot as u32))
     }
 
-    /// The place of an address in the pool, 0 the lowest; none where the pool has no such address.
-    pub fn place(self, address: Addr4) -> Option<usize>
+    /// The slot of an address in the pool, 0 the lowest; `None` where the pool has no such address.
+    pub fn slot(self, address: Addr4) -> Option<usize>
         ensures within { IsSome result ↔ ((number4 self.first ≤ number4 address) × (number4 address < number4 self.first + self.count)) }
-        ensures value { IfSome result (λ place. number4 self.first + place ≡ number4 address) }
-        ensures below { IfSome result (λ place. place < self.count) }
+        ensures value { IfSome result (λ slot. number4 self.first + slot ≡ number4 address) }
+        ensures below { IfSome result (λ slot. slot < self.count) }
     {
-        let place = address.number().checked_sub(self.first.number())? as usize;
-        (place < usize::from(self.count)).then_some(place)
+        let slot = address.number().checked_sub(self.first.number())? as usize;
+        (slot < usize::from(self.count)).then_some(slot)
     }
 }

@@ -1,15 +1,15 @@
-//! Relays, by number.
+//! Relays, by their index.
 ghost use Rattle.std.specs.Prelude.{◌≡◌, ◌<◌, ◌↔◌, IsSome, IfSome};
 ghost use Rattle.types.specs.declared.limits.TheConstants.{MAX_RELAYS};
 
 use crate::limits::MAX_RELAYS;
 use std::marker::Model;
 
-/// A relay, by its place in the configuration: 0 is the first. It may name none of a configuration
-/// that has fewer.
+/// A relay, by its index in the configuration: 0 is the first. A configuration with fewer relays has
+/// none of this index.
 #[derive(Clone, Copy, Debug, PartialEq, Eq)]
 pub struct RelayNo {
-    place: u8,
+    index: u8,
 }
 
 impl Model for RelayNo {
@@ -18,29 +18,29 @@ impl Model for RelayNo {
 
     ghost Value = { ℕ };
 
-    ghost view = { λ r. r.place };
+    ghost view = { λ r. r.index };
 
-    ghost invariant = { λ r. r.place < MAX_RELAYS };
+    ghost invariant = { λ r. r.index < MAX_RELAYS };
 
-    ghost inverse = { λ n. record { place = n } };
+    ghost inverse = { λ n. record { index = n } };
 }
 
 impl RelayNo {
-    /// The relay at this place; none where no configuration has one.
-    pub fn new(place: usize) -> Option<RelayNo>
-        ensures within { IsSome result ↔ (place < MAX_RELAYS) }
-        ensures value { IfSome result (λ relay. relay ≡ place) }
+    /// The relay of this index; `None` from 8 on, which no configuration has.
+    pub fn new(index: usize) -> Option<RelayNo>
+        ensures within { IsSome result ↔ (index < MAX_RELAYS) }
+        ensures value { IfSome result (λ relay. relay ≡ index) }
     {
-        if place >= MAX_RELAYS {
+        if index >= MAX_RELAYS {
             return None;
         }
-        Some(RelayNo { place: place as u8 })
+        Some(RelayNo { index: index as u8 })
     }
 
-    pub fn place(self) -> usize
+    pub fn index(self) -> usize
         ensures value { result ≡ self }
         ensures within { result < MAX_RELAYS }
     {
-        usize::from(self.place)
+        usize::from(self.index)
     }
 }

@@ -20,13 +20,18 @@ fn moments(rt: HostRuntime) {
 fn addresses(rt: HostRuntime) {
     assert_eq!(rt; Addr4([10, 0, 0, 1]).number(), 0x0a00_0001);
     assert_eq!(rt; Addr4::from_number(0x0a00_010a), Addr4([10, 0, 1, 10]));
+    assert!(rt; Addr4::UNSPECIFIED.is_unspecified());
+    assert!(rt; !Addr4([0, 0, 0, 1]).is_unspecified());
+    let mut loopback = [0; 16];
+    loopback[15] = 1;
+    assert_eq!(rt; Addr6(loopback).number(), 1);
 }
 
 #[test]
-fn places(rt: HostRuntime) {
-    assert_eq!(rt; Circuit::new(1023).unwrap().place(), 1023);
+fn indexes(rt: HostRuntime) {
+    assert_eq!(rt; Circuit::new(1023).unwrap().index(), 1023);
     assert!(rt; Circuit::new(1024).is_none());
-    assert_eq!(rt; RelayNo::new(7).unwrap().place(), 7);
+    assert_eq!(rt; RelayNo::new(7).unwrap().index(), 7);
     assert!(rt; RelayNo::new(8).is_none());
 }
 
@@ -99,9 +104,9 @@ fn pools(rt: HostRuntime) {
     let pool = Pool4::new(Addr4([10, 0, 0, 250]), 10, gateway, 600).unwrap();
     assert_eq!(rt; pool.address(9), Some(Addr4([10, 0, 1, 3])));
     assert_eq!(rt; pool.address(10), None);
-    assert_eq!(rt; pool.place(Addr4([10, 0, 1, 3])), Some(9));
-    assert_eq!(rt; pool.place(Addr4([10, 0, 1, 4])), None);
-    assert_eq!(rt; pool.place(Addr4([10, 0, 0, 249])), None);
+    assert_eq!(rt; pool.slot(Addr4([10, 0, 1, 3])), Some(9));
+    assert_eq!(rt; pool.slot(Addr4([10, 0, 1, 4])), None);
+    assert_eq!(rt; pool.slot(Addr4([10, 0, 0, 249])), None);
 }
 
 #[test]

@@ -1,5 +1,6 @@
 //! A datagram as it is written.
 ghost use Rattle.std.specs.Prelude.{◌≡◌, ◌+◌, ◌≤◌, ◌↔◌, [], ◌∷◌, ◌++◌, length, IsTrue, IsOk, OnOk, OnErr};
+ghost use Rattle.wire.specs.Padding.{padded_to};
 
 use arrayvec::ArrayVec;
 use std::marker::Model;
@@ -58,6 +59,19 @@ impl PacketBuf {
         ensures err { OnErr result (self.new ≡ self.old) }
     {
         self.bytes.try_extend_from_slice(bytes).map_err(|_| Full)
+    }
+
+    /// Appends zeros up to `n` bytes; none where there are as many already.
+    pub fn pad_to(&mut self, n: usize) -> Result<(), Full>
+        ensures full { IsOk result ↔ (n ≤ MAX_DATAGRAM) }
+        ensures ok { OnOk result (self.new ≡ padded_to n self.old) }
+        ensures err { OnErr result (self.new ≡ self.old) }
+    {
+        if n > MAX_DATAGRAM {
+            return Err(Full);
+        }
+        let missing = n.saturating_sub(self.len());
+        self.extend(&[0; MAX_DATAGRAM][..missing])
     }
 
     pub fn len(&self) -> usize

@@ -30,6 +30,19 @@ fn holds_1280_bytes(rt: HostRuntime) {
 }
 
 #[test]
+fn pads_with_zeros(rt: HostRuntime) {
+    let mut packet = PacketBuf::new();
+    assert_eq!(rt; packet.push(7), Ok(()));
+    assert_eq!(rt; packet.pad_to(3), Ok(()));
+    assert_eq!(rt; packet.as_slice(), [7, 0, 0].as_slice());
+    assert_eq!(rt; packet.pad_to(2), Ok(()));
+    assert_eq!(rt; packet.len(), 3);
+    assert_eq!(rt; packet.pad_to(1281), Err(Full));
+    assert_eq!(rt; packet.pad_to(1280), Ok(()));
+    assert_eq!(rt; packet.len(), 1280);
+}
+
+#[test]
 fn refusals_have_words(rt: HostRuntime) -> Result<(), std::test::Fail> {
     let words = format!(in rt.alloc(); "{Short}; {Full}")?;
     assert_eq!(rt;
