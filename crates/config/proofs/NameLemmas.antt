@@ -1,10 +1,10 @@
--- What is found in a list by a name, and at which place.
+-- What is found in a list by a name, and at which index.
 use Rattle.std.proofs.Common.{◌≡◌, ℕ, ◌<◌, List, length, get_or, Option, Some, None, option_map, refl, ap, sym, ◌∙◌, arith}
 use Rattle.std.specs.Prelude.{slice_get}
 use Rattle.std.proofs.lemmas.Option.{slice_get_within, same_Some, gets}
 use Rattle.std.proofs.lemmas.Grind.{common_steps}
 
--- the one at this place has this name
+-- the one at this index has this name
 abbrev pub NameAt : {A : Type 0} → (A → List ℕ) → List A → ℕ → List ℕ → Type 0
 NameAt f xs i name = option_map f (slice_get xs i) ≡ Some name
 

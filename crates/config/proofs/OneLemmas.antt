@@ -1,12 +1,11 @@
 -- The rules for one relay and one circuit.
 use Rattle.std.proofs.Common.{◌≢◌, ℕ, zero, suc, [], ◌∷◌, arith, lit<}
 use Rattle.std.specs.Prelude.{All, AllPairs}
-use Rattle.types.specs.Addr.{number4}
+use Rattle.types.specs.Addr.{number4, number6}
 use Rattle.config.specs.declared.settings.ServerConfig.{ServerConfig}
 use Rattle.config.specs.declared.settings.RelayConfig.{RelayConfig}
 use Rattle.config.specs.declared.settings.CircuitConfig.{CircuitConfig}
 use Rattle.config.specs.Rules.{one_each, IsInPool4, IsInPool6, NamesDiffer, RegionsDiffer, Pools4Apart, Pools6Apart, GatewaysOutside, IsOnSubnet, OnSubnets}
-use Rattle.config.specs.Values.{number6}
 
 pub pairs_one : {X : Type 0} (R : X → X → Type 0) (x : X) → AllPairs R (x ∷ [])
 pairs_one R x i j d before inside = absurd (omega arith)

@@ -62,14 +62,14 @@ same_name Missing m n h k = absurd h
 same_name Other m n h k = absurd h
 same_name (Value text) m n h k = sym h.value ∙ k.value
 
-named_so : (r s : RelayConfig) → r.name.items ≡ s.name.items → (place : ℕ) (name : List ℕ) → IsNameAt (r ∷ []) place name → IsNameAt (s ∷ []) place name
+named_so : (r s : RelayConfig) → r.name.items ≡ s.name.items → (index : ℕ) (name : List ℕ) → IsNameAt (r ∷ []) index name → IsNameAt (s ∷ []) index name
 named_so r s e zero name h = ap Some (sym e) ∙ h
-named_so r s e (suc place) name h = h
+named_so r s e (suc index) name h = h
 
-named_in_field : (f : Field (List ℕ)) (r s : RelayConfig) → r.name.items ≡ s.name.items → (place : ℕ) → HasValue f (IsNameAt (r ∷ []) place) → HasValue f (IsNameAt (s ∷ []) place)
-named_in_field Missing r s e place h = absurd h
-named_in_field Other r s e place h = absurd h
-named_in_field (Value name) r s e place h = named_so r s e place name h
+named_in_field : (f : Field (List ℕ)) (r s : RelayConfig) → r.name.items ≡ s.name.items → (index : ℕ) → HasValue f (IsNameAt (r ∷ []) index) → HasValue f (IsNameAt (s ∷ []) index)
+named_in_field Missing r s e index h = absurd h
+named_in_field Other r s e index h = absurd h
+named_in_field (Value name) r s e index h = named_so r s e index name h
 
 pub same_relay : (k : RelayKeys) (r s : RelayConfig) (keys : CircuitKeys) (c : CircuitConfig) → IsRelay k r → IsRelay k s → IsCircuit (r ∷ []) keys c → IsCircuit (s ∷ []) keys c
 same_relay k r s keys c p q h = record {
@@ -90,14 +90,14 @@ same_relay k r s keys c p q h = record {
   no_wrap6 = h.no_wrap6;
 }
 
-place_in_field : (relays : List RelayConfig) (f : Field (List ℕ)) (place : ℕ) → HasValue f (IsNameAt relays place) → place < length relays
-place_in_field relays Missing place h = absurd h
-place_in_field relays Other place h = absurd h
-place_in_field relays (Value name) place h = name_within (λ relay. relay.name.items) relays place name h
+index_in_field : (relays : List RelayConfig) (f : Field (List ℕ)) (index : ℕ) → HasValue f (IsNameAt relays index) → index < length relays
+index_in_field relays Missing index h = absurd h
+index_in_field relays Other index h = absurd h
+index_in_field relays (Value name) index h = name_within (λ relay. relay.name.items) relays index name h
 
 -- a circuit's relay is one of the relays
 pub relay_within : (relays : List RelayConfig) (keys : CircuitKeys) (c : CircuitConfig) → IsCircuit relays keys c → c.relay < length relays
-relay_within relays keys c h = place_in_field relays keys.relay c.relay h.relay
+relay_within relays keys c h = index_in_field relays keys.relay c.relay h.relay
 
 visible_in_field : (f : Field (List ℕ)) (id : List ℕ) → HasValue f (λ text. IsId text id) → IsCircuitId id
 visible_in_field Missing id h = absurd h

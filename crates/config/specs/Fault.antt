@@ -6,11 +6,11 @@ use Rattle.config.specs.declared.fault.ConfigFault.TheVariants.{Memory, Text, Mi
 abbrev pub number_of : ConfigFault → ℕ
 number_of Memory = 40
 number_of (Text error) = 41
-number_of (Missing place) = 42
-number_of (Limit place) = 43
+number_of (Missing location) = 42
+number_of (Limit location) = 43
 number_of (IdTwice first second) = 44
 number_of (RegionTwice first second) = 45
 number_of (Overlap4 first second) = 46
 number_of (Overlap6 first second) = 47
-number_of (GatewayInPool place circuit) = 48
-number_of (OffSubnet place) = 49
+number_of (GatewayInPool location circuit) = 48
+number_of (OffSubnet location) = 49

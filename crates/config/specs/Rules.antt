@@ -1,14 +1,13 @@
 -- The rules about a configuration's values, for any number of relays and circuits.
 use Rattle.std.specs.Prelude.{◌≡◌, ◌≢◌, ℕ, ◌+◌, ◌-◌, ◌/◌, ◌%◌, ◌^◌, ◌≤◌, ◌<◌, List, [], ◌∷◌, length, slice_get, option_map, Some, All, AllPairs}
-use Rattle.types.specs.Addr.{number4}
+use Rattle.types.specs.Addr.{number4, number6}
 use Rattle.types.specs.CircuitId.{IsCircuitId}
 use Rattle.types.specs.declared.pool4.TheConstants.{MAX_POOL, MIN_LEASE, MAX_LEASE}
-use Rattle.types.specs.declared.limits.TheConstants.{MAX_RELAYS, MAX_CIRCUITS}
-use Rattle.config.specs.declared.limits.TheConstants.{MAX_REGION, LEAST_PREFIX4, MAX_PREFIX4, MAX_DNS, READ_CIRCUITS}
+use Rattle.types.specs.declared.limits.TheConstants.{MAX_RELAYS, MAX_CIRCUITS, MAX_REGION}
+use Rattle.config.specs.declared.limits.TheConstants.{MIN_PREFIX4, MAX_PREFIX4, MAX_DNS, READ_CIRCUITS}
 use Rattle.config.specs.declared.settings.ServerConfig.{ServerConfig}
 use Rattle.config.specs.declared.settings.RelayConfig.{RelayConfig}
 use Rattle.config.specs.declared.settings.CircuitConfig.{CircuitConfig}
-use Rattle.config.specs.Values.{number6}
 
 -- what a configuration holds
 pub record Settings : Type 0 where
@@ -79,7 +78,7 @@ pub record IsWithinLimits (relays : List RelayConfig) (circuit : CircuitConfig) 
   pub region : circuit.region ≤ MAX_REGION
   pub least_lease : MIN_LEASE ≤ circuit.lease
   pub most_lease : circuit.lease ≤ MAX_LEASE
-  pub least_prefix4 : LEAST_PREFIX4 ≤ circuit.prefix4
+  pub least_prefix4 : MIN_PREFIX4 ≤ circuit.prefix4
   pub most_prefix4 : circuit.prefix4 ≤ MAX_PREFIX4
   pub least_count4 : 1 ≤ circuit.count4
   pub most_count4 : circuit.count4 ≤ MAX_POOL
@@ -108,6 +107,6 @@ pub record IsSound (settings : Settings) : Type 0 where
   pub limits : All (IsWithinLimits settings.relays) settings.circuits
   pub rules : KeepsRules settings
 
--- the circuit at this place has this id
+-- the circuit at this index has this id
 abbrev pub IsIdAt : List CircuitConfig → ℕ → List ℕ → Type 0
-IsIdAt circuits place id = option_map (λ circuit. circuit.id) (slice_get circuits place) ≡ Some id
+IsIdAt circuits index id = option_map (λ circuit. circuit.id) (slice_get circuits index) ≡ Some id

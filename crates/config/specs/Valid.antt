@@ -43,14 +43,14 @@ IsLeastRule s (IdTwice first second) = ¬ NamesDiffer s
 IsLeastRule s (RegionTwice first second) = NamesDiffer s × ¬ RegionsDiffer s
 IsLeastRule s (Overlap4 first second) = NamesDiffer s × RegionsDiffer s × ¬ Pools4Apart s
 IsLeastRule s (Overlap6 first second) = NamesDiffer s × RegionsDiffer s × Pools4Apart s × ¬ Pools6Apart s
-IsLeastRule s (GatewayInPool place circuit) =
+IsLeastRule s (GatewayInPool location circuit) =
     NamesDiffer s × RegionsDiffer s × Pools4Apart s × Pools6Apart s × ¬ GatewaysOutside s
-IsLeastRule s (OffSubnet place) =
+IsLeastRule s (OffSubnet location) =
     NamesDiffer s × RegionsDiffer s × Pools4Apart s × Pools6Apart s × GatewaysOutside s × ¬ OnSubnets s
 IsLeastRule s Memory = ⊥
 IsLeastRule s (Text error) = ⊥
-IsLeastRule s (Missing place) = ⊥
-IsLeastRule s (Limit place) = ⊥
+IsLeastRule s (Missing location) = ⊥
+IsLeastRule s (Limit location) = ⊥
 
 -- the settings that are read break a rule, and the fault tells the least one
 pub record BreaksRule (tables : Tables) (fault : ConfigFault) : Type 0 where
@@ -66,8 +66,8 @@ pub record BreaksLimit (tables : Tables) : Type 0 where
 
 -- the fault tells the least rule that the tables break
 abbrev pub IsLeastBroken : Tables → ConfigFault → Type 0
-IsLeastBroken tables (Missing place) = ¬ HasAll tables
-IsLeastBroken tables (Limit place) = BreaksLimit tables
+IsLeastBroken tables (Missing location) = ¬ HasAll tables
+IsLeastBroken tables (Limit location) = BreaksLimit tables
 IsLeastBroken tables fault = BreaksRule tables fault
 
 -- the text is a configuration with these settings

@@ -1,23 +1,18 @@
 -- Rule 43: what the texts and numbers at the keys stand for, each within its limits.
 use Rattle.std.specs.Prelude.{◌≡◌, ℕ, ℤ, pos, ◌+◌, ◌^◌, ◌≤◌, List, [], ◌∷◌, length, slice_get, option_map, Some, Ok, ⊤}
-use Rattle.std.specs.Int.{w128, from_be_bytes}
 use Rattle.hex.specs.Hex.{decode_sized}
-use Rattle.types.specs.Addr.{number4}
+use Rattle.types.specs.Addr.{number4, number6}
 use Rattle.types.specs.CircuitId.{IsCircuitId}
 use Rattle.types.specs.declared.addr.Addr4.{Addr4}
-use Rattle.types.specs.declared.addr.Addr6.{Addr6}
+use Rattle.types.specs.declared.limits.TheConstants.{MIN_DUID, MAX_DUID, MAX_REGION}
 use Rattle.types.specs.declared.pool4.TheConstants.{MAX_POOL, MIN_LEASE, MAX_LEASE}
-use Rattle.config.specs.declared.limits.TheConstants.{LEAST_DUID, MAX_DUID, MAX_NAME, MAX_REGION, LEAST_PREFIX4, MAX_PREFIX4, MAX_DNS}
+use Rattle.config.specs.declared.limits.TheConstants.{MAX_NAME, MIN_PREFIX4, MAX_PREFIX4, MAX_DNS}
 use Rattle.config.specs.declared.settings.ServerConfig.{ServerConfig}
 use Rattle.config.specs.declared.settings.RelayConfig.{RelayConfig}
 use Rattle.config.specs.declared.settings.CircuitConfig.{CircuitConfig}
 use Rattle.config.specs.Field.{Field, Value, HasValue}
 use Rattle.config.specs.Tables.{ServerKeys, RelayKeys, CircuitKeys}
 use Rattle.config.specs.Texts.{IsAddress, IsSource, IsAddress6}
-
--- an IPv6 address as a number, its first byte the most significant
-abbrev pub number6 : Addr6 → ℕ
-number6 address = from_be_bytes w128 address.0
 
 -- the whole number n, from `least` to `most`
 pub record IsNumber (told : Field ℤ) (least most n : ℕ) : Type 0 where
@@ -34,7 +29,7 @@ pub record IsName (text name : List ℕ) : Type 0 where
 -- two hexadecimal digits of either case for each of the 3 to 130 bytes
 pub record IsDuid (text duid : List ℕ) : Type 0 where
   pub spelled : decode_sized text (length duid) ≡ Ok duid
-  pub least : LEAST_DUID ≤ length duid
+  pub least : MIN_DUID ≤ length duid
   pub most : length duid ≤ MAX_DUID
 
 -- the text itself, of 1 to 32 visible characters
@@ -49,9 +44,9 @@ AreAddresses (f ∷ fs) (a ∷ as_) = HasValue f (λ text. IsAddress text a) × 
 AreAddresses (f ∷ fs) [] = ⊥
 AreAddresses [] (a ∷ as_) = ⊥
 
--- the relay at this place has this name
+-- the relay at this index has this name
 abbrev pub IsNameAt : List RelayConfig → ℕ → List ℕ → Type 0
-IsNameAt relays place name = option_map (λ relay. relay.name.items) (slice_get relays place) ≡ Some name
+IsNameAt relays index name = option_map (λ relay. relay.name.items) (slice_get relays index) ≡ Some name
 
 pub record IsServer (keys : ServerKeys) (server : ServerConfig) : Type 0 where
   pub listen4 : HasValue keys.listen4 (λ text. IsSource text server.listen4)
@@ -68,7 +63,7 @@ pub record IsCircuit (relays : List RelayConfig) (keys : CircuitKeys) (circuit :
   pub region : IsNumber keys.region 0 MAX_REGION circuit.region
   pub lease : IsNumber keys.lease MIN_LEASE MAX_LEASE circuit.lease
   pub gateway4 : HasValue keys.gateway4 (λ text. IsAddress text circuit.gateway4)
-  pub prefix4 : IsNumber keys.prefix4 LEAST_PREFIX4 MAX_PREFIX4 circuit.prefix4
+  pub prefix4 : IsNumber keys.prefix4 MIN_PREFIX4 MAX_PREFIX4 circuit.prefix4
   pub first4 : HasValue keys.first4 (λ text. IsAddress text circuit.first4)
   pub count4 : IsNumber keys.count4 1 MAX_POOL circuit.count4
   pub no_wrap4 : number4 circuit.first4 + circuit.count4 ≤ 2 ^ 32

@@ -50,15 +50,15 @@ fn document(alloc: Global, text: &str) -> Result<Table, ConfigFault>
     }
 }
 
-/// The place of the first circuit with exactly this id.
-fn place_of(circuits: &[CircuitConfig], id: &CircuitId) -> Option<usize>
-    ensures found { IfSome result (λ place. IsIdAt circuits.now place id.now) }
-    ensures within { IfSome result (λ place. place < length circuits.now) }
-    ensures none { IfNone result ((place : ℕ) → ¬ IsIdAt circuits.now place id.now) }
+/// The index of the first circuit with exactly this id.
+fn index_of(circuits: &[CircuitConfig], id: &CircuitId) -> Option<usize>
+    ensures found { IfSome result (λ index. IsIdAt circuits.now index id.now) }
+    ensures within { IfSome result (λ index. index < length circuits.now) }
+    ensures none { IfNone result ((index : ℕ) → ¬ IsIdAt circuits.now index id.now) }
 {
-    for (place, circuit) in circuits.iter().enumerate() {
+    for (index, circuit) in circuits.iter().enumerate() {
         if circuit.id.as_bytes() == id.as_bytes() {
-            return Some(place);
+            return Some(index);
         }
     }
     None
@@ -93,11 +93,11 @@ impl Config {
         };
         let tables = match tables_in(&doc) {
             Ok(tables) => tables,
-            Err(place) => return Err(ConfigFault::Missing(place)),
+            Err(location) => return Err(ConfigFault::Missing(location)),
         };
         let values = match values_in(tables.server, tables.relays, tables.circuits) {
             Ok(values) => values,
-            Err(place) => return Err(ConfigFault::Limit(place)),
+            Err(location) => return Err(ConfigFault::Limit(location)),
         };
         if let Err(fault) = rules(&values.server, &values.relay, &values.circuit) {
             return Err(fault);
@@ -116,7 +116,7 @@ impl Config {
     }
 
     /// How many relays there are.
-    pub fn relays(&self) -> usize
+    pub fn relay_count(&self) -> usize
         ensures value { result ≡ length self.now.relays }
         ensures sound { IsSound self.now }
     {
@@ -124,7 +124,7 @@ impl Config {
     }
 
     /// How many circuits there are.
-    pub fn circuits(&self) -> usize
+    pub fn circuit_count(&self) -> usize
         ensures value { result ≡ length self.now.circuits }
         ensures sound { IsSound self.now }
     {
@@ -136,27 +136,27 @@ impl Config {
         ensures value { option_copied result ≡ slice_get self.now.relays relay }
         ensures sound { IsSound self.now }
     {
-        self.relays.get(relay.place())
+        self.relays.get(relay.index())
     }
 
-    /// The circuit at this place.
+    /// The circuit at this index.
     pub fn at(&self, circuit: Circuit) -> &CircuitConfig
         requires { circuit < length self.now.circuits }
         ensures value { slice_get self.now.circuits circuit ≡ Some result.now }
         ensures limits { IsWithinLimits self.now.relays result.now }
         ensures sound { IsSound self.now }
     {
-        &self.circuits[circuit.place()]
+        &self.circuits[circuit.index()]
     }
 
     /// The circuit with exactly this id.
     pub fn circuit(&self, id: &CircuitId) -> Option<Circuit>
         ensures found { IfSome result (λ circuit. IsIdAt self.now.circuits circuit id.now) }
         ensures within { IfSome result (λ circuit. circuit < length self.now.circuits) }
-        ensures none { IfNone result ((place : ℕ) → ¬ IsIdAt self.now.circuits place id.now) }
+        ensures none { IfNone result ((index : ℕ) → ¬ IsIdAt self.now.circuits index id.now) }
     {
-        match place_of(&self.circuits, id) {
-            Some(place) => Circuit::new(place),
+        match index_of(&self.circuits, id) {
+            Some(index) => Circuit::new(index),
             None => None,
         }
     }

@@ -5,13 +5,13 @@ ghost use Rattle.types.specs.declared.limits.TheConstants.{MAX_RELAYS};
 ghost use Rattle.config.specs.Tables.{server_keys, relay_keys, circuit_keys};
 ghost use Rattle.config.specs.Values.{IsServer, IsRelay, IsCircuit};
 
-use crate::limits::{LEAST_PREFIX4, MAX_PREFIX4, MAX_REGION};
+use crate::limits::{MAX_PREFIX4, MIN_PREFIX4};
 use crate::lists::{addresses_at, duid_at, relay_at};
 use crate::pools::{is_within4, is_within6};
 use crate::settings::{CircuitConfig, RelayConfig, ServerConfig};
 use crate::values::{address_at, address6_at, id_at, name_at, number_at, source_at};
 use toml::Table;
-use types::{MAX_LEASE, MAX_POOL, MIN_LEASE};
+use types::{MAX_LEASE, MAX_POOL, MAX_REGION, MIN_LEASE};
 
 /// What was found, or the key at which nothing was.
 macro_rules! found {
@@ -60,7 +60,7 @@ pub fn circuit_of(table: &Table, relays: &[RelayConfig]) -> Result<CircuitConfig
     let lease = found!(number_at(table, "lease", MIN_LEASE, MAX_LEASE), "lease");
     let gateway4 = found!(address_at(table, "gateway4"), "gateway4");
     let prefix4 = found!(
-        number_at(table, "prefix4", LEAST_PREFIX4, MAX_PREFIX4),
+        number_at(table, "prefix4", MIN_PREFIX4, MAX_PREFIX4),
         "prefix4"
     );
     let first4 = found!(address_at(table, "first4"), "first4");

@@ -4,9 +4,9 @@ ghost use Rattle.std.specs.Prelude.{◌≡◌};
 use std::fmt;
 use thiserror::Error;
 
-/// A place in a configuration. Entries are counted from 1.
+/// A location in a configuration. Entries are counted from 1.
 #[derive(Clone, Copy, Debug, PartialEq, Eq)]
-pub enum Place {
+pub enum Location {
     /// A table, or a list of tables.
     Table(&'static str),
     /// How many entries a list of tables has.
@@ -19,14 +19,14 @@ pub enum Place {
     Circuit(usize, &'static str),
 }
 
-impl fmt::Display for Place {
+impl fmt::Display for Location {
     fn fmt<W: fmt::Write>(&self, f: &mut fmt::Formatter<W>) -> fmt::Result {
         match self {
-            Place::Table(table) => write!(f, "`{table}`"),
-            Place::Count(table) => write!(f, "the number of entries of `{table}`"),
-            Place::Server(key) => write!(f, "`{key}` of the server"),
-            Place::Relay(entry, key) => write!(f, "`{key}` of relay {entry}"),
-            Place::Circuit(entry, key) => write!(f, "`{key}` of circuit {entry}"),
+            Location::Table(table) => write!(f, "`{table}`"),
+            Location::Count(table) => write!(f, "the number of entries of `{table}`"),
+            Location::Server(key) => write!(f, "`{key}` of the server"),
+            Location::Relay(entry, key) => write!(f, "`{key}` of relay {entry}"),
+            Location::Circuit(entry, key) => write!(f, "`{key}` of circuit {entry}"),
         }
     }
 }
@@ -43,13 +43,13 @@ pub enum ConfigFault {
     Text(toml::de::Error),
     /// A table or a key is not there, or a circuit's relay has no relay's name.
     #[error("{0} is missing, of another type, or names no relay")]
-    Missing(Place),
+    Missing(Location),
     /// A value, or a number of entries.
     #[error("{0} is outside its limits, or not of its form")]
-    Limit(Place),
+    Limit(Location),
     /// Two names or two addresses that have to differ.
     #[error("{0} and {1} are the same")]
-    IdTwice(Place, Place),
+    IdTwice(Location, Location),
     /// Two circuits.
     #[error("circuits {0} and {1} have one region")]
     RegionTwice(usize, usize),
@@ -61,10 +61,10 @@ pub enum ConfigFault {
     Overlap6(usize, usize),
     /// A gateway or a link, and the circuit whose pool has it.
     #[error("{0} is in the pool of circuit {1}")]
-    GatewayInPool(Place, usize),
+    GatewayInPool(Location, usize),
     /// A gateway or a pool.
     #[error("{0} gives an address off the circuit's subnet, or one that no host may have")]
-    OffSubnet(Place),
+    OffSubnet(Location),
 }
 
 impl ConfigFault {

@@ -37,7 +37,7 @@ fn relay_lacks(relay: &Table) -> Option<&'static str>
     None
 }
 
-/// A place in the list of relays where a table or a key is not there: the entry, from 0, and the
+/// A location in the list of relays where a table or a key is not there: the entry, from 0, and the
 /// key.
 pub fn relays_lack(entries: &[Value]) -> Option<(usize, &'static str)>
     ensures { IsNone result ↔ AllThere HasRelayKeys (each relay_entry (items_view entries.now)) }
@@ -167,7 +167,7 @@ fn circuit_entry_lacks(entry: &Value, relays: &[Value]) -> Option<&'static str>
     }
 }
 
-/// A place in the list of circuits where a table or a key is not there: the entry, from 0, and the
+/// A location in the list of circuits where a table or a key is not there: the entry, from 0, and the
 /// key.
 pub fn circuits_lack(entries: &[Value], relays: &[Value]) -> Option<(usize, &'static str)>
     ensures { IsNone result ↔ AllThere (HasCircuitKeys (each relay_entry (items_view relays.now))) (each circuit_entry (items_view entries.now)) }

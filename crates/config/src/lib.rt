@@ -1,6 +1,7 @@
 //! The configuration: read from TOML, checked by numbered rules, and asked by circuit and relay.
 #![tactic(auto)]
 
+mod circuit_part;
 mod config;
 mod entries;
 mod fault;
@@ -17,10 +18,8 @@ mod tests;
 mod text_forms;
 mod values;
 
+pub use circuit_part::CircuitPart;
 pub use config::Config;
-pub use fault::{ConfigFault, Place};
-pub use limits::{
-    LEAST_DUID, LEAST_PREFIX4, MAX_DNS, MAX_DUID, MAX_NAME, MAX_PREFIX4, MAX_REGION, READ_CIRCUITS,
-    READ_RELAYS,
-};
+pub use fault::{ConfigFault, Location};
+pub use limits::{MAX_DNS, MAX_NAME, MAX_PREFIX4, MIN_PREFIX4, READ_CIRCUITS, READ_RELAYS};
 pub use settings::{CircuitConfig, RelayConfig, ServerConfig};

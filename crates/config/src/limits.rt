@@ -6,20 +6,11 @@ pub const READ_RELAYS: usize = 1;
 /// How many circuits a configuration has: for now one.
 pub const READ_CIRCUITS: usize = 1;
 
-/// The fewest bytes of a DUID, the two of its type among them (RFC 8415, section 11.1).
-pub const LEAST_DUID: usize = 3;
-
-/// The most bytes of a DUID, the two of its type among them (RFC 8415, section 11.1).
-pub const MAX_DUID: usize = 130;
-
 /// The most bytes of a relay's name.
 pub const MAX_NAME: usize = 32;
 
-/// The last region.
-pub const MAX_REGION: u32 = 1023;
-
 /// The shortest DHCPv4 prefix.
-pub const LEAST_PREFIX4: u32 = 8;
+pub const MIN_PREFIX4: u32 = 8;
 
 /// The longest DHCPv4 prefix: two addresses for hosts.
 pub const MAX_PREFIX4: u32 = 30;

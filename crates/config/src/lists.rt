@@ -6,13 +6,13 @@ ghost use Rattle.config.specs.Field.{HasValue, text_of, text_at, list_at, field_
 ghost use Rattle.config.specs.Texts.{IsAddress};
 ghost use Rattle.config.specs.Values.{IsDuid, AreAddresses, IsNameAt};
 
-use crate::limits::{LEAST_DUID, MAX_DNS, MAX_DUID};
+use crate::limits::MAX_DNS;
 use crate::lookup::{list_at, text_at};
 use crate::settings::RelayConfig;
 use crate::text_forms::address;
 use arrayvec::ArrayVec;
 use toml::{Table, Value};
-use types::{Addr4, RelayNo};
+use types::{Addr4, MAX_DUID, MIN_DUID, RelayNo};
 
 /// The DUID at a key.
 pub fn duid_at(table: &Table, key: &str) -> Option<ArrayVec<u8, MAX_DUID>>
@@ -31,7 +31,7 @@ fn duid(text: &str) -> Option<ArrayVec<u8, MAX_DUID>>
     ensures none { IfNone result ((duid : List ℕ) → ¬ IsDuid text.now duid) }
 {
     let len = text.len() / 2;
-    if len < LEAST_DUID || MAX_DUID < len {
+    if len < MIN_DUID || MAX_DUID < len {
         return None;
     }
     let mut bytes = [0; MAX_DUID];

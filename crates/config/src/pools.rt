@@ -1,17 +1,8 @@
 //! The addresses of pools, as numbers.
 ghost use Rattle.std.specs.Prelude.{◌≡◌, ◌+◌, ◌^◌, ◌<◌, ◌≤◌, ◌↔◌, IsTrue};
-ghost use Rattle.types.specs.Addr.{number4};
-ghost use Rattle.config.specs.Values.{number6};
+ghost use Rattle.types.specs.Addr.{number4, number6};
 
 use types::{Addr4, Addr6};
-
-/// The address as a number, its first byte the most significant.
-pub fn number6(address: Addr6) -> u128
-    ensures value { result ≡ number6 address }
-    ensures within { result < 2 ^ 128 }
-{
-    u128::from_be_bytes(address.0)
-}
 
 /// Whether so many addresses from the first on end with the last IPv4 address or before it.
 pub fn is_within4(first: Addr4, count: u8) -> bool
@@ -25,5 +16,5 @@ pub fn is_within6(first: Addr6, count: u8) -> bool
     requires { 1 ≤ count }
     ensures { IsTrue result ↔ (number6 first + count ≤ 2 ^ 128) }
 {
-    u128::from(count) - 1 <= u128::MAX - number6(first)
+    u128::from(count) - 1 <= u128::MAX - first.number()
 }

@@ -10,7 +10,7 @@ ghost use Rattle.config.specs.Valid.{IsRead};
 ghost use Rattle.config.specs.Values.{IsCircuit};
 
 use crate::entries::{circuit_of, relay_of, server_of};
-use crate::fault::Place;
+use crate::fault::Location;
 use crate::keys::{circuits_lack, relays_lack, server_lacks};
 use crate::lookup::{list_at, table_at};
 use crate::settings::{CircuitConfig, RelayConfig, ServerConfig};
@@ -25,31 +25,31 @@ pub struct TextTables<'a> {
     pub circuits: &'a [Value],
 }
 
-/// The tables of a text, or a place where a table or a key is not there.
-pub fn tables_in<'a>(doc: &'a Table) -> Result<TextTables<'a>, Place>
+/// The tables of a text, or a location where a table or a key is not there.
+pub fn tables_in<'a>(doc: &'a Table) -> Result<TextTables<'a>, Location>
     ensures tables { IfOk result (λ f. tables_of (table_view doc.now) ≡ found_tables (table_view f.server.now) (items_view f.relays.now) (items_view f.circuits.now)) }
     ensures all { IfOk result (λ _. HasAll (tables_of (table_view doc.now))) }
     ensures lacks { IfErr result (λ _. ¬ HasAll (tables_of (table_view doc.now))) }
 {
     let Some(server) = table_at(doc, "server") else {
-        return Err(Place::Table("server"));
+        return Err(Location::Table("server"));
     };
     if let Some(key) = server_lacks(server) {
-        return Err(Place::Server(key));
+        return Err(Location::Server(key));
     }
     let Some(relays) = list_at(doc, "relay") else {
-        return Err(Place::Table("relay"));
+        return Err(Location::Table("relay"));
     };
     let relays = relays.as_slice();
     if let Some((i, key)) = relays_lack(relays) {
-        return Err(Place::Relay(i.saturating_add(1), key));
+        return Err(Location::Relay(i.saturating_add(1), key));
     }
     let Some(circuits) = list_at(doc, "circuit") else {
-        return Err(Place::Table("circuit"));
+        return Err(Location::Table("circuit"));
     };
     let circuits = circuits.as_slice();
     if let Some((i, key)) = circuits_lack(circuits, relays) {
-        return Err(Place::Circuit(i.saturating_add(1), key));
+        return Err(Location::Circuit(i.saturating_add(1), key));
     }
     Ok(TextTables {
         server,
@@ -77,29 +77,29 @@ pub struct Values {
     pub circuit: CircuitConfig,
 }
 
-/// The values of tables with one relay and one circuit, or a place that is outside its limits.
-pub fn values_in(server: &Table, relays: &[Value], circuits: &[Value]) -> Result<Values, Place>
+/// The values of tables with one relay and one circuit, or a location that is outside its limits.
+pub fn values_in(server: &Table, relays: &[Value], circuits: &[Value]) -> Result<Values, Location>
     ensures read { IfOk result (λ v. IsRead (found_tables (table_view server.now) (items_view relays.now) (items_view circuits.now)) (one_each v.server v.relay v.circuit)) }
     ensures limits { IfOk result (λ v. IsWithinLimits (v.relay ∷ []) v.circuit) }
     ensures broken { IfErr result (λ _. (s : Settings) → ¬ IsRead (found_tables (table_view server.now) (items_view relays.now) (items_view circuits.now)) s) }
 {
     let server = match server_of(server) {
         Ok(server) => server,
-        Err(key) => return Err(Place::Server(key)),
+        Err(key) => return Err(Location::Server(key)),
     };
     let Some(relay) = only_table(relays) else {
-        return Err(Place::Count("relay"));
+        return Err(Location::Count("relay"));
     };
     let relay = match relay_of(relay) {
         Ok(relay) => relay,
-        Err(key) => return Err(Place::Relay(1, key)),
+        Err(key) => return Err(Location::Relay(1, key)),
     };
     let Some(circuit) = only_table(circuits) else {
-        return Err(Place::Count("circuit"));
+        return Err(Location::Count("circuit"));
     };
     let circuit = match circuit_of(circuit, slice::from_ref(&relay)) {
         Ok(circuit) => circuit,
-        Err(key) => return Err(Place::Circuit(1, key)),
+        Err(key) => return Err(Location::Circuit(1, key)),
     };
     Ok(Values {
         server,

@@ -1,12 +1,10 @@
 //! The rules about a configuration's values, as far as one relay and one circuit can break them.
 ghost use Rattle.std.specs.Prelude.{◌≡◌, ◌≢◌, ℕ, ◌+◌, ◌/◌, ◌^◌, ◌≤◌, ◌<◌, ◌↔◌, IsTrue, IsNone, OnOk, IfErr};
-ghost use Rattle.types.specs.Addr.{number4};
+ghost use Rattle.types.specs.Addr.{number4, number6};
 ghost use Rattle.config.specs.Rules.{IsInPool4, IsInPool6, IsHost, KeepsRules, one_each};
 ghost use Rattle.config.specs.Valid.{IsLeastRule};
-ghost use Rattle.config.specs.Values.{number6};
 
-use crate::fault::{ConfigFault, Place};
-use crate::pools::number6;
+use crate::fault::{ConfigFault, Location};
 use crate::settings::{CircuitConfig, RelayConfig, ServerConfig};
 
 /// Whether the circuit's DHCPv4 pool has its gateway.
@@ -22,8 +20,8 @@ pub fn has_gateway4(circuit: &CircuitConfig) -> bool
 pub fn has_link6(circuit: &CircuitConfig) -> bool
     ensures { IsTrue result ↔ IsInPool6 circuit.now (number6 circuit.now.link6) }
 {
-    let first = number6(circuit.first6);
-    let link = number6(circuit.link6);
+    let first = circuit.first6.number();
+    let link = circuit.link6.number();
     first <= link && link - first < u128::from(circuit.count6)
 }
 
@@ -52,8 +50,8 @@ pub fn has_host_pool(circuit: &CircuitConfig) -> bool
 {
     let first = u64::from(circuit.first4.number());
     let gateway = u64::from(circuit.gateway4.number());
-    for place in 0..u64::from(circuit.count4) {
-        if !is_host(first + place, gateway, circuit.prefix4) {
+    for slot in 0..u64::from(circuit.count4) {
+        if !is_host(first + slot, gateway, circuit.prefix4) {
             return false;
         }
     }
@@ -65,10 +63,10 @@ pub fn is_on_link6(circuit: &CircuitConfig) -> bool
     requires within { number6 circuit.now.first6 + circuit.now.count6 ≤ 2 ^ 128 }
     ensures { IsTrue result ↔ ((n : ℕ) → IsInPool6 circuit.now n → n / 2 ^ 64 ≡ number6 circuit.now.link6 / 2 ^ 64) }
 {
-    let first = number6(circuit.first6);
-    let link = number6(circuit.link6);
-    for place in 0..u128::from(circuit.count6) {
-        if (first + place) / LINK_SIZE != link / LINK_SIZE {
+    let first = circuit.first6.number();
+    let link = circuit.link6.number();
+    for slot in 0..u128::from(circuit.count6) {
+        if (first + slot) / LINK_SIZE != link / LINK_SIZE {
             return false;
         }
     }
@@ -79,17 +77,17 @@ pub fn is_on_link6(circuit: &CircuitConfig) -> bool
 const LINK_SIZE: u128 = 1 << 64;
 
 /// Two places whose sources have to differ and don't.
-pub fn same_source(server: &ServerConfig, relay: &RelayConfig) -> Option<(Place, Place)>
+pub fn same_source(server: &ServerConfig, relay: &RelayConfig) -> Option<(Location, Location)>
     ensures { IsNone result ↔ ((server.now.listen4 ≢ server.now.listen6) × (relay.now.source ≢ server.now.listen4) × (relay.now.source ≢ server.now.listen6)) }
 {
     if server.listen4 == server.listen6 {
-        return Some((Place::Server("listen4"), Place::Server("listen6")));
+        return Some((Location::Server("listen4"), Location::Server("listen6")));
     }
     if relay.source == server.listen4 {
-        return Some((Place::Server("listen4"), Place::Relay(1, "source")));
+        return Some((Location::Server("listen4"), Location::Relay(1, "source")));
     }
     if relay.source == server.listen6 {
-        return Some((Place::Server("listen6"), Place::Relay(1, "source")));
+        return Some((Location::Server("listen6"), Location::Relay(1, "source")));
     }
     None
 }
@@ -109,19 +107,19 @@ pub fn rules(
         return Err(ConfigFault::IdTwice(first, second));
     }
     if has_gateway4(circuit) {
-        return Err(ConfigFault::GatewayInPool(Place::Circuit(1, "gateway4"), 1));
+        return Err(ConfigFault::GatewayInPool(Location::Circuit(1, "gateway4"), 1));
     }
     if has_link6(circuit) {
-        return Err(ConfigFault::GatewayInPool(Place::Circuit(1, "link6"), 1));
+        return Err(ConfigFault::GatewayInPool(Location::Circuit(1, "link6"), 1));
     }
     if !has_host_gateway(circuit) {
-        return Err(ConfigFault::OffSubnet(Place::Circuit(1, "gateway4")));
+        return Err(ConfigFault::OffSubnet(Location::Circuit(1, "gateway4")));
     }
     if !has_host_pool(circuit) {
-        return Err(ConfigFault::OffSubnet(Place::Circuit(1, "first4")));
+        return Err(ConfigFault::OffSubnet(Location::Circuit(1, "first4")));
     }
     if !is_on_link6(circuit) {
-        return Err(ConfigFault::OffSubnet(Place::Circuit(1, "first6")));
+        return Err(ConfigFault::OffSubnet(Location::Circuit(1, "first6")));
     }
     Ok(())
 }

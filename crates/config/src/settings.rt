@@ -1,7 +1,9 @@
 //! What a configuration says of the server, of a relay and of a circuit, by the names of its keys.
-use crate::limits::{MAX_DNS, MAX_DUID, MAX_NAME};
+ghost use Rattle.std.specs.Prelude.{◌≡◌};
+
+use crate::limits::{MAX_DNS, MAX_NAME};
 use arrayvec::ArrayVec;
-use types::{Addr4, Addr6, CircuitId, RelayNo, Source};
+use types::{Addr4, Addr6, CircuitId, MAX_DUID, RelayNo, Source};
 
 /// The server, as the table `server` says it.
 #[derive(Debug, Drop)]
@@ -47,4 +49,36 @@ pub struct CircuitConfig {
     pub first6: Addr6,
     /// How many addresses the DHCPv6 pool has: 1 to 16.
     pub count6: u8,
+}
+
+/// A copy of a short list.
+pub(crate) fn copy_of<T: Copy + Default, const N: usize>(values: &ArrayVec<T, N>) -> ArrayVec<T, N>
+    ensures { result ≡ values.now }
+{
+    let mut copy = ArrayVec::new();
+    let copied = copy.try_extend_from_slice(values.as_slice());
+    prove!(copied.is_ok());
+    copy
+}
+
+impl CircuitConfig {
+    /// A copy of the circuit's values.
+    pub(crate) fn copy(&self) -> CircuitConfig
+        ensures { result ≡ self.now }
+    {
+        CircuitConfig {
+            id: self.id.copy(),
+            relay: self.relay,
+            region: self.region,
+            lease: self.lease,
+            gateway4: self.gateway4,
+            prefix4: self.prefix4,
+            first4: self.first4,
+            count4: self.count4,
+            dns: copy_of(&self.dns),
+            link6: self.link6,
+            first6: self.first6,
+            count6: self.count6,
+        }
+    }
 }

@@ -70,8 +70,8 @@ fn good(rt: HostRuntime) -> Result<(), AllocError> {
         server.duid.as_slice(),
         [0, 3, 0, 1, 2, 0, 0, 0, 0, 1].as_slice()
     );
-    assert_eq!(rt; config.relays(), 1);
-    assert_eq!(rt; config.circuits(), 1);
+    assert_eq!(rt; config.relay_count(), 1);
+    assert_eq!(rt; config.circuit_count(), 1);
     assert!(rt; config.relay(RelayNo::new(1).unwrap()).is_none());
     if let Some(relay) = config.relay(RelayNo::new(0).unwrap()) {
         assert_eq!(rt; relay.name.as_slice(), b"r1".as_slice());
@@ -82,8 +82,8 @@ fn good(rt: HostRuntime) -> Result<(), AllocError> {
     for (id, there) in [(b"a".as_slice(), true), (b"a1".as_slice(), false)] {
         if let Some(id) = CircuitId::new(id) {
             assert_eq!(rt; config.circuit(&id).is_some(), there);
-            if let Some(place) = config.circuit(&id) {
-                circuit_of_good(&rt, config.at(place));
+            if let Some(circuit) = config.circuit(&id) {
+                circuit_of_good(&rt, config.at(circuit));
             }
         }
     }
@@ -92,7 +92,7 @@ fn good(rt: HostRuntime) -> Result<(), AllocError> {
 
 fn circuit_of_good(rt: &impl Abort, circuit: &CircuitConfig) {
     assert_eq!(rt; circuit.id.as_bytes(), b"a".as_slice());
-    assert_eq!(rt; circuit.relay.place(), 0);
+    assert_eq!(rt; circuit.relay.index(), 0);
     assert_eq!(rt; circuit.region, 0);
     assert_eq!(rt; circuit.lease, 600);
     assert_eq!(rt; circuit.gateway4, Addr4([10, 0, 0, 1]));
@@ -376,8 +376,8 @@ fn right_or_out_of_memory(rt: HostRuntime) {
     };
     match Config::read(rt.alloc(), text.as_str()) {
         Ok(config) => {
-            assert_eq!(rt; config.circuits(), 1);
-            assert_eq!(rt; config.relays(), 1);
+            assert_eq!(rt; config.circuit_count(), 1);
+            assert_eq!(rt; config.relay_count(), 1);
         }
         Err(fault) => assert_eq!(rt; fault, ConfigFault::Memory),
     }

@@ -6,7 +6,7 @@ ghost use Rattle.config.specs.Field.{HasValue, text_at, integer_at};
 ghost use Rattle.config.specs.Texts.{IsAddress, IsSource, IsAddress6};
 ghost use Rattle.config.specs.Values.{IsNumber, IsName, IsDuid, IsId};
 
-use crate::limits::{LEAST_DUID, MAX_DUID, MAX_NAME};
+use crate::limits::MAX_NAME;
 use crate::lookup::{integer_at, text_at};
 use crate::text_forms::{address, address6, source};
 use arrayvec::ArrayVec;

@@ -1,0 +1,138 @@
+//! One circuit's part of a configuration, as its relay and its server keep it.
+ghost use Rattle.std.specs.Prelude.{◌≡◌, ◌<◌, length, false, take, Some, IfOk};
+ghost use Rattle.types.specs.Addr.{is_unspecified};
+ghost use Rattle.types.specs.Pool4.{IsPool4};
+ghost use Rattle.config.specs.CircuitPart.{part_in, parts_of};
+
+use crate::config::Config;
+use crate::limits::MAX_DNS;
+use crate::settings::{CircuitConfig, copy_of};
+use arrayvec::ArrayVec;
+use std::alloc::{AllocError, Global};
+use std::marker::Model;
+use types::{Addr4, Circuit, CircuitId, MAX_DUID, Pool4, Source};
+
+/// A circuit's values with the source of its relay and the server's values. It is a copy, so that
+/// relay and server need no configuration once they are open.
+#[derive(Debug, Drop)]
+pub struct CircuitPart {
+    circuit: CircuitConfig,
+    relay: Source,
+    listen4: Source,
+    listen6: Source,
+    duid: ArrayVec<u8, MAX_DUID>,
+}
+
+impl Model for CircuitPart {
+    ghost use Rattle.config.specs.CircuitPart.{CircuitPart, IsPart, part_of};
+
+    ghost Value = { CircuitPart };
+
+    ghost view = { λ p. part_of p.circuit p.relay p.listen4 p.listen6 p.duid.items };
+
+    ghost invariant = { λ p. IsPart (part_of p.circuit p.relay p.listen4 p.listen6 p.duid.items) };
+}
+
+impl CircuitPart {
+    /// The part of a circuit of the configuration.
+    pub fn of(config: &Config, circuit: Circuit) -> CircuitPart
+        requires { circuit < length config.now.circuits }
+        ensures { part_in config.now circuit ≡ Some result }
+    {
+        let values = config.at(circuit);
+        let Some(relay) = config.relay(values.relay) else {
+            unreachable!()
+        };
+        let server = config.server();
+        CircuitPart {
+            circuit: values.copy(),
+            relay: relay.source,
+            listen4: server.listen4,
+            listen6: server.listen6,
+            duid: copy_of(&server.duid),
+        }
+    }
+
+    /// The parts of all circuits, in the order of the configuration.
+    pub fn all_of(alloc: Global, config: &Config) -> Result<Vec<CircuitPart>, AllocError>
+        ensures { IfOk result (λ parts. parts.items ≡ parts_of config.now) }
+    {
+        let mut parts = Vec::with_capacity(alloc, config.circuit_count())?;
+        'circuits: for index in 0..config.circuit_count() {
+            let Some(circuit) = Circuit::new(index) else {
+                unreachable!()
+            };
+            parts.push(CircuitPart::of(config, circuit))?;
+        }
+        Ok(parts)
+    }
+
+    pub fn id(&self) -> &CircuitId
+        ensures { result.now ≡ self.now.id }
+    {
+        &self.circuit.id
+    }
+
+    /// Where the datagrams of the circuit's relay come from.
+    pub fn relay(&self) -> Source
+        ensures { result ≡ self.now.relay }
+    {
+        self.relay
+    }
+
+    /// Where the server takes DHCPv4 datagrams.
+    pub fn listen4(&self) -> Source
+        ensures { result ≡ self.now.listen4 }
+    {
+        self.listen4
+    }
+
+    /// Where the server takes DHCPv6 datagrams.
+    pub fn listen6(&self) -> Source
+        ensures { result ≡ self.now.listen6 }
+    {
+        self.listen6
+    }
+
+    pub fn gateway4(&self) -> Addr4
+        ensures value { result ≡ self.now.gateway4 }
+        ensures given { is_unspecified result.0 ≡ false }
+    {
+        self.circuit.gateway4
+    }
+
+    /// The length of the gateway's prefix in bits.
+    pub fn prefix4(&self) -> u8
+        ensures { result ≡ self.now.prefix4 }
+    {
+        self.circuit.prefix4
+    }
+
+    /// The lease time in seconds.
+    pub fn lease(&self) -> u32
+        ensures { result ≡ self.now.lease }
+    {
+        self.circuit.lease
+    }
+
+    /// The DHCPv4 name servers, at most 4.
+    pub fn dns(&self) -> &ArrayVec<Addr4, MAX_DNS>
+        ensures { result.now.items ≡ self.now.dns }
+    {
+        &self.circuit.dns
+    }
+
+    pub fn pool4(&self) -> Pool4
+        ensures first { result.first ≡ self.now.first4 }
+        ensures count { result.count ≡ self.now.count4 }
+        ensures gateway { result.gateway ≡ self.now.gateway4 }
+        ensures lease { result.lease ≡ self.now.lease }
+    {
+        Pool4 {
+            first: self.circuit.first4,
+            count: self.circuit.count4,
+            gateway: self.circuit.gateway4,
+            lease: self.circuit.lease,
+        }
+    }
+}
