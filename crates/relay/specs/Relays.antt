@@ -1,0 +1,103 @@
+-- The relays of a configuration with all their circuits, in both protocols.
+use Rattle.std.specs.Prelude.{ℕ, ◌+◌, min, Bool, false, not, nat_lt, List, length, map, Option, Some, None, slice_get, slice_index, slice_set, Result, Ok, Err, ◌==◌, if◌then◌else◌}
+use Rattle.std.specs.List.{position}
+use Rattle.std.specs.Str.{bytes_eq}
+use Rattle.types.specs.declared.addr.Source.{Source}
+use Rattle.types.specs.declared.dest.Proto.{Proto}
+use Rattle.types.specs.declared.dest.Proto.TheVariants.{V4}
+use Rattle.types.specs.declared.discard.Discard.{Discard}
+use Rattle.types.specs.declared.discard.Discard.TheVariants as reason
+use Rattle.v4_options.specs.declared.code.TheConstants.{CIRCUIT_ID}
+use Rattle.v4_options.specs.declared.fault.SuboptFault.{SuboptFault}
+use Rattle.v4_options.specs.Spelling.{look_up}
+use Rattle.v4_message.specs.declared.fault.MessageFault.{MessageFault}
+use Rattle.v4_message.specs.Reading.{message_of}
+use Rattle.v4_message.specs.Spelling.{MessageValue}
+use Rattle.config.specs.CircuitPart.{CircuitPart, parts_of}
+use Rattle.config.specs.Rules.{Settings}
+use Rattle.relay.specs.SentFrame.{SentFrame}
+use Rattle.relay.specs.Up4.{relayed_up4}
+use Rattle.relay.specs.Down4.{agent_of, is_value, same_source, reply_relayed_down, relayed_down4}
+
+-- A client's frame in one circuit: the datagram for the server, or why there is none.
+abbrev pub relayed_up : CircuitPart → Proto → List ℕ → Result (List ℕ) Discard
+relayed_up part V4 frame = relayed_up4 part frame
+
+-- A datagram from the server to one circuit's relay: the frame for the circuit, or why there is none.
+abbrev pub relayed_down : CircuitPart → Proto → List ℕ → Result SentFrame Discard
+relayed_down part V4 datagram = relayed_down4 part datagram
+
+-- ---- all circuits
+
+-- What the relays know of a configuration: the server's addresses, where each relay's datagrams come
+-- from, and each circuit's part.
+pub record Topology : Type 0 where
+  pub listen4 : Source
+  pub listen6 : Source
+  pub relays : List Source
+  pub circuits : List CircuitPart
+
+abbrev pub topology_of : Settings → Topology
+topology_of settings = record {
+  listen4 = settings.server.listen4;
+  listen6 = settings.server.listen6;
+  relays = map (λ relay. relay.source) settings.relays;
+  circuits = parts_of settings;
+}
+
+-- A frame for the circuit of this index.
+pub record CircuitFrame : Type 0 where
+  pub circuit : ℕ
+  pub frame : SentFrame
+
+abbrev pub for_circuit : ℕ → Result SentFrame Discard → Result CircuitFrame Discard
+for_circuit c (Err why) = Err why
+for_circuit c (Ok frame) = Ok (record { circuit = c; frame = frame })
+
+-- whether the circuit is this relay's
+abbrev pub is_behind : Option Source → CircuitPart → Bool
+is_behind None part = false
+is_behind (Some relay) part = same_source relay part.relay
+
+-- a reply to the circuit that was found, which has to be one of this relay's
+abbrev pub reply_to_found : Topology → ℕ → MessageValue → List (ℕ × List ℕ) → ℕ → Option CircuitPart → Result CircuitFrame Discard
+reply_to_found topology relay m suboptions c None = Err reason.UnknownCircuitDown
+reply_to_found topology relay m suboptions c (Some part) =
+    if is_behind (slice_get topology.relays relay) part then for_circuit c (reply_relayed_down part m (Some (Ok suboptions)))
+    else Err reason.UnknownCircuitDown
+
+abbrev pub reply_at_index : Topology → ℕ → MessageValue → List (ℕ × List ℕ) → Option ℕ → Result CircuitFrame Discard
+reply_at_index topology relay m suboptions None = Err reason.UnknownCircuitDown
+reply_at_index topology relay m suboptions (Some c) = reply_to_found topology relay m suboptions c (slice_get topology.circuits c)
+
+-- the circuit has exactly the id in option 82
+abbrev pub reply_to_circuit : Topology → ℕ → MessageValue → Option (Result (List (ℕ × List ℕ)) SuboptFault) → Result CircuitFrame Discard
+reply_to_circuit topology relay m None = Err reason.UnknownCircuitDown
+reply_to_circuit topology relay m (Some (Err fault)) = Err reason.MalformedDown
+reply_to_circuit topology relay m (Some (Ok suboptions)) =
+    reply_at_index topology relay m suboptions (position (λ part. is_value part.id (look_up CIRCUIT_ID suboptions)) topology.circuits)
+
+abbrev pub message_to_circuit : Topology → ℕ → Result MessageValue MessageFault → Result CircuitFrame Discard
+message_to_circuit topology relay (Err fault) = Err reason.MalformedDown
+message_to_circuit topology relay (Ok m) = if not (m.header.op == 2) then Err reason.MalformedDown else reply_to_circuit topology relay m (agent_of m)
+
+-- A datagram at the relay of this index, from this source: the circuit and its frame, or the first
+-- reason why there is none. Nothing from the server's DHCPv6 address is readable yet.
+unfoldable pub relayed_down_in : Topology → ℕ → Source → List ℕ → Result CircuitFrame Discard
+relayed_down_in topology relay source datagram =
+    if same_source source topology.listen4 then
+    (if nat_lt 1280 (length datagram) then Err reason.MalformedDown else message_to_circuit topology relay (message_of datagram))
+    else if same_source source topology.listen6 then Err reason.MalformedDown
+    else Err reason.NotServer
+
+-- ---- the counters
+
+-- one more for a circuit, up to the greatest 32-bit number
+abbrev pub one_more : ℕ → List ℕ → List ℕ
+one_more c counts = slice_set counts c (min 4294967295 (slice_index counts c + 1))
+
+-- What shows of the relays: what they know of the configuration, and how many frames of each circuit
+-- they discarded.
+pub record RelaysValue : Type 0 where
+  pub topology : Topology
+  pub discarded : List ℕ
