@@ -1,3 +1,4 @@
+pub mod Agent
 pub mod Header
 pub mod Read
 pub mod Reading

@@ -1,0 +1,4 @@
+//! The server: which circuit a datagram is of, and what that circuit's server answers.
+#![tactic(auto)]
+
+mod addressee;
