@@ -38,6 +38,12 @@ host_is_given prefix address host = by_test (is_unspecified address.0) refl
     by_test false same = refl
     by_test true same = absurd (host.not_first (ap (λ n. n % 2 ^ (32 - prefix)) (unspecified_is_zero address same) ∙ zero-mod (2 ^ (32 - prefix))))
 
+-- each circuit's gateway is given
+pub gateway_is_given : (settings : Settings) (c : ℕ) (circuit : CircuitConfig)
+    → slice_get settings.circuits c ≡ Some circuit → IsSound settings → is_unspecified circuit.gateway4.0 ≡ false
+gateway_is_given settings c circuit there sound =
+    host_is_given circuit.prefix4 circuit.gateway4 (all_at IsOnSubnet settings.circuits c circuit there sound.rules.subnets).gateway4
+
 source_there : (relays : List RelayConfig) (n : ℕ) (relay : RelayConfig) → slice_get relays n ≡ Some relay → source_at relays n ≡ relay.source
 source_there [] n relay there = absurd cc
 source_there (r ∷ rs) zero relay there = let same : r ≡ relay = cc in ap (λ x. x.source) same
@@ -55,14 +61,15 @@ part_there settings c circuit copy relay server duid there behind copied servers
 
 -- a part of a configuration keeps what the circuit's values keep
 pub is_part : (settings : Settings) (c : ℕ) (circuit copy : CircuitConfig) (relay listen4 listen6 : Source) (duid : List ℕ)
-    → slice_get settings.circuits c ≡ Some circuit → copy ≡ circuit → IsWithinLimits settings.relays circuit → IsSound settings
+    → slice_get settings.circuits c ≡ Some circuit → copy ≡ circuit → IsWithinLimits settings.relays circuit → IsSound settings → length circuit.gateway4.0 ≡ 4
     → IsPart (part_of copy relay listen4 listen6 duid)
-is_part settings c circuit copy relay listen4 listen6 duid there copied limits sound =
+is_part settings c circuit copy relay listen4 listen6 duid there copied limits sound size =
     let P : CircuitConfig → Type 0 = λ x. IsPart (part_of x relay listen4 listen6 duid) in
     subst P (sym copied) (record {
       id = limits.id;
       pool4 = record { least = limits.least_count4; most = limits.most_count4; no_wrap = limits.no_wrap4; shortest = limits.least_lease; longest = limits.most_lease };
-      gateway4 = host_is_given circuit.prefix4 circuit.gateway4 (all_at IsOnSubnet settings.circuits c circuit there sound.rules.subnets).gateway4;
+      gateway4_size = size;
+      gateway4 = gateway_is_given settings c circuit there sound;
     })
 
 -- one part more

@@ -1,6 +1,6 @@
 -- One circuit's part of a configuration: all that its relay and its server know of it. Neither the
 -- circuit's index nor its relay's is in it, so the same circuit at another index has the same part.
-use Rattle.std.specs.Prelude.{◌≡◌, ℕ, zero, suc, List, [], ◌∷◌, map, slice_get, Option, false}
+use Rattle.std.specs.Prelude.{◌≡◌, ℕ, zero, suc, List, [], ◌∷◌, length, map, slice_get, Option, false}
 use Rattle.types.specs.Addr.{is_unspecified}
 use Rattle.types.specs.Pool4.{IsPool4}
 use Rattle.types.specs.CircuitId.{IsCircuitId}
@@ -71,4 +71,5 @@ part_in settings c = slice_get (parts_of settings) c
 pub record IsPart (part : CircuitPart) : Type 0 where
   pub id : IsCircuitId part.id
   pub pool4 : IsPool4 part.first4 part.count4 part.lease
+  pub gateway4_size : length part.gateway4.0 ≡ 4
   pub gateway4 : is_unspecified part.gateway4.0 ≡ false

@@ -2,7 +2,7 @@
 ghost use Rattle.std.specs.Prelude.{◌≡◌, ◌<◌, length, false, take, Some, IfOk};
 ghost use Rattle.types.specs.Addr.{is_unspecified};
 ghost use Rattle.types.specs.Pool4.{IsPool4};
-ghost use Rattle.config.specs.CircuitPart.{part_in, parts_of};
+ghost use Rattle.config.specs.CircuitPart.{IsPart, part_in, parts_of};
 
 use crate::config::Config;
 use crate::limits::MAX_DNS;
@@ -37,13 +37,15 @@ impl CircuitPart {
     /// The part of a circuit of the configuration.
     pub fn of(config: &Config, circuit: Circuit) -> CircuitPart
         requires { circuit < length config.now.circuits }
-        ensures { part_in config.now circuit ≡ Some result }
+        ensures value { part_in config.now circuit ≡ Some result }
+        ensures sound { IsPart result }
     {
         let values = config.at(circuit);
         let Some(relay) = config.relay(values.relay) else {
             unreachable!()
         };
         let server = config.server();
+        prove!(!values.gateway4.is_unspecified());
         CircuitPart {
             circuit: values.copy(),
             relay: relay.source,

@@ -1,1 +1,2 @@
 pub mod Addressee
+pub mod Request

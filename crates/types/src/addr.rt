@@ -1,5 +1,5 @@
 //! Addresses of both protocols, and where a datagram came from.
-ghost use Rattle.std.specs.Prelude.{◌≡◌, ◌<◌, ◌^◌};
+ghost use Rattle.std.specs.Prelude.{◌≡◌, ◌<◌, ◌^◌, length};
 ghost use Rattle.types.specs.Addr.{number4, addr4, number6, is_unspecified};
 
 /// An IPv4 address, its first byte first.
@@ -23,7 +23,8 @@ impl Addr4 {
 
     /// Whether this is 0.0.0.0.
     pub fn is_unspecified(self) -> bool
-        ensures { result ≡ is_unspecified self.0 }
+        ensures value { result ≡ is_unspecified self.0 }
+        ensures size { length self.0 ≡ 4 }
     {
         self.0 == [0; 4]
     }
