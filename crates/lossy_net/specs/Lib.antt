@@ -1,0 +1,3 @@
+pub mod Net
+pub mod Ring
+pub mod Layout

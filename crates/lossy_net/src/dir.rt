@@ -1,0 +1,10 @@
+//! Where a datagram goes.
+
+/// The direction of a datagram.
+#[derive(Clone, Copy, Debug, PartialEq, Eq)]
+pub enum Dir {
+    /// Towards the server.
+    Up,
+    /// Towards the relay.
+    Down,
+}

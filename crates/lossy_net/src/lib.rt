@@ -1,0 +1,15 @@
+//! The network between relay and server: for each circuit and direction the datagrams that were sent
+//! last.
+#![tactic(auto)]
+
+mod dir;
+mod memory;
+mod net;
+mod packet;
+mod ring;
+#[cfg(test)]
+mod tests;
+
+pub use dir::Dir;
+pub use memory::Memory;
+pub use net::{MAX_QUOTA, Net};
