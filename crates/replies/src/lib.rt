@@ -1,0 +1,9 @@
+//! The server's DHCPv4 replies (RFC 2131, section 4.3.1): their bytes, from what was decided, the
+//! request and the circuit's part of the configuration.
+#![tactic(auto)]
+
+mod reply4;
+#[cfg(test)]
+mod tests;
+
+pub use reply4::write4;
