@@ -1,4 +1,4 @@
--- Lists with an option less, and with one more.
+-- Lists without an option, and with one more.
 use Rattle.std.proofs.Common.{◌≡◌, ◌≢◌, ℕ, Bool, true, false, cond, eqb, List, [], ◌∷◌, ◌++◌, Option, Some, None, refl, sym, ap, ◌∙◌, append_assoc}
 use Rattle.std.proofs.lemmas.Bool.{eqb-true, eqb-false, ne_eqb, eq-eqb}
 use Rattle.v4_options.specs.declared.code.TheConstants.{PAD, END}

@@ -1,4 +1,4 @@
--- How long a list is that is written: no longer than what it was read from.
+-- A written list is no longer than the bytes that it was read from.
 use Rattle.std.proofs.Common.{◌≡◌, ℕ, ◌+◌, ◌≤◌, Bool, true, false, cond, eqb, List, [], ◌∷◌, ◌++◌, length, ap, arith}
 use Rattle.std.proofs.lemmas.List.{length-append}
 use Rattle.v4_options.specs.declared.code.TheConstants.{END}

@@ -1,10 +1,9 @@
 pub mod Steps
-pub mod Places
+pub mod Tokens
 pub mod Distinct
 pub mod Fronts
+pub mod Results
 pub mod Exact
 pub mod Left
-pub mod Substeps
-pub mod Subplaces
 pub mod Subexact
 pub mod Lengths

@@ -1,8 +1,8 @@
--- What the options of a list give one after the other.
+-- One step through the options of a list.
 use Rattle.std.specs.Prelude.{◌≡◌, ℕ, ◌<◌, List, [], ◌∷◌, length, Option, None, Some}
 use Rattle.std.specs.Borrow.{Bor}
 
--- The first option is given, whose value is as long as a byte can say, or there is none left.
+-- The step takes the first option, whose value has fewer than 256 bytes; `None` where none is left.
 abbrev pub GivesOption : List (ℕ × List ℕ) → Option (ℕ × Bor (List ℕ)) → List (ℕ × List ℕ) → Type 0
 GivesOption old None new = (old ≡ []) × (new ≡ [])
 GivesOption old (Some o) new = (old ≡ (o.0, o.1.now) ∷ new) × (length o.1.now < 256)

@@ -8,7 +8,7 @@ use Rattle.v4_options.specs.declared.fault.OptFault.TheVariants.{NoEnd, Cut, Twi
 abbrev pub option : ℕ → List ℕ → List ℕ
 option code value = code ∷ length value ∷ value
 
--- The bytes of a list are those of its options, one behind the other.
+-- The bytes of a list are those of its options, concatenated.
 abbrev pub spelling : List (ℕ × List ℕ) → List ℕ
 spelling [] = []
 spelling (o ∷ os) = option o.0 o.1 ++ spelling os
@@ -23,12 +23,12 @@ abbrev pub without : ℕ → List (ℕ × List ℕ) → List (ℕ × List ℕ)
 without code [] = []
 without code (o ∷ os) = if o.0 == code then without code os else o ∷ without code os
 
--- The codes are neither the pad's nor the end's, and none comes again.
+-- No code is the pad or the end, and none appears twice.
 abbrev pub AreOptions : List (ℕ × List ℕ) → Type 0
 AreOptions [] = Unit {0}
 AreOptions (o ∷ os) = (o.0 ≢ PAD) × (o.0 ≢ END) × (look_up o.0 os ≡ None) × AreOptions os
 
--- A front is a row of pieces, each a pad or a whole option.
+-- A front is a list of pieces, each a pad or a whole option.
 pub data Piece : Type 0 where
   Pad : Piece
   Whole : ℕ → List ℕ → Piece
@@ -44,8 +44,8 @@ options [] = []
 options (Pad ∷ pieces) = options pieces
 options (Whole code value ∷ pieces) = (code, value) ∷ options pieces
 
--- Bytes spell a list where they are a front with distinct codes, an end and any rest, and the list
--- is the front's options.
+-- Bytes spell a list if they are a front with distinct codes, an end and any rest, and the list is the
+-- front's options.
 pub record Spells (bytes : List ℕ) (list : List (ℕ × List ℕ)) : Type 0 where
   pub front : List Piece
   pub rest : List ℕ
@@ -53,7 +53,7 @@ pub record Spells (bytes : List ℕ) (list : List (ℕ × List ℕ)) : Type 0 wh
   pub distinct : AreOptions (options front)
   pub in_order : list ≡ options front
 
--- Behind a code comes no length, or one that goes past the last byte.
+-- The bytes after a code have no length, or one that goes past the last byte.
 abbrev pub IsShort : List ℕ → Type 0
 IsShort [] = Unit {0}
 IsShort (len ∷ bytes) = length bytes < len
@@ -65,7 +65,7 @@ Stops NoEnd list rest = rest ≡ []
 Stops Cut list rest = (code : ℕ) × (bytes : List ℕ) × (rest ≡ code ∷ bytes) × (code ≢ PAD) × (code ≢ END) × IsShort bytes
 Stops Twice list rest = (code : ℕ) × (value : List ℕ) × (more : List ℕ) × (rest ≡ option code value ++ more) × (code ≢ PAD) × (code ≢ END) × IsSome (look_up code list)
 
--- Bytes have a fault where they are a front with distinct codes and what can follow it for that fault.
+-- Bytes have a fault if they are a front with distinct codes and then what that fault says.
 pub record Fails (fault : OptFault) (bytes : List ℕ) : Type 0 where
   pub front : List Piece
   pub rest : List ℕ

@@ -8,14 +8,14 @@ ghost use Rattle.v4_options.specs.Spelling.{spelling, look_up, without, AreOptio
 ghost use Rattle.v4_options.specs.Suboptions.{AreDistinct, SpellsSuboptions, FailsSuboptions};
 ghost use Rattle.v4_options.specs.Subreading.{suboptions_of};
 
-/// What was written reads again to the same list, whatever follows its end option.
+/// A list that was written reads back as the same list, whatever bytes follow its end option.
 pub fn written_is_read()
     ensures read { (list : List (ℕ × List ℕ)) (rest : List ℕ) → AreOptions list → options_of (spelling list ++ END ∷ rest) ≡ Ok list }
     ensures spelled { (list : List (ℕ × List ℕ)) (rest : List ℕ) → AreOptions list → Spells (spelling list ++ END ∷ rest) list }
 {}
 
-/// Bytes spell at most one list, have at most one fault, and never both. Lists that are spelled have
-/// distinct codes.
+/// Bytes spell at most one list, have at most one fault, and never both. The codes of a spelled list
+/// are distinct.
 pub fn one_reading()
     ensures list { (bytes : List ℕ) (a : List (ℕ × List ℕ)) (b : List (ℕ × List ℕ)) → Spells bytes a → Spells bytes b → a ≡ b }
     ensures fault { (bytes : List ℕ) (a : OptFault) (b : OptFault) → Fails a bytes → Fails b bytes → a ≡ b }
@@ -23,16 +23,16 @@ pub fn one_reading()
     ensures distinct { (bytes : List ℕ) (list : List (ℕ × List ℕ)) → Spells bytes list → AreOptions list }
 {}
 
-/// A list from which a code is left out has no option of that code, has each other one as it was, and
-/// has distinct codes where they were distinct.
+/// Leaving out a code removes its option, keeps every other option, and keeps distinct codes
+/// distinct.
 pub fn left_out()
     ensures gone { (code : ℕ) (list : List (ℕ × List ℕ)) → look_up code (without code list) ≡ None }
     ensures others { (code : ℕ) (other : ℕ) (list : List (ℕ × List ℕ)) → other ≢ code → look_up other (without code list) ≡ look_up other list }
     ensures distinct { (code : ℕ) (list : List (ℕ × List ℕ)) → AreOptions list → AreOptions (without code list) }
 {}
 
-/// An option behind a list has its bytes behind the list's, and keeps the codes distinct where its code
-/// is new. It is found by its code, and each other option as before.
+/// The bytes of two concatenated lists are their bytes, concatenated. A new option at the end of a list
+/// keeps the codes distinct; it is found by its code, and every other option as before.
 pub fn appended()
     ensures bytes { (a : List (ℕ × List ℕ)) (b : List (ℕ × List ℕ)) → spelling (a ++ b) ≡ spelling a ++ spelling b }
     ensures distinct { (list : List (ℕ × List ℕ)) (code : ℕ) (value : List ℕ) → code ≢ PAD → code ≢ END → look_up code list ≡ None → AreOptions list → AreOptions (list ++ (code, value) ∷ []) }
@@ -40,7 +40,7 @@ pub fn appended()
     ensures others { (list : List (ℕ × List ℕ)) (code : ℕ) (other : ℕ) (value : List ℕ) → other ≢ code → look_up other (list ++ (code, value) ∷ []) ≡ look_up other list }
 {}
 
-/// Suboptions that were written read again to the same list.
+/// Suboptions that were written read back as the same list.
 pub fn subwritten_is_read()
     ensures read { (list : List (ℕ × List ℕ)) → AreDistinct list → suboptions_of (spelling list) ≡ Ok list }
     ensures spelled { (list : List (ℕ × List ℕ)) → AreDistinct list → SpellsSuboptions (spelling list) list }

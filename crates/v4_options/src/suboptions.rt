@@ -4,12 +4,12 @@ ghost use Rattle.v4_options.specs.Spelling.{look_up};
 ghost use Rattle.v4_options.specs.Suboptions.{SpellsSuboptions, FailsSuboptions};
 ghost use Rattle.v4_options.specs.Subreading.{first_subfault, suboptions_of};
 
-use crate::codes::Codes;
-use crate::fault::SuboptFault;
-use crate::subplace::{SubPlace, sub_place_at};
+use crate::fault::{OptFault, SuboptFault, fault_in};
+use crate::iter::Iter;
+use crate::token::Syntax;
 use std::marker::Model;
 
-/// A list of suboptions as it was read. What it gives are slices of the source.
+/// A list of suboptions in the bytes that it was read from. Its values are slices of those bytes.
 #[derive(Debug, Drop)]
 pub struct Suboptions<'a> {
     bytes: &'a [u8],
@@ -25,7 +25,7 @@ impl<'a> Model for Suboptions<'a> {
 }
 
 impl<'a> Suboptions<'a> {
-    /// The suboptions of an option's value, up to its last byte.
+    /// The suboptions in an option's value. All of its bytes are read.
     pub fn read(bytes: &'a [u8]) -> Result<Suboptions<'a>, SuboptFault>
         ensures exact { result ≡ suboptions_of bytes.now }
         ensures spelled { (list : List (ℕ × List ℕ)) → result ≡ Ok list ↔ SpellsSuboptions bytes.now list }
@@ -37,44 +37,21 @@ impl<'a> Suboptions<'a> {
         }
     }
 
-    /// The value of the suboption with this code.
-    #[tactic(auto, using(crate::proofs::Subplaces::sublisted_is))]
+    /// The value of the suboption with this code, `None` where there is none.
     pub fn get(&self, code: u8) -> Option<&'a [u8]>
         ensures { option_map (λ value. value.now) result ≡ look_up code self.now }
     {
-        let mut rest = self.bytes;
-        'row: loop {
-            match sub_place_at(rest) {
-                SubPlace::Nothing => return None,
-                SubPlace::Cut => return None,
-                SubPlace::Whole(other, value, after) => {
-                    if other == code {
-                        return Some(value);
-                    }
-                    rest = after;
-                }
-            }
-        }
+        Iter::new(self.bytes, Syntax::Suboptions).value_of(code)
     }
 }
 
-/// The first fault from the left.
+/// The first fault from the left. The list ends with its bytes, so a missing end is no fault.
 fn subfault_in(bytes: &[u8]) -> Option<SuboptFault>
     ensures { result ≡ first_subfault bytes.now }
 {
-    let mut seen = Codes::new();
-    let mut rest = bytes;
-    'row: loop {
-        match sub_place_at(rest) {
-            SubPlace::Nothing => return None,
-            SubPlace::Cut => return Some(SuboptFault::Cut),
-            SubPlace::Whole(code, _, after) => {
-                if seen.has(code) {
-                    return Some(SuboptFault::Twice);
-                }
-                seen.add(code);
-                rest = after;
-            }
-        }
+    match fault_in(bytes, Syntax::Suboptions) {
+        None | Some(OptFault::NoEnd) => None,
+        Some(OptFault::Cut) => Some(SuboptFault::Cut),
+        Some(OptFault::Twice) => Some(SuboptFault::Twice),
     }
 }

@@ -15,7 +15,7 @@ fn subfault(bytes: &[u8]) -> Option<SuboptFault> {
     }
 }
 
-/// So many bytes, and no others.
+/// Replaces the contents by `len` bytes.
 fn fill(out: &mut PacketBuf, len: usize) {
     out.clear();
     for _ in 0..len {
@@ -27,7 +27,7 @@ fn fill(out: &mut PacketBuf, len: usize) {
 
 #[test]
 #[rattlefmt::skip]
-fn the_first_fault_is_told(rt: HostRuntime) {
+fn the_first_fault_is_reported(rt: HostRuntime) {
     let rows: [(&[u8], Option<OptFault>); 15] = [
         (&[], Some(OptFault::NoEnd)),
         (&[0, 0], Some(OptFault::NoEnd)),
@@ -36,15 +36,15 @@ fn the_first_fault_is_told(rt: HostRuntime) {
         (&[53, 1], Some(OptFault::Cut)),
         (&[12, 3, 255, 255], Some(OptFault::Cut)),
         (&[53, 1, 1, 53, 1, 1, 255], Some(OptFault::Twice)),
-        // at one place a cut is found before a repeat
+        // one option that is both cut off and repeated is cut off
         (&[53, 1, 1, 53, 2, 1], Some(OptFault::Cut)),
-        // of two places the left one decides
+        // the leftmost option decides
         (&[53, 1, 1, 53, 1, 1, 12, 9], Some(OptFault::Twice)),
         (&[12, 9, 53, 1, 1, 53, 1, 1], Some(OptFault::Cut)),
         (&[255], None),
         (&[80, 0, 255], None),
         (&[0, 53, 1, 1, 0, 0, 61, 2, 0, 0, 0, 255], None),
-        // nothing is read behind the end
+        // the bytes after the end are ignored
         (&[53, 1, 1, 255, 53, 1, 1, 12, 9], None),
         (&[12, 1, 255, 255], None),
     ];
@@ -74,6 +74,7 @@ fn options_in_order(rt: HostRuntime) {
     assert_eq!(rt; iter.next(), Some((61, [0, 7].as_slice())));
     assert_eq!(rt; iter.next(), Some((80, [].as_slice())));
     assert_eq!(rt; iter.next(), Some((53, [3].as_slice())));
+    assert_eq!(rt; iter.next(), None);
     assert_eq!(rt; iter.next(), None);
 }
 
@@ -180,11 +181,11 @@ fn suboptions(rt: HostRuntime) {
 }
 
 #[test]
-fn faults_have_words(rt: HostRuntime) -> Result<(), std::test::Fail> {
-    let words = format!(in rt.alloc(); "{}; {}", OptFault::Twice, SuboptFault::Cut)?;
+fn faults_have_texts(rt: HostRuntime) -> Result<(), std::test::Fail> {
+    let texts = format!(in rt.alloc(); "{}; {}", OptFault::Twice, SuboptFault::Cut)?;
     assert_eq!(rt;
-        words.as_str(),
-        "an option comes twice; a suboption is cut off"
+        texts.as_str(),
+        "an option appears twice; a suboption is cut off"
     );
     Ok(())
 }

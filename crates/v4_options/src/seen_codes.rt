@@ -1,18 +1,18 @@
-//! The codes that were met so far.
+//! The codes that a reader has met.
 ghost use Rattle.std.specs.Prelude.{◌≡◌};
 ghost use Rattle.v4_options.specs.Reading.{has_code, no_code, with_code};
 
 /// A set of codes.
 #[derive(Debug, Drop)]
-pub(crate) struct Codes {
+pub(crate) struct SeenCodes {
     flags: [bool; 256],
 }
 
-impl Codes {
-    pub(crate) fn new() -> Codes
+impl SeenCodes {
+    pub(crate) fn new() -> SeenCodes
         ensures { has_code result.flags ≡ no_code }
     {
-        Codes {
+        SeenCodes {
             flags: [false; 256],
         }
     }
