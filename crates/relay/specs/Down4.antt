@@ -1,6 +1,5 @@
--- What a relay makes of a DHCPv4 datagram from the server, for one circuit and for all of them.
-use Rattle.std.specs.Prelude.{ℕ, Bool, false, not, ◌&&◌, ◌||◌, ◌==◌, nat_lt, List, length, take, Option, Some, None, option_map, slice_get, Result, Ok, Err, if◌then◌else◌, bit_and}
-use Rattle.std.specs.List.{position}
+-- What a relay makes of a DHCPv4 datagram from the server, for one circuit.
+use Rattle.std.specs.Prelude.{ℕ, Bool, false, not, ◌&&◌, ◌||◌, ◌==◌, nat_lt, List, length, take, Option, Some, None, option_map, Result, Ok, Err, if◌then◌else◌, bit_and}
 use Rattle.std.specs.Str.{bytes_eq}
 use Rattle.types.specs.Addr.{is_unspecified}
 use Rattle.types.specs.declared.addr.Source.{Source}
@@ -44,19 +43,42 @@ without_agent_information m = record {
   bytes = padded_to 300 (message_bytes (record m { options = without RELAY_AGENT_INFORMATION m.options }));
 }
 
--- A reply for one circuit, by what its option 82 holds: the first line that fits.
-abbrev pub reply_relayed_down : CircuitPart → MessageValue → Option (Result (List (ℕ × List ℕ)) SuboptFault) → Result SentFrame Discard
-reply_relayed_down part m None = Err reason.UnknownCircuitDown
-reply_relayed_down part m (Some (Err fault)) = Err reason.MalformedDown
-reply_relayed_down part m (Some (Ok suboptions)) =
-    if not (is_value part.id (look_up CIRCUIT_ID suboptions)) then Err reason.UnknownCircuitDown
-    else if not (bytes_eq m.header.giaddr part.gateway4.0) then Err reason.WrongLinkDown
-    else Ok (without_agent_information m)
+-- ---- the steps, each with what it refuses
 
-abbrev pub message_relayed_down : CircuitPart → Result MessageValue MessageFault → Result SentFrame Discard
-message_relayed_down part (Err fault) = Err reason.MalformedDown
-message_relayed_down part (Ok m) = if not (m.header.op == 2) then Err reason.MalformedDown else reply_relayed_down part m (agent_of m)
+-- the first step that refuses decides
+infixl 10 ◌>>=◌
+abbrev pub ◌>>=◌ : {A B : Type 0} → Result A Discard → (A → Result B Discard) → Result B Discard
+Ok x >>= next = next x
+Err why >>= next = Err why
 
--- A datagram of at most 1280 bytes, from the server to the circuit's relay: the frame, or why there is none.
+abbrev pub message_in_reply : Result MessageValue MessageFault → Result MessageValue Discard
+message_in_reply (Err fault) = Err reason.MalformedDown
+message_in_reply (Ok m) = if m.header.op == 2 then Ok m else Err reason.MalformedDown
+
+-- the message of a datagram of at most 1280 bytes, which has to be a server's (BOOTREPLY)
+unfoldable pub reply_of : List ℕ → Result MessageValue Discard
+reply_of datagram = if nat_lt 1280 (length datagram) then Err reason.MalformedDown else message_in_reply (message_of datagram)
+
+-- the suboptions, by what option 82 holds
+abbrev pub suboptions_in : Option (Result (List (ℕ × List ℕ)) SuboptFault) → Result (List (ℕ × List ℕ)) Discard
+suboptions_in None = Err reason.UnknownCircuitDown
+suboptions_in (Some (Err fault)) = Err reason.MalformedDown
+suboptions_in (Some (Ok suboptions)) = Ok suboptions
+
+-- whether the circuit has exactly the id in option 82 (RFC 3046, section 3.1)
+abbrev pub is_named : List (ℕ × List ℕ) → CircuitPart → Bool
+is_named suboptions part = is_value part.id (look_up CIRCUIT_ID suboptions)
+
+-- giaddr has to be the circuit's gateway
+abbrev pub reply_on_link : CircuitPart → MessageValue → Result SentFrame Discard
+reply_on_link part m = if bytes_eq m.header.giaddr part.gateway4.0 then Ok (without_agent_information m) else Err reason.WrongLinkDown
+
+abbrev pub reply_to_circuit : CircuitPart → MessageValue → List (ℕ × List ℕ) → Result SentFrame Discard
+reply_to_circuit part m suboptions = if is_named suboptions part then reply_on_link part m else Err reason.UnknownCircuitDown
+
+-- A datagram from the server to the circuit's relay: the frame, or why there is none.
 unfoldable pub relayed_down4 : CircuitPart → List ℕ → Result SentFrame Discard
-relayed_down4 part datagram = if nat_lt 1280 (length datagram) then Err reason.MalformedDown else message_relayed_down part (message_of datagram)
+relayed_down4 part datagram = do
+  m ← reply_of datagram
+  suboptions ← suboptions_in (agent_of m)
+  reply_to_circuit part m suboptions

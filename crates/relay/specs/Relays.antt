@@ -1,23 +1,17 @@
 -- The relays of a configuration with all their circuits, in both protocols.
-use Rattle.std.specs.Prelude.{ℕ, ◌+◌, min, Bool, false, not, nat_lt, List, length, map, Option, Some, None, slice_get, slice_index, slice_set, Result, Ok, Err, ◌==◌, if◌then◌else◌}
+use Rattle.std.specs.Prelude.{ℕ, ◌+◌, min, Bool, false, List, map, Option, Some, None, slice_get, slice_index, slice_set, Result, Ok, Err, if◌then◌else◌}
 use Rattle.std.specs.List.{position}
-use Rattle.std.specs.Str.{bytes_eq}
 use Rattle.types.specs.declared.addr.Source.{Source}
 use Rattle.types.specs.declared.dest.Proto.{Proto}
 use Rattle.types.specs.declared.dest.Proto.TheVariants.{V4}
 use Rattle.types.specs.declared.discard.Discard.{Discard}
 use Rattle.types.specs.declared.discard.Discard.TheVariants as reason
-use Rattle.v4_options.specs.declared.code.TheConstants.{CIRCUIT_ID}
-use Rattle.v4_options.specs.declared.fault.SuboptFault.{SuboptFault}
-use Rattle.v4_options.specs.Spelling.{look_up}
-use Rattle.v4_message.specs.declared.fault.MessageFault.{MessageFault}
-use Rattle.v4_message.specs.Reading.{message_of}
 use Rattle.v4_message.specs.Spelling.{MessageValue}
 use Rattle.config.specs.CircuitPart.{CircuitPart, parts_of}
 use Rattle.config.specs.Rules.{Settings}
 use Rattle.relay.specs.SentFrame.{SentFrame}
 use Rattle.relay.specs.Up4.{relayed_up4}
-use Rattle.relay.specs.Down4.{agent_of, is_value, same_source, reply_relayed_down, relayed_down4}
+use Rattle.relay.specs.Down4.{◌>>=◌, agent_of, is_named, same_source, reply_of, suboptions_in, reply_on_link, relayed_down4}
 
 -- A client's frame in one circuit: the datagram for the server, or why there is none.
 abbrev pub relayed_up : CircuitPart → Proto → List ℕ → Result (List ℕ) Discard
@@ -59,34 +53,28 @@ abbrev pub is_behind : Option Source → CircuitPart → Bool
 is_behind None part = false
 is_behind (Some relay) part = same_source relay part.relay
 
--- a reply to the circuit that was found, which has to be one of this relay's
-abbrev pub reply_to_found : Topology → ℕ → MessageValue → List (ℕ × List ℕ) → ℕ → Option CircuitPart → Result CircuitFrame Discard
-reply_to_found topology relay m suboptions c None = Err reason.UnknownCircuitDown
-reply_to_found topology relay m suboptions c (Some part) =
-    if is_behind (slice_get topology.relays relay) part then for_circuit c (reply_relayed_down part m (Some (Ok suboptions)))
-    else Err reason.UnknownCircuitDown
+-- the circuit that was found has to be one of this relay's
+abbrev pub reply_to_found : Topology → ℕ → MessageValue → ℕ → Option CircuitPart → Result CircuitFrame Discard
+reply_to_found topology relay m c None = Err reason.UnknownCircuitDown
+reply_to_found topology relay m c (Some part) =
+    if is_behind (slice_get topology.relays relay) part then for_circuit c (reply_on_link part m) else Err reason.UnknownCircuitDown
 
-abbrev pub reply_at_index : Topology → ℕ → MessageValue → List (ℕ × List ℕ) → Option ℕ → Result CircuitFrame Discard
-reply_at_index topology relay m suboptions None = Err reason.UnknownCircuitDown
-reply_at_index topology relay m suboptions (Some c) = reply_to_found topology relay m suboptions c (slice_get topology.circuits c)
+abbrev pub reply_at_index : Topology → ℕ → MessageValue → Option ℕ → Result CircuitFrame Discard
+reply_at_index topology relay m None = Err reason.UnknownCircuitDown
+reply_at_index topology relay m (Some c) = reply_to_found topology relay m c (slice_get topology.circuits c)
 
--- the circuit has exactly the id in option 82
-abbrev pub reply_to_circuit : Topology → ℕ → MessageValue → Option (Result (List (ℕ × List ℕ)) SuboptFault) → Result CircuitFrame Discard
-reply_to_circuit topology relay m None = Err reason.UnknownCircuitDown
-reply_to_circuit topology relay m (Some (Err fault)) = Err reason.MalformedDown
-reply_to_circuit topology relay m (Some (Ok suboptions)) =
-    reply_at_index topology relay m suboptions (position (λ part. is_value part.id (look_up CIRCUIT_ID suboptions)) topology.circuits)
+-- A DHCPv4 datagram at the relay of this index: the circuit and its frame, or why there is none.
+unfoldable pub relayed_down4_in : Topology → ℕ → List ℕ → Result CircuitFrame Discard
+relayed_down4_in topology relay datagram = do
+  m ← reply_of datagram
+  suboptions ← suboptions_in (agent_of m)
+  reply_at_index topology relay m (position (is_named suboptions) topology.circuits)
 
-abbrev pub message_to_circuit : Topology → ℕ → Result MessageValue MessageFault → Result CircuitFrame Discard
-message_to_circuit topology relay (Err fault) = Err reason.MalformedDown
-message_to_circuit topology relay (Ok m) = if not (m.header.op == 2) then Err reason.MalformedDown else reply_to_circuit topology relay m (agent_of m)
-
--- A datagram at the relay of this index, from this source: the circuit and its frame, or the first
--- reason why there is none. Nothing from the server's DHCPv6 address is readable yet.
+-- A datagram at the relay of this index, from this source, which decides the protocol: the circuit and
+-- its frame, or why there is none. Nothing from the server's DHCPv6 address is readable yet.
 unfoldable pub relayed_down_in : Topology → ℕ → Source → List ℕ → Result CircuitFrame Discard
 relayed_down_in topology relay source datagram =
-    if same_source source topology.listen4 then
-    (if nat_lt 1280 (length datagram) then Err reason.MalformedDown else message_to_circuit topology relay (message_of datagram))
+    if same_source source topology.listen4 then relayed_down4_in topology relay datagram
     else if same_source source topology.listen6 then Err reason.MalformedDown
     else Err reason.NotServer
 

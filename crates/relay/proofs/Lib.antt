@@ -1,0 +1,3 @@
+pub mod RelayLemmas
+pub mod RelaysLemmas
+pub mod AllLemmas

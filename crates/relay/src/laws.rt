@@ -1,0 +1,21 @@
+//! Laws of the definitions alone: all circuits together do what each does alone.
+ghost use Rattle.std.specs.Prelude.{◌≡◌, ℕ, List, [], ◌∷◌, Some, Ok, slice_get};
+ghost use Rattle.types.specs.declared.addr.Source.{Source};
+ghost use Rattle.types.specs.declared.dest.Proto.TheVariants.{V4};
+ghost use Rattle.config.specs.CircuitPart.{CircuitPart};
+ghost use Rattle.relay.specs.Relays.{CircuitFrame, Topology, for_circuit, relayed_down, relayed_down_in};
+
+/// A frame for a circuit is the one that the circuit's own part makes of the datagram.
+pub fn agrees()
+    ensures { (topology : Topology) (relay : ℕ) (source : Source) (datagram : List ℕ) (frame : CircuitFrame) (part : CircuitPart)
+        → relayed_down_in topology relay source datagram ≡ Ok frame → slice_get topology.circuits frame.circuit ≡ Some part
+        → relayed_down part V4 datagram ≡ Ok frame.frame }
+{}
+
+/// Where there is one circuit, its relay makes of the server's datagrams what the circuit's own part
+/// does.
+pub fn only_circuit()
+    ensures { (topology : Topology) (relay : ℕ) (source : Source) (datagram : List ℕ) (part : CircuitPart)
+        → topology.circuits ≡ part ∷ [] → slice_get topology.relays relay ≡ Some part.relay → source ≡ topology.listen4
+        → relayed_down_in topology relay source datagram ≡ for_circuit 0 (relayed_down part V4 datagram) }
+{}

@@ -1,0 +1,228 @@
+//! All relays of a configuration.
+ghost use Rattle.std.specs.Prelude.{◌≡◌, ◌≤◌, ◌<◌, [], length, map, replicate, Ok, Err, Some, IfOk, IfErr, OnOk, OnErr, slice_get};
+ghost use Rattle.std.specs.List.{position};
+ghost use Rattle.std.specs.Str.{bytes_eq};
+ghost use Rattle.config.specs.CircuitPart as parts;
+ghost use Rattle.relay.specs.Down4.{is_named, same_source};
+ghost use Rattle.relay.specs.Relays.{one_more, relayed_down_in, relayed_down4_in, relayed_up, topology_of};
+
+use crate::down4::{read_reply, read_suboptions, relay_down4};
+use crate::up4::relay_up4;
+use config::{CircuitPart, Config};
+use std::alloc::{AllocError, Global};
+use std::marker::Model;
+use thiserror::Error;
+use types::{Circuit, Dest, Discard, Proto, RelayNo, Source};
+use v4_options::{Suboptions, code};
+use wire::PacketBuf;
+
+/// The relays could not be given the memory that they need.
+#[derive(Clone, Copy, Debug, PartialEq, Eq, Error)]
+#[error("out of memory")]
+pub struct Memory;
+
+/// The relays of a configuration: a copy of what they need of it, and a counter for each circuit.
+#[derive(Debug, Drop)]
+pub struct Relays {
+    listen4: Source,
+    listen6: Source,
+    sources: Vec<Source>,
+    circuits: Vec<CircuitPart>,
+    discarded: Vec<u32>,
+}
+
+impl Model for Relays {
+    ghost use Rattle.std.specs.Prelude.{◌≡◌, ◌≤◌, length};
+    ghost use Rattle.relay.specs.Relays.{RelaysValue};
+
+    ghost Value = { RelaysValue };
+
+    ghost view = { λ r. record { topology = record { listen4 = r.listen4; listen6 = r.listen6; relays = r.sources.items; circuits = r.circuits.items }; discarded = r.discarded.items } };
+
+    ghost invariant = { λ r. (length r.discarded.items ≡ length r.circuits.items) × (length r.circuits.items ≤ 1024) };
+}
+
+impl Relays {
+    /// The relays of a configuration. All memory that they need is taken here.
+    pub fn new(alloc: Global, config: &Config) -> Result<Relays, Memory>
+        ensures topology { IfOk result (λ relays. relays.topology ≡ topology_of config.now) }
+        ensures discarded { IfOk result (λ relays. relays.discarded ≡ replicate (length config.now.circuits) 0) }
+    {
+        Relays::of(alloc, config).map_err(|_| Memory)
+    }
+
+    fn of(alloc: Global, config: &Config) -> Result<Relays, AllocError>
+        ensures topology { IfOk result (λ relays. relays.topology ≡ topology_of config.now) }
+        ensures discarded { IfOk result (λ relays. relays.discarded ≡ replicate (length config.now.circuits) 0) }
+    {
+        let server = config.server();
+        let sources = sources_of(alloc, config)?;
+        let circuits = CircuitPart::all_of(alloc, config)?;
+        let discarded = vec![in alloc; 0; config.circuit_count()]?;
+        Ok(Relays {
+            listen4: server.listen4,
+            listen6: server.listen6,
+            sources,
+            circuits,
+            discarded,
+        })
+    }
+
+    /// What the relay of a circuit makes of a client's frame there: the datagram for the server is in
+    /// `out`, or the frame is discarded and counted.
+    pub fn up(
+        &mut self,
+        circuit: Circuit,
+        proto: Proto,
+        frame: &[u8],
+        out: &mut PacketBuf,
+    ) -> Result<(), Discard>
+        requires { circuit < length self.old.topology.circuits }
+        ensures ok { OnOk result ((part : parts.CircuitPart) → slice_get self.old.topology.circuits circuit ≡ Some part → relayed_up part proto frame.now ≡ Ok out.new) }
+        ensures err { IfErr result (λ why. (part : parts.CircuitPart) → slice_get self.old.topology.circuits circuit ≡ Some part → relayed_up part proto frame.now ≡ Err why) }
+        ensures empty { OnErr result (out.new ≡ []) }
+        ensures kept { OnOk result (self.new ≡ self.old) }
+        ensures counted { OnErr result (self.new ≡ record self.old { discarded = one_more circuit self.old.discarded }) }
+    {
+        match relay_up(self.part(circuit), proto, frame, out) {
+            Ok(()) => Ok(()),
+            Err(why) => {
+                self.count_discarded(circuit);
+                Err(why)
+            }
+        }
+    }
+
+    /// One more frame of a circuit was discarded. The counter stays at its greatest value.
+    fn count_discarded(&mut self, circuit: Circuit)
+        requires { circuit < length self.old.topology.circuits }
+        ensures { self.new ≡ record self.old { discarded = one_more circuit self.old.discarded } }
+    {
+        let count = &mut self.discarded[circuit.index()];
+        *count = count.saturating_add(1);
+    }
+
+    /// What a relay makes of a datagram from this source: the frame is in `out`, with the circuit that
+    /// it is for and where it goes there, or why there is none.
+    pub fn down(
+        &self,
+        relay: RelayNo,
+        source: Source,
+        bytes: &[u8],
+        out: &mut PacketBuf,
+    ) -> Result<(Circuit, Dest), Discard>
+        requires { relay < length self.now.topology.relays }
+        ensures ok { IfOk result (λ sent. relayed_down_in self.now.topology relay source bytes.now ≡ Ok (record { circuit = sent.0; frame = record { dest = sent.1; bytes = out.new } })) }
+        ensures err { IfErr result (λ why. relayed_down_in self.now.topology relay source bytes.now ≡ Err why) }
+        ensures empty { OnErr result (out.new ≡ []) }
+        ensures exists { IfOk result (λ sent. sent.0 < length self.now.topology.circuits) }
+    {
+        out.clear();
+        if source == self.listen4 {
+            return self.down4(relay, bytes, out);
+        }
+        if source == self.listen6 {
+            return Err(Discard::MalformedDown);
+        }
+        Err(Discard::NotServer)
+    }
+
+    /// The same for a datagram from the server's DHCPv4 address.
+    fn down4(
+        &self,
+        relay: RelayNo,
+        datagram: &[u8],
+        out: &mut PacketBuf,
+    ) -> Result<(Circuit, Dest), Discard>
+        requires relay { relay < length self.now.topology.relays }
+        requires empty { out.old ≡ [] }
+        ensures ok { IfOk result (λ sent. relayed_down4_in self.now.topology relay datagram.now ≡ Ok (record { circuit = sent.0; frame = record { dest = sent.1; bytes = out.new } })) }
+        ensures err { IfErr result (λ why. relayed_down4_in self.now.topology relay datagram.now ≡ Err why) }
+        ensures empty { OnErr result (out.new ≡ []) }
+        ensures exists { IfOk result (λ sent. sent.0 < length self.now.topology.circuits) }
+    {
+        let reply = read_reply(datagram)?;
+        let suboptions = read_suboptions(&reply)?;
+        let Some(circuit) = self.circuit_named(&suboptions) else {
+            return Err(Discard::UnknownCircuitDown);
+        };
+        let part = self.part(circuit);
+        if self.source(relay) != part.relay() {
+            return Err(Discard::UnknownCircuitDown);
+        }
+        let dest = relay_down4(part, &reply, out)?;
+        Ok((circuit, dest))
+    }
+
+    /// The circuit with exactly the id in option 82.
+    fn circuit_named(&self, suboptions: &Suboptions<'_>) -> Option<Circuit>
+        ensures { result ≡ position (is_named suboptions.now) self.now.topology.circuits }
+    {
+        let id = suboptions.get(code::CIRCUIT_ID)?;
+        let index = index_of(&self.circuits, id)?;
+        Circuit::new(index)
+    }
+
+    fn part(&self, circuit: Circuit) -> &CircuitPart
+        requires { circuit < length self.now.topology.circuits }
+        ensures { slice_get self.now.topology.circuits circuit ≡ Some result.now }
+    {
+        &self.circuits[circuit.index()]
+    }
+
+    /// Where the datagrams of a relay come from.
+    fn source(&self, relay: RelayNo) -> Source
+        requires { relay < length self.now.topology.relays }
+        ensures { slice_get self.now.topology.relays relay ≡ Some result }
+    {
+        self.sources[relay.index()]
+    }
+
+    /// How many frames of a circuit were discarded, at most 4294967295.
+    pub fn discarded(&self, circuit: Circuit) -> u32
+        requires { circuit < length self.now.topology.circuits }
+        ensures { slice_get self.now.discarded circuit ≡ Some result }
+    {
+        self.discarded[circuit.index()]
+    }
+}
+
+/// The index of the first circuit with exactly this id.
+fn index_of(circuits: &[CircuitPart], id: &[u8]) -> Option<usize>
+    ensures { result ≡ position (λ part. bytes_eq id.now part.id) circuits.now }
+{
+    circuits.iter().position(|part| id == part.id().as_bytes())
+}
+
+/// Where the datagrams of each relay come from, in the order of the configuration.
+fn sources_of(alloc: Global, config: &Config) -> Result<Vec<Source>, AllocError>
+    ensures { IfOk result (λ sources. sources.items ≡ map (λ relay. relay.source) config.now.relays) }
+{
+    let mut sources = Vec::with_capacity(alloc, config.relay_count())?;
+    'relays: for index in 0..config.relay_count() {
+        let Some(no) = RelayNo::new(index) else {
+            unreachable!()
+        };
+        let Some(relay) = config.relay(no) else {
+            unreachable!()
+        };
+        sources.push(relay.source)?;
+    }
+    Ok(sources)
+}
+
+/// What one circuit's relay makes of a frame, in its protocol.
+fn relay_up(
+    part: &CircuitPart,
+    proto: Proto,
+    frame: &[u8],
+    out: &mut PacketBuf,
+) -> Result<(), Discard>
+    ensures ok { OnOk result (relayed_up part.now proto frame.now ≡ Ok out.new) }
+    ensures err { IfErr result (λ why. relayed_up part.now proto frame.now ≡ Err why) }
+    ensures empty { OnErr result (out.new ≡ []) }
+{
+    match proto {
+        Proto::V4 => relay_up4(part, frame, out),
+    }
+}
