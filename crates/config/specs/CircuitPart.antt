@@ -2,7 +2,7 @@
 -- circuit's index nor its relay's is in it, so the same circuit at another index has the same part.
 use Rattle.std.specs.Prelude.{◌≡◌, ℕ, zero, suc, List, [], ◌∷◌, length, map, slice_get, Option, false}
 use Rattle.types.specs.Addr.{is_unspecified}
-use Rattle.types.specs.Pool4.{IsPool4}
+use Rattle.types.specs.Pool4.{IsPool4, PoolValue}
 use Rattle.types.specs.CircuitId.{IsCircuitId}
 use Rattle.types.specs.declared.addr.Addr4.{Addr4}
 use Rattle.types.specs.declared.addr.Source.{Source}
@@ -66,6 +66,9 @@ parts_of settings =
 -- the part of the circuit of this index
 abbrev pub part_in : Settings → ℕ → Option CircuitPart
 part_in settings c = slice_get (parts_of settings) c
+
+abbrev pub pool4_of : CircuitPart → PoolValue
+pool4_of part = record { first = part.first4; count = part.count4; gateway = part.gateway4; lease = part.lease }
 
 -- What a part has of the configuration's rules. Its gateway is a host of its subnet, so it is not 0.0.0.0.
 pub record IsPart (part : CircuitPart) : Type 0 where

@@ -2,7 +2,7 @@
 ghost use Rattle.std.specs.Prelude.{◌≡◌, ◌<◌, length, false, take, Some, IfOk};
 ghost use Rattle.types.specs.Addr.{is_unspecified};
 ghost use Rattle.types.specs.Pool4.{IsPool4};
-ghost use Rattle.config.specs.CircuitPart.{IsPart, part_in, parts_of};
+ghost use Rattle.config.specs.CircuitPart.{IsPart, part_in, parts_of, pool4_of};
 
 use crate::config::Config;
 use crate::limits::MAX_DNS;
@@ -125,16 +125,16 @@ impl CircuitPart {
     }
 
     pub fn pool4(&self) -> Pool4
-        ensures first { result.first ≡ self.now.first4 }
-        ensures count { result.count ≡ self.now.count4 }
-        ensures gateway { result.gateway ≡ self.now.gateway4 }
-        ensures lease { result.lease ≡ self.now.lease }
+        ensures { result ≡ pool4_of self.now }
     {
-        Pool4 {
-            first: self.circuit.first4,
-            count: self.circuit.count4,
-            gateway: self.circuit.gateway4,
-            lease: self.circuit.lease,
-        }
+        let values = &self.circuit;
+        let pool = Pool4::new(
+            values.first4,
+            values.count4,
+            values.gateway4,
+            values.lease,
+        );
+        let Some(pool) = pool else { unreachable!() };
+        pool
     }
 }

@@ -1,1 +1,2 @@
 pub mod AddresseeLemmas
+pub mod ReceivedLemmas

@@ -1,2 +1,5 @@
 pub mod Addressee
+pub mod Received
 pub mod Request
+pub mod Server
+pub mod ServerValue

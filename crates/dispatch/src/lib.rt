@@ -3,3 +3,6 @@
 
 mod addressee;
 mod request;
+mod server;
+
+pub use server::Server;

@@ -1,4 +1,4 @@
--- The limits of a DHCPv4 pool.
+-- A DHCPv4 pool and its limits.
 use Rattle.std.specs.Prelude.{ℕ, ◌+◌, ◌^◌, ◌≤◌}
 use Rattle.types.specs.declared.addr.Addr4.{Addr4}
 use Rattle.types.specs.declared.pool4.TheConstants.{MAX_POOL, MIN_LEASE, MAX_LEASE}
@@ -12,3 +12,10 @@ pub record IsPool4 (first : Addr4) (count lease : ℕ) : Type 0 where
   pub no_wrap : number4 first + count ≤ 2 ^ 32
   pub shortest : MIN_LEASE ≤ lease
   pub longest : lease ≤ MAX_LEASE
+
+-- the values of a pool
+pub record PoolValue : Type 0 where
+  pub first : Addr4
+  pub count : ℕ
+  pub gateway : Addr4
+  pub lease : ℕ

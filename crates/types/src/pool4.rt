@@ -4,6 +4,7 @@ ghost use Rattle.types.specs.Addr.{number4};
 ghost use Rattle.types.specs.Pool4.{IsPool4};
 
 use crate::addr::Addr4;
+use std::marker::Model;
 
 /// The most addresses of a pool.
 pub const MAX_POOL: usize = 16;
@@ -18,11 +19,22 @@ pub const MAX_LEASE: u32 = 604_800;
 /// gateway, and the lease time, 60 to 604800 seconds.
 #[derive(Clone, Copy, Debug, PartialEq, Eq)]
 pub struct Pool4 {
-    pub first: Addr4,
-    pub count: u8,
-    pub gateway: Addr4,
-    pub lease: u32,
-    pub ghost within: { IsPool4 first count lease },
+    first: Addr4,
+    count: u8,
+    gateway: Addr4,
+    lease: u32,
+}
+
+impl Model for Pool4 {
+    ghost use Rattle.types.specs.Pool4.{IsPool4, PoolValue};
+
+    ghost Value = { PoolValue };
+
+    ghost view = { λ p. record { first = p.first; count = p.count; gateway = p.gateway; lease = p.lease } };
+
+    ghost invariant = { λ p. IsPool4 p.first p.count p.lease };
+
+    ghost inverse = { λ v. record { first = v.first; count = v.count; gateway = v.gateway; lease = v.lease } };
 }
 
 impl Pool4 {
@@ -47,6 +59,36 @@ impl Pool4 {
             gateway,
             lease,
         })
+    }
+
+    /// The lowest address.
+    pub fn first(self) -> Addr4
+        ensures value { result ≡ self.first }
+        ensures within { IsPool4 self.first self.count self.lease }
+    {
+        self.first
+    }
+
+    /// The number of addresses, 1 to 16.
+    pub fn count(self) -> u8
+        ensures value { result ≡ self.count }
+        ensures within { IsPool4 self.first self.count self.lease }
+    {
+        self.count
+    }
+
+    pub fn gateway(self) -> Addr4
+        ensures { result ≡ self.gateway }
+    {
+        self.gateway
+    }
+
+    /// The lease time in seconds, 60 to 604800.
+    pub fn lease(self) -> u32
+        ensures value { result ≡ self.lease }
+        ensures within { IsPool4 self.first self.count self.lease }
+    {
+        self.lease
     }
 
     /// The address of this slot of the pool, 0 the lowest; `None` past the pool's end.

@@ -1,49 +1,41 @@
--- The only place of a world that was just opened stands for its machine at the start.
-use Rattle.std.proofs.Common.{◌≡◌, ℕ, zero, suc, ◌+◌, ◌≤◌, List, [], ◌∷◌, length, replicate, refl, sym, ap, ◌∙◌, arith}
+-- The state of a world that was just opened represents its machine at the start.
+use Rattle.std.proofs.Common.{◌≡◌, ℕ, zero, suc, ◌≤◌, List, [], ◌∷◌, length, map, refl, sym, ap, ◌∙◌, arith}
 use Rattle.std.specs.Prelude.{Some, None, slice_get}
-use Rattle.std.specs.FinMap.{from_entries, empty}
-use Rattle.types.specs.Addr.{number4}
+use Rattle.std.proofs.lemmas.List.{length-map}
+use Rattle.config.specs.CircuitPart.{CircuitPart, part_of, source_at, part_in, parts_of}
 use Rattle.config.specs.Rules.{Settings}
 use Rattle.world.specs.Alone.{start}
-use Rattle.world.specs.CircuitPart.{CircuitPart}
-use Rattle.world.specs.Headline.{Stands}
-use Rattle.world.specs.Places.{entries_of, shown}
-use Rattle.world.specs.Start.{Starts, part_in, with_circuit}
-use Rattle.world.specs.World.{WorldValue, datagrams, place_of, places}
+use Rattle.world.specs.Headline.{Represents}
+use Rattle.world.specs.Start.{Starts}
+use Rattle.world.specs.StepsAs.{machine_of}
+use Rattle.world.specs.World.{WorldValue, state_of, states}
 
-nothing_held : (t a n : ℕ) → entries_of t a (replicate n None) ≡ []
-nothing_held t a zero = refl
-nothing_held t a (suc n) = nothing_held t (a + 1) n
-
-empty_book : (first count : ℕ) → shown 0 first (replicate count None) ≡ start.book
-empty_book first count = λ i. record { clock = 0; bindings = empty; offers = from_entries (nothing_held 0 first count i); bars = empty }
-
--- there is no circuit behind the only one
+-- a list of one element has no other
 none_behind : {T : Type 0} (xs : List T) (c : ℕ) → length xs ≤ 1 → slice_get xs (suc c) ≡ None
 none_behind [] c h = refl
 none_behind (x ∷ []) c h = refl
 none_behind (x ∷ y ∷ xs) c h = absurd (omega (arith, h))
 
 pub starts : (settings : Settings) (quota : ℕ) (part : CircuitPart) (w : WorldValue) → 1 ≤ length settings.circuits → length settings.circuits ≤ 1
-    → part_in settings quota 0 ≡ Some part → w.server.part ≡ part → w.server.clock ≡ 0 → w.server.offers ≡ replicate part.count4 None → w.up ≡ [] → w.down ≡ []
-    → Starts settings quota (places w)
-starts settings quota part w some few is same clock offers up down = record {
+    → part_in settings 0 ≡ Some part → w.server.part ≡ part → w.net.quota ≡ quota → machine_of (state_of w) ≡ start
+    → Starts settings quota (states w)
+starts settings quota part w some few is same quotas begins = record {
   count = omega (arith, some, few);
-  each = λ c own there. at c own there;
+  each = λ c other there. at c other there;
 }
   where
-    at : (c : ℕ) (own : CircuitPart) → part_in settings quota c ≡ Some own → Stands c (places w) own start
-    at zero own there =
-        let own_is : part ≡ own = let h : Some part ≡ Some own = sym is ∙ there in cc in
+    at : (c : ℕ) (other : CircuitPart) → part_in settings c ≡ Some other → Represents c (states w) (record { part = other; quota = quota }) start
+    at zero other there =
+        let part_is : part ≡ other = let h : Some part ≡ Some other = sym is ∙ there in cc in
         record {
-          place = place_of w;
+          state = state_of w;
           there = refl;
-          part = same ∙ own_is;
-          up = ap datagrams up;
-          down = ap datagrams down;
-          book = (λ i. shown (clock i) (number4 w.server.part.first4) (offers i)) ∙ empty_book (number4 w.server.part.first4) part.count4;
+          setup_is = λ i. record { part = (same ∙ part_is) i; quota = quotas i };
+          up = ap (λ a. a.up) begins;
+          down = ap (λ a. a.down) begins;
+          book = ap (λ a. a.book) begins;
         }
-    at (suc c) own there =
-        let none : part_in settings quota (suc c) ≡ None = ap (with_circuit settings quota) (none_behind settings.circuits c few) in
-        let h : Some own ≡ None = sym there ∙ none in
+    at (suc c) other there =
+        let none : part_in settings (suc c) ≡ None = none_behind (parts_of settings) c (omega (arith, few, length-map settings.circuits (λ circuit. part_of circuit (source_at settings.relays circuit.relay) settings.server.listen4 settings.server.listen6 settings.server.duid.items))) in
+        let h : Some other ≡ None = sym there ∙ none in
         absurd cc

@@ -1,174 +1,178 @@
--- What happens at the place of a world of one circuit, as its machine's step.
+-- What an event does to the state of the one circuit, as its machine's step.
 use Rattle.std.proofs.Common.{◌≡◌, ℕ, zero, suc, List, [], ◌∷◌, length, take, refl, sym, ap, subst, ◌∙◌}
 use Rattle.std.specs.Prelude.{Option, Some, None, Result, Ok, Err, slice_get}
 use Rattle.types.specs.declared.dest.Dest.{Dest}
-use Rattle.types.specs.declared.dest.Proto.TheVariants.{V4}
+use Rattle.types.specs.declared.dest.Proto.{Proto}
 use Rattle.types.specs.declared.discard.Discard.{Discard}
-use Rattle.world.specs.Addressee.{addressee}
-use Rattle.world.specs.Alone.{Alone, Datagram, Step, Done, alone_step, relayed, served, by_kind, by_row, answered, delivered_up, delivered_down, framed, asked_of}
-use Rattle.world.specs.Answer.{answer}
-use Rattle.world.specs.Book.{Book, book_at}
-use Rattle.world.specs.CircuitPart.{CircuitPart}
-use Rattle.world.specs.Dispatch.{ServerValue, IsAnswered, IsReceived, book_of}
+use Rattle.config.specs.CircuitPart.{CircuitPart}
+use Rattle.dispatch.specs.Addressee.{addressee}
+use Rattle.dispatch.specs.Received.{IsAnswer, received, addressee_served}
+use Rattle.dispatch.specs.Server.{Book, Served, book_at, served}
+use Rattle.dispatch.specs.ServerValue.{ServerValue, book_of}
+use Rattle.lossy_net.specs.Net.{Datagram, NetValue, datagrams}
+use Rattle.lossy_net.specs.declared.dir.Dir.TheVariants as dir
+use Rattle.relay.specs.Relays.{relayed_up, relayed_down}
+use Rattle.world.specs.Alone.{Setup, Alone, Step, Done, alone_step, frame_step, up_step, answer_step, down_step, reply_step}
 use Rattle.world.specs.Headline.{IsOutcome}
-use Rattle.world.specs.Relay.{relayed_up, relayed_down}
-use Rattle.world.specs.Reply.{reply_bytes}
 use Rattle.world.specs.Seen.{Seen, Frame, Up, Down, Tick}
-use Rattle.world.specs.World.{WorldValue, Moves, IsOwn, AreOwn, datagrams, place_of, machine_of}
+use Rattle.world.specs.StepsAs.{StepsAs, AreAddressed, machine_of}
+use Rattle.world.specs.World.{WorldValue, state_of}
 use Rattle.world.specs.declared.outcome.Outcome.{Outcome}
 use Rattle.world.specs.declared.outcome.Outcome.TheVariants as outcome
 
-abbrev of_bytes : List ℕ → Datagram
-of_bytes bytes = record { proto = V4; bytes = bytes }
+addressed_at : (part : CircuitPart) (j : ℕ) (ds : List Datagram) (d : Datagram) → AreAddressed part ds → slice_get ds j ≡ Some d
+    → addressee (part.relay ∷ []) (part ∷ []) part.relay d.bytes ≡ Ok 0
+addressed_at part j [] d all h = absurd cc
+addressed_at part zero (x ∷ ds) d all h =
+    let same : x ≡ d = cc in
+    let P : Datagram → Type 0 = λ y. addressee (part.relay ∷ []) (part ∷ []) part.relay y.bytes ≡ Ok 0 in
+    subst P same all.0
+addressed_at part (suc j) (x ∷ ds) d all h = addressed_at part j ds d all.1 h
 
-datagrams-take : (n : ℕ) (xs : List (List ℕ)) → datagrams (take n xs) ≡ take n (datagrams xs)
-datagrams-take zero xs = refl
-datagrams-take (suc n) [] = refl
-datagrams-take (suc n) (x ∷ xs) = ap (λ ds. record { proto = V4; bytes = x } ∷ ds) (datagrams-take n xs)
-
-none_kept : (j : ℕ) (xs : List (List ℕ)) → slice_get xs j ≡ None → slice_get (datagrams xs) j ≡ None
-none_kept j [] h = refl
-none_kept zero (x ∷ xs) h = absurd cc
-none_kept (suc j) (x ∷ xs) h = none_kept j xs h
-
-one_kept : (j : ℕ) (xs : List (List ℕ)) (bytes : List ℕ) → slice_get xs j ≡ Some bytes → slice_get (datagrams xs) j ≡ Some (record { proto = V4; bytes = bytes })
-one_kept j [] bytes h = absurd cc
-one_kept zero (x ∷ xs) bytes h = let same : x ≡ bytes = cc in ap (λ b. Some (record { proto = V4; bytes = b })) same
-one_kept (suc j) (x ∷ xs) bytes h = one_kept j xs bytes h
-
-own_at : (own : CircuitPart) (j : ℕ) (xs : List (List ℕ)) (bytes : List ℕ) → AreOwn own xs → slice_get xs j ≡ Some bytes → IsOwn own bytes
-own_at own j [] bytes all h = absurd cc
-own_at own zero (x ∷ xs) bytes all h = let same : x ≡ bytes = cc in let P : List ℕ → Type 0 = IsOwn own in subst P same all.0
-own_at own (suc j) (x ∷ xs) bytes all h = own_at own j xs bytes all.1 h
-
-pub own_take : (own : CircuitPart) (n : ℕ) (xs : List (List ℕ)) → AreOwn own xs → AreOwn own (take n xs)
-own_take own zero xs all = tt
-own_take own (suc n) [] all = tt
-own_take own (suc n) (x ∷ xs) all = (all.0, own_take own n xs all.1)
+pub addressed_take : (part : CircuitPart) (n : ℕ) (ds : List Datagram) → AreAddressed part ds → AreAddressed part (take n ds)
+addressed_take part zero ds all = tt
+addressed_take part (suc n) [] all = tt
+addressed_take part (suc n) (d ∷ ds) all = (all.0, addressed_take part n ds all.1)
 
 -- a step that is known
 abbrev IsStep : WorldValue → Seen → Step → Type 0
-IsStep w s step = alone_step w.server.part s (machine_of (place_of w)) ≡ step
+IsStep w s step = alone_step (state_of w).setup s (machine_of (state_of w)) ≡ step
 
-moves_by : (c : ℕ) (s : Seen) (w new : WorldValue) (o : Outcome) (out : List ℕ) (step : Step) → IsStep w s step → new.server.part ≡ w.server.part
-    → machine_of (place_of new) ≡ step.next → IsOutcome c step.effect o out → Moves c s (place_of w) (place_of new) o out
-moves_by c s w new o out step is part next outcome =
+steps_by : (c : ℕ) (s : Seen) (w new : WorldValue) (o : Outcome) (out : List ℕ) (step : Step) → IsStep w s step → (state_of new).setup ≡ (state_of w).setup
+    → machine_of (state_of new) ≡ step.next → IsOutcome c step.effect o out → StepsAs c s (state_of w) (state_of new) o out
+steps_by c s w new o out step is setup next outcome =
     let P : Step → Type 0 = λ st. IsOutcome c st.effect o out in
-    record { part = part; next = next ∙ ap (λ st. st.next) (sym is); outcome = subst P (sym is) outcome }
+    record { setup = setup; next = next ∙ ap (λ st. st.next) (sym is); outcome = subst P (sym is) outcome }
+
+same_setup : (w new : WorldValue) → new.server.part ≡ w.server.part → new.net.quota ≡ w.net.quota → (state_of new).setup ≡ (state_of w).setup
+same_setup w new part quota = λ i. record { part = part i; quota = quota i }
 
 -- ---- a frame at the relay
 
-frame_is : (own : CircuitPart) (a : Alone) (frame : List ℕ) (r : Result (List ℕ) Discard) → relayed_up own frame ≡ r → alone_step own (Frame V4 frame) a ≡ relayed own a r
+frame_is : (setup : Setup) (a : Alone) (proto : Proto) (frame : List ℕ) (r : Result (List ℕ) Discard) → relayed_up setup.part proto frame ≡ r
+    → alone_step setup (Frame proto frame) a ≡ frame_step setup a proto r
 unfolding alone_step
-frame_is own a frame r is = ap (relayed own a) is
+frame_is setup a proto frame r is = ap (frame_step setup a proto) is
 
-pub frame_sent : (w : WorldValue) (frame bytes : List ℕ) (ups : List (List ℕ)) (len : ℕ) (out : List ℕ)
-    → relayed_up w.server.part frame ≡ Ok bytes → ups ≡ take w.server.part.quota (bytes ∷ w.up) → len ≡ length bytes → out ≡ []
-    → Moves 0 (Frame V4 frame) (place_of w) (place_of (record { server = w.server; up = ups; down = w.down; disk = w.disk })) (outcome.SentUp len) out
-frame_sent w frame bytes ups len out sent kept size empty =
-    let all = ap datagrams kept ∙ datagrams-take w.server.part.quota (bytes ∷ w.up) in
-    moves_by 0 (Frame V4 frame) w (record { server = w.server; up = ups; down = w.down; disk = w.disk }) (outcome.SentUp len) out _ (frame_is w.server.part (machine_of (place_of w)) frame (Ok bytes) sent) refl
-    (λ i. record { up = all i; down = datagrams w.down; book = book_of w.server }) (ap outcome.SentUp size, empty)
+-- only the relay's counters and the network may differ
+pub frame_sent : (w new : WorldValue) (proto : Proto) (frame bytes : List ℕ) (len : ℕ) (out : List ℕ)
+    → relayed_up w.server.part proto frame ≡ Ok bytes → new.server ≡ w.server → new.net.quota ≡ w.net.quota
+    → datagrams new.net 0 dir.Up ≡ take w.net.quota (record { proto = proto; bytes = bytes } ∷ datagrams w.net 0 dir.Up)
+    → datagrams new.net 0 dir.Down ≡ datagrams w.net 0 dir.Down → len ≡ length bytes → out ≡ []
+    → StepsAs 0 (Frame proto frame) (state_of w) (state_of new) (outcome.SentUp len) out
+frame_sent w new proto frame bytes len out sent server quota kept others size empty =
+    steps_by 0 (Frame proto frame) w new (outcome.SentUp len) out _ (frame_is (state_of w).setup (machine_of (state_of w)) proto frame (Ok bytes) sent)
+    (same_setup w new (ap (λ s. s.part) server) quota)
+    (λ i. record { up = kept i; down = others i; book = book_of (server i) }) (ap outcome.SentUp size, empty)
 
-pub frame_dropped : (w : WorldValue) (frame : List ℕ) (why : Discard) (out : List ℕ) → relayed_up w.server.part frame ≡ Err why → out ≡ []
-    → Moves 0 (Frame V4 frame) (place_of w) (place_of w) (outcome.Dropped why) out
-frame_dropped w frame why out dropped empty =
-    moves_by 0 (Frame V4 frame) w w (outcome.Dropped why) out _ (frame_is w.server.part (machine_of (place_of w)) frame (Err why) dropped) refl refl (refl, empty)
+pub frame_dropped : (w new : WorldValue) (proto : Proto) (frame : List ℕ) (why : Discard) (out : List ℕ)
+    → relayed_up w.server.part proto frame ≡ Err why → new.server ≡ w.server → new.net ≡ w.net → out ≡ []
+    → StepsAs 0 (Frame proto frame) (state_of w) (state_of new) (outcome.Dropped why) out
+frame_dropped w new proto frame why out dropped server net empty =
+    steps_by 0 (Frame proto frame) w new (outcome.Dropped why) out _ (frame_is (state_of w).setup (machine_of (state_of w)) proto frame (Err why) dropped)
+    (same_setup w new (ap (λ s. s.part) server) (ap (λ n. n.quota) net))
+    (λ i. record { up = datagrams (net i) 0 dir.Up; down = datagrams (net i) 0 dir.Down; book = book_of (server i) }) (refl, empty)
 
 -- ---- a datagram at the server
 
-up_is : (own : CircuitPart) (a : Alone) (j now fault : ℕ) (d : Option Datagram) → slice_get a.up j ≡ d → alone_step own (Up j now fault) a ≡ delivered_up own now a d
+up_is : (setup : Setup) (a : Alone) (j now fault : ℕ) (d : Option Datagram) → slice_get a.up j ≡ d → alone_step setup (Up j now fault) a ≡ up_step setup now a d
 unfolding alone_step
-up_is own a j now fault d is = ap (delivered_up own now a) is
+up_is setup a j now fault d is = ap (up_step setup now a) is
 
-pub up_gone : (w : WorldValue) (j now fault : ℕ) (out : List ℕ) → slice_get w.up j ≡ None → out ≡ []
-    → Moves 0 (Up j now fault) (place_of w) (place_of w) outcome.Gone out
+pub up_gone : (w : WorldValue) (j now fault : ℕ) (out : List ℕ) → slice_get (datagrams w.net 0 dir.Up) j ≡ None → out ≡ []
+    → StepsAs 0 (Up j now fault) (state_of w) (state_of w) outcome.Gone out
 up_gone w j now fault out none empty =
-    moves_by 0 (Up j now fault) w w outcome.Gone out _ (up_is w.server.part (machine_of (place_of w)) j now fault None (none_kept j w.up none)) refl refl (refl, empty)
+    steps_by 0 (Up j now fault) w w outcome.Gone out _ (up_is (state_of w).setup (machine_of (state_of w)) j now fault None none) refl refl (refl, empty)
 
--- what is kept is the circuit's own, so that it is answered
-pub answered_by : (own : CircuitPart) (ups : List (List ℕ)) (j now : ℕ) (bytes : List ℕ) (old new : ServerValue) (result : Result (Unit {0}) Discard) (reply : List ℕ)
-    → slice_get ups j ≡ Some bytes → AreOwn own ups
-    → IsReceived own now bytes (book_of old) (addressee (own.relay ∷ []) (own ∷ []) own.relay bytes) result reply (book_of new)
-    → IsAnswered own (book_at now (book_of old)) bytes result reply (book_of new)
-answered_by own ups j now bytes old new result reply there all received =
-    let P : Result ℕ Discard → Type 0 = λ judgement. IsReceived own now bytes (book_of old) judgement result reply (book_of new) in
-    subst P (own_at own j ups bytes all there) received
+-- what is kept is the circuit's own, so its server serves it
+served_own : (w : WorldValue) (j now : ℕ) (d : Datagram) → slice_get (datagrams w.net 0 dir.Up) j ≡ Some d → AreAddressed w.server.part (datagrams w.net 0 dir.Up)
+    → received w.server.part now w.server.part.relay d.bytes (book_of w.server) ≡ served w.server.part now d.bytes (book_of w.server)
+served_own w j now d there all =
+    ap (addressee_served w.server.part now d.bytes (book_of w.server)) (addressed_at w.server.part j (datagrams w.net 0 dir.Up) d all there)
 
--- the step of a datagram that is answered by a row of the table
-answered_is : (own : CircuitPart) (a : Alone) (j now fault : ℕ) (bytes : List ℕ) (result : Result (Unit {0}) Discard) (reply : List ℕ) (b : Book)
-    → slice_get a.up j ≡ Some (of_bytes bytes) → (h : IsAnswered own (book_at now a.book) bytes result reply b)
-    → alone_step own (Up j now fault) a ≡ by_row own h.message (record a { book = book_at now a.book }) (answer own (book_at now a.book) (asked_of h.message h.kind))
-answered_is own a j now fault bytes result reply b there h =
-    let later : Alone = record a { book = book_at now a.book } in
-    up_is own a j now fault (Some (of_bytes bytes)) there
-    ∙ ap (served own later) h.read
-    ∙ ap (by_kind own h.message later) h.known
+is_reply : (r : Result (List ℕ) Discard) (out : List ℕ) → IsAnswer r (Ok tt) out → r ≡ Ok out
+is_reply (Ok bytes) out h = ap Ok (sym h.1)
+is_reply (Err why) out h = let e : Ok tt ≡ Err why = h.0 in absurd cc
 
-pub up_sent : (w : WorldValue) (server : ServerValue) (j now fault : ℕ) (bytes reply : List ℕ) (downs : List (List ℕ)) (len : ℕ) (out : List ℕ)
-    → slice_get w.up j ≡ Some bytes → AreOwn w.server.part w.up → server.part ≡ w.server.part
-    → IsReceived w.server.part now bytes (book_of w.server) (addressee (w.server.part.relay ∷ []) (w.server.part ∷ []) w.server.part.relay bytes) (Ok tt) reply (book_of server)
-    → downs ≡ take w.server.part.quota (reply ∷ w.down) → len ≡ length reply → out ≡ []
-    → Moves 0 (Up j now fault) (place_of w) (place_of (record { server = server; up = w.up; down = downs; disk = w.disk })) (outcome.SentDown len) out
-up_sent w server j now fault bytes reply downs len out there all same received kept size empty =
-    let own = w.server.part in
-    let a = machine_of (place_of w) in
-    let h = answered_by own w.up j now bytes w.server server (Ok tt) reply there all received in
-    let later : Alone = record a { book = book_at now a.book } in
-    let row = answer own (book_at now a.book) (asked_of h.message h.kind) in
-    let is = answered_is own a j now fault bytes (Ok tt) reply (book_of server) (one_kept j w.up bytes there) h
-    ∙ (λ i. answered own h.message later (h.row.0 i) (h.row.1.1 i)) in
-    let written : reply_bytes own h.message h.row.1.0 ≡ reply = sym h.row.1.2 in
-    let all_down = ap datagrams kept ∙ datagrams-take own.quota (reply ∷ w.down) ∙ ap (λ b. take own.quota (of_bytes b ∷ datagrams w.down)) (sym written) in
-    moves_by 0 (Up j now fault) w (record { server = server; up = w.up; down = downs; disk = w.disk }) (outcome.SentDown len) out _ is same
-    (λ i. record { up = datagrams w.up; down = all_down i; book = book_of server }) (ap outcome.SentDown (size ∙ ap length (sym written)), empty)
+is_drop : (r : Result (List ℕ) Discard) (why : Discard) (out : List ℕ) → IsAnswer r (Err why) out → (r ≡ Err why) × (out ≡ [])
+is_drop (Ok bytes) why out h = let e : Err why ≡ Ok tt = h.0 in absurd cc
+is_drop (Err other) why out h = let same : why ≡ other = let e : Err why ≡ Err other = h.0 in cc in (ap Err (sym same), h.1)
 
-pub up_dropped : (w : WorldValue) (server : ServerValue) (j now fault : ℕ) (bytes reply : List ℕ) (why : Discard)
-    → slice_get w.up j ≡ Some bytes → AreOwn w.server.part w.up → server.part ≡ w.server.part
-    → IsReceived w.server.part now bytes (book_of w.server) (addressee (w.server.part.relay ∷ []) (w.server.part ∷ []) w.server.part.relay bytes) (Err why) reply (book_of server)
-    → Moves 0 (Up j now fault) (place_of w) (place_of (record { server = server; up = w.up; down = w.down; disk = w.disk })) (outcome.Dropped why) reply
-up_dropped w server j now fault bytes reply why there all same received =
-    let own = w.server.part in
-    let a = machine_of (place_of w) in
-    let h = answered_by own w.up j now bytes w.server server (Err why) reply there all received in
-    let later : Alone = record a { book = book_at now a.book } in
-    let is = answered_is own a j now fault bytes (Err why) reply (book_of server) (one_kept j w.up bytes there) h
-    ∙ (λ i. answered own h.message later (h.row.0 i) (h.row.1 i)) in
-    moves_by 0 (Up j now fault) w (record { server = server; up = w.up; down = w.down; disk = w.disk }) (outcome.Dropped why) reply _ is same refl (refl, h.empty)
+module _ (w new : WorldValue) (j now fault : ℕ) (d : Datagram) (result : Result (Unit {0}) Discard) (reply : List ℕ)
+    (there : slice_get (datagrams w.net 0 dir.Up) j ≡ Some d) (all : AreAddressed w.server.part (datagrams w.net 0 dir.Up))
+    (answer : IsAnswer (received w.server.part now w.server.part.relay d.bytes (book_of w.server)).answer result reply)
+    (book : book_of new.server ≡ (received w.server.part now w.server.part.relay d.bytes (book_of w.server)).book)
+    (part : new.server.part ≡ w.server.part) (quota : new.net.quota ≡ w.net.quota)
+    (ups : datagrams new.net 0 dir.Up ≡ datagrams w.net 0 dir.Up) where
+
+  abbrev result_of : Served
+  result_of = served w.server.part now d.bytes (book_of w.server)
+
+  its_answer : IsAnswer result_of.answer result reply
+  its_answer =
+      let P : Served → Type 0 = λ s. IsAnswer s.answer result reply in
+      subst P (served_own w j now d there all) answer
+
+  its_book : book_of new.server ≡ result_of.book
+  its_book = book ∙ ap (λ s. s.book) (served_own w j now d there all)
+
+  its_step : alone_step (state_of w).setup (Up j now fault) (machine_of (state_of w)) ≡ answer_step (state_of w).setup (machine_of (state_of w)) d.proto result_of.book result_of.answer
+  its_step = up_is (state_of w).setup (machine_of (state_of w)) j now fault (Some d) there
+
+  pub up_sent : (len : ℕ) (out : List ℕ) → result ≡ Ok tt
+      → datagrams new.net 0 dir.Down ≡ take w.net.quota (record { proto = d.proto; bytes = reply } ∷ datagrams w.net 0 dir.Down) → len ≡ length reply → out ≡ []
+      → StepsAs 0 (Up j now fault) (state_of w) (state_of new) (outcome.SentDown len) out
+  up_sent len out ok kept size empty =
+      let P : Result (Unit {0}) Discard → Type 0 = λ r. IsAnswer result_of.answer r reply in
+      let replied : result_of.answer ≡ Ok reply = is_reply result_of.answer reply (subst P ok its_answer) in
+      steps_by 0 (Up j now fault) w new (outcome.SentDown len) out _
+      (its_step ∙ ap (answer_step (state_of w).setup (machine_of (state_of w)) d.proto result_of.book) replied)
+      (same_setup w new part quota)
+      (λ i. record { up = ups i; down = kept i; book = its_book i }) (ap outcome.SentDown size, empty)
+
+  pub up_dropped : (why : Discard) → result ≡ Err why → datagrams new.net 0 dir.Down ≡ datagrams w.net 0 dir.Down
+      → StepsAs 0 (Up j now fault) (state_of w) (state_of new) (outcome.Dropped why) reply
+  up_dropped why err downs =
+      let P : Result (Unit {0}) Discard → Type 0 = λ r. IsAnswer result_of.answer r reply in
+      let dropped = is_drop result_of.answer why reply (subst P err its_answer) in
+      steps_by 0 (Up j now fault) w new (outcome.Dropped why) reply _
+      (its_step ∙ ap (answer_step (state_of w).setup (machine_of (state_of w)) d.proto result_of.book) dropped.0)
+      (same_setup w new part quota)
+      (λ i. record { up = ups i; down = downs i; book = its_book i }) (refl, dropped.1)
 
 -- ---- a datagram at the relay
 
-down_is : (own : CircuitPart) (a : Alone) (j : ℕ) (d : Option Datagram) → slice_get a.down j ≡ d → alone_step own (Down j) a ≡ delivered_down own a d
+down_is : (setup : Setup) (a : Alone) (j : ℕ) (d : Option Datagram) → slice_get a.down j ≡ d → alone_step setup (Down j) a ≡ down_step setup a d
 unfolding alone_step
-down_is own a j d is = ap (delivered_down own a) is
+down_is setup a j d is = ap (down_step setup a) is
 
-pub down_gone : (c : ℕ) (w : WorldValue) (j : ℕ) (out : List ℕ) → slice_get w.down j ≡ None → out ≡ []
-    → Moves c (Down j) (place_of w) (place_of w) outcome.Gone out
+pub down_gone : (c : ℕ) (w : WorldValue) (j : ℕ) (out : List ℕ) → slice_get (datagrams w.net 0 dir.Down) j ≡ None → out ≡ []
+    → StepsAs c (Down j) (state_of w) (state_of w) outcome.Gone out
 down_gone c w j out none empty =
-    moves_by c (Down j) w w outcome.Gone out _ (down_is w.server.part (machine_of (place_of w)) j None (none_kept j w.down none)) refl refl (refl, empty)
+    steps_by c (Down j) w w outcome.Gone out _ (down_is (state_of w).setup (machine_of (state_of w)) j None none) refl refl (refl, empty)
 
-pub down_framed : (c : ℕ) (w : WorldValue) (j : ℕ) (bytes : List ℕ) (dest : Dest) (out : List ℕ) → slice_get w.down j ≡ Some bytes
-    → relayed_down w.server.part bytes ≡ Ok (record { dest = dest; bytes = out })
-    → Moves c (Down j) (place_of w) (place_of w) (outcome.Framed c dest) out
-down_framed c w j bytes dest out there leaves =
-    let a = machine_of (place_of w) in
-    moves_by c (Down j) w w (outcome.Framed c dest) out _ (down_is w.server.part a j (Some (of_bytes bytes)) (one_kept j w.down bytes there) ∙ ap (framed a) leaves) refl refl (refl, refl)
+pub down_framed : (c : ℕ) (w : WorldValue) (j : ℕ) (d : Datagram) (dest : Dest) (out : List ℕ) → slice_get (datagrams w.net 0 dir.Down) j ≡ Some d
+    → relayed_down w.server.part d.proto d.bytes ≡ Ok (record { dest = dest; bytes = out })
+    → StepsAs c (Down j) (state_of w) (state_of w) (outcome.Framed c dest) out
+down_framed c w j d dest out there framed =
+    let a = machine_of (state_of w) in
+    steps_by c (Down j) w w (outcome.Framed c dest) out _ (down_is (state_of w).setup a j (Some d) there ∙ ap (reply_step a) framed) refl refl (refl, refl)
 
-pub down_dropped : (c : ℕ) (w : WorldValue) (j : ℕ) (bytes : List ℕ) (why : Discard) (out : List ℕ) → slice_get w.down j ≡ Some bytes
-    → relayed_down w.server.part bytes ≡ Err why → out ≡ []
-    → Moves c (Down j) (place_of w) (place_of w) (outcome.Dropped why) out
-down_dropped c w j bytes why out there dropped empty =
-    let a = machine_of (place_of w) in
-    moves_by c (Down j) w w (outcome.Dropped why) out _ (down_is w.server.part a j (Some (of_bytes bytes)) (one_kept j w.down bytes there) ∙ ap (framed a) dropped) refl refl (refl, empty)
+pub down_dropped : (c : ℕ) (w : WorldValue) (j : ℕ) (d : Datagram) (why : Discard) (out : List ℕ) → slice_get (datagrams w.net 0 dir.Down) j ≡ Some d
+    → relayed_down w.server.part d.proto d.bytes ≡ Err why → out ≡ []
+    → StepsAs c (Down j) (state_of w) (state_of w) (outcome.Dropped why) out
+down_dropped c w j d why out there dropped empty =
+    let a = machine_of (state_of w) in
+    steps_by c (Down j) w w (outcome.Dropped why) out _ (down_is (state_of w).setup a j (Some d) there ∙ ap (reply_step a) dropped) refl refl (refl, empty)
 
 -- ---- a moment
 
-tick_is : (own : CircuitPart) (a : Alone) (now : ℕ) → alone_step own (Tick now) a ≡ record { effect = Done; next = record a { book = book_at now a.book } }
+tick_is : (setup : Setup) (a : Alone) (now : ℕ) → alone_step setup (Tick now) a ≡ record { effect = Done; next = record a { book = book_at now a.book } }
 unfolding alone_step
-tick_is own a now = refl
+tick_is setup a now = refl
 
-pub ticked : (w : WorldValue) (server : ServerValue) (now : ℕ) (out : List ℕ) → server.part ≡ w.server.part → book_of server ≡ book_at now (book_of w.server) → out ≡ []
-    → Moves 0 (Tick now) (place_of w) (place_of (record { server = server; up = w.up; down = w.down; disk = w.disk })) outcome.Done out
-ticked w server now out same later empty =
-    moves_by 0 (Tick now) w (record { server = server; up = w.up; down = w.down; disk = w.disk }) outcome.Done out _ (tick_is w.server.part (machine_of (place_of w)) now) same
-    (λ i. record { up = datagrams w.up; down = datagrams w.down; book = later i }) (refl, empty)
+pub tick_done : (w new : WorldValue) (now : ℕ) (out : List ℕ) → new.net ≡ w.net → new.server.part ≡ w.server.part → book_of new.server ≡ book_at now (book_of w.server) → out ≡ []
+    → StepsAs 0 (Tick now) (state_of w) (state_of new) outcome.Done out
+tick_done w new now out net part later empty =
+    steps_by 0 (Tick now) w new outcome.Done out _ (tick_is (state_of w).setup (machine_of (state_of w)) now) (same_setup w new part (ap (λ n. n.quota) net))
+    (λ i. record { up = datagrams (net i) 0 dir.Up; down = datagrams (net i) 0 dir.Down; book = later i }) (refl, empty)

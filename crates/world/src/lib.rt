@@ -2,20 +2,12 @@
 //! leave towards it.
 #![tactic(auto)]
 
-mod addressee;
-mod dispatch;
 mod event;
 pub mod examples;
 mod machine;
 mod model_disk;
 mod outcome;
-mod own;
-mod places;
-mod relay;
-mod reply;
-mod server;
 mod sink;
-mod store;
 #[cfg(test)]
 mod tests;
 mod two_runs;
@@ -27,4 +19,4 @@ pub use model_disk::{ModelDisk, REGION};
 pub use outcome::Outcome;
 pub use sink::Sink;
 pub use two_runs::isolation;
-pub use world::{MAX_QUOTA, OpenFault, World};
+pub use world::{OpenFault, World};

@@ -1,6 +1,6 @@
-//! A run: one event after the other, each frame handed on as it leaves.
+//! A run: one event after the other, each frame delivered as it leaves.
 ghost use Rattle.std.specs.Prelude.{◌≡◌, ℕ, ◌+◌, ◌<◌, List, [], ◌++◌, length, take, true, false, IfErr, OnOk};
-ghost use Rattle.world.specs.Headline.{Place, Steps, Tells, Leads, frame_of, IsDue};
+ghost use Rattle.world.specs.Headline.{CircuitState, EmitsAt, Emits, Reaches, Steps, frame_of};
 
 use crate::event::Event;
 use crate::outcome::Outcome;
@@ -9,16 +9,16 @@ use wire::PacketBuf;
 
 /// What takes events, one whole event a step.
 pub trait Machine {
-    /// What it has of each circuit.
-    ghost places: { Self → List Place };
+    /// The state of each circuit.
+    ghost states: { Self → List CircuitState };
 
     /// Takes one event. A frame that leaves is in `out`, which is empty after every other outcome.
     fn step(&mut self, event: &Event<'_>, out: &mut PacketBuf) -> Outcome
-        ensures { Steps event.now (places self.old) (places self.new) result out.new };
+        ensures { Steps event.now (states self.old) (states self.new) result out.new };
 }
 
-/// Hands the frame of an outcome on, if it has one.
-fn pass<S: Sink>(outcome: Outcome, out: &PacketBuf, sink: &mut S) -> bool
+/// Hands the frame of an outcome to the sink, if there is one.
+fn deliver<S: Sink>(outcome: Outcome, out: &PacketBuf, sink: &mut S) -> bool
     ensures yes { result ≡ true → S.taken sink.new ≡ S.taken sink.old ++ frame_of outcome out.now }
     ensures quiet { result ≡ true → S.refusals sink.new ≡ S.refusals sink.old }
     ensures no { result ≡ false → S.taken sink.new ≡ S.taken sink.old }
@@ -36,28 +36,28 @@ fn pass<S: Sink>(outcome: Outcome, out: &PacketBuf, sink: &mut S) -> bool
 }
 
 /// Takes the events in order and hands each frame that leaves to the sink. It stops at the first
-/// frame that the sink refuses, and then tells that event's number, 0 the first.
+/// frame that the sink refuses, and returns the number of that event, 0 for the first.
 pub fn run<M: Machine, S: Sink>(
     machine: &mut M,
     events: &[Event<'_>],
     sink: &mut S,
 ) -> Result<(), usize>
-    ensures frames { OnOk result (Tells events.now (M.places machine.old) (S.taken sink.old) (S.taken sink.new)) }
-    ensures leads { OnOk result (Leads events.now (M.places machine.old) (M.places machine.new)) }
+    ensures frames { OnOk result (Emits events.now (M.states machine.old) (S.taken sink.old) (S.taken sink.new)) }
+    ensures reaches { OnOk result (Reaches events.now (M.states machine.old) (M.states machine.new)) }
     ensures quiet { OnOk result (S.refusals sink.new ≡ S.refusals sink.old) }
 
     // The sink refused the frame of event n: it has those of the events before, and the machine has
     // taken event n.
     ensures within { IfErr result (λ n. n < length events.now) }
-    ensures frames_before { IfErr result (λ n. Tells (take n events.now) (M.places machine.old) (S.taken sink.old) (S.taken sink.new)) }
-    ensures leads_past { IfErr result (λ n. Leads (take (n + 1) events.now) (M.places machine.old) (M.places machine.new)) }
+    ensures frames_before { IfErr result (λ n. Emits (take n events.now) (M.states machine.old) (S.taken sink.old) (S.taken sink.new)) }
+    ensures reaches_past { IfErr result (λ n. Reaches (take (n + 1) events.now) (M.states machine.old) (M.states machine.new)) }
     ensures refused { IfErr result (λ n. S.refusals sink.new ≡ S.refusals sink.old + 1) }
-    ensures due { IfErr result (λ n. IsDue n events.now (M.places machine.old)) }
+    ensures emits_at { IfErr result (λ n. EmitsAt n events.now (M.states machine.old)) }
 {
     let mut out = PacketBuf::new();
     'events: for (n, event) in events.iter().enumerate() {
         let outcome = machine.step(event, &mut out);
-        let taken = pass(outcome, &out, sink);
+        let taken = deliver(outcome, &out, sink);
         if !taken {
             return Err(n);
         }

@@ -8,7 +8,7 @@ use std::marker::Model;
 #[cfg(test)]
 mod tests;
 
-/// How many bytes a region has.
+/// The number of bytes of a region.
 pub const REGION: usize = 32768;
 
 /// A gate with this byte is open: its bank counts.

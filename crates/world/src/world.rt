@@ -1,57 +1,54 @@
 //! A world of one circuit: its relay, the network, its server and a disk.
 ghost use Rattle.std.specs.Prelude.{◌≡◌, ℕ, ◌+◌, ◌<◌, ◌≤◌, [], length, take, IfOk, IfErr, OnOk};
-ghost use Rattle.types.specs.declared.dest.Proto.TheVariants.{V4};
-ghost use Rattle.world.specs.Headline.{Steps, Tells, Leads, IsDue};
+ghost use Rattle.world.specs.Headline.{EmitsAt, Emits, Reaches, Steps};
 ghost use Rattle.world.specs.Seen.{Frame, Up, Down, Tick};
 ghost use Rattle.world.specs.declared.outcome.Outcome.TheVariants as outcome;
 ghost use Rattle.world.specs.Start.{Starts};
-ghost use Rattle.world.specs.World.{Moves, place_of, places};
+ghost use Rattle.world.specs.StepsAs.{StepsAs};
+ghost use Rattle.world.specs.World.{state_of, states};
 
-use crate::dispatch::Server;
 use crate::event::Event;
 use crate::machine::{Machine, run};
 use crate::model_disk::ModelDisk;
 use crate::outcome::Outcome;
-use crate::own::Own;
-use crate::relay;
 use crate::sink::Sink;
-use crate::store::Store;
-use config::Config;
+use config::{CircuitPart, Config};
+use dispatch::Server;
+use lossy_net::{Dir, MAX_QUOTA, Net};
+use relay::Relays;
 use std::alloc::Global;
 use std::marker::Model;
 use thiserror::Error;
-use types::{Circuit, Moment};
+use types::{Circuit, Moment, Proto, RelayNo};
 use wire::PacketBuf;
-
-/// The most datagrams that the network keeps of a circuit and direction.
-pub const MAX_QUOTA: u16 = 256;
 
 /// Why a world was not opened.
 #[derive(Clone, Copy, Debug, PartialEq, Eq, Error)]
 pub enum OpenFault {
-    /// Memory was refused.
-    #[error("memory")]
+    /// A request for memory was refused.
+    #[error("out of memory")]
     Memory,
 }
 
 /// A world of one circuit.
 #[derive(Drop)]
 pub struct World {
+    relays: Relays,
+    relay: RelayNo,
+    net: Net,
     server: Server,
-    up: Store,
-    down: Store,
     disk: ModelDisk,
 }
 
 impl Model for World {
-    ghost use Rattle.std.specs.Prelude.{◌≡◌};
-    ghost use Rattle.world.specs.World.{WorldValue, AreOwn};
+    ghost use Rattle.world.specs.World.{WorldValue};
+    ghost use Rattle.world.specs.StepsAs.{IsWorld};
 
     ghost Value = { WorldValue };
 
-    ghost view = { λ w. record { server = w.server; up = w.up.packets.items; down = w.down.packets.items; disk = w.disk } };
+    ghost view = { λ w. record { relays = w.relays; relay = w.relay; net = w.net; server = w.server; disk = w.disk } };
 
-    ghost invariant = { λ w. AreOwn w.server.part w.up.packets.items × (w.up.quota ≡ w.server.part.quota) × (w.down.quota ≡ w.server.part.quota) };
+    ghost invariant = { λ w. IsWorld (record { relays = w.relays; relay = w.relay; net = w.net; server = w.server; disk = w.disk }) };
 }
 
 /// There is no such circuit.
@@ -65,7 +62,7 @@ fn gone(out: &mut PacketBuf) -> Outcome
 
 impl World {
     /// The world of a configuration, where the network keeps at most `quota` datagrams of a circuit and
-    /// direction. All room that its steps need is made here. A refusal drops the disk.
+    /// direction. All memory that its steps need is taken here. A refusal drops the disk.
     pub fn open(
         alloc: Global,
         config: &Config,
@@ -74,25 +71,27 @@ impl World {
     ) -> Result<World, OpenFault>
         requires some { 1 ≤ quota }
         requires most { quota ≤ MAX_QUOTA }
-        ensures starts { IfOk result (λ world. Starts config.now quota (places world)) }
+        ensures starts { IfOk result (λ world. Starts config.now quota (states world)) }
         ensures disk { IfOk result (λ world. world.disk ≡ disk) }
     {
         let Some(only) = Circuit::new(0) else {
             unreachable!()
         };
-        let circuits = config.circuits();
+        let circuits = config.circuit_count();
         prove!(circuits == 1);
-        let server = Server::new(Own::of(config, only, quota));
-        let Ok(up) = Store::new(alloc, usize::from(quota)) else {
+        let Ok(relays) = Relays::new(alloc, config) else {
             return Err(OpenFault::Memory);
         };
-        let Ok(down) = Store::new(alloc, usize::from(quota)) else {
+        let Ok(net) = Net::new(alloc, circuits, usize::from(quota)) else {
             return Err(OpenFault::Memory);
         };
+        let relay = config.at(only).relay;
+        let server = Server::new(CircuitPart::of(config, only));
         Ok(World {
+            relays,
+            relay,
+            net,
             server,
-            up,
-            down,
             disk,
         })
     }
@@ -105,14 +104,20 @@ impl World {
     }
 
     /// A client's frame at the relay.
-    fn frame(&mut self, frame: &[u8], out: &mut PacketBuf) -> Outcome
-        ensures moves { Moves 0 (Frame V4 frame.now) (place_of self.old) (place_of self.new) result out.new }
+    fn frame(
+        &mut self,
+        circuit: Circuit,
+        proto: Proto,
+        frame: &[u8],
+        out: &mut PacketBuf,
+    ) -> Outcome
+        requires { circuit ≡ 0 }
+        ensures steps { StepsAs 0 (Frame proto frame.now) (state_of self.old) (state_of self.new) result out.new }
         ensures disk { self.new.disk ≡ self.old.disk }
     {
-        let own = self.server.own();
-        match relay::up(&own.id, own.gateway4, frame, out) {
+        match self.relays.up(circuit, proto, frame, out) {
             Ok(()) => {
-                self.up.send(out);
+                self.net.send(circuit, Dir::Up, proto, out);
                 let len = out.len();
                 out.clear();
                 Outcome::SentUp(len)
@@ -122,18 +127,19 @@ impl World {
     }
 
     /// A datagram at the server.
-    fn up(&mut self, number: u16, now: Moment, out: &mut PacketBuf) -> Outcome
-        ensures moves { (fault : ℕ) → Moves 0 (Up number now fault) (place_of self.old) (place_of self.new) result out.new }
+    fn up(&mut self, circuit: Circuit, number: u16, now: Moment, out: &mut PacketBuf) -> Outcome
+        requires { circuit ≡ 0 }
+        ensures steps { (fault : ℕ) → StepsAs 0 (Up number now fault) (state_of self.old) (state_of self.new) result out.new }
         ensures disk { self.new.disk ≡ self.old.disk }
     {
         out.clear();
-        let source = self.server.own().relay;
-        let Some(datagram) = self.up.get(usize::from(number)) else {
+        let source = self.server.part().relay();
+        let Some((proto, datagram)) = self.net.deliver(circuit, Dir::Up, number) else {
             return Outcome::Gone;
         };
         match self.server.receive(source, datagram, now, out) {
             Ok(()) => {
-                self.down.send(out);
+                self.net.send(circuit, Dir::Down, proto, out);
                 let len = out.len();
                 out.clear();
                 Outcome::SentDown(len)
@@ -144,23 +150,26 @@ impl World {
 
     /// A datagram at the relay.
     fn down(&mut self, circuit: Circuit, number: u16, out: &mut PacketBuf) -> Outcome
-        ensures moves { Moves circuit (Down number) (place_of self.old) (place_of self.new) result out.new }
+        requires { circuit ≡ 0 }
+        ensures steps { StepsAs 0 (Down number) (state_of self.old) (state_of self.new) result out.new }
         ensures disk { self.new.disk ≡ self.old.disk }
     {
         out.clear();
-        let Some(datagram) = self.down.get(usize::from(number)) else {
+        let Some((proto, datagram)) = self.net.deliver(circuit, Dir::Down, number) else {
             return Outcome::Gone;
         };
-        let own = self.server.own();
-        match relay::down(&own.id, own.gateway4, datagram, out) {
-            Ok(dest) => Outcome::Framed(circuit, dest),
+        let source = match proto {
+            Proto::V4 => self.server.part().listen4(),
+        };
+        match self.relays.down(self.relay, source, datagram, out) {
+            Ok((found, dest)) => Outcome::Framed(found, dest),
             Err(why) => Outcome::Dropped(why),
         }
     }
 
-    /// The moment passes.
+    /// A moment for all circuits.
     fn tick(&mut self, now: Moment, out: &mut PacketBuf) -> Outcome
-        ensures moves { Moves 0 (Tick now) (place_of self.old) (place_of self.new) result out.new }
+        ensures steps { StepsAs 0 (Tick now) (state_of self.old) (state_of self.new) result out.new }
         ensures done { result ≡ outcome.Done }
         ensures disk { self.new.disk ≡ self.old.disk }
         ensures empty { out.new ≡ [] }
@@ -172,24 +181,24 @@ impl World {
 
     /// Takes one event. A frame that leaves is in `out`, which is empty after every other outcome.
     pub fn step(&mut self, event: &Event<'_>, out: &mut PacketBuf) -> Outcome
-        ensures steps { Steps event.now (places self.old) (places self.new) result out.new }
+        ensures steps { Steps event.now (states self.old) (states self.new) result out.new }
         ensures disk { self.new.disk ≡ self.old.disk }
     {
         match *event {
-            Event::Frame(circuit, _, frame) => {
-                if circuit.place() != 0 {
+            Event::Frame(circuit, proto, frame) => {
+                if circuit.index() != 0 {
                     return gone(out);
                 }
-                self.frame(frame, out)
+                self.frame(circuit, proto, frame, out)
             }
             Event::Up(circuit, number, now, _) => {
-                if circuit.place() != 0 {
+                if circuit.index() != 0 {
                     return gone(out);
                 }
-                self.up(number, now, out)
+                self.up(circuit, number, now, out)
             }
             Event::Down(circuit, number) => {
-                if circuit.place() != 0 {
+                if circuit.index() != 0 {
                     return gone(out);
                 }
                 self.down(circuit, number, out)
@@ -199,28 +208,28 @@ impl World {
     }
 
     /// Takes the events in order and hands each frame that leaves to the sink. It stops at the first
-    /// frame that the sink refuses, and then tells that event's number, 0 the first.
+    /// frame that the sink refuses, and returns the number of that event, 0 for the first.
     pub fn run<S: Sink>(&mut self, events: &[Event<'_>], sink: &mut S) -> Result<(), usize>
-        ensures frames { OnOk result (Tells events.now (places self.old) (S.taken sink.old) (S.taken sink.new)) }
-        ensures leads { OnOk result (Leads events.now (places self.old) (places self.new)) }
+        ensures frames { OnOk result (Emits events.now (states self.old) (S.taken sink.old) (S.taken sink.new)) }
+        ensures reaches { OnOk result (Reaches events.now (states self.old) (states self.new)) }
         ensures quiet { OnOk result (S.refusals sink.new ≡ S.refusals sink.old) }
 
         // The sink refused the frame of event n: it has those of the events before, and the world has
         // taken event n.
         ensures within { IfErr result (λ n. n < length events.now) }
-        ensures frames_before { IfErr result (λ n. Tells (take n events.now) (places self.old) (S.taken sink.old) (S.taken sink.new)) }
-        ensures leads_past { IfErr result (λ n. Leads (take (n + 1) events.now) (places self.old) (places self.new)) }
+        ensures frames_before { IfErr result (λ n. Emits (take n events.now) (states self.old) (S.taken sink.old) (S.taken sink.new)) }
+        ensures reaches_past { IfErr result (λ n. Reaches (take (n + 1) events.now) (states self.old) (states self.new)) }
         ensures refused { IfErr result (λ n. S.refusals sink.new ≡ S.refusals sink.old + 1) }
-        ensures due { IfErr result (λ n. IsDue n events.now (places self.old)) }
+        ensures emits_at { IfErr result (λ n. EmitsAt n events.now (states self.old)) }
     {
         run(self, events, sink)
     }
 }
 
 impl Machine for World {
-    ghost use Rattle.world.specs.World.{places};
+    ghost use Rattle.world.specs.World.{states};
 
-    ghost places = { λ world. places world };
+    ghost states = { λ world. states world };
 
     fn step(&mut self, event: &Event<'_>, out: &mut PacketBuf) -> Outcome {
         World::step(self, event, out)

@@ -3,5 +3,5 @@ use Rattle.world.specs.Alone.{frames}
 use Rattle.world.proofs.two_runs.isolation.Goals as goal
 
 pub returns : goal.returns
-returns x c d own a events others start other told heard one two here there same =
-    one.each c own a here ∙ ap (λ seen. frames own seen a) same ∙ sym (two.each d own a there)
+returns x c d setup a events others start other sent received one two here there same =
+    one.each c setup a here ∙ ap (λ seen. frames setup seen a) same ∙ sym (two.each d setup a there)

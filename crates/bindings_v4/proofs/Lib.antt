@@ -1,0 +1,5 @@
+pub mod ShownLemmas
+pub mod FreeLemmas
+pub mod WriteLemmas
+pub mod RowLemmas
+pub mod TableLemmas

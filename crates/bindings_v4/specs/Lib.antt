@@ -1,0 +1,4 @@
+pub mod Book4
+pub mod Lookup4
+pub mod Slots4
+pub mod Table4

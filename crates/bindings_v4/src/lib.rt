@@ -1,0 +1,17 @@
+//! DHCPv4 leases of one circuit: who has which address of its pool, and what a client's message calls
+//! for (RFC 2131, section 4.3). No bytes of messages, and no clock: the caller has both.
+#![tactic(auto)]
+
+mod book4;
+mod decision4;
+mod holder4;
+mod laws;
+mod lookup;
+mod table4;
+#[cfg(test)]
+mod tests;
+mod write;
+
+pub use book4::Book4;
+pub use decision4::{Decision4, KeptSlot, OfferChange};
+pub use laws::expires_by_the_clock;

@@ -1,0 +1,51 @@
+-- One circuit's server: its book, and what it makes of a DHCPv4 datagram of the circuit.
+use Rattle.std.specs.Prelude.{ℕ, max, List, Result, Ok, Err}
+use Rattle.types.specs.declared.discard.Discard.{Discard}
+use Rattle.types.specs.declared.discard.Discard.TheVariants as reason
+use Rattle.types.specs.declared.request4.Request4.{Request4}
+use Rattle.types.specs.declared.request4.Reply4.{Reply4}
+use Rattle.v4_message.specs.declared.fault.MessageFault.{MessageFault}
+use Rattle.v4_message.specs.Reading.{message_of}
+use Rattle.v4_message.specs.Spelling.{MessageValue}
+use Rattle.config.specs.CircuitPart.{CircuitPart, pool4_of}
+use Rattle.bindings_v4.specs.Book4.{Book4, book4_at}
+use Rattle.bindings_v4.specs.Table4.{Decision, answer4}
+use Rattle.replies.specs.Reply4.{reply4_bytes}
+use Rattle.dispatch.specs.Request.{request_in}
+
+-- The clock of a circuit in seconds, and its leases.
+pub record Book : Type 0 where
+  pub clock : ℕ
+  pub four : Book4
+
+-- The book at a moment: the clock never goes back, and what has expired is left out.
+abbrev pub book_at : ℕ → Book → Book
+book_at now b = record { clock = max b.clock now; four = book4_at (max b.clock now) b.four }
+
+-- The reply's datagram, or why there is none; and the book after it.
+pub record Served : Type 0 where
+  pub answer : Result (List ℕ) Discard
+  pub book : Book
+
+abbrev pub drop : Discard → Book → Served
+drop why b = record { answer = Err why; book = b }
+
+abbrev pub reply_to : CircuitPart → MessageValue → Result Reply4 Discard → Result (List ℕ) Discard
+reply_to part m (Err why) = Err why
+reply_to part m (Ok reply) = Ok (reply4_bytes part m reply)
+
+abbrev pub decision_served : CircuitPart → MessageValue → ℕ → Decision → Served
+decision_served part m clock decision =
+    record { answer = reply_to part m decision.answer; book = record { clock = clock; four = decision.book } }
+
+abbrev pub request_served : CircuitPart → MessageValue → Book → Result Request4 Discard → Served
+request_served part m b (Err why) = drop why b
+request_served part m b (Ok request) = decision_served part m b.clock (answer4 (pool4_of part) b.clock b.four request)
+
+abbrev pub message_served : CircuitPart → Book → Result MessageValue MessageFault → Served
+message_served part b (Err fault) = drop reason.Malformed b
+message_served part b (Ok m) = request_served part m b (request_in m)
+
+-- A datagram of the circuit, delivered at a moment.
+unfoldable pub served : CircuitPart → ℕ → List ℕ → Book → Served
+served part now datagram b = message_served part (book_at now b) (message_of datagram)
