@@ -1,3 +1,4 @@
 pub mod Windows
 pub mod Segments
 pub mod Lists
+pub mod Sends

@@ -1,5 +1,5 @@
--- Runs of q places in one row.
-use Rattle.std.proofs.Common.{◌≡◌, ◌≢◌, ℕ, ◌+◌, ◌-◌, ◌*◌, ◌<◌, ◌≤◌, List, length, get_or, take, drop, set, ap, sym, ◌∙◌, arith, length-drop, length-take, length-take-le, get_or-drop, get_or-take, get_or-set_other}
+-- Rings of q items in one row.
+use Rattle.std.proofs.Common.{◌≡◌, ◌≢◌, ℕ, ◌+◌, ◌*◌, ◌<◌, ◌≤◌, List, length, get_or, take, drop, set, ap, sym, ◌∙◌, arith, length-drop, length-take, length-take-le, get_or-drop, get_or-take, get_or-set_other}
 use Rattle.std.proofs.Math.Seq.{take-set-lt}
 use Rattle.std.proofs.lemmas.List.{same_lists, drop-set-add, length-set}
 use Rattle.std.proofs.lemmas.Nat.{same_from_place, row_fits}

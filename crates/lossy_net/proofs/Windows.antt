@@ -1,5 +1,5 @@
--- A ring of q places: the window of n items from place h on, around the end.
-use Rattle.std.proofs.Common.{◌≡◌, ◌≢◌, ℕ, zero, suc, ◌+◌, ◌-◌, ◌%◌, ◌<◌, ◌≤◌, ◌⊎◌, List, [], ◌∷◌, ◌++◌, length, get_or, take, drop, set, min, cond, ap, sym, ◌∙◌, inl, inr, mod-eq_of_lt, arith, length-append, length-drop, length-take, length-set, length-take-le, get_or-drop, get_or-take, get_or-set_same, get_or-set_other}
+-- A ring of q items: the window of n items from position h on, around the end.
+use Rattle.std.proofs.Common.{◌≡◌, ◌≢◌, ℕ, zero, suc, ◌+◌, ◌-◌, ◌%◌, ◌<◌, ◌≤◌, ◌⊎◌, List, ◌∷◌, length, get_or, take, set, min, ap, sym, ◌∙◌, inl, inr, mod-eq_of_lt, arith, length-append, length-drop, length-take, length-set, length-take-le, get_or-drop, get_or-take, get_or-set_same, get_or-set_other}
 use Rattle.std.proofs.lemmas.List.{same_lists, get_or_append_left, get_or-append_right}
 use Rattle.std.proofs.lemmas.Bool.{cases_lt}
 use Rattle.std.proofs.lemmas.Bool.Decides.{nat_tests}
@@ -13,8 +13,8 @@ mod_wraps_once q j below = elim (cases_lt j q) [
   | inr high ↦ inr (high, mod-eq-sub-mod high ∙ mod-eq_of_lt (omega arith))
 ]
 
-pub slot_below : (q h i : ℕ) → h < q → i < q → (h + i) % q < q
-slot_below q h i start low = elim (mod_wraps_once q (h + i) (omega arith)) [
+pub position_below : (q h i : ℕ) → h < q → i < q → (h + i) % q < q
+position_below q h i start low = elim (mod_wraps_once q (h + i) (omega arith)) [
   | inl w ↦ omega arith
   | inr w ↦ omega arith
 ]
@@ -22,11 +22,11 @@ slot_below q h i start low = elim (mod_wraps_once q (h + i) (omega arith)) [
 pub before_below : (q h : ℕ) → h < q → before q h < q
 before_below q h start = grind (arith, nat_tests)
 
--- the place before h is the new front
+-- the position before h is the new front
 new_front : (q h : ℕ) → h < q → (before q h + 0) % q ≡ before q h
 new_front q h start = let below = before_below q h start in mod-eq_of_lt (omega arith) ∙ omega arith
 
--- and each other place is one further from it than from h
+-- and each other position is one further from it than from h
 one_further : (q h k : ℕ) → h < q → k + 1 < q → ((before q h + (k + 1)) % q ≡ (h + k) % q) × ((h + k) % q ≢ before q h)
 one_further q h k start low =
     let here = mod_wraps_once q (h + k) (omega arith) in
@@ -37,7 +37,7 @@ module _ {X : Type 0} (q h n : ℕ) (xs : List X) (start : h < q) (fits : n ≤ 
   pub length-window : length (window h n xs) ≡ n
   length-window = length-take-le n _ (simp (length-append, length-drop) (omega (arith, length-take-le h xs (omega arith))))
 
-  -- item i of the window is at place (h + i) % q, which is before the end or past it
+  -- item i of the window is at position (h + i) % q, which is before the end or past it
   pub get_or-window : (i : ℕ) (d : X) → i < n → get_or (window h n xs) i d ≡ get_or xs ((h + i) % q) d
   get_or-window i d low =
       let length_tail = length-drop h xs in

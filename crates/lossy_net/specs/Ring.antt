@@ -1,5 +1,5 @@
 -- How the code lays a list out in a ring of packets. No public clause says anything of it.
-use Rattle.std.specs.Prelude.{ℕ, ◌-◌, ◌+◌, ◌*◌, ◌==◌, if◌then◌else◌, List, ◌++◌, take, drop}
+use Rattle.std.specs.Prelude.{ℕ, ◌-◌, ◌*◌, ◌==◌, if◌then◌else◌, List, ◌++◌, take, drop}
 
 -- the position before h in a ring of q packets
 abbrev pub before : ℕ → ℕ → ℕ

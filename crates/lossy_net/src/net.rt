@@ -1,4 +1,4 @@
-//! What the network keeps.
+//! What the network keeps, and how it is sent and delivered.
 ghost use Rattle.std.specs.Prelude.{◌≡◌, ◌≢◌, ◌↔◌, ℕ, ◌<◌, ◌≤◌, [], ◌∷◌, take, replicate, length, slice_get, option_map, IsTrue, IfOk};
 ghost use Rattle.lossy_net.specs.Net.{datagrams, opposite};
 ghost use Rattle.lossy_net.specs.Layout.{ring_of};
@@ -17,8 +17,8 @@ use wire::PacketBuf;
 /// The most datagrams that are kept of a circuit in one direction.
 pub const MAX_QUOTA: usize = 256;
 
-/// For each circuit and direction the datagrams that were sent last, as many as the quota. All room
-/// is made by `new`.
+/// The network between relay and server. For each circuit and direction it keeps the datagrams that
+/// were sent last, as many as the quota; no call after `new` needs memory.
 #[derive(Drop)]
 pub struct Net {
     circuits: usize,
@@ -42,8 +42,8 @@ impl Model for Net {
 }
 
 impl Net {
-    /// A network of this many circuits, which keeps nothing yet. `Memory` where there is no room for
-    /// `2 * circuits * quota` datagrams.
+    /// A network of this many circuits, which keeps nothing yet. `Memory` only where the room for
+    /// `2 * circuits * quota` datagrams or for their order is refused.
     pub fn new(alloc: Global, circuits: usize, quota: usize) -> Result<Net, Memory>
         requires some_circuits { 1 ≤ circuits }
         requires circuits { circuits ≤ MAX_CIRCUITS }

@@ -1,7 +1,7 @@
 use Rattle.std.proofs.Common.{◌≡◌, ◌+◌, ◌*◌, ◌%◌, get_or, ap, ◌∙◌, arith, sym}
 use Rattle.std.specs.Prelude.{slice_get}
 use Rattle.lossy_net.specs.Net.{NetValue, Datagram, datagrams}
-use Rattle.lossy_net.proofs.Lists.{datagram_at, datagram_past, nothing_past}
+use Rattle.lossy_net.proofs.Lists.{IsRingOf, datagram_at, datagram_past, nothing_past}
 use Rattle.lossy_net.proofs.net.Net.deliver.Goals as goal
 
 pub returns-then-index-self : goal.returns-then-index-self
@@ -11,21 +11,23 @@ returns-then-index-self c =
 
 pub returns-then-number-ring : goal.returns-then-number-ring
 returns-then-number-ring c =
-    datagram_past c.self.inside c.args.circuit c.args.dir c.ring_index-index.result c.index-ring.result.now c.args.number
-    c.self.invariant (omega arith) c.ring_index-index.ensures c.index-ring.ensures (omega arith)
+    let is : IsRingOf c.self.inside c.args.circuit c.args.dir c.ring_index-index.result =
+    record { laid = c.self.invariant; there = omega arith; at = c.ring_index-index.ensures } in
+    datagram_past is _ c.index-ring.ensures c.args.number (omega arith)
     ∙ ap (λ (net : NetValue). slice_get (datagrams net c.args.circuit c.args.dir) c.args.number) c.self.view_is
 
 pub returns : goal.returns
 returns c =
+    let is : IsRingOf c.self.inside c.args.circuit c.args.dir c.ring_index-index.result =
+    record { laid = c.self.invariant; there = omega arith; at = c.ring_index-index.ensures } in
     let x : Datagram = record { proto = c.proto.result; bytes = c.bytes.result.now } in
-    let is : x ≡ c.index-packet.result.now = λ i. record { proto = c.proto.ensures i; bytes = c.bytes.ensures i } in
+    let lent : x ≡ c.index-packet.result.now = λ i. record { proto = c.proto.ensures i; bytes = c.bytes.ensures i } in
     let row = c.self.inside.packets.items in
     let start = c.ring_index-index.result * c.self.inside.quota in
     let here =
-    is
+    lent
     ∙ c.index-packet.ensures
-    ∙ ap (λ y. get_or row (start + c.position.result) y) (sym is)
+    ∙ ap (λ y. get_or row (start + c.position.result) y) (sym lent)
     ∙ ap (λ position. get_or row (start + position) x) (c.position.ensures ∙ ap (λ number. (c.index-ring.result.now.newest + number) % c.self.inside.quota) c.from-number.ensures) in
-    datagram_at c.self.inside c.args.circuit c.args.dir c.ring_index-index.result c.index-ring.result.now c.args.number _
-    c.self.invariant (omega arith) c.ring_index-index.ensures c.index-ring.ensures (omega arith) here
+    datagram_at is _ c.index-ring.ensures c.args.number x (omega arith) here
     ∙ ap (λ (net : NetValue). slice_get (datagrams net c.args.circuit c.args.dir) c.args.number) c.self.view_is
