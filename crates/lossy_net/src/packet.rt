@@ -1,5 +1,5 @@
 //! One datagram, in room that is used again.
-ghost use Rattle.std.specs.Prelude.{◌≡◌, [], ◌∷◌};
+ghost use Rattle.std.specs.Prelude.{◌≡◌};
 
 use std::marker::Model;
 use types::Proto;

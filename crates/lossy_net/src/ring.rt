@@ -1,5 +1,5 @@
 //! Where the datagrams of one circuit and direction lie among their packets.
-ghost use Rattle.std.specs.Prelude.{◌≡◌, ◌+◌, ◌≤◌, ◌<◌, ◌^◌, ◌%◌, min};
+ghost use Rattle.std.specs.Prelude.{◌≡◌, ◌+◌, ◌≤◌, ◌<◌, ◌%◌, min};
 ghost use Rattle.lossy_net.specs.Ring.{before};
 
 /// The newest lies in packet `newest`, and each older one in the packet behind; behind the last
