@@ -66,8 +66,8 @@ abbrev pub echo : Option (List ℕ) → List (ℕ × List ℕ)
 echo None = []
 echo (Some information) = (82, information) ∷ []
 
--- An OFFER (2) or an ACK (5) with a lease: the message type, the server, the lease time with T1 and T2
--- (RFC 2131, section 4.4.5), the mask and the router.
+-- An OFFER (2) or an ACK (5) with a lease: message type, server identifier, lease time, T1 and T2
+-- (RFC 2131, section 4.4.5), subnet mask, router, name servers, relay agent information.
 abbrev pub lease_options : ℕ → CircuitPart → MessageValue → List (ℕ × List ℕ)
 lease_options kind part request =
     (53, kind ∷ [])
@@ -79,7 +79,7 @@ lease_options kind part request =
     ∷ (3, part.gateway4.0)
     ∷ (name_servers part.dns ++ echo (look_up 82 request.options))
 
--- An ACK (5) to an INFORM has no lease (RFC 2131, section 4.3.5).
+-- An ACK (5) to an INFORM is one without the lease (RFC 2131, section 4.3.5).
 abbrev pub inform_options : CircuitPart → MessageValue → List (ℕ × List ℕ)
 inform_options part request =
     (53, 5 ∷ [])
@@ -88,7 +88,7 @@ inform_options part request =
     ∷ (3, part.gateway4.0)
     ∷ (name_servers part.dns ++ echo (look_up 82 request.options))
 
--- A NAK (6) has no parameters.
+-- A NAK (6) has the server identifier alone, and the relay agent information.
 abbrev pub nak_options : CircuitPart → MessageValue → List (ℕ × List ℕ)
 nak_options part request =
     (53, 6 ∷ [])
