@@ -109,6 +109,6 @@ reply_message part request reply = record {
   options = reply_options part request reply;
 }
 
--- Nothing but zeros up to 300 bytes stands behind the end option.
+-- The datagram: the message with its end option, zero-padded to 300 bytes (RFC 1542, section 2.1).
 unfoldable pub reply4_bytes : CircuitPart → MessageValue → Reply4 → List ℕ
 reply4_bytes part request reply = padded_to 300 (message_bytes (reply_message part request reply))

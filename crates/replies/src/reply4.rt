@@ -10,7 +10,7 @@ ghost use Rattle.wire.specs.Padding.{padded_to};
 ghost use Rattle.replies.specs.Reply4.{ciaddr_in, echo, flags_in, inform_options, lease_options, mask, nak_options, name_servers, reply4_bytes, reply_header, reply_options, yiaddr_in};
 
 use arrayvec::ArrayVec;
-use config::CircuitPart;
+use config::{CircuitPart, MAX_DNS};
 use types::{Addr4, Kind4, MAX_DATAGRAM, Reply4};
 use v4_message::field::{FILE_LEN, SNAME_LEN};
 use v4_message::{BROADCAST, Header, Message, OP_REPLY};
@@ -57,7 +57,7 @@ fn put_header(request: &Message<'_>, reply: Reply4, out: &mut PacketBuf)
     let _ = header.write(out);
 }
 
-/// A client that gets a NAK may have no address yet, so the relay has to broadcast it (RFC 2131,
+/// A client that gets a NAK may have a wrong address, so the relay has to broadcast it (RFC 2131,
 /// section 4.3.2).
 fn flags_in(request: &Message<'_>, reply: Reply4) -> u16
     ensures { result ≡ flags_in request.now reply }
@@ -158,13 +158,13 @@ fn put_name_servers(part: &CircuitPart, out: &mut PacketBuf)
 {
     let dns = part.dns();
     if !dns.is_empty() {
-        let addresses = joined(dns);
+        let addresses = address_bytes(dns);
         put(code::DOMAIN_NAME_SERVER, addresses.as_slice(), out);
     }
 }
 
 /// The bytes of the addresses, concatenated.
-fn joined(dns: &ArrayVec<Addr4, 4>) -> ArrayVec<u8, 16>
+fn address_bytes(dns: &ArrayVec<Addr4, MAX_DNS>) -> ArrayVec<u8, 16>
     ensures { result.items ≡ flat_map (λ a. a.0) dns.now.items }
 {
     let mut bytes = ArrayVec::new();

@@ -52,7 +52,7 @@ const AGENT_INFORMATION: [u8; 12] = [82, 9, 1, 1, 97, 11, 4, 10, 0, 0, 1, 255];
 /// The longest option 82, without its value.
 const LONGEST_INFORMATION: [u8; 2] = [82, 255];
 
-fn joined(parts: &[&[u8]]) -> PacketBuf {
+fn packet(parts: &[&[u8]]) -> PacketBuf {
     let mut bytes = PacketBuf::new();
     for part in parts {
         let _ = bytes.extend(part);
@@ -73,7 +73,7 @@ fn part(alloc: Global, keys: &str) -> Option<CircuitPart> {
 /// A message of client 1 with this type and ciaddr, as the relay sends it on from circuit `a`, up to
 /// its option 82.
 fn request(kind: u8, ciaddr: [u8; 4], agent_information: &[u8]) -> PacketBuf {
-    joined(&[
+    packet(&[
         &[1, 1, 6, 1, 0, 0, 0, 1, 0, 0, 0, 0],
         &ciaddr,
         &[0; 8],
@@ -86,7 +86,7 @@ fn request(kind: u8, ciaddr: [u8; 4], agent_information: &[u8]) -> PacketBuf {
 
 /// The reply, over bytes that are no reply's.
 fn reply_to(alloc: Global, keys: &str, request: &PacketBuf, reply: Reply4) -> PacketBuf {
-    let mut out = joined(&[&[7; 600]]);
+    let mut out = packet(&[&[7; 600]]);
     if let (Some(part), Ok(message)) = (part(alloc, keys), Message::read(request.as_slice())) {
         write4(&part, &message, reply, &mut out);
     }
@@ -96,7 +96,7 @@ fn reply_to(alloc: Global, keys: &str, request: &PacketBuf, reply: Reply4) -> Pa
 #[test]
 fn an_offer(rt: HostRuntime) {
     let offer = Reply4::Offer(Addr4([10, 0, 0, 10]));
-    let wanted = joined(&[
+    let wanted = packet(&[
         &[2, 1, 6, 0, 0, 0, 0, 1],
         &[0; 8],
         &[10, 0, 0, 10, 0, 0, 0, 0, 10, 0, 0, 1],
@@ -123,7 +123,7 @@ fn an_offer(rt: HostRuntime) {
 #[test]
 fn an_ack_with_a_lease_and_no_name_server(rt: HostRuntime) {
     let ack = Reply4::Ack(Addr4([10, 0, 0, 10]));
-    let wanted = joined(&[
+    let wanted = packet(&[
         &[2, 1, 6, 0, 0, 0, 0, 1, 0, 0, 0, 0],
         &[10, 0, 0, 10, 10, 0, 0, 10, 0, 0, 0, 0, 10, 0, 0, 1],
         &[2, 0, 0, 0, 0, 1],
@@ -148,7 +148,7 @@ fn an_ack_with_a_lease_and_no_name_server(rt: HostRuntime) {
 
 #[test]
 fn an_ack_to_an_inform(rt: HostRuntime) {
-    let wanted = joined(&[
+    let wanted = packet(&[
         &[2, 1, 6, 0, 0, 0, 0, 1, 0, 0, 0, 0],
         &[10, 0, 0, 77, 0, 0, 0, 0, 0, 0, 0, 0, 10, 0, 0, 1],
         &[2, 0, 0, 0, 0, 1],
@@ -172,7 +172,7 @@ fn an_ack_to_an_inform(rt: HostRuntime) {
 
 #[test]
 fn a_nak(rt: HostRuntime) {
-    let wanted = joined(&[
+    let wanted = packet(&[
         &[2, 1, 6, 0, 0, 0, 0, 1, 0, 0, 128, 0],
         &[0; 12],
         &[10, 0, 0, 1, 2, 0, 0, 0, 0, 1],
@@ -192,7 +192,7 @@ fn a_nak(rt: HostRuntime) {
 #[test]
 fn the_longest_reply_has_no_padding(rt: HostRuntime) {
     let offer = Reply4::Offer(Addr4([10, 0, 0, 10]));
-    let information = joined(&[&LONGEST_INFORMATION, &[5; 255], &[255]]);
+    let information = packet(&[&LONGEST_INFORMATION, &[5; 255], &[255]]);
     let discover = request(1, [0; 4], information.as_slice());
     let written = reply_to(rt.alloc(), FOUR_NAME_SERVERS, &discover, offer);
     assert_eq!(rt; written.len(), 555);

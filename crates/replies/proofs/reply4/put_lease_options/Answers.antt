@@ -7,12 +7,12 @@ use Rattle.replies.specs.Reply4.{echo, mask, name_servers}
 use Rattle.replies.proofs.reply4.put_lease_options.Goals as goal
 
 -- Seven options and two lists of options, appended one after the other.
-appended : (out a b c d e f g : List ℕ) (servers agent : List (ℕ × List ℕ))
+parts-append : (out a b c d e f g : List ℕ) (servers agent : List (ℕ × List ℕ))
     → ((((((((out ++ a) ++ b) ++ c) ++ d) ++ e) ++ f) ++ g) ++ spelling servers) ++ spelling agent ≡ out ++ (a ++ (b ++ (c ++ (d ++ (e ++ (f ++ (g ++ spelling (servers ++ agent))))))))
-appended out a b c d e f g servers agent = rw (spelling-append servers agent) (simp append_assoc)
+parts-append out a b c d e f g servers agent = rw (spelling-append servers agent) (simp append_assoc)
 
 pub returns-clause-bytes : goal.returns-clause-bytes
 returns-clause-bytes c =
     let p = c.args.part.now in
-    rw (c.put_echo.ensures.bytes, c.put_name_servers.ensures.bytes, c.put-3.ensures.bytes, c.put_number-4.ensures.bytes, c.put_number-3.ensures.bytes, c.put_number-2.ensures.bytes, c.put_number.ensures.bytes, c.put-2.ensures.bytes, c.put.ensures.bytes, c.gateway4-2.ensures.value, c.mask.ensures, c.prefix4.ensures, c.from.ensures, c.lease-lease.ensures, c.gateway4.ensures.value, c.code.ensures)
-    (appended c.args.out.now (option 53 (code_of_kind c.args.kind ∷ [])) (option 54 p.gateway4.0) (option 51 (to_be_bytes w32 p.lease)) (option 58 (to_be_bytes w32 (p.lease / 2))) (option 59 (to_be_bytes w32 (7 * p.lease / 8))) (option 1 (to_be_bytes w32 (mask p.prefix4))) (option 3 p.gateway4.0) (name_servers p.dns) (echo (look_up 82 c.args.request.now.options)))
+    simp (c.put_echo.ensures.bytes, c.put_name_servers.ensures.bytes, c.put-3.ensures.bytes, c.put_number-4.ensures.bytes, c.put_number-3.ensures.bytes, c.put_number-2.ensures.bytes, c.put_number.ensures.bytes, c.put-2.ensures.bytes, c.put.ensures.bytes, c.gateway4-2.ensures.value, c.mask.ensures, c.prefix4.ensures, c.from.ensures, c.lease-lease.ensures, c.gateway4.ensures.value, c.code.ensures)
+    (parts-append c.args.out.now (option 53 (code_of_kind c.args.kind ∷ [])) (option 54 p.gateway4.0) (option 51 (to_be_bytes w32 p.lease)) (option 58 (to_be_bytes w32 (p.lease / 2))) (option 59 (to_be_bytes w32 (7 * p.lease / 8))) (option 1 (to_be_bytes w32 (mask p.prefix4))) (option 3 p.gateway4.0) (name_servers p.dns) (echo (look_up 82 c.args.request.now.options)))
