@@ -1,5 +1,4 @@
 pub mod AddressedLemmas
-pub mod ExampleLemmas
 pub mod OneCircuit
 pub mod Runs
 pub mod StartLemmas

@@ -1,8 +1,6 @@
 -- Steps of a world of one circuit, from what happens to its state.
 use Rattle.std.proofs.Common.{◌≡◌, ℕ, zero, suc, ◌≤◌, cond, eqb, List, [], ◌∷◌, refl, sym, ap, subst, subst₂, ◌∙◌, arith, ne_eqb}
 use Rattle.std.specs.Prelude.{Option, Some, None, slice_get}
-use Rattle.types.specs.declared.dest.Proto.{Proto}
-use Rattle.types.specs.declared.dest.Proto.TheVariants.{V4}
 use Rattle.world.specs.Alone.{Setup, Alone, alone_step}
 use Rattle.world.specs.Seen.{Seen, Tick, seen_of, named_by}
 use Rattle.world.specs.Headline.{CircuitState, Represents, frames_to, frame_of, IsOutcome, Answers, after_seen, Steps}
@@ -112,6 +110,3 @@ pub tick_steps : (e : Event) (now : ℕ) (old new : CircuitState) (o : Outcome) 
     → seen_of 0 e ≡ Some (Tick now) → named_by e ≡ None → StepsAs 0 (Tick now) old new o out → o ≡ outcome.Done → out ≡ [] → Steps e (old ∷ []) (new ∷ []) o out
 tick_steps e now old new o out sees unnamed steps done empty =
     seen_steps e (Tick now) old new o out steps sees (λ c name. let h : Some c ≡ None = sym name ∙ unnamed in absurd cc) (λ none. (done, empty))
-
-pub only_v4 : (proto : Proto) → proto ≡ V4
-only_v4 V4 = refl

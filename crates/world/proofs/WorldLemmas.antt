@@ -2,20 +2,25 @@
 use Rattle.std.proofs.Common.{◌≡◌, ℕ, zero, suc, List, [], ◌∷◌, length, take, refl, sym, ap, subst, ◌∙◌}
 use Rattle.std.specs.Prelude.{Option, Some, None, Result, Ok, Err, slice_get}
 use Rattle.types.specs.declared.dest.Dest.{Dest}
+use Rattle.types.specs.declared.addr.Source.{Source}
 use Rattle.types.specs.declared.dest.Proto.{Proto}
+use Rattle.types.specs.declared.dest.Proto.TheVariants.{V4}
 use Rattle.types.specs.declared.discard.Discard.{Discard}
-use Rattle.config.specs.CircuitPart.{CircuitPart}
+use Rattle.config.specs.CircuitPart.{CircuitPart, IsPart}
 use Rattle.dispatch.specs.Addressee.{addressee}
 use Rattle.dispatch.specs.Received.{IsAnswer, received, addressee_served}
 use Rattle.dispatch.specs.Server.{Book, Served, book_at, served}
 use Rattle.dispatch.specs.ServerValue.{ServerValue, book_of}
 use Rattle.lossy_net.specs.Net.{Datagram, NetValue, datagrams}
+use Rattle.lossy_net.specs.declared.dir.Dir.{Dir}
 use Rattle.lossy_net.specs.declared.dir.Dir.TheVariants as dir
-use Rattle.relay.specs.Relays.{relayed_up, relayed_down}
+use Rattle.relay.specs.SentFrame.{SentFrame}
+use Rattle.relay.specs.Relays.{CircuitFrame, for_circuit, relayed_up, relayed_down, relayed_down_in}
+use Rattle.relay.proofs.AllLemmas.{only_one}
 use Rattle.world.specs.Alone.{Setup, Alone, Step, Done, alone_step, frame_step, up_step, answer_step, down_step, reply_step}
 use Rattle.world.specs.Headline.{IsOutcome}
 use Rattle.world.specs.Seen.{Seen, Frame, Up, Down, Tick}
-use Rattle.world.specs.StepsAs.{StepsAs, AreAddressed, machine_of}
+use Rattle.world.specs.StepsAs.{StepsAs, AreAddressed, IsWorld, machine_of}
 use Rattle.world.specs.World.{WorldValue, state_of}
 use Rattle.world.specs.declared.outcome.Outcome.{Outcome}
 use Rattle.world.specs.declared.outcome.Outcome.TheVariants as outcome
@@ -151,19 +156,44 @@ pub down_gone : (c : ℕ) (w : WorldValue) (j : ℕ) (out : List ℕ) → slice_
 down_gone c w j out none empty =
     steps_by c (Down j) w w outcome.Gone out _ (down_is (state_of w).setup (machine_of (state_of w)) j None none) refl refl (refl, empty)
 
-pub down_framed : (c : ℕ) (w : WorldValue) (j : ℕ) (d : Datagram) (dest : Dest) (out : List ℕ) → slice_get (datagrams w.net 0 dir.Down) j ≡ Some d
-    → relayed_down w.server.part d.proto d.bytes ≡ Ok (record { dest = dest; bytes = out })
-    → StepsAs c (Down j) (state_of w) (state_of w) (outcome.Framed c dest) out
-down_framed c w j d dest out there framed =
-    let a = machine_of (state_of w) in
-    steps_by c (Down j) w w (outcome.Framed c dest) out _ (down_is (state_of w).setup a j (Some d) there ∙ ap (reply_step a) framed) refl refl (refl, refl)
+-- what all circuits make of a datagram, where there is one circuit
+for_ok : (r : Result SentFrame Discard) (sent : CircuitFrame) → for_circuit 0 r ≡ Ok sent → (sent.circuit ≡ 0) × (r ≡ Ok sent.frame)
+for_ok (Ok frame) sent h =
+    let same : record { circuit = 0; frame = frame } ≡ sent = cc in
+    (ap (λ (s : CircuitFrame). s.circuit) (sym same), ap (λ (s : CircuitFrame). Ok s.frame) same)
+for_ok (Err why) sent h = absurd cc
 
-pub down_dropped : (c : ℕ) (w : WorldValue) (j : ℕ) (d : Datagram) (why : Discard) (out : List ℕ) → slice_get (datagrams w.net 0 dir.Down) j ≡ Some d
-    → relayed_down w.server.part d.proto d.bytes ≡ Err why → out ≡ []
-    → StepsAs c (Down j) (state_of w) (state_of w) (outcome.Dropped why) out
-down_dropped c w j d why out there dropped empty =
-    let a = machine_of (state_of w) in
-    steps_by c (Down j) w w (outcome.Dropped why) out _ (down_is (state_of w).setup a j (Some d) there ∙ ap (reply_step a) dropped) refl refl (refl, empty)
+for_err : (r : Result SentFrame Discard) (why : Discard) → for_circuit 0 r ≡ Err why → r ≡ Err why
+for_err (Ok frame) why h = absurd cc
+for_err (Err other) why h = let same : other ≡ why = cc in ap Err same
+
+only_v4 : (proto : Proto) → V4 ≡ proto
+only_v4 V4 = refl
+
+-- what the relay makes of a datagram from the server
+relays_down : (w : WorldValue) (d : Datagram) (source : Source) (r : Result CircuitFrame Discard) → IsWorld w → source ≡ w.relays.topology.listen4
+    → relayed_down_in w.relays.topology w.relay source d.bytes ≡ r → for_circuit 0 (relayed_down w.server.part d.proto d.bytes) ≡ r
+relays_down w d source r is from result =
+    ap (λ proto. for_circuit 0 (relayed_down w.server.part proto d.bytes)) (sym (only_v4 d.proto))
+    ∙ sym (only_one w.relays.topology w.relay source d.bytes w.server.part is.circuits is.relay from) ∙ result
+
+module _ (w : WorldValue) (j : ℕ) (d : Datagram) (source : Source) (is : IsWorld w) (from : source ≡ w.relays.topology.listen4)
+    (there : slice_get (datagrams w.net 0 dir.Down) j ≡ Some d) where
+
+  pub down_framed : (found : ℕ) (dest : Dest) (out : List ℕ) → relayed_down_in w.relays.topology w.relay source d.bytes ≡ Ok (record { circuit = found; frame = record { dest = dest; bytes = out } })
+      → StepsAs 0 (Down j) (state_of w) (state_of w) (outcome.Framed found dest) out
+  down_framed found dest out result =
+      let a = machine_of (state_of w) in
+      let frame = for_ok (relayed_down w.server.part d.proto d.bytes) (record { circuit = found; frame = record { dest = dest; bytes = out } }) (relays_down w d source _ is from result) in
+      steps_by 0 (Down j) w w (outcome.Framed found dest) out _ (down_is (state_of w).setup a j (Some d) there ∙ ap (reply_step a) frame.1) refl refl
+      (ap (λ c. outcome.Framed c dest) frame.0, refl)
+
+  pub down_dropped : (why : Discard) (out : List ℕ) → relayed_down_in w.relays.topology w.relay source d.bytes ≡ Err why → out ≡ []
+      → StepsAs 0 (Down j) (state_of w) (state_of w) (outcome.Dropped why) out
+  down_dropped why out result empty =
+      let a = machine_of (state_of w) in
+      let dropped = for_err (relayed_down w.server.part d.proto d.bytes) why (relays_down w d source _ is from result) in
+      steps_by 0 (Down j) w w (outcome.Dropped why) out _ (down_is (state_of w).setup a j (Some d) there ∙ ap (reply_step a) dropped) refl refl (refl, empty)
 
 -- ---- a moment
 
@@ -176,3 +206,47 @@ pub tick_done : (w new : WorldValue) (now : ℕ) (out : List ℕ) → new.net �
 tick_done w new now out net part later empty =
     steps_by 0 (Tick now) w new outcome.Done out _ (tick_is (state_of w).setup (machine_of (state_of w)) now) (same_setup w new part (ap (λ n. n.quota) net))
     (λ i. record { up = datagrams (net i) 0 dir.Up; down = datagrams (net i) 0 dir.Down; book = later i }) (refl, empty)
+
+-- ---- what the world keeps
+
+-- the only circuit of a list of one
+pub only_part : (circuits : List CircuitPart) (part : CircuitPart) (c : ℕ) → circuits ≡ part ∷ [] → c ≡ 0 → slice_get circuits c ≡ Some part
+only_part circuits part c one first = λ i. slice_get (one i) (first i)
+
+pub still_world : (w new : WorldValue) → IsWorld w → new.server.part ≡ w.server.part → new.relays.topology ≡ w.relays.topology → new.relay ≡ w.relay
+    → length new.net.circuits ≡ length w.net.circuits → AreAddressed w.server.part (datagrams new.net 0 dir.Up) → IsWorld new
+still_world w new is part topology relay count addressed =
+    let P : CircuitPart → Type 0 = λ p. IsPart p in
+    let A : CircuitPart → Type 0 = λ p. AreAddressed p (datagrams new.net 0 dir.Up) in
+    record {
+      part = subst P (sym part) is.part;
+      circuits = ap (λ t. t.circuits) topology ∙ is.circuits ∙ ap (λ p. p ∷ []) (sym part);
+      relay = (λ i. slice_get (topology i).relays (relay i)) ∙ is.relay ∙ ap (λ p. Some p.relay) (sym part);
+      listen4 = ap (λ t. t.listen4) topology ∙ is.listen4 ∙ ap (λ p. p.listen4) (sym part);
+      count = count ∙ is.count;
+      addressed = subst A (sym part) addressed;
+    }
+
+pub same_addressed : (part : CircuitPart) (old new : List Datagram) → new ≡ old → AreAddressed part old → AreAddressed part new
+same_addressed part old new same all =
+    let A : List Datagram → Type 0 = AreAddressed part in subst A (sym same) all
+
+-- what was sent up is the circuit's, as all before it is
+pub sent_addressed : (part : CircuitPart) (quota : ℕ) (d : Datagram) (old new : List Datagram) → addressee (part.relay ∷ []) (part ∷ []) part.relay d.bytes ≡ Ok 0
+    → AreAddressed part old → new ≡ take quota (d ∷ old) → AreAddressed part new
+sent_addressed part quota d old new comes all is = same_addressed part (take quota (d ∷ old)) new is (addressed_take part quota (d ∷ old) (comes, all))
+
+-- the lists of circuit 0
+pub kept_at_0 : (n : ℕ) (way : Dir) (old new : NetValue) (d : Datagram) → n ≡ 0 → datagrams new n way ≡ take old.quota (d ∷ datagrams old n way) → datagrams new 0 way ≡ take old.quota (d ∷ datagrams old 0 way)
+kept_at_0 n way old new d first kept =
+    let P : ℕ → Type 0 = λ m. datagrams new m way ≡ take old.quota (d ∷ datagrams old m way) in subst P first kept
+
+pub same_at_0 : (n : ℕ) (way : Dir) (old new : NetValue) → n ≡ 0 → datagrams new n way ≡ datagrams old n way → datagrams new 0 way ≡ datagrams old 0 way
+same_at_0 n way old new first same = let P : ℕ → Type 0 = λ m. datagrams new m way ≡ datagrams old m way in subst P first same
+
+-- what is delivered of circuit 0
+pub delivered_none : (n j : ℕ) (way : Dir) (net : NetValue) → n ≡ 0 → None ≡ slice_get (datagrams net n way) j → slice_get (datagrams net 0 way) j ≡ None
+delivered_none n j way net first none = ap (λ m. slice_get (datagrams net m way) j) (sym first) ∙ sym none
+
+pub delivered_some : (n j : ℕ) (way : Dir) (net : NetValue) (d : Datagram) → n ≡ 0 → Some d ≡ slice_get (datagrams net n way) j → slice_get (datagrams net 0 way) j ≡ Some d
+delivered_some n j way net d first there = ap (λ m. slice_get (datagrams net m way) j) (sym first) ∙ sym there

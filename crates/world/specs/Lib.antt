@@ -1,5 +1,4 @@
 pub mod Alone
-pub mod Examples
 pub mod Headline
 pub mod Region
 pub mod Seen

@@ -3,13 +3,10 @@
 #![tactic(auto)]
 
 mod event;
-pub mod examples;
 mod machine;
 mod model_disk;
 mod outcome;
 mod sink;
-#[cfg(test)]
-mod tests;
 mod two_runs;
 mod world;
 

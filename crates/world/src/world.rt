@@ -162,7 +162,7 @@ impl World {
             Proto::V4 => self.server.part().listen4(),
         };
         match self.relays.down(self.relay, source, datagram, out) {
-            Ok((found, dest)) => Outcome::Framed(found, dest),
+            Ok(sent) => Outcome::Framed(sent.0, sent.1),
             Err(why) => Outcome::Dropped(why),
         }
     }

@@ -1,46 +1,53 @@
-use Rattle.std.proofs.Common.{◌≡◌, [], ◌∷◌, take, sym, ap, ◌∙◌, subst}
-use Rattle.std.specs.Prelude.{Some, None, Ok, Err, slice_get}
+use Rattle.std.proofs.Common.{◌≡◌, refl, sym, ap, ◌∙◌, subst}
+use Rattle.std.specs.Prelude.{Some, Ok, Err, slice_get, Result}
 use Rattle.types.specs.declared.addr.Source.{Source}
-use Rattle.world.specs.Addressee.{addressee}
-use Rattle.world.specs.Dispatch.{IsReceived, book_of}
+use Rattle.types.specs.declared.discard.Discard.{Discard}
+use Rattle.dispatch.specs.Received.{IsAnswer, received}
+use Rattle.dispatch.specs.ServerValue.{book_of}
+use Rattle.lossy_net.specs.Net.{Datagram, datagrams}
+use Rattle.lossy_net.specs.declared.dir.Dir.TheVariants as dir
 use Rattle.world.specs.Seen.{Up}
-use Rattle.world.specs.World.{WorldValue, Moves, place_of}
+use Rattle.world.specs.StepsAs.{StepsAs}
+use Rattle.world.specs.World.{WorldValue, state_of}
 use Rattle.world.specs.declared.outcome.Outcome.TheVariants as outcome
-use Rattle.world.proofs.WorldLemmas.{up_gone, up_sent, up_dropped}
+use Rattle.world.proofs.WorldLemmas.{up_gone, up_sent, up_dropped, kept_at_0, same_at_0, delivered_none, delivered_some}
 use Rattle.world.proofs.world.World.up.Goals as goal
 
-pub returns-in_default-clause-moves : goal.returns-in_default-clause-moves
-returns-in_default-clause-moves c = λ fault.
-    let w : WorldValue = record { server = c.self.inside.server; up = c.self.inside.up.packets.items; down = c.self.inside.down.packets.items; disk = c.self.inside.disk } in
-    let P : WorldValue → Type 0 = λ v. Moves 0 (Up c.args.number c.args.now fault) (place_of v) (place_of v) outcome.Gone c.clear.new.self in
-    let none : slice_get w.up c.args.number ≡ None = sym (c.in_default.ensures ∙ ap (slice_get w.up) c.from.ensures) in
-    subst P c.self.view_is (up_gone w c.args.number c.args.now fault c.clear.new.self none c.clear.ensures)
+pub returns-in_default-clause-steps : goal.returns-in_default-clause-steps
+returns-in_default-clause-steps c = λ fault.
+    let w : WorldValue = record { relays = c.self.inside.relays; relay = c.self.inside.relay; net = c.self.inside.net; server = c.self.inside.server; disk = c.self.inside.disk } in
+    let P : WorldValue → Type 0 = λ v. StepsAs 0 (Up c.args.number c.args.now fault) (state_of v) (state_of v) outcome.Gone c.clear.new.self in
+    subst P c.self.view_is (up_gone w c.args.number c.args.now fault c.clear.new.self (delivered_none c.args.circuit c.args.number dir.Up w.net c.requires c.in_default.ensures) c.clear.ensures)
 
-pub returns-in-Ok-clause-moves : goal.returns-in-Ok-clause-moves
-returns-in-Ok-clause-moves c = λ fault.
-    let w : WorldValue = record { server = c.self.inside.server; up = c.self.inside.up.packets.items; down = c.self.inside.down.packets.items; disk = c.self.inside.disk } in
-    let new : WorldValue = record { server = c.receive.new.self; up = c.self.inside.up.packets.items; down = c.send.new.self.packets.items; disk = c.self.inside.disk } in
-    let P : WorldValue → Type 0 = λ v. Moves 0 (Up c.args.number c.args.now fault) (place_of v) (place_of new) (outcome.SentDown c.len-len.result) c.clear-in-Ok.new.self in
-    let there : slice_get w.up c.args.number ≡ Some c.in-Some.datagram.now = sym (c.in-Some.ensures ∙ ap (slice_get w.up) c.from.ensures) in
-    let kept = c.send.ensures.packets ∙ ap (λ n. take n (c.receive.new.out ∷ w.down)) c.self.invariant.2 in
-    let R : Source → Type 0 = λ source. IsReceived w.server.part c.args.now c.in-Some.datagram.now (book_of w.server) (addressee (w.server.part.relay ∷ []) (w.server.part ∷ []) source c.in-Some.datagram.now)
-    (Ok tt) c.receive.new.out (book_of c.receive.new.self) in
-    let received = subst R (ap (λ p. p.relay) c.own.ensures) c.in-Ok.ensures.received in
+pub returns-in-Ok-clause-steps : goal.returns-in-Ok-clause-steps
+returns-in-Ok-clause-steps c = λ fault.
+    let w : WorldValue = record { relays = c.self.inside.relays; relay = c.self.inside.relay; net = c.self.inside.net; server = c.self.inside.server; disk = c.self.inside.disk } in
+    let new : WorldValue = record w { net = c.send.new.self; server = c.receive.new.self } in
+    let d : Datagram = record { proto = c.in-Some.proto; bytes = c.in-Some.datagram.now } in
+    let there = delivered_some c.args.circuit c.args.number dir.Up w.net d c.requires c.in-Some.ensures in
+    let source = c.relay-source.ensures ∙ ap (λ p. p.relay) c.part.ensures in
+    let A : Source → Type 0 = λ s. IsAnswer (received w.server.part c.args.now s d.bytes (book_of w.server)).answer (Ok tt) c.receive.new.out in
+    let answer = subst A source c.in-Ok.ensures.answer in
+    let book = c.in-Ok.ensures.book ∙ ap (λ s. (received w.server.part c.args.now s d.bytes (book_of w.server)).book) source in
+    let P : WorldValue → Type 0 = λ v. StepsAs 0 (Up c.args.number c.args.now fault) (state_of v) (state_of new) (outcome.SentDown c.len-len.result) c.clear-in-Ok.new.self in
     subst P c.self.view_is (
-    up_sent w c.receive.new.self c.args.number c.args.now fault c.in-Some.datagram.now c.receive.new.out c.send.new.self.packets.items c.len-len.result c.clear-in-Ok.new.self
-    there c.self.invariant.0 c.in-Ok.ensures.part received kept c.len-len.ensures.value c.clear-in-Ok.ensures
+    up_sent w new c.args.number c.args.now fault d (Ok tt) c.receive.new.out there c.self.invariant.addressed answer book c.in-Ok.ensures.part c.send.ensures.quota
+    (same_at_0 c.args.circuit dir.Up w.net new.net c.requires c.send.ensures.other_direction)
+    c.len-len.result c.clear-in-Ok.new.self refl (kept_at_0 c.args.circuit dir.Down w.net new.net _ c.requires c.send.ensures.kept) c.len-len.ensures.value c.clear-in-Ok.ensures
     )
 
-pub returns-in-Err-clause-moves : goal.returns-in-Err-clause-moves
-returns-in-Err-clause-moves c = λ fault.
-    let w : WorldValue = record { server = c.self.inside.server; up = c.self.inside.up.packets.items; down = c.self.inside.down.packets.items; disk = c.self.inside.disk } in
-    let new : WorldValue = record { server = c.receive.new.self; up = c.self.inside.up.packets.items; down = c.self.inside.down.packets.items; disk = c.self.inside.disk } in
-    let P : WorldValue → Type 0 = λ v. Moves 0 (Up c.args.number c.args.now fault) (place_of v) (place_of new) (outcome.Dropped c.in-Err.why) c.receive.new.out in
-    let there : slice_get w.up c.args.number ≡ Some c.in-Some.datagram.now = sym (c.in-Some.ensures ∙ ap (slice_get w.up) c.from.ensures) in
-    let R : Source → Type 0 = λ source. IsReceived w.server.part c.args.now c.in-Some.datagram.now (book_of w.server) (addressee (w.server.part.relay ∷ []) (w.server.part ∷ []) source c.in-Some.datagram.now)
-    (Err c.in-Err.why) c.receive.new.out (book_of c.receive.new.self) in
-    let received = subst R (ap (λ p. p.relay) c.own.ensures) c.in-Err.ensures.received in
+pub returns-in-Err-clause-steps : goal.returns-in-Err-clause-steps
+returns-in-Err-clause-steps c = λ fault.
+    let w : WorldValue = record { relays = c.self.inside.relays; relay = c.self.inside.relay; net = c.self.inside.net; server = c.self.inside.server; disk = c.self.inside.disk } in
+    let new : WorldValue = record w { server = c.receive.new.self } in
+    let d : Datagram = record { proto = c.in-Some.proto; bytes = c.in-Some.datagram.now } in
+    let there = delivered_some c.args.circuit c.args.number dir.Up w.net d c.requires c.in-Some.ensures in
+    let source = c.relay-source.ensures ∙ ap (λ p. p.relay) c.part.ensures in
+    let A : Source → Type 0 = λ s. IsAnswer (received w.server.part c.args.now s d.bytes (book_of w.server)).answer (Err c.in-Err.why) c.receive.new.out in
+    let answer = subst A source c.in-Err.ensures.answer in
+    let book = c.in-Err.ensures.book ∙ ap (λ s. (received w.server.part c.args.now s d.bytes (book_of w.server)).book) source in
+    let P : WorldValue → Type 0 = λ v. StepsAs 0 (Up c.args.number c.args.now fault) (state_of v) (state_of new) (outcome.Dropped c.in-Err.why) c.receive.new.out in
     subst P c.self.view_is (
-    up_dropped w c.receive.new.self c.args.number c.args.now fault c.in-Some.datagram.now c.receive.new.out c.in-Err.why
-    there c.self.invariant.0 c.in-Err.ensures.part received
+    up_dropped w new c.args.number c.args.now fault d (Err c.in-Err.why) c.receive.new.out there c.self.invariant.addressed answer book c.in-Err.ensures.part refl refl
+    c.in-Err.why refl refl
     )
