@@ -83,6 +83,7 @@ impl Relays {
         ensures empty { OnErr result (out.new ≡ []) }
         ensures kept { OnOk result (self.new ≡ self.old) }
         ensures counted { OnErr result (self.new ≡ record self.old { discarded = one_more circuit self.old.discarded }) }
+        ensures topology { self.new.topology ≡ self.old.topology }
     {
         match relay_up(self.part(circuit), proto, frame, out) {
             Ok(()) => Ok(()),
