@@ -1,4 +1,4 @@
--- What each test of reading decides.
+-- The tests of reading, and the facts that they decide.
 use Rattle.std.proofs.Common.{◌≡◌, ℕ, ◌≤◌, Bool, true, false, cond, ◌&&◌, leb, List, [], ◌∷◌, length, get_or, Option, Some, None, refl, arith}
 use Rattle.std.specs.Prelude.{IfSome, is_some, is_none}
 use Rattle.std.specs.Bool.{Decides}
@@ -69,7 +69,7 @@ byte_found : (c code : ℕ) (b : Bool) → Decides b ((1 ≤ c) × (c ≤ 8)) �
 byte_found c code true d e = ((c, refl, (d.0 refl).0, (d.0 refl).1), cc)
 byte_found c code false d e = absurd cc
 
--- A type that was read is the one byte of option 53.
+-- The message type is the one byte of option 53.
 pub kind_found : (found : Option (List ℕ)) (code : ℕ) → kind_in found ≡ Some code → KindIs found × (found ≡ Some (code ∷ []))
 kind_found None code e = absurd cc
 kind_found (Some []) code e = absurd cc

@@ -1,4 +1,4 @@
--- Reading gives a message exactly where the bytes spell it, and a fault exactly where they have it.
+-- Reading returns a message exactly where the bytes spell it, and a fault exactly where they have it.
 use Rattle.std.proofs.Common.{◌≡◌, ℕ, ◌≤◌, Bool, true, false, cond, ◌&&◌, leb, List, ◌∷◌, ◌++◌, length, drop, get_or, Result, Ok, Err, refl, sym, ap, ◌∙◌, append_assoc}
 use Rattle.std.specs.Prelude.{◌↔◌}
 use Rattle.std.specs.Bool.{Decides}
@@ -20,7 +20,7 @@ use Rattle.v4_message.specs.Reading.{has_cookie, is_ethernet, are_allowed, is_op
 use Rattle.v4_message.proofs.Headers.{begins, sized_at, whole}
 use Rattle.v4_message.proofs.Decisions.{refused, cookie, ethernet, allowed, op, kind}
 
--- ---- bytes to what is read
+-- ---- from bytes to the result
 
 abbrev Is : List ℕ → Result MessageValue MessageFault → Type 0
 Is bytes (Ok m) = Spells bytes m
@@ -29,7 +29,7 @@ Is bytes (Err fault) = Fails fault bytes
 abbrev message_at : List ℕ → List (ℕ × List ℕ) → MessageValue
 message_at bytes list = record { header = header_at bytes; options = list }
 
--- What the first three tests found.
+-- The results of the first three tests.
 record Head (bytes : List ℕ) : Type 0 where
   fits : AreBytes bytes
   long : OPTIONS ≤ length bytes
@@ -81,7 +81,7 @@ by_length bytes false fits e = leb-false OPTIONS (length bytes) e
 pub read_is : (bytes : List ℕ) → AreBytes bytes → Is bytes (message_of bytes)
 read_is bytes fits = by_length bytes (leb OPTIONS (length bytes)) fits refl
 
--- ---- what is spelled is read
+-- ---- from what bytes spell to the result
 
 pub read_spells : (bytes : List ℕ) (m : MessageValue) → Spells bytes m → message_of bytes ≡ Ok m
 read_spells bytes m s =
@@ -140,7 +140,7 @@ never_both bytes m fault p q =
 pub distinct : (bytes : List ℕ) (m : MessageValue) → Spells bytes m → AreOptions m.options
 distinct bytes m s = lists_exact.spelled_distinct s.tail m.options s.options
 
--- ---- what was written
+-- ---- a message that was written
 
 pub written_spells : (m : MessageValue) (rest : List ℕ) → IsSized m.header → IsValid m → AreOptions m.options → Spells (message_bytes m ++ rest) m
 written_spells m rest sized valid distinct = record {

@@ -1,4 +1,4 @@
--- A header's bytes give its fields back, and the fields of bytes are written as those bytes.
+-- A header's bytes have its fields, and the fields of bytes are written as those bytes.
 use Rattle.std.proofs.Common.{◌≡◌, ℕ, ◌+◌, ◌^◌, ◌≤◌, ◌<◌, List, [], ◌∷◌, ◌++◌, length, take, drop, get_or, refl, sym, ap, ◌∙◌, append_assoc, arith, inl, inr, lit<}
 use Rattle.std.proofs.Math.Seq.{drop-cons}
 use Rattle.std.proofs.lemmas.Bool.{cases_lt}
@@ -10,19 +10,19 @@ use Rattle.v4_message.specs.declared.field.TheConstants.{OP, HTYPE, HLEN, HOPS, 
 use Rattle.v4_message.specs.Header.{HeaderValue, IsSized, joined, fields_of, header_bytes, part, header_at}
 use Rattle.v4_message.specs.Spelling.{HasCookie, IsEthernet}
 
--- Fields that are appended one after the other.
+-- Appending the fields in turn concatenates them.
 pub gathered : (out first xid secs flags ciaddr yiaddr siaddr giaddr chaddr sname file cookie : List ℕ)
     → (((((((((((out ++ first) ++ xid) ++ secs) ++ flags) ++ ciaddr) ++ yiaddr) ++ siaddr) ++ giaddr) ++ chaddr) ++ sname) ++ file) ++ cookie
     ≡ out ++ ((first ++ (xid ++ (secs ++ (flags ++ (ciaddr ++ (yiaddr ++ (siaddr ++ (giaddr ++ (chaddr ++ (sname ++ (file ++ []))))))))))) ++ cookie)
 gathered out first xid secs flags ciaddr yiaddr siaddr giaddr chaddr sname file cookie = simp (append_assoc, append-nil)
 
--- ---- parts of given sizes, in a row
+-- ---- consecutive parts of given sizes
 
 abbrev cut : ℕ → List ℕ → List ℕ → List (List ℕ)
 cut at [] bytes = []
 cut at (n ∷ ns) bytes = part bytes at n ∷ cut (at + n) ns bytes
 
--- where they end
+-- The offset where they end.
 abbrev end : ℕ → List ℕ → ℕ
 end at [] = at
 end at (n ∷ ns) = end (at + n) ns
@@ -33,7 +33,7 @@ AreSized [] (f ∷ fs) = ⊥
 AreSized (n ∷ ns) [] = ⊥
 AreSized (n ∷ ns) (f ∷ fs) = (length f ≡ n) × AreSized ns fs
 
--- Fields that are joined are cut into the same fields.
+-- Concatenated fields are cut into the same fields.
 cut-joined : (at : ℕ) (ns : List ℕ) (front : List ℕ) (fields : List (List ℕ)) (rest : List ℕ) → length front ≡ at → AreSized ns fields → cut at ns (front ++ (joined fields ++ rest)) ≡ fields
 cut-joined at [] front [] rest e h = refl
 cut-joined at [] front (f ∷ fs) rest e h = absurd h
@@ -55,7 +55,7 @@ length-joined at [] (f ∷ fs) h = absurd h
 length-joined at (n ∷ ns) [] h = absurd h
 length-joined at (n ∷ ns) (f ∷ fs) h = omega (arith, length-append f (joined fs), h.0, length-joined (at + n) ns fs h.1)
 
--- Parts that are cut are joined to the same bytes.
+-- Parts that were cut concatenate to the same bytes.
 joined-cut : (at : ℕ) (ns : List ℕ) (bytes : List ℕ) → joined (cut at ns bytes) ++ drop (end at ns) bytes ≡ drop at bytes
 joined-cut at [] bytes = refl
 joined-cut at (n ∷ ns) bytes =
@@ -155,7 +155,7 @@ sized_from_flags bytes long flags = record {
 pub sized_at : (bytes : List ℕ) → AreBytes bytes → OPTIONS ≤ length bytes → IsSized (header_at bytes)
 sized_at bytes fits long = sized_from_flags bytes long (omega (arith, part_fits bytes FLAGS FLAGS_LEN 0 fits, part_fits bytes FLAGS FLAGS_LEN 1 fits))
 
--- Bytes with a cookie are their header, the cookie, and what is behind it.
+-- Bytes with a cookie are their header, the cookie, and the bytes after it.
 pub whole : (bytes : List ℕ) → AreBytes bytes → OPTIONS ≤ length bytes → HasCookie bytes → IsEthernet bytes → bytes ≡ header_bytes (header_at bytes) ++ (MAGIC_COOKIE ++ drop OPTIONS bytes)
 whole bytes fits long cookie ethernet =
     let op : part bytes OP 1 ≡ get_or bytes OP 0 ∷ [] = one_byte bytes OP (omega arith) in

@@ -1,4 +1,4 @@
--- How long a message is that is written: no longer than what it was read from.
+-- A written message is no longer than the bytes that it was read from.
 use Rattle.std.proofs.Common.{◌≡◌, ℕ, ◌+◌, ◌≤◌, List, [], ◌∷◌, ◌++◌, length, ap, arith}
 use Rattle.std.proofs.lemmas.List.{length-append}
 use Rattle.v4_options.specs.declared.code.TheConstants.{END}

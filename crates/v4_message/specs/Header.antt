@@ -3,7 +3,7 @@ use Rattle.std.specs.Prelude.{◌≡◌, ℕ, ◌<◌, ◌^◌, List, [], ◌∷
 use Rattle.std.specs.Int.{w16, to_be_bytes, from_be_bytes}
 use Rattle.v4_message.specs.declared.field.TheConstants.{OP, HOPS, XID, SECS, FLAGS, CIADDR, YIADDR, SIADDR, GIADDR, CHADDR, SNAME, FILE, XID_LEN, SECS_LEN, FLAGS_LEN, ADDR_LEN, CHADDR_LEN, SNAME_LEN, FILE_LEN, ETHERNET, ETHERNET_LEN}
 
--- op, hops and flags are numbers, all others are bytes.
+-- op, hops and flags are numbers; every other field is a list of bytes.
 pub record HeaderValue : Type 0 where
   pub op : ℕ
   pub hops : ℕ
@@ -18,7 +18,7 @@ pub record HeaderValue : Type 0 where
   pub sname : List ℕ
   pub file : List ℕ
 
--- Each field has its number of bytes, and flags fits two.
+-- Each field has its length, and flags fits two bytes.
 pub record IsSized (h : HeaderValue) : Type 0 where
   pub xid : length h.xid ≡ XID_LEN
   pub secs : length h.secs ≡ SECS_LEN
@@ -31,7 +31,7 @@ pub record IsSized (h : HeaderValue) : Type 0 where
   pub sname : length h.sname ≡ SNAME_LEN
   pub file : length h.file ≡ FILE_LEN
 
--- The bytes of some fields, one behind the other.
+-- The bytes of some fields, concatenated.
 abbrev pub joined : List (List ℕ) → List ℕ
 joined [] = []
 joined (field ∷ fields) = field ++ joined fields
@@ -47,11 +47,11 @@ fields_of h =
 abbrev pub header_bytes : HeaderValue → List ℕ
 header_bytes h = joined (fields_of h)
 
--- So many bytes from a place on.
+-- `len` bytes from offset `at`.
 abbrev pub part : List ℕ → ℕ → ℕ → List ℕ
 part bytes at len = take len (drop at bytes)
 
--- The fields as they lie in a message's bytes.
+-- The fields at their offsets in a message's bytes.
 abbrev pub header_at : List ℕ → HeaderValue
 header_at bytes = record {
   op = slice_index bytes OP;

@@ -8,7 +8,7 @@ use Rattle.v4_message.specs.declared.field.TheConstants.{OPTIONS}
 use Rattle.v4_message.specs.Header.{header_at}
 use Rattle.v4_message.specs.Spelling.{IsValid}
 
--- These bytes have a valid header and these valid options, and option 53 says this type.
+-- The bytes have a valid header and these valid options, and option 53 is this type.
 pub record IsRead (bytes : List ℕ) (options : List (ℕ × List ℕ)) (kind : Kind4) : Type 0 where
   pub long : OPTIONS ≤ length bytes
   pub valid : IsValid (record { header = header_at bytes; options = options })

@@ -18,7 +18,7 @@ has_cookie bytes = bytes_eq (part bytes COOKIE COOKIE_LEN) MAGIC_COOKIE
 abbrev pub is_ethernet : List ℕ → Bool
 is_ethernet bytes = slice_index bytes HTYPE == ETHERNET && slice_index bytes HLEN == ETHERNET_LEN
 
--- An address, where it is there.
+-- An address, or absent.
 abbrev pub may_be_addr : Option (List ℕ) → Bool
 may_be_addr None = true
 may_be_addr (Some value) = length value == ADDR_LEN
@@ -29,7 +29,7 @@ are_allowed list = is_none (look_up OPTION_OVERLOAD list) && (may_be_addr (look_
 abbrev pub is_op : ℕ → Bool
 is_op op = op == OP_REQUEST || op == OP_REPLY
 
--- The message type that option 53 says.
+-- The message type in option 53.
 abbrev pub kind_in : Option (List ℕ) → Option ℕ
 kind_in None = None
 kind_in (Some []) = None
@@ -49,7 +49,7 @@ abbrev pub with_options : List ℕ → Result (List (ℕ × List ℕ)) OptFault 
 with_options bytes (Ok list) = judged bytes list
 with_options bytes (Err fault) = Err Options
 
--- What reading gives.
+-- The result of reading.
 abbrev pub message_of : List ℕ → Result MessageValue MessageFault
 message_of bytes =
     if nat_le OPTIONS (length bytes) then

@@ -14,16 +14,16 @@ pub record MessageValue : Type 0 where
   pub header : HeaderValue
   pub options : List (ℕ × List ℕ)
 
--- op is a request's or a reply's.
+-- op is a request or a reply.
 abbrev pub IsOp : ℕ → Type 0
 IsOp op = (op ≡ OP_REQUEST) ⊎ (op ≡ OP_REPLY)
 
--- Option 53 is one byte, a message type's (RFC 2132, section 9.6).
+-- Option 53 is one byte, a message type (RFC 2132, section 9.6).
 abbrev pub HasKind : List (ℕ × List ℕ) → Type 0
 HasKind list = (code : ℕ) × (look_up MESSAGE_TYPE list ≡ Some (code ∷ [])) × (1 ≤ code) × (code ≤ 8)
 
--- There is no overload (RFC 2132, section 9.3), and options 50 and 54 are addresses where they are
--- there (RFC 2132, sections 9.1 and 9.7).
+-- There is no overload (RFC 2132, section 9.3), and options 50 and 54 are addresses or absent (RFC
+-- 2132, sections 9.1 and 9.7).
 pub record AreAllowed (list : List (ℕ × List ℕ)) : Type 0 where
   pub overload : look_up OPTION_OVERLOAD list ≡ None
   pub requested : IfSome (look_up REQUESTED_ADDRESS list) (λ value. length value ≡ ADDR_LEN)
@@ -34,7 +34,7 @@ pub record IsValid (m : MessageValue) : Type 0 where
   pub kind : HasKind m.options
   pub allowed : AreAllowed m.options
 
--- Bytes spell a message where they are its header, the cookie, and bytes that spell its options, and
+-- Bytes spell a message if they are its header, the cookie, and bytes that spell its options, and
 -- the message is valid.
 pub record Spells (bytes : List ℕ) (m : MessageValue) : Type 0 where
   pub tail : List ℕ
@@ -43,7 +43,7 @@ pub record Spells (bytes : List ℕ) (m : MessageValue) : Type 0 where
   pub sized : IsSized m.header
   pub valid : IsValid m
 
--- The bytes of a message that is written: the header, the cookie, the options and their end.
+-- The bytes of a written message: the header, the cookie, the options and their end.
 abbrev pub message_bytes : MessageValue → List ℕ
 message_bytes m = header_bytes m.header ++ (MAGIC_COOKIE ++ (spelling m.options ++ END ∷ []))
 
@@ -55,14 +55,14 @@ HasCookie bytes = part bytes COOKIE COOKIE_LEN ≡ MAGIC_COOKIE
 abbrev pub IsEthernet : List ℕ → Type 0
 IsEthernet bytes = (slice_index bytes HTYPE ≡ ETHERNET) × (slice_index bytes HLEN ≡ ETHERNET_LEN)
 
--- From the options on the bytes spell this list, and it may stand in a message.
+-- The bytes after the cookie spell this list, which is allowed in a message.
 pub record HasOptions (bytes : List ℕ) (list : List (ℕ × List ℕ)) : Type 0 where
   pub spelled : lists.Spells (drop OPTIONS bytes) list
   pub allowed : AreAllowed list
 
--- What is wrong with the bytes where nothing that is tested before it is: fewer bytes than a header and
--- a cookie, another cookie, other hardware than Ethernet, no options that may stand in a message, or
--- not both a known op and a known type.
+-- A fault applies where none before it does: fewer bytes than a header and a cookie, another cookie,
+-- other hardware than Ethernet, no options that are allowed in a message, or not both a known op and
+-- a known type.
 abbrev pub Fails : MessageFault → List ℕ → Type 0
 Fails Short bytes = length bytes < OPTIONS
 Fails Cookie bytes = (OPTIONS ≤ length bytes) × (¬ HasCookie bytes)

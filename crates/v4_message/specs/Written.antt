@@ -1,4 +1,4 @@
--- The fields that a header's writer is given.
+-- The fields of a header that is to be written.
 use Rattle.v4_message.specs.declared.header.Header.{Header}
 use Rattle.v4_message.specs.Header.{HeaderValue}
 

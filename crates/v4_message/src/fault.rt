@@ -2,22 +2,22 @@
 
 use thiserror::Error;
 
-/// Why bytes spell no message. The first that applies is told.
+/// Why bytes spell no message. The first fault that applies, in this order, is reported.
 #[derive(Clone, Copy, Debug, PartialEq, Eq, Error)]
 pub enum MessageFault {
-    /// The bytes are fewer than a header and a cookie.
+    /// There are fewer bytes than a header and a cookie have.
     #[error("the message is too short")]
     Short,
-    /// What stands before the options is not DHCP's cookie.
-    #[error("the message has another cookie")]
+    /// The four bytes before the options are not DHCP's cookie.
+    #[error("the message has no DHCP cookie")]
     Cookie,
     /// The hardware address is not an Ethernet address.
     #[error("the message's hardware is not Ethernet")]
     Hardware,
-    /// The options are not readable, have an overload, or have an address of another length than 4.
+    /// The options have a fault or an overload (52), or an address (50 or 54) is not 4 bytes long.
     #[error("the message's options are malformed")]
     Options,
-    /// op is neither a request's nor a reply's, or there is no message type from 1 to 8.
+    /// op is neither a request nor a reply, or option 53 is not a message type from 1 to 8.
     #[error("the message has no known type")]
     Kind,
 }

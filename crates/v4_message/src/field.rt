@@ -1,4 +1,4 @@
-//! Where the fields of a message lie, and how many bytes they have (RFC 2131, section 2).
+//! The offsets and lengths of a message's fields, in bytes (RFC 2131, section 2).
 
 pub const OP: usize = 0;
 
@@ -38,10 +38,10 @@ pub const SECS_LEN: usize = 2;
 
 pub const FLAGS_LEN: usize = 2;
 
-/// The bytes of an address: of ciaddr, yiaddr, siaddr and giaddr, and of options 50 and 54.
+/// The length of an address: ciaddr, yiaddr, siaddr and giaddr, and options 50 and 54.
 pub const ADDR_LEN: usize = 4;
 
-/// The bytes of chaddr, of which an Ethernet client uses 6.
+/// The length of chaddr, of which an Ethernet client uses 6 bytes.
 pub const CHADDR_LEN: usize = 16;
 
 pub const SNAME_LEN: usize = 64;
@@ -50,11 +50,11 @@ pub const FILE_LEN: usize = 128;
 
 pub const COOKIE_LEN: usize = 4;
 
-/// Ethernet, the one hardware type that is read (RFC 1700, "Hardware Type").
+/// Ethernet, the only supported hardware type (RFC 1700, "Hardware Type").
 pub const ETHERNET: u8 = 1;
 
-/// The bytes of an Ethernet address.
+/// The length of an Ethernet address.
 pub const ETHERNET_LEN: u8 = 6;
 
-/// What stands before the options (RFC 2131, section 3).
+/// The four bytes before the options (RFC 2131, section 3).
 pub const MAGIC_COOKIE: [u8; 4] = [99, 130, 83, 99];

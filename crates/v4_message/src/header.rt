@@ -1,4 +1,4 @@
-//! A message's header as values, for those who write messages (RFC 2131, section 2).
+//! A message's header as values, for writing messages (RFC 2131, section 2).
 ghost use Rattle.std.specs.Prelude.{◌≡◌, ◌≤◌, ◌+◌, ◌↔◌, [], ◌++◌, length, IsOk, OnOk, OnErr};
 ghost use Rattle.v4_message.specs.Header.{header_bytes, IsSized};
 
@@ -12,7 +12,7 @@ pub const OP_REQUEST: u8 = 1;
 /// A server's message (BOOTREPLY).
 pub const OP_REPLY: u8 = 2;
 
-/// Set in `flags` where the client can't take a unicast yet.
+/// Set in `flags` if the client cannot receive unicast yet (RFC 2131, section 2).
 pub const BROADCAST: u16 = 0x8000;
 
 /// The fields of a header, by the standard's names. The hardware is Ethernet.
@@ -35,7 +35,8 @@ pub struct Header<'a> {
 impl<'a> Header<'a> {
     ghost use Rattle.v4_message.specs.Written.{header_value};
 
-    /// Appends the header and the cookie, 240 bytes. Options follow, and their end.
+    /// Appends the header and the cookie, 240 bytes; the caller appends the options and their end. Where
+    /// they do not fit, `out` is left empty.
     pub fn write(&self, out: &mut PacketBuf) -> Result<(), Full>
         ensures full { IsOk result ↔ (length out.old + OPTIONS ≤ MAX_DATAGRAM) }
         ensures ok { OnOk result (out.new ≡ out.old ++ (header_bytes (header_value self.now) ++ MAGIC_COOKIE)) }
@@ -63,7 +64,7 @@ impl<'a> Header<'a> {
     }
 }
 
-/// Appends bytes for which there is room.
+/// Appends bytes that fit.
 fn append(out: &mut PacketBuf, bytes: &[u8])
     requires { length out.old + length bytes.now ≤ MAX_DATAGRAM }
     ensures bytes { out.new ≡ out.old ++ bytes.now }

@@ -6,14 +6,14 @@ ghost use Rattle.v4_message.specs.Header.{IsSized};
 ghost use Rattle.v4_message.specs.Reading.{message_of};
 ghost use Rattle.v4_message.specs.Spelling.{MessageValue, IsValid, Spells, Fails, message_bytes};
 
-/// What was written reads again to the same message, whatever follows it.
+/// A message that was written reads back as the same message, whatever bytes follow it.
 pub fn written_is_read()
     ensures read { (m : MessageValue) (rest : List ℕ) → IsSized m.header → IsValid m → AreOptions m.options → message_of (message_bytes m ++ rest) ≡ Ok m }
     ensures spelled { (m : MessageValue) (rest : List ℕ) → IsSized m.header → IsValid m → AreOptions m.options → Spells (message_bytes m ++ rest) m }
 {}
 
-/// Bytes spell at most one message, have at most one fault, and never both. Messages that are spelled
-/// have distinct options.
+/// Bytes spell at most one message, have at most one fault, and never both. The options of a spelled
+/// message have distinct codes.
 pub fn one_reading()
     ensures message { (bytes : List ℕ) (a : MessageValue) (b : MessageValue) → Spells bytes a → Spells bytes b → a ≡ b }
     ensures fault { (bytes : List ℕ) (a : MessageFault) (b : MessageFault) → Fails a bytes → Fails b bytes → a ≡ b }

@@ -1,4 +1,4 @@
-//! DHCPv4 messages (RFC 2131, section 2): what message some bytes spell, and the bytes of a message.
+//! DHCPv4 messages (RFC 2131, section 2): the message that bytes spell, and the bytes of a message.
 #![tactic(auto)]
 
 mod fault;

@@ -18,7 +18,7 @@ use types::{Addr4, Kind4, MAX_DATAGRAM};
 use v4_options::{Options, code};
 use wire::{Full, PacketBuf};
 
-/// A message as it was read. What it gives are slices of the source, or small values.
+/// A message in the bytes that it was read from. Its fields are slices of those bytes, or small values.
 #[derive(Debug, Drop)]
 pub struct Message<'a> {
     bytes: &'a [u8],
@@ -39,13 +39,13 @@ impl<'a> Model for Message<'a> {
 }
 
 impl<'a> Message<'a> {
-    /// The message that these bytes spell. What is behind the end option is not read.
+    /// The message that these bytes spell. The bytes after the end option are ignored.
     pub fn read(bytes: &'a [u8]) -> Result<Message<'a>, MessageFault>
         ensures exact { result ≡ message_of bytes.now }
         ensures spelled { (m : MessageValue) → result ≡ Ok m ↔ Spells bytes.now m }
         ensures fails { (fault : MessageFault) → result ≡ Err fault ↔ Fails fault bytes.now }
     {
-        tested(bytes)
+        message_in(bytes)
     }
 
     pub fn op(&self) -> u8
@@ -96,14 +96,14 @@ impl<'a> Message<'a> {
         Addr4(*array_at(self.bytes, field::SIADDR))
     }
 
-    /// The first relay agent's address, 0 where the message has passed none.
+    /// The first relay agent's address, 0.0.0.0 where no relay has forwarded the message.
     pub fn giaddr(&self) -> Addr4
         ensures { result.0 ≡ self.now.header.giaddr }
     {
         Addr4(*array_at(self.bytes, field::GIADDR))
     }
 
-    /// 16 bytes, of which an Ethernet client uses 6.
+    /// The client's hardware address: 16 bytes, of which an Ethernet client uses 6.
     pub fn chaddr(&self) -> &'a [u8; 16]
         ensures { result.now ≡ self.now.header.chaddr }
     {
@@ -128,7 +128,7 @@ impl<'a> Message<'a> {
         &self.options
     }
 
-    /// Option 53.
+    /// Option 53, the message type.
     pub fn kind(&self) -> Kind4
         ensures value { look_up MESSAGE_TYPE self.now.options ≡ Some (code_of_kind result ∷ []) }
         ensures valid { IsValid self.now }
@@ -136,7 +136,7 @@ impl<'a> Message<'a> {
         self.kind
     }
 
-    /// Option 50.
+    /// Option 50, the address that the client requests.
     pub fn requested_address(&self) -> Option<Addr4>
         ensures { option_map (λ addr. addr.0) result ≡ look_up REQUESTED_ADDRESS self.now.options }
     {
@@ -146,7 +146,7 @@ impl<'a> Message<'a> {
         }
     }
 
-    /// Option 54.
+    /// Option 54, the server that the message names.
     pub fn server_identifier(&self) -> Option<Addr4>
         ensures { option_map (λ addr. addr.0) result ≡ look_up SERVER_IDENTIFIER self.now.options }
     {
@@ -163,7 +163,7 @@ impl<'a> Message<'a> {
         self.options.get(code::CLIENT_IDENTIFIER)
     }
 
-    /// Option 82, a row of suboptions that is still to be read.
+    /// Option 82, a list of suboptions (`Suboptions::read` reads it).
     pub fn relay_agent_information(&self) -> Option<&'a [u8]>
         ensures value { option_map (λ value. value.now) result ≡ look_up RELAY_AGENT_INFORMATION self.now.options }
         ensures fits { IfSome result (λ value. length value.now < 256) }
@@ -171,7 +171,7 @@ impl<'a> Message<'a> {
         self.options.get(code::RELAY_AGENT_INFORMATION)
     }
 
-    /// The header as values.
+    /// The header's fields as values.
     pub fn header(&self) -> Header<'a>
         ensures value { header_value result ≡ self.now.header }
         ensures sized { IsSized self.now.header }
@@ -193,7 +193,8 @@ impl<'a> Message<'a> {
         }
     }
 
-    /// Appends the message: its options in order, without pads, and nothing behind the end option.
+    /// Appends the message: its options in order, without pads, and nothing after the end option. Where
+    /// it does not fit, `out` is left empty.
     pub fn write(&self, out: &mut PacketBuf) -> Result<(), Full>
         ensures full { IsOk result ↔ (length out.old + length (message_bytes self.now) ≤ MAX_DATAGRAM) }
         ensures ok { OnOk result (out.new ≡ out.old ++ message_bytes self.now) }
@@ -209,27 +210,27 @@ impl<'a> Message<'a> {
     }
 }
 
-/// The tests in their order.
-fn tested(bytes: &[u8]) -> Result<Message<'_>, MessageFault>
+/// The message, or the first fault in the order of `MessageFault`.
+fn message_in(bytes: &[u8]) -> Result<Message<'_>, MessageFault>
     ensures { result ≡ message_of bytes.now }
 {
     if bytes.len() < field::OPTIONS {
         return Err(MessageFault::Short);
     }
-    if !with_cookie(bytes) {
+    if !has_cookie(bytes) {
         return Err(MessageFault::Cookie);
     }
-    if !on_ethernet(bytes) {
+    if !is_ethernet(bytes) {
         return Err(MessageFault::Hardware);
     }
     let (_, tail) = bytes.split_at(field::OPTIONS);
     let Ok(options) = Options::read(tail) else {
         return Err(MessageFault::Options);
     };
-    if !allowed(&options) {
+    if !are_allowed(&options) {
         return Err(MessageFault::Options);
     }
-    if !known_op(bytes[field::OP]) {
+    if !is_op(bytes[field::OP]) {
         return Err(MessageFault::Kind);
     }
     match kind_of(&options) {
@@ -242,36 +243,36 @@ fn tested(bytes: &[u8]) -> Result<Message<'_>, MessageFault>
     }
 }
 
-fn with_cookie(bytes: &[u8]) -> bool
+fn has_cookie(bytes: &[u8]) -> bool
     requires { OPTIONS ≤ length bytes.now }
     ensures { result ≡ has_cookie bytes.now }
 {
     &bytes[field::COOKIE..field::COOKIE + field::COOKIE_LEN] == field::MAGIC_COOKIE.as_slice()
 }
 
-fn on_ethernet(bytes: &[u8]) -> bool
+fn is_ethernet(bytes: &[u8]) -> bool
     requires { OPTIONS ≤ length bytes.now }
     ensures { result ≡ is_ethernet bytes.now }
 {
     bytes[field::HTYPE] == field::ETHERNET && bytes[field::HLEN] == field::ETHERNET_LEN
 }
 
-fn known_op(op: u8) -> bool
+fn is_op(op: u8) -> bool
     ensures { result ≡ is_op op }
 {
     op == OP_REQUEST || op == OP_REPLY
 }
 
-fn allowed(options: &Options<'_>) -> bool
+fn are_allowed(options: &Options<'_>) -> bool
     ensures { result ≡ are_allowed options.now }
 {
     options.get(code::OPTION_OVERLOAD).is_none()
-        && has_addr_at_most(options, code::REQUESTED_ADDRESS)
-        && has_addr_at_most(options, code::SERVER_IDENTIFIER)
+        && has_addr_or_none(options, code::REQUESTED_ADDRESS)
+        && has_addr_or_none(options, code::SERVER_IDENTIFIER)
 }
 
-/// Whether the option of this code is an address, or absent.
-fn has_addr_at_most(options: &Options<'_>, code: u8) -> bool
+/// Whether the option with this code is an address or absent.
+fn has_addr_or_none(options: &Options<'_>, code: u8) -> bool
     ensures { result ≡ may_be_addr (look_up code options.now) }
 {
     match options.get(code) {

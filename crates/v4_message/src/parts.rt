@@ -1,11 +1,11 @@
-//! Parts of known length.
+//! Parts of a message whose length is known.
 ghost use Rattle.std.specs.Prelude.{◌≡◌, ◌+◌, ◌≤◌, length};
 ghost use Rattle.types.specs.declared.addr.Addr4.{Addr4};
 ghost use Rattle.v4_message.specs.Header.{part};
 
 use types::Addr4;
 
-/// As many bytes from here on as the array has.
+/// The `N` bytes from offset `at`.
 pub(crate) fn array_at<const N: usize>(bytes: &[u8], at: usize) -> &[u8; N]
     requires { at + N ≤ length bytes.now }
     ensures { result.now ≡ part bytes.now at N }
@@ -16,7 +16,7 @@ pub(crate) fn array_at<const N: usize>(bytes: &[u8], at: usize) -> &[u8; N]
     }
 }
 
-/// The address of these four bytes.
+/// The address that these four bytes are.
 pub(crate) fn addr_of(bytes: &[u8]) -> Addr4
     requires { length bytes.now ≡ 4 }
     ensures { result.0 ≡ bytes.now }

@@ -21,7 +21,7 @@ fn discover() -> [u8; 300] {
     bytes
 }
 
-/// These options behind that header.
+/// The same header with these options.
 fn with_options(options: &[u8]) -> [u8; 300] {
     let mut bytes = discover();
     for (i, byte) in options.iter().enumerate() {
@@ -32,7 +32,7 @@ fn with_options(options: &[u8]) -> [u8; 300] {
     bytes
 }
 
-/// The first so many bytes.
+/// The first `len` bytes.
 fn front(bytes: &[u8], len: usize) -> &[u8] {
     match bytes.get(..len) {
         Some(front) => front,
@@ -40,7 +40,7 @@ fn front(bytes: &[u8], len: usize) -> &[u8] {
     }
 }
 
-/// So many bytes, and no others.
+/// Replaces the contents by `len` bytes.
 fn fill(out: &mut PacketBuf, len: usize) {
     out.clear();
     for _ in 0..len {
@@ -180,7 +180,7 @@ fn faults_in_their_order(rt: HostRuntime) {
     ] {
         assert_eq!(rt; fault(front(&bytes, len)), want, "{len} bytes");
     }
-    // from the last test to the first, each fault is told before those behind it
+    // each fault is reported before those that are tested after it
     let mut bytes = with_options(&[53, 1, 1, 52, 0, 255]);
     bytes[0] = 3;
     assert_eq!(rt; fault(&bytes), Some(MessageFault::Options));
@@ -211,8 +211,8 @@ fn what_does_not_fit_leaves_nothing(rt: HostRuntime) {
 }
 
 #[test]
-fn faults_have_words(rt: HostRuntime) -> Result<(), std::test::Fail> {
-    let words = format!(in rt.alloc(); "{}", MessageFault::Hardware)?;
-    assert_eq!(rt; words.as_str(), "the message's hardware is not Ethernet");
+fn faults_have_texts(rt: HostRuntime) -> Result<(), std::test::Fail> {
+    let texts = format!(in rt.alloc(); "{}", MessageFault::Hardware)?;
+    assert_eq!(rt; texts.as_str(), "the message's hardware is not Ethernet");
     Ok(())
 }

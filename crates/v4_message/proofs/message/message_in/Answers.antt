@@ -3,7 +3,7 @@ use Rattle.types.specs.Kind4.{code_of_kind}
 use Rattle.v4_options.specs.declared.code.TheConstants.{MESSAGE_TYPE}
 use Rattle.v4_options.specs.Spelling.{look_up}
 use Rattle.v4_message.proofs.Decisions.{op, allowed, kind_found}
-use Rattle.v4_message.proofs.message.tested.Goals as goal
+use Rattle.v4_message.proofs.message.message_in.Goals as goal
 
 pub invariant_of-result : goal.invariant_of-result
 invariant_of-result c =
@@ -11,9 +11,9 @@ invariant_of-result c =
     record {
       long = omega arith;
       valid = record {
-        op = (op _).0 (sym c.known_op.ensures ∙ c.if-not-known_op.false);
+        op = (op _).0 (sym c.is_op.ensures ∙ c.if-not-is_op.false);
         kind = found.0;
-        allowed = (allowed c.in-Ok.options).0 (sym c.allowed.ensures ∙ c.if-not-allowed.false);
+        allowed = (allowed c.in-Ok.options).0 (sym c.are_allowed.ensures ∙ c.if-not-are_allowed.false);
       };
       kind_is = found.1;
     }
