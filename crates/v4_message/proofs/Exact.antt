@@ -1,5 +1,5 @@
 -- Reading returns a message exactly where the bytes spell it, and a fault exactly where they have it.
-use Rattle.std.proofs.Common.{◌≡◌, ℕ, ◌≤◌, Bool, true, false, cond, ◌&&◌, leb, List, ◌∷◌, ◌++◌, length, drop, get_or, Result, Ok, Err, refl, sym, ap, ◌∙◌, append_assoc}
+use Rattle.std.proofs.Common.{◌≡◌, ℕ, ◌≤◌, Bool, true, false, cond, ◌&&◌, leb, List, ◌∷◌, ◌++◌, length, drop, get_or, Result, Ok, Err, refl, ap, ◌∙◌, append_assoc}
 use Rattle.std.specs.Prelude.{◌↔◌}
 use Rattle.std.specs.Bool.{Decides}
 use Rattle.std.proofs.lemmas.Bool.{le-leb, lt-leb, leb-true, leb-false}
@@ -11,6 +11,7 @@ use Rattle.v4_options.specs.Spelling.{spelling, AreOptions}
 use Rattle.v4_options.specs.Spelling as lists
 use Rattle.v4_options.specs.Reading.{options_of}
 use Rattle.v4_options.proofs.Exact as lists_exact
+use Rattle.v4_options.proofs.Results.{one_ok, one_err, ok_or_err}
 use Rattle.v4_message.specs.declared.field.TheConstants.{OP, OPTIONS}
 use Rattle.v4_message.specs.declared.fault.MessageFault.{MessageFault}
 use Rattle.v4_message.specs.declared.fault.MessageFault.TheVariants.{Short, Cookie, Hardware, Options, Kind}
@@ -123,19 +124,13 @@ pub fails : (bytes : List ℕ) → AreBytes bytes → (fault : MessageFault) →
 fails bytes fits fault = (λ e. rw e at (read_is bytes fits), read_fails bytes fault)
 
 pub one_message : (bytes : List ℕ) (a b : MessageValue) → Spells bytes a → Spells bytes b → a ≡ b
-one_message bytes a b p q =
-    let e : ok a ≡ ok b = sym (read_spells bytes a p) ∙ read_spells bytes b q in
-    cc
+one_message bytes a b p q = one_ok (message_of bytes) a b (read_spells bytes a p) (read_spells bytes b q)
 
 pub one_fault : (bytes : List ℕ) (a b : MessageFault) → Fails a bytes → Fails b bytes → a ≡ b
-one_fault bytes a b p q =
-    let e : err a ≡ err b = sym (read_fails bytes a p) ∙ read_fails bytes b q in
-    cc
+one_fault bytes a b p q = one_err (message_of bytes) a b (read_fails bytes a p) (read_fails bytes b q)
 
 pub never_both : (bytes : List ℕ) (m : MessageValue) (fault : MessageFault) → Spells bytes m → Fails fault bytes → ⊥
-never_both bytes m fault p q =
-    let e : ok m ≡ err fault = sym (read_spells bytes m p) ∙ read_fails bytes fault q in
-    cc
+never_both bytes m fault p q = ok_or_err (message_of bytes) m fault (read_spells bytes m p) (read_fails bytes fault q)
 
 pub distinct : (bytes : List ℕ) (m : MessageValue) → Spells bytes m → AreOptions m.options
 distinct bytes m s = lists_exact.spelled_distinct s.tail m.options s.options

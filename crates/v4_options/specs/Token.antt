@@ -11,7 +11,8 @@ use Rattle.v4_options.specs.Spelling.{option, IsShort}
 abbrev pub IsCode : Syntax → ℕ → Type 0
 IsCode syntax code = (is_pad syntax code ≡ false) × (is_end syntax code ≡ false)
 
--- The bytes before and after the token was taken.
+-- By the token, for the bytes before and after it was taken. Where a list stops, the bytes after it do
+-- not matter.
 abbrev pub BeginsWith : Syntax → Token → List ℕ → List ℕ → Type 0
 BeginsWith syntax Nothing old new = old ≡ []
 BeginsWith syntax Pad old new = (old ≡ PAD ∷ new) × (is_pad syntax PAD ≡ true)
@@ -19,6 +20,6 @@ BeginsWith syntax End old new = (old ≡ END ∷ new) × (is_pad syntax END ≡ 
 BeginsWith syntax Cut old new = (code : ℕ) × (rest : List ℕ) × (old ≡ code ∷ rest) × IsCode syntax code × IsShort rest
 BeginsWith syntax (Whole code value) old new = (old ≡ option code value.now ++ new) × IsCode syntax code × (length value.now < 256)
 
--- The bytes `old` begin with this token, and `new` are left.
+-- The bytes `old` begin with this token, and taking it leaves `new`.
 pub record Begins (syntax : Syntax) (token : Token) (old new : List ℕ) : Type 0 where
   pub here : BeginsWith syntax token old new
