@@ -1,5 +1,5 @@
 -- Look-ups by client, the addresses that are free, and the pick, by slots.
-use Rattle.std.proofs.Common.{◌≡◌, ◌≢◌, ℕ, zero, suc, ◌+◌, ◌-◌, ◌<◌, ◌≤◌, Bool, true, false, not, ◌&&◌, ◌||◌, cond, eqb, List, [], ◌∷◌, map, length, get_or, ltb, ltb-false, refl, sym, ap, subst, ◌∙◌, arith, eq-eqb}
+use Rattle.std.proofs.Common.{◌≡◌, ◌≢◌, ℕ, zero, suc, ◌+◌, ◌-◌, ◌<◌, Bool, true, false, not, ◌&&◌, ◌||◌, cond, eqb, List, [], ◌∷◌, map, length, get_or, refl, sym, ap, ◌∙◌, arith, eq-eqb}
 use borrow.Author.Tests.{ltb-true}
 use Rattle.std.specs.Prelude.{Option, Some, None, ◌==◌, is_some, option_map, nat_lt}
 use Rattle.std.specs.declared.cmp.Ordering.{Ordering}
@@ -7,7 +7,7 @@ use Rattle.std.specs.declared.cmp.Ordering.TheVariants.{Less, Equal, Greater}
 use Rattle.std.specs.List.{list_any, find, range_with_len, position, position_from}
 use Rattle.std.specs.Ordering.{nat_cmp, is_eq}
 use Rattle.std.specs.Cmp.Lexicographic.{slice_cmp, nat_list_cmp_total}
-use Rattle.std.specs.FinMap.{FinMap, get, empty, entries, values, put, get-entries, entries-insert, len-entries, len-empty}
+use Rattle.std.specs.FinMap.{get, empty, entries, values, put, get-entries, entries-insert, len-entries, len-empty}
 use Rattle.std.specs.FinMap.Entries.{by_order}
 use Rattle.std.specs.FinMap.Entries as entry
 use Rattle.std.specs.Str.{bytes_eq}
@@ -18,7 +18,7 @@ use Rattle.types.specs.Addr.{number4}
 use Rattle.types.specs.Pool4.{PoolValue}
 use Rattle.bindings_v4.specs.declared.holder4.Holder4.{Holder4}
 use Rattle.bindings_v4.specs.declared.holder4.Holder4.TheVariants.{Bound, Offered, Barred}
-use Rattle.bindings_v4.specs.Book4.{Lease, Clients, is_live, names, in_pool, is_free, lowest_free, address_of, where_free, or_else, pick, book4_at}
+use Rattle.bindings_v4.specs.Book4.{Lease, Clients, is_live, names, in_pool, is_free, lowest_free, address_of, where_free, or_else, pick}
 use Rattle.bindings_v4.specs.Lookup4.{until_of, is_vacant, is_bound_to, is_offered_to, wanted_slot, picked_slot}
 use Rattle.bindings_v4.specs.Slots4.{PoolSlots, bound_to, offered_to, barred_until, with_lease, leases, bars_of, book_of_slots, book_of, AreDistinct, AreSlots}
 use Rattle.bindings_v4.proofs.ShownLemmas.{Slots, Lessee, at, both_same, of_cond, itself, live, live_slots, distinct_live, hits, IsSort, bound_sort, offered_sort, hit, got, get-leases, got_none, bars_at, split, shown}

@@ -15,10 +15,10 @@ use Rattle.types.specs.declared.request4.Request4.{Request4}
 use Rattle.bindings_v4.specs.declared.decision4.Decision4.{Decision4}
 use Rattle.bindings_v4.specs.declared.holder4.Holder4.{Holder4}
 use Rattle.bindings_v4.specs.declared.holder4.Holder4.TheVariants.{Offered}
-use Rattle.bindings_v4.specs.Book4.{Lease, Book4, empty_book, is_live, address_of, or_else, pick}
+use Rattle.bindings_v4.specs.Book4.{Lease, empty_book, is_live, address_of, or_else, pick}
 use Rattle.bindings_v4.specs.Lookup4.{until_of, is_vacant, is_bound_to, is_offered_to, wanted_slot, picked_slot, decision_of}
-use Rattle.bindings_v4.specs.Slots4.{PoolSlots, bound_to, offered_to, barred_until, with_lease, leases, bars_of, book_of_slots, book_of, is_clients, AreDistinct, AreSlots, without_client, with_slot, with_decision}
-use Rattle.bindings_v4.specs.Table4.{Change, Unchanged, Offers, with_change, discover, Lookup, lookup_in, row_of, answer4}
+use Rattle.bindings_v4.specs.Slots4.{PoolSlots, bound_to, offered_to, barred_until, with_lease, leases, bars_of, book_of_slots, book_of, is_clients, AreDistinct, AreSlots, with_slot, with_decision}
+use Rattle.bindings_v4.specs.Table4.{Offers, with_change, discover, Lookup, lookup_in, row_of, answer4}
 use Rattle.bindings_v4.proofs.ShownLemmas.{Slots, Lessee, IsSort, not_true, live, live_slots, bound_sort, offered_sort, shown}
 use Rattle.bindings_v4.proofs.FreeLemmas.{from, offered_test, pick_is, bound_is, binding_is}
 use Rattle.bindings_v4.proofs.WriteLemmas.{one_client, clients_no_bar, are_with_slot, IsOpen, leases_kept, leases_with, bars_kept}

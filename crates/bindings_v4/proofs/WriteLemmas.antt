@@ -1,16 +1,13 @@
 -- What a written slot makes of the book that slots show.
-use Rattle.std.proofs.Common.{◌≡◌, ◌⊎◌, inl, inr, ℕ, zero, suc, ◌+◌, ◌-◌, ◌<◌, ◌≤◌, Bool, true, false, cond, List, [], ◌∷◌, ◌++◌, length, take, drop, set, get_or, refl, sym, ap, subst, ◌∙◌, arith}
+use Rattle.std.proofs.Common.{◌≡◌, ◌⊎◌, inl, inr, ℕ, zero, suc, ◌+◌, ◌<◌, Bool, true, false, cond, List, [], ◌∷◌, ◌++◌, length, take, drop, set, get_or, refl, sym, ap, subst, ◌∙◌, arith}
 use Rattle.std.specs.Prelude.{Option, Some, None}
 use Rattle.std.specs.List.{position, position_from, refill}
 use Rattle.std.proofs.Math.Seq.{take-append_seam}
-use Rattle.std.specs.Ordering.{nat_cmp, eq_by_cmp}
-use Rattle.std.specs.Cmp.{nat_cmp_total}
-use Rattle.std.specs.Cmp.Lexicographic.{slice_cmp, nat_list_cmp_total}
-use Rattle.std.specs.FinMap.{get, insert, remove, get-insert, get-remove, same_map}
+use Rattle.std.specs.Cmp.Lexicographic.{nat_list_cmp_total}
+use Rattle.std.specs.FinMap.{get, insert, get-insert, same_map}
 use Rattle.std.specs.Str.{bytes_eq}
-use Rattle.std.proofs.lemmas.Bool.Decides.{nat_tests}
 use Rattle.std.proofs.lemmas.Iterator.Adapters.{position_from-zero}
-use Rattle.std.proofs.lemmas.List.{map-set, length-set, length-map, get_or-set_same, get_or-set_other}
+use Rattle.std.proofs.lemmas.List.{map-set, length-set, length-map}
 use Rattle.std.proofs.lemmas.List.Quantifiers.{position-Some}
 use Rattle.std.proofs.lemmas.Map.Text.{is_eq-slice_cmp}
 use Rattle.std.proofs.Math.ListN.{get_or-map}
@@ -20,9 +17,9 @@ use Rattle.bindings_v4.specs.declared.holder4.Holder4.TheVariants.{Bound, Offere
 use Rattle.bindings_v4.specs.declared.decision4.KeptSlot.{KeptSlot}
 use Rattle.bindings_v4.specs.declared.decision4.OfferChange.{OfferChange}
 use Rattle.bindings_v4.specs.declared.decision4.OfferChange.TheVariants as offer
-use Rattle.bindings_v4.specs.Book4.{Lease, Clients, Book4, is_live, book4_at}
-use Rattle.bindings_v4.specs.Slots4.{bound_to, offered_to, barred_until, leases, bars_of, book_of_slots, is_clients, IsWithout, AreDistinct, AreSlots, with_vacancy, without_client, with_slot, with_offer, holder_of, with_kept}
-use Rattle.bindings_v4.proofs.ShownLemmas.{Slots, Lessee, at, not_true, same_bytes, same_is, itself, live, live_slots, distinct_live, without_live, live_clients_only, hits, IsSort, bound_sort, offered_sort, hit, missed, got, get-leases, got_none, bars_below, bars_at, same_bars, shown}
+use Rattle.bindings_v4.specs.Book4.{is_live}
+use Rattle.bindings_v4.specs.Slots4.{barred_until, leases, bars_of, is_clients, IsWithout, AreDistinct, AreSlots, with_vacancy, without_client, with_slot, with_offer, holder_of, with_kept}
+use Rattle.bindings_v4.proofs.ShownLemmas.{Slots, Lessee, at, not_true, same_bytes, same_is, live, live_slots, without_live, live_clients_only, hits, IsSort, hit, missed, got, get-leases, got_none, bars_below, bars_at, same_bars}
 
 -- ---- one slot of a list
 

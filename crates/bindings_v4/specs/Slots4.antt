@@ -14,7 +14,7 @@ use Rattle.bindings_v4.specs.declared.decision4.Decision4.{Decision4}
 use Rattle.bindings_v4.specs.declared.decision4.KeptSlot.{KeptSlot}
 use Rattle.bindings_v4.specs.declared.decision4.OfferChange.{OfferChange}
 use Rattle.bindings_v4.specs.declared.decision4.OfferChange.TheVariants as offer
-use Rattle.bindings_v4.specs.Book4.{Lease, Clients, Book4, book4_at}
+use Rattle.bindings_v4.specs.Book4.{Clients, Book4, book4_at}
 
 -- A pool and what each of its slots holds.
 pub record PoolSlots : Type 0 where

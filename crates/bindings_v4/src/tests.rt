@@ -1,4 +1,5 @@
 use super::*;
+use std::process::Abort;
 use types::{Addr4, Discard, Key4, Kind4, Moment, Pool4, Reply4, Request4};
 
 /// Address n of the network that the tests use.
@@ -18,13 +19,18 @@ fn message(n: u8, kind: Kind4) -> Request4 {
 }
 
 /// A book without leases, of `count` addresses from 10.0.0.10 on.
-fn book(count: u8) -> Book4 {
-    Book4::new(Pool4::new(address(10), count, address(1), 600).unwrap())
+fn book(rt: &impl Abort, count: u8) -> Book4 {
+    Book4::new(Pool4::new(address(10), count, address(1), 600).expect(rt, "a pool"))
 }
 
 /// What the book answers this message; the answer is committed.
-fn answer(book: &mut Book4, request: &Request4, clock: u64) -> Result<Reply4, Discard> {
-    let decision = book.decide(request, Moment::new(clock).unwrap());
+fn answer(
+    rt: &impl Abort,
+    book: &mut Book4,
+    request: &Request4,
+    clock: u64,
+) -> Result<Reply4, Discard> {
+    let decision = book.decide(request, Moment::new(clock).expect(rt, "a moment"));
     book.commit(&decision);
     decision.answer
 }
@@ -49,11 +55,11 @@ fn discovers(rt: HostRuntime) {
         (162, 1, Some(12), Ok(Reply4::Offer(address(11)))),
         (163, 2, None,     Ok(Reply4::Offer(address(12)))),
     ];
-    let mut book = book(3);
+    let mut book = book(&rt, 3);
     for (clock, client, wanted, expected) in rows {
         let mut request = message(client, Kind4::Discover);
         request.wanted = wanted.map(address);
-        assert_eq!(rt; answer(&mut book, &request, clock), expected, "at {clock}");
+        assert_eq!(rt; answer(&rt, &mut book, &request, clock), expected, "at {clock}");
     }
 }
 
@@ -69,7 +75,7 @@ fn other_types(rt: HostRuntime) {
         (Kind4::Ack,     Discard::NotServed),
         (Kind4::Nak,     Discard::NotServed),
     ];
-    let book = book(1);
+    let book = book(&rt, 1);
     for (kind, why) in rows {
         let decision = book.decide(&message(1, kind), Moment::new(100).unwrap());
         assert_eq!(rt; decision.answer, Err(why), "{kind:?}");
@@ -80,7 +86,7 @@ fn other_types(rt: HostRuntime) {
 
 #[test]
 fn a_decision_changes_nothing_before_it_is_committed(rt: HostRuntime) {
-    let mut book = book(1);
+    let mut book = book(&rt, 1);
     let clock = Moment::new(100).unwrap();
     let first = book.decide(&message(1, Kind4::Discover), clock);
     assert_eq!(rt;

@@ -1,5 +1,4 @@
-use Rattle.std.proofs.Common.{◌∙◌, ap, sym, subst, length}
-use Rattle.std.specs.List.{refill}
+use Rattle.std.proofs.Common.{◌∙◌, ap}
 use Rattle.bindings_v4.specs.Slots4.{AreSlots, with_offer, with_kept}
 use Rattle.bindings_v4.proofs.ShownLemmas.{Slots}
 use Rattle.bindings_v4.proofs.WriteLemmas.{are_committed}
