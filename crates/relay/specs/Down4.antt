@@ -17,18 +17,9 @@ use Rattle.v4_message.specs.Reading.{message_of}
 use Rattle.v4_message.specs.Spelling.{MessageValue, message_bytes}
 use Rattle.wire.specs.Padding.{padded_to}
 use Rattle.config.specs.CircuitPart.{CircuitPart}
+pub use Rattle.types.specs.Addr.{same_source}
+pub use Rattle.v4_message.specs.Agent.{agent_of, is_value}
 use Rattle.relay.specs.SentFrame.{SentFrame}
-
--- what option 82 of a reply holds
-abbrev pub agent_of : MessageValue → Option (Result (List (ℕ × List ℕ)) SuboptFault)
-agent_of m = option_map suboptions_of (look_up RELAY_AGENT_INFORMATION m.options)
-
-abbrev pub is_value : List ℕ → Option (List ℕ) → Bool
-is_value value None = false
-is_value value (Some other) = bytes_eq other value
-
-abbrev pub same_source : Source → Source → Bool
-same_source a b = bytes_eq a.addr.0 b.addr.0 && a.port == b.port
 
 -- To all clients where the client can't take a unicast yet, or has no address (RFC 2131, section 4.1).
 abbrev pub dest_of : MessageValue → Dest
