@@ -128,12 +128,7 @@ impl CircuitPart {
         ensures { result ≡ pool4_of self.now }
     {
         let values = &self.circuit;
-        let pool = Pool4::new(
-            values.first4,
-            values.count4,
-            values.gateway4,
-            values.lease,
-        );
+        let pool = Pool4::new(values.first4, values.count4, values.gateway4, values.lease);
         let Some(pool) = pool else { unreachable!() };
         pool
     }
