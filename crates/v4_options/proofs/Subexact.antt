@@ -11,7 +11,7 @@ use Rattle.v4_options.specs.declared.token.Syntax.TheVariants.{Suboptions}
 use Rattle.v4_options.specs.Spelling.{spelling, row, options, option, Piece, Pad, Whole}
 use Rattle.v4_options.specs.Reading.{no_code}
 use Rattle.v4_options.specs.Suboptions.{AreDistinct, SpellsSuboptions, StopsSub, FailsSuboptions}
-use Rattle.v4_options.specs.Subreading.{sublisted, subfault, subread_or, suboptions_of}
+use Rattle.v4_options.specs.Subreading.{sublisted, subfault, subread_or, suboptions_of, sublisted_from, subfault_from}
 use Rattle.v4_options.proofs.Steps.{listed_nothing}
 use Rattle.v4_options.proofs.Distinct.{after, after_is, distinct-new, new-distinct}
 use Rattle.v4_options.proofs.Fronts.{IsFront, Ends, Longest, longest, fault_longest, listed_front, pieces, row-pieces, options-pieces}
@@ -28,6 +28,7 @@ is_front [] = tt
 is_front (o ∷ os) = ((refl, refl), is_front os)
 
 sublisted_spelling : (list : List (ℕ × List ℕ)) → sublisted (spelling list) ≡ list
+unfolding sublisted_from
 sublisted_spelling list =
     ap sublisted (sym (append-nil (spelling list)) ∙ ap (λ (t : List ℕ). t ++ []) (sym (row-pieces list)))
     ∙ listed_front Suboptions (pieces list) [] (is_front list)
@@ -36,6 +37,7 @@ sublisted_spelling list =
     ∙ options-pieces list
 
 read_as : (bytes : List ℕ) (found : Option OptFault) → Longest Suboptions no_code bytes found → suboptions_of bytes ≡ subread_or (subfault found) bytes
+unfolding subfault_from
 read_as bytes found l = ap (λ (f : Option OptFault). subread_or (subfault f) bytes) (fault_longest Suboptions bytes found l)
 
 -- ---- from bytes to the result

@@ -8,7 +8,7 @@ use Rattle.v4_options.specs.declared.token.Syntax.TheVariants.{Suboptions}
 use Rattle.v4_options.specs.Reading.{listed_from, fault_from, no_code}
 
 -- The suboptions up to the last byte, or to one that is cut off.
-abbrev pub sublisted_from : ℕ → List ℕ → List (ℕ × List ℕ)
+unfoldable pub sublisted_from : ℕ → List ℕ → List (ℕ × List ℕ)
 sublisted_from skip bytes = listed_from Suboptions skip bytes
 
 abbrev pub sublisted : List ℕ → List (ℕ × List ℕ)
@@ -22,7 +22,7 @@ subfault (Some faults.Cut) = Some Cut
 subfault (Some faults.Twice) = Some Twice
 
 -- The first fault from the left, where `seen` has the codes of the suboptions before.
-abbrev pub subfault_from : (ℕ → Bool) → ℕ → List ℕ → Option SuboptFault
+unfoldable pub subfault_from : (ℕ → Bool) → ℕ → List ℕ → Option SuboptFault
 subfault_from seen skip bytes = subfault (fault_from Suboptions seen skip bytes)
 
 abbrev pub first_subfault : List ℕ → Option SuboptFault

@@ -38,6 +38,7 @@ impl<'a> Suboptions<'a> {
     }
 
     /// The value of the suboption with this code, `None` where there is none.
+    #[tactic(auto, unfolding(crate::specs::Subreading::sublisted_from))]
     pub fn get(&self, code: u8) -> Option<&'a [u8]>
         ensures { option_map (λ value. value.now) result ≡ look_up code self.now }
     {
@@ -46,6 +47,7 @@ impl<'a> Suboptions<'a> {
 }
 
 /// The first fault from the left. The list ends with its bytes, so a missing end is no fault.
+#[tactic(auto, unfolding(crate::specs::Subreading::subfault_from))]
 fn subfault_in(bytes: &[u8]) -> Option<SuboptFault>
     ensures { result ≡ first_subfault bytes.now }
 {
