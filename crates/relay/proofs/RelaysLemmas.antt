@@ -11,7 +11,7 @@ use Rattle.v4_options.specs.Spelling.{look_up}
 use Rattle.v4_message.specs.Spelling.{MessageValue}
 use Rattle.config.specs.CircuitPart.{CircuitPart}
 use Rattle.relay.specs.Down4.{agent_of, is_named, is_value, same_source, reply_of, suboptions_in, reply_on_link}
-use Rattle.relay.specs.Relays.{Topology, for_circuit, reply_at_index, relayed_down_in, relayed_down4_in}
+use Rattle.relay.specs.Relays.{Topology, for_circuit, is_behind, reply_at_index, relayed_down_in, relayed_down4_in}
 
 -- ---- by the source
 
@@ -51,16 +51,16 @@ pub at_index : (topology : Topology) (relay : ℕ) (datagram : List ℕ) (m : Me
 unfolding relayed_down4_in
 at_index topology relay datagram m suboptions index reply held found = rw (sym reply, sym held, sym found) refl
 
--- the circuit that was found is another relay's
-pub other_relay : (topology : Topology) (relay c : ℕ) (m : MessageValue) (source : Source) (part : CircuitPart)
-    → slice_get topology.circuits c ≡ Some part → slice_get topology.relays relay ≡ Some source → same_source source part.relay ≡ false
+-- the circuit that was found is another relay's, or this relay's own
+pub other_relay : (topology : Topology) (relay c : ℕ) (m : MessageValue) (part : CircuitPart)
+    → slice_get topology.circuits c ≡ Some part → is_behind (slice_get topology.relays relay) part ≡ false
     → reply_at_index topology relay m (Some c) ≡ Err reason.UnknownCircuitDown
-other_relay topology relay c m source part there from differs = rw (there, from, differs) refl
+other_relay topology relay c m part there other = rw (there, other) refl
 
-pub own_relay : (topology : Topology) (relay c : ℕ) (m : MessageValue) (source : Source) (part : CircuitPart)
-    → slice_get topology.circuits c ≡ Some part → slice_get topology.relays relay ≡ Some source → same_source source part.relay ≡ true
+pub own_relay : (topology : Topology) (relay c : ℕ) (m : MessageValue) (part : CircuitPart)
+    → slice_get topology.circuits c ≡ Some part → is_behind (slice_get topology.relays relay) part ≡ true
     → reply_at_index topology relay m (Some c) ≡ for_circuit c (reply_on_link part m)
-own_relay topology relay c m source part there from same = rw (there, from, same) refl
+own_relay topology relay c m part there own = rw (there, own) refl
 
 -- ---- without a circuit id no circuit is named
 

@@ -3,8 +3,8 @@ ghost use Rattle.std.specs.Prelude.{◌≡◌, ◌≤◌, ◌<◌, [], length, m
 ghost use Rattle.std.specs.List.{position};
 ghost use Rattle.std.specs.Str.{bytes_eq};
 ghost use Rattle.config.specs.CircuitPart as parts;
-ghost use Rattle.relay.specs.Down4.{is_named, same_source};
-ghost use Rattle.relay.specs.Relays.{one_more, relayed_down_in, relayed_down4_in, relayed_up, topology_of};
+ghost use Rattle.relay.specs.Down4.{is_named};
+ghost use Rattle.relay.specs.Relays.{is_behind, one_more, relayed_down_in, relayed_down4_in, relayed_up, topology_of};
 
 use crate::down4::{read_reply, read_suboptions, relay_down4};
 use crate::up4::relay_up4;
@@ -148,7 +148,7 @@ impl Relays {
             return Err(Discard::UnknownCircuitDown);
         };
         let part = self.part(circuit);
-        if self.source(relay) != part.relay() {
+        if !self.is_behind(relay, part) {
             return Err(Discard::UnknownCircuitDown);
         }
         let dest = relay_down4(part, &reply, out)?;
@@ -171,12 +171,12 @@ impl Relays {
         &self.circuits[circuit.index()]
     }
 
-    /// Where the datagrams of a relay come from.
-    fn source(&self, relay: RelayNo) -> Source
+    /// Whether a circuit is this relay's, by where the relay's datagrams come from.
+    fn is_behind(&self, relay: RelayNo, part: &CircuitPart) -> bool
         requires { relay < length self.now.topology.relays }
-        ensures { slice_get self.now.topology.relays relay ≡ Some result }
+        ensures { result ≡ is_behind (slice_get self.now.topology.relays relay) part.now }
     {
-        self.sources[relay.index()]
+        self.sources[relay.index()] == part.relay()
     }
 
     /// How many frames of a circuit were discarded, at most 4294967295.

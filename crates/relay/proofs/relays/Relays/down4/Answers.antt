@@ -1,7 +1,5 @@
-use Rattle.std.proofs.Common.{◌≡◌, true, false, Some, None, sym, ap, ◌∙◌}
-use Rattle.std.proofs.lemmas.Bool.{not-true, not-false}
+use Rattle.std.proofs.Common.{Some, None, sym, ap, ◌∙◌}
 use Rattle.std.proofs.lemmas.Result.{err_from_is_err_and}
-use Rattle.relay.specs.Down4.{same_source}
 use Rattle.relay.specs.Relays.{for_circuit}
 use Rattle.relay.proofs.RelaysLemmas.{no_reply, no_suboptions, at_index, other_relay, own_relay}
 use Rattle.relay.proofs.relays.Relays.down4.Goals as goal
@@ -22,33 +20,27 @@ returns-in_default-clause-err c =
     at_index c.args.self.now.topology c.args.relay c.args.datagram.now c.in_ok-reply.reply c.in_ok-suboptions.suboptions None
     c.in_ok-reply.ensures.value c.in_ok-suboptions.ensures c.in_default.ensures
 
-pub returns-then-ne-clause-err : goal.returns-then-ne-clause-err
-returns-then-ne-clause-err c =
+pub returns-then-not-is_behind-clause-err : goal.returns-then-not-is_behind-clause-err
+returns-then-not-is_behind-clause-err c =
     let topology = c.args.self.now.topology in
-    let differs : same_source c.source.result c.part-part.result.now.relay ≡ false =
-    ap (same_source c.source.result) (sym c.relay.ensures) ∙ not-true (same_source c.source.result c.relay.result) (sym c.ne.ensures ∙ c.if-ne.true) in
     at_index topology c.args.relay c.args.datagram.now c.in_ok-reply.reply c.in_ok-suboptions.suboptions (Some c.in-Some.circuit)
     c.in_ok-reply.ensures.value c.in_ok-suboptions.ensures c.in-Some.ensures
-    ∙ other_relay topology c.args.relay c.in-Some.circuit c.in_ok-reply.reply c.source.result c.part-part.result.now c.part-part.ensures c.source.ensures differs
+    ∙ other_relay topology c.args.relay c.in-Some.circuit c.in_ok-reply.reply c.part-part.result.now c.part-part.ensures (sym c.if-not-is_behind.ensures)
 
 pub returns-in_err-dest-clause-err : goal.returns-in_err-dest-clause-err
 returns-in_err-dest-clause-err c =
     let p = err_from_is_err_and c.from_residual-in_err-dest.result c.from_residual-in_err-dest.ensures.1 in
     let topology = c.args.self.now.topology in
-    let same : same_source c.source.result c.part-part.result.now.relay ≡ true =
-    ap (same_source c.source.result) (sym c.relay.ensures) ∙ not-false (same_source c.source.result c.relay.result) (sym c.ne.ensures ∙ c.if-ne.false) in
     rw (p.1, p.2)
     (at_index topology c.args.relay c.args.datagram.now c.in_ok-reply.reply c.in_ok-suboptions.suboptions (Some c.in-Some.circuit)
     c.in_ok-reply.ensures.value c.in_ok-suboptions.ensures c.in-Some.ensures
-    ∙ own_relay topology c.args.relay c.in-Some.circuit c.in_ok-reply.reply c.source.result c.part-part.result.now c.part-part.ensures c.source.ensures same
+    ∙ own_relay topology c.args.relay c.in-Some.circuit c.in_ok-reply.reply c.part-part.result.now c.part-part.ensures (sym c.if-not-is_behind.ensures)
     ∙ ap (for_circuit c.in-Some.circuit) c.in_err-dest.ensures.err)
 
 pub returns-clause-ok : goal.returns-clause-ok
 returns-clause-ok c =
     let topology = c.args.self.now.topology in
-    let same : same_source c.source.result c.part-part.result.now.relay ≡ true =
-    ap (same_source c.source.result) (sym c.relay.ensures) ∙ not-false (same_source c.source.result c.relay.result) (sym c.ne.ensures ∙ c.if-ne.false) in
     at_index topology c.args.relay c.args.datagram.now c.in_ok-reply.reply c.in_ok-suboptions.suboptions (Some c.in-Some.circuit)
     c.in_ok-reply.ensures.value c.in_ok-suboptions.ensures c.in-Some.ensures
-    ∙ own_relay topology c.args.relay c.in-Some.circuit c.in_ok-reply.reply c.source.result c.part-part.result.now c.part-part.ensures c.source.ensures same
+    ∙ own_relay topology c.args.relay c.in-Some.circuit c.in_ok-reply.reply c.part-part.result.now c.part-part.ensures (sym c.if-not-is_behind.ensures)
     ∙ ap (for_circuit c.in-Some.circuit) c.in_ok-dest.ensures.ok
