@@ -1,8 +1,7 @@
 -- What a relay makes of a DHCPv4 datagram from the server, for one circuit.
-use Rattle.std.specs.Prelude.{ℕ, Bool, false, not, ◌&&◌, ◌||◌, ◌==◌, nat_lt, List, length, take, Option, Some, None, option_map, Result, Ok, Err, if◌then◌else◌, bit_and}
+use Rattle.std.specs.Prelude.{ℕ, Bool, not, ◌||◌, ◌==◌, nat_lt, List, length, take, Option, Some, None, Result, Ok, Err, if◌then◌else◌, bit_and}
 use Rattle.std.specs.Str.{bytes_eq}
 use Rattle.types.specs.Addr.{is_unspecified}
-use Rattle.types.specs.declared.addr.Source.{Source}
 use Rattle.types.specs.declared.dest.Dest.{Dest}
 use Rattle.types.specs.declared.dest.Dest.TheVariants.{Broadcast, Unicast}
 use Rattle.types.specs.declared.discard.Discard.{Discard}
@@ -10,7 +9,6 @@ use Rattle.types.specs.declared.discard.Discard.TheVariants as reason
 use Rattle.v4_options.specs.declared.code.TheConstants.{RELAY_AGENT_INFORMATION, CIRCUIT_ID}
 use Rattle.v4_options.specs.declared.fault.SuboptFault.{SuboptFault}
 use Rattle.v4_options.specs.Spelling.{look_up, without}
-use Rattle.v4_options.specs.Subreading.{suboptions_of}
 use Rattle.v4_message.specs.declared.fault.MessageFault.{MessageFault}
 use Rattle.v4_message.specs.declared.header.TheConstants.{BROADCAST}
 use Rattle.v4_message.specs.Reading.{message_of}
