@@ -1,4 +1,6 @@
 pub mod AddressedLemmas
+pub mod BookLemmas
+pub mod ExampleLemmas
 pub mod OneCircuit
 pub mod Runs
 pub mod StartLemmas

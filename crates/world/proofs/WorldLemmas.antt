@@ -9,8 +9,8 @@ use Rattle.types.specs.declared.discard.Discard.{Discard}
 use Rattle.config.specs.CircuitPart.{CircuitPart, IsPart}
 use Rattle.dispatch.specs.Addressee.{addressee}
 use Rattle.dispatch.specs.Received.{IsAnswer, received, addressee_served}
-use Rattle.dispatch.specs.Server.{Book, Served, book_at, served}
-use Rattle.dispatch.specs.ServerValue.{ServerValue, book_of}
+use Rattle.dispatch.specs.Server.{Served, book_at, served}
+use Rattle.dispatch.specs.ServerValue.{book_of}
 use Rattle.lossy_net.specs.Net.{Datagram, NetValue, datagrams}
 use Rattle.lossy_net.specs.declared.dir.Dir.{Dir}
 use Rattle.lossy_net.specs.declared.dir.Dir.TheVariants as dir
@@ -109,7 +109,6 @@ module _ (w new : WorldValue) (j now fault : ℕ) (d : Datagram) (result : Resul
     (book : book_of new.server ≡ (received w.server.part now w.server.part.relay d.bytes (book_of w.server)).book)
     (part : new.server.part ≡ w.server.part) (quota : new.net.quota ≡ w.net.quota)
     (ups : datagrams new.net 0 dir.Up ≡ datagrams w.net 0 dir.Up) where
-
   abbrev result_of : Served
   result_of = served w.server.part now d.bytes (book_of w.server)
 
@@ -179,7 +178,6 @@ relays_down w d source r is from result =
 
 module _ (w : WorldValue) (j : ℕ) (d : Datagram) (source : Source) (is : IsWorld w) (from : source ≡ w.relays.topology.listen4)
     (there : slice_get (datagrams w.net 0 dir.Down) j ≡ Some d) where
-
   pub down_framed : (found : ℕ) (dest : Dest) (out : List ℕ) → relayed_down_in w.relays.topology w.relay source d.bytes ≡ Ok (record { circuit = found; frame = record { dest = dest; bytes = out } })
       → StepsAs 0 (Down j) (state_of w) (state_of w) (outcome.Framed found dest) out
   down_framed found dest out result =

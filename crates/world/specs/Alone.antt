@@ -1,11 +1,10 @@
 -- The machine of one circuit that has relay, network and server for itself.
 use Rattle.std.specs.Prelude.{ℕ, List, [], ◌∷◌, ◌++◌, length, take, slice_get, Option, Some, None, Result, Ok, Err}
 use Rattle.types.specs.declared.dest.Proto.{Proto}
-use Rattle.types.specs.declared.dest.Proto.TheVariants.{V4}
 use Rattle.types.specs.declared.discard.Discard.{Discard}
 use Rattle.bindings_v4.specs.Book4.{empty_book}
 use Rattle.config.specs.CircuitPart.{CircuitPart}
-use Rattle.dispatch.specs.Server.{Book, Served, book_at, served}
+use Rattle.dispatch.specs.Server.{Book, book_at, served}
 use Rattle.lossy_net.specs.Net.{Datagram}
 use Rattle.relay.specs.SentFrame.{SentFrame}
 use Rattle.relay.specs.Relays.{relayed_up, relayed_down}

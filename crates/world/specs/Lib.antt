@@ -1,4 +1,5 @@
 pub mod Alone
+pub mod Examples
 pub mod Headline
 pub mod Region
 pub mod Seen

@@ -3,6 +3,7 @@
 #![tactic(auto)]
 
 mod event;
+pub mod examples;
 mod machine;
 mod model_disk;
 mod outcome;

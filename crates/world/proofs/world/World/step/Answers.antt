@@ -1,5 +1,4 @@
-use Rattle.std.proofs.Common.{ℕ, cond, eqb, sym, ap, ◌∙◌, subst}
-use Rattle.std.specs.Prelude.{Some, None}
+use Rattle.std.proofs.Common.{ℕ, sym, ap, ◌∙◌, subst}
 use Rattle.world.specs.Seen.{Frame, Up, Down, seen_of, named_by}
 use Rattle.world.specs.StepsAs.{StepsAs}
 use Rattle.world.specs.World.{state_of}

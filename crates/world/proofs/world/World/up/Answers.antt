@@ -1,10 +1,9 @@
-use Rattle.std.proofs.Common.{◌≡◌, refl, sym, ap, ◌∙◌, subst}
-use Rattle.std.specs.Prelude.{Some, Ok, Err, slice_get, Result}
+use Rattle.std.proofs.Common.{refl, ap, ◌∙◌, subst}
+use Rattle.std.specs.Prelude.{Ok, Err}
 use Rattle.types.specs.declared.addr.Source.{Source}
-use Rattle.types.specs.declared.discard.Discard.{Discard}
 use Rattle.dispatch.specs.Received.{IsAnswer, received}
 use Rattle.dispatch.specs.ServerValue.{book_of}
-use Rattle.lossy_net.specs.Net.{Datagram, datagrams}
+use Rattle.lossy_net.specs.Net.{Datagram}
 use Rattle.lossy_net.specs.declared.dir.Dir.TheVariants as dir
 use Rattle.world.specs.Seen.{Up}
 use Rattle.world.specs.StepsAs.{StepsAs}

@@ -1,0 +1,69 @@
+//! The definitions on worked examples, computed by the prover. The values stand in `specs/Examples.antt`
+//! and were taken from the standards and the profile, not from a program.
+ghost use Rattle.std.specs.Prelude.{◌≡◌, [], ◌∷◌, ◌++◌, length, take, replicate};
+ghost use Rattle.std.specs.FinMap.{empty};
+ghost use Rattle.types.specs.declared.dest.Proto.TheVariants.{V4};
+ghost use Rattle.types.specs.declared.discard.Discard.TheVariants as reason;
+ghost use Rattle.dispatch.specs.Addressee.{addressee};
+ghost use Rattle.relay.specs.Relays.{relayed_up};
+ghost use Rattle.world.specs.Alone.{start, alone_step, after_all, frames, Dropped, Gone, SentUp, SentDown};
+ghost use Rattle.world.specs.Examples.{part_a, part_a1, setup_a, setup_a1, at_port, client_message, discover, discover_up, relayed_message, relayed_discover, offer, client, offers_at, one_offer, lease_until, datagram, with_up};
+ghost use Rattle.world.specs.Seen.{Frame, Up, Down, Tick};
+
+/// What the relay sends up of a frame, and which frames it drops.
+pub fn frames_go_up()
+    ensures discover { relayed_up part_a V4 (discover 1 []) ≡ Ok (discover_up 1 []) }
+    ensures request { relayed_up part_a V4 (client_message 3 1 []) ≡ Ok (relayed_message 3 (97 ∷ []) 0 1 []) }
+    ensures from_server { relayed_up part_a V4 (client_message 2 1 []) ≡ Err reason.WrongType }
+    ensures cut { relayed_up part_a V4 (take 243 (discover 1 [])) ≡ Err reason.MalformedUp }
+    ensures twice { relayed_up part_a V4 (discover 1 (53 ∷ 1 ∷ 1 ∷ [])) ≡ Err reason.MalformedUp }
+    ensures nothing { relayed_up part_a V4 [] ≡ Err reason.MalformedUp }
+    ensures option_82 { relayed_up part_a V4 (discover 1 (82 ∷ 4 ∷ 1 ∷ 2 ∷ 97 ∷ 49 ∷ [])) ≡ Err reason.HasOption82 }
+    ensures rest { relayed_up part_a V4 (discover 1 [] ++ replicate 780 0) ≡ Ok (discover_up 1 []) }
+    ensures long { relayed_up part_a V4 (discover 1 [] ++ replicate 781 0) ≡ Err reason.TooLong }
+{}
+
+/// The server finds the circuit by relay, id, gateway and override, and by none of them alone.
+pub fn datagrams_have_circuits()
+    ensures first { addressee (at_port 6801 ∷ []) (part_a ∷ part_a1 ∷ []) (at_port 6801) (discover_up 1 []) ≡ Ok 0 }
+    ensures second { addressee (at_port 6801 ∷ []) (part_a ∷ part_a1 ∷ []) (at_port 6801) (relayed_discover (97 ∷ 49 ∷ []) 1 1 []) ≡ Ok 1 }
+    ensures source { addressee (at_port 6801 ∷ []) (part_a ∷ part_a1 ∷ []) (at_port 9999) [] ≡ Err reason.UnknownSource }
+    ensures relay { addressee (at_port 6801 ∷ at_port 6802 ∷ []) (part_a ∷ part_a1 ∷ []) (at_port 6802) (discover_up 1 []) ≡ Err reason.UnknownCircuit }
+    ensures beginning { addressee (at_port 6801 ∷ []) (part_a ∷ part_a1 ∷ []) (at_port 6801) (relayed_discover (97 ∷ 49 ∷ 49 ∷ []) 1 1 []) ≡ Err reason.UnknownCircuit }
+    ensures gateway { addressee (at_port 6801 ∷ []) (part_a ∷ part_a1 ∷ []) (at_port 6801) (relayed_discover (97 ∷ []) 1 1 []) ≡ Err reason.WrongLink }
+    ensures unrelayed { addressee (at_port 6801 ∷ []) (part_a ∷ part_a1 ∷ []) (at_port 6801) (discover 1 []) ≡ Err reason.NotRelayed }
+    ensures cut { addressee (at_port 6801 ∷ []) (part_a ∷ part_a1 ∷ []) (at_port 6801) (take 254 (discover_up 1 [])) ≡ Err reason.Malformed }
+{}
+
+/// A client's DHCPDISCOVER and the frame with its offer, byte for byte. The same frame on another
+/// circuit is offered that circuit's address.
+pub fn an_offer_comes_back()
+    ensures one { frames setup_a (Frame V4 (discover 1 []) ∷ Up 0 100 0 ∷ Down 0 ∷ []) start ≡ offer 0 ∷ [] }
+    ensures other { frames setup_a1 (Frame V4 (discover 1 []) ∷ Up 0 100 0 ∷ Down 0 ∷ []) start ≡ offer 1 ∷ [] }
+{}
+
+/// An offer holds its address for 60 seconds and not longer.
+pub fn offers_expire()
+    ensures held { (alone_step setup_a (Up 0 159 0) (with_up (discover_up 2 []) 100 (one_offer (client 1) (lease_until 160)))).effect ≡ Dropped reason.NoAddress }
+    ensures over { (alone_step setup_a (Up 0 160 0) (with_up (discover_up 2 []) 100 (one_offer (client 1) (lease_until 160)))).effect ≡ SentDown 300 }
+{}
+
+/// A moment before the clock leaves the clock, and an offer is counted from there.
+pub fn clocks_never_go_back()
+    ensures { (alone_step setup_a (Up 0 50 0) (with_up (discover_up 1 []) 100 empty)).next.book ≡ offers_at 100 (one_offer (client 1) (lease_until 160)) }
+{}
+
+/// Client identifiers of 2 to 64 bytes are served.
+pub fn keys_have_limits()
+    ensures short { (alone_step setup_a (Up 0 100 0) (with_up (discover_up 1 (61 ∷ 1 ∷ replicate 1 7)) 0 empty)).effect ≡ Dropped reason.ClientKey }
+    ensures least { (alone_step setup_a (Up 0 100 0) (with_up (discover_up 1 (61 ∷ 2 ∷ replicate 2 7)) 0 empty)).effect ≡ SentDown 300 }
+    ensures most { (alone_step setup_a (Up 0 100 0) (with_up (discover_up 1 (61 ∷ 64 ∷ replicate 64 7)) 0 empty)).effect ≡ SentDown 300 }
+    ensures long { (alone_step setup_a (Up 0 100 0) (with_up (discover_up 1 (61 ∷ 65 ∷ replicate 65 7)) 0 empty)).effect ≡ Dropped reason.ClientKey }
+{}
+
+/// The network keeps the newest datagrams of a direction, and no more than its quota.
+pub fn the_network_keeps_the_newest()
+    ensures none { (alone_step setup_a (Up 0 100 0) start).effect ≡ Gone }
+    ensures last { (after_all (record setup_a { quota = 1 }) (Frame V4 (discover 1 []) ∷ Frame V4 (discover 2 []) ∷ []) start).up ≡ datagram (discover_up 2 []) ∷ [] }
+    ensures lost { (alone_step setup_a (Up 1 100 0) (with_up (discover_up 2 []) 0 empty)).effect ≡ Gone }
+{}
