@@ -49,7 +49,7 @@ field_alone (b ∷ bs) h =
     let n = not_here (eqb b 32) (lacks 32 bs) h in
     ap (λ t. cond t ([] ∷ fields_of bs) (with_byte b (fields_of bs))) n.0 ∙ ap (with_byte b) (field_alone bs n.1)
 
--- the line before a line feed
+-- the line in front of a line feed
 pub line_before : (front rest : List ℕ) → lacks 10 front ≡ true → lines_of (front ++ 10 ∷ rest) ≡ front ∷ lines_of rest
 unfolding lacks lines_of
 line_before [] rest h = refl

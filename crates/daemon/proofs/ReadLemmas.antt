@@ -1,10 +1,10 @@
--- Bytes that are read one behind the other.
+-- Bytes that are read in several calls.
 use Rattle.std.proofs.Common.{◌≡◌, ℕ, ◌+◌, ◌<◌, ◌≤◌, List, [], ◌∷◌, ◌++◌, length, take, refl, ap, sym, ◌∙◌, arith, append_assoc, ne_eqb, subst}
 use Rattle.std.specs.Prelude.{Option, Some, None, slice_set}
 use Rattle.std.specs.Io.KnownBytes.{Consumes, Keeps}
 use Rattle.std.proofs.lemmas.List.{take_more_set, length_push, length-take-le}
 use Rattle.daemon.specs.declared.accesslab.line.TheConstants.{MAX_LINE}
-use Rattle.daemon.specs.Ending.{IsPart, IsLong}
+use Rattle.daemon.specs.LineEnd.{IsPart, IsLong}
 use Rattle.daemon.proofs.CutLemmas.{lacks_none, lacks_more}
 
 pub consumes_none : (o : Option (List ℕ)) → Consumes o o []

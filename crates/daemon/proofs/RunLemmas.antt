@@ -5,53 +5,53 @@ use Rattle.std.specs.Io.KnownBytes.{Appends, Consumes, IsAtEnd}
 use Rattle.std.proofs.lemmas.Option.{same_Some}
 use Rattle.config.specs.Rules.{Settings}
 use Rattle.world.specs.Alone.{Alone, start}
-use Rattle.world.specs.Headline.{Place}
+use Rattle.world.specs.Headline.{CircuitState}
 use Rattle.world.specs.Start.{Starts}
 use Rattle.daemon.specs.declared.accesslab.line.TheConstants.{MAX_LINE}
 use Rattle.daemon.specs.declared.accesslab.status.TheConstants.{DONE, BAD_LINE, FAILED}
-use Rattle.daemon.specs.Ending.{IsLine, IsLast, IsLong, IsCut}
-use Rattle.daemon.specs.Lab.{Output, Turn, Refused, Taken, turn, and_then, lab_from, lab_output}
-use Rattle.daemon.specs.Line.{line_of}
+use Rattle.daemon.specs.LineEnd.{IsLine, IsLast, IsLong, IsCut}
+use Rattle.daemon.specs.Lab.{Output, LineResult, Refused, Applied, line_result, and_then, lab_from, lab_output}
+use Rattle.daemon.specs.Line.{line_of_text}
 use Rattle.daemon.specs.Lines.{lacks, lines_of}
-use Rattle.daemon.specs.Sending.{AppendsFront}
-use Rattle.daemon.specs.Standing.{AreStanding, IsRefusal, LeadsOn, Ends}
-use Rattle.daemon.specs.Told.{bad_text}
+use Rattle.daemon.specs.Writing.{AppendsPrefix}
+use Rattle.daemon.specs.Run.{AllRepresent, IsRefusal, Follows, Ends}
+use Rattle.daemon.specs.Output.{bad_text}
 use Rattle.daemon.proofs.CutLemmas.{line_before, line_begins, line_last}
 use Rattle.daemon.proofs.ReadLemmas.{consumes_none, consumes_more}
-use Rattle.daemon.proofs.SendLemmas.{appends_none, appends_more, front_behind, front_longer}
-use Rattle.daemon.proofs.TurnLemmas.{long_is}
+use Rattle.daemon.proofs.WriteLemmas.{appends_none, appends_more, front_behind, front_longer}
+use Rattle.daemon.proofs.LineResultLemmas.{long_is}
 
--- what was told, and then what else is
+-- the output that follows what was written
 abbrev pub after : List ℕ → Output → Output
-after told o = record { text = told ++ o.text; status = o.status }
+after written o = record { text = written ++ o.text; status = o.status }
 
 -- the run so far
-pub record SoFar (settings : Settings) (quota number : ℕ) (given left held holds : Option (List ℕ)) (places : List Place) : Type 0 where
+pub record SoFar (settings : Settings) (quota number : ℕ) (given left held holds : Option (List ℕ)) (states : List CircuitState) : Type 0 where
   pub machines : ℕ → Alone
-  pub standing : AreStanding settings quota places machines
+  pub represents : AllRepresent settings quota states machines
   pub read : List ℕ
   pub consumed : Consumes given left read
-  pub told : List ℕ
-  pub appended : Appends held holds told
-  pub whole : (rest : List ℕ) → lab_output settings quota (read ++ rest) ≡ after told (lab_from settings quota number machines (lines_of rest))
+  pub written : List ℕ
+  pub appended : Appends held holds written
+  pub whole : (rest : List ℕ) → lab_output settings quota (read ++ rest) ≡ after written (lab_from settings quota number machines (lines_of rest))
 
-pub at_first : (settings : Settings) (quota : ℕ) (given held : Option (List ℕ)) (places : List Place) → Starts settings quota places → SoFar settings quota 1 given given held held places
-at_first settings quota given held places starts = record {
+pub at_first : (settings : Settings) (quota : ℕ) (given held : Option (List ℕ)) (states : List CircuitState) → Starts settings quota states → SoFar settings quota 1 given given held held states
+at_first settings quota given held states starts = record {
   machines = λ c. start;
-  standing = record { each = starts.each };
+  represents = record { each = starts.each };
   read = [];
   consumed = consumes_none given;
-  told = [];
+  written = [];
   appended = appends_none held;
   whole = λ rest. refl;
 }
 
-none_told : (settings : Settings) (quota number : ℕ) (machines : ℕ → Alone) → lab_from settings quota number machines [] ≡ record { text = []; status = DONE }
+none_written : (settings : Settings) (quota number : ℕ) (machines : ℕ → Alone) → lab_from settings quota number machines [] ≡ record { text = []; status = DONE }
 unfolding lab_from
-none_told settings quota number machines = refl
+none_written settings quota number machines = refl
 
 one_line : (settings : Settings) (quota number : ℕ) (machines : ℕ → Alone) (line : List ℕ) (lines : List (List ℕ))
-    → lab_from settings quota number machines (line ∷ lines) ≡ and_then number (turn settings quota machines (line_of settings line)) (λ next. lab_from settings quota (number + 1) next lines)
+    → lab_from settings quota number machines (line ∷ lines) ≡ and_then number (line_result settings quota machines (line_of_text settings line)) (λ next. lab_from settings quota (number + 1) next lines)
 unfolding lab_from
 one_line settings quota number machines line lines = refl
 
@@ -59,95 +59,95 @@ no_lines : lines_of [] ≡ []
 unfolding lines_of
 no_lines = refl
 
--- told in two parts
+-- output in two parts
 after_more : (xs ys : List ℕ) (o : Output) → after xs (after ys o) ≡ after (xs ++ ys) o
 after_more xs ys o = ap (λ text. record { text = text; status = o.status }) (sym (append_assoc xs ys o.text))
 
--- how the text of a run goes on after a part of it
-goes_on : (settings : Settings) (quota number : ℕ) (given left held holds : Option (List ℕ)) (places : List Place) (s : SoFar settings quota number given left held holds places) (part rest : List ℕ)
-    → lab_output settings quota ((s.read ++ part) ++ rest) ≡ after s.told (lab_from settings quota number s.machines (lines_of (part ++ rest)))
-goes_on settings quota number given left held holds places s part rest =
+-- the output for a text after a part of it
+goes_on : (settings : Settings) (quota number : ℕ) (given left held holds : Option (List ℕ)) (states : List CircuitState) (s : SoFar settings quota number given left held holds states) (part rest : List ℕ)
+    → lab_output settings quota ((s.read ++ part) ++ rest) ≡ after s.written (lab_from settings quota number s.machines (lines_of (part ++ rest)))
+goes_on settings quota number given left held holds states s part rest =
     ap (lab_output settings quota) (append_assoc s.read part rest) ∙ s.whole (part ++ rest)
 
 -- a line with its line feed
 line_on : (settings : Settings) (quota number : ℕ) (machines : ℕ → Alone) (line rest : List ℕ) → lacks 10 line ≡ true
-    → lab_from settings quota number machines (lines_of ((line ++ 10 ∷ []) ++ rest)) ≡ and_then number (turn settings quota machines (line_of settings line)) (λ next. lab_from settings quota (number + 1) next (lines_of rest))
+    → lab_from settings quota number machines (lines_of ((line ++ 10 ∷ []) ++ rest)) ≡ and_then number (line_result settings quota machines (line_of_text settings line)) (λ next. lab_from settings quota (number + 1) next (lines_of rest))
 line_on settings quota number machines line rest plain =
     ap (λ text. lab_from settings quota number machines (lines_of text)) (append_assoc line (10 ∷ []) rest)
     ∙ ap (lab_from settings quota number machines) (line_before line rest plain)
     ∙ one_line settings quota number machines line (lines_of rest)
 
-next_at : (settings : Settings) (quota number : ℕ) (given left left2 held holds holds2 : Option (List ℕ)) (places places2 : List Place) (line : List ℕ) (t : Turn)
-    → (s : SoFar settings quota number given left held holds places) → IsLine left left2 line → turn settings quota s.machines (line_of settings line) ≡ t
-    → LeadsOn settings quota number t places2 holds holds2 None → SoFar settings quota (number + 1) given left2 held holds2 places2
-next_at settings quota number given left left2 held holds holds2 places places2 line Refused s read is leads = absurd leads
-next_at settings quota number given left left2 held holds holds2 places places2 line (Taken told machines) s read is leads = record {
+next_at : (settings : Settings) (quota number : ℕ) (given left left2 held holds holds2 : Option (List ℕ)) (states states2 : List CircuitState) (line : List ℕ) (t : LineResult)
+    → (s : SoFar settings quota number given left held holds states) → IsLine left left2 line → line_result settings quota s.machines (line_of_text settings line) ≡ t
+    → Follows settings quota number t states2 holds holds2 None → SoFar settings quota (number + 1) given left2 held holds2 states2
+next_at settings quota number given left left2 held holds holds2 states states2 line Refused s read is follows = absurd follows
+next_at settings quota number given left left2 held holds holds2 states states2 line (Applied written machines) s read is follows = record {
   machines = machines;
-  standing = leads.standing;
+  represents = follows.represents;
   read = s.read ++ (line ++ 10 ∷ []);
   consumed = consumes_more given left left2 s.read (line ++ 10 ∷ []) s.consumed read.read;
-  told = s.told ++ told;
-  appended = appends_more held holds holds2 s.told told s.appended leads.appended;
+  written = s.written ++ written;
+  appended = appends_more held holds holds2 s.written written s.appended follows.appended;
   whole = λ rest.
-      goes_on settings quota number given left held holds places s (line ++ 10 ∷ []) rest
-      ∙ ap (after s.told) (line_on settings quota number s.machines line rest read.plain ∙ ap (λ t. and_then number t (λ next. lab_from settings quota (number + 1) next (lines_of rest))) is)
-      ∙ after_more s.told told (lab_from settings quota (number + 1) machines (lines_of rest));
+      goes_on settings quota number given left held holds states s (line ++ 10 ∷ []) rest
+      ∙ ap (after s.written) (line_on settings quota number s.machines line rest read.plain ∙ ap (λ t. and_then number t (λ next. lab_from settings quota (number + 1) next (lines_of rest))) is)
+      ∙ after_more s.written written (lab_from settings quota (number + 1) machines (lines_of rest));
 }
 
 -- one line more
-pub next_line : (settings : Settings) (quota number : ℕ) (given left left2 held holds holds2 : Option (List ℕ)) (places places2 : List Place) (line : List ℕ)
-    → SoFar settings quota number given left held holds places → IsLine left left2 line
-    → ((machines : ℕ → Alone) → AreStanding settings quota places machines → LeadsOn settings quota number (turn settings quota machines (line_of settings line)) places2 holds holds2 None)
-    → SoFar settings quota (number + 1) given left2 held holds2 places2
-next_line settings quota number given left left2 held holds holds2 places places2 line s read leads =
-    next_at settings quota number given left left2 held holds holds2 places places2 line (turn settings quota s.machines (line_of settings line)) s read refl (leads s.machines s.standing)
+pub next_line : (settings : Settings) (quota number : ℕ) (given left left2 held holds holds2 : Option (List ℕ)) (states states2 : List CircuitState) (line : List ℕ)
+    → SoFar settings quota number given left held holds states → IsLine left left2 line
+    → ((machines : ℕ → Alone) → AllRepresent settings quota states machines → Follows settings quota number (line_result settings quota machines (line_of_text settings line)) states2 holds holds2 None)
+    → SoFar settings quota (number + 1) given left2 held holds2 states2
+next_line settings quota number given left left2 held holds holds2 states states2 line s read follows =
+    next_at settings quota number given left left2 held holds holds2 states states2 line (line_result settings quota s.machines (line_of_text settings line)) s read refl (follows s.machines s.represents)
 
 -- what may be left where the run ends: what the reader has, or nothing more
 abbrev Left : Option (List ℕ) → List ℕ → Type 0
 Left left rest = (left ≡ Some rest) ⊎ (rest ≡ [])
 
--- The run ends with a part of the text of which this turn comes, whatever is left.
-ends_at : (settings : Settings) (quota number : ℕ) (given left left2 held holds holds2 : Option (List ℕ)) (places places2 : List Place) (part : List ℕ) (status : ℕ) (t : Turn)
-    → (s : SoFar settings quota number given left held holds places) → Consumes left left2 part
+-- The run ends with a part of the text that has this result, whatever is left.
+ends_at : (settings : Settings) (quota number : ℕ) (given left left2 held holds holds2 : Option (List ℕ)) (states states2 : List CircuitState) (part : List ℕ) (status : ℕ) (t : LineResult)
+    → (s : SoFar settings quota number given left held holds states) → Consumes left left2 part
     → (f : List ℕ → (ℕ → Alone) → Output)
     → ((rest : List ℕ) → Left left2 rest → lab_from settings quota number s.machines (lines_of (part ++ rest)) ≡ and_then number t (f rest))
-    → LeadsOn settings quota number t places2 holds holds2 (Some status)
+    → Follows settings quota number t states2 holds holds2 (Some status)
     → Ends settings quota given left2 held holds2 status
-ends_at settings quota number given left left2 held holds holds2 places places2 part status Refused s read f comes (inl (is, wrote)) = record {
+ends_at settings quota number given left left2 held holds holds2 states states2 part status Refused s read f comes (inl (is, wrote)) = record {
   read = s.read ++ part;
   consumed = consumes_more given left left2 s.read part s.consumed read;
   exact = λ fine rest here.
-      let all = goes_on settings quota number given left held holds places s part rest ∙ ap (after s.told) (comes rest (inl here)) in
-      (subst (λ o. Appends held holds2 o.text) (sym all) (appends_more held holds holds2 s.told (bad_text number) s.appended wrote), is ∙ sym (ap (λ o. o.status) all));
-  begun = λ failed. let e : BAD_LINE ≡ FAILED = sym is ∙ failed in absurd (omega arith);
+      let all = goes_on settings quota number given left held holds states s part rest ∙ ap (after s.written) (comes rest (inl here)) in
+      (subst (λ o. Appends held holds2 o.text) (sym all) (appends_more held holds holds2 s.written (bad_text number) s.appended wrote), is ∙ sym (ap (λ o. o.status) all));
+  partial = λ failed. let e : BAD_LINE ≡ FAILED = sym is ∙ failed in absurd (omega arith);
 }
-ends_at settings quota number given left left2 held holds holds2 places places2 part status Refused s read f comes (inr (is, wrote)) = record {
+ends_at settings quota number given left left2 held holds holds2 states states2 part status Refused s read f comes (inr (is, wrote)) = record {
   read = s.read ++ part;
   consumed = consumes_more given left left2 s.read part s.consumed read;
   exact = λ fine rest here. absurd (fine is);
-  begun = λ failed.
-      let all = ap (lab_output settings quota) (sym (append-nil (s.read ++ part))) ∙ goes_on settings quota number given left held holds places s part [] ∙ ap (after s.told) (comes [] (inr refl)) in
-      subst (λ o. AppendsFront held holds2 o.text) (sym all) (front_behind held holds holds2 s.told (bad_text number) s.appended wrote);
+  partial = λ failed.
+      let all = ap (lab_output settings quota) (sym (append-nil (s.read ++ part))) ∙ goes_on settings quota number given left held holds states s part [] ∙ ap (after s.written) (comes [] (inr refl)) in
+      subst (λ o. AppendsPrefix held holds2 o.text) (sym all) (front_behind held holds holds2 s.written (bad_text number) s.appended wrote);
 }
-ends_at settings quota number given left left2 held holds holds2 places places2 part status (Taken told machines) s read f comes (is, wrote) = record {
+ends_at settings quota number given left left2 held holds holds2 states states2 part status (Applied written machines) s read f comes (is, wrote) = record {
   read = s.read ++ part;
   consumed = consumes_more given left left2 s.read part s.consumed read;
   exact = λ fine rest here. absurd (fine is);
-  begun = λ failed.
-      let all = ap (lab_output settings quota) (sym (append-nil (s.read ++ part))) ∙ goes_on settings quota number given left held holds places s part [] ∙ ap (after s.told) (comes [] (inr refl)) in
-      subst (λ o. AppendsFront held holds2 o.text) (sym all)
-      (front_behind held holds holds2 s.told (told ++ (f [] machines).text) s.appended (front_longer holds holds2 told (f [] machines).text wrote));
+  partial = λ failed.
+      let all = ap (lab_output settings quota) (sym (append-nil (s.read ++ part))) ∙ goes_on settings quota number given left held holds states s part [] ∙ ap (after s.written) (comes [] (inr refl)) in
+      subst (λ o. AppendsPrefix held holds2 o.text) (sym all)
+      (front_behind held holds holds2 s.written (written ++ (f [] machines).text) s.appended (front_longer holds holds2 written (f [] machines).text wrote));
 }
 
 -- where the lines of a text end, however it goes on
-pub ends_feed : (settings : Settings) (quota number : ℕ) (given left left2 held holds holds2 : Option (List ℕ)) (places places2 : List Place) (line : List ℕ) (status : ℕ)
-    → SoFar settings quota number given left held holds places → IsLine left left2 line
-    → ((machines : ℕ → Alone) → AreStanding settings quota places machines → LeadsOn settings quota number (turn settings quota machines (line_of settings line)) places2 holds holds2 (Some status))
+pub ends_feed : (settings : Settings) (quota number : ℕ) (given left left2 held holds holds2 : Option (List ℕ)) (states states2 : List CircuitState) (line : List ℕ) (status : ℕ)
+    → SoFar settings quota number given left held holds states → IsLine left left2 line
+    → ((machines : ℕ → Alone) → AllRepresent settings quota states machines → Follows settings quota number (line_result settings quota machines (line_of_text settings line)) states2 holds holds2 (Some status))
     → Ends settings quota given left2 held holds2 status
-ends_feed settings quota number given left left2 held holds holds2 places places2 line status s read leads =
-    ends_at settings quota number given left left2 held holds holds2 places places2 (line ++ 10 ∷ []) status (turn settings quota s.machines (line_of settings line)) s read.read
+ends_feed settings quota number given left left2 held holds holds2 states states2 line status s read follows =
+    ends_at settings quota number given left left2 held holds holds2 states states2 (line ++ 10 ∷ []) status (line_result settings quota s.machines (line_of_text settings line)) s read.read
     (λ rest next. lab_from settings quota (number + 1) next (lines_of rest)) (λ rest here. line_on settings quota number s.machines line rest read.plain)
-    (leads s.machines s.standing)
+    (follows s.machines s.represents)
 
 -- a line that is too long
 long_on : (settings : Settings) (quota number : ℕ) (machines : ℕ → Alone) (front rest : List ℕ) → lacks 10 front ≡ true → MAX_LINE < length front
@@ -158,87 +158,87 @@ long_on settings quota number machines (b ∷ front) rest plain long =
     let line = (b ∷ front) ++ begins.more in
     let size = length-append (b ∷ front) begins.more in
     ap (lab_from settings quota number machines) begins.is ∙ one_line settings quota number machines line begins.others
-    ∙ ap (λ l. and_then number (turn settings quota machines l) (λ next. lab_from settings quota (number + 1) next begins.others)) (long_is settings line (omega arith))
+    ∙ ap (λ l. and_then number (line_result settings quota machines l) (λ next. lab_from settings quota (number + 1) next begins.others)) (long_is settings line (omega arith))
 
-pub ends_long : (settings : Settings) (quota number : ℕ) (given left left2 held holds holds2 : Option (List ℕ)) (places : List Place) (status : ℕ)
-    → SoFar settings quota number given left held holds places → IsLong left left2 → IsRefusal number holds holds2 status → Ends settings quota given left2 held holds2 status
-ends_long settings quota number given left left2 held holds holds2 places status s read wrote =
-    ends_at settings quota number given left left2 held holds holds2 places places read.front status Refused s read.part.read
+pub ends_long : (settings : Settings) (quota number : ℕ) (given left left2 held holds holds2 : Option (List ℕ)) (states : List CircuitState) (status : ℕ)
+    → SoFar settings quota number given left held holds states → IsLong left left2 → IsRefusal number holds holds2 status → Ends settings quota given left2 held holds2 status
+ends_long settings quota number given left left2 held holds holds2 states status s read wrote =
+    ends_at settings quota number given left left2 held holds holds2 states states read.front status Refused s read.part.read
     (λ rest next. record { text = []; status = DONE }) (λ rest here. long_on settings quota number s.machines read.front rest read.part.plain read.long) wrote
 
--- nothing is left behind the end
+-- nothing is left after the end
 none_left : (left : Option (List ℕ)) (rest : List ℕ) → IsAtEnd left → Left left rest → rest ≡ []
 none_left None rest end (inl h) = absurd (cc)
 none_left (Some xs) rest end (inl h) = sym (same_Some _ _ h) ∙ end
 none_left left rest end (inr h) = h
 
 last_on : (settings : Settings) (quota number : ℕ) (machines : ℕ → Alone) (line rest : List ℕ) → lacks 10 line ≡ true → (length line ≡ 0 → ⊥) → rest ≡ []
-    → lab_from settings quota number machines (lines_of (line ++ rest)) ≡ and_then number (turn settings quota machines (line_of settings line)) (λ next. lab_from settings quota (number + 1) next [])
+    → lab_from settings quota number machines (lines_of (line ++ rest)) ≡ and_then number (line_result settings quota machines (line_of_text settings line)) (λ next. lab_from settings quota (number + 1) next [])
 last_on settings quota number machines [] rest plain some none = absurd (some refl)
 last_on settings quota number machines (b ∷ front) rest plain some none =
     ap (λ text. lab_from settings quota number machines (lines_of text)) (ap (λ v. (b ∷ front) ++ v) none ∙ append-nil (b ∷ front))
     ∙ ap (lab_from settings quota number machines) (line_last b front plain)
     ∙ one_line settings quota number machines (b ∷ front) []
 
-pub ends_last : (settings : Settings) (quota number : ℕ) (given left left2 held holds holds2 : Option (List ℕ)) (places places2 : List Place) (line : List ℕ) (status : ℕ)
-    → SoFar settings quota number given left held holds places → IsLast left left2 line → (length line ≡ 0 → ⊥)
-    → ((machines : ℕ → Alone) → AreStanding settings quota places machines → LeadsOn settings quota number (turn settings quota machines (line_of settings line)) places2 holds holds2 (Some status))
+pub ends_last : (settings : Settings) (quota number : ℕ) (given left left2 held holds holds2 : Option (List ℕ)) (states states2 : List CircuitState) (line : List ℕ) (status : ℕ)
+    → SoFar settings quota number given left held holds states → IsLast left left2 line → (length line ≡ 0 → ⊥)
+    → ((machines : ℕ → Alone) → AllRepresent settings quota states machines → Follows settings quota number (line_result settings quota machines (line_of_text settings line)) states2 holds holds2 (Some status))
     → Ends settings quota given left2 held holds2 status
-ends_last settings quota number given left left2 held holds holds2 places places2 line status s read some leads =
-    ends_at settings quota number given left left2 held holds holds2 places places2 line status (turn settings quota s.machines (line_of settings line)) s read.part.read
+ends_last settings quota number given left left2 held holds holds2 states states2 line status s read some follows =
+    ends_at settings quota number given left left2 held holds holds2 states states2 line status (line_result settings quota s.machines (line_of_text settings line)) s read.part.read
     (λ rest next. lab_from settings quota (number + 1) next [])
-    (λ rest here. last_on settings quota number s.machines line rest read.part.plain some (none_left left2 rest read.end here)) (leads s.machines s.standing)
+    (λ rest here. last_on settings quota number s.machines line rest read.part.plain some (none_left left2 rest read.end here)) (follows s.machines s.represents)
 
--- The run ends at the end of the text, of which all was told.
-ends_done : (settings : Settings) (quota : ℕ) (given left held holds : Option (List ℕ)) (read told : List ℕ) → Consumes given left read → IsAtEnd left → Appends held holds told
-    → lab_output settings quota (read ++ []) ≡ record { text = told; status = DONE } → Ends settings quota given left held holds DONE
-ends_done settings quota given left held holds read told consumed end wrote all = record {
+-- The run ends at the end of the text, of which all was written.
+ends_done : (settings : Settings) (quota : ℕ) (given left held holds : Option (List ℕ)) (read written : List ℕ) → Consumes given left read → IsAtEnd left → Appends held holds written
+    → lab_output settings quota (read ++ []) ≡ record { text = written; status = DONE } → Ends settings quota given left held holds DONE
+ends_done settings quota given left held holds read written consumed end wrote all = record {
   read = read;
   consumed = consumed;
   exact = λ fine rest here.
       let so = ap (λ v. lab_output settings quota (read ++ v)) (none_left left rest end (inl here)) ∙ all in
       (subst (λ o. Appends held holds o.text) (sym so) wrote, sym (ap (λ o. o.status) so));
-  begun = λ failed. let e : DONE ≡ FAILED = failed in absurd (omega arith);
+  partial = λ failed. let e : DONE ≡ FAILED = failed in absurd (omega arith);
 }
 
-last_done : (settings : Settings) (quota number : ℕ) (given left left2 held holds holds2 : Option (List ℕ)) (places places2 : List Place) (line : List ℕ) (t : Turn)
-    → (s : SoFar settings quota number given left held holds places) → IsLast left left2 line → (length line ≡ 0 → ⊥) → turn settings quota s.machines (line_of settings line) ≡ t
-    → LeadsOn settings quota number t places2 holds holds2 None → Ends settings quota given left2 held holds2 DONE
-last_done settings quota number given left left2 held holds holds2 places places2 line Refused s read some is leads = absurd leads
-last_done settings quota number given left left2 held holds holds2 places places2 line (Taken told machines) s read some is leads =
-    ends_done settings quota given left2 held holds2 (s.read ++ line) (s.told ++ told) (consumes_more given left left2 s.read line s.consumed read.part.read) read.end
-    (appends_more held holds holds2 s.told told s.appended leads.appended)
-    (goes_on settings quota number given left held holds places s line []
-    ∙ ap (after s.told) (last_on settings quota number s.machines line [] read.part.plain some refl
+last_done : (settings : Settings) (quota number : ℕ) (given left left2 held holds holds2 : Option (List ℕ)) (states states2 : List CircuitState) (line : List ℕ) (t : LineResult)
+    → (s : SoFar settings quota number given left held holds states) → IsLast left left2 line → (length line ≡ 0 → ⊥) → line_result settings quota s.machines (line_of_text settings line) ≡ t
+    → Follows settings quota number t states2 holds holds2 None → Ends settings quota given left2 held holds2 DONE
+last_done settings quota number given left left2 held holds holds2 states states2 line Refused s read some is follows = absurd follows
+last_done settings quota number given left left2 held holds holds2 states states2 line (Applied written machines) s read some is follows =
+    ends_done settings quota given left2 held holds2 (s.read ++ line) (s.written ++ written) (consumes_more given left left2 s.read line s.consumed read.part.read) read.end
+    (appends_more held holds holds2 s.written written s.appended follows.appended)
+    (goes_on settings quota number given left held holds states s line []
+    ∙ ap (after s.written) (last_on settings quota number s.machines line [] read.part.plain some refl
     ∙ ap (λ t. and_then number t (λ next. lab_from settings quota (number + 1) next [])) is
-    ∙ ap (after told) (none_told settings quota (number + 1) machines)
-    ∙ ap (λ text. record { text = text; status = DONE }) (append-nil told)))
+    ∙ ap (after written) (none_written settings quota (number + 1) machines)
+    ∙ ap (λ text. record { text = text; status = DONE }) (append-nil written)))
 
-pub ends_last_done : (settings : Settings) (quota number : ℕ) (given left left2 held holds holds2 : Option (List ℕ)) (places places2 : List Place) (line : List ℕ)
-    → SoFar settings quota number given left held holds places → IsLast left left2 line → (length line ≡ 0 → ⊥)
-    → ((machines : ℕ → Alone) → AreStanding settings quota places machines → LeadsOn settings quota number (turn settings quota machines (line_of settings line)) places2 holds holds2 None)
+pub ends_last_done : (settings : Settings) (quota number : ℕ) (given left left2 held holds holds2 : Option (List ℕ)) (states states2 : List CircuitState) (line : List ℕ)
+    → SoFar settings quota number given left held holds states → IsLast left left2 line → (length line ≡ 0 → ⊥)
+    → ((machines : ℕ → Alone) → AllRepresent settings quota states machines → Follows settings quota number (line_result settings quota machines (line_of_text settings line)) states2 holds holds2 None)
     → Ends settings quota given left2 held holds2 DONE
-ends_last_done settings quota number given left left2 held holds holds2 places places2 line s read some leads =
-    last_done settings quota number given left left2 held holds holds2 places places2 line (turn settings quota s.machines (line_of settings line)) s read some refl (leads s.machines s.standing)
+ends_last_done settings quota number given left left2 held holds holds2 states states2 line s read some follows =
+    last_done settings quota number given left left2 held holds holds2 states states2 line (line_result settings quota s.machines (line_of_text settings line)) s read some refl (follows s.machines s.represents)
 
 -- no line is left
-pub ends_none : (settings : Settings) (quota number : ℕ) (given left left2 held holds : Option (List ℕ)) (places : List Place)
-    → SoFar settings quota number given left held holds places → IsLast left left2 [] → Ends settings quota given left2 held holds DONE
-ends_none settings quota number given left left2 held holds places s read =
-    ends_done settings quota given left2 held holds (s.read ++ []) s.told (consumes_more given left left2 s.read [] s.consumed read.part.read) read.end s.appended
-    (goes_on settings quota number given left held holds places s [] []
-    ∙ ap (after s.told) (ap (lab_from settings quota number s.machines) no_lines ∙ none_told settings quota number s.machines)
-    ∙ ap (λ text. record { text = text; status = DONE }) (append-nil s.told))
+pub ends_none : (settings : Settings) (quota number : ℕ) (given left left2 held holds : Option (List ℕ)) (states : List CircuitState)
+    → SoFar settings quota number given left held holds states → IsLast left left2 [] → Ends settings quota given left2 held holds DONE
+ends_none settings quota number given left left2 held holds states s read =
+    ends_done settings quota given left2 held holds (s.read ++ []) s.written (consumes_more given left left2 s.read [] s.consumed read.part.read) read.end s.appended
+    (goes_on settings quota number given left held holds states s [] []
+    ∙ ap (after s.written) (ap (lab_from settings quota number s.machines) no_lines ∙ none_written settings quota number s.machines)
+    ∙ ap (λ text. record { text = text; status = DONE }) (append-nil s.written))
 
 -- the reader failed
-pub ends_cut : (settings : Settings) (quota number : ℕ) (given left left2 held holds : Option (List ℕ)) (places : List Place)
-    → SoFar settings quota number given left held holds places → IsCut left left2 → Ends settings quota given left2 held holds FAILED
-ends_cut settings quota number given left left2 held holds places s cut = record {
+pub ends_cut : (settings : Settings) (quota number : ℕ) (given left left2 held holds : Option (List ℕ)) (states : List CircuitState)
+    → SoFar settings quota number given left held holds states → IsCut left left2 → Ends settings quota given left2 held holds FAILED
+ends_cut settings quota number given left left2 held holds states s cut = record {
   read = s.read ++ cut.front;
   consumed = consumes_more given left left2 s.read cut.front s.consumed cut.part.read;
   exact = λ fine rest here. absurd (fine refl);
-  begun = λ failed. record {
-    front = s.told;
+  partial = λ failed. record {
+    front = s.written;
     rest = (lab_from settings quota number s.machines (lines_of cut.front)).text;
     parted = ap (λ o. o.text) (s.whole cut.front);
     appended = s.appended;
@@ -246,21 +246,21 @@ ends_cut settings quota number given left left2 held holds places s cut = record
 }
 
 -- there are too many lines
-pub ends_stop : (settings : Settings) (quota number : ℕ) (given left held holds : Option (List ℕ)) (places : List Place)
-    → SoFar settings quota number given left held holds places → Ends settings quota given left held holds FAILED
-ends_stop settings quota number given left held holds places s = record {
+pub ends_stop : (settings : Settings) (quota number : ℕ) (given left held holds : Option (List ℕ)) (states : List CircuitState)
+    → SoFar settings quota number given left held holds states → Ends settings quota given left held holds FAILED
+ends_stop settings quota number given left held holds states s = record {
   read = s.read;
   consumed = s.consumed;
   exact = λ fine rest here. absurd (fine refl);
-  begun = λ failed. record {
-    front = s.told;
+  partial = λ failed. record {
+    front = s.written;
     rest = (lab_from settings quota number s.machines (lines_of [])).text;
     parted = ap (λ o. o.text) (ap (lab_output settings quota) (sym (append-nil s.read)) ∙ s.whole []);
     appended = s.appended;
   };
 }
 
--- what is written for a known text
+-- the output for a known text
 ended_known : (settings : Settings) (quota : ℕ) (text read : List ℕ) (left held holds : Option (List ℕ)) (status : ℕ) → Consumes (Some text) left read
     → ((rest : List ℕ) → left ≡ Some rest → Appends held holds (lab_output settings quota (read ++ rest)).text × (status ≡ (lab_output settings quota (read ++ rest)).status))
     → Appends held holds (lab_output settings quota text).text × (status ≡ (lab_output settings quota text).status)

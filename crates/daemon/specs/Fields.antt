@@ -1,4 +1,4 @@
--- What a field stands for: a number, bytes, or a circuit.
+-- The value of a field: a number, bytes, or a circuit.
 use Rattle.std.specs.Prelude.{ℕ, ◌+◌, ◌-◌, ◌*◌, nat_le, ◌==◌, Bool, true, false, if◌then◌else◌, List, [], ◌∷◌, length, codes, position, Option, Some, None, Result, Ok, Err}
 use Rattle.std.specs.Str.{bytes_eq}
 use Rattle.std.specs.Char.{is_ascii_digit}
@@ -7,12 +7,12 @@ use Rattle.hex.specs.declared.error.FromHexError.{FromHexError}
 use Rattle.config.specs.Rules.{Settings}
 use Rattle.daemon.specs.declared.accesslab.hexadecimal.TheConstants.{MAX_BYTES}
 
--- the number whose digits are those of n and then these, of which `0` is 48
+-- the number with the digits of n followed by these; the digit `0` is 48
 unfoldable pub digits_after : ℕ → List ℕ → Option ℕ
 digits_after n [] = Some n
 digits_after n (d ∷ ds) = if is_ascii_digit d then digits_after (10 * n + (d - 48)) ds else None
 
--- there is no digit, or a zero before another
+-- there is no digit, or a leading zero
 abbrev pub lacks_first : List ℕ → Bool
 lacks_first [] = true
 lacks_first (d ∷ []) = false
@@ -22,7 +22,7 @@ abbrev pub at_most : ℕ → Option ℕ → Option ℕ
 at_most most None = None
 at_most most (Some n) = if nat_le n most then Some n else None
 
--- the number that decimal digits spell without a sign and without leading zeros
+-- the number that decimal digits spell, without a sign and without leading zeros
 abbrev pub value_of : List ℕ → Option ℕ
 value_of text = if lacks_first text then None else digits_after 0 text
 
@@ -33,7 +33,7 @@ abbrev pub ok_of : Result (List ℕ) FromHexError → Option (List ℕ)
 ok_of (Ok bytes) = Some bytes
 ok_of (Err why) = None
 
--- The bytes of an even number of hexadecimal digits of either case. A lone `-` is no bytes.
+-- The bytes of an even number of hexadecimal digits of either case. A single `-` is no bytes.
 abbrev pub bytes_of : List ℕ → Option (List ℕ)
 bytes_of [] = None
 bytes_of (b ∷ digits) =
@@ -41,6 +41,6 @@ bytes_of (b ∷ digits) =
     else if nat_le (length (b ∷ digits)) (2 * MAX_BYTES) then ok_of (decode_of (b ∷ digits))
     else None
 
--- the place of the circuit with exactly this id
+-- the index of the circuit with exactly this id
 abbrev pub circuit_named : Settings → List ℕ → Option ℕ
 circuit_named settings id = position (λ circuit. bytes_eq circuit.id id) settings.circuits

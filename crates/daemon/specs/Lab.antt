@@ -1,59 +1,59 @@
--- What is written for a text of event lines: the text that comes of them, by one machine a circuit.
+-- The output for a text of event lines, by one machine for each circuit.
 use Rattle.std.specs.Prelude.{ℕ, ◌+◌, ◌==◌, if◌then◌else◌, List, [], ◌∷◌, ◌++◌, Option, Some, None}
+use Rattle.config.specs.CircuitPart.{CircuitPart, part_in}
 use Rattle.config.specs.Rules.{Settings}
 use Rattle.world.specs.Alone.{Alone, Step, Done, start, alone_step}
-use Rattle.world.specs.CircuitPart.{CircuitPart}
-use Rattle.world.specs.Seen.{Seen, Tick}
-use Rattle.world.specs.Start.{part_in}
+use Rattle.world.specs.Seen.{Seen}
+use Rattle.world.specs.Seen as sees
 use Rattle.daemon.specs.declared.accesslab.status.TheConstants.{DONE, BAD_LINE}
-use Rattle.daemon.specs.Line.{Line, Passed, Bad, Named, Passes, line_of}
+use Rattle.daemon.specs.Line.{Line, Ignored, Bad, Named, Tick, line_of_text}
 use Rattle.daemon.specs.Lines.{lines_of}
-use Rattle.daemon.specs.Told.{effect_text, whole, bad_text}
+use Rattle.daemon.specs.Output.{effect_text, with_newline, bad_text}
 
 pub record Output : Type 0 where
   pub text : List ℕ
   pub status : ℕ
 
--- What a line comes to: it is bad, or this is written and the machines go on so.
-pub data Turn : Type 0 where
-  Refused : Turn
-  Taken : List ℕ → (ℕ → Alone) → Turn
+-- The result of a line: it is bad, or this is written and these are the machines after it.
+pub data LineResult : Type 0 where
+  Refused : LineResult
+  Applied : List ℕ → (ℕ → Alone) → LineResult
 
 -- circuit c's machine in its next state, and each other one as it was
 abbrev pub moved : ℕ → Alone → (ℕ → Alone) → ℕ → Alone
 moved c next machines d = if c == d then next else machines d
 
--- a circuit's machine takes what happens to it
-abbrev pub by_step : ℕ → List ℕ → Step → (ℕ → Alone) → Turn
-by_step c id step machines = Taken (whole (effect_text id step.effect)) (moved c step.next machines)
+-- a step of one circuit's machine
+abbrev pub step_result : ℕ → List ℕ → Step → (ℕ → Alone) → LineResult
+step_result c id step machines = Applied (with_newline (effect_text id step.effect)) (moved c step.next machines)
 
-abbrev pub by_part : ℕ → Seen → (ℕ → Alone) → Option CircuitPart → Turn
-by_part c seen machines None = Refused
-by_part c seen machines (Some own) = by_step c own.id (alone_step own seen (machines c)) machines
+abbrev pub part_result : ℕ → ℕ → Seen → (ℕ → Alone) → Option CircuitPart → LineResult
+part_result quota c seen machines None = Refused
+part_result quota c seen machines (Some part) = step_result c part.id (alone_step (record { part = part; quota = quota }) seen (machines c)) machines
 
--- a moment passes for a machine
-abbrev pub ticked : ℕ → Alone → Option CircuitPart → Alone
-ticked now a None = a
-ticked now a (Some own) = (alone_step own (Tick now) a).next
+-- the moment passes for a machine
+abbrev pub ticked : ℕ → ℕ → Alone → Option CircuitPart → Alone
+ticked quota now a None = a
+ticked quota now a (Some part) = (alone_step (record { part = part; quota = quota }) (sees.Tick now) a).next
 
-abbrev pub turn : Settings → ℕ → (ℕ → Alone) → Line → Turn
-turn settings quota machines Passed = Taken [] machines
-turn settings quota machines Bad = Refused
-turn settings quota machines (Named c seen) = by_part c seen machines (part_in settings quota c)
-turn settings quota machines (Passes now) =
-    Taken (whole (effect_text [] Done)) (λ c. ticked now (machines c) (part_in settings quota c))
+abbrev pub line_result : Settings → ℕ → (ℕ → Alone) → Line → LineResult
+line_result settings quota machines Ignored = Applied [] machines
+line_result settings quota machines Bad = Refused
+line_result settings quota machines (Named c seen) = part_result quota c seen machines (part_in settings c)
+line_result settings quota machines (Tick now) =
+    Applied (with_newline (effect_text [] Done)) (λ c. ticked quota now (machines c) (part_in settings c))
 
--- The n-th line is bad and ends it, or what is written for it stands before what the rest gives.
-abbrev pub and_then : ℕ → Turn → ((ℕ → Alone) → Output) → Output
+-- The n-th line is bad and ends the output, or what it writes precedes the output for the rest.
+abbrev pub and_then : ℕ → LineResult → ((ℕ → Alone) → Output) → Output
 and_then n Refused rest = record { text = bad_text n; status = BAD_LINE }
-and_then n (Taken told machines) rest = record { text = told ++ (rest machines).text; status = (rest machines).status }
+and_then n (Applied written machines) rest = record { text = written ++ (rest machines).text; status = (rest machines).status }
 
--- what is written for lines, of which the first is the n-th of all
+-- the output for these lines, the first of which is the n-th of the text
 unfoldable pub lab_from : Settings → ℕ → ℕ → (ℕ → Alone) → List (List ℕ) → Output
 lab_from settings quota n machines [] = record { text = []; status = DONE }
 lab_from settings quota n machines (line ∷ lines) =
-    and_then n (turn settings quota machines (line_of settings line)) (λ next. lab_from settings quota (n + 1) next lines)
+    and_then n (line_result settings quota machines (line_of_text settings line)) (λ next. lab_from settings quota (n + 1) next lines)
 
--- what is written for a text, and the status in the end
+-- the output for a text
 abbrev pub lab_output : Settings → ℕ → List ℕ → Output
 lab_output settings quota text = lab_from settings quota 1 (λ c. start) (lines_of text)

@@ -6,21 +6,21 @@ use Rattle.types.specs.declared.dest.Proto.TheVariants.{V4}
 use Rattle.types.specs.declared.moment.TheConstants.{LAST_MOMENT}
 use Rattle.world.specs.Seen.{Seen, Frame, Up, Down}
 use Rattle.daemon.specs.declared.accesslab.line.TheConstants.{MAX_LINE}
-use Rattle.daemon.specs.declared.accesslab.reading.TheConstants.{MAX_NUMBER}
+use Rattle.daemon.specs.declared.accesslab.parse_line.TheConstants.{MAX_NUMBER}
 use Rattle.daemon.specs.Fields.{number_to, bytes_of, circuit_named}
 use Rattle.daemon.specs.Lines.{fields_of}
 
 pub data Line : Type 0 where
-  -- nothing
-  Passed : Line
-  -- nothing that can be read
+  -- an empty line or a comment
+  Ignored : Line
+  -- a line of no known form
   Bad : Line
-  -- this happens to this circuit
+  -- an event of this circuit
   Named : ℕ → Seen → Line
-  -- this moment passes for all circuits
-  Passes : ℕ → Line
+  -- the moment passes for all circuits
+  Tick : ℕ → Line
 
--- a line is bad where a field has no value
+-- A line is bad where a field has no value.
 infixl 10 ◌>>=◌
 abbrev pub ◌>>=◌ : {A : Type 0} → Option A → (A → Line) → Line
 None >>= f = Bad
@@ -36,7 +36,7 @@ frame_line settings (circuit ∷ proto ∷ digits ∷ []) =
     else Bad
 frame_line settings fields = Bad
 
--- `up CID J NOW FAULT`: the fault is 0, which is none
+-- `up CID J NOW FAULT`: the fault is 0, no fault
 abbrev pub up_line : Settings → List (List ℕ) → Line
 up_line settings (circuit ∷ j ∷ now ∷ fault ∷ []) =
     if bytes_eq fault (codes "0") then (do
@@ -59,28 +59,28 @@ down_line settings fields = Bad
 abbrev pub tick_line : List (List ℕ) → Line
 tick_line (now ∷ []) = do
   moment ← number_to LAST_MOMENT now
-  Passes moment
+  Tick moment
 tick_line fields = Bad
 
--- by the first field
-abbrev pub by_word : Settings → List (List ℕ) → Line
-by_word settings [] = Bad
-by_word settings (word ∷ fields) =
+-- the line by its first field
+abbrev pub line_for_word : Settings → List (List ℕ) → Line
+line_for_word settings [] = Bad
+line_for_word settings (word ∷ fields) =
     if bytes_eq word (codes "frame") then frame_line settings fields
     else if bytes_eq word (codes "up") then up_line settings fields
     else if bytes_eq word (codes "down") then down_line settings fields
     else if bytes_eq word (codes "tick") then tick_line fields
     else Bad
 
--- An empty line, or one that begins with `#` (35), is passed over.
-abbrev pub is_passed : List ℕ → Bool
-is_passed [] = true
-is_passed (b ∷ bytes) = b == 35
+-- An empty line, or one that begins with `#` (35), is ignored.
+abbrev pub is_ignored : List ℕ → Bool
+is_ignored [] = true
+is_ignored (b ∷ bytes) = b == 35
 
 -- a line that is not too long
 abbrev pub short_line : Settings → List ℕ → Line
-short_line settings line = if is_passed line then Passed else by_word settings (fields_of line)
+short_line settings line = if is_ignored line then Ignored else line_for_word settings (fields_of line)
 
--- What a line says. One that is too long is bad, also where it begins with `#`.
-unfoldable pub line_of : Settings → List ℕ → Line
-line_of settings line = if nat_lt MAX_LINE (length line) then Bad else short_line settings line
+-- What a line says. A line that is too long is bad, even one that begins with `#`.
+unfoldable pub line_of_text : Settings → List ℕ → Line
+line_of_text settings line = if nat_lt MAX_LINE (length line) then Bad else short_line settings line

@@ -1,22 +1,22 @@
 -- The lines of a text, and the fields of a line.
 use Rattle.std.specs.Prelude.{ℕ, List, [], ◌∷◌, ◌==◌, if◌then◌else◌, Bool, true, false}
 
--- no byte is this one
+-- none of the bytes is this one
 unfoldable pub lacks : ℕ → List ℕ → Bool
 lacks byte [] = true
 lacks byte (b ∷ bytes) = if b == byte then false else lacks byte bytes
 
--- a byte before what is cut already
+-- a byte in front of the first part
 abbrev pub with_byte : ℕ → List (List ℕ) → List (List ℕ)
 with_byte b [] = (b ∷ []) ∷ []
 with_byte b (part ∷ parts) = (b ∷ part) ∷ parts
 
--- The lines of a text. Each ends with a line feed (10), which is no part of it. The last may lack it.
+-- The lines of a text. Each ends with a line feed (10), which is not part of it; the last may lack it.
 unfoldable pub lines_of : List ℕ → List (List ℕ)
 lines_of [] = []
 lines_of (b ∷ text) = if b == 10 then [] ∷ lines_of text else with_byte b (lines_of text)
 
--- The fields of a line, with exactly one space (32) between two of them.
+-- The fields of a line, separated by exactly one space (32).
 unfoldable pub fields_of : List ℕ → List (List ℕ)
 fields_of [] = [] ∷ []
 fields_of (b ∷ line) = if b == 32 then [] ∷ fields_of line else with_byte b (fields_of line)

@@ -6,25 +6,25 @@ use Rattle.clap.specs.Simple.{on_top}
 use Rattle.clap.specs.declared.builder.ArgAction.TheVariants.{Set}
 use Rattle.clap.specs.declared.builder.value_parser.ValueParser.TheVariants as parser
 use Rattle.daemon.specs.declared.accesslab.command_line.Refusal.{Refusal}
-use Rattle.daemon.specs.declared.accesslab.command_line.Refusal.TheVariants.{Memory, Usage, Unspelled}
-use Rattle.world.specs.declared.world.TheConstants.{MAX_QUOTA}
+use Rattle.daemon.specs.declared.accesslab.command_line.Refusal.TheVariants.{Memory, Usage, BadValue}
+use Rattle.lossy_net.specs.declared.net.TheConstants.{MAX_QUOTA}
 
--- the path of the configuration, which has to be there
+-- the path of the configuration, which is required
 abbrev pub config_rule : Rule
 config_rule = record (new_rule (codes "CONFIG")) { action = Some Set; required = true }
 
--- `--quota Q`, from 1 to 256, and 16 where it isn't given
+-- `--quota Q`, 1 to 256, 16 by default
 abbrev pub quota_rule : Rule
 quota_rule = record (new_rule (codes "quota")) { long = Some (codes "quota"); action = Some Set; parser = Some (parser.Signed (pos 1) (pos 256)); defaults = codes "16" ∷ [] }
 
--- the command without its arguments: the words stand behind the program's name
+-- the command without its arguments; the program's name is not one of its words
 abbrev pub bare_app : App
 bare_app = on_top (λ s. record s { no_binary_name = true; has_version = true }) (new_app (codes "accesslab"))
 
 abbrev pub lab_app : App
 lab_app = with_rule (with_rule bare_app config_rule) quota_rule
 
--- what the words give each argument
+-- the value that the words give each argument
 abbrev pub given : List Text → List Row
 given words = matches_of lab_app words
 
@@ -41,8 +41,8 @@ pub record Spells (words : List Text) (config : List ℕ) (quota : ℕ) : Type 0
   pub least : 1 ≤ quota
   pub most : quota ≤ MAX_QUOTA
 
--- Why words are refused: but for want of memory, clap finds this fault in them, or they spell no values.
+-- Why words are refused: out of memory, or clap finds this fault in them, or they spell no values.
 abbrev pub IsRefused : List Text → Refusal → Type 0
 IsRefused words Memory = ⊤
 IsRefused words (Usage error) = HasKind (fault_of lab_app words) error
-IsRefused words Unspelled = (config : List ℕ) (quota : ℕ) → ¬ Spells words config quota
+IsRefused words BadValue = (config : List ℕ) (quota : ℕ) → ¬ Spells words config quota

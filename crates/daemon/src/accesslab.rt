@@ -1,4 +1,5 @@
-//! The events of a text, one a line, and what comes of them, one line an event.
+//! Events as lines of text, and their outcomes, one line per event.
+mod apply_line;
 mod circuits;
 mod command_line;
 mod digits;
@@ -7,13 +8,12 @@ mod fields;
 mod hexadecimal;
 mod line;
 mod opening;
-mod put;
-mod reading;
+mod output;
+mod parse_line;
 mod status;
-mod tell;
 #[cfg(test)]
 mod tests;
-mod turn;
+mod writing;
 
 pub use command_line::{LabWords, Refusal, words};
 pub use engine::lab;

@@ -1,4 +1,4 @@
-//! The engines of the programs: `accesslab`, which reads events as text and writes what came of them.
+//! The engines of the programs. `accesslab` reads events as text and writes their outcomes.
 #![tactic(auto)]
 
 pub mod accesslab;

@@ -10,8 +10,8 @@ pub(crate) fn circuit_named(config: &Config, id: &[u8]) -> Option<Circuit>
     ensures value { result ≡ circuit_named config.now id.now }
     ensures within { IfSome result (λ circuit. circuit < length config.now.circuits) }
 {
-    // No effect at run time. The proof reads from it that no two circuits have one id.
-    let _ = config.circuits();
+    // Only the proof needs this call: its contract says that no two circuits share an id.
+    let _ = config.circuit_count();
     let Some(id) = CircuitId::new(id) else {
         return None;
     };

@@ -4,32 +4,32 @@ ghost use Rattle.clap.specs.Words.{app_of, rule_of};
 ghost use Rattle.daemon.specs.Words.{config_rule, quota_rule, bare_app, lab_app, Spells, IsRefused};
 
 use clap::{Arg, ArgAction, Command};
+use lossy_net::MAX_QUOTA;
 use std::alloc::{AllocError, Global};
-use world::MAX_QUOTA;
 
-/// The values of the words behind the program's name.
+/// The values of the words after the program's name.
 #[derive(Clone, Copy, Debug)]
 pub struct LabWords<'a> {
     /// The path of the configuration.
     pub config: &'a str,
-    /// How many datagrams the network keeps of a circuit in each direction, 1 to 256.
+    /// How many datagrams of a circuit the network keeps in each direction, 1 to 256.
     pub quota: u16,
 }
 
-/// Why there are no values.
+/// Why the words are refused.
 #[derive(Debug, Drop)]
 pub enum Refusal {
-    /// Memory was refused.
+    /// A request for memory was refused.
     Memory,
-    /// The words are not of the command line's form, or ask for help or the version.
+    /// The words are not those of the command line, or ask for help or the version.
     Usage(clap::Error),
-    /// A word spells no value within its limits.
-    Unspelled,
+    /// A value is missing or out of range.
+    BadValue,
 }
 
 fn config_arg<'a>(alloc: Global) -> Arg<'a>
     ensures rule { rule_of result ≡ config_rule }
-    ensures own { result.global ≡ false }
+    ensures local { result.global ≡ false }
 {
     Arg::new(alloc, "CONFIG")
         .action(ArgAction::Set)
@@ -39,14 +39,14 @@ fn config_arg<'a>(alloc: Global) -> Arg<'a>
 
 fn quota_arg<'a>(alloc: Global) -> Arg<'a>
     ensures rule { rule_of result ≡ quota_rule }
-    ensures own { result.global ≡ false }
+    ensures local { result.global ≡ false }
 {
     Arg::new(alloc, "quota")
         .long("quota")
         .action(ArgAction::Set)
         .value_parser(clap::value_parser!(u16).range(1..=256))
         .default_value("16")
-        .help("How many datagrams the network keeps of a circuit in each direction")
+        .help("How many datagrams of a circuit the network keeps in each direction")
 }
 
 fn named<'a>(alloc: Global) -> Command<'a>
@@ -55,7 +55,7 @@ fn named<'a>(alloc: Global) -> Command<'a>
     Command::new(alloc, "accesslab")
         .no_binary_name(true)
         .version("0.1.0")
-        .about("Reads events from standard input, one a line, and writes what comes of each")
+        .about("Reads events from standard input, one per line, and writes the outcome of each")
 }
 
 fn command<'a>(alloc: Global) -> Result<Command<'a>, AllocError>
@@ -67,7 +67,7 @@ fn command<'a>(alloc: Global) -> Result<Command<'a>, AllocError>
     first.arg(quota)
 }
 
-/// The values that the words behind the program's name give.
+/// The values of the words after the program's name.
 pub fn words<'a>(alloc: Global, words: &'a [String]) -> Result<LabWords<'a>, Refusal>
     ensures values { IfOk result (λ values. Spells (map string_bytes words.entry.now) values.config.now values.quota) }
     ensures refused { IfErr result (IsRefused (map string_bytes words.entry.now)) }
@@ -80,19 +80,19 @@ pub fn words<'a>(alloc: Global, words: &'a [String]) -> Result<LabWords<'a>, Ref
         Err(error) => return Err(Refusal::Usage(error)),
     };
     let Some(config) = matches.get_str("CONFIG") else {
-        return Err(Refusal::Unspelled);
+        return Err(Refusal::BadValue);
     };
     let Some(text) = matches.get_str("quota") else {
-        return Err(Refusal::Unspelled);
+        return Err(Refusal::BadValue);
     };
     let Ok(quota) = text.parse::<u16>() else {
-        return Err(Refusal::Unspelled);
+        return Err(Refusal::BadValue);
     };
     if quota < 1 {
-        return Err(Refusal::Unspelled);
+        return Err(Refusal::BadValue);
     }
-    if quota > MAX_QUOTA {
-        return Err(Refusal::Unspelled);
+    if usize::from(quota) > MAX_QUOTA {
+        return Err(Refusal::BadValue);
     }
     Ok(LabWords { config, quota })
 }

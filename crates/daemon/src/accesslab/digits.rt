@@ -5,7 +5,7 @@ ghost use Rattle.daemon.specs.Fields.{lacks_first, number_to};
 
 use types::LAST_MOMENT;
 
-/// There is no digit, or a zero before another.
+/// There is no digit, or a leading zero.
 fn lacks_first(text: &[u8]) -> bool
     ensures { result ≡ lacks_first text.now }
 {
@@ -15,7 +15,7 @@ fn lacks_first(text: &[u8]) -> bool
     text[0] == b'0'
 }
 
-/// The number that a text spells, if it is at most `most`.
+/// The number that a text spells, `None` where it is not a number or exceeds `most`.
 pub(crate) fn number(text: &[u8], most: u64) -> Option<u64>
     requires { most ≤ LAST_MOMENT }
     ensures value { result ≡ number_to most text.now }

@@ -3,25 +3,25 @@ ghost use Rattle.std.specs.Prelude.{◌≡◌, ℕ, List, Some};
 ghost use Rattle.std.specs.Io.KnownBytes.{Appends, Consumes};
 ghost use Rattle.world.specs.Start.{Starts};
 ghost use Rattle.daemon.specs.Lab.{lab_output};
-ghost use Rattle.daemon.specs.Standing.{Began, Ends, IsStatus};
+ghost use Rattle.daemon.specs.Run.{IsPartial, Ends, IsStatus};
 
+use super::apply_line::{apply_line, refuse};
 use super::hexadecimal::MAX_BYTES;
-use super::line::{Ending, MAX_LINE, read_line};
+use super::line::{LineEnd, MAX_LINE, read_line};
 use super::status::{DONE, FAILED};
-use super::turn::{refuse, take_line};
 use config::Config;
 use std::io::{Read, Write};
 use wire::PacketBuf;
 use world::Machine;
 
-/// Takes the lines in order, up to the end or to the first that is bad.
-fn take_lines<M: Machine, R: Read, W: Write>(
+/// Applies the lines in order, up to the end or to the first bad one.
+fn apply_lines<M: Machine, R: Read, W: Write>(
     machine: &mut M,
     config: &Config,
     reader: &mut R,
     writer: &mut W,
 ) -> u8
-    ensures ends { (quota : ℕ) → Starts config.now quota (M.places machine.old)
+    ensures ends { (quota : ℕ) → Starts config.now quota (M.states machine.old)
         → Ends config.now quota (R.remaining reader.old) (R.remaining reader.new) (W.contents writer.old) (W.contents writer.new) result }
     ensures status { IsStatus result }
 {
@@ -29,17 +29,17 @@ fn take_lines<M: Machine, R: Read, W: Write>(
     let mut bytes = [0; MAX_BYTES];
     let mut out = PacketBuf::new();
     'lines: for number in 1..u64::MAX {
-        let ending = match read_line(reader, &mut line) {
-            Ok(ending) => ending,
+        let end = match read_line(reader, &mut line) {
+            Ok(end) => end,
             Err(_) => return FAILED,
         };
-        match ending {
-            Ending::TooLong => return refuse(number, writer),
-            Ending::Input(len) => {
+        match end {
+            LineEnd::TooLong => return refuse(number, writer),
+            LineEnd::EndOfInput(len) => {
                 if len == 0 {
                     return DONE;
                 }
-                match take_line(
+                match apply_line(
                     machine,
                     config,
                     number,
@@ -52,8 +52,8 @@ fn take_lines<M: Machine, R: Read, W: Write>(
                     None => return DONE,
                 }
             }
-            Ending::Feed(len) => {
-                if let Some(status) = take_line(
+            LineEnd::Newline(len) => {
+                if let Some(status) = apply_line(
                     machine,
                     config,
                     number,
@@ -70,29 +70,29 @@ fn take_lines<M: Machine, R: Read, W: Write>(
     FAILED
 }
 
-/// Reads the lines of a text, lets what they say happen to the machine, and writes what came of
-/// each. It tells the status: 0 at the end, 3 at a bad line, and 6 where the reader or the writer
-/// fails or the lines have no end.
+/// Applies the lines of a text to the machine and writes the outcome of each. Returns the status: 0 at
+/// the end of the text, 3 at a bad line, 6 where the reader or the writer fails or the text does not
+/// end.
 ///
-/// That 6 comes only then is not promised.
+/// The contract does not say that 6 is returned only then.
 pub fn lab<M: Machine, R: Read, W: Write>(
     machine: &mut M,
     config: &Config,
     reader: &mut R,
     writer: &mut W,
 ) -> u8
-    // All of a known text is answered.
-    ensures written { (quota : ℕ) (text : List ℕ) → Starts config.now quota (M.places machine.old)
+    // The output is that of the whole text.
+    ensures written { (quota : ℕ) (text : List ℕ) → Starts config.now quota (M.states machine.old)
         → R.remaining reader.old ≡ Some text → ¬ (result ≡ FAILED)
         → Appends (W.contents writer.old) (W.contents writer.new) (lab_output config.now quota text).text
         × (result ≡ (lab_output config.now quota text).status) }
 
-    // Where a reader or a writer failed, a beginning of the answer to what was read is written.
-    ensures begun { (quota : ℕ) → Starts config.now quota (M.places machine.old) → result ≡ FAILED
-        → Began config.now quota (R.remaining reader.old) (R.remaining reader.new) (W.contents writer.old) (W.contents writer.new) }
+    // Where the reader or the writer failed, a prefix of the output for what was read is written.
+    ensures partial { (quota : ℕ) → Starts config.now quota (M.states machine.old) → result ≡ FAILED
+        → IsPartial config.now quota (R.remaining reader.old) (R.remaining reader.new) (W.contents writer.old) (W.contents writer.new) }
 
-    // No other status is told.
+    // No other status is returned.
     ensures status { IsStatus result }
 {
-    take_lines(machine, config, reader, writer)
+    apply_lines(machine, config, reader, writer)
 }

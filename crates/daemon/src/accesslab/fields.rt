@@ -1,11 +1,11 @@
 //! The fields of a line.
 ghost use Rattle.std.specs.Prelude.{◌≡◌, ℕ, List, ◌∷◌, option_map};
 ghost use Rattle.daemon.specs.Lines.{fields_of};
-ghost use Rattle.daemon.specs.Left.{left};
+ghost use Rattle.daemon.specs.FieldsAfter.{fields_after};
 
-/// The first field, and what is behind the space behind it.
+/// The first field, and what follows the space after it.
 pub(crate) fn first_field(line: &[u8]) -> (&[u8], Option<&[u8]>)
-    ensures { fields_of line.now ≡ result.0.now ∷ left (option_map (λ rest. rest.now) result.1) }
+    ensures { fields_of line.now ≡ result.0.now ∷ fields_after (option_map (λ rest. rest.now) result.1) }
 {
     for (i, byte) in line.iter().enumerate() {
         if *byte == b' ' {

@@ -2,10 +2,10 @@
 ghost use Rattle.std.specs.Prelude.{◌≡◌, ◌≤◌, take, option_map, IfSome};
 ghost use Rattle.daemon.specs.Fields.{bytes_of};
 
-/// The most bytes that a field spells.
+/// The most bytes that a field may spell.
 pub const MAX_BYTES: usize = 2048;
 
-/// Puts the bytes that a text spells to the front, and tells how many they are.
+/// Writes the bytes that a text spells to the front of the array and returns their count.
 pub(crate) fn bytes_at(text: &[u8], bytes: &mut [u8; MAX_BYTES]) -> Option<usize>
     ensures value { option_map (λ n. take n bytes.new) result ≡ bytes_of text.now }
     ensures within { IfSome result (λ n. n ≤ MAX_BYTES) }

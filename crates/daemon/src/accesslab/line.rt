@@ -1,27 +1,27 @@
 //! Lines of input.
 ghost use Rattle.std.specs.Prelude.{◌≡◌, ◌≤◌, ◌∷◌, [], IfOk, IfSome, IfNone, OnErr, Some};
 ghost use Rattle.std.specs.Io.KnownBytes.{Consumes, IsAtEnd};
-ghost use Rattle.daemon.specs.Ending.{IsEnding, IsCut};
-ghost use Rattle.daemon.specs.Short.{len_of};
+ghost use Rattle.daemon.specs.LineEnd.{IsLineEnd, IsCut};
+ghost use Rattle.daemon.specs.LineEnd.{len_of};
 
-use super::put::Failed;
+use super::writing::Failed;
 use std::io::{ErrorKind, Read};
 
-/// The most bytes of a line, without its line feed.
+/// The most bytes that a line may have, not counting its line feed.
 pub const MAX_LINE: usize = 8192;
 
-/// How a line ended, and how many bytes it has.
+/// How a line ended, and its length in bytes.
 #[derive(Clone, Copy, Debug, PartialEq, Eq)]
-pub(crate) enum Ending {
-    /// With a line feed.
-    Feed(usize),
-    /// With the input.
-    Input(usize),
-    /// It has more than a line may have.
+pub(crate) enum LineEnd {
+    /// By a line feed.
+    Newline(usize),
+    /// By the end of the input.
+    EndOfInput(usize),
+    /// The line is too long, and the rest of it was not read.
     TooLong,
 }
 
-/// The next byte; none at the end.
+/// The next byte, `None` at the end of the input.
 fn next_byte<R: Read>(reader: &mut R) -> Result<Option<u8>, Failed>
     ensures some { IfOk result (λ next. IfSome next (λ b. Consumes (R.remaining reader.old) (R.remaining reader.new) (b ∷ []))) }
     ensures none { IfOk result (λ next. IfNone next (Consumes (R.remaining reader.old) (R.remaining reader.new) [])) }
@@ -40,26 +40,26 @@ fn next_byte<R: Read>(reader: &mut R) -> Result<Option<u8>, Failed>
     Err(Failed)
 }
 
-/// Puts the next line to the front of the array.
+/// Reads the next line to the front of the array.
 pub(crate) fn read_line<R: Read>(
     reader: &mut R,
     line: &mut [u8; MAX_LINE],
-) -> Result<Ending, Failed>
-    ensures ending { IfOk result (IsEnding (R.remaining reader.old) (R.remaining reader.new) line.new) }
-    ensures within { IfOk result (λ ending. len_of ending ≤ MAX_LINE) }
+) -> Result<LineEnd, Failed>
+    ensures end { IfOk result (IsLineEnd (R.remaining reader.old) (R.remaining reader.new) line.new) }
+    ensures within { IfOk result (λ end. len_of end ≤ MAX_LINE) }
     ensures cut { OnErr result (IsCut (R.remaining reader.old) (R.remaining reader.new)) }
 {
     'bytes: for len in 0..MAX_LINE + 1 {
         let byte = match next_byte(reader) {
             Ok(Some(byte)) => byte,
-            Ok(None) => return Ok(Ending::Input(len)),
+            Ok(None) => return Ok(LineEnd::EndOfInput(len)),
             Err(failed) => return Err(failed),
         };
         if byte == b'\n' {
-            return Ok(Ending::Feed(len));
+            return Ok(LineEnd::Newline(len));
         }
         if len == MAX_LINE {
-            return Ok(Ending::TooLong);
+            return Ok(LineEnd::TooLong);
         }
         line[len] = byte;
     }

@@ -7,14 +7,14 @@ use std::io::{self, BufReader, ErrorKind, Read, Write};
 use wire::PacketBuf;
 use world::{Event, Machine, Outcome};
 
-/// A world without circuits, whatever the configuration says: what names one is gone.
+/// A world without circuits, whatever the configuration says. An event that names one is gone.
 #[derive(Drop)]
 struct Nowhere;
 
 impl Machine for Nowhere {
     ghost use Rattle.std.specs.Prelude.{[]};
 
-    ghost places = { λ _. [] };
+    ghost states = { λ _. [] };
 
     fn step(&mut self, event: &Event<'_>, out: &mut PacketBuf) -> Outcome {
         out.clear();
@@ -27,7 +27,7 @@ impl Machine for Nowhere {
     }
 }
 
-/// A reader that gives so many bytes at a time at most.
+/// A reader that gives at most `most` bytes at a time.
 #[derive(Drop)]
 struct Pieces<'a> {
     rest: &'a [u8],
@@ -71,15 +71,15 @@ first6 = '20010db8000000000000000000000100'
 count6 = 1
 ";
 
-/// A text ends with this status, after these lines were written.
+/// Whether a text has this output and ends with this status.
 fn gives(alloc: Global, text: &[u8], lines: &str, status: u8) -> bool {
     let Ok(config) = Config::read(alloc, K1) else {
         return false;
     };
     let mut reader = text;
     let mut writer = Vec::new(alloc);
-    let told = lab(&mut Nowhere, &config, &mut reader, &mut writer);
-    told == status && writer.as_slice() == lines.as_bytes()
+    let written = lab(&mut Nowhere, &config, &mut reader, &mut writer);
+    written == status && writer.as_slice() == lines.as_bytes()
 }
 
 #[test]
@@ -182,7 +182,7 @@ fn bytes_that_are_no_text(rt: HostRuntime) {
     assert!(rt; gives(rt.alloc(), &[35, 255, 10, 0], "line 2 bad\n", BAD_LINE));
 }
 
-/// A line of this beginning and so many more bytes.
+/// A line that begins with `front` and has `more` bytes after it.
 fn long(alloc: Global, front: &str, more: usize, byte: u8) -> Result<Vec<u8>, AllocError> {
     let mut line = Vec::from_slice(alloc, front.as_bytes())?;
     for _ in 0..more {
@@ -211,7 +211,7 @@ fn long_lines(rt: HostRuntime) -> Result<(), AllocError> {
     Ok(())
 }
 
-/// The same text in pieces of so many bytes, through a buffer.
+/// The same for a reader that gives at most `most` bytes at a time, through a buffer.
 fn gives_in_pieces(alloc: Global, text: &[u8], most: usize, lines: &str, status: u8) -> bool
     requires { 0 < most }
 {
@@ -223,8 +223,8 @@ fn gives_in_pieces(alloc: Global, text: &[u8], most: usize, lines: &str, status:
         return false;
     };
     let mut writer = Vec::new(alloc);
-    let told = lab(&mut Nowhere, &config, &mut reader, &mut writer);
-    told == status && writer.as_slice() == lines.as_bytes()
+    let written = lab(&mut Nowhere, &config, &mut reader, &mut writer);
+    written == status && writer.as_slice() == lines.as_bytes()
 }
 
 #[test]
@@ -238,7 +238,7 @@ fn pieces_make_no_difference(rt: HostRuntime) {
     assert!(rt; gives_in_pieces(alloc, text.as_bytes(), 8192, lines, BAD_LINE));
 }
 
-/// A reader or a writer that fails behind so many calls.
+/// A reader or a writer that fails after so many calls.
 #[derive(Drop)]
 struct Failing<T> {
     inner: T,
@@ -275,7 +275,7 @@ impl<T: Write> Write for Failing<T> {
 
 const TICKS: &str = "tick 1\ntick 2\n";
 
-/// The status and the bytes that are written where reader and writer fail behind so many calls.
+/// The status and the output where the reader and the writer fail after so many calls.
 fn cut_short(alloc: Global, reads: usize, writes: usize) -> Option<(u8, Vec<u8>)> {
     let config = Config::read(alloc, K1).ok()?;
     let mut reader = Failing {
@@ -292,8 +292,8 @@ fn cut_short(alloc: Global, reads: usize, writes: usize) -> Option<(u8, Vec<u8>)
 
 #[test]
 fn a_reader_that_fails(rt: HostRuntime) {
-    // 14 bytes, a call for each, and one that finds the end
-    for (calls, status, told) in [
+    // 14 bytes, one call for each, and one that finds the end
+    for (calls, status, lines) in [
         (0, FAILED, ""),
         (6, FAILED, ""),
         (7, FAILED, "ok\n"),
@@ -303,7 +303,7 @@ fn a_reader_that_fails(rt: HostRuntime) {
     ] {
         if let Some((ended, written)) = cut_short(rt.alloc(), calls, 100) {
             assert_eq!(rt; ended, status);
-            assert_eq!(rt; written.as_slice(), told.as_bytes());
+            assert_eq!(rt; written.as_slice(), lines.as_bytes());
         } else {
             assert!(rt; false);
         }
@@ -323,7 +323,7 @@ fn a_writer_that_fails(rt: HostRuntime) {
     }
 }
 
-/// The quota that words give, and 0 where they are refused.
+/// The quota that the words give, 0 where they are refused.
 fn quota_of(alloc: Global, given: &[&str]) -> Result<u16, AllocError> {
     let mut texts = Vec::new(alloc);
     for word in given {

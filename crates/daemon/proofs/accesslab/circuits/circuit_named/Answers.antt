@@ -5,9 +5,9 @@ use Rattle.daemon.proofs.CircuitLemmas.{named_result, no_id}
 use Rattle.daemon.proofs.accesslab.circuits.circuit_named.Goals as goal
 
 pub returns-in_default-clause-value : goal.returns-in_default-clause-value
-returns-in_default-clause-value c = no_id c.args.config.now c.args.id.now c.circuits.ensures.sound (λ h. false≢true (c.in_default.ensures.within.1 h))
+returns-in_default-clause-value c = no_id c.args.config.now c.args.id.now c.circuit_count.ensures.sound (λ h. false≢true (c.in_default.ensures.within.1 h))
 
 pub returns-clause-value : goal.returns-clause-value
 returns-clause-value c =
-    named_result c.args.config.now c.in-Some.id c.circuit.result c.circuits.ensures.sound c.circuit.ensures.found c.circuit.ensures.none
+    named_result c.args.config.now c.in-Some.id c.circuit.result c.circuit_count.ensures.sound c.circuit.ensures.found c.circuit.ensures.none
     ∙ ap (circuit_named c.args.config.now) c.in-Some.ensures.value

@@ -6,6 +6,6 @@ use Rattle.daemon.proofs.accesslab.command_line.command.Goals as goal
 pub returns : goal.returns
 returns c =
     IfOk-weaker c.arg-2.result _ _
-    (λ made h. h.shape c.quota_arg-quota.ensures.own
-    ∙ ap₂ with_rule (c.in_ok-first.ensures.shape c.config_arg-config.ensures.own ∙ ap₂ with_rule c.named.ensures c.config_arg-config.ensures.rule) c.quota_arg-quota.ensures.rule)
+    (λ made h. h.shape c.quota_arg-quota.ensures.local
+    ∙ ap₂ with_rule (c.in_ok-first.ensures.shape c.config_arg-config.ensures.local ∙ ap₂ with_rule c.named.ensures c.config_arg-config.ensures.rule) c.quota_arg-quota.ensures.rule)
     c.arg-2.ensures

@@ -30,10 +30,10 @@ returns-clause-values c =
       numeral = parsed.0.0;
       value = sym parsed.1;
       least = c.if-quota-lt1.false;
-      most = c.if-quota-gt-MAX_QUOTA.false;
+      most = omega (arith, c.from.ensures, c.if-from-gt-MAX_QUOTA.false);
     }
 
--- what the values of an argument are, by clap's own meaning
+-- the text of an argument, by clap's own meaning
 same_text : (a b : List ℕ) → Some a ≡ Some b → a ≡ b
 same_text a b h = cc
 
@@ -41,7 +41,7 @@ same_text a b h = cc
 not_there : (o : Option (List ℕ)) (a : List ℕ) → o ≡ None → o ≡ Some a → ⊥
 not_there o a none some = let h : None ≡ Some a = sym none ∙ some in absurd cc
 
--- no number is there that is within the limits
+-- no number is within the limits
 out_of_limits : (words : List (List ℕ)) (text : List ℕ) → first_of (codes "quota") (given words) ≡ Some text
     → (IsNumeral 10 (without_leading_plus text) → 1 ≤ digits_value 10 (without_leading_plus text) → digits_value 10 (without_leading_plus text) ≤ 256 → ⊥)
     → (config : List ℕ) (quota : ℕ) → Spells words config quota → ⊥
@@ -84,11 +84,11 @@ returns-then-quota-lt1-clause-refused c =
     let there = ap (first_of (codes "quota")) (sym rows) ∙ sym (first_value-rows found (codes "quota")) ∙ sym c.in-Some-get_str.ensures in
     out_of_limits words c.in-Some-get_str.text.now there (λ numeral least most. omega (arith, c.in-Ok-parse.ensures.value.0.1, c.if-quota-lt1.true, least))
 
-pub returns-then-quota-gt-MAX_QUOTA-clause-refused : goal.returns-then-quota-gt-MAX_QUOTA-clause-refused
-returns-then-quota-gt-MAX_QUOTA-clause-refused c =
+pub returns-then-from-gt-MAX_QUOTA-clause-refused : goal.returns-then-from-gt-MAX_QUOTA-clause-refused
+returns-then-from-gt-MAX_QUOTA-clause-refused c =
     let found = found_of c.in-Ok-try_get_matches_from.matches in
     let h = c.in-Ok-try_get_matches_from.ensures.matches (ap is_simple c.in-Ok.ensures ∙ simple) in
     let words = map string_bytes c.args.words.now in
     let rows = h.0 ∙ ap (λ a. matches_of a words) c.in-Ok.ensures in
     let there = ap (first_of (codes "quota")) (sym rows) ∙ sym (first_value-rows found (codes "quota")) ∙ sym c.in-Some-get_str.ensures in
-    out_of_limits words c.in-Some-get_str.text.now there (λ numeral least most. omega (arith, c.in-Ok-parse.ensures.value.0.1, c.if-quota-gt-MAX_QUOTA.true, most))
+    out_of_limits words c.in-Some-get_str.text.now there (λ numeral least most. omega (arith, c.in-Ok-parse.ensures.value.0.1, c.from.ensures, c.if-from-gt-MAX_QUOTA.true, most))

@@ -3,9 +3,9 @@ use Rattle.daemon.proofs.accesslab.engine.lab.Goals as goal
 
 pub returns-clause-written : goal.returns-clause-written
 returns-clause-written g c = λ quota text starts is fine.
-    ended_written c.args.config.now quota text _ _ _ _ c.take_lines.result (c.take_lines.ensures.ends quota starts) is fine
+    ended_written c.args.config.now quota text _ _ _ _ c.apply_lines.result (c.apply_lines.ensures.ends quota starts) is fine
 
-pub returns-clause-begun : goal.returns-clause-begun
-returns-clause-begun g c = λ quota starts failed.
-    let ends = c.take_lines.ensures.ends quota starts in
-    record { read = ends.read; consumed = ends.consumed; begun = ends.begun failed }
+pub returns-clause-partial : goal.returns-clause-partial
+returns-clause-partial g c = λ quota starts failed.
+    let ends = c.apply_lines.ensures.ends quota starts in
+    record { read = ends.read; consumed = ends.consumed; partial = ends.partial failed }

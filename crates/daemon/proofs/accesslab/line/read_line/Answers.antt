@@ -6,8 +6,8 @@ use Rattle.daemon.proofs.accesslab.line.read_line.Goals as goal
 pub bytes-init : goal.bytes-init
 bytes-init g c = record { within = omega arith; size = c.told-line; part = part_none _ }
 
-pub returns-then-len-eq-MAX_LINE-clause-ending : goal.returns-then-len-eq-MAX_LINE-clause-ending
-returns-then-len-eq-MAX_LINE-clause-ending g c =
+pub returns-then-len-eq-MAX_LINE-clause-end : goal.returns-then-len-eq-MAX_LINE-clause-end
+returns-then-len-eq-MAX_LINE-clause-end g c =
     part_long _ _ _ c.bytes.line c.bytes.len c.in-Ok-Some.byte (c.bytes.invariant.size ∙ sym c.if-len-eq-MAX_LINE.true) c.if-len-eq-MAX_LINE.true c.bytes.invariant.part
     (rw c.in-Ok-Some.field-0-is at c.in-Ok-Some.ensures.some) c.if-byte-eq10.false
 

@@ -1,6 +1,6 @@
 use Rattle.std.proofs.Common.{◌≡◌, ◌≤◌, length, take}
 use Rattle.daemon.specs.declared.accesslab.line.TheConstants.{MAX_LINE}
-use Rattle.daemon.specs.Ending.{IsPart}
+use Rattle.daemon.specs.LineEnd.{IsPart}
 use Rattle.daemon.proofs.accesslab.line.read_line.Given as goal
 
 -- the array has what was read

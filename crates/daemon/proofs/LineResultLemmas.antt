@@ -1,0 +1,120 @@
+-- A step of the world as the result of a line.
+use Rattle.std.proofs.Common.{◌≡◌, ℕ, ◌<◌, ◌≤◌, Bool, true, false, cond, eqb, eqb-true, eq-eqb, le-ltb, lt-ltb, List, length, refl, ap, sym, subst, ◌∙◌}
+use Rattle.std.specs.Prelude.{Option, Some, None, slice_get, option_map}
+use Rattle.std.specs.Io.KnownBytes.{Appends}
+use Rattle.std.proofs.lemmas.Option.{same_Some, slice_get-map}
+use Rattle.config.specs.Rules.{Settings}
+use Rattle.config.specs.declared.settings.CircuitConfig.{CircuitConfig}
+use Rattle.world.specs.Alone.{Alone, Setup, Effect, Dropped, Gone, SentUp, SentDown, Framed, Done, alone_step}
+use Rattle.config.specs.CircuitPart.{CircuitPart, part_in, part_of, source_at}
+use Rattle.world.specs.Headline.{CircuitState, Represents, Steps, IsOutcome, Answers, after_seen}
+use Rattle.world.specs.Seen.{Seen, seen_of}
+use Rattle.world.specs.declared.event.Event.{Event}
+use Rattle.world.specs.declared.event.Event.TheVariants as event
+use Rattle.world.specs.declared.outcome.Outcome.{Outcome}
+use Rattle.daemon.specs.declared.accesslab.status.TheConstants.{FAILED}
+use Rattle.daemon.specs.declared.accesslab.line.TheConstants.{MAX_LINE}
+use Rattle.daemon.specs.Lab.{part_result, moved, ticked}
+use Rattle.daemon.specs.Line.{Bad, line_of_text, short_line}
+use Rattle.daemon.specs.Writing.{AppendsPrefix}
+use Rattle.daemon.specs.Run.{AllRepresent, Names, Follows}
+use Rattle.daemon.specs.Output.{effect_text, outcome_effect, with_newline}
+
+-- the effect of the outcome
+pub effect_is : (c : ℕ) (f : Effect) (o : Outcome) (out : List ℕ) → IsOutcome c f o out → outcome_effect o out ≡ f
+effect_is c (Dropped why) o out h = ap (λ v. outcome_effect v out) h.0
+effect_is c Gone o out h = ap (λ v. outcome_effect v out) h.0
+effect_is c (SentUp len) o out h = ap (λ v. outcome_effect v out) h.0
+effect_is c (SentDown len) o out h = ap (λ v. outcome_effect v out) h.0
+effect_is c (Framed frame) o out h =
+    ap (λ v. outcome_effect v out) h.0 ∙ ap (λ bytes. Framed (record { dest = frame.dest; bytes = bytes })) h.1
+effect_is c Done o out h = ap (λ v. outcome_effect v out) h.0
+
+-- a circuit's part of the configuration
+pub record PartAt (settings : Settings) (c : ℕ) (id : List ℕ) : Type 0 where
+  pub part : CircuitPart
+  pub is : part_in settings c ≡ Some part
+  pub same : part.id ≡ id
+
+pub part_at : (settings : Settings) (c : ℕ) (circuit : CircuitConfig) → slice_get settings.circuits c ≡ Some circuit → PartAt settings c circuit.id
+part_at settings c circuit h = record {
+  part = part_of circuit (source_at settings.relays circuit.relay) settings.server.listen4 settings.server.listen6 settings.server.duid.items;
+  is =
+      slice_get-map (λ (x : CircuitConfig). part_of x (source_at settings.relays x.relay) settings.server.listen4 settings.server.listen6 settings.server.duid.items) settings.circuits c
+      ∙ ap (option_map (λ (x : CircuitConfig). part_of x (source_at settings.relays x.relay) settings.server.listen4 settings.server.listen6 settings.server.duid.items)) h;
+  same = refl;
+}
+
+-- circuit d's machine after circuit c saw something
+represents_moved_at : (c d : ℕ) (setup : Setup) (seen : Seen) (next : Alone) (states : List CircuitState) (machines : ℕ → Alone) (t : Bool)
+    → eqb c d ≡ t → (c ≡ d → (alone_step setup seen (machines d)).next ≡ next)
+    → Represents d states setup (after_seen setup (cond t (Some seen) None) (machines d)) → Represents d states setup (cond t next (machines d))
+represents_moved_at c d setup seen next states machines true e same h = subst (Represents d states setup) (same (eqb-true c d e)) h
+represents_moved_at c d setup seen next states machines false e same h = h
+
+represents_moved : (settings : Settings) (quota c : ℕ) (part : CircuitPart) (seen : Seen) (e : Event) (states new : List CircuitState) (o : Outcome) (out : List ℕ) (machines : ℕ → Alone)
+    → part_in settings c ≡ Some part → Names c seen e → Steps e states new o out → AllRepresent settings quota states machines
+    → AllRepresent settings quota new (moved c (alone_step (record { part = part; quota = quota }) seen (machines c)).next machines)
+represents_moved settings quota c part seen e states new o out machines is names steps represents = record {
+  each = λ d other h.
+      let setup : Setup = record { part = other; quota = quota } in
+      let before = steps.each d setup (machines d) (represents.each d other h) in
+      let after : Represents d new setup (after_seen setup (cond (eqb c d) (Some seen) None) (machines d)) = subst (λ s. Represents d new setup (after_seen setup s (machines d))) (names d) before in
+      let same = λ (k : c ≡ d).
+      let one : other ≡ part = same_Some _ _ (sym h ∙ ap (part_in settings) (sym k) ∙ is) in
+      ap (λ p. (alone_step (record { part = p; quota = quota }) seen (machines d)).next) one ∙ ap (λ x. (alone_step (record { part = part; quota = quota }) seen (machines x)).next) (sym k) in
+      represents_moved_at c d setup seen (alone_step (record { part = part; quota = quota }) seen (machines c)).next new machines (eqb c d) refl same after;
+}
+
+-- the text of the effect
+text_is : (c : ℕ) (setup : Setup) (id : List ℕ) (seen : Seen) (e : Event) (states new : List CircuitState) (o : Outcome) (out : List ℕ) (a : Alone)
+    → setup.part.id ≡ id → seen_of c e ≡ Some seen → Steps e states new o out → Represents c states setup a
+    → with_newline (effect_text id (outcome_effect o out)) ≡ with_newline (effect_text setup.part.id (alone_step setup seen a).effect)
+text_is c setup id seen e states new o out a is sees steps represents =
+    let answers : Answers c setup (Some seen) a o out = subst (λ s. Answers c setup s a o out) sees (steps.answers c setup a represents) in
+    ap (λ f. with_newline (effect_text id f)) (effect_is c (alone_step setup seen a).effect o out answers) ∙ ap (λ v. with_newline (effect_text v (alone_step setup seen a).effect)) (sym is)
+
+named_sees : (c : ℕ) (seen : Seen) (e : Event) → Names c seen e → seen_of c e ≡ Some seen
+named_sees c seen e names = names c ∙ ap (λ t. cond t (Some seen) None) (eq-eqb c c refl)
+
+-- an event of a circuit whose output was written
+pub event_applied : (settings : Settings) (quota number c : ℕ) (id : List ℕ) (seen : Seen) (e : Event) (states new : List CircuitState) (o : Outcome) (out : List ℕ) (machines : ℕ → Alone) (held holds : Option (List ℕ))
+    → PartAt settings c id → Names c seen e → Steps e states new o out → AllRepresent settings quota states machines
+    → Appends held holds (with_newline (effect_text id (outcome_effect o out)))
+    → Follows settings quota number (part_result quota c seen machines (part_in settings c)) new held holds None
+event_applied settings quota number c id seen e states new o out machines held holds at names steps represents h =
+    let setup : Setup = record { part = at.part; quota = quota } in
+    subst (λ p. Follows settings quota number (part_result quota c seen machines p) new held holds None) (sym at.is) (record {
+      appended = subst (Appends held holds) (text_is c setup id seen e states new o out (machines c) at.same (named_sees c seen e names) steps (represents.each c at.part at.is)) h;
+      represents = represents_moved settings quota c at.part seen e states new o out machines at.is names steps represents;
+    })
+
+-- and one where the writer failed
+pub event_not_written : (settings : Settings) (quota number c : ℕ) (id : List ℕ) (seen : Seen) (e : Event) (states new : List CircuitState) (o : Outcome) (out : List ℕ) (machines : ℕ → Alone) (held holds : Option (List ℕ))
+    → PartAt settings c id → Names c seen e → Steps e states new o out → AllRepresent settings quota states machines
+    → AppendsPrefix held holds (with_newline (effect_text id (outcome_effect o out)))
+    → Follows settings quota number (part_result quota c seen machines (part_in settings c)) new held holds (Some FAILED)
+event_not_written settings quota number c id seen e states new o out machines held holds at names steps represents h =
+    let setup : Setup = record { part = at.part; quota = quota } in
+    subst (λ p. Follows settings quota number (part_result quota c seen machines p) new held holds (Some FAILED)) (sym at.is)
+    (refl, subst (AppendsPrefix held holds) (text_is c setup id seen e states new o out (machines c) at.same (named_sees c seen e names) steps (represents.each c at.part at.is)) h)
+
+-- a moment that passes
+pub represents_ticked : (settings : Settings) (quota now : ℕ) (states new : List CircuitState) (o : Outcome) (out : List ℕ) (machines : ℕ → Alone)
+    → Steps (event.Tick now) states new o out → AllRepresent settings quota states machines
+    → AllRepresent settings quota new (λ c. ticked quota now (machines c) (part_in settings c))
+represents_ticked settings quota now states new o out machines steps represents = record {
+  each = λ c part h.
+      subst (λ p. Represents c new (record { part = part; quota = quota }) (ticked quota now (machines c) p)) (sym h)
+      (steps.each c (record { part = part; quota = quota }) (machines c) (represents.each c part h));
+}
+
+-- a line that is short enough
+pub short_is : (settings : Settings) (line : List ℕ) → length line ≤ MAX_LINE → short_line settings line ≡ line_of_text settings line
+unfolding line_of_text
+short_is settings line h = sym (ap (λ t. cond t Bad (short_line settings line)) (le-ltb MAX_LINE (length line) h))
+
+-- one that is too long
+pub long_is : (settings : Settings) (line : List ℕ) → MAX_LINE < length line → line_of_text settings line ≡ Bad
+unfolding line_of_text
+long_is settings line h = ap (λ t. cond t Bad (short_line settings line)) (lt-ltb MAX_LINE (length line) h)

@@ -1,5 +1,0 @@
-use Rattle.daemon.proofs.SendLemmas.{front_of_parts}
-use Rattle.daemon.proofs.accesslab.put.put_all.Goals as goal
-
-pub returns-in-Err-clause-err : goal.returns-in-Err-clause-err
-returns-in-Err-clause-err g c = front_of_parts _ _ _ c.args.parts.now c.parts.part-index _ c.parts-test.true c.parts.invariant c.in-Err.ensures.err

@@ -1,8 +1,0 @@
-use Rattle.std.proofs.Common.{take}
-use Rattle.std.specs.Io.KnownBytes.{Appends}
-use Rattle.daemon.specs.Sending.{joined}
-use Rattle.daemon.proofs.accesslab.put.put_all.Given as goal
-
--- the writer has the parts so far
-abbrev pub invariant-parts : goal.invariant-parts
-invariant-parts g l = Appends (g.W.Write.contents l.fn.writer) (g.W.Write.contents l.writer) (joined (take l.part-index l.parts))

@@ -1,0 +1,8 @@
+use Rattle.std.proofs.Common.{take}
+use Rattle.std.specs.Io.KnownBytes.{Appends}
+use Rattle.daemon.specs.Writing.{concatenation}
+use Rattle.daemon.proofs.accesslab.writing.write_parts.Given as goal
+
+-- the writer has the parts so far
+abbrev pub invariant-parts : goal.invariant-parts
+invariant-parts g l = Appends (g.W.Write.contents l.fn.writer) (g.W.Write.contents l.writer) (concatenation (take l.part-index l.parts))

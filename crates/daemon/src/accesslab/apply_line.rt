@@ -1,0 +1,126 @@
+//! One line of events, applied to the machine.
+ghost use Rattle.std.specs.Prelude.{◌≡◌, ◌<◌, ◌≤◌, ℕ, length, IfSome};
+ghost use Rattle.config.specs.CircuitPart.{part_in};
+ghost use Rattle.config.specs.Rules.{Settings};
+ghost use Rattle.world.specs.Alone.{Alone};
+ghost use Rattle.world.specs.Seen.{Seen};
+ghost use Rattle.daemon.specs.Lab.{part_result, line_result};
+ghost use Rattle.daemon.specs.Line.{line_of_text, Tick};
+ghost use Rattle.daemon.specs.ParsedLine.{line_of, IsWithin};
+ghost use Rattle.daemon.specs.Run.{AllRepresent, Names, IsEnd, IsRefusal, Follows};
+
+use super::hexadecimal::MAX_BYTES;
+use super::line::MAX_LINE;
+use super::output::{write_bad_line, write_done, write_outcome};
+use super::parse_line::{ParsedLine, parse_line};
+use super::status::{BAD_LINE, FAILED};
+use config::Config;
+use std::io::Write;
+use types::{Circuit, Moment, Proto};
+use wire::PacketBuf;
+use world::{Event, Machine};
+
+/// Writes that the line is bad, and returns the status.
+pub(crate) fn refuse<W: Write>(number: u64, writer: &mut W) -> u8
+    ensures refusal { IsRefusal number (W.contents writer.old) (W.contents writer.new) result }
+    ensures status { IsEnd result }
+{
+    match write_bad_line(writer, number) {
+        Ok(()) => BAD_LINE,
+        Err(_) => FAILED,
+    }
+}
+
+/// Applies an event of a circuit. Returns a status where the run ends with it.
+fn apply_event<M: Machine, W: Write>(
+    machine: &mut M,
+    config: &Config,
+    circuit: Circuit,
+    event: &Event<'_>,
+    out: &mut PacketBuf,
+    writer: &mut W,
+) -> Option<u8>
+    requires { circuit < length config.now.circuits }
+    ensures follows { (quota number : ℕ) (machines : ℕ → Alone) (seen : Seen) → Names circuit seen event.now → AllRepresent config.now quota (M.states machine.old) machines
+        → Follows config.now quota number (part_result quota circuit seen machines (part_in config.now circuit)) (M.states machine.new) (W.contents writer.old) (W.contents writer.new) result }
+    ensures status { IfSome result IsEnd }
+{
+    let outcome = machine.step(event, out);
+    let named = config.at(circuit);
+    match write_outcome(writer, named.id.as_bytes(), outcome, out) {
+        Ok(()) => None,
+        Err(_) => Some(FAILED),
+    }
+}
+
+/// Applies a moment to all circuits. Returns a status where the run ends with it.
+fn apply_tick<M: Machine, W: Write>(
+    machine: &mut M,
+    now: Moment,
+    out: &mut PacketBuf,
+    writer: &mut W,
+) -> Option<u8>
+    ensures follows { (settings : Settings) (quota number : ℕ) (machines : ℕ → Alone) → AllRepresent settings quota (M.states machine.old) machines
+        → Follows settings quota number (line_result settings quota machines (Tick now)) (M.states machine.new) (W.contents writer.old) (W.contents writer.new) result }
+    ensures status { IfSome result IsEnd }
+{
+    let _ = machine.step(&Event::Tick(now), out);
+    match write_done(writer) {
+        Ok(()) => None,
+        Err(_) => Some(FAILED),
+    }
+}
+
+/// Applies a parsed line, whose frame is the first bytes of the array. Returns a status where the run
+/// ends with it.
+fn apply<M: Machine, W: Write>(
+    machine: &mut M,
+    config: &Config,
+    number: u64,
+    parsed: ParsedLine,
+    bytes: &[u8; MAX_BYTES],
+    out: &mut PacketBuf,
+    writer: &mut W,
+) -> Option<u8>
+    requires { IsWithin config.now parsed }
+    ensures follows { (quota : ℕ) (machines : ℕ → Alone) → AllRepresent config.now quota (M.states machine.old) machines
+        → Follows config.now quota number (line_result config.now quota machines (line_of parsed bytes.now)) (M.states machine.new) (W.contents writer.old) (W.contents writer.new) result }
+    ensures status { IfSome result IsEnd }
+{
+    match parsed {
+        ParsedLine::Ignored => None,
+        ParsedLine::Bad => Some(refuse(number, writer)),
+        ParsedLine::Frame(circuit, len) => {
+            let event = Event::Frame(circuit, Proto::V4, &bytes[..len]);
+            apply_event(machine, config, circuit, &event, out, writer)
+        }
+        ParsedLine::Up(circuit, j, now) => {
+            let event = Event::Up(circuit, j, now, 0);
+            apply_event(machine, config, circuit, &event, out, writer)
+        }
+        ParsedLine::Down(circuit, j) => {
+            let event = Event::Down(circuit, j);
+            apply_event(machine, config, circuit, &event, out, writer)
+        }
+        ParsedLine::Tick(now) => apply_tick(machine, now, out, writer),
+    }
+}
+
+/// Applies the line with this number. Returns a status where the run ends with it.
+pub(crate) fn apply_line<M: Machine, W: Write>(
+    machine: &mut M,
+    config: &Config,
+    number: u64,
+    line: &[u8],
+    bytes: &mut [u8; MAX_BYTES],
+    out: &mut PacketBuf,
+    writer: &mut W,
+) -> Option<u8>
+    requires { length line.now ≤ MAX_LINE }
+    ensures follows { (quota : ℕ) (machines : ℕ → Alone) → AllRepresent config.now quota (M.states machine.old) machines
+        → Follows config.now quota number (line_result config.now quota machines (line_of_text config.now line.now)) (M.states machine.new) (W.contents writer.old) (W.contents writer.new) result }
+    ensures status { IfSome result IsEnd }
+{
+    let parsed = parse_line(config, line, bytes);
+    apply(machine, config, number, parsed, bytes, out, writer)
+}

@@ -1,0 +1,195 @@
+//! The parser of a line.
+ghost use Rattle.std.specs.Prelude.{◌≡◌, ℕ, List, option_map};
+ghost use Rattle.config.specs.Rules.{Settings};
+ghost use Rattle.types.specs.declared.moment.TheConstants.{LAST_MOMENT};
+ghost use Rattle.daemon.specs.Fields.{number_to};
+ghost use Rattle.daemon.specs.Lines.{fields_of};
+ghost use Rattle.daemon.specs.FieldsAfter.{fields_after, fields_of_next};
+ghost use Rattle.daemon.specs.Line.{frame_line, up_line, down_line, tick_line, line_for_word, short_line};
+ghost use Rattle.daemon.specs.ParsedLine.{line_of};
+ghost use Rattle.daemon.specs.ParsedLine.{IsWithin};
+
+use super::circuits::circuit_named;
+use super::digits::number;
+use super::fields::first_field;
+use super::hexadecimal::{MAX_BYTES, bytes_at};
+use config::Config;
+use types::{Circuit, LAST_MOMENT, Moment};
+
+/// The greatest number that names a datagram.
+pub const MAX_NUMBER: u64 = 65535;
+
+/// What a line says. The bytes of a frame are in a buffer of their own.
+#[derive(Clone, Copy, Debug, PartialEq, Eq)]
+pub(crate) enum ParsedLine {
+    /// An empty line or a comment.
+    Ignored,
+    /// A line of no known form.
+    Bad,
+    /// The length of the frame in bytes.
+    Frame(Circuit, usize),
+    Up(Circuit, u16, Moment),
+    Down(Circuit, u16),
+    Tick(Moment),
+}
+
+/// The next field and what follows it, `None` where none is left.
+fn next_field<'a>(rest: Option<&'a [u8]>) -> Option<(&'a [u8], Option<&'a [u8]>)>
+    ensures { fields_after (option_map (λ line. line.now) rest.entry) ≡ fields_of_next (option_map (λ parts. (parts.0.now, option_map (λ line. line.now) parts.1)) result) }
+{
+    match rest {
+        Some(line) => Some(first_field(line)),
+        None => None,
+    }
+}
+
+/// The number that names a datagram.
+fn datagram_number(text: &[u8]) -> Option<u16>
+    ensures { result ≡ number_to MAX_NUMBER text.now }
+{
+    match number(text, MAX_NUMBER) {
+        Some(number) => Some(number as u16),
+        None => None,
+    }
+}
+
+/// A moment in seconds.
+fn moment(text: &[u8]) -> Option<Moment>
+    ensures { result ≡ number_to LAST_MOMENT text.now }
+{
+    match number(text, LAST_MOMENT) {
+        Some(seconds) => Moment::new(seconds),
+        None => None,
+    }
+}
+
+/// `frame CID 4 HEX`.
+fn parse_frame(config: &Config, rest: Option<&[u8]>, bytes: &mut [u8; MAX_BYTES]) -> ParsedLine
+    ensures value { line_of result bytes.new ≡ frame_line config.now (fields_after (option_map (λ line. line.now) rest.entry)) }
+    ensures within { IsWithin config.now result }
+{
+    let Some((circuit, rest)) = next_field(rest) else {
+        return ParsedLine::Bad;
+    };
+    let Some((proto, rest)) = next_field(rest) else {
+        return ParsedLine::Bad;
+    };
+    let Some((digits, rest)) = next_field(rest) else {
+        return ParsedLine::Bad;
+    };
+    if next_field(rest).is_some() {
+        return ParsedLine::Bad;
+    }
+    if proto != b"4".as_slice() {
+        return ParsedLine::Bad;
+    }
+    let Some(circuit) = circuit_named(config, circuit) else {
+        return ParsedLine::Bad;
+    };
+    let Some(len) = bytes_at(digits, bytes) else {
+        return ParsedLine::Bad;
+    };
+    ParsedLine::Frame(circuit, len)
+}
+
+/// `up CID J NOW FAULT`.
+fn parse_up(config: &Config, rest: Option<&[u8]>) -> ParsedLine
+    ensures value { (bytes : List ℕ) → line_of result bytes ≡ up_line config.now (fields_after (option_map (λ line. line.now) rest.entry)) }
+    ensures within { IsWithin config.now result }
+{
+    let Some((circuit, rest)) = next_field(rest) else {
+        return ParsedLine::Bad;
+    };
+    let Some((j, rest)) = next_field(rest) else {
+        return ParsedLine::Bad;
+    };
+    let Some((now, rest)) = next_field(rest) else {
+        return ParsedLine::Bad;
+    };
+    let Some((fault, rest)) = next_field(rest) else {
+        return ParsedLine::Bad;
+    };
+    if next_field(rest).is_some() {
+        return ParsedLine::Bad;
+    }
+    if fault != b"0".as_slice() {
+        return ParsedLine::Bad;
+    }
+    match (
+        circuit_named(config, circuit),
+        datagram_number(j),
+        moment(now),
+    ) {
+        (Some(circuit), Some(j), Some(now)) => ParsedLine::Up(circuit, j, now),
+        _ => ParsedLine::Bad,
+    }
+}
+
+/// `down CID J`.
+fn parse_down(config: &Config, rest: Option<&[u8]>) -> ParsedLine
+    ensures value { (bytes : List ℕ) → line_of result bytes ≡ down_line config.now (fields_after (option_map (λ line. line.now) rest.entry)) }
+    ensures within { IsWithin config.now result }
+{
+    let Some((circuit, rest)) = next_field(rest) else {
+        return ParsedLine::Bad;
+    };
+    let Some((j, rest)) = next_field(rest) else {
+        return ParsedLine::Bad;
+    };
+    if next_field(rest).is_some() {
+        return ParsedLine::Bad;
+    }
+    match (circuit_named(config, circuit), datagram_number(j)) {
+        (Some(circuit), Some(j)) => ParsedLine::Down(circuit, j),
+        _ => ParsedLine::Bad,
+    }
+}
+
+/// `tick NOW`.
+fn parse_tick(rest: Option<&[u8]>) -> ParsedLine
+    ensures value { (bytes : List ℕ) → line_of result bytes ≡ tick_line (fields_after (option_map (λ line. line.now) rest.entry)) }
+    ensures within { (settings : Settings) → IsWithin settings result }
+{
+    let Some((now, rest)) = next_field(rest) else {
+        return ParsedLine::Bad;
+    };
+    if next_field(rest).is_some() {
+        return ParsedLine::Bad;
+    }
+    match moment(now) {
+        Some(now) => ParsedLine::Tick(now),
+        None => ParsedLine::Bad,
+    }
+}
+
+/// Parses a line by its first field.
+fn parse_event(config: &Config, line: &[u8], bytes: &mut [u8; MAX_BYTES]) -> ParsedLine
+    ensures value { line_of result bytes.new ≡ line_for_word config.now (fields_of line.now) }
+    ensures within { IsWithin config.now result }
+{
+    let (word, rest) = first_field(line);
+    if word == b"frame".as_slice() {
+        return parse_frame(config, rest, bytes);
+    }
+    if word == b"up".as_slice() {
+        return parse_up(config, rest);
+    }
+    if word == b"down".as_slice() {
+        return parse_down(config, rest);
+    }
+    if word == b"tick".as_slice() {
+        return parse_tick(rest);
+    }
+    ParsedLine::Bad
+}
+
+/// Parses a line that is not too long.
+pub(crate) fn parse_line(config: &Config, line: &[u8], bytes: &mut [u8; MAX_BYTES]) -> ParsedLine
+    ensures value { line_of result bytes.new ≡ short_line config.now line.now }
+    ensures within { IsWithin config.now result }
+{
+    if line.is_empty() || line[0] == b'#' {
+        return ParsedLine::Ignored;
+    }
+    parse_event(config, line, bytes)
+}
