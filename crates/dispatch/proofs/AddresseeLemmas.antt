@@ -1,10 +1,9 @@
 -- The first two tests of a datagram at the server, and what follows them.
-use Rattle.std.proofs.Common.{◌≡◌, ℕ, true, false, List, length, ◌<◌, ◌≤◌, Result, Ok, Err, refl, ap, ◌∙◌}
+use Rattle.std.proofs.Common.{◌≡◌, ℕ, true, false, List, length, ◌<◌, ◌≤◌, Err, refl}
 use Rattle.std.specs.List.{list_any}
 use Rattle.std.proofs.lemmas.Bool.{lt-ltb, le-ltb}
 use Rattle.types.specs.Addr.{same_source}
 use Rattle.types.specs.declared.addr.Source.{Source}
-use Rattle.types.specs.declared.discard.Discard.{Discard}
 use Rattle.types.specs.declared.discard.Discard.TheVariants.{UnknownSource, Malformed}
 use Rattle.v4_message.specs.Reading.{message_of}
 use Rattle.config.specs.CircuitPart.{CircuitPart}

@@ -1,6 +1,6 @@
 -- Which circuit a datagram at the server is of, by what the relay put into it (RFC 3046, section 2.2;
 -- RFC 5107, section 4). The first line that fits decides.
-use Rattle.std.specs.Prelude.{ℕ, Bool, not, ◌==◌, nat_lt, List, length, Option, Some, None, Result, Ok, Err, if◌then◌else◌, slice_get}
+use Rattle.std.specs.Prelude.{ℕ, not, ◌==◌, nat_lt, List, length, Option, Some, None, Result, Ok, Err, if◌then◌else◌, slice_get}
 use Rattle.std.specs.List.{list_any, position}
 use Rattle.std.specs.Str.{bytes_eq}
 use Rattle.types.specs.Addr.{is_unspecified, same_source}

@@ -76,9 +76,7 @@ fn message_check(
 fn index_of(circuits: &[CircuitPart], suboptions: &Suboptions<'_>) -> Option<usize>
     ensures { result ≡ position (λ part. is_value part.id (look_up CIRCUIT_ID suboptions.now)) circuits.now }
 {
-    circuits
-        .iter()
-        .position(|part| is_value(suboptions, code::CIRCUIT_ID, part.id().as_bytes()))
+    circuits.iter().position(|part| is_value(suboptions, code::CIRCUIT_ID, part.id().as_bytes()))
 }
 
 /// The tests that the message is of the circuit that was found: its relay, and its gateway twice.
@@ -97,7 +95,11 @@ fn circuit_check(
     if message.giaddr() != part.gateway4() {
         return Err(Discard::WrongLink);
     }
-    if !is_value(suboptions, code::SERVER_IDENTIFIER_OVERRIDE, &part.gateway4().0) {
+    if !is_value(
+        suboptions,
+        code::SERVER_IDENTIFIER_OVERRIDE,
+        &part.gateway4().0,
+    ) {
         return Err(Discard::NoOverride);
     }
     Ok(index)
