@@ -47,7 +47,7 @@ first_slot test a ss = first_from test a 0 a ss (omega arith) ∙ ap (from a) (s
 
 -- ---- a client's lease
 
-bound_test : (t : ℕ) (k : List ℕ) (s : Option Holder4) → hits k (bound_to (live t s)) ≡ is_bound_to t k s
+pub bound_test : (t : ℕ) (k : List ℕ) (s : Option Holder4) → hits k (bound_to (live t s)) ≡ is_bound_to t k s
 bound_test t k None = refl
 bound_test t k (Some (Bound key u)) = of_cond (λ s. hits k (bound_to s)) (is_live t u) (Some (Bound key u)) None
 bound_test t k (Some (Offered key u)) = of_cond (λ s. hits k (bound_to s)) (is_live t u) (Some (Offered key u)) None ∙ both_same (is_live t u) false
@@ -286,12 +286,21 @@ pub bound_is : (v : PoolSlots) (t : ℕ) (k : List ℕ) → AreSlots v.pool v.sl
 bound_is v t k are =
     ap (λ b. address_of (get b.bindings k)) (shown (number4 v.pool.first) t v.slots are.distinct) ∙ binding_is t k (number4 v.pool.first) v.slots
 
+pub offered_is : (v : PoolSlots) (t : ℕ) (k : List ℕ) → AreSlots v.pool v.slots → address_of (get (book_of t v).offers k) ≡ from (number4 v.pool.first) (position (is_offered_to t k) v.slots)
+offered_is v t k are =
+    ap (λ b. address_of (get b.offers k)) (shown (number4 v.pool.first) t v.slots are.distinct) ∙ offer_is t k (number4 v.pool.first) v.slots
+
 -- ---- for the code, whose slots and clock are a copy
 
 pub bound_found : (v : PoolSlots) (t : ℕ) (k : List ℕ) → AreSlots v.pool v.slots → (ss : Slots) (now : ℕ) (o : Option ℕ) → ss ≡ v.slots → now ≡ t → o ≡ position (is_bound_to now k) ss
     → from (number4 v.pool.first) o ≡ address_of (get (book_of t v).bindings k)
 bound_found v t k are ss now o same clock e =
     ap (from (number4 v.pool.first)) (e ∙ ap (λ n. position (is_bound_to n k) ss) clock ∙ ap (position (is_bound_to t k)) same) ∙ sym (bound_is v t k are)
+
+pub offered_found : (v : PoolSlots) (t : ℕ) (k : List ℕ) → AreSlots v.pool v.slots → (ss : Slots) (now : ℕ) (o : Option ℕ) → ss ≡ v.slots → now ≡ t → o ≡ position (is_offered_to now k) ss
+    → from (number4 v.pool.first) o ≡ address_of (get (book_of t v).offers k)
+offered_found v t k are ss now o same clock e =
+    ap (from (number4 v.pool.first)) (e ∙ ap (λ n. position (is_offered_to n k) ss) clock ∙ ap (position (is_offered_to t k)) same) ∙ sym (offered_is v t k are)
 
 pub pick_found : (v : PoolSlots) (t : ℕ) (k : List ℕ) (wanted : Option ℕ) → AreSlots v.pool v.slots → (ss : Slots) (now : ℕ) (o : Option ℕ) → ss ≡ v.slots → now ≡ t
     → o ≡ picked_slot now (number4 v.pool.first) ss k wanted → from (number4 v.pool.first) o ≡ pick v.pool (book_of t v) k wanted

@@ -3,3 +3,5 @@ pub mod FreeLemmas
 pub mod WriteLemmas
 pub mod RowLemmas
 pub mod TableLemmas
+pub mod LawLemmas
+pub mod ShownBook

@@ -1,27 +1,30 @@
 -- A row of the table is what its decision makes of the slots.
 use Rattle.std.proofs.Common.{◌≡◌, ℕ, zero, suc, ◌+◌, ◌-◌, ◌<◌, Bool, true, false, not, cond, List, length, replicate, get_or, refl, sym, ap, subst, ◌∙◌, arith}
 use borrow.Author.Tests.{ltb-true}
-use Rattle.std.specs.Prelude.{Option, Some, None, nat_lt}
+use Rattle.std.specs.Prelude.{Option, Some, None, nat_lt, ◌==◌, is_some, option_map}
 use Rattle.std.specs.List.{position}
-use Rattle.std.specs.FinMap.{get, empty}
+use Rattle.std.specs.FinMap.{empty}
 use Rattle.std.proofs.lemmas.Bool.Decides.{nat_tests}
 use Rattle.std.proofs.lemmas.List.{length-replicate}
 use Rattle.std.proofs.lemmas.List.Quantifiers.{position-Some}
 use Rattle.types.specs.Addr.{number4}
 use Rattle.types.specs.declared.kind4.Kind4.{Kind4}
 use Rattle.types.specs.declared.kind4.Kind4.TheVariants.{Discover, Offer, Request, Decline, Ack, Nak, Release, Inform}
-use Rattle.types.specs.Pool4.{PoolValue}
+use Rattle.types.specs.Pool4.{IsPool4, PoolValue}
+use Rattle.types.specs.declared.request4.Reply4.TheVariants as reply
 use Rattle.types.specs.declared.request4.Request4.{Request4}
 use Rattle.bindings_v4.specs.declared.decision4.Decision4.{Decision4}
 use Rattle.bindings_v4.specs.declared.holder4.Holder4.{Holder4}
-use Rattle.bindings_v4.specs.declared.holder4.Holder4.TheVariants.{Offered}
-use Rattle.bindings_v4.specs.Book4.{Lease, empty_book, is_live, address_of, or_else, pick}
-use Rattle.bindings_v4.specs.Lookup4.{until_of, is_vacant, is_bound_to, is_offered_to, wanted_slot, picked_slot, decision_of}
+use Rattle.bindings_v4.specs.declared.holder4.Holder4.TheVariants.{Bound, Offered, Barred}
+use Rattle.bindings_v4.specs.Book4.{Lease, empty_book, is_live, in_pool, address_of, or_else}
+use Rattle.bindings_v4.specs.Lookup4.{until_of, is_vacant, is_bound_to, is_offered_to, wanted_slot, picked_slot, keep_of, decision_of}
 use Rattle.bindings_v4.specs.Slots4.{PoolSlots, bound_to, offered_to, barred_until, with_lease, leases, bars_of, book_of_slots, book_of, is_clients, AreDistinct, AreSlots, with_slot, with_decision}
-use Rattle.bindings_v4.specs.Table4.{Offers, with_change, discover, Lookup, lookup_in, row_of, answer4}
+use Rattle.bindings_v4.specs.declared.server4.Server4.{Server4}
+use Rattle.bindings_v4.specs.declared.server4.Server4.TheVariants.{Anybody, This, Another}
+use Rattle.bindings_v4.specs.Table4.{Change, Unchanged, Offers, Withdraws, Binds, Bars, Frees, with_change, is_kept, Row, replies, grants, discover, declined_offer, selecting, verifying, requesting, declining, releasing, informing, where_is, given, server_of, Lookup, lookup_in, row_of, answer4}
 use Rattle.bindings_v4.proofs.ShownLemmas.{Slots, Lessee, IsSort, not_true, live, live_slots, bound_sort, offered_sort, shown}
-use Rattle.bindings_v4.proofs.FreeLemmas.{from, offered_test, pick_is, bound_is, binding_is}
-use Rattle.bindings_v4.proofs.WriteLemmas.{one_client, clients_no_bar, are_with_slot, IsOpen, leases_kept, leases_with, bars_kept}
+use Rattle.bindings_v4.proofs.FreeLemmas.{from, bound_test, offered_test, pick_is, bound_is, offered_is, binding_is}
+use Rattle.bindings_v4.proofs.WriteLemmas.{one_client, clients_no_bar, are_with_slot, IsOpen, leases_kept, leases_with, leases_gone, leases_without, leases_same, bars_kept, bars_same, bars_with}
 
 -- ---- where a pick that is no binding lies
 
@@ -101,60 +104,262 @@ offered_book v t k u i are fit none lasts =
     } in
     shown a t (with_slot i new ss) (are_with_slot v.pool i new ss are).distinct ∙ middle ∙ ap (with_change k (Offers (a + i) u)) (sym (shown a t ss are.distinct))
 
+-- ---- a lease, a bar, a free slot, an offer that is gone
+
+bound_own : (t : ℕ) (k : List ℕ) (ss : Slots) (i : ℕ) → position (is_bound_to t k) ss ≡ Some i → (i < length ss) × (is_bound_to t k (get_or ss i None) ≡ true)
+bound_own t k ss i e = let p = position-Some (is_bound_to t k) ss i None e in (p.0, p.1)
+
+offered_own : (t : ℕ) (k : List ℕ) (ss : Slots) (i : ℕ) → position (is_offered_to t k) ss ≡ Some i → (i < length ss) × (is_offered_to t k (get_or ss i None) ≡ true)
+offered_own t k ss i e = let p = position-Some (is_offered_to t k) ss i None e in (p.0, p.1)
+
+bound_clients : (t : ℕ) (k : List ℕ) (s : Option Holder4) → is_bound_to t k s ≡ true → is_clients k (live t s) ≡ true
+bound_clients t k s e = bound_sort.own k (live t s) (bound_test t k s ∙ e)
+
+offered_clients : (t : ℕ) (k : List ℕ) (s : Option Holder4) → is_offered_to t k s ≡ true → is_clients k (live t s) ≡ true
+offered_clients t k s e = offered_sort.own k (live t s) (offered_test t k s ∙ e)
+
+not_offered : (t : ℕ) (k : List ℕ) (s : Option Holder4) → is_bound_to t k s ≡ true → is_offered_to t k s ≡ false
+not_offered t k None e = refl
+not_offered t k (Some (Bound key u)) e = refl
+not_offered t k (Some (Offered key u)) e = absurd (not_true e)
+not_offered t k (Some (Barred u)) e = refl
+
+not_bound : (t : ℕ) (k : List ℕ) (s : Option Holder4) → is_offered_to t k s ≡ true → is_bound_to t k s ≡ false
+not_bound t k None e = refl
+not_bound t k (Some (Bound key u)) e = absurd (not_true e)
+not_bound t k (Some (Offered key u)) e = refl
+not_bound t k (Some (Barred u)) e = refl
+
+fit_bound : (t : ℕ) (k : List ℕ) (ss : Slots) (i : ℕ) → position (is_bound_to t k) ss ≡ Some i → Fit t k ss i
+fit_bound t k ss i e = let p = bound_own t k ss i e in fit_own t k ss i p.0 (bound_clients t k (get_or ss i None) p.1)
+
+bound_book : (v : PoolSlots) (t : ℕ) (k : List ℕ) (u i : ℕ) → AreSlots v.pool v.slots → Fit t k v.slots i → is_live t u ≡ true
+    → book_of t (record v { slots = with_slot i (Some (Bound k u)) v.slots }) ≡ with_change k (Binds (number4 v.pool.first + i) u) (book_of t v)
+bound_book v t k u i are fit lasts =
+    let a = number4 v.pool.first in
+    let ss = v.slots in
+    let new : Option Holder4 = Some (Bound k u) in
+    let stays : live t new ≡ new = ap (λ b. cond b new None) lasts in
+    let middle : book_of_slots a (live_slots t (with_slot i new ss)) ≡ with_change k (Binds (a + i) u) (book_of_slots a (live_slots t ss)) =
+    λ j. record {
+      bindings = leases_with t k i new ss are.distinct fit.below fit.mine (λ q apart. apart) bound_to bound_sort a u (ap bound_to stays) j;
+      offers = leases_gone t k i new ss are.distinct fit.below fit.mine (λ q apart. apart) offered_to offered_sort a (ap offered_to stays) j;
+      bars = bars_kept t k i new ss are.distinct fit.below fit.mine (λ q apart. apart) a (ap barred_until stays) fit.unbarred j;
+    } in
+    shown a t (with_slot i new ss) (are_with_slot v.pool i new ss are).distinct ∙ middle ∙ ap (with_change k (Binds (a + i) u)) (sym (shown a t ss are.distinct))
+
+barred_book : (v : PoolSlots) (t : ℕ) (k : List ℕ) (u i : ℕ) → AreSlots v.pool v.slots → position (is_bound_to t k) v.slots ≡ Some i → is_live t u ≡ true
+    → book_of t (record v { slots = with_slot i (Some (Barred u)) v.slots }) ≡ with_change k (Bars (number4 v.pool.first + i) u) (book_of t v)
+barred_book v t k u i are found lasts =
+    let a = number4 v.pool.first in
+    let ss = v.slots in
+    let s = get_or ss i None in
+    let new : Option Holder4 = Some (Barred u) in
+    let stays : live t new ≡ new = ap (λ b. cond b new None) lasts in
+    let p = bound_own t k ss i found in
+    let own = bound_clients t k s p.1 in
+    let middle : book_of_slots a (live_slots t (with_slot i new ss)) ≡ with_change k (Bars (a + i) u) (book_of_slots a (live_slots t ss)) =
+    λ j. record {
+      bindings = leases_without t k i new ss are.distinct own (λ q. refl) bound_to bound_sort a j;
+      offers = leases_same t k i new ss are.distinct own (λ q. refl) offered_to offered_sort a (offered_test t k s ∙ not_offered t k s p.1) j;
+      bars = bars_with t k i new ss are.distinct own (λ q. refl) a u p.0 (ap barred_until stays) j;
+    } in
+    shown a t (with_slot i new ss) (are_with_slot v.pool i new ss are).distinct ∙ middle ∙ ap (with_change k (Bars (a + i) u)) (sym (shown a t ss are.distinct))
+
+freed_book : (v : PoolSlots) (t : ℕ) (k : List ℕ) (i : ℕ) → AreSlots v.pool v.slots → position (is_bound_to t k) v.slots ≡ Some i
+    → book_of t (record v { slots = with_slot i None v.slots }) ≡ with_change k (Frees (number4 v.pool.first + i)) (book_of t v)
+freed_book v t k i are found =
+    let a = number4 v.pool.first in
+    let ss = v.slots in
+    let s = get_or ss i None in
+    let p = bound_own t k ss i found in
+    let own = bound_clients t k s p.1 in
+    let middle : book_of_slots a (live_slots t (with_slot i None ss)) ≡ with_change k (Frees (a + i)) (book_of_slots a (live_slots t ss)) =
+    λ j. record {
+      bindings = leases_without t k i None ss are.distinct own (λ q. refl) bound_to bound_sort a j;
+      offers = leases_same t k i None ss are.distinct own (λ q. refl) offered_to offered_sort a (offered_test t k s ∙ not_offered t k s p.1) j;
+      bars = bars_same t k i None ss are.distinct own (λ q. refl) a refl j;
+    } in
+    shown a t (with_slot i None ss) (are_with_slot v.pool i None ss are).distinct ∙ middle ∙ ap (with_change k (Frees (a + i))) (sym (shown a t ss are.distinct))
+
+withdrawn_book : (v : PoolSlots) (t : ℕ) (k : List ℕ) (i : ℕ) → AreSlots v.pool v.slots → position (is_offered_to t k) v.slots ≡ Some i
+    → book_of t (record v { slots = with_slot i None v.slots }) ≡ with_change k (Withdraws (number4 v.pool.first + i)) (book_of t v)
+withdrawn_book v t k i are found =
+    let a = number4 v.pool.first in
+    let ss = v.slots in
+    let s = get_or ss i None in
+    let p = offered_own t k ss i found in
+    let own = offered_clients t k s p.1 in
+    let middle : book_of_slots a (live_slots t (with_slot i None ss)) ≡ with_change k (Withdraws (a + i)) (book_of_slots a (live_slots t ss)) =
+    λ j. record {
+      bindings = leases_same t k i None ss are.distinct own (λ q. refl) bound_to bound_sort a (bound_test t k s ∙ not_bound t k s p.1) j;
+      offers = leases_without t k i None ss are.distinct own (λ q. refl) offered_to offered_sort a j;
+      bars = bars_same t k i None ss are.distinct own (λ q. refl) a refl j;
+    } in
+    shown a t (with_slot i None ss) (are_with_slot v.pool i None ss are).distinct ∙ middle ∙ ap (with_change k (Withdraws (a + i))) (sym (shown a t ss are.distinct))
+
 -- ---- the rows
 
-abbrev IsRow : PoolSlots → ℕ → List ℕ → Option ℕ → Option ℕ → Type 0
-IsRow v t k picked bound =
-    book_of t (with_decision (decision_of (number4 v.pool.first) t k (discover t picked bound)) v) ≡ with_change k (discover t picked bound).change (book_of t v)
+lasting : (t n : ℕ) → 0 < n → is_live t (t + n) ≡ true
+lasting t n h = grind (arith, nat_tests)
 
-lasting : (t : ℕ) → is_live t (t + 60) ≡ true
-lasting t = grind (arith, nat_tests)
+slot_there : (a i : ℕ) → (a + i) - a ≡ i
+slot_there a i = omega arith
 
-discovered_by : (v : PoolSlots) (t : ℕ) (k : List ℕ) (wanted : Option ℕ) → AreSlots v.pool v.slots → (o bound : Option ℕ) → picked_slot t (number4 v.pool.first) v.slots k wanted ≡ o
-    → position (is_bound_to t k) v.slots ≡ bound → IsRow v t k (from (number4 v.pool.first) o) (from (number4 v.pool.first) bound)
-discovered_by v t k wanted are None bound picked is_bound = refl
-discovered_by v t k wanted are (Some i) (Some j) picked is_bound = refl
-discovered_by v t k wanted are (Some i) None picked is_bound =
-    let a = number4 v.pool.first in
-    let slot : (a + i) - a ≡ i = omega arith in
-    ap (λ n. book_of t (record v { slots = with_slot n (Some (Offered k (t + 60))) v.slots })) slot
-    ∙ offered_book v t k (t + 60) i are (fit_pick t a k v.slots wanted i is_bound picked) is_bound (lasting t)
+-- an address that was looked up is that of the slot that was found
+abbrev IsOf : ℕ → Option ℕ → Option ℕ → Type 0
+IsOf a found o = (address : ℕ) → o ≡ Some address → (i : ℕ) × (address ≡ a + i) × (found ≡ Some i)
 
-discovered : (v : PoolSlots) (t : ℕ) (k : List ℕ) (wanted : Option ℕ) → AreSlots v.pool v.slots
-    → IsRow v t k (pick v.pool (book_of t v) k wanted) (address_of (get (book_of t v).bindings k))
-discovered v t k wanted are =
-    let a = number4 v.pool.first in
-    let by = discovered_by v t k wanted are (picked_slot t a v.slots k wanted) (position (is_bound_to t k) v.slots) refl refl in
-    subst (λ x. IsRow v t k x (address_of (get (book_of t v).bindings k))) (sym (pick_is v t k wanted are))
-    (subst (λ x. IsRow v t k (from a (picked_slot t a v.slots k wanted)) x) (sym (bound_is v t k are)) by)
+named_is : (a : ℕ) (found named : Option ℕ) → IsOf a found (where_is (from a found) named)
+named_is a None named address e = absurd cc
+named_is a (Some i) None address e = absurd cc
+named_is a (Some i) (Some n) address e = by (a + i == n) e where
+  by : (b : Bool) → cond b (Some (a + i)) None ≡ Some address → (j : ℕ) × (address ≡ a + j) × (Some i ≡ Some j)
+  by true e = (i, (let same : a + i ≡ address = cc in sym same), refl)
+  by false e = absurd cc
+
+module _ (v : PoolSlots) (t : ℕ) (k : List ℕ) (are : AreSlots v.pool v.slots) where
+  abbrev a : ℕ
+  a = number4 v.pool.first
+
+  abbrev bound : Option ℕ
+  bound = position (is_bound_to t k) v.slots
+
+  abbrev offered : Option ℕ
+  offered = position (is_offered_to t k) v.slots
+
+  abbrev IsRow : Row → Type 0
+  IsRow row = book_of t (with_decision (decision_of a t k row) v) ≡ with_change k row.change (book_of t v)
+
+  discovered : (wanted picked bound_slot : Option ℕ) → picked_slot t a v.slots k wanted ≡ picked → bound ≡ bound_slot → IsRow (discover t (from a picked) (from a bound_slot))
+  discovered wanted None bound_slot is_picked is_bound = refl
+  discovered wanted (Some i) (Some j) is_picked is_bound = refl
+  discovered wanted (Some i) None is_picked is_bound =
+      ap (λ n. book_of t (record v { slots = with_slot n (Some (Offered k (t + 60))) v.slots })) (slot_there a i)
+      ∙ offered_book v t k (t + 60) i are (fit_pick t a k v.slots wanted i is_bound is_picked) is_bound (lasting t 60 (omega arith))
+
+  granted : (address i : ℕ) → address ≡ a + i → Fit t k v.slots i → IsRow (grants address (t + v.pool.lease))
+  granted address i e fit =
+      let term : 0 < v.pool.lease = omega (arith, are.limits.shortest) in
+      subst (λ x. IsRow (grants x (t + v.pool.lease))) (sym e)
+      (ap (λ n. book_of t (record v { slots = with_slot n (Some (Bound k (t + v.pool.lease))) v.slots })) (slot_there a i)
+      ∙ bound_book v t k (t + v.pool.lease) i are fit (lasting t v.pool.lease term))
+
+  withdrawn : (found : Option ℕ) → offered ≡ found → IsRow (declined_offer (from a found))
+  withdrawn None is = refl
+  withdrawn (Some i) is =
+      ap (λ n. book_of t (record v { slots = with_slot n None v.slots })) (slot_there a i) ∙ withdrawn_book v t k i are is
+
+  -- an address that is the client's binding or offer
+  selected : (wanted held : Option ℕ) → ((address : ℕ) → held ≡ Some address → (i : ℕ) × (address ≡ a + i) × Fit t k v.slots i) → IsRow (selecting (t + v.pool.lease) wanted held)
+  selected None held is = refl
+  selected (Some wanted) None is = refl
+  selected (Some wanted) (Some address) is = let p = is address refl in granted address p.0 p.1 p.2
+
+  held_is : (wanted : Option ℕ) (address : ℕ) → or_else (where_is (from a bound) wanted) (where_is (from a offered) wanted) ≡ Some address
+      → (i : ℕ) × (address ≡ a + i) × Fit t k v.slots i
+  held_is wanted address e = by (where_is (from a bound) wanted) refl e where
+    by : (o : Option ℕ) → where_is (from a bound) wanted ≡ o → or_else o (where_is (from a offered) wanted) ≡ Some address → (i : ℕ) × (address ≡ a + i) × Fit t k v.slots i
+    by None is e = let p = named_is a offered wanted address e in (p.0, p.1, fit_offered t k v.slots p.0 p.2)
+    by (Some x) is e = let p = named_is a bound wanted address (is ∙ e) in (p.0, p.1, fit_bound t k v.slots p.0 p.2)
+
+  verified : (inside : Bool) (found : Option ℕ) (address : ℕ) → bound ≡ found → IsRow (verifying (t + v.pool.lease) inside (from a found) address)
+  verified false found address is = refl
+  verified true None address is = refl
+  verified true (Some i) address is = by (a + i == address) where
+    by : (b : Bool) → IsRow (cond b (grants (a + i) (t + v.pool.lease)) (replies reply.Nak Unchanged))
+    by true = granted (a + i) i refl (fit_bound t k v.slots i is)
+    by false = refl
+
+  requested : (wanted ciaddr : Option ℕ) → IsRow (requesting v.pool (t + v.pool.lease) (from a bound) wanted ciaddr)
+  requested (Some wanted) (Some ciaddr) = refl
+  requested None None = refl
+  requested (Some wanted) None = verified (in_pool v.pool wanted) bound wanted refl
+  requested None (Some ciaddr) = verified (in_pool v.pool ciaddr) bound ciaddr refl
+
+  declined : (o : Option ℕ) → IsOf a bound o → IsRow (declining t o)
+  declined None is = refl
+  declined (Some address) is =
+      let p = is address refl in
+      subst (λ x. IsRow (declining t (Some x))) (sym p.1)
+      (ap (λ n. book_of t (record v { slots = with_slot n (Some (Barred (t + 3600))) v.slots })) (slot_there a p.0)
+      ∙ barred_book v t k (t + 3600) p.0 are p.2 (lasting t 3600 (omega arith)))
+
+  released : (o : Option ℕ) → IsOf a bound o → IsRow (releasing o)
+  released None is = refl
+  released (Some address) is =
+      let p = is address refl in
+      subst (λ x. IsRow (releasing (Some x))) (sym p.1)
+      (ap (λ n. book_of t (record v { slots = with_slot n None v.slots })) (slot_there a p.0) ∙ freed_book v t k p.0 are p.2)
+
+  informed : (ciaddr : Option ℕ) → IsRow (informing ciaddr)
+  informed None = refl
+  informed (Some ciaddr) = refl
+
+  -- what is looked up, by slots
+  abbrev by_slots : Option ℕ → Lookup
+  by_slots wanted = record { binding = from a bound; offer = from a offered; pick = from a (picked_slot t a v.slots k wanted) }
+
+  row_is : (m : Request4) (kind : Kind4) (server : Server4) → IsRow (row_of v.pool t (by_slots (option_map number4 m.wanted)) m kind server)
+  row_is m Discover server = discovered (option_map number4 m.wanted) (picked_slot t a v.slots k (option_map number4 m.wanted)) bound refl refl
+  row_is m Request Another = withdrawn offered refl
+  row_is m Request This = let wanted = option_map number4 m.wanted in selected wanted _ (held_is wanted)
+  row_is m Request Anybody = requested (option_map number4 m.wanted) (given m.ciaddr)
+  row_is m Decline Another = refl
+  row_is m Decline This = declined _ (named_is a bound (option_map number4 m.wanted))
+  row_is m Decline Anybody = declined _ (named_is a bound (option_map number4 m.wanted))
+  row_is m Release Another = refl
+  row_is m Release This = released _ (named_is a bound (Some (number4 m.ciaddr)))
+  row_is m Release Anybody = released _ (named_is a bound (Some (number4 m.ciaddr)))
+  row_is m Inform Another = refl
+  row_is m Inform This = informed (given m.ciaddr)
+  row_is m Inform Anybody = informed (given m.ciaddr)
+  row_is m Offer server = refl
+  row_is m Ack server = refl
+  row_is m Nak server = refl
+
+kept_is : (first : ℕ) (k : List ℕ) (change : Change) → is_some (keep_of first k change) ≡ is_kept change
+kept_is first k Unchanged = refl
+kept_is first k (Offers address until) = refl
+kept_is first k (Withdraws address) = refl
+kept_is first k (Binds address until) = refl
+kept_is first k (Bars address until) = refl
+kept_is first k (Frees address) = refl
 
 module _ (v : PoolSlots) (t : ℕ) (m : Request4) (are : AreSlots v.pool v.slots) where
   abbrev found : Lookup
   found = lookup_in v.pool (book_of t v) m
 
-  by_kind : (kind : Kind4) → book_of t (with_decision (decision_of (number4 v.pool.first) t m.key (row_of t found kind)) v) ≡ with_change m.key (row_of t found kind).change (book_of t v)
-  by_kind Discover = discovered v t m.key _ are
-  by_kind Offer = refl
-  by_kind Request = refl
-  by_kind Decline = refl
-  by_kind Ack = refl
-  by_kind Nak = refl
-  by_kind Release = refl
-  by_kind Inform = refl
+  found_is : found ≡ by_slots v t m.key are (option_map number4 m.wanted)
+  found_is =
+      let wanted = option_map number4 m.wanted in
+      λ i. record { binding = bound_is v t m.key are i; offer = offered_is v t m.key are i; pick = pick_is v t m.key wanted are i }
+
+  abbrev row : PoolValue → Lookup → Row
+  row pool f = row_of pool t f m m.kind (server_of pool m.server)
+
+  row_book : book_of t (with_decision (decision_of (number4 v.pool.first) t m.key (row v.pool found)) v) ≡ with_change m.key (row v.pool found).change (book_of t v)
+  row_book =
+      let P : Lookup → Type 0 = λ f. book_of t (with_decision (decision_of (number4 v.pool.first) t m.key (row v.pool f)) v) ≡ with_change m.key (row v.pool f).change (book_of t v) in
+      subst P (sym found_is) (row_is v t m.key are m m.kind (server_of v.pool m.server))
 
   -- the code's pool and what it looked up
-  pub decided_is : (pool : PoolValue) (looked_up : Lookup) (d : Decision4) → pool ≡ v.pool → looked_up ≡ found → d ≡ decision_of (number4 pool.first) t m.key (row_of t looked_up m.kind)
-      → d ≡ decision_of (number4 v.pool.first) t m.key (row_of t found m.kind)
-  decided_is pool looked_up d same is e =
-      e ∙ ap (λ (p : PoolValue). decision_of (number4 p.first) t m.key (row_of t looked_up m.kind)) same ∙ ap (λ f. decision_of (number4 v.pool.first) t m.key (row_of t f m.kind)) is
+  pub decision_is : (pool : PoolValue) (looked_up : Lookup) (d : Decision4) → pool ≡ v.pool → looked_up ≡ found → d ≡ decision_of (number4 pool.first) t m.key (row pool looked_up)
+      → d ≡ decision_of (number4 v.pool.first) t m.key (row v.pool found)
+  decision_is pool looked_up d same is e =
+      e ∙ ap (λ (p : PoolValue). decision_of (number4 p.first) t m.key (row p looked_up)) same ∙ ap (λ f. decision_of (number4 v.pool.first) t m.key (row v.pool f)) is
 
-  pub answer_is : (d : Decision4) → d ≡ decision_of (number4 v.pool.first) t m.key (row_of t found m.kind) → d.answer ≡ (answer4 v.pool t (book_of t v) m).answer
+  pub answer_is : (d : Decision4) → d ≡ decision_of (number4 v.pool.first) t m.key (row v.pool found) → d.answer ≡ (answer4 v.pool t (book_of t v) m).answer
   unfolding answer4
   answer_is d e = ap (λ (x : Decision4). x.answer) e
 
-  pub book_is : (d : Decision4) → d ≡ decision_of (number4 v.pool.first) t m.key (row_of t found m.kind) → book_of t (with_decision d v) ≡ (answer4 v.pool t (book_of t v) m).book
+  pub keep_is : (d : Decision4) → d ≡ decision_of (number4 v.pool.first) t m.key (row v.pool found) → is_some d.keep ≡ (answer4 v.pool t (book_of t v) m).is_kept
   unfolding answer4
-  book_is d e = ap (λ (x : Decision4). book_of t (with_decision x v)) e ∙ by_kind m.kind
+  keep_is d e = ap (λ (x : Decision4). is_some x.keep) e ∙ kept_is (number4 v.pool.first) m.key (row v.pool found).change
+
+  pub book_is : (d : Decision4) → d ≡ decision_of (number4 v.pool.first) t m.key (row v.pool found) → book_of t (with_decision d v) ≡ (answer4 v.pool t (book_of t v) m).book
+  unfolding answer4
+  book_is d e = ap (λ (x : Decision4). book_of t (with_decision x v)) e ∙ row_book
 
 -- ---- an empty book
 
@@ -162,9 +367,9 @@ vacant_distinct : (n : ℕ) → AreDistinct (replicate n None)
 vacant_distinct zero = tt
 vacant_distinct (suc n) = (λ q e. absurd (not_true e), vacant_distinct n)
 
-pub vacant_are : (pool : PoolValue) (ss : Slots) → ss ≡ replicate pool.count None → AreSlots pool ss
-vacant_are pool ss e =
-    subst (λ xs. AreSlots pool xs) (sym e) (record { size = length-replicate pool.count None; distinct = vacant_distinct pool.count })
+pub vacant_are : (pool : PoolValue) (ss : Slots) → IsPool4 pool.first pool.count pool.lease → ss ≡ replicate pool.count None → AreSlots pool ss
+vacant_are pool ss limits e =
+    subst (λ xs. AreSlots pool xs) (sym e) (record { limits = limits; size = length-replicate pool.count None; distinct = vacant_distinct pool.count })
 
 vacant_leases : (f : Option Holder4 → Lessee) → IsSort f → (t a n : ℕ) → leases f a (live_slots t (replicate n None)) ≡ empty
 vacant_leases f sort t a zero = refl

@@ -245,7 +245,7 @@ same_bars a m n below above = same_map nat_cmp_total nat_cmp-IsAntisymmetric m n
   by x true is = below x (ltb-true x a is)
   by x false is = ap (get m) (split a x is) ∙ above (x - a) ∙ ap (get n) (sym (split a x is))
 
-get-live_bars : (t : ℕ) (m : FinMap nat_cmp ℕ) (q : ℕ) → get (live_bars t m) q ≡ cond (passes (is_live t) (get m q)) (get m q) None
+pub get-live_bars : (t : ℕ) (m : FinMap nat_cmp ℕ) (q : ℕ) → get (live_bars t m) q ≡ cond (passes (is_live t) (get m q)) (get m q) None
 get-live_bars t m q =
     let test : ℕ → Bool = λ key. passes (is_live t) (get m key) in
     get-retain_keys m test q (λ x e. ap test (sym (nat_cmp-IsAntisymmetric q x e)))

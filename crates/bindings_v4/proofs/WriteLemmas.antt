@@ -4,10 +4,13 @@ use Rattle.std.specs.Prelude.{Option, Some, None}
 use Rattle.std.specs.List.{position, position_from, refill}
 use Rattle.std.proofs.Math.Seq.{take-append_seam}
 use Rattle.std.specs.Cmp.Lexicographic.{nat_list_cmp_total}
-use Rattle.std.specs.FinMap.{get, insert, get-insert, same_map}
+use Rattle.std.specs.Ordering.{nat_cmp, eq_by_cmp}
+use Rattle.std.specs.Cmp.{nat_cmp_total}
+use Rattle.std.specs.FinMap.{get, insert, remove, get-insert, get-remove, same_map}
+use Rattle.std.proofs.lemmas.Bool.Decides.{nat_tests}
 use Rattle.std.specs.Str.{bytes_eq}
 use Rattle.std.proofs.lemmas.Iterator.Adapters.{position_from-zero}
-use Rattle.std.proofs.lemmas.List.{map-set, length-set, length-map}
+use Rattle.std.proofs.lemmas.List.{map-set, length-set, length-map, get_or-set_same, get_or-set_other}
 use Rattle.std.proofs.lemmas.List.Quantifiers.{position-Some}
 use Rattle.std.proofs.lemmas.Map.Text.{is_eq-slice_cmp}
 use Rattle.std.proofs.Math.ListN.{get_or-map}
@@ -19,7 +22,7 @@ use Rattle.bindings_v4.specs.declared.decision4.OfferChange.{OfferChange}
 use Rattle.bindings_v4.specs.declared.decision4.OfferChange.TheVariants as offer
 use Rattle.bindings_v4.specs.Book4.{is_live}
 use Rattle.bindings_v4.specs.Slots4.{barred_until, leases, bars_of, is_clients, IsWithout, AreDistinct, AreSlots, with_vacancy, without_client, with_slot, with_offer, holder_of, with_kept}
-use Rattle.bindings_v4.proofs.ShownLemmas.{Slots, Lessee, at, not_true, same_bytes, same_is, live, live_slots, without_live, live_clients_only, hits, IsSort, hit, missed, got, get-leases, got_none, bars_below, bars_at, same_bars}
+use Rattle.bindings_v4.proofs.ShownLemmas.{Slots, Lessee, at, not_true, same_bytes, same_is, live, live_slots, distinct_live, without_live, live_clients_only, hits, IsSort, hit, missed, got, get-leases, got_none, bars_below, bars_at, bar_other, same_bars}
 
 -- ---- one slot of a list
 
@@ -61,7 +64,7 @@ distinct_set (suc i) new (s ∷ ss) d only =
       by q e true is = absurd (not_true (sym (only q is).0 ∙ e))
       by q e false is = is
 
--- where a client's slot is with_vacancy, it has none
+-- where a client's slot is vacated, it has none
 pub sole : (q : List ℕ) (i : ℕ) (new : Option Holder4) (ss : Slots) → AreDistinct ss → is_clients q (get_or ss i None) ≡ true → is_clients q new ≡ false → IsWithout q (set ss i new)
 sole q i new [] d own apart = tt
 sole q zero new (s ∷ ss) d own apart = (apart, d.0 q own)
@@ -83,7 +86,7 @@ clients_no_bar k (Some (Bound key u)) own = refl
 clients_no_bar k (Some (Offered key u)) own = refl
 clients_no_bar k (Some (Barred u)) own = absurd (not_true own)
 
--- ---- a client's slot is with_vacancy
+-- ---- a client's slot is vacated
 
 pub record IsCleared (k : List ℕ) (ss cs : Slots) : Type 0 where
   pub same_length : length cs ≡ length ss
@@ -155,6 +158,21 @@ cleared k ss d = by (position (is_clients k) ss) refl where
             (sort.other q None refl);
       }
 
+-- slots with the same bars
+bars_by : (t a : ℕ) (xs ys : Slots) → ((j : ℕ) → barred_until (live t (get_or xs j None)) ≡ barred_until (live t (get_or ys j None))) → bars_of a (live_slots t xs) ≡ bars_of a (live_slots t ys)
+bars_by t a xs ys same =
+    same_bars a _ _
+    (λ x h. bars_below x a (live_slots t xs) h ∙ sym (bars_below x a (live_slots t ys) h))
+    (λ j.
+    bars_at a j (live_slots t xs) ∙ ap barred_until (get_or-map (live t) xs j None) ∙ same j
+    ∙ ap barred_until (sym (get_or-map (live t) ys j None)) ∙ sym (bars_at a j (live_slots t ys)))
+
+-- what a map without the client's lease has
+removed : (f : Option Holder4 → Lessee) (k q : List ℕ) (a : ℕ) (ss : Slots) → cond (bytes_eq q k) None (got f q a ss) ≡ get (remove (leases f a ss) k) q
+removed f k q a ss =
+    ap (cond (bytes_eq q k) None) (sym (get-leases f q a ss)) ∙ ap (λ b. cond b None (get (leases f a ss) q)) (sym (is_eq-slice_cmp q k))
+    ∙ sym (get-remove nat_list_cmp_total (leases f a ss) k q)
+
 -- ---- a slot that is written keeps the slots a pool's
 
 abbrev Only : List ℕ → Option Holder4 → Type 0
@@ -179,7 +197,7 @@ length_slot i (Some (Barred u)) ss d = length-set ss i (Some (Barred u))
 
 pub are_with_slot : (pool : PoolValue) (i : ℕ) (new : Option Holder4) (ss : Slots) → AreSlots pool ss → AreSlots pool (with_slot i new ss)
 are_with_slot pool i new ss are =
-    record { size = length_slot i new ss are.distinct ∙ are.size; distinct = distinct_slot i new ss are.distinct }
+    record { limits = are.limits; size = length_slot i new ss are.distinct ∙ are.size; distinct = distinct_slot i new ss are.distinct }
 
 -- ---- a client gets a slot that nobody else has
 
@@ -240,17 +258,92 @@ module _ (t : ℕ) (k : List ℕ) (i : ℕ) (new : Option Holder4) (ss : Slots) 
         by q true = refl
         by q false = refl
 
+  -- one in which the client has none any more
+  pub leases_gone : (f : Option Holder4 → Lessee) → IsSort f → (a : ℕ) → f (live t new) ≡ None
+      → leases f a (live_slots t (set cs i new)) ≡ remove (leases f a (live_slots t ss)) k
+  leases_gone f sort a none =
+      same_map nat_list_cmp_total same_bytes _ _ (λ q.
+      get-leases f q a (live_slots t (set cs i new)) ∙ got_new f sort q a ∙ ap (λ l. cond (bytes_eq q k) (hit q (a + i) l None) (got f q a (live_slots t ss))) none
+      ∙ removed f k q a (live_slots t ss))
+
   -- bars, where the slot had none and has none
   pub bars_kept : (a : ℕ) → barred_until (live t new) ≡ None → barred_until (live t (get_or ss i None)) ≡ None → bars_of a (live_slots t (set cs i new)) ≡ bars_of a (live_slots t ss)
   bars_kept a none before =
-      same_bars a _ _
-      (λ x h. bars_below x a (live_slots t (set cs i new)) h ∙ sym (bars_below x a (live_slots t ss) h))
-      (λ j.
-      bars_at a j (live_slots t (set cs i new)) ∙ ap barred_until (get_or-map (live t) (set cs i new) j None)
-      ∙ bar_set (λ s. barred_until (live t s)) cs j i new (none ∙ sym ((cleared k ss d).bar t i ∙ before)) ∙ (cleared k ss d).bar t j
-      ∙ ap barred_until (sym (get_or-map (live t) ss j None)) ∙ sym (bars_at a j (live_slots t ss)))
+      bars_by t a (set cs i new) ss (λ j.
+      bar_set (λ s. barred_until (live t s)) cs j i new (none ∙ sym ((cleared k ss d).bar t i ∙ before)) ∙ (cleared k ss d).bar t j)
 
--- ---- what is with_decision is a pool's slots still
+-- ---- a client loses its slot, and nobody gets it
+
+-- a client has one slot, and so no lease of another sort
+pub other_sort : (f : Option Holder4 → Lessee) → IsSort f → (k : List ℕ) (a i : ℕ) (ss : Slots) → AreDistinct ss → is_clients k (get_or ss i None) ≡ true → hits k (f (get_or ss i None)) ≡ false
+    → got f k a ss ≡ None
+other_sort f sort k a i [] d own other = refl
+other_sort f sort k a zero (s ∷ ss) d own other = missed k a (f s) (got f k (a + 1) ss) other ∙ got_none f sort k (a + 1) ss (d.0 k own)
+other_sort f sort k a (suc i) (s ∷ ss) d own other =
+    missed k a (f s) (got f k (a + 1) ss) (sort.other k s (by (is_clients k s) refl)) ∙ other_sort f sort k (a + 1) i ss d.1 own other where
+      by : (b : Bool) → is_clients k s ≡ b → is_clients k s ≡ false
+      by true is = absurd (not_true (sym (without_at k i ss (d.0 k is)) ∙ own))
+      by false is = is
+
+module _ (t : ℕ) (k : List ℕ) (i : ℕ) (new : Option Holder4) (ss : Slots) (d : AreDistinct ss) (own : is_clients k (live t (get_or ss i None)) ≡ true)
+    (nobody : (q : List ℕ) → is_clients q new ≡ false) where
+  own_live : is_clients k (get_or (live_slots t ss) i None) ≡ true
+  own_live = ap (is_clients k) (get_or-map (live t) ss i None) ∙ own
+
+  pub got_without : (f : Option Holder4 → Lessee) → IsSort f → (q : List ℕ) (a : ℕ) → got f q a (live_slots t (set ss i new)) ≡ cond (bytes_eq q k) None (got f q a (live_slots t ss))
+  got_without f sort q a =
+      ap (got f q a) (map-set (live t) ss i new) ∙ by (bytes_eq q k) refl where
+        by : (b : Bool) → bytes_eq q k ≡ b → got f q a (set (live_slots t ss) i (live t new)) ≡ cond b None (got f q a (live_slots t ss))
+        by true is =
+            let w : IsWithout k (set (live_slots t ss) i (live t new)) = sole k i (live t new) (live_slots t ss) (distinct_live t ss d) own_live (live_clients_only t k new (nobody k)) in
+            got_none f sort q a (set (live_slots t ss) i (live t new)) (subst (λ p. IsWithout p (set (live_slots t ss) i (live t new))) (sym (same_is q k is)) w)
+        by false is =
+            got_apart f q a i (live t new) (live_slots t ss)
+            (ap (λ s. hits q (f s)) (get_or-map (live t) ss i None) ∙ sort.other q (live t (get_or ss i None)) (one_client q k (live t (get_or ss i None)) own is))
+            (sort.other q (live t new) (live_clients_only t q new (nobody q)))
+
+  -- the sort of its lease
+  pub leases_without : (f : Option Holder4 → Lessee) → IsSort f → (a : ℕ) → leases f a (live_slots t (set ss i new)) ≡ remove (leases f a (live_slots t ss)) k
+  leases_without f sort a =
+      same_map nat_list_cmp_total same_bytes _ _ (λ q.
+      get-leases f q a (live_slots t (set ss i new)) ∙ got_without f sort q a ∙ removed f k q a (live_slots t ss))
+
+  -- the other sort
+  pub leases_same : (f : Option Holder4 → Lessee) → IsSort f → (a : ℕ) → hits k (f (live t (get_or ss i None))) ≡ false → leases f a (live_slots t (set ss i new)) ≡ leases f a (live_slots t ss)
+  leases_same f sort a other =
+      same_map nat_list_cmp_total same_bytes _ _ (λ q.
+      get-leases f q a (live_slots t (set ss i new)) ∙ got_without f sort q a ∙ by q (bytes_eq q k) refl ∙ sym (get-leases f q a (live_slots t ss))) where
+        by : (q : List ℕ) (b : Bool) → bytes_eq q k ≡ b → cond b None (got f q a (live_slots t ss)) ≡ got f q a (live_slots t ss)
+        by q true is =
+            sym (ap (λ p. got f p a (live_slots t ss)) (same_is q k is)
+            ∙ other_sort f sort k a i (live_slots t ss) (distinct_live t ss d) own_live (ap (λ s. hits k (f s)) (get_or-map (live t) ss i None) ∙ other))
+        by q false is = refl
+
+  pub bars_same : (a : ℕ) → barred_until (live t new) ≡ None → bars_of a (live_slots t (set ss i new)) ≡ bars_of a (live_slots t ss)
+  bars_same a none =
+      bars_by t a (set ss i new) ss (λ j.
+      bar_set (λ s. barred_until (live t s)) ss j i new (none ∙ sym (clients_no_bar k (live t (get_or ss i None)) own)))
+
+  pub bars_with : (a u : ℕ) → i < length ss → barred_until (live t new) ≡ Some u → bars_of a (live_slots t (set ss i new)) ≡ insert (bars_of a (live_slots t ss)) (a + i) u
+  bars_with a u there some =
+      same_bars a _ _
+      (λ x h.
+      bars_below x a (live_slots t (set ss i new)) h
+      ∙ sym (get-insert nat_cmp_total (bars_of a (live_slots t ss)) (a + i) u x ∙ bar_other x (a + i) (Some u) _ (λ e. omega (arith, e, h)) ∙ bars_below x a (live_slots t ss) h))
+      (λ j.
+      bars_at a j (live_slots t (set ss i new)) ∙ ap barred_until (get_or-map (live t) (set ss i new) j None) ∙ by j (eq_by_cmp nat_cmp (a + j) (a + i)) refl
+      ∙ sym (get-insert nat_cmp_total (bars_of a (live_slots t ss)) (a + i) u (a + j))) where
+        by : (j : ℕ) (b : Bool) → eq_by_cmp nat_cmp (a + j) (a + i) ≡ b
+            → barred_until (live t (get_or (set ss i new) j None)) ≡ cond b (Some u) (get (bars_of a (live_slots t ss)) (a + j))
+        by j true is =
+            let same : j ≡ i = grind (arith, nat_tests) in
+            ap (λ n. barred_until (live t (get_or (set ss i new) n None))) same ∙ ap (λ s. barred_until (live t s)) (get_or-set_same ss i new None there) ∙ some
+        by j false is =
+            let other : j ≡ i → ⊥ = λ e. grind (arith, nat_tests) in
+            ap (λ s. barred_until (live t s)) (get_or-set_other ss i j new None other)
+            ∙ ap barred_until (sym (get_or-map (live t) ss j None)) ∙ sym (bars_at a j (live_slots t ss))
+
+-- ---- what is committed is a pool's slots still
 
 are_with_offer : (pool : PoolValue) (change : Option OfferChange) (ss : Slots) → AreSlots pool ss → AreSlots pool (with_offer change ss)
 are_with_offer pool None ss are = are

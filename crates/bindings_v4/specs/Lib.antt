@@ -1,4 +1,5 @@
 pub mod Book4
+pub mod IsBook4
 pub mod Lookup4
 pub mod Slots4
 pub mod Table4

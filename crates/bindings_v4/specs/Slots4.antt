@@ -5,7 +5,7 @@ use Rattle.std.specs.Ordering.{nat_cmp}
 use Rattle.std.specs.FinMap.{FinMap, empty, insert}
 use Rattle.std.specs.Str.{bytes_eq}
 use Rattle.types.specs.Addr.{number4}
-use Rattle.types.specs.Pool4.{PoolValue}
+use Rattle.types.specs.Pool4.{IsPool4, PoolValue}
 use Rattle.types.specs.declared.slot4.Slot4.{Slot4}
 use Rattle.types.specs.declared.slot4.Slot4.TheVariants as slot4
 use Rattle.bindings_v4.specs.declared.holder4.Holder4.{Holder4}
@@ -84,6 +84,7 @@ AreDistinct (slot ∷ slots) = ((client : List ℕ) → is_clients client slot �
 
 -- the slots of this pool
 pub record AreSlots (pool : PoolValue) (slots : List (Option Holder4)) : Type 0 where
+  pub limits : IsPool4 pool.first pool.count pool.lease
   pub size : length slots ≡ pool.count
   pub distinct : AreDistinct slots
 

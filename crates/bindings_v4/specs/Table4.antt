@@ -1,8 +1,9 @@
 -- What a DHCPv4 client is answered, and what the answer changes in its circuit's book: a table, one row
--- a line, over what was looked up. The first row that fits decides.
-use Rattle.std.specs.Prelude.{ℕ, ◌+◌, List, Option, Some, None, Result, Ok, Err, option_map}
-use Rattle.std.specs.FinMap.{get, insert}
-use Rattle.types.specs.Addr.{number4, addr4}
+-- a line, over what was looked up. The first row that fits decides. All times are in seconds.
+use Rattle.std.specs.Prelude.{ℕ, ◌+◌, Bool, true, false, ◌==◌, List, Option, Some, None, Result, Ok, Err, option_map, if◌then◌else◌}
+use Rattle.std.specs.FinMap.{get, insert, remove}
+use Rattle.types.specs.Addr.{number4, addr4, is_unspecified}
+use Rattle.types.specs.declared.addr.Addr4.{Addr4}
 use Rattle.types.specs.declared.discard.Discard.{Discard}
 use Rattle.types.specs.declared.discard.Discard.TheVariants as reason
 use Rattle.types.specs.declared.kind4.Kind4.{Kind4}
@@ -11,18 +12,46 @@ use Rattle.types.specs.Pool4.{PoolValue}
 use Rattle.types.specs.declared.request4.Reply4.{Reply4}
 use Rattle.types.specs.declared.request4.Reply4.TheVariants as reply
 use Rattle.types.specs.declared.request4.Request4.{Request4}
-use Rattle.bindings_v4.specs.Book4.{Book4, address_of, pick}
+use Rattle.bindings_v4.specs.declared.server4.Server4.{Server4}
+use Rattle.bindings_v4.specs.declared.server4.Server4.TheVariants.{Anybody, This, Another}
+use Rattle.bindings_v4.specs.Book4.{Book4, address_of, in_pool, or_else, pick}
 
 -- What a row changes of the client's.
 pub data Change : Type 0 where
   Unchanged : Change
   -- its one offer is this address, until this moment
   Offers : ℕ → ℕ → Change
+  -- its offer, which is this address, is gone
+  Withdraws : ℕ → Change
+  -- this address is bound to it until this moment, and no offer is left
+  Binds : ℕ → ℕ → Change
+  -- its binding, which is this address, is gone, and the address is given to nobody until this moment
+  Bars : ℕ → ℕ → Change
+  -- its binding, which is this address, is gone
+  Frees : ℕ → Change
 
 abbrev pub with_change : List ℕ → Change → Book4 → Book4
 with_change client Unchanged b = b
 with_change client (Offers address until) b =
     record b { offers = insert b.offers client (record { address = address; until = until }) }
+with_change client (Withdraws address) b = record b { offers = remove b.offers client }
+with_change client (Binds address until) b =
+    record b {
+      bindings = insert b.bindings client (record { address = address; until = until });
+      offers = remove b.offers client;
+    }
+with_change client (Bars address until) b =
+    record b { bindings = remove b.bindings client; bars = insert b.bars address until }
+with_change client (Frees address) b = record b { bindings = remove b.bindings client }
+
+-- Offers are in memory only; all else is kept on the disk.
+abbrev pub is_kept : Change → Bool
+is_kept Unchanged = false
+is_kept (Offers address until) = false
+is_kept (Withdraws address) = false
+is_kept (Binds address until) = true
+is_kept (Bars address until) = true
+is_kept (Frees address) = true
 
 pub record Row : Type 0 where
   -- a reply, or why there is none
@@ -35,44 +64,120 @@ replies answer change = record { answer = Ok answer; change = change }
 abbrev pub drops : Discard → Change → Row
 drops why change = record { answer = Err why; change = change }
 
+-- a DHCPACK of this address, which is leased until then
+abbrev pub grants : ℕ → ℕ → Row
+grants address until = replies (reply.Ack (addr4 address)) (Binds address until)
+
+-- the address that a client has, where it is the one that it names
+abbrev pub where_is : Option ℕ → Option ℕ → Option ℕ
+where_is None named = None
+where_is (Some held) None = None
+where_is (Some held) (Some named) = if held == named then Some held else None
+
 -- DHCPDISCOVER (RFC 2131, section 4.3.1), by clock, pick and binding. An offer is held for 60 seconds.
 abbrev pub discover : ℕ → Option ℕ → Option ℕ → Row
 discover t None binding = drops reason.NoAddress Unchanged
 discover t (Some address) (Some bound) = replies (reply.Offer (addr4 address)) Unchanged
 discover t (Some address) None = replies (reply.Offer (addr4 address)) (Offers address (t + 60))
 
+-- DHCPREQUEST to another server, which the client chose (RFC 2131, section 3.1, step 3), by offer
+abbrev pub declined_offer : Option ℕ → Row
+declined_offer None = drops reason.OtherServer Unchanged
+declined_offer (Some address) = drops reason.OtherServer (Withdraws address)
+
+-- DHCPREQUEST to this server, SELECTING (RFC 2131, section 4.3.2), by the lease's end, option 50, and
+-- the binding or offer that option 50 names
+abbrev pub selecting : ℕ → Option ℕ → Option ℕ → Row
+selecting end None held = drops reason.NothingToSay Unchanged
+selecting end (Some wanted) (Some address) = grants address end
+selecting end (Some wanted) None = replies reply.Nak Unchanged
+
+-- a client that names the address that it has, by the lease's end, whether the pool has it, and the
+-- binding
+abbrev pub verifying : ℕ → Bool → Option ℕ → ℕ → Row
+verifying end false binding address = replies reply.Nak Unchanged
+verifying end true (Some bound) address = if bound == address then grants bound end else replies reply.Nak Unchanged
+verifying end true None address = drops reason.NoRecord Unchanged
+
+-- DHCPREQUEST without option 54 (RFC 2131, section 4.3.2), by option 50 and ciaddr. RENEWING and
+-- REBINDING are judged like INIT-REBOOT.
+abbrev pub requesting : PoolValue → ℕ → Option ℕ → Option ℕ → Option ℕ → Row
+requesting pool end binding (Some wanted) (Some ciaddr) = drops reason.NothingToSay Unchanged
+requesting pool end binding None None = drops reason.NothingToSay Unchanged
+-- INIT-REBOOT
+requesting pool end binding (Some wanted) None = verifying end (in_pool pool wanted) binding wanted
+-- RENEWING, REBINDING
+requesting pool end binding None (Some ciaddr) = verifying end (in_pool pool ciaddr) binding ciaddr
+
+-- DHCPDECLINE (RFC 2131, section 4.3.3), by clock and the binding that option 50 names. Nobody is given
+-- the address for 3600 seconds.
+abbrev pub declining : ℕ → Option ℕ → Row
+declining t (Some bound) = drops reason.NothingToSay (Bars bound (t + 3600))
+declining t None = drops reason.NothingToSay Unchanged
+
+-- DHCPRELEASE (RFC 2131, section 4.3.4), by the binding that ciaddr names
+abbrev pub releasing : Option ℕ → Row
+releasing (Some bound) = drops reason.NothingToSay (Frees bound)
+releasing None = drops reason.NothingToSay Unchanged
+
+-- DHCPINFORM (RFC 2131, section 4.3.5), by ciaddr
+abbrev pub informing : Option ℕ → Row
+informing None = drops reason.NothingToSay Unchanged
+informing (Some ciaddr) = replies reply.Inform Unchanged
+
 -- What is looked up of a client: the addresses of its binding and of its offer, and its pick.
 pub record Lookup : Type 0 where
   pub binding : Option ℕ
+  pub offer : Option ℕ
   pub pick : Option ℕ
 
 abbrev pub lookup_in : PoolValue → Book4 → Request4 → Lookup
 lookup_in pool b m =
     record {
       binding = address_of (get b.bindings m.key);
+      offer = address_of (get b.offers m.key);
       pick = pick pool b m.key (option_map number4 m.wanted);
     }
 
--- The rows of each message type. No message type but DHCPDISCOVER has an answer yet.
-abbrev pub row_of : ℕ → Lookup → Kind4 → Row
-row_of t found Discover = discover t found.pick found.binding
-row_of t found Request = drops reason.NothingToSay Unchanged
-row_of t found Decline = drops reason.NothingToSay Unchanged
-row_of t found Release = drops reason.NothingToSay Unchanged
-row_of t found Inform = drops reason.NothingToSay Unchanged
+-- an address that is given, and is not 0.0.0.0
+abbrev pub given : Addr4 → Option ℕ
+given address = if is_unspecified address.0 then None else Some (number4 address)
+
+-- whom a message is for, by option 54. The gateway is this server's identifier (RFC 5107, section 4).
+abbrev pub server_of : PoolValue → Option Addr4 → Server4
+server_of pool None = Anybody
+server_of pool (Some server) = if number4 server == number4 pool.gateway then This else Another
+
+-- The rows of each message type, by type and server.
+abbrev pub row_of : PoolValue → ℕ → Lookup → Request4 → Kind4 → Server4 → Row
+row_of pool t found m Discover server = discover t found.pick found.binding
+row_of pool t found m Request Another = declined_offer found.offer
+row_of pool t found m Request This =
+    let wanted = option_map number4 m.wanted in
+    selecting (t + pool.lease) wanted (or_else (where_is found.binding wanted) (where_is found.offer wanted))
+row_of pool t found m Request Anybody =
+    requesting pool (t + pool.lease) found.binding (option_map number4 m.wanted) (given m.ciaddr)
+row_of pool t found m Decline Another = drops reason.OtherServer Unchanged
+row_of pool t found m Decline server = declining t (where_is found.binding (option_map number4 m.wanted))
+row_of pool t found m Release Another = drops reason.OtherServer Unchanged
+row_of pool t found m Release server = releasing (where_is found.binding (Some (number4 m.ciaddr)))
+row_of pool t found m Inform Another = drops reason.OtherServer Unchanged
+row_of pool t found m Inform server = informing (given m.ciaddr)
 -- only a server sends these
-row_of t found Offer = drops reason.NotServed Unchanged
-row_of t found Ack = drops reason.NotServed Unchanged
-row_of t found Nak = drops reason.NotServed Unchanged
+row_of pool t found m Offer server = drops reason.NotServed Unchanged
+row_of pool t found m Ack server = drops reason.NotServed Unchanged
+row_of pool t found m Nak server = drops reason.NotServed Unchanged
 
 pub record Decision : Type 0 where
   -- a reply, or why there is none
   pub answer : Result Reply4 Discard
   -- the book after it
   pub book : Book4
+  -- whether a slot has to be kept on the disk
+  pub is_kept : Bool
 
 -- The decision on a client's message, by pool, clock and the book at that clock.
 unfoldable pub answer4 : PoolValue → ℕ → Book4 → Request4 → Decision
 answer4 pool t b m =
-    let row = row_of t (lookup_in pool b m) m.kind in
-    record { answer = row.answer; book = with_change m.key row.change b }
+    let row = row_of pool t (lookup_in pool b m) m m.kind (server_of pool m.server) in
+    record { answer = row.answer; book = with_change m.key row.change b; is_kept = is_kept row.change }

@@ -1,15 +1,16 @@
 //! The book of one circuit's DHCPv4 leases.
-ghost use Rattle.std.specs.Prelude.{◌≡◌, ◌+◌, ◌<◌, ◌≤◌, ℕ, option_map, IfSome, replicate};
+ghost use Rattle.std.specs.Prelude.{◌≡◌, ◌+◌, ◌<◌, ◌≤◌, ℕ, is_some, option_map, IfSome, replicate};
 ghost use Rattle.types.specs.Addr.{number4};
 ghost use Rattle.bindings_v4.specs.Book4.{empty_book};
-ghost use Rattle.bindings_v4.specs.Lookup4.{IsAt, lookup_of};
+ghost use Rattle.bindings_v4.specs.Lookup4.{IsAt, IsLookup, lookup_of};
 ghost use Rattle.bindings_v4.specs.Slots4.{AreSlots, book_of, with_decision};
 ghost use Rattle.bindings_v4.specs.Table4.{answer4, lookup_in};
 
+use crate::case4::{Case4, SlotAddress};
 use crate::decision4::Decision4;
 use crate::holder4::Holder4;
-use crate::lookup::{bound_slot, picked_slot};
-use crate::table4::{Lookup4, SlotAddress, decision_for};
+use crate::lookup::{bound_slot, offered_slot, picked_slot};
+use crate::table4::{Lookup4, decision_for};
 use crate::write::{write_kept, write_offer};
 use arrayvec::ArrayVec;
 use std::marker::Model;
@@ -62,10 +63,17 @@ impl Book4 {
     /// What a client's message calls for at this clock. Nothing is changed.
     pub fn decide(&self, request: &Request4, clock: Moment) -> Decision4
         ensures clock { result.clock ≡ clock }
+        ensures keep { is_some result.keep ≡ (answer4 self.now.pool clock (book_of clock self.now) request.now).is_kept }
         ensures answer { result.answer ≡ (answer4 self.now.pool clock (book_of clock self.now) request.now).answer }
         ensures book { book_of clock (with_decision result self.now) ≡ (answer4 self.now.pool clock (book_of clock self.now) request.now).book }
     {
-        decision_for(self.pool(), request, clock, &self.look_up(request, clock))
+        let found = self.look_up(request, clock);
+        let case = Case4 {
+            pool: self.pool(),
+            clock,
+            client: request.key,
+        };
+        decision_for(&case, &found, request)
     }
 
     /// Makes a decision's changes.
@@ -81,13 +89,13 @@ impl Book4 {
     /// What the table looks at of this client.
     fn look_up(&self, request: &Request4, clock: Moment) -> Lookup4
         ensures found { lookup_of result ≡ lookup_in self.now.pool (book_of clock self.now) request.now }
-        ensures binding { IfSome result.binding (λ found. IsAt self.now.pool found) }
-        ensures pick { IfSome result.pick (λ found. IsAt self.now.pool found) }
+        ensures at { IsLookup self.now.pool result }
         ensures slots { AreSlots self.now.pool self.now.slots }
     {
         let (slots, key, seconds) = (self.slots(), &request.key, clock.seconds());
         Lookup4 {
             binding: self.located(bound_slot(slots, key, seconds)),
+            offer: self.located(offered_slot(slots, key, seconds)),
             pick: self.located(picked_slot(self.pool(), slots, key, request.wanted, seconds)),
         }
     }
@@ -110,7 +118,8 @@ impl Book4 {
         self.pool
     }
 
-    fn slots(&self) -> &[Option<Holder4>]
+    /// What each slot of the pool holds; no client has two.
+    pub(crate) fn slots(&self) -> &[Option<Holder4>]
         ensures value { result.now ≡ self.now.slots }
         ensures within { AreSlots self.now.pool self.now.slots }
     {

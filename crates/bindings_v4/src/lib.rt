@@ -3,10 +3,12 @@
 #![tactic(auto)]
 
 mod book4;
+mod case4;
 mod decision4;
 mod holder4;
 mod laws;
 mod lookup;
+mod server4;
 mod table4;
 #[cfg(test)]
 mod tests;
@@ -14,4 +16,7 @@ mod write;
 
 pub use book4::Book4;
 pub use decision4::{Decision4, KeptSlot, OfferChange};
-pub use laws::expires_by_the_clock;
+pub use laws::{
+    changes_offers_alone, expires_by_the_clock, grants_its_own, is_a_book, keeps_others,
+    leaves_a_book, renews_in_time,
+};

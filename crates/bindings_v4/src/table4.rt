@@ -1,97 +1,184 @@
 //! What a client's message calls for: a table, one row a line (RFC 2131, section 4.3).
-ghost use Rattle.std.specs.Prelude.{◌≡◌, ◌+◌, option_map, IfSome};
+ghost use Rattle.std.specs.Prelude.{◌≡◌, ◌+◌, Some, IfSome, option_map};
 ghost use Rattle.types.specs.Addr.{number4};
-ghost use Rattle.types.specs.declared.request4.Reply4.TheVariants.{Offer};
-ghost use Rattle.bindings_v4.specs.declared.decision4.OfferChange.TheVariants.{Made};
-ghost use Rattle.bindings_v4.specs.Lookup4.{IsAt, decision_of, lookup_of};
-ghost use Rattle.bindings_v4.specs.Table4.{discover, row_of};
+ghost use Rattle.bindings_v4.specs.Book4.{in_pool, or_else};
+ghost use Rattle.bindings_v4.specs.Lookup4.{IsAt, IsLookup, decision_in, lookup_of, number_of};
+ghost use Rattle.bindings_v4.specs.Table4.{discover, declined_offer, selecting, verifying, requesting, declining, releasing, informing, where_is, given, server_of, row_of};
 
-use crate::decision4::{Decision4, OfferChange};
-use types::{Addr4, Discard, Key4, Kind4, Moment, Pool4, Reply4, Request4};
+use crate::case4::{Case4, SlotAddress};
+use crate::decision4::Decision4;
+use crate::server4::{Server4, server_of};
+use types::{Addr4, Discard, Kind4, Reply4, Request4};
 
-/// How long an offer holds its address, in seconds.
-const OFFER_TIME: u64 = 60;
-
-/// A slot of the pool and its address.
-#[derive(Clone, Copy)]
-pub struct SlotAddress {
-    pub slot: usize,
-    pub address: Addr4,
-}
-
-/// What the table looks at of a client: its live binding and its pick.
+/// What the table looks at of a client: its live binding, its live offer, and its pick.
 #[derive(Clone, Copy)]
 pub struct Lookup4 {
     pub binding: Option<SlotAddress>,
+    pub offer: Option<SlotAddress>,
     pub pick: Option<SlotAddress>,
 }
 
-/// A message that is not answered and changes nothing.
-fn drops(clock: Moment, why: Discard) -> Decision4
-    ensures { result ≡ record { clock = clock; answer = Err why; offer = None; keep = None } }
+/// The address, where it is not 0.0.0.0.
+fn given(address: Addr4) -> Option<Addr4>
+    ensures { option_map number4 result ≡ given address }
 {
-    Decision4 {
-        clock,
-        answer: Err(why),
-        offer: None,
-        keep: None,
+    if address.is_unspecified() {
+        None
+    } else {
+        Some(address)
     }
 }
 
-/// A reply that changes nothing.
-fn replies(clock: Moment, reply: Reply4) -> Decision4
-    ensures { result ≡ record { clock = clock; answer = Ok reply; offer = None; keep = None } }
+/// The address that a client has, where it is the one that it names.
+fn where_is(case: &Case4, held: Option<SlotAddress>, named: Option<Addr4>) -> Option<SlotAddress>
+    requires { IfSome held (λ found. IsAt case.now.pool found) }
+    ensures address { number_of result ≡ where_is (number_of held) (option_map number4 named) }
+    ensures at { IfSome result (λ found. IsAt case.now.pool found) }
 {
-    Decision4 {
-        clock,
-        answer: Ok(reply),
-        offer: None,
-        keep: None,
+    match (held, named) {
+        (Some(held), Some(named)) => {
+            if held.address.number() == named.number() {
+                Some(held)
+            } else {
+                None
+            }
+        }
+        _ => None,
     }
 }
 
-/// An offer that is held for a minute.
-fn offers(clock: Moment, found: SlotAddress, client: Key4) -> Decision4
-    ensures { result ≡ record { clock = clock; answer = Ok (Offer found.address); offer = Some (Made found.slot client (clock + OFFER_TIME)); keep = None } }
-{
-    let until = clock.seconds() + OFFER_TIME;
-    Decision4 {
-        clock,
-        answer: Ok(Reply4::Offer(found.address)),
-        offer: Some(OfferChange::Made(found.slot, client, until)),
-        keep: None,
-    }
-}
-
-/// What a DHCPDISCOVER calls for (RFC 2131, section 4.3.1).
+/// DHCPDISCOVER (RFC 2131, section 4.3.1).
 #[rattlefmt::skip]
-fn discover(pool: Pool4, client: Key4, clock: Moment, found: &Lookup4) -> Decision4
-    requires { IfSome found.now.pick (λ found. IsAt pool found) }
-    ensures { result ≡ decision_of (number4 pool.first) clock client (discover clock (lookup_of found.now).pick (lookup_of found.now).binding) }
+fn discover(case: &Case4, found: &Lookup4) -> Decision4
+    requires { IsLookup case.now.pool found.now }
+    ensures { result ≡ decision_in case.now (discover case.now.clock (lookup_of found.now).pick (lookup_of found.now).binding) }
 {
     //     pick        binding
     match (found.pick, found.binding) {
-          (None,       _)       => drops(clock, Discard::NoAddress),
-          (Some(pick), Some(_)) => replies(clock, Reply4::Offer(pick.address)),
-          (Some(pick), None)    => offers(clock, pick, client),
+          (None,       _)       => case.drops(Discard::NoAddress),
+          (Some(pick), Some(_)) => case.shows(pick),
+          (Some(pick), None)    => case.offers(pick),
     }
 }
 
-/// What a message calls for, by its type. No type but DHCPDISCOVER has an answer yet.
-#[rattlefmt::skip]
-pub fn decision_for(pool: Pool4, request: &Request4, clock: Moment, found: &Lookup4) -> Decision4
-    requires { IfSome found.now.pick (λ found. IsAt pool found) }
-    ensures { result ≡ decision_of (number4 pool.first) clock request.now.key (row_of clock (lookup_of found.now) request.now.kind) }
+/// DHCPREQUEST to another server, which the client chose (RFC 2131, section 3.1, step 3).
+fn declined_offer(case: &Case4, found: &Lookup4) -> Decision4
+    requires { IsLookup case.now.pool found.now }
+    ensures { result ≡ decision_in case.now (declined_offer (lookup_of found.now).offer) }
 {
-    match request.kind {
-        Kind4::Discover => discover(pool, request.key, clock, found),
-        Kind4::Request  => drops(clock, Discard::NothingToSay),
-        Kind4::Decline  => drops(clock, Discard::NothingToSay),
-        Kind4::Release  => drops(clock, Discard::NothingToSay),
-        Kind4::Inform   => drops(clock, Discard::NothingToSay),
-        // only a server sends these
-        Kind4::Offer    => drops(clock, Discard::NotServed),
-        Kind4::Ack      => drops(clock, Discard::NotServed),
-        Kind4::Nak      => drops(clock, Discard::NotServed),
+    match found.offer {
+        None => case.drops(Discard::OtherServer),
+        Some(offered) => case.withdraws(offered),
+    }
+}
+
+/// DHCPREQUEST to this server: SELECTING (RFC 2131, section 4.3.2). What the client has is its binding
+/// or offer, where option 50 names it.
+#[rattlefmt::skip]
+fn selecting(case: &Case4, wanted: Option<Addr4>, held: Option<SlotAddress>) -> Decision4
+    requires { IfSome held (λ found. IsAt case.now.pool found) }
+    ensures { result ≡ decision_in case.now (selecting (case.now.clock + case.now.pool.lease) (option_map number4 wanted) (number_of held)) }
+{
+    //     option 50 what the client has
+    match (wanted,   held) {
+          (None,     _)          => case.drops(Discard::NothingToSay),
+          (Some(_),  Some(held)) => case.grants(held),
+          (Some(_),  None)       => case.replies(Reply4::Nak),
+    }
+}
+
+/// A client that names the address that it has.
+#[rattlefmt::skip]
+fn verifying(case: &Case4, found: &Lookup4, address: Addr4) -> Decision4
+    requires { IsLookup case.now.pool found.now }
+    ensures { result ≡ decision_in case.now (verifying (case.now.clock + case.now.pool.lease) (in_pool case.now.pool (number4 address))
+        (lookup_of found.now).binding (number4 address)) }
+{
+    let bound = where_is(case, found.binding, Some(address));
+    //     in the pool                         binding        the binding, where it is this address
+    match (case.pool.slot(address).is_some(), found.binding, bound) {
+          (false,                             _,             _)           => case.replies(Reply4::Nak),
+          (true,                              Some(_),       Some(bound)) => case.grants(bound),
+          (true,                              Some(_),       None)        => case.replies(Reply4::Nak),
+          (true,                              None,          _)           => case.drops(Discard::NoRecord),
+    }
+}
+
+/// DHCPREQUEST without option 54 (RFC 2131, section 4.3.2).
+#[rattlefmt::skip]
+fn requesting(case: &Case4, found: &Lookup4, request: &Request4) -> Decision4
+    requires { IsLookup case.now.pool found.now }
+    ensures { result ≡ decision_in case.now (requesting case.now.pool (case.now.clock + case.now.pool.lease) (lookup_of found.now).binding
+        (option_map number4 request.now.wanted) (given request.now.ciaddr)) }
+{
+    //     option 50       ciaddr
+    match (request.wanted, given(request.ciaddr)) {
+          (Some(_),        Some(_))       => case.drops(Discard::NothingToSay),
+          (None,           None)          => case.drops(Discard::NothingToSay),
+          // INIT-REBOOT
+          (Some(address),  None)          => verifying(case, found, address),
+          // RENEWING, REBINDING
+          (None,           Some(address)) => verifying(case, found, address),
+    }
+}
+
+/// DHCPDECLINE (RFC 2131, section 4.3.3), by the binding that option 50 names.
+fn declining(case: &Case4, bound: Option<SlotAddress>) -> Decision4
+    requires { IfSome bound (λ found. IsAt case.now.pool found) }
+    ensures { result ≡ decision_in case.now (declining case.now.clock (number_of bound)) }
+{
+    match bound {
+        Some(bound) => case.bars(bound),
+        None => case.drops(Discard::NothingToSay),
+    }
+}
+
+/// DHCPRELEASE (RFC 2131, section 4.3.4), by the binding that ciaddr names.
+fn releasing(case: &Case4, bound: Option<SlotAddress>) -> Decision4
+    requires { IfSome bound (λ found. IsAt case.now.pool found) }
+    ensures { result ≡ decision_in case.now (releasing (number_of bound)) }
+{
+    match bound {
+        Some(bound) => case.frees(bound),
+        None => case.drops(Discard::NothingToSay),
+    }
+}
+
+/// DHCPINFORM (RFC 2131, section 4.3.5).
+fn informing(case: &Case4, ciaddr: Addr4) -> Decision4
+    ensures { result ≡ decision_in case.now (informing (given ciaddr)) }
+{
+    match given(ciaddr) {
+        None => case.drops(Discard::NothingToSay),
+        Some(_) => case.replies(Reply4::Inform),
+    }
+}
+
+/// What a message calls for, by its type and by whom it is for.
+#[rattlefmt::skip]
+pub fn decision_for(case: &Case4, found: &Lookup4, request: &Request4) -> Decision4
+    requires { IsLookup case.now.pool found.now }
+    ensures { result ≡ decision_in case.now (row_of case.now.pool case.now.clock (lookup_of found.now) request.now request.now.kind
+        (server_of case.now.pool request.now.server)) }
+{
+    let bound_wanted = where_is(case, found.binding, request.wanted);
+    let bound_ciaddr = where_is(case, found.binding, Some(request.ciaddr));
+    let held = bound_wanted.or(where_is(case, found.offer, request.wanted));
+    //     type             option 54
+    match (request.kind,    server_of(case.pool, request.server)) {
+          (Kind4::Discover, _)                => discover(case, found),
+          (Kind4::Request,  Server4::Another) => declined_offer(case, found),
+          (Kind4::Request,  Server4::This)    => selecting(case, request.wanted, held),
+          (Kind4::Request,  Server4::Anybody) => requesting(case, found, request),
+          (Kind4::Decline,  Server4::Another) => case.drops(Discard::OtherServer),
+          (Kind4::Decline,  _)                => declining(case, bound_wanted),
+          (Kind4::Release,  Server4::Another) => case.drops(Discard::OtherServer),
+          (Kind4::Release,  _)                => releasing(case, bound_ciaddr),
+          (Kind4::Inform,   Server4::Another) => case.drops(Discard::OtherServer),
+          (Kind4::Inform,   _)                => informing(case, request.ciaddr),
+          // only a server sends these
+          (Kind4::Offer,    _)                => case.drops(Discard::NotServed),
+          (Kind4::Ack,      _)                => case.drops(Discard::NotServed),
+          (Kind4::Nak,      _)                => case.drops(Discard::NotServed),
     }
 }

@@ -1,21 +1,51 @@
 use super::*;
 use std::process::Abort;
-use types::{Addr4, Discard, Key4, Kind4, Moment, Pool4, Reply4, Request4};
+use types::{Addr4, Discard, Key4, Kind4, Moment, Pool4, Reply4, Request4, Slot4};
 
-/// Address n of the network that the tests use.
+const GATEWAY: Option<u8> = Some(1);
+
+const OTHER: Option<u8> = Some(2);
+
+/// Address n of the network that the tests use; 0 is 0.0.0.0.
 fn address(n: u8) -> Addr4 {
-    Addr4([10, 0, 0, n])
+    if n == 0 {
+        Addr4::UNSPECIFIED
+    } else {
+        Addr4([10, 0, 0, n])
+    }
 }
 
-/// Client n's message.
-fn message(n: u8, kind: Kind4) -> Request4 {
+fn ack(n: u8) -> Result<Reply4, Discard> {
+    Ok(Reply4::Ack(address(n)))
+}
+
+fn offer(n: u8) -> Result<Reply4, Discard> {
+    Ok(Reply4::Offer(address(n)))
+}
+
+const NAK: Result<Reply4, Discard> = Ok(Reply4::Nak);
+
+const NOTHING: Result<Reply4, Discard> = Err(Discard::NothingToSay);
+
+const NO_ADDRESS: Result<Reply4, Discard> = Err(Discard::NoAddress);
+
+const NO_RECORD: Result<Reply4, Discard> = Err(Discard::NoRecord);
+
+const NOT_OURS: Result<Reply4, Discard> = Err(Discard::OtherServer);
+
+/// Client n's message: options 54 and 50, and ciaddr.
+fn message(n: u8, kind: Kind4, server: Option<u8>, wanted: Option<u8>, ciaddr: u8) -> Request4 {
     Request4 {
         kind,
         key: Key4::new(&[1, 2, 0, 0, 0, 0, n]).unwrap(),
-        server: None,
-        wanted: None,
-        ciaddr: Addr4::UNSPECIFIED,
+        server: server.map(address),
+        wanted: wanted.map(address),
+        ciaddr: address(ciaddr),
     }
+}
+
+fn discover(n: u8) -> Request4 {
+    message(n, Kind4::Discover, None, None, 0)
 }
 
 /// A book without leases, of `count` addresses from 10.0.0.10 on.
@@ -23,7 +53,7 @@ fn book(rt: &impl Abort, count: u8) -> Book4 {
     Book4::new(Pool4::new(address(10), count, address(1), 600).expect(rt, "a pool"))
 }
 
-/// What the book answers this message; the answer is committed.
+/// What the book answers this message; the decision is committed.
 fn answer(
     rt: &impl Abort,
     book: &mut Book4,
@@ -41,68 +71,157 @@ fn discovers(rt: HostRuntime) {
     let rows = [
         // clock, client, option 50, answer
         // the lowest address, and the same again
-        (100, 1, None,     Ok(Reply4::Offer(address(10)))),
-        (101, 1, None,     Ok(Reply4::Offer(address(10)))),
+        (100, 1, None,     offer(10)),
+        (101, 1, None,     offer(10)),
         // an address that another client has, one outside the pool, a free one
-        (102, 2, Some(10), Ok(Reply4::Offer(address(11)))),
-        (103, 3, Some(9),  Ok(Reply4::Offer(address(12)))),
-        (103, 3, Some(13), Ok(Reply4::Offer(address(12)))),
+        (102, 2, Some(10), offer(11)),
+        (103, 3, Some(9),  offer(12)),
+        (103, 3, Some(13), offer(12)),
         // none is left until the first offer has expired, a minute after it was made again
-        (160, 4, None,     Err(Discard::NoAddress)),
-        (161, 4, None,     Ok(Reply4::Offer(address(10)))),
+        (160, 4, None,     NO_ADDRESS),
+        (161, 4, None,     offer(10)),
         // the first client's offer is gone; the addresses of clients 2 and 3 are free one after the other
-        (161, 1, Some(11), Err(Discard::NoAddress)),
-        (162, 1, Some(12), Ok(Reply4::Offer(address(11)))),
-        (163, 2, None,     Ok(Reply4::Offer(address(12)))),
+        (161, 1, Some(11), NO_ADDRESS),
+        (162, 1, Some(12), offer(11)),
+        (163, 2, None,     offer(12)),
     ];
     let mut book = book(&rt, 3);
     for (clock, client, wanted, expected) in rows {
-        let mut request = message(client, Kind4::Discover);
-        request.wanted = wanted.map(address);
+        let request = message(client, Kind4::Discover, None, wanted, 0);
         assert_eq!(rt; answer(&rt, &mut book, &request, clock), expected, "at {clock}");
     }
 }
 
 #[test]
 #[rattlefmt::skip]
-fn other_types(rt: HostRuntime) {
+fn requests(rt: HostRuntime) {
     let rows = [
-        (Kind4::Request, Discard::NothingToSay),
-        (Kind4::Decline, Discard::NothingToSay),
-        (Kind4::Release, Discard::NothingToSay),
-        (Kind4::Inform,  Discard::NothingToSay),
-        (Kind4::Offer,   Discard::NotServed),
-        (Kind4::Ack,     Discard::NotServed),
-        (Kind4::Nak,     Discard::NotServed),
+        // clock, client, type, option 54, option 50, ciaddr, answer
+        (100, 1, Kind4::Discover, None,    None,      0, offer(10)),
+        (100, 2, Kind4::Discover, None,    None,      0, offer(11)),
+        // SELECTING
+        (101, 1, Kind4::Request,  GATEWAY, None,     10, NOTHING),
+        (101, 1, Kind4::Request,  GATEWAY, Some(11),  0, NAK),
+        (101, 1, Kind4::Request,  GATEWAY, Some(10),  0, ack(10)),
+        (102, 1, Kind4::Request,  GATEWAY, Some(10),  0, ack(10)),
+        (102, 1, Kind4::Discover, None,    Some(11),  0, offer(10)),
+        // to another server: the offer is gone, the binding is not
+        (102, 1, Kind4::Request,  OTHER,   Some(10),  0, NOT_OURS),
+        (102, 2, Kind4::Request,  OTHER,   Some(11),  0, NOT_OURS),
+        (102, 2, Kind4::Request,  GATEWAY, Some(11),  0, NAK),
+        (102, 3, Kind4::Discover, OTHER,   None,      0, offer(11)),
+        (102, 1, Kind4::Decline,  OTHER,   Some(10),  0, NOT_OURS),
+        (102, 1, Kind4::Release,  OTHER,   None,     10, NOT_OURS),
+        (102, 1, Kind4::Inform,   OTHER,   None,     10, NOT_OURS),
+        // both addresses, or neither
+        (103, 1, Kind4::Request,  None,    Some(10), 10, NOTHING),
+        (103, 1, Kind4::Request,  None,    None,      0, NOTHING),
+        // INIT-REBOOT
+        (103, 1, Kind4::Request,  None,    Some(9),   0, NAK),
+        (103, 1, Kind4::Request,  None,    Some(12),  0, NAK),
+        (103, 1, Kind4::Request,  None,    Some(11),  0, NAK),
+        (103, 3, Kind4::Request,  None,    Some(11),  0, NO_RECORD),
+        (103, 1, Kind4::Request,  None,    Some(10),  0, ack(10)),
+        // RENEWING, REBINDING
+        (104, 1, Kind4::Request,  None,    None,      9, NAK),
+        (104, 1, Kind4::Request,  None,    None,     11, NAK),
+        (104, 2, Kind4::Request,  None,    None,     10, NO_RECORD),
+        (104, 1, Kind4::Request,  None,    None,     10, ack(10)),
+        // ten minutes
+        (703, 1, Kind4::Request,  None,    None,     10, ack(10)),
+        (1303, 1, Kind4::Request, None,    None,     10, NO_RECORD),
     ];
-    let book = book(&rt, 1);
-    for (kind, why) in rows {
-        let decision = book.decide(&message(1, kind), Moment::new(100).unwrap());
-        assert_eq!(rt; decision.answer, Err(why), "{kind:?}");
-        assert_eq!(rt; decision.offer, None);
-        assert_eq!(rt; decision.keep, None);
+    let mut book = book(&rt, 2);
+    for (clock, client, kind, server, wanted, ciaddr, expected) in rows {
+        let request = message(client, kind, server, wanted, ciaddr);
+        assert_eq!(rt; answer(&rt, &mut book, &request, clock), expected, "at {clock}");
     }
 }
 
 #[test]
-fn a_decision_changes_nothing_before_it_is_committed(rt: HostRuntime) {
+#[rattlefmt::skip]
+fn ends(rt: HostRuntime) {
+    let rows = [
+        // client 1's second message, and when its only address is given to client 2
+        (message(1, Kind4::Request, GATEWAY, Some(10), 0), 701),
+        (message(1, Kind4::Request, OTHER,   Some(10), 0), 701),
+        (message(1, Kind4::Decline, GATEWAY, Some(10), 0), 3702),
+        (message(1, Kind4::Decline, None,    Some(10), 0), 3702),
+        (message(1, Kind4::Decline, GATEWAY, Some(11), 0), 701),
+        (message(1, Kind4::Decline, GATEWAY, None,    10), 701),
+        (message(1, Kind4::Release, GATEWAY, None,    10), 102),
+        (message(1, Kind4::Release, None,    Some(9), 10), 102),
+        (message(1, Kind4::Release, GATEWAY, Some(10), 0), 701),
+        (message(1, Kind4::Release, GATEWAY, None,    11), 701),
+        (message(2, Kind4::Release, GATEWAY, None,    10), 701),
+        (message(2, Kind4::Decline, GATEWAY, Some(10), 0), 701),
+        (message(1, Kind4::Inform,  GATEWAY, None,    10), 701),
+    ];
+    for (request, free) in rows {
+        let mut book = book(&rt, 1);
+        assert_eq!(rt; answer(&rt, &mut book, &discover(1), 100), offer(10));
+        let selecting = message(1, Kind4::Request, GATEWAY, Some(10), 0);
+        assert_eq!(rt; answer(&rt, &mut book, &selecting, 101), ack(10));
+        let mut clock = 101;
+        if request != selecting {
+            clock = 102;
+            let _ = answer(&rt, &mut book, &request, clock);
+        }
+        if free > clock {
+            assert_eq!(rt; answer(&rt, &mut book, &discover(2), free - 1), NO_ADDRESS, "{request:?}");
+        }
+        assert_eq!(rt; answer(&rt, &mut book, &discover(2), free), offer(10), "{request:?}");
+    }
+}
+
+#[test]
+fn informs(rt: HostRuntime) {
+    let book = book(&rt, 1);
+    let clock = Moment::new(100).unwrap();
+    let unbound = book.decide(&message(1, Kind4::Inform, None, None, 0), clock);
+    assert_eq!(rt; unbound.answer, NOTHING);
+    // also an address that the pool doesn't have
+    let static_address = book.decide(&message(1, Kind4::Inform, None, None, 99), clock);
+    assert_eq!(rt; static_address.answer, Ok(Reply4::Inform));
+}
+
+#[test]
+fn servers_types(rt: HostRuntime) {
+    let book = book(&rt, 1);
+    for kind in [Kind4::Offer, Kind4::Ack, Kind4::Nak] {
+        let request = message(1, kind, None, None, 0);
+        let decision = book.decide(&request, Moment::new(100).unwrap());
+        assert_eq!(rt; decision.answer, Err(Discard::NotServed), "{kind:?}");
+    }
+}
+
+#[test]
+#[rattlefmt::skip]
+fn decisions(rt: HostRuntime) {
+    let key = discover(1).key;
+    let kept = |content| Some(KeptSlot { slot: 0, content });
+    let rows = [
+        // message, its changes
+        (discover(1),                                      Some(OfferChange::Made(0, key, 160)), None),
+        (message(1, Kind4::Request, OTHER,   None,     0), Some(OfferChange::Withdrawn(0)),      None),
+        (discover(1),                                      Some(OfferChange::Made(0, key, 160)), None),
+        (message(1, Kind4::Request, GATEWAY, Some(11), 0), None,                                 None),
+        (message(1, Kind4::Request, GATEWAY, Some(10), 0), None,                                 kept(Slot4::Bound(key, 700))),
+        (discover(1),                                      None,                                 None),
+        (message(1, Kind4::Release, GATEWAY, None,    10), None,                                 kept(Slot4::Free)),
+        (discover(1),                                      Some(OfferChange::Made(0, key, 160)), None),
+        (message(1, Kind4::Request, GATEWAY, Some(10), 0), None,                                 kept(Slot4::Bound(key, 700))),
+        (message(1, Kind4::Decline, GATEWAY, Some(10), 0), None,                                 kept(Slot4::Barred(3700))),
+    ];
     let mut book = book(&rt, 1);
     let clock = Moment::new(100).unwrap();
-    let first = book.decide(&message(1, Kind4::Discover), clock);
-    assert_eq!(rt;
-        first.offer,
-        Some(OfferChange::Made(0, message(1, Kind4::Discover).key, 160))
-    );
-    assert_eq!(rt; first.clock, clock);
-    let offer = Ok(Reply4::Offer(address(10)));
-    assert_eq!(rt;
-        book.decide(&message(2, Kind4::Discover), clock).answer,
-        offer
-    );
-    book.commit(&first);
-    let refusal = Err(Discard::NoAddress);
-    assert_eq!(rt;
-        book.decide(&message(2, Kind4::Discover), clock).answer,
-        refusal
-    );
+    for (request, offer, keep) in rows {
+        let decision = book.decide(&request, clock);
+        assert_eq!(rt; decision.clock, clock);
+        assert_eq!(rt; decision.offer, offer, "{request:?}");
+        assert_eq!(rt; decision.keep, keep, "{request:?}");
+        // nothing is changed before it is committed
+        assert_eq!(rt; book.decide(&request, clock), decision, "{request:?}");
+        book.commit(&decision);
+    }
 }

@@ -13,10 +13,11 @@ use Rattle.types.specs.declared.kind4.Kind4.TheVariants.{Discover}
 use Rattle.types.specs.declared.request4.Request4.{Request4}
 use Rattle.types.specs.declared.request4.Reply4.TheVariants as reply
 use Rattle.v4_options.specs.Reading.{listed_from, fault_from}
+use Rattle.v4_options.specs.Subreading.{sublisted_from, subfault_from}
 use Rattle.v4_message.specs.Reading.{message_of}
 use Rattle.v4_message.specs.Spelling.{MessageValue}
 use Rattle.bindings_v4.specs.Book4.{Book4, Lease, Clients, in_pool, lowest_free, or_else, address_of, is_live}
-use Rattle.bindings_v4.specs.Table4.{Decision, answer4, discover as row, with_change}
+use Rattle.bindings_v4.specs.Table4.{Decision, answer4, discover as row, with_change, is_kept}
 use Rattle.config.specs.CircuitPart.{pool4_of}
 use Rattle.dispatch.specs.Request.{request_in}
 use Rattle.dispatch.specs.Server.{Book, Served, book_at, served, drop, decision_served, message_served, request_served}
@@ -42,7 +43,7 @@ abbrev asks : List ℕ → Request4
 asks k = record { kind = Discover; key = k; server = None; wanted = None; ciaddr = ipv4 0 0 0 0 }
 
 abbrev decided : ℕ → List ℕ → Book4 → Option ℕ → Option ℕ → Decision
-decided clock k b pick binding = record { answer = (row clock pick binding).answer; book = with_change k (row clock pick binding).change b }
+decided clock k b pick binding = record { answer = (row clock pick binding).answer; book = with_change k (row clock pick binding).change b; is_kept = is_kept (row clock pick binding).change }
 
 abbrev offers_in : Clients → Book4
 offers_in offers = (offers_at 0 offers).four
@@ -51,7 +52,7 @@ offers_in offers = (offers_at 0 offers).four
 fresh : (pool : PoolValue) (clock : ℕ) (k : List ℕ) (a : ℕ)
     → find (λ x. in_pool pool x && true) (range_with_len (number4 pool.first) pool.count) ≡ Some a
     → answer4 pool clock (offers_in no_offers) (asks k)
-    ≡ record { answer = Ok (reply.Offer (addr4 a)); book = offers_in (one_offer k (record { address = a; until = clock + 60 })) }
+    ≡ record { answer = Ok (reply.Offer (addr4 a)); book = offers_in (one_offer k (record { address = a; until = clock + 60 })); is_kept = false }
 unfolding answer4
 fresh pool clock k a lowest =
     let b = offers_in no_offers in
@@ -62,7 +63,7 @@ fresh pool clock k a lowest =
 -- another client has the pool's only address
 taken : (pool : PoolValue) (clock : ℕ) (k other : List ℕ) (lease : Lease) → same_client k other ≡ false
     → find (λ x. in_pool pool x && not (lease.address == x || false || false)) (range_with_len (number4 pool.first) pool.count) ≡ None
-    → answer4 pool clock (offers_in (one_offer other lease)) (asks k) ≡ record { answer = Err reason.NoAddress; book = offers_in (one_offer other lease) }
+    → answer4 pool clock (offers_in (one_offer other lease)) (asks k) ≡ record { answer = Err reason.NoAddress; book = offers_in (one_offer other lease); is_kept = false }
 unfolding answer4
 taken pool clock k other lease another none =
     let b = offers_in (one_offer other lease) in
@@ -175,7 +176,7 @@ unfolding alone_step relayed_up4 listed_from fault_from
 sent_a = refl
 
 pub offer_a : (frames setup_a (Frame V4 (discover 1 []) ∷ Up 0 100 0 ∷ Down 0 ∷ []) start ≡ offer 0 ∷ [])
-unfolding alone_step relayed_down4 reply_of reply4_bytes listed_from fault_from
+unfolding alone_step relayed_down4 reply_of reply4_bytes listed_from fault_from sublisted_from subfault_from
 offer_a =
     three setup_a (discover 1 []) (discover_up 1 []) (offer 0) (with_up (discover_up 1 []) 0 empty) _ sent_a
     (decided_by setup_a 100 (discover_up 1 []) 0 no_offers _ (client 1) _ refl refl (none_at 100 0) (fresh (pool4_of part_a) 100 (client 1) 167772170 refl)) refl refl
@@ -188,7 +189,7 @@ unfolding alone_step relayed_up4 listed_from fault_from
 sent_a1 = refl
 
 pub offer_a1 : (frames setup_a1 (Frame V4 (discover 1 []) ∷ Up 0 100 0 ∷ Down 0 ∷ []) start ≡ offer 1 ∷ [])
-unfolding alone_step relayed_down4 reply_of reply4_bytes listed_from fault_from
+unfolding alone_step relayed_down4 reply_of reply4_bytes listed_from fault_from sublisted_from subfault_from
 offer_a1 =
     three setup_a1 (discover 1 []) up_a1 (offer 1) (with_up up_a1 0 empty) _ sent_a1
     (decided_by setup_a1 100 up_a1 0 no_offers _ (client 1) _ refl refl (none_at 100 0) (fresh (pool4_of part_a1) 100 (client 1) 167772426 refl)) refl refl
