@@ -23,7 +23,7 @@ use Rattle.bindings_v4.specs.declared.server4.Server4.{Server4}
 use Rattle.bindings_v4.specs.declared.server4.Server4.TheVariants.{Anybody, This, Another}
 use Rattle.bindings_v4.specs.Book4.{Lease, Clients, Book4, names, in_pool, is_free, lowest_free, address_of, where_free, or_else, pick}
 use Rattle.bindings_v4.specs.IsBook4.{Entry, TheBinding, TheOffer, TheBar, Names, IsBook4, LeavesABook, KeepsOthers, ChangesOffersAlone, GrantsItsOwn, RenewsInTime}
-use Rattle.bindings_v4.specs.Table4.{Change, Unchanged, Offers, Withdraws, Binds, Bars, Frees, with_change, is_kept, Row, replies, drops, grants, discover, declined_offer, selecting, verifying, requesting, declining, releasing, informing, where_is, given, server_of, Lookup, lookup_in, row_of, answer4}
+use Rattle.bindings_v4.specs.Table4.{Change, Unchanged, Offers, Withdraws, Binds, Bars, Frees, with_change, is_kept, Row, replies, drops, grants, discover_row, other_server_row, selecting_row, known_address_row, no_server_row, decline_row, release_row, inform_row, where_is, where_specified, server_of, Lookup, lookup_in, row_of, answer4}
 use Rattle.bindings_v4.proofs.ShownLemmas.{not_true, at, same_is, itself}
 
 -- ---- maps with one client changed
@@ -71,15 +71,15 @@ only_offers pool t m b e = offers_alone m.key (row_of pool t (lookup_in pool b m
 
 -- ---- renewing
 
-renewed_row : (pool : PoolValue) (t : ℕ) (found : Lookup) (m : Request4) (address : ℕ) → m.kind ≡ Request → server_of pool m.server ≡ Anybody → m.wanted ≡ None → given m.ciaddr ≡ Some address
+renewed_row : (pool : PoolValue) (t : ℕ) (found : Lookup) (m : Request4) (address : ℕ) → m.kind ≡ Request → server_of pool m.server ≡ Anybody → m.wanted ≡ None → where_specified m.ciaddr ≡ Some address
     → in_pool pool address ≡ true → found.binding ≡ Some address → row_of pool t found m m.kind (server_of pool m.server) ≡ grants address (t + pool.lease)
 renewed_row pool t found m address kind server wanted ciaddr inside bound =
     ap (λ k. row_of pool t found m k (server_of pool m.server)) kind
     ∙ ap (row_of pool t found m Request) server
-    ∙ ap (λ w. requesting pool (t + pool.lease) found.binding (option_map number4 w) (given m.ciaddr)) wanted
-    ∙ ap (requesting pool (t + pool.lease) found.binding None) ciaddr
-    ∙ ap (λ i. verifying (t + pool.lease) i found.binding address) inside
-    ∙ ap (λ o. verifying (t + pool.lease) true o address) bound
+    ∙ ap (λ w. no_server_row pool (t + pool.lease) found.binding (option_map number4 w) (where_specified m.ciaddr)) wanted
+    ∙ ap (no_server_row pool (t + pool.lease) found.binding None) ciaddr
+    ∙ ap (λ i. known_address_row (t + pool.lease) i found.binding address) inside
+    ∙ ap (λ o. known_address_row (t + pool.lease) true o address) bound
     ∙ ap (λ r. cond r (grants address (t + pool.lease)) (replies reply.Nak Unchanged)) (eq-eqb address address refl)
 
 bound_after : (k : List ℕ) (a u : ℕ) (b : Book4) → get (with_change k (Binds a u) b).bindings k ≡ Some (at a u)
@@ -412,17 +412,17 @@ module _ (pool : PoolValue) (limits : IsPool4 pool.first pool.count pool.lease) 
   granted : (n : ℕ) → IsOwn k b n → RowFits (grants n end)
   granted n own = ((own, omega (arith, limits.shortest)), λ x e. (n, refl, own))
 
-  discovered : (wanted picked held : Option ℕ) → pick pool b k wanted ≡ picked → bound ≡ held → RowFits (discover t picked held)
+  discovered : (wanted picked held : Option ℕ) → pick pool b k wanted ≡ picked → bound ≡ held → RowFits (discover_row t picked held)
   discovered wanted None held is_picked is_bound = dropped reason.NoAddress Unchanged tt
   discovered wanted (Some a) (Some n) is_picked is_bound = (tt, λ x e. absurd cc)
   discovered wanted (Some a) None is_picked is_bound =
       ((no_address (get b.bindings k) is_bound, pick_own wanted a is_bound is_picked, omega arith), λ x e. absurd cc)
 
-  withdrawn : (held : Option ℕ) → offered ≡ held → RowFits (declined_offer held)
+  withdrawn : (held : Option ℕ) → offered ≡ held → RowFits (other_server_row held)
   withdrawn None is = dropped reason.OtherServer Unchanged tt
   withdrawn (Some a) is = dropped reason.OtherServer (Withdraws a) is
 
-  selected : (wanted held : Option ℕ) → ((a : ℕ) → held ≡ Some a → IsOwn k b a) → RowFits (selecting end wanted held)
+  selected : (wanted held : Option ℕ) → ((a : ℕ) → held ≡ Some a → IsOwn k b a) → RowFits (selecting_row end wanted held)
   selected None held own = dropped reason.NothingToSay Unchanged tt
   selected (Some wanted) None own = refused
   selected (Some wanted) (Some a) own = granted a (own a refl)
@@ -433,7 +433,7 @@ module _ (pool : PoolValue) (limits : IsPool4 pool.first pool.count pool.lease) 
     by None is e = own_offered t b book k a (where_some offered wanted a e)
     by (Some n) is e = own_bound t b book k a (where_some bound wanted a (is ∙ e))
 
-  verified : (inside : Bool) (held : Option ℕ) (address : ℕ) → bound ≡ held → RowFits (verifying end inside held address)
+  verified : (inside : Bool) (held : Option ℕ) (address : ℕ) → bound ≡ held → RowFits (known_address_row end inside held address)
   verified false held address is = refused
   verified true None address is = dropped reason.NoRecord Unchanged tt
   verified true (Some n) address is = by (n == address) where
@@ -441,21 +441,21 @@ module _ (pool : PoolValue) (limits : IsPool4 pool.first pool.count pool.lease) 
     by true = granted n (own_bound t b book k n is)
     by false = refused
 
-  requested : (wanted ciaddr : Option ℕ) → RowFits (requesting pool end bound wanted ciaddr)
+  requested : (wanted ciaddr : Option ℕ) → RowFits (no_server_row pool end bound wanted ciaddr)
   requested (Some wanted) (Some ciaddr) = dropped reason.NothingToSay Unchanged tt
   requested None None = dropped reason.NothingToSay Unchanged tt
   requested (Some wanted) None = verified (in_pool pool wanted) bound wanted refl
   requested None (Some ciaddr) = verified (in_pool pool ciaddr) bound ciaddr refl
 
-  declined : (o : Option ℕ) → ((a : ℕ) → o ≡ Some a → bound ≡ Some a) → RowFits (declining t o)
+  declined : (o : Option ℕ) → ((a : ℕ) → o ≡ Some a → bound ≡ Some a) → RowFits (decline_row t o)
   declined None is = dropped reason.NothingToSay Unchanged tt
   declined (Some a) is = dropped reason.NothingToSay (Bars a (t + 3600)) (is a refl, omega arith)
 
-  released : (o : Option ℕ) → ((a : ℕ) → o ≡ Some a → bound ≡ Some a) → RowFits (releasing o)
+  released : (o : Option ℕ) → ((a : ℕ) → o ≡ Some a → bound ≡ Some a) → RowFits (release_row o)
   released None is = dropped reason.NothingToSay Unchanged tt
   released (Some a) is = dropped reason.NothingToSay (Frees a) (is a refl)
 
-  informed : (ciaddr : Option ℕ) → RowFits (informing ciaddr)
+  informed : (ciaddr : Option ℕ) → RowFits (inform_row ciaddr)
   informed None = dropped reason.NothingToSay Unchanged tt
   informed (Some ciaddr) = (tt, λ x e. absurd cc)
 
@@ -464,7 +464,7 @@ module _ (pool : PoolValue) (limits : IsPool4 pool.first pool.count pool.lease) 
   row_fits Discover server = discovered pool limits t b book m.key (option_map number4 m.wanted) _ _ refl refl
   row_fits Request Another = withdrawn pool limits t b book m.key _ refl
   row_fits Request This = let wanted = option_map number4 m.wanted in selected pool limits t b book m.key wanted _ (held_own pool limits t b book m.key wanted)
-  row_fits Request Anybody = requested pool limits t b book m.key (option_map number4 m.wanted) (given m.ciaddr)
+  row_fits Request Anybody = requested pool limits t b book m.key (option_map number4 m.wanted) (where_specified m.ciaddr)
   row_fits Decline Another = dropped pool limits t b book m.key reason.OtherServer Unchanged tt
   row_fits Decline This = declined pool limits t b book m.key _ (where_some _ (option_map number4 m.wanted))
   row_fits Decline Anybody = declined pool limits t b book m.key _ (where_some _ (option_map number4 m.wanted))
@@ -472,8 +472,8 @@ module _ (pool : PoolValue) (limits : IsPool4 pool.first pool.count pool.lease) 
   row_fits Release This = released pool limits t b book m.key _ (where_some _ (Some (number4 m.ciaddr)))
   row_fits Release Anybody = released pool limits t b book m.key _ (where_some _ (Some (number4 m.ciaddr)))
   row_fits Inform Another = dropped pool limits t b book m.key reason.OtherServer Unchanged tt
-  row_fits Inform This = informed pool limits t b book m.key (given m.ciaddr)
-  row_fits Inform Anybody = informed pool limits t b book m.key (given m.ciaddr)
+  row_fits Inform This = informed pool limits t b book m.key (where_specified m.ciaddr)
+  row_fits Inform Anybody = informed pool limits t b book m.key (where_specified m.ciaddr)
   row_fits Offer server = dropped pool limits t b book m.key reason.NotServed Unchanged tt
   row_fits Ack server = dropped pool limits t b book m.key reason.NotServed Unchanged tt
   row_fits Nak server = dropped pool limits t b book m.key reason.NotServed Unchanged tt

@@ -21,7 +21,7 @@ use Rattle.bindings_v4.specs.Lookup4.{until_of, is_vacant, is_bound_to, is_offer
 use Rattle.bindings_v4.specs.Slots4.{PoolSlots, bound_to, offered_to, barred_until, with_lease, leases, bars_of, book_of_slots, book_of, is_clients, AreDistinct, AreSlots, with_slot, with_decision}
 use Rattle.bindings_v4.specs.declared.server4.Server4.{Server4}
 use Rattle.bindings_v4.specs.declared.server4.Server4.TheVariants.{Anybody, This, Another}
-use Rattle.bindings_v4.specs.Table4.{Change, Unchanged, Offers, Withdraws, Binds, Bars, Frees, with_change, is_kept, Row, replies, grants, discover, declined_offer, selecting, verifying, requesting, declining, releasing, informing, where_is, given, server_of, Lookup, lookup_in, row_of, answer4}
+use Rattle.bindings_v4.specs.Table4.{Change, Unchanged, Offers, Withdraws, Binds, Bars, Frees, with_change, is_kept, Row, replies, grants, discover_row, other_server_row, selecting_row, known_address_row, no_server_row, decline_row, release_row, inform_row, where_is, where_specified, server_of, Lookup, lookup_in, row_of, answer4}
 use Rattle.bindings_v4.proofs.ShownLemmas.{Slots, Lessee, IsSort, not_true, live, live_slots, bound_sort, offered_sort, shown}
 use Rattle.bindings_v4.proofs.FreeLemmas.{from, bound_test, offered_test, pick_is, bound_is, offered_is, binding_is}
 use Rattle.bindings_v4.proofs.WriteLemmas.{one_client, clients_no_bar, are_with_slot, IsOpen, leases_kept, leases_with, leases_gone, leases_without, leases_same, bars_kept, bars_same, bars_with}
@@ -231,7 +231,7 @@ module _ (v : PoolSlots) (t : ℕ) (k : List ℕ) (are : AreSlots v.pool v.slots
   abbrev IsRow : Row → Type 0
   IsRow row = book_of t (with_decision (decision_of a t k row) v) ≡ with_change k row.change (book_of t v)
 
-  discovered : (wanted picked bound_slot : Option ℕ) → picked_slot t a v.slots k wanted ≡ picked → bound ≡ bound_slot → IsRow (discover t (from a picked) (from a bound_slot))
+  discovered : (wanted picked bound_slot : Option ℕ) → picked_slot t a v.slots k wanted ≡ picked → bound ≡ bound_slot → IsRow (discover_row t (from a picked) (from a bound_slot))
   discovered wanted None bound_slot is_picked is_bound = refl
   discovered wanted (Some i) (Some j) is_picked is_bound = refl
   discovered wanted (Some i) None is_picked is_bound =
@@ -245,13 +245,13 @@ module _ (v : PoolSlots) (t : ℕ) (k : List ℕ) (are : AreSlots v.pool v.slots
       (ap (λ n. book_of t (record v { slots = with_slot n (Some (Bound k (t + v.pool.lease))) v.slots })) (slot_there a i)
       ∙ bound_book v t k (t + v.pool.lease) i are fit (lasting t v.pool.lease term))
 
-  withdrawn : (found : Option ℕ) → offered ≡ found → IsRow (declined_offer (from a found))
+  withdrawn : (found : Option ℕ) → offered ≡ found → IsRow (other_server_row (from a found))
   withdrawn None is = refl
   withdrawn (Some i) is =
       ap (λ n. book_of t (record v { slots = with_slot n None v.slots })) (slot_there a i) ∙ withdrawn_book v t k i are is
 
   -- an address that is the client's binding or offer
-  selected : (wanted held : Option ℕ) → ((address : ℕ) → held ≡ Some address → (i : ℕ) × (address ≡ a + i) × Fit t k v.slots i) → IsRow (selecting (t + v.pool.lease) wanted held)
+  selected : (wanted held : Option ℕ) → ((address : ℕ) → held ≡ Some address → (i : ℕ) × (address ≡ a + i) × Fit t k v.slots i) → IsRow (selecting_row (t + v.pool.lease) wanted held)
   selected None held is = refl
   selected (Some wanted) None is = refl
   selected (Some wanted) (Some address) is = let p = is address refl in granted address p.0 p.1 p.2
@@ -263,7 +263,7 @@ module _ (v : PoolSlots) (t : ℕ) (k : List ℕ) (are : AreSlots v.pool v.slots
     by None is e = let p = named_is a offered wanted address e in (p.0, p.1, fit_offered t k v.slots p.0 p.2)
     by (Some x) is e = let p = named_is a bound wanted address (is ∙ e) in (p.0, p.1, fit_bound t k v.slots p.0 p.2)
 
-  verified : (inside : Bool) (found : Option ℕ) (address : ℕ) → bound ≡ found → IsRow (verifying (t + v.pool.lease) inside (from a found) address)
+  verified : (inside : Bool) (found : Option ℕ) (address : ℕ) → bound ≡ found → IsRow (known_address_row (t + v.pool.lease) inside (from a found) address)
   verified false found address is = refl
   verified true None address is = refl
   verified true (Some i) address is = by (a + i == address) where
@@ -271,28 +271,28 @@ module _ (v : PoolSlots) (t : ℕ) (k : List ℕ) (are : AreSlots v.pool v.slots
     by true = granted (a + i) i refl (fit_bound t k v.slots i is)
     by false = refl
 
-  requested : (wanted ciaddr : Option ℕ) → IsRow (requesting v.pool (t + v.pool.lease) (from a bound) wanted ciaddr)
+  requested : (wanted ciaddr : Option ℕ) → IsRow (no_server_row v.pool (t + v.pool.lease) (from a bound) wanted ciaddr)
   requested (Some wanted) (Some ciaddr) = refl
   requested None None = refl
   requested (Some wanted) None = verified (in_pool v.pool wanted) bound wanted refl
   requested None (Some ciaddr) = verified (in_pool v.pool ciaddr) bound ciaddr refl
 
-  declined : (o : Option ℕ) → IsOf a bound o → IsRow (declining t o)
+  declined : (o : Option ℕ) → IsOf a bound o → IsRow (decline_row t o)
   declined None is = refl
   declined (Some address) is =
       let p = is address refl in
-      subst (λ x. IsRow (declining t (Some x))) (sym p.1)
+      subst (λ x. IsRow (decline_row t (Some x))) (sym p.1)
       (ap (λ n. book_of t (record v { slots = with_slot n (Some (Barred (t + 3600))) v.slots })) (slot_there a p.0)
       ∙ barred_book v t k (t + 3600) p.0 are p.2 (lasting t 3600 (omega arith)))
 
-  released : (o : Option ℕ) → IsOf a bound o → IsRow (releasing o)
+  released : (o : Option ℕ) → IsOf a bound o → IsRow (release_row o)
   released None is = refl
   released (Some address) is =
       let p = is address refl in
-      subst (λ x. IsRow (releasing (Some x))) (sym p.1)
+      subst (λ x. IsRow (release_row (Some x))) (sym p.1)
       (ap (λ n. book_of t (record v { slots = with_slot n None v.slots })) (slot_there a p.0) ∙ freed_book v t k p.0 are p.2)
 
-  informed : (ciaddr : Option ℕ) → IsRow (informing ciaddr)
+  informed : (ciaddr : Option ℕ) → IsRow (inform_row ciaddr)
   informed None = refl
   informed (Some ciaddr) = refl
 
@@ -304,7 +304,7 @@ module _ (v : PoolSlots) (t : ℕ) (k : List ℕ) (are : AreSlots v.pool v.slots
   row_is m Discover server = discovered (option_map number4 m.wanted) (picked_slot t a v.slots k (option_map number4 m.wanted)) bound refl refl
   row_is m Request Another = withdrawn offered refl
   row_is m Request This = let wanted = option_map number4 m.wanted in selected wanted _ (held_is wanted)
-  row_is m Request Anybody = requested (option_map number4 m.wanted) (given m.ciaddr)
+  row_is m Request Anybody = requested (option_map number4 m.wanted) (where_specified m.ciaddr)
   row_is m Decline Another = refl
   row_is m Decline This = declined _ (named_is a bound (option_map number4 m.wanted))
   row_is m Decline Anybody = declined _ (named_is a bound (option_map number4 m.wanted))
@@ -312,8 +312,8 @@ module _ (v : PoolSlots) (t : ℕ) (k : List ℕ) (are : AreSlots v.pool v.slots
   row_is m Release This = released _ (named_is a bound (Some (number4 m.ciaddr)))
   row_is m Release Anybody = released _ (named_is a bound (Some (number4 m.ciaddr)))
   row_is m Inform Another = refl
-  row_is m Inform This = informed (given m.ciaddr)
-  row_is m Inform Anybody = informed (given m.ciaddr)
+  row_is m Inform This = informed (where_specified m.ciaddr)
+  row_is m Inform Anybody = informed (where_specified m.ciaddr)
   row_is m Offer server = refl
   row_is m Ack server = refl
   row_is m Nak server = refl

@@ -9,7 +9,7 @@ use Rattle.types.specs.declared.request4.Reply4.TheVariants as reply
 use Rattle.types.specs.declared.request4.Request4.{Request4}
 use Rattle.bindings_v4.specs.declared.server4.Server4.TheVariants.{Anybody}
 use Rattle.bindings_v4.specs.Book4.{Book4, address_of, in_pool}
-use Rattle.bindings_v4.specs.Table4.{given, server_of, answer4}
+use Rattle.bindings_v4.specs.Table4.{where_specified, server_of, answer4}
 
 -- What an entry of a book is: a client's binding, a client's offer, or a bar.
 pub data Entry : Type 0 where
@@ -61,7 +61,7 @@ GrantsItsOwn pool t m =
 -- A client keeps its address as long as it renews in time (RFC 2131, section 4.4.5).
 abbrev pub RenewsInTime : PoolValue → ℕ → Request4 → Type 0
 RenewsInTime pool t m =
-    (b : Book4) (address : ℕ) → m.kind ≡ Request → server_of pool m.server ≡ Anybody → m.wanted ≡ None → given m.ciaddr ≡ Some address
+    (b : Book4) (address : ℕ) → m.kind ≡ Request → server_of pool m.server ≡ Anybody → m.wanted ≡ None → where_specified m.ciaddr ≡ Some address
     → in_pool pool address ≡ true → address_of (get b.bindings m.key) ≡ Some address
     → ((answer4 pool t b m).answer ≡ Ok (reply.Ack (addr4 address)))
     × (get (answer4 pool t b m).book.bindings m.key ≡ Some (record { address = address; until = t + pool.lease }))

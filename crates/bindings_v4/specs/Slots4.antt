@@ -73,11 +73,12 @@ is_clients client (Some (Bound key until)) = bytes_eq client key
 is_clients client (Some (Offered key until)) = bytes_eq client key
 is_clients client (Some (Barred until)) = false
 
--- no client has two slots, live or expired
+-- no slot is this client's
 abbrev pub IsWithout : List ℕ → List (Option Holder4) → Type 0
 IsWithout client [] = Unit {0}
 IsWithout client (slot ∷ slots) = (is_clients client slot ≡ false) × IsWithout client slots
 
+-- no client has two slots, live or expired
 abbrev pub AreDistinct : List (Option Holder4) → Type 0
 AreDistinct [] = Unit {0}
 AreDistinct (slot ∷ slots) = ((client : List ℕ) → is_clients client slot ≡ true → IsWithout client slots) × AreDistinct slots

@@ -75,55 +75,55 @@ where_is (Some held) None = None
 where_is (Some held) (Some named) = if held == named then Some held else None
 
 -- DHCPDISCOVER (RFC 2131, section 4.3.1), by clock, pick and binding. An offer is held for 60 seconds.
-abbrev pub discover : ℕ → Option ℕ → Option ℕ → Row
-discover t None binding = drops reason.NoAddress Unchanged
-discover t (Some address) (Some bound) = replies (reply.Offer (addr4 address)) Unchanged
-discover t (Some address) None = replies (reply.Offer (addr4 address)) (Offers address (t + 60))
+abbrev pub discover_row : ℕ → Option ℕ → Option ℕ → Row
+discover_row t None binding = drops reason.NoAddress Unchanged
+discover_row t (Some address) (Some bound) = replies (reply.Offer (addr4 address)) Unchanged
+discover_row t (Some address) None = replies (reply.Offer (addr4 address)) (Offers address (t + 60))
 
 -- DHCPREQUEST to another server, which the client chose (RFC 2131, section 3.1, step 3), by offer
-abbrev pub declined_offer : Option ℕ → Row
-declined_offer None = drops reason.OtherServer Unchanged
-declined_offer (Some address) = drops reason.OtherServer (Withdraws address)
+abbrev pub other_server_row : Option ℕ → Row
+other_server_row None = drops reason.OtherServer Unchanged
+other_server_row (Some address) = drops reason.OtherServer (Withdraws address)
 
 -- DHCPREQUEST to this server, SELECTING (RFC 2131, section 4.3.2), by the lease's end, option 50, and
 -- the binding or offer that option 50 names
-abbrev pub selecting : ℕ → Option ℕ → Option ℕ → Row
-selecting end None held = drops reason.NothingToSay Unchanged
-selecting end (Some wanted) (Some address) = grants address end
-selecting end (Some wanted) None = replies reply.Nak Unchanged
+abbrev pub selecting_row : ℕ → Option ℕ → Option ℕ → Row
+selecting_row end None held = drops reason.NothingToSay Unchanged
+selecting_row end (Some wanted) (Some address) = grants address end
+selecting_row end (Some wanted) None = replies reply.Nak Unchanged
 
 -- a client that names the address that it has, by the lease's end, whether the pool has it, and the
 -- binding
-abbrev pub verifying : ℕ → Bool → Option ℕ → ℕ → Row
-verifying end false binding address = replies reply.Nak Unchanged
-verifying end true (Some bound) address = if bound == address then grants bound end else replies reply.Nak Unchanged
-verifying end true None address = drops reason.NoRecord Unchanged
+abbrev pub known_address_row : ℕ → Bool → Option ℕ → ℕ → Row
+known_address_row end false binding address = replies reply.Nak Unchanged
+known_address_row end true (Some bound) address = if bound == address then grants bound end else replies reply.Nak Unchanged
+known_address_row end true None address = drops reason.NoRecord Unchanged
 
 -- DHCPREQUEST without option 54 (RFC 2131, section 4.3.2), by option 50 and ciaddr. RENEWING and
 -- REBINDING are judged like INIT-REBOOT.
-abbrev pub requesting : PoolValue → ℕ → Option ℕ → Option ℕ → Option ℕ → Row
-requesting pool end binding (Some wanted) (Some ciaddr) = drops reason.NothingToSay Unchanged
-requesting pool end binding None None = drops reason.NothingToSay Unchanged
+abbrev pub no_server_row : PoolValue → ℕ → Option ℕ → Option ℕ → Option ℕ → Row
+no_server_row pool end binding (Some wanted) (Some ciaddr) = drops reason.NothingToSay Unchanged
+no_server_row pool end binding None None = drops reason.NothingToSay Unchanged
 -- INIT-REBOOT
-requesting pool end binding (Some wanted) None = verifying end (in_pool pool wanted) binding wanted
+no_server_row pool end binding (Some wanted) None = known_address_row end (in_pool pool wanted) binding wanted
 -- RENEWING, REBINDING
-requesting pool end binding None (Some ciaddr) = verifying end (in_pool pool ciaddr) binding ciaddr
+no_server_row pool end binding None (Some ciaddr) = known_address_row end (in_pool pool ciaddr) binding ciaddr
 
 -- DHCPDECLINE (RFC 2131, section 4.3.3), by clock and the binding that option 50 names. Nobody is given
 -- the address for 3600 seconds.
-abbrev pub declining : ℕ → Option ℕ → Row
-declining t (Some bound) = drops reason.NothingToSay (Bars bound (t + 3600))
-declining t None = drops reason.NothingToSay Unchanged
+abbrev pub decline_row : ℕ → Option ℕ → Row
+decline_row t (Some bound) = drops reason.NothingToSay (Bars bound (t + 3600))
+decline_row t None = drops reason.NothingToSay Unchanged
 
 -- DHCPRELEASE (RFC 2131, section 4.3.4), by the binding that ciaddr names
-abbrev pub releasing : Option ℕ → Row
-releasing (Some bound) = drops reason.NothingToSay (Frees bound)
-releasing None = drops reason.NothingToSay Unchanged
+abbrev pub release_row : Option ℕ → Row
+release_row (Some bound) = drops reason.NothingToSay (Frees bound)
+release_row None = drops reason.NothingToSay Unchanged
 
 -- DHCPINFORM (RFC 2131, section 4.3.5), by ciaddr
-abbrev pub informing : Option ℕ → Row
-informing None = drops reason.NothingToSay Unchanged
-informing (Some ciaddr) = replies reply.Inform Unchanged
+abbrev pub inform_row : Option ℕ → Row
+inform_row None = drops reason.NothingToSay Unchanged
+inform_row (Some ciaddr) = replies reply.Inform Unchanged
 
 -- What is looked up of a client: the addresses of its binding and of its offer, and its pick.
 pub record Lookup : Type 0 where
@@ -139,9 +139,9 @@ lookup_in pool b m =
       pick = pick pool b m.key (option_map number4 m.wanted);
     }
 
--- an address that is given, and is not 0.0.0.0
-abbrev pub given : Addr4 → Option ℕ
-given address = if is_unspecified address.0 then None else Some (number4 address)
+-- the address, where it is not 0.0.0.0
+abbrev pub where_specified : Addr4 → Option ℕ
+where_specified address = if is_unspecified address.0 then None else Some (number4 address)
 
 -- whom a message is for, by option 54. The gateway is this server's identifier (RFC 5107, section 4).
 abbrev pub server_of : PoolValue → Option Addr4 → Server4
@@ -150,19 +150,19 @@ server_of pool (Some server) = if number4 server == number4 pool.gateway then Th
 
 -- The rows of each message type, by type and server.
 abbrev pub row_of : PoolValue → ℕ → Lookup → Request4 → Kind4 → Server4 → Row
-row_of pool t found m Discover server = discover t found.pick found.binding
-row_of pool t found m Request Another = declined_offer found.offer
+row_of pool t found m Discover server = discover_row t found.pick found.binding
+row_of pool t found m Request Another = other_server_row found.offer
 row_of pool t found m Request This =
     let wanted = option_map number4 m.wanted in
-    selecting (t + pool.lease) wanted (or_else (where_is found.binding wanted) (where_is found.offer wanted))
+    selecting_row (t + pool.lease) wanted (or_else (where_is found.binding wanted) (where_is found.offer wanted))
 row_of pool t found m Request Anybody =
-    requesting pool (t + pool.lease) found.binding (option_map number4 m.wanted) (given m.ciaddr)
+    no_server_row pool (t + pool.lease) found.binding (option_map number4 m.wanted) (where_specified m.ciaddr)
 row_of pool t found m Decline Another = drops reason.OtherServer Unchanged
-row_of pool t found m Decline server = declining t (where_is found.binding (option_map number4 m.wanted))
+row_of pool t found m Decline server = decline_row t (where_is found.binding (option_map number4 m.wanted))
 row_of pool t found m Release Another = drops reason.OtherServer Unchanged
-row_of pool t found m Release server = releasing (where_is found.binding (Some (number4 m.ciaddr)))
+row_of pool t found m Release server = release_row (where_is found.binding (Some (number4 m.ciaddr)))
 row_of pool t found m Inform Another = drops reason.OtherServer Unchanged
-row_of pool t found m Inform server = informing (given m.ciaddr)
+row_of pool t found m Inform server = inform_row (where_specified m.ciaddr)
 -- only a server sends these
 row_of pool t found m Offer server = drops reason.NotServed Unchanged
 row_of pool t found m Ack server = drops reason.NotServed Unchanged

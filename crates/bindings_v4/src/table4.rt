@@ -3,7 +3,7 @@ ghost use Rattle.std.specs.Prelude.{◌≡◌, ◌+◌, Some, IfSome, option_map
 ghost use Rattle.types.specs.Addr.{number4};
 ghost use Rattle.bindings_v4.specs.Book4.{in_pool, or_else};
 ghost use Rattle.bindings_v4.specs.Lookup4.{IsAt, IsLookup, decision_in, lookup_of, number_of};
-ghost use Rattle.bindings_v4.specs.Table4.{discover, declined_offer, selecting, verifying, requesting, declining, releasing, informing, where_is, given, server_of, row_of};
+ghost use Rattle.bindings_v4.specs.Table4.{discover_row, other_server_row, selecting_row, known_address_row, no_server_row, decline_row, release_row, inform_row, where_is, where_specified, server_of, row_of};
 
 use crate::case4::{Case4, SlotAddress};
 use crate::decision4::Decision4;
@@ -19,8 +19,8 @@ pub struct Lookup4 {
 }
 
 /// The address, where it is not 0.0.0.0.
-fn given(address: Addr4) -> Option<Addr4>
-    ensures { option_map number4 result ≡ given address }
+fn where_specified(address: Addr4) -> Option<Addr4>
+    ensures { option_map number4 result ≡ where_specified address }
 {
     if address.is_unspecified() {
         None
@@ -49,9 +49,9 @@ fn where_is(case: &Case4, held: Option<SlotAddress>, named: Option<Addr4>) -> Op
 
 /// DHCPDISCOVER (RFC 2131, section 4.3.1).
 #[rattlefmt::skip]
-fn discover(case: &Case4, found: &Lookup4) -> Decision4
+fn discover_row(case: &Case4, found: &Lookup4) -> Decision4
     requires { IsLookup case.now.pool found.now }
-    ensures { result ≡ decision_in case.now (discover case.now.clock (lookup_of found.now).pick (lookup_of found.now).binding) }
+    ensures { result ≡ decision_in case.now (discover_row case.now.clock (lookup_of found.now).pick (lookup_of found.now).binding) }
 {
     //     pick        binding
     match (found.pick, found.binding) {
@@ -62,9 +62,9 @@ fn discover(case: &Case4, found: &Lookup4) -> Decision4
 }
 
 /// DHCPREQUEST to another server, which the client chose (RFC 2131, section 3.1, step 3).
-fn declined_offer(case: &Case4, found: &Lookup4) -> Decision4
+fn other_server_row(case: &Case4, found: &Lookup4) -> Decision4
     requires { IsLookup case.now.pool found.now }
-    ensures { result ≡ decision_in case.now (declined_offer (lookup_of found.now).offer) }
+    ensures { result ≡ decision_in case.now (other_server_row (lookup_of found.now).offer) }
 {
     match found.offer {
         None => case.drops(Discard::OtherServer),
@@ -75,9 +75,9 @@ fn declined_offer(case: &Case4, found: &Lookup4) -> Decision4
 /// DHCPREQUEST to this server: SELECTING (RFC 2131, section 4.3.2). What the client has is its binding
 /// or offer, where option 50 names it.
 #[rattlefmt::skip]
-fn selecting(case: &Case4, wanted: Option<Addr4>, held: Option<SlotAddress>) -> Decision4
+fn selecting_row(case: &Case4, wanted: Option<Addr4>, held: Option<SlotAddress>) -> Decision4
     requires { IfSome held (λ found. IsAt case.now.pool found) }
-    ensures { result ≡ decision_in case.now (selecting (case.now.clock + case.now.pool.lease) (option_map number4 wanted) (number_of held)) }
+    ensures { result ≡ decision_in case.now (selecting_row (case.now.clock + case.now.pool.lease) (option_map number4 wanted) (number_of held)) }
 {
     //     option 50 what the client has
     match (wanted,   held) {
@@ -89,9 +89,9 @@ fn selecting(case: &Case4, wanted: Option<Addr4>, held: Option<SlotAddress>) -> 
 
 /// A client that names the address that it has.
 #[rattlefmt::skip]
-fn verifying(case: &Case4, found: &Lookup4, address: Addr4) -> Decision4
+fn known_address_row(case: &Case4, found: &Lookup4, address: Addr4) -> Decision4
     requires { IsLookup case.now.pool found.now }
-    ensures { result ≡ decision_in case.now (verifying (case.now.clock + case.now.pool.lease) (in_pool case.now.pool (number4 address))
+    ensures { result ≡ decision_in case.now (known_address_row (case.now.clock + case.now.pool.lease) (in_pool case.now.pool (number4 address))
         (lookup_of found.now).binding (number4 address)) }
 {
     let bound = where_is(case, found.binding, Some(address));
@@ -106,26 +106,26 @@ fn verifying(case: &Case4, found: &Lookup4, address: Addr4) -> Decision4
 
 /// DHCPREQUEST without option 54 (RFC 2131, section 4.3.2).
 #[rattlefmt::skip]
-fn requesting(case: &Case4, found: &Lookup4, request: &Request4) -> Decision4
+fn no_server_row(case: &Case4, found: &Lookup4, request: &Request4) -> Decision4
     requires { IsLookup case.now.pool found.now }
-    ensures { result ≡ decision_in case.now (requesting case.now.pool (case.now.clock + case.now.pool.lease) (lookup_of found.now).binding
-        (option_map number4 request.now.wanted) (given request.now.ciaddr)) }
+    ensures { result ≡ decision_in case.now (no_server_row case.now.pool (case.now.clock + case.now.pool.lease) (lookup_of found.now).binding
+        (option_map number4 request.now.wanted) (where_specified request.now.ciaddr)) }
 {
     //     option 50       ciaddr
-    match (request.wanted, given(request.ciaddr)) {
+    match (request.wanted, where_specified(request.ciaddr)) {
           (Some(_),        Some(_))       => case.drops(Discard::NothingToSay),
           (None,           None)          => case.drops(Discard::NothingToSay),
           // INIT-REBOOT
-          (Some(address),  None)          => verifying(case, found, address),
+          (Some(address),  None)          => known_address_row(case, found, address),
           // RENEWING, REBINDING
-          (None,           Some(address)) => verifying(case, found, address),
+          (None,           Some(address)) => known_address_row(case, found, address),
     }
 }
 
 /// DHCPDECLINE (RFC 2131, section 4.3.3), by the binding that option 50 names.
-fn declining(case: &Case4, bound: Option<SlotAddress>) -> Decision4
+fn decline_row(case: &Case4, bound: Option<SlotAddress>) -> Decision4
     requires { IfSome bound (λ found. IsAt case.now.pool found) }
-    ensures { result ≡ decision_in case.now (declining case.now.clock (number_of bound)) }
+    ensures { result ≡ decision_in case.now (decline_row case.now.clock (number_of bound)) }
 {
     match bound {
         Some(bound) => case.bars(bound),
@@ -134,9 +134,9 @@ fn declining(case: &Case4, bound: Option<SlotAddress>) -> Decision4
 }
 
 /// DHCPRELEASE (RFC 2131, section 4.3.4), by the binding that ciaddr names.
-fn releasing(case: &Case4, bound: Option<SlotAddress>) -> Decision4
+fn release_row(case: &Case4, bound: Option<SlotAddress>) -> Decision4
     requires { IfSome bound (λ found. IsAt case.now.pool found) }
-    ensures { result ≡ decision_in case.now (releasing (number_of bound)) }
+    ensures { result ≡ decision_in case.now (release_row (number_of bound)) }
 {
     match bound {
         Some(bound) => case.frees(bound),
@@ -145,10 +145,10 @@ fn releasing(case: &Case4, bound: Option<SlotAddress>) -> Decision4
 }
 
 /// DHCPINFORM (RFC 2131, section 4.3.5).
-fn informing(case: &Case4, ciaddr: Addr4) -> Decision4
-    ensures { result ≡ decision_in case.now (informing (given ciaddr)) }
+fn inform_row(case: &Case4, ciaddr: Addr4) -> Decision4
+    ensures { result ≡ decision_in case.now (inform_row (where_specified ciaddr)) }
 {
-    match given(ciaddr) {
+    match where_specified(ciaddr) {
         None => case.drops(Discard::NothingToSay),
         Some(_) => case.replies(Reply4::Inform),
     }
@@ -166,16 +166,16 @@ pub fn decision_for(case: &Case4, found: &Lookup4, request: &Request4) -> Decisi
     let held = bound_wanted.or(where_is(case, found.offer, request.wanted));
     //     type             option 54
     match (request.kind,    server_of(case.pool, request.server)) {
-          (Kind4::Discover, _)                => discover(case, found),
-          (Kind4::Request,  Server4::Another) => declined_offer(case, found),
-          (Kind4::Request,  Server4::This)    => selecting(case, request.wanted, held),
-          (Kind4::Request,  Server4::Anybody) => requesting(case, found, request),
+          (Kind4::Discover, _)                => discover_row(case, found),
+          (Kind4::Request,  Server4::Another) => other_server_row(case, found),
+          (Kind4::Request,  Server4::This)    => selecting_row(case, request.wanted, held),
+          (Kind4::Request,  Server4::Anybody) => no_server_row(case, found, request),
           (Kind4::Decline,  Server4::Another) => case.drops(Discard::OtherServer),
-          (Kind4::Decline,  _)                => declining(case, bound_wanted),
+          (Kind4::Decline,  _)                => decline_row(case, bound_wanted),
           (Kind4::Release,  Server4::Another) => case.drops(Discard::OtherServer),
-          (Kind4::Release,  _)                => releasing(case, bound_ciaddr),
+          (Kind4::Release,  _)                => release_row(case, bound_ciaddr),
           (Kind4::Inform,   Server4::Another) => case.drops(Discard::OtherServer),
-          (Kind4::Inform,   _)                => informing(case, request.ciaddr),
+          (Kind4::Inform,   _)                => inform_row(case, request.ciaddr),
           // only a server sends these
           (Kind4::Offer,    _)                => case.drops(Discard::NotServed),
           (Kind4::Ack,      _)                => case.drops(Discard::NotServed),

@@ -24,7 +24,7 @@ fn vacate_client(slots: &mut [Option<Holder4>], client: &Key4)
     }
 }
 
-/// Gives a slot a new holder, who keeps no other. A slot that the pool doesn't have stays so.
+/// Gives a slot a new holder, who keeps no other slot. A slot past the pool's end is ignored.
 fn write_slot(slots: &mut [Option<Holder4>], slot: usize, holder: Option<Holder4>)
     ensures { slots.new ≡ with_slot slot holder slots.old }
 {

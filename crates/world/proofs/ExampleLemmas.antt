@@ -17,7 +17,7 @@ use Rattle.v4_options.specs.Subreading.{sublisted_from, subfault_from}
 use Rattle.v4_message.specs.Reading.{message_of}
 use Rattle.v4_message.specs.Spelling.{MessageValue}
 use Rattle.bindings_v4.specs.Book4.{Book4, Lease, Clients, in_pool, lowest_free, or_else, address_of, is_live}
-use Rattle.bindings_v4.specs.Table4.{Decision, answer4, discover as row, with_change, is_kept}
+use Rattle.bindings_v4.specs.Table4.{Decision, answer4, discover_row as row, with_change, is_kept}
 use Rattle.config.specs.CircuitPart.{pool4_of}
 use Rattle.dispatch.specs.Request.{request_in}
 use Rattle.dispatch.specs.Server.{Book, Served, book_at, served, drop, decision_served, message_served, request_served}
