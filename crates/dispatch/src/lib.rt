@@ -4,5 +4,7 @@
 mod addressee;
 mod request;
 mod server;
+#[cfg(test)]
+mod tests;
 
 pub use server::Server;

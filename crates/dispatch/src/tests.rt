@@ -1,0 +1,147 @@
+//! The server of one circuit, on datagrams worked out by hand.
+use super::*;
+use config::{CircuitPart, Config};
+use std::alloc::Global;
+use std::process::Abort;
+use types::{Addr4, Circuit, Discard, Moment, Source};
+use wire::PacketBuf;
+
+/// Circuit `a` behind the relay at port 6801: gateway 10.0.0.1, the one address 10.0.0.10.
+const TEXT: &str = "
+[server]
+listen4 = '127.0.0.1:6767'
+listen6 = '127.0.0.1:6547'
+duid = '00030001020000000001'
+[[relay]]
+name = 'r1'
+source = '127.0.0.1:6801'
+[[circuit]]
+id = 'a'
+relay = 'r1'
+region = 0
+lease = 600
+gateway4 = '10.0.0.1'
+prefix4 = 24
+first4 = '10.0.0.10'
+count4 = 1
+dns = ['10.255.0.53']
+link6 = '20010db8000000000000000000000001'
+first6 = '20010db8000000000000000000000100'
+count6 = 1
+";
+
+/// Option 82 of circuit `a` with its gateway as server identifier override, and the end.
+const AGENT: &[u8] = &[82, 9, 1, 1, 97, 11, 4, 10, 0, 0, 1, 255];
+
+fn new_server(rt: &impl Abort, alloc: Global) -> Server {
+    let config = Config::read(alloc, TEXT).expect(rt, "a configuration");
+    assert!(rt; config.circuit_count() == 1);
+    let circuit = Circuit::new(0).expect(rt, "a circuit");
+    assert!(rt; circuit.index() == 0);
+    Server::new(CircuitPart::of(&config, circuit))
+}
+
+/// Client n's message of this type with this giaddr, and these bytes after the message type.
+fn message(kind: u8, client: u8, giaddr: [u8; 4], rest: &[u8]) -> PacketBuf {
+    let parts: [&[u8]; 9] = [
+        &[1, 1, 6, 1, 0, 0, 0, client],
+        &[0; 16],
+        &giaddr,
+        &[2, 0, 0, 0, 0, client],
+        &[0; 202],
+        &[99, 130, 83, 99],
+        &[53, 1],
+        &[kind],
+        rest,
+    ];
+    let mut bytes = PacketBuf::new();
+    for part in parts {
+        let _ = bytes.extend(part);
+    }
+    bytes
+}
+
+/// What the server makes of a datagram from this port.
+fn receive(
+    rt: &impl Abort,
+    server: &mut Server,
+    port: u16,
+    datagram: &PacketBuf,
+    now: u64,
+) -> Result<(), Discard> {
+    let addr = Addr4([127, 0, 0, 1]);
+    let now = Moment::new(now).expect(rt, "a moment");
+    let mut out = PacketBuf::new();
+    let _ = out.push(7);
+    let result = server.receive(Source { addr, port }, datagram.as_slice(), now, &mut out);
+    match result {
+        Ok(()) => assert_eq!(rt; out.len(), 300),
+        Err(_) => assert!(rt; out.is_empty()),
+    }
+    result
+}
+
+/// Client n's DHCPDISCOVER from the circuit's relay.
+fn discover(rt: &impl Abort, server: &mut Server, client: u8, now: u64) -> Result<(), Discard> {
+    let datagram = message(1, client, [10, 0, 0, 1], AGENT);
+    receive(rt, server, 6801, &datagram, now)
+}
+
+#[test]
+#[rattlefmt::skip]
+fn reasons(rt: HostRuntime) {
+    let rows: [(u16, u8, [u8; 4], &[u8], Result<(), Discard>); 12] = [
+        // port, type, giaddr, after the message type, what comes of it
+        (6801, 1, [10, 0, 0, 1], AGENT,                                                 Ok(())),
+        (9999, 1, [10, 0, 0, 1], AGENT,                                                 Err(Discard::UnknownSource)),
+        (6801, 1, [10, 0, 0, 1], &[82, 9, 1, 1, 97, 11, 4, 10, 0, 0, 1],                Err(Discard::Malformed)),
+        (6801, 1, [10, 0, 0, 1], &[82, 9, 1, 1, 97, 11, 5, 10, 0, 0, 1, 255],           Err(Discard::Malformed)),
+        (6801, 1, [0, 0, 0, 0],  AGENT,                                                 Err(Discard::NotRelayed)),
+        (6801, 1, [10, 0, 0, 1], &[255],                                                Err(Discard::NotRelayed)),
+        (6801, 1, [10, 0, 0, 1], &[82, 9, 1, 1, 98, 11, 4, 10, 0, 0, 1, 255],           Err(Discard::UnknownCircuit)),
+        (6801, 1, [10, 0, 0, 1], &[82, 10, 1, 2, 97, 97, 11, 4, 10, 0, 0, 1, 255],      Err(Discard::UnknownCircuit)),
+        (6801, 1, [10, 0, 1, 1], AGENT,                                                 Err(Discard::WrongLink)),
+        (6801, 1, [10, 0, 0, 1], &[82, 3, 1, 1, 97, 255],                               Err(Discard::NoOverride)),
+        (6801, 1, [10, 0, 0, 1], &[61, 1, 7, 82, 9, 1, 1, 97, 11, 4, 10, 0, 0, 1, 255], Err(Discard::ClientKey)),
+        (6801, 2, [10, 0, 0, 1], AGENT,                                                 Err(Discard::NotServed)),
+    ];
+    for (port, kind, giaddr, rest, expected) in rows {
+        let mut server = new_server(&rt, rt.alloc());
+        let datagram = message(kind, 1, giaddr, rest);
+        assert_eq!(rt; receive(&rt, &mut server, port, &datagram, 100), expected);
+    }
+}
+
+#[test]
+fn long_datagrams(rt: HostRuntime) {
+    let mut server = new_server(&rt, rt.alloc());
+    let mut datagram = message(1, 1, [10, 0, 0, 1], AGENT);
+    let filled = datagram.extend(&[0; 1025]).is_ok();
+    assert!(rt; filled);
+    assert_eq!(rt; datagram.len(), 1280);
+    assert_eq!(rt; receive(&rt, &mut server, 6801, &datagram, 100), Ok(()));
+}
+
+#[test]
+fn an_offer_expires_by_the_circuits_clock(rt: HostRuntime) {
+    let mut server = new_server(&rt, rt.alloc());
+    assert_eq!(rt; discover(&rt, &mut server, 1, 100), Ok(()));
+
+    // a datagram of no circuit moves no clock
+    let stranger = message(1, 2, [10, 0, 0, 1], AGENT);
+    assert_eq!(rt;
+        receive(&rt, &mut server, 9999, &stranger, 160),
+        Err(Discard::UnknownSource)
+    );
+    assert_eq!(rt; discover(&rt, &mut server, 2, 159), Err(Discard::NoAddress));
+
+    server.tick(Moment::new(160).expect(&rt, "a moment"));
+    assert_eq!(rt; discover(&rt, &mut server, 2, 100), Ok(()));
+}
+
+#[test]
+fn a_server_keeps_its_part(rt: HostRuntime) {
+    let server = new_server(&rt, rt.alloc());
+    assert_eq!(rt; server.part().id().as_bytes(), b"a".as_slice());
+    assert_eq!(rt; server.part().gateway4(), Addr4([10, 0, 0, 1]));
+}
