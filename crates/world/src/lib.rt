@@ -8,6 +8,8 @@ mod machine;
 mod model_disk;
 mod outcome;
 mod sink;
+#[cfg(test)]
+mod tests;
 mod two_runs;
 mod world;
 

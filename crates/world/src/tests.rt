@@ -1,0 +1,302 @@
+//! A world of one circuit, on values worked out by hand.
+ghost use Rattle.std.specs.Prelude.{◌≡◌, ◌≤◌, [], ◌∷◌, ◌++◌, true, false};
+
+use super::*;
+use config::{Config, ConfigFault};
+use lossy_net::MAX_QUOTA;
+use std::alloc::{AllocError, Global};
+use std::process::Abort;
+use types::{Addr4, Circuit, Count, Dest, Discard, Moment, Proto};
+use wire::PacketBuf;
+
+/// Circuit `a`: gateway 10.0.0.1, a pool of two addresses from 10.0.0.10 on, leases of 600 s.
+const TEXT: &str = "
+[server]
+listen4 = '127.0.0.1:6767'
+listen6 = '127.0.0.1:6547'
+duid = '00030001020000000001'
+[[relay]]
+name = 'r1'
+source = '127.0.0.1:6801'
+[[circuit]]
+id = 'a'
+relay = 'r1'
+region = 0
+lease = 600
+gateway4 = '10.0.0.1'
+prefix4 = 24
+first4 = '10.0.0.10'
+count4 = 2
+dns = ['10.255.0.53']
+link6 = '20010db8000000000000000000000001'
+first6 = '20010db8000000000000000000000100'
+count6 = 1
+";
+
+/// A world of the circuit.
+fn opened(rt: &impl Abort, alloc: Global, quota: u16) -> World
+    requires least { 1 ≤ quota }
+    requires most { quota ≤ MAX_QUOTA }
+{
+    let config = Config::read(alloc, TEXT).expect(rt, "a configuration");
+    let disk = ModelDisk::new(alloc, 1).expect(rt, "a disk");
+    World::open(alloc, &config, disk, quota).expect(rt, "a world")
+}
+
+/// Client n's DHCPDISCOVER, with its number as xid and last byte of its hardware address.
+fn discover(client: u8) -> PacketBuf {
+    let parts: [&[u8]; 5] = [
+        &[1, 1, 6, 0, 0, 0, 0, client],
+        &[0; 20],
+        &[2, 0, 0, 0, 0, client],
+        &[0; 202],
+        &[99, 130, 83, 99, 53, 1, 1, 255],
+    ];
+    let mut bytes = PacketBuf::new();
+    for part in parts {
+        let _ = bytes.extend(part);
+    }
+    bytes
+}
+
+fn only() -> Circuit {
+    Circuit::new(0).unwrap()
+}
+
+fn moment(seconds: u32) -> Moment {
+    Moment::new(u64::from(seconds)).unwrap()
+}
+
+/// An event that needs no bytes, where a frame that leaves is not looked at.
+fn step(world: &mut World, event: &Event<'_>) -> Outcome {
+    world.step(event, &mut PacketBuf::new())
+}
+
+/// A client's DHCPDISCOVER at the relay.
+fn send(world: &mut World, client: u8) -> Outcome {
+    let frame = discover(client);
+    step(world, &Event::Frame(only(), Proto::V4, frame.as_slice()))
+}
+
+/// The datagram with this number at the server.
+fn up(world: &mut World, number: u16, seconds: u32) -> Outcome {
+    step(world, &Event::Up(only(), number, moment(seconds), 0))
+}
+
+/// A frame of an offer of 10.0.0.x to client n.
+fn offered(client: u8, last: u8) -> Outcome {
+    let dest = Dest::Unicast([2, 0, 0, 0, 0, client], Addr4([10, 0, 0, last]));
+    Outcome::Framed(only(), dest)
+}
+
+/// Client 1's DHCPOFFER of 10.0.0.10 as the relay sends it to the circuit.
+fn offer() -> [u8; 300] {
+    let mut bytes = [0; 300];
+    bytes[..8].copy_from_slice(&[2, 1, 6, 0, 0, 0, 0, 1]);
+    bytes[16..20].copy_from_slice(&[10, 0, 0, 10]);
+    bytes[24..34].copy_from_slice(&[10, 0, 0, 1, 2, 0, 0, 0, 0, 1]);
+    bytes[236..243].copy_from_slice(&[99, 130, 83, 99, 53, 1, 2]);
+    bytes[243..255].copy_from_slice(&[54, 4, 10, 0, 0, 1, 51, 4, 0, 0, 2, 88]);
+    bytes[255..267].copy_from_slice(&[58, 4, 0, 0, 1, 44, 59, 4, 0, 0, 2, 13]);
+    bytes[267..279].copy_from_slice(&[1, 4, 255, 255, 255, 0, 3, 4, 10, 0, 0, 1]);
+    bytes[279..286].copy_from_slice(&[6, 4, 10, 255, 0, 53, 255]);
+    bytes
+}
+
+#[test]
+fn a_discover_is_answered_by_an_offer(rt: HostRuntime) {
+    let mut world = opened(&rt, rt.alloc(), 16);
+    assert_eq!(rt; send(&mut world, 1), Outcome::SentUp(255));
+    assert_eq!(rt; up(&mut world, 0, 100), Outcome::SentDown(300));
+    let mut out = PacketBuf::new();
+    assert_eq!(rt;
+        world.step(&Event::Down(only(), 0), &mut out),
+        offered(1, 10)
+    );
+    assert_eq!(rt; out.as_slice(), offer().as_slice());
+}
+
+#[test]
+fn a_step_leaves_the_disk(rt: HostRuntime) {
+    let mut world = opened(&rt, rt.alloc(), 16);
+    assert_eq!(rt; send(&mut world, 1), Outcome::SentUp(255));
+    // so far nothing is saved, so no call of the disk can fail
+    let event = Event::Up(only(), 0, moment(100), 6);
+    assert_eq!(rt; step(&mut world, &event), Outcome::SentDown(300));
+    let disk = world.disk();
+    assert_eq!(rt; disk.regions(), 1);
+    let region = disk.bytes(0);
+    assert_eq!(rt; region.len(), 32768);
+    assert_eq!(rt; &region[..2], [0xA5, 0].as_slice());
+    assert_eq!(rt; &region[8191..8194], [0, 1, 0].as_slice());
+    assert_eq!(rt; region.iter().filter(|byte| **byte != 0).count(), 2);
+}
+
+#[test]
+fn a_clock_never_goes_back(rt: HostRuntime) {
+    let mut world = opened(&rt, rt.alloc(), 16);
+    for client in [1, 2, 3] {
+        assert_eq!(rt; send(&mut world, client), Outcome::SentUp(255));
+    }
+    let no_address = Outcome::Dropped(Discard::NoAddress);
+    assert_eq!(rt; step(&mut world, &Event::Tick(moment(200))), Outcome::Done);
+    assert_eq!(rt; up(&mut world, 2, 100), Outcome::SentDown(300));
+    assert_eq!(rt; up(&mut world, 1, 201), Outcome::SentDown(300));
+    assert_eq!(rt; step(&mut world, &Event::Tick(moment(120))), Outcome::Done);
+    assert_eq!(rt; up(&mut world, 0, 259), no_address);
+    assert_eq!(rt; up(&mut world, 0, 260), Outcome::SentDown(300));
+}
+
+#[test]
+fn another_circuit_does_not_exist(rt: HostRuntime) {
+    let mut world = opened(&rt, rt.alloc(), 16);
+    let frame = discover(1);
+    let other = Circuit::new(1).unwrap();
+    let events = [
+        Event::Frame(other, Proto::V4, frame.as_slice()),
+        Event::Up(other, 0, moment(100), 0),
+        Event::Down(other, 0),
+    ];
+    assert_eq!(rt; send(&mut world, 1), Outcome::SentUp(255));
+    for event in &events {
+        let mut out = PacketBuf::new();
+        let _ = out.push(7);
+        assert_eq!(rt; world.step(event, &mut out), Outcome::Gone);
+        assert!(rt; out.is_empty());
+    }
+    assert_eq!(rt; up(&mut world, 0, 100), Outcome::SentDown(300));
+}
+
+#[test]
+fn the_network_keeps_the_newest(rt: HostRuntime) {
+    let mut world = opened(&rt, rt.alloc(), 2);
+    for client in [1, 2, 3] {
+        assert_eq!(rt; send(&mut world, client), Outcome::SentUp(255));
+    }
+    assert_eq!(rt; up(&mut world, 2, 100), Outcome::Gone);
+    assert_eq!(rt; up(&mut world, 1, 100), Outcome::SentDown(300));
+    assert_eq!(rt; up(&mut world, 0, 100), Outcome::SentDown(300));
+    for (number, outcome) in [(0, offered(3, 11)), (1, offered(2, 10)), (2, Outcome::Gone)] {
+        assert_eq!(rt; step(&mut world, &Event::Down(only(), number)), outcome);
+    }
+    // a datagram can arrive again, and its reply takes the place of the oldest
+    assert_eq!(rt; up(&mut world, 1, 100), Outcome::SentDown(300));
+    assert_eq!(rt; step(&mut world, &Event::Down(only(), 1)), offered(3, 11));
+}
+
+/// To be run with each allocation refused in turn: the answer is right, or there was no memory.
+#[test]
+fn opened_or_out_of_memory(rt: HostRuntime) {
+    let config = match Config::read(rt.alloc(), TEXT) {
+        Ok(config) => config,
+        Err(fault) => {
+            assert_eq!(rt; fault, ConfigFault::Memory);
+            return;
+        }
+    };
+    let Ok(disk) = ModelDisk::new(rt.alloc(), 1) else {
+        return;
+    };
+    match World::open(rt.alloc(), &config, disk, 256) {
+        Ok(mut world) => assert_eq!(rt; send(&mut world, 1), Outcome::SentUp(255)),
+        Err(fault) => assert_eq!(rt; fault, OpenFault::Memory),
+    }
+}
+
+#[test]
+fn faults_have_words(rt: HostRuntime) -> Result<(), AllocError> {
+    let words = format!(in rt.alloc(); "{}", OpenFault::Memory)?;
+    assert_eq!(rt; words.as_str(), "out of memory");
+    Ok(())
+}
+
+/// A sink that takes some frames and refuses those after them.
+#[derive(Drop)]
+struct Shelf {
+    room: usize,
+    frames: Vec<(Circuit, Dest, PacketBuf)>,
+    refusals: Count,
+}
+
+impl Shelf {
+    fn new(alloc: Global, room: usize) -> Result<Shelf, AllocError> {
+        Ok(Shelf {
+            room,
+            frames: Vec::with_capacity(alloc, 2)?,
+            refusals: Count::new(),
+        })
+    }
+
+    /// Keeps the frame if there is room.
+    fn keep(&mut self, circuit: Circuit, dest: Dest, bytes: &[u8]) -> bool
+        ensures yes { result ≡ true → self.new.frames.items ≡ self.old.frames.items ++ (circuit, dest, bytes.now) ∷ [] }
+        ensures no { result ≡ false → self.new.frames.items ≡ self.old.frames.items }
+        ensures refusals { self.new.refusals ≡ self.old.refusals }
+    {
+        let mut copy = PacketBuf::new();
+        if copy.extend(bytes).is_err() || self.frames.len() >= self.room {
+            return false;
+        }
+        self.frames.push((circuit, dest, copy)).is_ok()
+    }
+}
+
+impl Sink for Shelf {
+    ghost use Rattle.std.specs.Prelude.{map};
+
+    ghost taken = { λ s. map (λ f. record { circuit = f.0; frame = record { dest = f.1; bytes = f.2 } }) s.frames.items };
+
+    ghost refusals = { λ s. s.refusals.count };
+
+    fn frame(&mut self, circuit: Circuit, dest: Dest, bytes: &[u8]) -> bool {
+        if self.keep(circuit, dest, bytes) {
+            return true;
+        }
+        self.refusals.tick();
+        false
+    }
+}
+
+/// Two offers leave, with the events 2 and 6.
+fn two_offers<'a>(first: &'a PacketBuf, second: &'a PacketBuf) -> [Event<'a>; 7] {
+    [
+        Event::Frame(only(), Proto::V4, first.as_slice()),
+        Event::Up(only(), 0, moment(100), 0),
+        Event::Down(only(), 0),
+        Event::Down(only(), 9),
+        Event::Frame(only(), Proto::V4, second.as_slice()),
+        Event::Up(only(), 0, moment(160), 0),
+        Event::Down(only(), 0),
+    ]
+}
+
+#[test]
+fn a_run_hands_on_each_frame(rt: HostRuntime) -> Result<(), AllocError> {
+    let mut world = opened(&rt, rt.alloc(), 16);
+    let mut shelf = Shelf::new(rt.alloc(), 2)?;
+    let (first, second) = (discover(1), discover(2));
+    assert_eq!(rt; world.run(&two_offers(&first, &second), &mut shelf), Ok(()));
+    assert_eq!(rt; shelf.frames.len(), 2);
+    for ((circuit, dest, _), client) in shelf.frames.iter().zip([1, 2]) {
+        assert_eq!(rt; Outcome::Framed(*circuit, *dest), offered(client, 10));
+    }
+    if let Some((_, _, bytes)) = shelf.frames.get(0) {
+        assert_eq!(rt; bytes.as_slice(), offer().as_slice());
+    }
+    Ok(())
+}
+
+#[test]
+fn a_run_stops_where_the_sink_refuses(rt: HostRuntime) -> Result<(), AllocError> {
+    for (room, at) in [(0, 2), (1, 6)] {
+        let mut world = opened(&rt, rt.alloc(), 16);
+        let mut shelf = Shelf::new(rt.alloc(), room)?;
+        let (first, second) = (discover(1), discover(2));
+        assert_eq!(rt;
+            world.run(&two_offers(&first, &second), &mut shelf),
+            Err(at)
+        );
+        assert_eq!(rt; shelf.frames.len(), room);
+    }
+    Ok(())
+}
