@@ -39,29 +39,16 @@ fn apply_lines<M: Machine, R: Read, W: Write>(
                 if len == 0 {
                     return DONE;
                 }
-                match apply_line(
-                    machine,
-                    config,
-                    number,
-                    &line[..len],
-                    &mut bytes,
-                    &mut out,
-                    writer,
-                ) {
+                let text = &line[..len];
+                match apply_line(machine, config, number, text, &mut bytes, &mut out, writer) {
                     Some(status) => return status,
                     None => return DONE,
                 }
             }
             LineEnd::Newline(len) => {
-                if let Some(status) = apply_line(
-                    machine,
-                    config,
-                    number,
-                    &line[..len],
-                    &mut bytes,
-                    &mut out,
-                    writer,
-                ) {
+                let text = &line[..len];
+                let ended = apply_line(machine, config, number, text, &mut bytes, &mut out, writer);
+                if let Some(status) = ended {
                     return status;
                 }
             }

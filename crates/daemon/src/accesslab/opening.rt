@@ -43,9 +43,9 @@ fn opened(alloc: Global, config: &Config, quota: u16) -> Result<World, OpenFault
     World::open(alloc, config, disk, quota)
 }
 
-/// Opens a world of the configuration, applies the lines of a text to it and writes the outcome of each.
-/// Returns the status: 0 at the end of the text, 3 at a bad line, 4 where the world was not opened, 6
-/// where the reader or the writer fails or the text does not end.
+/// Opens a world of the configuration, applies the lines of a text to it and writes the outcome of
+/// each. Returns the status: 0 at the end of the text, 3 at a bad line, 4 where the world was not
+/// opened, 6 where the reader or the writer fails or the text does not end.
 ///
 /// The contract does not say that 4 is returned only when out of memory, and 6 only as said.
 pub fn run<R: Read, W: Write>(

@@ -1,7 +1,8 @@
 ghost use Rattle.std.specs.Prelude.{◌<◌};
 
 use super::*;
-use config::{Config, ConfigFault};
+use config::Config;
+use fixtures::ONE_CIRCUIT;
 use std::alloc::{AllocError, Global};
 use std::io::{self, BufReader, ErrorKind, Read, Write};
 use wire::PacketBuf;
@@ -49,31 +50,9 @@ impl<'a> Read for Pieces<'a> {
     }
 }
 
-const K1: &str = "[server]
-listen4 = '127.0.0.1:6767'
-listen6 = '127.0.0.1:6547'
-duid = '00030001020000000001'
-[[relay]]
-name = 'r1'
-source = '127.0.0.1:6801'
-[[circuit]]
-id = 'a'
-relay = 'r1'
-region = 0
-lease = 600
-gateway4 = '10.0.0.1'
-prefix4 = 24
-first4 = '10.0.0.10'
-count4 = 1
-dns = ['10.255.0.53']
-link6 = '20010db8000000000000000000000001'
-first6 = '20010db8000000000000000000000100'
-count6 = 1
-";
-
 /// Whether a text has this output and ends with this status.
 fn gives(alloc: Global, text: &[u8], lines: &str, status: u8) -> bool {
-    let Ok(config) = Config::read(alloc, K1) else {
+    let Ok(config) = Config::read(alloc, ONE_CIRCUIT) else {
         return false;
     };
     let mut reader = text;
@@ -215,7 +194,7 @@ fn long_lines(rt: HostRuntime) -> Result<(), AllocError> {
 fn gives_in_pieces(alloc: Global, text: &[u8], most: usize, lines: &str, status: u8) -> bool
     requires { 0 < most }
 {
-    let Ok(config) = Config::read(alloc, K1) else {
+    let Ok(config) = Config::read(alloc, ONE_CIRCUIT) else {
         return false;
     };
     let pieces = Pieces { rest: text, most };
@@ -277,7 +256,7 @@ const TICKS: &str = "tick 1\ntick 2\n";
 
 /// The status and the output where the reader and the writer fail after so many calls.
 fn cut_short(alloc: Global, reads: usize, writes: usize) -> Option<(u8, Vec<u8>)> {
-    let config = Config::read(alloc, K1).ok()?;
+    let config = Config::read(alloc, ONE_CIRCUIT).ok()?;
     let mut reader = Failing {
         inner: TICKS.as_bytes(),
         calls: reads,
@@ -338,13 +317,16 @@ fn quota_of(alloc: Global, given: &[&str]) -> Result<u16, AllocError> {
 #[test]
 fn command_lines(rt: HostRuntime) -> Result<(), AllocError> {
     let alloc = rt.alloc();
-    assert_eq!(rt; quota_of(alloc, &["k1.toml"])?, 16);
-    assert_eq!(rt; quota_of(alloc, &["k1.toml", "--quota", "1"])?, 1);
-    assert_eq!(rt; quota_of(alloc, &["--quota=256", "k1.toml"])?, 256);
-    assert_eq!(rt; quota_of(alloc, &["k1.toml", "--quota", "0"])?, 0);
-    assert_eq!(rt; quota_of(alloc, &["k1.toml", "--quota", "257"])?, 0);
-    assert_eq!(rt; quota_of(alloc, &["k1.toml", "--quota"])?, 0);
-    assert_eq!(rt; quota_of(alloc, &["k1.toml", "k2.toml"])?, 0);
+    assert_eq!(rt; quota_of(alloc, &["one_circuit.toml"])?, 16);
+    assert_eq!(rt; quota_of(alloc, &["one_circuit.toml", "--quota", "1"])?, 1);
+    assert_eq!(rt; quota_of(alloc, &["--quota=256", "one_circuit.toml"])?, 256);
+    assert_eq!(rt; quota_of(alloc, &["one_circuit.toml", "--quota", "0"])?, 0);
+    assert_eq!(rt;
+        quota_of(alloc, &["one_circuit.toml", "--quota", "257"])?,
+        0
+    );
+    assert_eq!(rt; quota_of(alloc, &["one_circuit.toml", "--quota"])?, 0);
+    assert_eq!(rt; quota_of(alloc, &["one_circuit.toml", "another.toml"])?, 0);
     assert_eq!(rt; quota_of(alloc, &["--help"])?, 0);
     assert_eq!(rt; quota_of(alloc, &[])?, 0);
     Ok(())

@@ -40,15 +40,15 @@ returns-in-None-clause-ends g c = λ quota starts.
     (some_bytes c.read_line.new.line c.in-EndOfInput.len c.read_line.array_long (rw c.in-EndOfInput.is at c.in-Ok.ensures.within) c.if-len-eq0.false)
     (λ machines represents. c.in-None.ensures.follows quota machines represents)
 
-pub returns-in-Some-apply_line-clause-ends : goal.returns-in-Some-apply_line-clause-ends
-returns-in-Some-apply_line-clause-ends g c = λ quota starts.
-    ends_feed c.args.config.now quota c.lines.number _ _ _ _ _ _ _ _ (take c.in-Newline.len c.read_line.new.line) c.in-Some-apply_line.status
-    (c.lines.invariant.so_far quota starts) (rw c.in-Newline.is at c.in-Ok.ensures.end) (λ machines represents. c.in-Some-apply_line.ensures.follows quota machines represents)
+pub returns-in-Some-ended-clause-ends : goal.returns-in-Some-ended-clause-ends
+returns-in-Some-ended-clause-ends g c = λ quota starts.
+    ends_feed c.args.config.now quota c.lines.number _ _ _ _ _ _ _ _ (take c.in-Newline.len c.read_line.new.line) c.in-Some-ended.status
+    (c.lines.invariant.so_far quota starts) (rw c.in-Newline.is at c.in-Ok.ensures.end) (λ machines represents. c.in-Some-ended.ensures.follows quota machines represents)
 
 pub lines-preserved : goal.lines-preserved
 lines-preserved g c = record {
   line = c.read_line.array_long;
-  bytes = c.apply_line-in-Newline.array_long;
+  bytes = c.apply_line-ended.array_long;
   so_far = λ quota starts.
       next_line c.args.config.now quota c.lines.number _ _ _ _ _ _ _ _ (take c.in-Newline.len c.read_line.new.line)
       (c.lines.invariant.so_far quota starts) (rw c.in-Newline.is at c.in-Ok.ensures.end) (λ machines represents. c.in_default.ensures.follows quota machines represents);
