@@ -1,4 +1,4 @@
-//! Reads events from standard input, one a line, and writes what comes of each to standard output.
+//! Reads events from standard input, one per line, and writes their outcomes to standard output.
 #![tactic(auto)]
 
 ghost use Rattle.std.specs.Prelude.{◌≤◌};
@@ -9,21 +9,17 @@ use std::io::{self, BufReader, BufWriter, Write};
 use std::process::ExitCode;
 use std::{env, fs};
 
-/// Says on standard error why the program ends. Where that fails too, the status still tells it.
+/// Reports on standard error why the program ends, and returns the status.
 fn complain<D: std::fmt::Display + Drop>(rt: &HostRuntime, why: D, status: u8) -> u8 {
     let _ = eprintln!(rt; "{why}");
     status
 }
 
-/// Shows help, the version or what is wrong with the words.
+/// Shows help, the version or what is wrong with the command line, and returns the status.
 fn show(rt: &HostRuntime, refusal: &Refusal) -> u8 {
     match refusal {
         Refusal::Memory => complain(rt, "open memory", UNOPENED),
-        Refusal::Unspelled => complain(
-            rt,
-            "error: a word spells no value within its limits",
-            REFUSED,
-        ),
+        Refusal::BadValue => complain(rt, "error: a value is missing or out of range", REFUSED),
         Refusal::Usage(error) => {
             if error.print(rt).is_err() {
                 return FAILED;
@@ -33,7 +29,7 @@ fn show(rt: &HostRuntime, refusal: &Refusal) -> u8 {
     }
 }
 
-/// The configuration in a file, or the status that tells why there is none.
+/// The configuration in a file, or the status where it can't be read or is refused.
 fn configuration(rt: &HostRuntime, path: &str) -> Result<Config, u8> {
     let Ok(bytes) = fs::read(rt, path) else {
         let _ = eprint!(rt; "{path}: ");
@@ -52,7 +48,7 @@ fn configuration(rt: &HostRuntime, path: &str) -> Result<Config, u8> {
     }
 }
 
-/// Runs over standard input.
+/// Runs over standard input and output, and returns the status.
 fn run(rt: &HostRuntime, values: LabWords<'_>) -> u8
     requires least { 1 ≤ values.quota }
     requires most { values.quota ≤ 256 }
@@ -81,7 +77,7 @@ fn run(rt: &HostRuntime, values: LabWords<'_>) -> u8
 fn status(rt: &HostRuntime) -> u8 {
     let alloc = rt.alloc();
     let Ok(given) = env::args(rt) else {
-        return complain(rt, "error: a word is no text", REFUSED);
+        return complain(rt, "error: an argument is not UTF-8", REFUSED);
     };
     let given: Result<Vec<String>, _> = given.skip(1).collect(alloc);
     let Ok(given) = given else {

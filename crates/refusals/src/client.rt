@@ -1,39 +1,16 @@
 //! A world of one circuit and the one client that it answers.
 use config::Config;
+use fixtures::{ONE_CIRCUIT, client_frame, offer};
 use std::alloc::Global;
 use std::fmt;
-use types::{Addr4, Circuit, Count, Dest, Moment, Proto};
+use types::{Addr4, Circuit, Count, Dest, Kind4, Moment, Proto};
 use wire::PacketBuf;
 use world::{Event, ModelDisk, Outcome, Sink, World};
 
-/// Circuit `a`: gateway 10.0.0.1, a pool from 10.0.0.10 on, leases of 600 s.
-const TEXT: &str = "
-[server]
-listen4 = '127.0.0.1:6767'
-listen6 = '127.0.0.1:6547'
-duid = '00030001020000000001'
-[[relay]]
-name = 'r1'
-source = '127.0.0.1:6801'
-[[circuit]]
-id = 'a'
-relay = 'r1'
-region = 0
-lease = 600
-gateway4 = '10.0.0.1'
-prefix4 = 24
-first4 = '10.0.0.10'
-count4 = 1
-dns = ['10.255.0.53']
-link6 = '20010db8000000000000000000000001'
-first6 = '20010db8000000000000000000000100'
-count6 = 1
-";
-
-/// The number of the fault that tells want of memory.
+/// The number of the fault of a configuration that is refused because memory ran out.
 const MEMORY: u8 = 40;
 
-/// What an answer was.
+/// Whether the client was answered.
 #[derive(Clone, Copy, Debug, PartialEq, Eq)]
 pub enum Judgement {
     Right,
@@ -70,9 +47,9 @@ impl Sink for Refusing {
     }
 }
 
-/// The world, or why there is none.
+/// The world, or why it was not opened.
 pub fn opened(alloc: Global) -> Result<World, Judgement> {
-    let config = match Config::read(alloc, TEXT) {
+    let config = match Config::read(alloc, ONE_CIRCUIT) {
         Ok(config) => config,
         Err(fault) => {
             if fault.number() == MEMORY {
@@ -90,37 +67,14 @@ pub fn opened(alloc: Global) -> Result<World, Judgement> {
     }
 }
 
-/// The client's DHCPDISCOVER.
-fn discover() -> [u8; 244] {
-    let mut frame = [0; 244];
-    frame[..8].copy_from_slice(&[1, 1, 6, 0, 0, 0, 0, 1]);
-    frame[28..34].copy_from_slice(&[2, 0, 0, 0, 0, 1]);
-    frame[236..].copy_from_slice(&[99, 130, 83, 99, 53, 1, 1, 255]);
-    frame
-}
-
-/// The DHCPOFFER of 10.0.0.10 that it gets.
-fn offer() -> [u8; 300] {
-    let mut bytes = [0; 300];
-    bytes[..8].copy_from_slice(&[2, 1, 6, 0, 0, 0, 0, 1]);
-    bytes[16..20].copy_from_slice(&[10, 0, 0, 10]);
-    bytes[24..34].copy_from_slice(&[10, 0, 0, 1, 2, 0, 0, 0, 0, 1]);
-    bytes[236..243].copy_from_slice(&[99, 130, 83, 99, 53, 1, 2]);
-    bytes[243..255].copy_from_slice(&[54, 4, 10, 0, 0, 1, 51, 4, 0, 0, 2, 88]);
-    bytes[255..267].copy_from_slice(&[58, 4, 0, 0, 1, 44, 59, 4, 0, 0, 2, 13]);
-    bytes[267..279].copy_from_slice(&[1, 4, 255, 255, 255, 0, 3, 4, 10, 0, 0, 1]);
-    bytes[279..286].copy_from_slice(&[6, 4, 10, 255, 0, 53, 255]);
-    bytes
-}
-
-/// A run up to the client's offer, and the offer once more by a step of its own.
+/// Runs up to the client's offer, which the sink refuses, and takes the offer by another step.
 pub fn right(world: &mut World) -> Judgement {
     let (Some(circuit), Some(moment)) = (Circuit::new(0), Moment::new(100)) else {
         return Judgement::Wrong;
     };
-    let frame = discover();
+    let frame = client_frame(Kind4::Discover, 1, &[]);
     let events = [
-        Event::Frame(circuit, Proto::V4, &frame),
+        Event::Frame(circuit, Proto::V4, frame.as_slice()),
         Event::Up(circuit, 0, moment, 0),
         Event::Tick(moment),
         Event::Down(circuit, 0),
@@ -134,7 +88,7 @@ pub fn right(world: &mut World) -> Judgement {
     let mut out = PacketBuf::new();
     let dest = Dest::Unicast([2, 0, 0, 0, 0, 1], Addr4([10, 0, 0, 10]));
     if world.step(&Event::Down(circuit, 0), &mut out) != Outcome::Framed(circuit, dest)
-        || out.as_slice() != offer().as_slice()
+        || out.as_slice() != offer(1).as_slice()
     {
         return Judgement::Wrong;
     }

@@ -1,10 +1,10 @@
-//! Opens a world while one request for memory is refused, and has it answer a client: the answer is
-//! the whole right one, or want of memory. It reads one line:
+//! Opens a world while one request for memory is refused, and lets it answer a client: either the whole
+//! answer is right, or the opening reports that memory ran out. It reads one line:
 //!
-//! `refuse K` makes so many requests first that the K-th of the opening is the 1000th of all, and prints
-//! `right`, `memory` or `wrong`. `opening` and `run` open a world, the second has it answer too, and
-//! print how many requests are granted from then on until one is refused. A run takes no memory where
-//! both numbers are the same.
+//! `refuse K` first makes as many requests as it takes for the K-th of the opening to be the 1000th of
+//! all, and prints `right`, `memory` or `wrong`. `opening` opens a world, `run` also lets it answer, and
+//! both then print how many further requests are granted before one is refused. Where the two numbers
+//! are equal, a run takes no memory.
 #![tactic(auto)]
 
 mod client;
@@ -13,10 +13,10 @@ use client::{Judgement, opened, right};
 use std::alloc::Global;
 use std::io::{self, Read};
 
-/// Which request of all is to be refused.
+/// The number of the request that is refused.
 const REFUSED: u32 = 1000;
 
-/// Makes requests until one is refused, at most so many: how many were granted.
+/// Makes at most `most` requests until one is refused, and returns how many were granted.
 fn granted(alloc: Global, most: u32) -> u32 {
     for granted in 0..most {
         if Vec::<u8>::with_capacity(alloc, 16).is_err() {
@@ -26,7 +26,7 @@ fn granted(alloc: Global, most: u32) -> u32 {
     most
 }
 
-/// What comes of an opening whose request of this number is refused.
+/// The answer of a world whose opening has its request of this number refused.
 fn refused(alloc: Global, number: u32) -> Judgement {
     granted(alloc, REFUSED.saturating_sub(number));
     match opened(alloc) {
@@ -35,7 +35,7 @@ fn refused(alloc: Global, number: u32) -> Judgement {
     }
 }
 
-/// How many requests are granted behind an opening, and behind a run where there is to be one.
+/// How many requests are granted after an opening, and after a run if there is one.
 fn left(alloc: Global, runs: bool) -> Option<u32> {
     let mut world = opened(alloc).ok()?;
     if runs && right(&mut world) != Judgement::Right {
@@ -44,7 +44,7 @@ fn left(alloc: Global, runs: bool) -> Option<u32> {
     Some(granted(alloc, REFUSED))
 }
 
-/// The number that decimal digits spell; what is none counts as the digit 0.
+/// The number that the decimal digits of a text spell; other bytes are ignored.
 fn number(digits: &[u8]) -> u32 {
     let mut number: u32 = 0;
     for digit in digits {

@@ -1,5 +1,9 @@
-//! Whole runs of `accesslab`: a configuration, lines of events, and what is written for them.
+//! Whole runs of `accesslab`: a configuration, lines of events, and the output for them.
 #![tactic(auto)]
 
+#[cfg(test)]
+mod leases;
+#[cfg(test)]
+mod rows;
 #[cfg(test)]
 mod tests;
