@@ -1,4 +1,4 @@
--- When a text is a configuration, and which fault tells that it is none.
+-- When a text is a configuration, and which fault it has otherwise.
 use Rattle.std.specs.Prelude.{◌≡◌, ℕ, ◌≤◌, List, [], ◌∷◌, length, Some, None, ⊤}
 use Rattle.toml.specs.Data.{Members}
 use Rattle.toml.specs.Parse.{parse_document}
@@ -37,7 +37,7 @@ pub record IsValid (tables : Tables) (settings : Settings) : Type 0 where
   -- rules 44 to 49
   pub rules : KeepsRules settings
 
--- the fault tells the least of the rules 44 to 49 that the settings break
+-- the fault is the least of the rules 44 to 49 that the settings break
 abbrev pub IsLeastRule : Settings → ConfigFault → Type 0
 IsLeastRule s (IdTwice first second) = ¬ NamesDiffer s
 IsLeastRule s (RegionTwice first second) = NamesDiffer s × ¬ RegionsDiffer s
@@ -52,7 +52,7 @@ IsLeastRule s (Text error) = ⊥
 IsLeastRule s (Missing location) = ⊥
 IsLeastRule s (Limit location) = ⊥
 
--- the settings that are read break a rule, and the fault tells the least one
+-- the settings that are read break a rule, and the fault is the least one
 pub record BreaksRule (tables : Tables) (fault : ConfigFault) : Type 0 where
   pub settings : Settings
   pub all : HasAll tables
@@ -64,7 +64,7 @@ pub record BreaksLimit (tables : Tables) : Type 0 where
   pub all : HasAll tables
   pub broken : (settings : Settings) → ¬ IsRead tables settings
 
--- the fault tells the least rule that the tables break
+-- the fault is the least rule that the tables break
 abbrev pub IsLeastBroken : Tables → ConfigFault → Type 0
 IsLeastBroken tables (Missing location) = ¬ HasAll tables
 IsLeastBroken tables (Limit location) = BreaksLimit tables

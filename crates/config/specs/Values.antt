@@ -15,8 +15,8 @@ use Rattle.config.specs.Tables.{ServerKeys, RelayKeys, CircuitKeys}
 use Rattle.config.specs.Texts.{IsAddress, IsSource, IsAddress6}
 
 -- the whole number n, from `least` to `most`
-pub record IsNumber (told : Field ℤ) (least most n : ℕ) : Type 0 where
-  pub value : told ≡ Value (pos n)
+pub record IsNumber (field : Field ℤ) (least most n : ℕ) : Type 0 where
+  pub value : field ≡ Value (pos n)
   pub from : least ≤ n
   pub to : n ≤ most
 

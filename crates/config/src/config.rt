@@ -65,7 +65,7 @@ fn index_of(circuits: &[CircuitConfig], id: &CircuitId) -> Option<usize>
 }
 
 impl Config {
-    /// The configuration of values that keep the rules; none where memory is refused.
+    /// The configuration of values that keep the rules; an error where memory is refused.
     fn of(alloc: Global, values: Values) -> Result<Config, AllocError>
         requires limits { IsWithinLimits (values.relay ∷ []) values.circuit }
         requires rules { KeepsRules (one_each values.server values.relay values.circuit) }
@@ -131,7 +131,7 @@ impl Config {
         self.circuits.len()
     }
 
-    /// The relay of this number; none where there are fewer.
+    /// The relay of this index; `None` where there are fewer.
     pub fn relay(&self, relay: RelayNo) -> Option<&RelayConfig>
         ensures value { option_copied result ≡ slice_get self.now.relays relay }
         ensures sound { IsSound self.now }

@@ -32,7 +32,7 @@ impl fmt::Display for Location {
 }
 
 /// Why a text is no configuration, in the order of the numbers. Of several rules that it breaks the
-/// least is told. Circuits are counted from 1.
+/// least is reported. Circuits are counted from 1.
 #[derive(Clone, Copy, Debug, PartialEq, Eq, Error)]
 pub enum ConfigFault {
     /// Memory was refused. It says nothing of the text.

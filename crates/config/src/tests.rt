@@ -368,7 +368,7 @@ fn faults_have_words(rt: HostRuntime) -> Result<(), AllocError> {
     Ok(())
 }
 
-/// To be run with each allocation refused in turn: the answer is right, or it is want of memory.
+/// To be run with each allocation refused in turn: the answer is right, or out of memory.
 #[test]
 fn right_or_out_of_memory(rt: HostRuntime) {
     let Ok(text) = edited(rt.alloc(), &[]) else {

@@ -13,7 +13,7 @@ code_of_kind Nak = 6
 code_of_kind Release = 7
 code_of_kind Inform = 8
 
--- the message type of a value; none where the value is no type's
+-- the message type of a value; None where no type has it
 abbrev pub kind_of_code : ℕ → Option Kind4
 kind_of_code n =
     if n == 1 then Some Discover

@@ -30,7 +30,7 @@ impl Model for CircuitId {
 }
 
 impl CircuitId {
-    /// The id of these bytes; none where they are too few, too many, or not visible ASCII.
+    /// The id of these bytes; `None` where they are too few, too many, or not visible ASCII.
     pub fn new(bytes: &[u8]) -> Option<CircuitId>
         ensures within { IsSome result ↔ IsCircuitId bytes.now }
         ensures value { IfSome result (λ id. id ≡ bytes.now) }

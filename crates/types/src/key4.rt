@@ -37,7 +37,7 @@ impl Model for Key4 {
 }
 
 impl Key4 {
-    /// The key of these bytes; none where they are fewer than 2 or more than 64.
+    /// The key of these bytes; `None` where they are fewer than 2 or more than 64.
     pub fn new(bytes: &[u8]) -> Option<Key4>
         ensures within { IsSome result ↔ ((MIN_KEY4 ≤ length bytes.now) × (length bytes.now ≤ MAX_KEY4)) }
         ensures value { IfSome result (λ key. key ≡ bytes.now) }

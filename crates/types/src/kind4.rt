@@ -16,7 +16,7 @@ pub enum Kind4 {
 }
 
 impl Kind4 {
-    /// The type of this code; none where the code is no type's.
+    /// The type of this code; `None` where no type has it.
     pub fn new(code: u8) -> Option<Kind4>
         ensures within { IsSome result ↔ ((1 ≤ code) × (code ≤ 8)) }
         ensures value { IfSome result (λ kind. code_of_kind kind ≡ code) }

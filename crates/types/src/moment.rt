@@ -35,7 +35,7 @@ impl Moment {
         Moment { seconds: 0 }
     }
 
-    /// The moment at this many seconds; none past the last.
+    /// The moment at this many seconds; `None` past the last.
     pub fn new(seconds: u64) -> Option<Moment>
         ensures within { IsSome result ↔ (seconds ≤ LAST_MOMENT) }
         ensures value { IfSome result (λ moment. moment ≡ seconds) }

@@ -61,7 +61,7 @@ impl PacketBuf {
         self.bytes.try_extend_from_slice(bytes).map_err(|_| Full)
     }
 
-    /// Appends zeros up to `n` bytes; none where there are as many already.
+    /// Appends zeros up to `n` bytes; nothing where there are as many already.
     pub fn pad_to(&mut self, n: usize) -> Result<(), Full>
         ensures full { IsOk result ↔ (n ≤ MAX_DATAGRAM) }
         ensures ok { OnOk result (self.new ≡ padded_to n self.old) }

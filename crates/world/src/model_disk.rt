@@ -48,7 +48,7 @@ fn formatted() -> [u8; REGION]
 }
 
 impl ModelDisk {
-    /// With so many formatted regions; none where memory is refused.
+    /// With so many formatted regions; an error where memory is refused.
     pub fn new(alloc: Global, regions: u16) -> Result<ModelDisk, AllocError>
         ensures { IfOk result (λ disk. disk ≡ replicate regions formatted) }
     {
