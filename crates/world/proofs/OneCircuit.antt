@@ -6,6 +6,7 @@ use Rattle.world.specs.Seen.{Seen, Tick, seen_of, named_by}
 use Rattle.world.specs.Headline.{CircuitState, Represents, frames_to, frame_of, IsOutcome, Answers, after_seen, Steps}
 use Rattle.world.specs.StepsAs.{StepsAs, machine_of}
 use Rattle.world.specs.declared.event.Event.{Event}
+use Rattle.world.specs.declared.event.Event.TheVariants as event
 use Rattle.world.specs.declared.outcome.Outcome.{Outcome}
 use Rattle.world.specs.declared.outcome.Outcome.TheVariants as outcome
 
@@ -38,14 +39,14 @@ module _ (e : Event) (s : Seen) (old new : CircuitState) (o : Outcome) (out : Li
       subst₂ P part machine steps.outcome
 
   -- the only circuit sees the event
-  pub seen_steps : seen_of 0 e ≡ Some s → ((c : ℕ) → named_by e ≡ Some c → c ≡ 0) → (named_by e ≡ None → (o ≡ outcome.Done) × (out ≡ [])) → Steps e (old ∷ []) (new ∷ []) o out
-  seen_steps sees named unnamed = record {
+  pub seen_steps : seen_of 0 e ≡ Some s → ((c : ℕ) → named_by e ≡ Some c → c ≡ 0) → ((now : ℕ) → e ≡ event.Tick now → (o ≡ outcome.Done) × (out ≡ [])) → Steps e (old ∷ []) (new ∷ []) o out
+  seen_steps sees named ticked = record {
     count = refl;
     each = λ c setup a here. each_at c setup a here;
     answers = λ c setup a here. answers_at c setup a here;
     others = λ c blind. others_at c blind;
     gone = λ c name far. absurd (too_far c (named c name) far);
-    unnamed = unnamed;
+    ticked = ticked;
   }
     where
       each_at : (c : ℕ) (setup : Setup) (a : Alone) → Represents c (old ∷ []) setup a → Represents c (new ∷ []) setup (after_seen setup (seen_of c e) a)
@@ -72,7 +73,7 @@ gone_steps e state o out k name blind gone empty = record {
   answers = λ c setup a here. answers_at c setup a here;
   others = λ c unseen. refl;
   gone = λ c named far. (gone, empty, refl);
-  unnamed = λ none. let h : Some (suc k) ≡ None = sym name ∙ none in absurd cc;
+  ticked = λ now is. let h : Some (suc k) ≡ None = sym name ∙ ap named_by is in absurd cc;
 }
   where
     each_at : (c : ℕ) (setup : Setup) (a : Alone) → Represents c (state ∷ []) setup a → Represents c (state ∷ []) setup (after_seen setup (seen_of c e) a)
@@ -99,7 +100,7 @@ named_steps e k s old new o out sees named is steps =
     let P : ℕ → Type 0 = λ n. StepsAs n s old new o out in
     let sees_it : seen_of 0 e ≡ Some s = sees 0 ∙ ap (λ n. cond (eqb n 0) (Some s) None) is in
     seen_steps e s old new o out (subst P is steps) sees_it (λ c name. same_circuit k c (sym named ∙ name) is)
-    (λ none. let h : Some k ≡ None = sym named ∙ none in absurd cc)
+    (λ now tick. let h : Some k ≡ None = sym named ∙ ap named_by tick in absurd cc)
 
 pub other_steps : (e : Event) (k : ℕ) (s : Seen) (state : CircuitState) (o : Outcome) (out : List ℕ)
     → IsSeenBy e k s → named_by e ≡ Some k → (k ≡ 0 → ⊥) → o ≡ outcome.Gone → out ≡ [] → Steps e (state ∷ []) (state ∷ []) o out
@@ -109,4 +110,4 @@ other_steps e (suc k) s state o out sees named other gone empty = gone_steps e s
 pub tick_steps : (e : Event) (now : ℕ) (old new : CircuitState) (o : Outcome) (out : List ℕ)
     → seen_of 0 e ≡ Some (Tick now) → named_by e ≡ None → StepsAs 0 (Tick now) old new o out → o ≡ outcome.Done → out ≡ [] → Steps e (old ∷ []) (new ∷ []) o out
 tick_steps e now old new o out sees unnamed steps done empty =
-    seen_steps e (Tick now) old new o out steps sees (λ c name. let h : Some c ≡ None = sym name ∙ unnamed in absurd cc) (λ none. (done, empty))
+    seen_steps e (Tick now) old new o out steps sees (λ c name. let h : Some c ≡ None = sym name ∙ unnamed in absurd cc) (λ moment is. (done, empty))

@@ -1,15 +1,18 @@
 -- One more event at the end of a run.
-use Rattle.std.proofs.Common.{◌≡◌, ℕ, ◌+◌, ◌<◌, ◌≤◌, Bool, true, false, cond, eqb, ltb, List, [], ◌∷◌, ◌++◌, length, take, get_or, refl, sym, ap, subst, ◌∙◌, arith, append_assoc, length-append, append-nil, eq-eqb, ltb-false}
+use Rattle.std.proofs.Common.{◌≡◌, ℕ, ◌+◌, ◌<◌, ◌≤◌, ◌⊎◌, inl, inr, Bool, true, false, cond, eqb, ltb, List, [], ◌∷◌, ◌++◌, length, take, get_or, refl, sym, ap, subst, ◌∙◌, arith, append_assoc, length-append, append-nil, eq-eqb, ne_eqb, ltb-false}
 use borrow.Author.Tests.{ltb-true}
-use Rattle.std.specs.Prelude.{Option, Some, None}
+use Rattle.std.specs.Prelude.{Option, Some, None, slice_get}
 use Rattle.std.specs.List.{cons_option}
-use Rattle.std.proofs.lemmas.List.{take_more}
+use Rattle.std.proofs.lemmas.List.{take_more, take_all, take-append-le}
 use Rattle.std.proofs.lemmas.List.Elements.{filter_map-append}
+use Rattle.std.proofs.lemmas.Option.{slice_get_cases}
+use Rattle.std.proofs.Math.Seq.{take-nil}
 use Rattle.relay.specs.SentFrame.{SentFrame}
 use Rattle.relay.specs.Relays.{CircuitFrame}
 use Rattle.world.specs.Alone.{Setup, Alone, Effect, Dropped, Gone, SentUp, SentDown, Framed, Done, alone_step, sent_frame, after_all, frames}
 use Rattle.world.specs.Seen.{Seen, Frame, Up, Down, seen_of, seen_by, named_by}
-use Rattle.world.specs.Headline.{CircuitState, Represents, towards, frames_to, frame_of, IsOutcome, Answers, after_seen, Steps, Reaches, Emits, EmitsAt}
+use Rattle.world.specs.Headline.{CircuitState, Represents, towards, frames_to, frame_of, IsOutcome, Answers, after_seen, Steps, Reaches, AreFrames, BeginsWith, Emits, EmitsAt}
+use Rattle.world.specs.StepsAs.{machine_of}
 use Rattle.world.specs.declared.event.Event.{Event}
 use Rattle.world.specs.declared.event.Event.TheVariants as event
 use Rattle.world.specs.declared.outcome.Outcome.{Outcome}
@@ -90,30 +93,6 @@ frames_more es e start now new o out reaches steps c setup a here =
     ∙ frames-append setup (seen_by c es) (seen_list (seen_of c e)) a
     ∙ ap (λ fs. frames setup (seen_by c es) a ++ fs) (sym (sent_with_one setup c (seen_of c e) _ o out (steps.answers c setup _ (reaches.each c setup a here))))
 
-pub emits_more : (es : List Event) (e : Event) (start now new : List CircuitState) (o : Outcome) (out : List ℕ) (before taken taken' : List CircuitFrame)
-    → Emits es start before taken → Reaches es start now → Steps e now new o out → taken' ≡ taken ++ frame_of o out → Emits (es ++ e ∷ []) start before taken'
-emits_more es e start now new o out before taken taken' emits reaches steps more = record {
-  sent = emits.sent ++ frame_of o out;
-  taken = more ∙ ap (λ fs. fs ++ frame_of o out) emits.taken ∙ append_assoc before emits.sent (frame_of o out);
-  are_frames = record {
-    each = λ c setup a here.
-        filter_map-append (towards c) emits.sent (frame_of o out) ∙ ap (λ fs. fs ++ frames_to c (frame_of o out)) (emits.are_frames.each c setup a here)
-        ∙ sym (frames_more es e start now new o out reaches steps c setup a here);
-  };
-}
-
-none_is_one : {n : ℕ} → n ≡ 0 → n ≡ 1 → ⊥
-none_is_one h k = omega (arith, h, k)
-
--- a frame that left with circuit k's effect left towards k
-counts_its : (k : ℕ) (f : Effect) (o : Outcome) (out : List ℕ) → IsOutcome k f o out → length (frame_of o out) ≡ 1 → length (frames_to k (frame_of o out)) ≡ 1
-counts_its k (Framed frame) o out h one = ap length (by_effect k (Framed frame) o out h)
-counts_its k (Dropped reason) o out h one = absurd (none_is_one (ap (λ v. length (frame_of v out)) h.0) one)
-counts_its k Gone o out h one = absurd (none_is_one (ap (λ v. length (frame_of v out)) h.0) one)
-counts_its k (SentUp len) o out h one = absurd (none_is_one (ap (λ v. length (frame_of v out)) h.0) one)
-counts_its k (SentDown len) o out h one = absurd (none_is_one (ap (λ v. length (frame_of v out)) h.0) one)
-counts_its k Done o out h one = absurd (none_is_one (ap (λ v. length (frame_of v out)) h.0) one)
-
 same_name : {k m : ℕ} → Some m ≡ Some k → eqb m k ≡ true
 same_name {k} {m} h = eq-eqb m k cc
 
@@ -127,6 +106,107 @@ its_answer k (event.Frame circuit proto bytes) setup b o out named h = seen_answ
 its_answer k (event.Up circuit j now fault) setup b o out named h = seen_answer k circuit (Up j now fault) setup b o out (same_name named) h
 its_answer k (event.Down circuit j) setup b o out named h = seen_answer k circuit (Down j) setup b o out (same_name named) h
 its_answer k (event.Tick now) setup b o out named h = absurd cc
+
+-- ---- towards a circuit that doesn't exist
+
+-- towards another circuit the frame of circuit k's effect does not leave
+away_from : (k c : ℕ) (f : Effect) (o : Outcome) (out : List ℕ) → IsOutcome k f o out → eqb k c ≡ false → frames_to c (frame_of o out) ≡ []
+away_from k c (Framed frame) o out h other = ap (λ v. frames_to c (frame_of v out)) h.0 ∙ rw other refl
+away_from k c (Dropped reason) o out h other = ap (λ v. frames_to c (frame_of v out)) h.0
+away_from k c Gone o out h other = ap (λ v. frames_to c (frame_of v out)) h.0
+away_from k c (SentUp len) o out h other = ap (λ v. frames_to c (frame_of v out)) h.0
+away_from k c (SentDown len) o out h other = ap (λ v. frames_to c (frame_of v out)) h.0
+away_from k c Done o out h other = ap (λ v. frames_to c (frame_of v out)) h.0
+
+-- every state represents the machine that it shows
+state_represents : (states : List CircuitState) (k : ℕ) (state : CircuitState) → slice_get states k ≡ Some state → Represents k states state.setup (machine_of state)
+state_represents states k state there = record { state = state; there = there; setup_is = refl; up = refl; down = refl; book = refl }
+
+-- no frame leaves towards a circuit past the end
+past_step : (e : Event) (old new : List CircuitState) (o : Outcome) (out : List ℕ) → Steps e old new o out → (c : ℕ) → length old ≤ c → frames_to c (frame_of o out) ≡ []
+past_step e old new o out steps c past = by_name e refl where
+  silent : (v : Outcome) → o ≡ v → frame_of v out ≡ [] → frames_to c (frame_of o out) ≡ []
+  silent v is none = ap (λ w. frames_to c (frame_of w out)) is ∙ ap (frames_to c) none
+
+  apart : (k : ℕ) → k < length old → k ≡ c → ⊥
+  apart k there same = omega (arith, there, past, same)
+
+  by_state : (k : ℕ) → named_by e ≡ Some k → ((state : CircuitState) × (k < length old) × (slice_get old k ≡ Some state) × (get_or old k state ≡ state)) ⊎ ((length old ≤ k) × (slice_get old k ≡ None))
+      → frames_to c (frame_of o out) ≡ []
+  by_state k named (inl (state, within, there, read)) =
+      let answer = its_answer k e state.setup (machine_of state) o out named (steps.answers k state.setup (machine_of state) (state_represents old k state there)) in
+      away_from k c answer.0 o out answer.1 (ne_eqb k c (apart k within))
+  by_state k named (inr (far, none)) = silent outcome.Gone (steps.gone k named far).0 refl
+
+  at_name : (k : ℕ) → named_by e ≡ Some k → frames_to c (frame_of o out) ≡ []
+  at_name k named = by_state k named (slice_get_cases old k).1
+
+  by_name : (v : Event) → e ≡ v → frames_to c (frame_of o out) ≡ []
+  by_name (event.Frame circuit proto bytes) is = at_name circuit (ap named_by is)
+  by_name (event.Up circuit j now fault) is = at_name circuit (ap named_by is)
+  by_name (event.Down circuit j) is = at_name circuit (ap named_by is)
+  by_name (event.Tick now) is = silent outcome.Done (steps.ticked now is).0 refl
+
+-- ---- the frames with one event more
+
+module _ (es : List Event) (e : Event) (start now new : List CircuitState) (o : Outcome) (out : List ℕ) (reaches : Reaches es start now) (steps : Steps e now new o out) where
+  are_frames_more : (sent : List CircuitFrame) → AreFrames es start sent → AreFrames (es ++ e ∷ []) start (sent ++ frame_of o out)
+  are_frames_more sent are = record {
+    each = λ c setup a here.
+        filter_map-append (towards c) sent (frame_of o out) ∙ ap (λ fs. fs ++ frames_to c (frame_of o out)) (are.each c setup a here)
+        ∙ sym (frames_more es e start now new o out reaches steps c setup a here);
+    past = λ c far.
+        filter_map-append (towards c) sent (frame_of o out) ∙ ap (λ fs. fs ++ frames_to c (frame_of o out)) (are.past c far)
+        ∙ past_step e now new o out steps c (subst (λ n. n ≤ c) (sym reaches.count) far);
+  }
+
+  -- the frames of the events before lead what is sent with one frame more
+  begins_more : (sent : List CircuitFrame) (n : ℕ) → n ≤ length es → BeginsWith (take n es) start sent → BeginsWith (take n (es ++ e ∷ [])) start (sent ++ frame_of o out)
+  begins_more sent n few begins = record {
+    first = begins.first;
+    rest = begins.rest ++ frame_of o out;
+    split = ap (λ fs. fs ++ frame_of o out) begins.split ∙ append_assoc begins.first begins.rest (frame_of o out);
+    are_frames = subst (λ events. AreFrames events start begins.first) (sym (take-append-le n es (e ∷ []) few)) begins.are_frames;
+  }
+
+  -- the frames of all events
+  begins_all : (sent : List CircuitFrame) (n : ℕ) → length es < n → AreFrames es start sent → BeginsWith (take n (es ++ e ∷ [])) start (sent ++ frame_of o out)
+  begins_all sent n all are = record {
+    first = sent ++ frame_of o out;
+    rest = [];
+    split = sym (append-nil (sent ++ frame_of o out));
+    are_frames = subst (λ events. AreFrames events start (sent ++ frame_of o out)) (sym (take_all n (es ++ e ∷ []) (whole all))) (are_frames_more sent are);
+  }
+    where
+      whole : length es < n → length (es ++ e ∷ []) ≤ n
+      whole all = subst (λ m. m ≤ n) (sym (length-append es (e ∷ []))) (omega (arith, all))
+
+  begins : (sent : List CircuitFrame) → AreFrames es start sent → ((n : ℕ) → BeginsWith (take n es) start sent) → (n : ℕ) → BeginsWith (take n (es ++ e ∷ [])) start (sent ++ frame_of o out)
+  begins sent are in_order n = by (ltb (length es) n) refl where
+    by : (b : Bool) → ltb (length es) n ≡ b → BeginsWith (take n (es ++ e ∷ [])) start (sent ++ frame_of o out)
+    by true all = begins_all sent n (ltb-true (length es) n all) are
+    by false few = begins_more sent n (ltb-false (length es) n few) (in_order n)
+
+pub emits_more : (es : List Event) (e : Event) (start now new : List CircuitState) (o : Outcome) (out : List ℕ) (before taken taken' : List CircuitFrame)
+    → Emits es start before taken → Reaches es start now → Steps e now new o out → taken' ≡ taken ++ frame_of o out → Emits (es ++ e ∷ []) start before taken'
+emits_more es e start now new o out before taken taken' emits reaches steps more = record {
+  sent = emits.sent ++ frame_of o out;
+  taken = more ∙ ap (λ fs. fs ++ frame_of o out) emits.taken ∙ append_assoc before emits.sent (frame_of o out);
+  are_frames = are_frames_more es e start now new o out reaches steps emits.sent emits.are_frames;
+  in_order = begins es e start now new o out reaches steps emits.sent emits.are_frames emits.in_order;
+}
+
+none_is_one : {n : ℕ} → n ≡ 0 → n ≡ 1 → ⊥
+none_is_one h k = omega (arith, h, k)
+
+-- a frame that left with circuit k's effect left towards k
+counts_its : (k : ℕ) (f : Effect) (o : Outcome) (out : List ℕ) → IsOutcome k f o out → length (frame_of o out) ≡ 1 → length (frames_to k (frame_of o out)) ≡ 1
+counts_its k (Framed frame) o out h one = ap length (by_effect k (Framed frame) o out h)
+counts_its k (Dropped reason) o out h one = absurd (none_is_one (ap (λ v. length (frame_of v out)) h.0) one)
+counts_its k Gone o out h one = absurd (none_is_one (ap (λ v. length (frame_of v out)) h.0) one)
+counts_its k (SentUp len) o out h one = absurd (none_is_one (ap (λ v. length (frame_of v out)) h.0) one)
+counts_its k (SentDown len) o out h one = absurd (none_is_one (ap (λ v. length (frame_of v out)) h.0) one)
+counts_its k Done o out h one = absurd (none_is_one (ap (λ v. length (frame_of v out)) h.0) one)
 
 -- one of the events, which `run` takes at n
 module _ (events : List Event) (n : ℕ) (e : Event) (there : n < length events) (is : e ≡ get_or events n e) where
@@ -163,10 +243,12 @@ module _ (events : List Event) (n : ℕ) (e : Event) (there : n < length events)
       absurd (none_is_one (ap (λ v. length (frame_of v out)) (steps.gone k named gone).0 ∙ refl) one)
 
   pub emits_at : (start now new : List CircuitState) (o : Outcome) (out : List ℕ) → Reaches (take n events) start now → Steps e now new o out → length (frame_of o out) ≡ 1 → EmitsAt n events start
-  emits_at start now new o out reaches steps one = by_name (named_by e) refl where
-    by_name : (name : Option ℕ) → named_by e ≡ name → EmitsAt n events start
-    by_name None is = absurd (none_is_one (ap (λ v. length (frame_of v out)) (steps.unnamed is).0) one)
-    by_name (Some k) is = counted start now new o out reaches steps k is one (ltb k (length start)) refl
+  emits_at start now new o out reaches steps one = by_event e refl where
+    by_event : (v : Event) → e ≡ v → EmitsAt n events start
+    by_event (event.Frame circuit proto bytes) is = counted start now new o out reaches steps circuit (ap named_by is) one (ltb circuit (length start)) refl
+    by_event (event.Up circuit j moment fault) is = counted start now new o out reaches steps circuit (ap named_by is) one (ltb circuit (length start)) refl
+    by_event (event.Down circuit j) is = counted start now new o out reaches steps circuit (ap named_by is) one (ltb circuit (length start)) refl
+    by_event (event.Tick moment) is = absurd (none_is_one (ap (λ v. length (frame_of v out)) (steps.ticked moment is).0) one)
 
 pub reaches_nothing : (start : List CircuitState) → Reaches [] start start
 unfolding after_all
@@ -174,4 +256,9 @@ reaches_nothing start = record { count = refl; each = λ c setup a here. here }
 
 pub emits_nothing : (start : List CircuitState) (taken : List CircuitFrame) → Emits [] start taken taken
 unfolding frames
-emits_nothing start taken = record { sent = []; taken = sym (append-nil taken); are_frames = record { each = λ c setup a here. refl } }
+emits_nothing start taken = record { sent = []; taken = sym (append-nil taken); are_frames = no_frames; in_order = λ n. nothing (take n []) (take-nil n) } where
+  no_frames : AreFrames [] start []
+  no_frames = record { each = λ c setup a here. refl; past = λ c far. refl }
+
+  nothing : (events : List Event) → events ≡ [] → BeginsWith events start []
+  nothing events is = record { first = []; rest = []; split = refl; are_frames = subst (λ es. AreFrames es start []) (sym is) no_frames }

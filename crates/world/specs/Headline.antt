@@ -7,6 +7,7 @@ use Rattle.lossy_net.specs.Net.{Datagram}
 use Rattle.relay.specs.SentFrame.{SentFrame}
 use Rattle.relay.specs.Relays.{CircuitFrame}
 use Rattle.world.specs.declared.event.Event.{Event}
+use Rattle.world.specs.declared.event.Event.TheVariants as event
 use Rattle.world.specs.declared.outcome.Outcome.{Outcome}
 use Rattle.world.specs.declared.outcome.Outcome.TheVariants as outcome
 use Rattle.world.specs.Alone.{Setup, Alone, Effect, Dropped, Gone, SentUp, SentDown, Framed, Done, alone_step, after_all, frames}
@@ -75,23 +76,34 @@ pub record Steps (e : Event) (old new : List CircuitState) (o : Outcome) (out : 
   pub others : (c : ℕ) → seen_of c e ≡ None → slice_get new c ≡ slice_get old c
   -- an event of a circuit that doesn't exist is gone, and nothing changes
   pub gone : (c : ℕ) → named_by e ≡ Some c → length old ≤ c → (o ≡ outcome.Gone) × (out ≡ []) × (new ≡ old)
-  -- an event that names no circuit is done
-  pub unnamed : named_by e ≡ None → (o ≡ outcome.Done) × (out ≡ [])
+  -- a tick is done
+  pub ticked : (now : ℕ) → e ≡ event.Tick now → (o ≡ outcome.Done) × (out ≡ [])
 
 -- A run reaches these states: each represents its machine after all that its circuit saw.
 pub record Reaches (events : List Event) (start now : List CircuitState) : Type 0 where
   pub count : length now ≡ length start
   pub each : (c : ℕ) (setup : Setup) (a : Alone) → Represents c start setup a → Represents c now setup (after_all setup (seen_by c events) a)
 
--- These are the frames of a run: towards each circuit those of its machine, on what it saw.
+-- These are the frames of a run: towards each circuit those of its machine, on what it saw, and none
+-- towards a circuit that doesn't exist.
 pub record AreFrames (events : List Event) (start : List CircuitState) (sent : List CircuitFrame) : Type 0 where
   pub each : (c : ℕ) (setup : Setup) (a : Alone) → Represents c start setup a → frames_to c sent ≡ frames setup (seen_by c events) a
+  pub past : (c : ℕ) → length start ≤ c → frames_to c sent ≡ []
 
--- A sink that had taken some frames has taken those of the run too.
+-- The first of these frames are those of a run.
+pub record BeginsWith (events : List Event) (start : List CircuitState) (sent : List CircuitFrame) : Type 0 where
+  pub first : List CircuitFrame
+  pub rest : List CircuitFrame
+  pub split : sent ≡ first ++ rest
+  pub are_frames : AreFrames events start first
+
+-- A sink that had taken some frames has taken those of the run too, in the order of the events: the
+-- frames of the first n events precede those of the others, for every n.
 pub record Emits (events : List Event) (start : List CircuitState) (before now : List CircuitFrame) : Type 0 where
   pub sent : List CircuitFrame
   pub taken : now ≡ before ++ sent
   pub are_frames : AreFrames events start sent
+  pub in_order : (n : ℕ) → BeginsWith (take n events) start sent
 
 -- With event n one more frame leaves, towards a circuit that exists.
 pub record EmitsAt (n : ℕ) (events : List Event) (start : List CircuitState) : Type 0 where

@@ -18,5 +18,5 @@ pub use machine::{Machine, run};
 pub use model_disk::{ModelDisk, REGION};
 pub use outcome::Outcome;
 pub use sink::Sink;
-pub use two_runs::isolation;
+pub use two_runs::{isolation, isolation_of_configurations};
 pub use world::{OpenFault, World};

@@ -1,9 +1,13 @@
 //! The headline for two runs.
-ghost use Rattle.std.specs.Prelude.{◌≡◌, ℕ, List};
+ghost use Rattle.std.specs.Prelude.{◌≡◌, ℕ, List, Some};
+ghost use Rattle.config.specs.CircuitPart.{CircuitPart, part_in};
+ghost use Rattle.config.specs.Rules.{Settings};
 ghost use Rattle.relay.specs.Relays.{CircuitFrame};
-ghost use Rattle.world.specs.Alone.{Alone, Setup};
+ghost use Rattle.world.specs.Alone.{Alone, Setup, frames};
+ghost use Rattle.world.specs.Alone as alone;
 ghost use Rattle.world.specs.Headline.{AreFrames, CircuitState, Represents, frames_to};
 ghost use Rattle.world.specs.Seen.{seen_by};
+ghost use Rattle.world.specs.Start.{Starts};
 ghost use Rattle.world.specs.declared.event.Event.{Event};
 
 /// Isolation, for any two runs of any two worlds: a circuit that is c in the one and d in the other,
@@ -15,4 +19,19 @@ pub fn isolation()
         → AreFrames events start sent → AreFrames others other received
         → Represents c start setup a → Represents d other setup a → seen_by c events ≡ seen_by d others
         → frames_to c sent ≡ frames_to d received }
+{}
+
+/// Isolation from the configuration to the frames, for two worlds that were opened with the same quota:
+/// a circuit that is c in the one configuration and d in the other, with equal parts in both and equal
+/// lists of what it sees, is sent the same frames in both, which are those of a machine that serves this
+/// circuit alone.
+pub fn isolation_of_configurations()
+    ensures same { (c d quota : ℕ) (one two : Settings) (part : CircuitPart) (events others : List Event) (start other : List CircuitState) (sent received : List CircuitFrame)
+        → Starts one quota start → Starts two quota other
+        → part_in one c ≡ Some part → part_in two d ≡ Some part
+        → AreFrames events start sent → AreFrames others other received → seen_by c events ≡ seen_by d others
+        → frames_to c sent ≡ frames_to d received }
+    ensures alone { (c quota : ℕ) (settings : Settings) (part : CircuitPart) (events : List Event) (start : List CircuitState) (sent : List CircuitFrame)
+        → Starts settings quota start → part_in settings c ≡ Some part → AreFrames events start sent
+        → frames_to c sent ≡ frames (record { part = part; quota = quota }) (seen_by c events) alone.start }
 {}
