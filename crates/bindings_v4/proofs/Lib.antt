@@ -5,3 +5,4 @@ pub mod RowLemmas
 pub mod TableLemmas
 pub mod LawLemmas
 pub mod ShownBook
+pub mod LaterBook

@@ -1,6 +1,9 @@
 //! What holds of every book and every decision: functions that do nothing, for their contracts.
-ghost use Rattle.std.specs.Prelude.{◌≡◌, ◌≤◌};
-ghost use Rattle.bindings_v4.specs.Book4.{book4_at};
+ghost use Rattle.std.specs.Prelude.{◌≡◌, ◌≤◌, ℕ};
+ghost use Rattle.types.specs.Pool4.{IsPool4, PoolValue};
+ghost use Rattle.types.specs.declared.request4.Request4.{Request4};
+ghost use Rattle.bindings_v4.specs.Book4.{book4_at, empty_book};
+ghost use Rattle.bindings_v4.specs.Book4 as maps;
 ghost use Rattle.bindings_v4.specs.IsBook4.{IsBook4, LeavesABook, KeepsOthers, ChangesOffersAlone, GrantsItsOwn, RenewsInTime};
 ghost use Rattle.bindings_v4.specs.Slots4.{book_of};
 
@@ -21,12 +24,13 @@ pub fn is_a_book(book: &Book4, clock: Moment)
     let _slots = book.slots();
 }
 
-/// No address is named twice, no client has both a binding and an offer, and every entry is live.
-pub fn leaves_a_book(pool: Pool4, clock: Moment, request: &Request4)
-    ensures { LeavesABook pool clock request.now }
-{
-    let _lease = pool.lease();
-}
+/// No address is named twice, no client has both a binding and an offer, and every entry is live: this is
+/// true of a book without entries, of what a clock leaves of a book, and after every decision on one.
+pub fn leaves_a_book()
+    ensures empty { (clock : ℕ) → IsBook4 clock empty_book }
+    ensures later { (clock later : ℕ) (b : maps.Book4) → IsBook4 clock b → IsBook4 later (book4_at later b) }
+    ensures decided { (pool : PoolValue) (clock : ℕ) (m : Request4) → IsPool4 pool.first pool.count pool.lease → LeavesABook pool clock m }
+{}
 
 /// Another client's binding and offer stay.
 pub fn keeps_others(pool: Pool4, clock: Moment, request: &Request4)

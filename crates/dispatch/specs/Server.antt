@@ -9,6 +9,7 @@ use Rattle.v4_message.specs.Reading.{message_of}
 use Rattle.v4_message.specs.Spelling.{MessageValue}
 use Rattle.config.specs.CircuitPart.{CircuitPart, pool4_of}
 use Rattle.bindings_v4.specs.Book4.{Book4, book4_at}
+use Rattle.bindings_v4.specs.IsBook4.{IsBook4}
 use Rattle.bindings_v4.specs.Table4.{Decision, answer4}
 use Rattle.replies.specs.Reply4.{reply4_bytes}
 use Rattle.dispatch.specs.Request.{request_in}
@@ -17,6 +18,11 @@ use Rattle.dispatch.specs.Request.{request_in}
 pub record Book : Type 0 where
   pub clock : ℕ
   pub four : Book4
+
+-- What makes a book: every entry is live, no address is named twice, and no client has both a binding
+-- and an offer.
+abbrev pub IsBook : Book → Type 0
+IsBook b = IsBook4 b.clock b.four
 
 -- The book at a moment: the clock never goes back, and what has expired is left out.
 abbrev pub book_at : ℕ → Book → Book

@@ -2,9 +2,11 @@
 #![tactic(auto)]
 
 mod addressee;
+mod laws;
 mod request;
 mod server;
 #[cfg(test)]
 mod tests;
 
+pub use laws::leaves_a_book;
 pub use server::Server;

@@ -2,6 +2,7 @@
 //! leave towards it.
 #![tactic(auto)]
 
+mod books;
 mod event;
 pub mod examples;
 mod machine;
@@ -13,6 +14,7 @@ mod tests;
 mod two_runs;
 mod world;
 
+pub use books::leaves_a_book;
 pub use event::Event;
 pub use machine::{Machine, run};
 pub use model_disk::{ModelDisk, REGION};
