@@ -1,40 +1,17 @@
 //! The server of one circuit, on datagrams worked out by hand.
 use super::*;
 use config::{CircuitPart, Config};
+use fixtures::ONE_CIRCUIT;
 use std::alloc::Global;
 use std::process::Abort;
 use types::{Addr4, Circuit, Discard, Moment, Source};
 use wire::PacketBuf;
 
-/// Circuit `a` behind the relay at port 6801: gateway 10.0.0.1, the one address 10.0.0.10.
-const TEXT: &str = "
-[server]
-listen4 = '127.0.0.1:6767'
-listen6 = '127.0.0.1:6547'
-duid = '00030001020000000001'
-[[relay]]
-name = 'r1'
-source = '127.0.0.1:6801'
-[[circuit]]
-id = 'a'
-relay = 'r1'
-region = 0
-lease = 600
-gateway4 = '10.0.0.1'
-prefix4 = 24
-first4 = '10.0.0.10'
-count4 = 1
-dns = ['10.255.0.53']
-link6 = '20010db8000000000000000000000001'
-first6 = '20010db8000000000000000000000100'
-count6 = 1
-";
-
 /// Option 82 of circuit `a` with its gateway as server identifier override, and the end.
 const AGENT: &[u8] = &[82, 9, 1, 1, 97, 11, 4, 10, 0, 0, 1, 255];
 
 fn new_server(rt: &impl Abort, alloc: Global) -> Server {
-    let config = Config::read(alloc, TEXT).expect(rt, "a configuration");
+    let config = Config::read(alloc, ONE_CIRCUIT).expect(rt, "a configuration");
     assert!(rt; config.circuit_count() == 1);
     let circuit = Circuit::new(0).expect(rt, "a circuit");
     assert!(rt; circuit.index() == 0);

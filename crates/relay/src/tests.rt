@@ -3,33 +3,10 @@ ghost use Rattle.std.specs.Prelude.{◌≡◌, ◌<◌, length, IfSome};
 
 use super::*;
 use config::Config;
+use fixtures::{ONE_CIRCUIT, client_frame, resized, with_bytes};
 use std::alloc::Global;
-use types::{Addr4, Circuit, Dest, Discard, Proto, RelayNo, Source};
+use types::{Addr4, Circuit, Dest, Discard, Kind4, Proto, RelayNo, Source};
 use wire::PacketBuf;
-
-/// Circuit `a` behind the relay `r1`, its gateway 10.0.0.1.
-const TEXT: &str = "
-[server]
-listen4 = '127.0.0.1:6767'
-listen6 = '127.0.0.1:6547'
-duid = '00030001020000000001'
-[[relay]]
-name = 'r1'
-source = '127.0.0.1:6801'
-[[circuit]]
-id = 'a'
-relay = 'r1'
-region = 0
-lease = 600
-gateway4 = '10.0.0.1'
-prefix4 = 24
-first4 = '10.0.0.10'
-count4 = 1
-dns = ['10.255.0.53']
-link6 = '20010db8000000000000000000000001'
-first6 = '20010db8000000000000000000000100'
-count6 = 1
-";
 
 /// The server's addresses, and one that is not the server's.
 const LISTEN4: Source = Source {
@@ -52,7 +29,7 @@ fn opened(alloc: Global) -> Option<Relays>
     ensures circuit { IfSome result (λ relays. 0 < length relays.topology.circuits) }
     ensures relay { IfSome result (λ relays. 0 < length relays.topology.relays) }
 {
-    let Ok(config) = Config::read(alloc, TEXT) else {
+    let Ok(config) = Config::read(alloc, ONE_CIRCUIT) else {
         return None;
     };
     if config.circuit_count() == 0 || config.relay_count() == 0 {
@@ -85,41 +62,15 @@ fn down(
     }
 }
 
-/// A DHCPDISCOVER of the client 02:00:00:00:00:01 with the xid 1.
-fn discover() -> [u8; 244] {
-    let mut frame = [0; 244];
-    frame[..8].copy_from_slice(&[1, 1, 6, 0, 0, 0, 0, 1]);
-    frame[28..34].copy_from_slice(&[2, 0, 0, 0, 0, 1]);
-    frame[236..].copy_from_slice(&[99, 130, 83, 99, 53, 1, 1, 255]);
-    frame
+/// The DHCPDISCOVER of client 1.
+fn discover() -> PacketBuf {
+    client_frame(Kind4::Discover, 1, &[])
 }
 
 /// The same with pads before its end and bytes after it, as long as a frame may be.
-fn long_discover() -> [u8; 1024] {
-    let mut frame = [0; 1024];
-    frame[..8].copy_from_slice(&[1, 1, 6, 0, 0, 0, 0, 1]);
-    frame[28..34].copy_from_slice(&[2, 0, 0, 0, 0, 1]);
-    frame[236..243].copy_from_slice(&[99, 130, 83, 99, 53, 1, 1]);
-    frame[250..252].copy_from_slice(&[255, 7]);
-    frame
-}
-
-/// The same without its end option.
-fn endless_discover() -> [u8; 243] {
-    let mut frame = [0; 243];
-    frame[..8].copy_from_slice(&[1, 1, 6, 0, 0, 0, 0, 1]);
-    frame[28..34].copy_from_slice(&[2, 0, 0, 0, 0, 1]);
-    frame[236..].copy_from_slice(&[99, 130, 83, 99, 53, 1, 1]);
-    frame
-}
-
-/// The same with its type twice.
-fn double_discover() -> [u8; 247] {
-    let mut frame = [0; 247];
-    frame[..8].copy_from_slice(&[1, 1, 6, 0, 0, 0, 0, 1]);
-    frame[28..34].copy_from_slice(&[2, 0, 0, 0, 0, 1]);
-    frame[236..].copy_from_slice(&[99, 130, 83, 99, 53, 1, 1, 53, 1, 1, 255]);
-    frame
+fn long_discover() -> PacketBuf {
+    let with_pads = client_frame(Kind4::Discover, 1, &[0; 7]);
+    with_bytes(&resized(&with_pads, 1024), 251, &[7])
 }
 
 /// The datagram that the first two become.
@@ -156,30 +107,38 @@ fn offer_frame() -> [u8; 300] {
 #[test]
 fn a_discover_goes_up(rt: HostRuntime) {
     let mut out = PacketBuf::new();
-    assert_eq!(rt; up(rt.alloc(), &discover(), &mut out), Some(Ok(())));
+    assert_eq!(rt;
+        up(rt.alloc(), discover().as_slice(), &mut out),
+        Some(Ok(()))
+    );
     assert_eq!(rt; out.as_slice(), relayed_discover().as_slice());
-    assert_eq!(rt; up(rt.alloc(), &long_discover(), &mut out), Some(Ok(())));
+    assert_eq!(rt;
+        up(rt.alloc(), long_discover().as_slice(), &mut out),
+        Some(Ok(()))
+    );
     assert_eq!(rt; out.as_slice(), relayed_discover().as_slice());
 }
 
 #[test]
 fn only_clients_types_go_up(rt: HostRuntime) {
+    let rows = [
+        (Kind4::Discover, Ok(())),
+        (Kind4::Offer, Err(Discard::WrongType)),
+        (Kind4::Request, Ok(())),
+        (Kind4::Decline, Ok(())),
+        (Kind4::Ack, Err(Discard::WrongType)),
+        (Kind4::Nak, Err(Discard::WrongType)),
+        (Kind4::Release, Ok(())),
+        (Kind4::Inform, Ok(())),
+    ];
     let mut out = PacketBuf::new();
-    let mut frame = discover();
-    for kind in [1, 3, 4, 7, 8] {
-        frame[242] = kind;
+    for (kind, expected) in rows {
+        let frame = client_frame(kind, 1, &[]);
+        let number = kind.code();
         assert_eq!(rt;
-            up(rt.alloc(), &frame, &mut out),
-            Some(Ok(())),
-            "type {kind}"
-        );
-    }
-    for kind in [2, 5, 6] {
-        frame[242] = kind;
-        assert_eq!(rt;
-            up(rt.alloc(), &frame, &mut out),
-            Some(Err(Discard::WrongType)),
-            "type {kind}"
+            up(rt.alloc(), frame.as_slice(), &mut out),
+            Some(expected),
+            "type {number}"
         );
     }
 }
@@ -187,7 +146,7 @@ fn only_clients_types_go_up(rt: HostRuntime) {
 #[test]
 fn the_first_rule_upwards_decides(rt: HostRuntime) {
     // from the last rule to the first, each hides those before it in the list
-    let faults: [(u16, u8, Discard); 6] = [
+    let faults: [(usize, u8, Discard); 6] = [
         (242, 2, Discard::WrongType),
         (3, 16, Discard::Hops),
         (243, 82, Discard::HasOption82),
@@ -198,8 +157,12 @@ fn the_first_rule_upwards_decides(rt: HostRuntime) {
     let mut frame = long_discover();
     let mut out = PacketBuf::new();
     for (at, byte, why) in faults {
-        frame[usize::from(at)] = byte;
-        assert_eq!(rt; up(rt.alloc(), &frame, &mut out), Some(Err(why)), "at {at}");
+        frame = with_bytes(&frame, at, &[byte]);
+        assert_eq!(rt;
+            up(rt.alloc(), frame.as_slice(), &mut out),
+            Some(Err(why)),
+            "at {at}"
+        );
         assert!(rt; out.is_empty(), "at {at}");
     }
     let too_long = Some(Err(Discard::TooLong));
@@ -208,11 +171,20 @@ fn the_first_rule_upwards_decides(rt: HostRuntime) {
 
 #[test]
 fn unreadable_frames_are_malformed(rt: HostRuntime) {
+    let rows = [
+        PacketBuf::new(),
+        // without its end option
+        resized(&discover(), 243),
+        // with its type twice
+        client_frame(Kind4::Discover, 1, &[53, 1, 1]),
+    ];
     let mut out = PacketBuf::new();
-    let malformed = Some(Err(Discard::MalformedUp));
-    assert_eq!(rt; up(rt.alloc(), &[], &mut out), malformed);
-    assert_eq!(rt; up(rt.alloc(), &endless_discover(), &mut out), malformed);
-    assert_eq!(rt; up(rt.alloc(), &double_discover(), &mut out), malformed);
+    for frame in rows {
+        assert_eq!(rt;
+            up(rt.alloc(), frame.as_slice(), &mut out),
+            Some(Err(Discard::MalformedUp))
+        );
+    }
 }
 
 #[test]
@@ -286,7 +258,7 @@ fn counts(alloc: Global) -> Option<[u32; 4]> {
     let none = relays.discarded(circuit);
     let _ = relays.up(circuit, Proto::V4, &[], &mut out);
     let one = relays.discarded(circuit);
-    let _ = relays.up(circuit, Proto::V4, &discover(), &mut out);
+    let _ = relays.up(circuit, Proto::V4, discover().as_slice(), &mut out);
     let same = relays.discarded(circuit);
     let _ = relays.up(circuit, Proto::V4, &[0; 1025], &mut out);
     Some([none, one, same, relays.discarded(circuit)])

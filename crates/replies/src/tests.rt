@@ -1,50 +1,26 @@
 use super::write4;
 use config::{CircuitPart, Config};
+use fixtures::ONE_CIRCUIT;
 use std::alloc::Global;
 use types::{Addr4, CircuitId, Reply4};
 use v4_message::Message;
 use wire::PacketBuf;
 
-/// One relay and the circuit `a`, but for the keys that differ between tests.
-const TEXT: &str = "
-[server]
-listen4 = '127.0.0.1:6767'
-listen6 = '127.0.0.1:6547'
-duid = '00030001020000000001'
+/// What a configuration has in place of some text of `ONE_CIRCUIT`.
+type Changes = &'static [(&'static str, &'static str)];
 
-[[relay]]
-name = 'r1'
-source = '127.0.0.1:6801'
+const ONE_NAME_SERVER: Changes = &[];
 
-[[circuit]]
-id = 'a'
-relay = 'r1'
-region = 0
-gateway4 = '10.0.0.1'
-first4 = '10.0.0.10'
-count4 = 1
-link6 = '20010db8000000000000000000000001'
-first6 = '20010db8000000000000000000000100'
-count6 = 1
-";
+const NO_NAME_SERVER: Changes = &[
+    ("lease = 600", "lease = 604799"),
+    ("prefix4 = 24", "prefix4 = 20"),
+    ("'10.255.0.53'", ""),
+];
 
-const ONE_NAME_SERVER: &str = "
-lease = 600
-prefix4 = 24
-dns = ['10.255.0.53']
-";
-
-const NO_NAME_SERVER: &str = "
-lease = 604799
-prefix4 = 20
-dns = []
-";
-
-const FOUR_NAME_SERVERS: &str = "
-lease = 600
-prefix4 = 24
-dns = ['10.255.0.53', '10.255.0.54', '10.255.0.55', '10.255.0.56']
-";
+const FOUR_NAME_SERVERS: Changes = &[(
+    "'10.255.0.53'",
+    "'10.255.0.53', '10.255.0.54', '10.255.0.55', '10.255.0.56'",
+)];
 
 /// Option 82 as the relay of circuit `a` writes it, and the end.
 const AGENT_INFORMATION: [u8; 12] = [82, 9, 1, 1, 97, 11, 4, 10, 0, 0, 1, 255];
@@ -60,11 +36,13 @@ fn packet(parts: &[&[u8]]) -> PacketBuf {
     bytes
 }
 
-/// The part of circuit `a`, with these keys.
-fn part(alloc: Global, keys: &str) -> Option<CircuitPart> {
+/// The part of circuit `a`, with these changes.
+fn part(alloc: Global, changes: Changes) -> Option<CircuitPart> {
     let mut text = String::new(alloc);
-    text.push_str(TEXT).ok()?;
-    text.push_str(keys).ok()?;
+    text.push_str(ONE_CIRCUIT).ok()?;
+    for (old, new) in changes {
+        text = text.replace(alloc, old, new).ok()?;
+    }
     let config = Config::read(alloc, text.as_str()).ok()?;
     let circuit = config.circuit(&CircuitId::new(b"a")?)?;
     Some(CircuitPart::of(&config, circuit))
@@ -85,9 +63,9 @@ fn request(kind: u8, ciaddr: [u8; 4], agent_information: &[u8]) -> PacketBuf {
 }
 
 /// The reply, over bytes that are no reply's.
-fn reply_to(alloc: Global, keys: &str, request: &PacketBuf, reply: Reply4) -> PacketBuf {
+fn reply_to(alloc: Global, changes: Changes, request: &PacketBuf, reply: Reply4) -> PacketBuf {
     let mut out = packet(&[&[7; 600]]);
-    if let (Some(part), Ok(message)) = (part(alloc, keys), Message::read(request.as_slice())) {
+    if let (Some(part), Ok(message)) = (part(alloc, changes), Message::read(request.as_slice())) {
         write4(&part, &message, reply, &mut out);
     }
     out

@@ -3,60 +3,27 @@ ghost use Rattle.std.specs.Prelude.{◌≡◌, ◌≤◌, [], ◌∷◌, ◌++�
 
 use super::*;
 use config::{Config, ConfigFault};
+use fixtures::{ONE_CIRCUIT, client_frame, one_circuit_with};
 use lossy_net::MAX_QUOTA;
 use std::alloc::{AllocError, Global};
 use std::process::Abort;
-use types::{Addr4, Circuit, Count, Dest, Discard, Moment, Proto};
+use types::{Addr4, Circuit, Count, Dest, Discard, Kind4, Moment, Proto};
 use wire::PacketBuf;
 
-/// Circuit `a`: gateway 10.0.0.1, a pool of two addresses from 10.0.0.10 on, leases of 600 s.
-const TEXT: &str = "
-[server]
-listen4 = '127.0.0.1:6767'
-listen6 = '127.0.0.1:6547'
-duid = '00030001020000000001'
-[[relay]]
-name = 'r1'
-source = '127.0.0.1:6801'
-[[circuit]]
-id = 'a'
-relay = 'r1'
-region = 0
-lease = 600
-gateway4 = '10.0.0.1'
-prefix4 = 24
-first4 = '10.0.0.10'
-count4 = 2
-dns = ['10.255.0.53']
-link6 = '20010db8000000000000000000000001'
-first6 = '20010db8000000000000000000000100'
-count6 = 1
-";
-
-/// A world of the circuit.
+/// A world of one circuit with a pool of two addresses, 10.0.0.10 and 10.0.0.11.
 fn opened(rt: &impl Abort, alloc: Global, quota: u16) -> World
     requires least { 1 ≤ quota }
     requires most { quota ≤ MAX_QUOTA }
 {
-    let config = Config::read(alloc, TEXT).expect(rt, "a configuration");
+    let text = one_circuit_with(alloc, "count4 = 2").expect(rt, "a text");
+    let config = Config::read(alloc, text.as_str()).expect(rt, "a configuration");
     let disk = ModelDisk::new(alloc, 1).expect(rt, "a disk");
     World::open(alloc, &config, disk, quota).expect(rt, "a world")
 }
 
-/// Client n's DHCPDISCOVER, with its number as xid and last byte of its hardware address.
+/// A client's DHCPDISCOVER.
 fn discover(client: u8) -> PacketBuf {
-    let parts: [&[u8]; 5] = [
-        &[1, 1, 6, 0, 0, 0, 0, client],
-        &[0; 20],
-        &[2, 0, 0, 0, 0, client],
-        &[0; 202],
-        &[99, 130, 83, 99, 53, 1, 1, 255],
-    ];
-    let mut bytes = PacketBuf::new();
-    for part in parts {
-        let _ = bytes.extend(part);
-    }
-    bytes
+    client_frame(Kind4::Discover, client, &[])
 }
 
 fn only() -> Circuit {
@@ -187,7 +154,7 @@ fn the_network_keeps_the_newest(rt: HostRuntime) {
 /// To be run with each allocation refused in turn: the answer is right, or there was no memory.
 #[test]
 fn opened_or_out_of_memory(rt: HostRuntime) {
-    let config = match Config::read(rt.alloc(), TEXT) {
+    let config = match Config::read(rt.alloc(), ONE_CIRCUIT) {
         Ok(config) => config,
         Err(fault) => {
             assert_eq!(rt; fault, ConfigFault::Memory);
