@@ -38,7 +38,7 @@ impl Model for Book4 {
 
 /// This many vacant slots.
 fn vacant_slots(count: u8) -> ArrayVec<Option<Holder4>, MAX_POOL>
-    requires { count ≤ MAX_POOL }
+    requires { count ≤ 16 }
     ensures { result.items ≡ replicate count None }
 {
     let mut slots = ArrayVec::new();

@@ -66,7 +66,7 @@ impl Case4 {
     /// A DHCPOFFER that holds the address for a minute.
     pub fn offers(&self, free: SlotAddress) -> Decision4
         requires { IsAt self.now.pool free }
-        ensures { result ≡ decision_in self.now (replies (Offer (addr4 (number4 free.address))) (Offers (number4 free.address) (self.now.clock + OFFER_TIME))) }
+        ensures { result ≡ decision_in self.now (replies (Offer (addr4 (number4 free.address))) (Offers (number4 free.address) (self.now.clock + 60))) }
     {
         let until = self.clock.seconds() + OFFER_TIME;
         Decision4 {
@@ -104,7 +104,7 @@ impl Case4 {
     /// No answer; the client's binding is gone, and the address is given to nobody for an hour.
     pub fn bars(&self, bound: SlotAddress) -> Decision4
         requires { IsAt self.now.pool bound }
-        ensures { result ≡ decision_in self.now (drops NothingToSay (Bars (number4 bound.address) (self.now.clock + BAR_TIME))) }
+        ensures { result ≡ decision_in self.now (drops NothingToSay (Bars (number4 bound.address) (self.now.clock + 3600))) }
     {
         let until = self.clock.seconds() + BAR_TIME;
         Decision4 {

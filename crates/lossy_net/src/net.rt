@@ -3,7 +3,6 @@ ghost use Rattle.std.specs.Prelude.{◌≡◌, ◌≢◌, ◌↔◌, ℕ, ◌<�
 ghost use Rattle.lossy_net.specs.Net.{datagrams, opposite};
 ghost use Rattle.lossy_net.specs.Layout.{ring_of};
 ghost use Rattle.lossy_net.specs.declared.dir.Dir.{Dir};
-ghost use Rattle.types.specs.declared.limits.TheConstants.{MAX_CIRCUITS};
 
 use crate::dir::Dir;
 use crate::memory::Memory;
@@ -46,9 +45,9 @@ impl Net {
     /// `2 * circuits * quota` datagrams or for their order is refused.
     pub fn new(alloc: Global, circuits: usize, quota: usize) -> Result<Net, Memory>
         requires some_circuits { 1 ≤ circuits }
-        requires circuits { circuits ≤ MAX_CIRCUITS }
+        requires circuits { circuits ≤ 1024 }
         requires some_quota { 1 ≤ quota }
-        requires quota { quota ≤ MAX_QUOTA }
+        requires quota { quota ≤ 256 }
         ensures circuits { IfOk result (λ net. length net.circuits ≡ circuits) }
         ensures quota { IfOk result (λ net. net.quota ≡ quota) }
         ensures empty { IfOk result (λ net. (circuit : ℕ) (dir : Dir) → datagrams net circuit dir ≡ []) }
@@ -114,7 +113,7 @@ impl Net {
         ensures value { result ≡ self.now.quota }
         ensures within { (circuit : ℕ) (dir : Dir) → length (datagrams self.now circuit dir) ≤ self.now.quota }
         ensures least { 1 ≤ self.now.quota }
-        ensures most { self.now.quota ≤ MAX_QUOTA }
+        ensures most { self.now.quota ≤ 256 }
     {
         self.quota
     }

@@ -4,7 +4,6 @@ ghost use Rattle.std.specs.Prelude.{◌≡◌, ◌≤◌, [], ◌∷◌, ◌++�
 use super::*;
 use config::{Config, ConfigFault};
 use fixtures::{ONE_CIRCUIT, client_frame, one_circuit_with};
-use lossy_net::MAX_QUOTA;
 use std::alloc::{AllocError, Global};
 use std::process::Abort;
 use types::{Addr4, Circuit, Count, Dest, Discard, Kind4, Moment, Proto};
@@ -13,7 +12,7 @@ use wire::PacketBuf;
 /// A world of one circuit with a pool of two addresses, 10.0.0.10 and 10.0.0.11.
 fn opened(rt: &impl Abort, alloc: Global, quota: u16) -> World
     requires least { 1 ≤ quota }
-    requires most { quota ≤ MAX_QUOTA }
+    requires most { quota ≤ 256 }
 {
     let text = one_circuit_with(alloc, "count4 = 2").expect(rt, "a text");
     let config = Config::read(alloc, text.as_str()).expect(rt, "a configuration");

@@ -14,7 +14,7 @@ use crate::outcome::Outcome;
 use crate::sink::Sink;
 use config::{CircuitPart, Config};
 use dispatch::Server;
-use lossy_net::{Dir, MAX_QUOTA, Net};
+use lossy_net::{Dir, Net};
 use relay::Relays;
 use std::alloc::Global;
 use std::marker::Model;
@@ -70,7 +70,7 @@ impl World {
         quota: u16,
     ) -> Result<World, OpenFault>
         requires some { 1 ≤ quota }
-        requires most { quota ≤ MAX_QUOTA }
+        requires most { quota ≤ 256 }
         ensures starts { IfOk result (λ world. Starts config.now quota (states world)) }
         ensures disk { IfOk result (λ world. world.disk ≡ disk) }
     {
