@@ -7,7 +7,7 @@ use Rattle.types.specs.Addr.{is_unspecified, same_source}
 use Rattle.types.specs.declared.addr.Source.{Source}
 use Rattle.types.specs.declared.discard.Discard.{Discard}
 use Rattle.types.specs.declared.discard.Discard.TheVariants.{UnknownSource, Malformed, NotRelayed, UnknownCircuit, WrongLink, NoOverride}
-use Rattle.v4_options.specs.declared.code.TheConstants.{CIRCUIT_ID, SERVER_IDENTIFIER_OVERRIDE}
+use Rattle.v4_options.specs.Codes.{CIRCUIT_ID, SERVER_IDENTIFIER_OVERRIDE}
 use Rattle.v4_options.specs.declared.fault.SuboptFault.{SuboptFault}
 use Rattle.v4_options.specs.Spelling.{look_up}
 use Rattle.v4_message.specs.declared.fault.MessageFault.{MessageFault}

@@ -3,7 +3,7 @@ ghost use Rattle.std.specs.Prelude.{◌≡◌, ◌<◌, length, Ok, Err, IfOk, I
 ghost use Rattle.std.specs.List.{list_any, position};
 ghost use Rattle.types.specs.Addr.{same_source};
 ghost use Rattle.v4_options.specs.Spelling.{look_up};
-ghost use Rattle.v4_options.specs.declared.code.TheConstants.{CIRCUIT_ID};
+ghost use Rattle.v4_options.specs.Codes.{CIRCUIT_ID};
 ghost use Rattle.v4_message.specs.Agent.{is_value};
 ghost use Rattle.v4_message.specs.Reading.{message_of};
 ghost use Rattle.dispatch.specs.Addressee.{addressee, message_check, circuit_check, index_check};

@@ -1,7 +1,7 @@
 //! What a client's message asks of the book.
 ghost use Rattle.std.specs.Prelude.{◌≡◌, true, false, IfSome, IfNone};
 ghost use Rattle.v4_options.specs.Spelling.{look_up};
-ghost use Rattle.v4_options.specs.declared.code.TheConstants.{CLIENT_IDENTIFIER};
+ghost use Rattle.v4_options.specs.Codes.{CLIENT_IDENTIFIER};
 ghost use Rattle.dispatch.specs.Request.{is_from_server, is_key, key_of, request_in};
 
 use types::{Discard, Key4, Kind4, Request4};

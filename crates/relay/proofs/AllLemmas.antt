@@ -14,7 +14,9 @@ use Rattle.types.specs.declared.discard.Discard.TheVariants as reason
 use Rattle.v4_message.specs.Spelling.{MessageValue}
 use Rattle.config.specs.CircuitPart.{CircuitPart}
 use Rattle.relay.specs.SentFrame.{SentFrame}
-use Rattle.relay.specs.Down4.{◌>>=◌, agent_of, is_named, same_source, reply_of, suboptions_in, reply_on_link, reply_to_circuit, relayed_down4}
+use Rattle.types.specs.Addr.{same_source}
+use Rattle.v4_message.specs.Agent.{agent_of}
+use Rattle.relay.specs.Down4.{◌>>=◌, is_named, reply_of, suboptions_in, reply_on_link, reply_to_circuit, relayed_down4}
 use Rattle.relay.specs.Relays.{Topology, CircuitFrame, for_circuit, is_behind, reply_to_found, reply_at_index, relayed_down_in, relayed_down4_in}
 use Rattle.relay.proofs.RelaysLemmas.{from_listen4}
 

@@ -5,10 +5,10 @@ use Rattle.std.proofs.lemmas.Bool.{lt-ltb, le-ltb}
 use Rattle.std.proofs.lemmas.List.{length-append, append-nil}
 use Rattle.types.specs.declared.addr.Addr4.{Addr4}
 use Rattle.types.specs.declared.discard.Discard.TheVariants as reason
-use Rattle.v4_options.specs.declared.code.TheConstants.{RELAY_AGENT_INFORMATION, END}
+use Rattle.v4_options.specs.Codes.{RELAY_AGENT_INFORMATION, END}
 use Rattle.v4_options.specs.Spelling.{option, spelling}
 use Rattle.v4_options.proofs.Left.{spelling-append}
-use Rattle.v4_message.specs.declared.field.TheConstants.{OPTIONS, MAGIC_COOKIE}
+use Rattle.v4_message.specs.Layout.{OPTIONS, MAGIC_COOKIE}
 use Rattle.v4_message.specs.Header.{HeaderValue, IsSized, header_bytes}
 use Rattle.v4_message.specs.Reading.{message_of}
 use Rattle.v4_message.specs.Spelling.{MessageValue, message_bytes}

@@ -6,11 +6,13 @@ use Rattle.std.proofs.lemmas.List.Quantifiers.{position-Some}
 use Rattle.types.specs.declared.addr.Source.{Source}
 use Rattle.types.specs.declared.discard.Discard.{Discard}
 use Rattle.types.specs.declared.discard.Discard.TheVariants as reason
-use Rattle.v4_options.specs.declared.code.TheConstants.{CIRCUIT_ID}
+use Rattle.v4_options.specs.Codes.{CIRCUIT_ID}
 use Rattle.v4_options.specs.Spelling.{look_up}
 use Rattle.v4_message.specs.Spelling.{MessageValue}
 use Rattle.config.specs.CircuitPart.{CircuitPart}
-use Rattle.relay.specs.Down4.{agent_of, is_named, is_value, same_source, reply_of, suboptions_in, reply_on_link}
+use Rattle.types.specs.Addr.{same_source}
+use Rattle.v4_message.specs.Agent.{agent_of, is_value}
+use Rattle.relay.specs.Down4.{is_named, reply_of, suboptions_in, reply_on_link}
 use Rattle.relay.specs.Relays.{Topology, for_circuit, is_behind, reply_at_index, relayed_down_in, relayed_down4_in}
 
 -- ---- by the source

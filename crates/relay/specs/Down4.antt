@@ -6,17 +6,16 @@ use Rattle.types.specs.declared.dest.Dest.{Dest}
 use Rattle.types.specs.declared.dest.Dest.TheVariants.{Broadcast, Unicast}
 use Rattle.types.specs.declared.discard.Discard.{Discard}
 use Rattle.types.specs.declared.discard.Discard.TheVariants as reason
-use Rattle.v4_options.specs.declared.code.TheConstants.{RELAY_AGENT_INFORMATION, CIRCUIT_ID}
+use Rattle.v4_options.specs.Codes.{RELAY_AGENT_INFORMATION, CIRCUIT_ID}
 use Rattle.v4_options.specs.declared.fault.SuboptFault.{SuboptFault}
 use Rattle.v4_options.specs.Spelling.{look_up, without}
 use Rattle.v4_message.specs.declared.fault.MessageFault.{MessageFault}
-use Rattle.v4_message.specs.declared.header.TheConstants.{BROADCAST}
+use Rattle.v4_message.specs.Layout.{BROADCAST}
 use Rattle.v4_message.specs.Reading.{message_of}
 use Rattle.v4_message.specs.Spelling.{MessageValue, message_bytes}
 use Rattle.wire.specs.Padding.{padded_to}
 use Rattle.config.specs.CircuitPart.{CircuitPart}
-pub use Rattle.types.specs.Addr.{same_source}
-pub use Rattle.v4_message.specs.Agent.{agent_of, is_value}
+use Rattle.v4_message.specs.Agent.{agent_of, is_value}
 use Rattle.relay.specs.SentFrame.{SentFrame}
 
 -- To all clients where the client can't take a unicast yet, or has no address (RFC 2131, section 4.1).

@@ -1,17 +1,19 @@
 -- The relays of a configuration with all their circuits, in both protocols.
 use Rattle.std.specs.Prelude.{ℕ, ◌+◌, min, Bool, false, List, map, Option, Some, None, slice_get, slice_index, slice_set, Result, Ok, Err, if◌then◌else◌}
 use Rattle.std.specs.List.{position}
+use Rattle.types.specs.Addr.{same_source}
 use Rattle.types.specs.declared.addr.Source.{Source}
 use Rattle.types.specs.declared.dest.Proto.{Proto}
 use Rattle.types.specs.declared.dest.Proto.TheVariants.{V4}
 use Rattle.types.specs.declared.discard.Discard.{Discard}
 use Rattle.types.specs.declared.discard.Discard.TheVariants as reason
+use Rattle.v4_message.specs.Agent.{agent_of}
 use Rattle.v4_message.specs.Spelling.{MessageValue}
 use Rattle.config.specs.CircuitPart.{CircuitPart, parts_of}
 use Rattle.config.specs.Rules.{Settings}
 use Rattle.relay.specs.SentFrame.{SentFrame}
 use Rattle.relay.specs.Up4.{relayed_up4}
-use Rattle.relay.specs.Down4.{◌>>=◌, agent_of, is_named, same_source, reply_of, suboptions_in, reply_on_link, relayed_down4}
+use Rattle.relay.specs.Down4.{◌>>=◌, is_named, reply_of, suboptions_in, reply_on_link, relayed_down4}
 
 -- A client's frame in one circuit: the datagram for the server, or why there is none.
 abbrev pub relayed_up : CircuitPart → Proto → List ℕ → Result (List ℕ) Discard

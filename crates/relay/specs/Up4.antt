@@ -3,7 +3,7 @@ use Rattle.std.specs.Prelude.{ℕ, ◌+◌, Bool, false, not, ◌||◌, ◌==◌
 use Rattle.types.specs.Addr.{is_unspecified}
 use Rattle.types.specs.declared.discard.Discard.{Discard}
 use Rattle.types.specs.declared.discard.Discard.TheVariants as reason
-use Rattle.v4_options.specs.declared.code.TheConstants.{MESSAGE_TYPE, RELAY_AGENT_INFORMATION, CIRCUIT_ID, SERVER_IDENTIFIER_OVERRIDE}
+use Rattle.v4_options.specs.Codes.{MESSAGE_TYPE, RELAY_AGENT_INFORMATION, CIRCUIT_ID, SERVER_IDENTIFIER_OVERRIDE}
 use Rattle.v4_options.specs.Spelling.{option, look_up}
 use Rattle.v4_message.specs.declared.fault.MessageFault.{MessageFault}
 use Rattle.v4_message.specs.Reading.{message_of, kind_in}

@@ -1,7 +1,8 @@
 //! DHCPv4 on the way down: what a relay makes of a server's reply, for one circuit.
 ghost use Rattle.std.specs.Prelude.{◌≡◌, ◌≤◌, [], length, Ok, Err, IsOk, IfOk, IfErr, OnOk, OnErr};
 ghost use Rattle.v4_message.specs.Spelling.{message_bytes};
-ghost use Rattle.relay.specs.Down4.{agent_of, dest_of, reply_of, reply_on_link, suboptions_in, without_agent_information};
+ghost use Rattle.v4_message.specs.Agent.{agent_of};
+ghost use Rattle.relay.specs.Down4.{dest_of, reply_of, reply_on_link, suboptions_in, without_agent_information};
 
 use config::CircuitPart;
 use types::{Dest, Discard, MAX_DATAGRAM};

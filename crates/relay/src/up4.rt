@@ -4,7 +4,7 @@ ghost use Rattle.types.specs.Kind4.{code_of_kind};
 ghost use Rattle.v4_message.specs.Reading.{kind_in};
 ghost use Rattle.v4_message.specs.Spelling.{message_bytes};
 ghost use Rattle.v4_options.specs.Spelling.{option};
-ghost use Rattle.v4_options.specs.declared.code.TheConstants.{RELAY_AGENT_INFORMATION};
+ghost use Rattle.v4_options.specs.Codes.{RELAY_AGENT_INFORMATION};
 ghost use Rattle.config.specs.CircuitPart as parts;
 ghost use Rattle.relay.specs.Up4.{agent_information, is_from_server, message_relayed_up, relayed_up4, with_agent_information};
 

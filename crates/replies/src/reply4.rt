@@ -5,13 +5,13 @@ ghost use Rattle.std.specs.List.{flat_map};
 ghost use Rattle.types.specs.Kind4.{code_of_kind};
 ghost use Rattle.v4_options.specs.Spelling.{option, spelling, look_up};
 ghost use Rattle.v4_message.specs.Header.{header_bytes};
-ghost use Rattle.v4_message.specs.declared.field.TheConstants.{MAGIC_COOKIE};
+ghost use Rattle.v4_message.specs.Layout.{MAGIC_COOKIE};
 ghost use Rattle.wire.specs.Padding.{padded_to};
 ghost use Rattle.replies.specs.Reply4.{ciaddr_in, echo, flags_in, inform_options, lease_options, mask, nak_options, name_servers, reply4_bytes, reply_header, reply_options, yiaddr_in};
 
 use arrayvec::ArrayVec;
 use config::{CircuitPart, MAX_DNS};
-use types::{Addr4, Kind4, MAX_DATAGRAM, Reply4};
+use types::{Addr4, Kind4, Reply4};
 use v4_message::field::{FILE_LEN, SNAME_LEN};
 use v4_message::{BROADCAST, Header, Message, OP_REPLY};
 use v4_options::code;
@@ -88,7 +88,7 @@ fn yiaddr_in(reply: Reply4) -> Addr4
 
 /// The options in the order sent: at most 314 bytes.
 fn put_options(part: &CircuitPart, request: &Message<'_>, reply: Reply4, out: &mut PacketBuf)
-    requires { length out.old + 314 ≤ MAX_DATAGRAM }
+    requires { length out.old + 314 ≤ 1280 }
     ensures bytes { out.new ≡ out.old ++ spelling (reply_options part.now request.now reply) }
     ensures len { length out.new ≤ length out.old + 314 }
 {
@@ -102,7 +102,7 @@ fn put_options(part: &CircuitPart, request: &Message<'_>, reply: Reply4, out: &m
 
 /// The options of an OFFER, and of an ACK with a lease: at most 314 bytes.
 fn put_lease_options(kind: Kind4, part: &CircuitPart, request: &Message<'_>, out: &mut PacketBuf)
-    requires { length out.old + 314 ≤ MAX_DATAGRAM }
+    requires { length out.old + 314 ≤ 1280 }
     ensures bytes { out.new ≡ out.old ++ spelling (lease_options (code_of_kind kind) part.now request.now) }
     ensures len { length out.new ≤ length out.old + 314 }
 {
@@ -120,7 +120,7 @@ fn put_lease_options(kind: Kind4, part: &CircuitPart, request: &Message<'_>, out
 
 /// The options of an ACK to an INFORM: at most 296 bytes.
 fn put_inform_options(part: &CircuitPart, request: &Message<'_>, out: &mut PacketBuf)
-    requires { length out.old + 296 ≤ MAX_DATAGRAM }
+    requires { length out.old + 296 ≤ 1280 }
     ensures bytes { out.new ≡ out.old ++ spelling (inform_options part.now request.now) }
     ensures len { length out.new ≤ length out.old + 296 }
 {
@@ -134,7 +134,7 @@ fn put_inform_options(part: &CircuitPart, request: &Message<'_>, out: &mut Packe
 
 /// The options of a NAK: at most 266 bytes.
 fn put_nak_options(part: &CircuitPart, request: &Message<'_>, out: &mut PacketBuf)
-    requires { length out.old + 266 ≤ MAX_DATAGRAM }
+    requires { length out.old + 266 ≤ 1280 }
     ensures bytes { out.new ≡ out.old ++ spelling (nak_options part.now request.now) }
     ensures len { length out.new ≤ length out.old + 266 }
 {
@@ -152,7 +152,7 @@ fn mask(prefix: u8) -> u32
 
 /// The name servers, if there are any: at most 18 bytes.
 fn put_name_servers(part: &CircuitPart, out: &mut PacketBuf)
-    requires { length out.old + 18 ≤ MAX_DATAGRAM }
+    requires { length out.old + 18 ≤ 1280 }
     ensures bytes { out.new ≡ out.old ++ spelling (name_servers part.now.dns) }
     ensures len { length out.new ≤ length out.old + 18 }
 {
@@ -176,7 +176,7 @@ fn address_bytes(dns: &ArrayVec<Addr4, MAX_DNS>) -> ArrayVec<u8, 16>
 
 /// The relay agent information, if the request has any: at most 257 bytes.
 fn put_echo(request: &Message<'_>, out: &mut PacketBuf)
-    requires { length out.old + 257 ≤ MAX_DATAGRAM }
+    requires { length out.old + 257 ≤ 1280 }
     ensures bytes { out.new ≡ out.old ++ spelling (echo (look_up 82 request.now.options)) }
     ensures len { length out.new ≤ length out.old + 257 }
 {
@@ -197,7 +197,7 @@ fn put_end(out: &mut PacketBuf)
 
 /// Appends an option of 4 bytes.
 fn put_number(code: u8, number: u32, out: &mut PacketBuf)
-    requires { length out.old + 6 ≤ MAX_DATAGRAM }
+    requires { length out.old + 6 ≤ 1280 }
     ensures bytes { out.new ≡ out.old ++ option code (to_be_bytes w32 number) }
     ensures len { length out.new ≡ length out.old + 6 }
 {
@@ -207,7 +207,7 @@ fn put_number(code: u8, number: u32, out: &mut PacketBuf)
 /// Appends an option for which there is room.
 fn put(code: u8, value: &[u8], out: &mut PacketBuf)
     requires short { length value.now ≤ 255 }
-    requires room { length out.old + length value.now + 2 ≤ MAX_DATAGRAM }
+    requires room { length out.old + length value.now + 2 ≤ 1280 }
     ensures bytes { out.new ≡ out.old ++ option code value.now }
     ensures len { length out.new ≡ length out.old + length value.now + 2 }
 {

@@ -2,17 +2,16 @@
 use Rattle.std.proofs.Common.{◌≡◌, ℕ, ◌≤◌, List, ◌++◌, length, take, drop, replicate, ap, sym, ◌∙◌, subst}
 use Rattle.std.proofs.Math.Seq.{take-append_seam}
 use Rattle.std.proofs.lemmas.List.{drop-replicate}
-use Rattle.types.specs.declared.key4.TheConstants.{MIN_KEY4, MAX_KEY4}
 use Rattle.types.specs.Key4.{padded, IsKey4}
 
 -- the first bytes of what was written are the key's
 pub front : (xs : List ℕ) → take (length xs) (padded xs) ≡ xs
 front xs = take-append_seam xs _
 
-pub written_over_zeros : (xs ys : List ℕ) → ys ≡ xs → ys ++ drop (length xs) (replicate MAX_KEY4 0) ≡ padded xs
-written_over_zeros xs ys e = ap (λ zs. zs ++ drop (length xs) (replicate MAX_KEY4 0)) e ∙ ap (λ zs. xs ++ zs) (drop-replicate (length xs) MAX_KEY4 0)
+pub written_over_zeros : (xs ys : List ℕ) → ys ≡ xs → ys ++ drop (length xs) (replicate 64 0) ≡ padded xs
+written_over_zeros xs ys e = ap (λ zs. zs ++ drop (length xs) (replicate 64 0)) e ∙ ap (λ zs. xs ++ zs) (drop-replicate (length xs) 64 0)
 
-pub is_key : (xs : List ℕ) (bytes : List ℕ) → MIN_KEY4 ≤ length xs → length xs ≤ MAX_KEY4 → bytes ≡ padded xs → IsKey4 (length xs) bytes
+pub is_key : (xs : List ℕ) (bytes : List ℕ) → 2 ≤ length xs → length xs ≤ 64 → bytes ≡ padded xs → IsKey4 (length xs) bytes
 is_key xs bytes least most e =
     let P : List ℕ → Type 0 = λ zs. IsKey4 (length xs) zs in
     subst P (sym e) (record { least = least; most = most; all = ap length (front xs); zeros = ap padded (front xs) })

@@ -1,14 +1,13 @@
 -- How a key's bytes lie in its 64: first, and zeros behind them.
 use Rattle.std.specs.Prelude.{◌≡◌, ℕ, ◌-◌, ◌≤◌, List, ◌++◌, length, take, replicate}
-use Rattle.types.specs.declared.key4.TheConstants.{MIN_KEY4, MAX_KEY4}
 use Rattle.types.specs.declared.key4.Key4.TheInside.{Inside}
 
 abbrev pub padded : List ℕ → List ℕ
-padded xs = xs ++ replicate (MAX_KEY4 - length xs) 0
+padded xs = xs ++ replicate (64 - length xs) 0
 
 pub record IsKey4 (len : ℕ) (bytes : List ℕ) : Type 0 where
-  pub least : MIN_KEY4 ≤ len
-  pub most : len ≤ MAX_KEY4
+  pub least : 2 ≤ len
+  pub most : len ≤ 64
   pub all : length (take len bytes) ≡ len
   pub zeros : padded (take len bytes) ≡ bytes
 

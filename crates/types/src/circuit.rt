@@ -1,6 +1,5 @@
 //! Circuits, by their index.
 ghost use Rattle.std.specs.Prelude.{◌≡◌, ◌<◌, ◌↔◌, IsSome, IfSome};
-ghost use Rattle.types.specs.declared.limits.TheConstants.{MAX_CIRCUITS};
 
 use crate::limits::MAX_CIRCUITS;
 use std::marker::Model;
@@ -14,13 +13,12 @@ pub struct Circuit {
 
 impl Model for Circuit {
     ghost use Rattle.std.specs.Prelude.{ℕ, ◌<◌};
-    ghost use Rattle.types.specs.declared.limits.TheConstants.{MAX_CIRCUITS};
 
     ghost Value = { ℕ };
 
     ghost view = { λ c. c.index };
 
-    ghost invariant = { λ c. c.index < MAX_CIRCUITS };
+    ghost invariant = { λ c. c.index < 1024 };
 
     ghost inverse = { λ n. record { index = n } };
 }
@@ -28,7 +26,7 @@ impl Model for Circuit {
 impl Circuit {
     /// The circuit of this index; `None` from 1024 on, which no configuration has.
     pub fn new(index: usize) -> Option<Circuit>
-        ensures within { IsSome result ↔ (index < MAX_CIRCUITS) }
+        ensures within { IsSome result ↔ (index < 1024) }
         ensures value { IfSome result (λ circuit. circuit ≡ index) }
     {
         if index >= MAX_CIRCUITS {
@@ -41,7 +39,7 @@ impl Circuit {
 
     pub fn index(self) -> usize
         ensures value { result ≡ self }
-        ensures within { result < MAX_CIRCUITS }
+        ensures within { result < 1024 }
     {
         usize::from(self.index)
     }

@@ -12,7 +12,7 @@ pub const MAX_CIRCUIT_ID: usize = 32;
 /// their bytes are.
 #[derive(Debug, PartialEq, Eq, Hash, Drop)]
 pub struct CircuitId {
-    bytes: ArrayVec<u8, 32>,
+    bytes: ArrayVec<u8, MAX_CIRCUIT_ID>,
 }
 
 impl Model for CircuitId {

@@ -39,7 +39,7 @@ impl Model for Key4 {
 impl Key4 {
     /// The key of these bytes; `None` where they are fewer than 2 or more than 64.
     pub fn new(bytes: &[u8]) -> Option<Key4>
-        ensures within { IsSome result ↔ ((MIN_KEY4 ≤ length bytes.now) × (length bytes.now ≤ MAX_KEY4)) }
+        ensures within { IsSome result ↔ ((2 ≤ length bytes.now) × (length bytes.now ≤ 64)) }
         ensures value { IfSome result (λ key. key ≡ bytes.now) }
     {
         if bytes.len() < MIN_KEY4 || bytes.len() > MAX_KEY4 {
@@ -55,8 +55,8 @@ impl Key4 {
 
     pub fn as_bytes(&self) -> &[u8]
         ensures value { result.now ≡ self.now }
-        ensures least { MIN_KEY4 ≤ length self.now }
-        ensures most { length self.now ≤ MAX_KEY4 }
+        ensures least { 2 ≤ length self.now }
+        ensures most { length self.now ≤ 64 }
     {
         &self.bytes[..usize::from(self.len)]
     }

@@ -28,7 +28,7 @@ pub use discard::Discard;
 pub use key4::{Key4, MAX_KEY4, MIN_KEY4};
 pub use kind4::Kind4;
 pub use limits::{
-    MAX_CIRCUITS, MAX_DATAGRAM, MAX_DUID, MAX_FRAME, MAX_REGION, MAX_RELAYS, MIN_DUID,
+    MAX_CIRCUITS, MAX_DATAGRAM, MAX_DUID, MAX_FRAME, MAX_REGION, MAX_RELAYS, MIN_DUID, limit_values,
 };
 pub use moment::{LAST_MOMENT, Moment};
 pub use pool4::{MAX_LEASE, MAX_POOL, MIN_LEASE, Pool4};

@@ -1,6 +1,5 @@
 //! Points in time.
 ghost use Rattle.std.specs.Prelude.{◌≡◌, ◌≤◌, ◌↔◌, max, IsSome, IfSome};
-ghost use Rattle.types.specs.declared.moment.TheConstants.{LAST_MOMENT};
 
 use std::marker::Model;
 
@@ -16,13 +15,12 @@ pub struct Moment {
 
 impl Model for Moment {
     ghost use Rattle.std.specs.Prelude.{ℕ, ◌≤◌};
-    ghost use Rattle.types.specs.declared.moment.TheConstants.{LAST_MOMENT};
 
     ghost Value = { ℕ };
 
     ghost view = { λ m. m.seconds };
 
-    ghost invariant = { λ m. m.seconds ≤ LAST_MOMENT };
+    ghost invariant = { λ m. m.seconds ≤ 1099511627775 };
 
     ghost inverse = { λ n. record { seconds = n } };
 }
@@ -37,7 +35,7 @@ impl Moment {
 
     /// The moment at this many seconds; `None` past the last.
     pub fn new(seconds: u64) -> Option<Moment>
-        ensures within { IsSome result ↔ (seconds ≤ LAST_MOMENT) }
+        ensures within { IsSome result ↔ (seconds ≤ 1099511627775) }
         ensures value { IfSome result (λ moment. moment ≡ seconds) }
     {
         if seconds > LAST_MOMENT {
@@ -48,7 +46,7 @@ impl Moment {
 
     pub fn seconds(self) -> u64
         ensures value { result ≡ self }
-        ensures within { result ≤ LAST_MOMENT }
+        ensures within { result ≤ 1099511627775 }
     {
         self.seconds
     }

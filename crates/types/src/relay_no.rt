@@ -1,6 +1,5 @@
 //! Relays, by their index.
 ghost use Rattle.std.specs.Prelude.{◌≡◌, ◌<◌, ◌↔◌, IsSome, IfSome};
-ghost use Rattle.types.specs.declared.limits.TheConstants.{MAX_RELAYS};
 
 use crate::limits::MAX_RELAYS;
 use std::marker::Model;
@@ -14,13 +13,12 @@ pub struct RelayNo {
 
 impl Model for RelayNo {
     ghost use Rattle.std.specs.Prelude.{ℕ, ◌<◌};
-    ghost use Rattle.types.specs.declared.limits.TheConstants.{MAX_RELAYS};
 
     ghost Value = { ℕ };
 
     ghost view = { λ r. r.index };
 
-    ghost invariant = { λ r. r.index < MAX_RELAYS };
+    ghost invariant = { λ r. r.index < 8 };
 
     ghost inverse = { λ n. record { index = n } };
 }
@@ -28,7 +26,7 @@ impl Model for RelayNo {
 impl RelayNo {
     /// The relay of this index; `None` from 8 on, which no configuration has.
     pub fn new(index: usize) -> Option<RelayNo>
-        ensures within { IsSome result ↔ (index < MAX_RELAYS) }
+        ensures within { IsSome result ↔ (index < 8) }
         ensures value { IfSome result (λ relay. relay ≡ index) }
     {
         if index >= MAX_RELAYS {
@@ -39,7 +37,7 @@ impl RelayNo {
 
     pub fn index(self) -> usize
         ensures value { result ≡ self }
-        ensures within { result < MAX_RELAYS }
+        ensures within { result < 8 }
     {
         usize::from(self.index)
     }

@@ -5,10 +5,10 @@ use Rattle.std.specs.Bool.{Decides}
 use Rattle.std.proofs.lemmas.Bool.{leb-true, le-leb}
 use Rattle.std.proofs.lemmas.Bool.Decides.{Decides-eqb, Decides-and, Decides-or, Decides-like}
 use Rattle.std.proofs.lemmas.Slice.Eq.{bytes_eq-Decides}
-use Rattle.v4_options.specs.declared.code.TheConstants.{REQUESTED_ADDRESS, OPTION_OVERLOAD, MESSAGE_TYPE, SERVER_IDENTIFIER}
+use Rattle.v4_options.specs.Codes.{REQUESTED_ADDRESS, OPTION_OVERLOAD, MESSAGE_TYPE, SERVER_IDENTIFIER}
 use Rattle.v4_options.specs.Spelling.{look_up}
-use Rattle.v4_message.specs.declared.field.TheConstants.{HTYPE, HLEN, COOKIE, COOKIE_LEN, ADDR_LEN, ETHERNET, ETHERNET_LEN, MAGIC_COOKIE}
-use Rattle.v4_message.specs.declared.header.TheConstants.{OP_REQUEST, OP_REPLY}
+use Rattle.v4_message.specs.Layout.{HTYPE, HLEN, COOKIE, COOKIE_LEN, ADDR_LEN, ETHERNET, ETHERNET_LEN, MAGIC_COOKIE}
+use Rattle.v4_message.specs.Layout.{OP_REQUEST, OP_REPLY}
 use Rattle.v4_message.specs.Header.{part}
 use Rattle.v4_message.specs.Spelling.{IsOp, HasKind, AreAllowed, HasCookie, IsEthernet}
 use Rattle.v4_message.specs.Reading.{has_cookie, is_ethernet, may_be_addr, are_allowed, is_op, kind_in, has_kind}

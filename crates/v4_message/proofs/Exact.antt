@@ -5,14 +5,14 @@ use Rattle.std.specs.Bool.{Decides}
 use Rattle.std.proofs.lemmas.Bool.{le-leb, lt-leb, leb-true, leb-false}
 use Rattle.std.proofs.lemmas.Bool.Decides.{Decides-and}
 use Rattle.wire.specs.Bytes.{AreBytes}
-use Rattle.v4_options.specs.declared.code.TheConstants.{END}
+use Rattle.v4_options.specs.Codes.{END}
 use Rattle.v4_options.specs.declared.fault.OptFault.{OptFault}
 use Rattle.v4_options.specs.Spelling.{spelling, AreOptions}
 use Rattle.v4_options.specs.Spelling as lists
 use Rattle.v4_options.specs.Reading.{options_of}
 use Rattle.v4_options.proofs.Exact as lists_exact
 use Rattle.v4_options.proofs.Results.{one_ok, one_err, ok_or_err}
-use Rattle.v4_message.specs.declared.field.TheConstants.{OP, OPTIONS}
+use Rattle.v4_message.specs.Layout.{OP, OPTIONS}
 use Rattle.v4_message.specs.declared.fault.MessageFault.{MessageFault}
 use Rattle.v4_message.specs.declared.fault.MessageFault.TheVariants.{Short, Cookie, Hardware, Options, Kind}
 use Rattle.v4_message.specs.Header.{IsSized, header_at}

@@ -6,7 +6,7 @@ use Rattle.std.proofs.lemmas.List.{append-nil, take_at, drop_at, take-append-dro
 use Rattle.std.proofs.lemmas.Nat.{be_bytes_2, from_be_bytes-to_be_bytes_2}
 use Rattle.std.specs.Int.{w16, from_be_bytes, to_be_bytes}
 use Rattle.wire.specs.Bytes.{AreBytes}
-use Rattle.v4_message.specs.declared.field.TheConstants.{OP, HTYPE, HLEN, HOPS, XID, SECS, FLAGS, CIADDR, YIADDR, SIADDR, GIADDR, CHADDR, SNAME, FILE, COOKIE, OPTIONS, XID_LEN, SECS_LEN, FLAGS_LEN, ADDR_LEN, CHADDR_LEN, SNAME_LEN, FILE_LEN, COOKIE_LEN, ETHERNET, ETHERNET_LEN, MAGIC_COOKIE}
+use Rattle.v4_message.specs.Layout.{OP, HTYPE, HLEN, HOPS, XID, SECS, FLAGS, CIADDR, YIADDR, SIADDR, GIADDR, CHADDR, SNAME, FILE, COOKIE, OPTIONS, XID_LEN, SECS_LEN, FLAGS_LEN, ADDR_LEN, CHADDR_LEN, SNAME_LEN, FILE_LEN, COOKIE_LEN, ETHERNET, ETHERNET_LEN, MAGIC_COOKIE}
 use Rattle.v4_message.specs.Header.{HeaderValue, IsSized, joined, fields_of, header_bytes, part, header_at}
 use Rattle.v4_message.specs.Spelling.{HasCookie, IsEthernet}
 

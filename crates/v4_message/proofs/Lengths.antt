@@ -1,10 +1,10 @@
 -- A written message is no longer than the bytes that it was read from.
 use Rattle.std.proofs.Common.{◌≡◌, ℕ, ◌+◌, ◌≤◌, List, [], ◌∷◌, ◌++◌, length, ap, arith}
 use Rattle.std.proofs.lemmas.List.{length-append}
-use Rattle.v4_options.specs.declared.code.TheConstants.{END}
+use Rattle.v4_options.specs.Codes.{END}
 use Rattle.v4_options.specs.Spelling.{spelling}
 use Rattle.v4_options.proofs.Lengths.{length-spelled}
-use Rattle.v4_message.specs.declared.field.TheConstants.{OPTIONS, MAGIC_COOKIE}
+use Rattle.v4_message.specs.Layout.{OPTIONS, MAGIC_COOKIE}
 use Rattle.v4_message.specs.Header.{IsSized, header_bytes}
 use Rattle.v4_message.specs.Spelling.{MessageValue, Spells, message_bytes}
 use Rattle.v4_message.proofs.Headers.{length-header_bytes}

@@ -1,7 +1,7 @@
 -- The relay agent information of a message (RFC 3046): option 82 with its suboptions.
 use Rattle.std.specs.Prelude.{ℕ, Bool, false, List, Option, Some, None, option_map, Result}
 use Rattle.std.specs.Str.{bytes_eq}
-use Rattle.v4_options.specs.declared.code.TheConstants.{RELAY_AGENT_INFORMATION}
+use Rattle.v4_options.specs.Codes.{RELAY_AGENT_INFORMATION}
 use Rattle.v4_options.specs.declared.fault.SuboptFault.{SuboptFault}
 use Rattle.v4_options.specs.Spelling.{look_up}
 use Rattle.v4_options.specs.Subreading.{suboptions_of}

@@ -1,7 +1,7 @@
 -- A message's header: its fields as values, and their bytes in order (RFC 2131, section 2).
 use Rattle.std.specs.Prelude.{◌≡◌, ℕ, ◌<◌, ◌^◌, List, [], ◌∷◌, ◌++◌, length, take, drop, slice_index}
 use Rattle.std.specs.Int.{w16, to_be_bytes, from_be_bytes}
-use Rattle.v4_message.specs.declared.field.TheConstants.{OP, HOPS, XID, SECS, FLAGS, CIADDR, YIADDR, SIADDR, GIADDR, CHADDR, SNAME, FILE, XID_LEN, SECS_LEN, FLAGS_LEN, ADDR_LEN, CHADDR_LEN, SNAME_LEN, FILE_LEN, ETHERNET, ETHERNET_LEN}
+use Rattle.v4_message.specs.Layout.{OP, HOPS, XID, SECS, FLAGS, CIADDR, YIADDR, SIADDR, GIADDR, CHADDR, SNAME, FILE, XID_LEN, SECS_LEN, FLAGS_LEN, ADDR_LEN, CHADDR_LEN, SNAME_LEN, FILE_LEN, ETHERNET, ETHERNET_LEN}
 
 -- op, hops and flags are numbers; every other field is a list of bytes.
 pub record HeaderValue : Type 0 where

@@ -1,5 +1,6 @@
 pub mod Agent
 pub mod Header
+pub mod Layout
 pub mod Read
 pub mod Reading
 pub mod Spelling

@@ -2,9 +2,9 @@
 use Rattle.std.specs.Prelude.{◌≡◌, ℕ, ◌≤◌, List, [], ◌∷◌, length, Some}
 use Rattle.types.specs.declared.kind4.Kind4.{Kind4}
 use Rattle.types.specs.Kind4.{code_of_kind}
-use Rattle.v4_options.specs.declared.code.TheConstants.{MESSAGE_TYPE}
+use Rattle.v4_options.specs.Codes.{MESSAGE_TYPE}
 use Rattle.v4_options.specs.Spelling.{look_up}
-use Rattle.v4_message.specs.declared.field.TheConstants.{OPTIONS}
+use Rattle.v4_message.specs.Layout.{OPTIONS}
 use Rattle.v4_message.specs.Header.{header_at}
 use Rattle.v4_message.specs.Spelling.{IsValid}
 

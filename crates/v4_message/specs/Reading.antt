@@ -1,12 +1,12 @@
 -- Reading a message: the tests in their order, and the message.
 use Rattle.std.specs.Prelude.{ℕ, Bool, true, ◌&&◌, ◌||◌, ◌==◌, nat_le, List, [], ◌∷◌, length, drop, slice_index, Option, Some, None, Result, Ok, Err, is_some, is_none, if◌then◌else◌}
 use Rattle.std.specs.Str.{bytes_eq}
-use Rattle.v4_options.specs.declared.code.TheConstants.{REQUESTED_ADDRESS, OPTION_OVERLOAD, MESSAGE_TYPE, SERVER_IDENTIFIER}
+use Rattle.v4_options.specs.Codes.{REQUESTED_ADDRESS, OPTION_OVERLOAD, MESSAGE_TYPE, SERVER_IDENTIFIER}
 use Rattle.v4_options.specs.declared.fault.OptFault.{OptFault}
 use Rattle.v4_options.specs.Spelling.{look_up}
 use Rattle.v4_options.specs.Reading.{options_of}
-use Rattle.v4_message.specs.declared.field.TheConstants.{OP, HTYPE, HLEN, COOKIE, OPTIONS, COOKIE_LEN, ADDR_LEN, ETHERNET, ETHERNET_LEN, MAGIC_COOKIE}
-use Rattle.v4_message.specs.declared.header.TheConstants.{OP_REQUEST, OP_REPLY}
+use Rattle.v4_message.specs.Layout.{OP, HTYPE, HLEN, COOKIE, OPTIONS, COOKIE_LEN, ADDR_LEN, ETHERNET, ETHERNET_LEN, MAGIC_COOKIE}
+use Rattle.v4_message.specs.Layout.{OP_REQUEST, OP_REPLY}
 use Rattle.v4_message.specs.declared.fault.MessageFault.{MessageFault}
 use Rattle.v4_message.specs.declared.fault.MessageFault.TheVariants.{Short, Cookie, Hardware, Options, Kind}
 use Rattle.v4_message.specs.Header.{header_at, part}

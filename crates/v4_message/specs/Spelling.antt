@@ -1,10 +1,10 @@
 -- Which message bytes spell (RFC 2131, section 2), and why others spell none.
 use Rattle.std.specs.Prelude.{◌≡◌, ℕ, ◌<◌, ◌≤◌, ◌⊎◌, List, [], ◌∷◌, ◌++◌, length, drop, slice_index, Some, None, IfSome}
-use Rattle.v4_options.specs.declared.code.TheConstants.{REQUESTED_ADDRESS, OPTION_OVERLOAD, MESSAGE_TYPE, SERVER_IDENTIFIER, END}
+use Rattle.v4_options.specs.Codes.{REQUESTED_ADDRESS, OPTION_OVERLOAD, MESSAGE_TYPE, SERVER_IDENTIFIER, END}
 use Rattle.v4_options.specs.Spelling.{look_up, spelling}
 use Rattle.v4_options.specs.Spelling as lists
-use Rattle.v4_message.specs.declared.field.TheConstants.{OP, HTYPE, HLEN, COOKIE, OPTIONS, COOKIE_LEN, ADDR_LEN, ETHERNET, ETHERNET_LEN, MAGIC_COOKIE}
-use Rattle.v4_message.specs.declared.header.TheConstants.{OP_REQUEST, OP_REPLY}
+use Rattle.v4_message.specs.Layout.{OP, HTYPE, HLEN, COOKIE, OPTIONS, COOKIE_LEN, ADDR_LEN, ETHERNET, ETHERNET_LEN, MAGIC_COOKIE}
+use Rattle.v4_message.specs.Layout.{OP_REQUEST, OP_REPLY}
 use Rattle.v4_message.specs.declared.fault.MessageFault.{MessageFault}
 use Rattle.v4_message.specs.declared.fault.MessageFault.TheVariants.{Short, Cookie, Hardware, Options, Kind}
 use Rattle.v4_message.specs.Header.{HeaderValue, IsSized, header_bytes, part}

@@ -32,17 +32,8 @@ pub const COOKIE: usize = 236;
 
 pub const OPTIONS: usize = 240;
 
-pub const XID_LEN: usize = 4;
-
-pub const SECS_LEN: usize = 2;
-
-pub const FLAGS_LEN: usize = 2;
-
 /// The length of an address: ciaddr, yiaddr, siaddr and giaddr, and options 50 and 54.
 pub const ADDR_LEN: usize = 4;
-
-/// The length of chaddr, of which an Ethernet client uses 6 bytes.
-pub const CHADDR_LEN: usize = 16;
 
 pub const SNAME_LEN: usize = 64;
 

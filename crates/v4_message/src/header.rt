@@ -38,7 +38,7 @@ impl<'a> Header<'a> {
     /// Appends the header and the cookie, 240 bytes; the caller appends the options and their end. Where
     /// they do not fit, `out` is left empty.
     pub fn write(&self, out: &mut PacketBuf) -> Result<(), Full>
-        ensures full { IsOk result ↔ (length out.old + OPTIONS ≤ MAX_DATAGRAM) }
+        ensures full { IsOk result ↔ (length out.old + 240 ≤ 1280) }
         ensures ok { OnOk result (out.new ≡ out.old ++ (header_bytes (header_value self.now) ++ MAGIC_COOKIE)) }
         ensures err { OnErr result (out.new ≡ []) }
         ensures sized { OnOk result (IsSized (header_value self.now)) }
@@ -66,7 +66,7 @@ impl<'a> Header<'a> {
 
 /// Appends bytes that fit.
 fn append(out: &mut PacketBuf, bytes: &[u8])
-    requires { length out.old + length bytes.now ≤ MAX_DATAGRAM }
+    requires { length out.old + length bytes.now ≤ 1280 }
     ensures bytes { out.new ≡ out.old ++ bytes.now }
     ensures len { length out.new ≡ length out.old + length bytes.now }
 {

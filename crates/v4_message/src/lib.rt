@@ -12,5 +12,5 @@ mod tests;
 
 pub use fault::MessageFault;
 pub use header::{BROADCAST, Header, OP_REPLY, OP_REQUEST};
-pub use laws::{one_reading, written_is_read};
+pub use laws::{exact_reading, header_values, one_reading, written_is_read};
 pub use message::Message;

@@ -1,9 +1,9 @@
 //! Whole messages (RFC 2131, section 2).
 ghost use Rattle.std.specs.Prelude.{◌≡◌, ◌≤◌, ◌<◌, ◌+◌, ◌↔◌, ℕ, List, [], ◌∷◌, ◌++◌, length, Some, Ok, Err, IsOk, OnOk, OnErr, IfSome, option_map};
 ghost use Rattle.types.specs.Kind4.{code_of_kind};
-ghost use Rattle.v4_options.specs.declared.code.TheConstants.{REQUESTED_ADDRESS, MESSAGE_TYPE, SERVER_IDENTIFIER, CLIENT_IDENTIFIER, RELAY_AGENT_INFORMATION};
+ghost use Rattle.v4_options.specs.Codes.{REQUESTED_ADDRESS, MESSAGE_TYPE, SERVER_IDENTIFIER, CLIENT_IDENTIFIER, RELAY_AGENT_INFORMATION};
 ghost use Rattle.v4_options.specs.Spelling.{look_up};
-ghost use Rattle.v4_message.specs.declared.field.TheConstants.{OPTIONS};
+ghost use Rattle.v4_message.specs.Layout.{OPTIONS};
 ghost use Rattle.v4_message.specs.Header.{IsSized};
 ghost use Rattle.v4_message.specs.Reading.{are_allowed, has_cookie, is_ethernet, is_op, kind_in, may_be_addr, message_of};
 ghost use Rattle.v4_message.specs.Spelling.{MessageValue, IsValid, Spells, Fails, message_bytes};
@@ -196,7 +196,7 @@ impl<'a> Message<'a> {
     /// Appends the message: its options in order, without pads, and nothing after the end option. Where
     /// it does not fit, `out` is left empty.
     pub fn write(&self, out: &mut PacketBuf) -> Result<(), Full>
-        ensures full { IsOk result ↔ (length out.old + length (message_bytes self.now) ≤ MAX_DATAGRAM) }
+        ensures full { IsOk result ↔ (length out.old + length (message_bytes self.now) ≤ 1280) }
         ensures ok { OnOk result (out.new ≡ out.old ++ message_bytes self.now) }
         ensures err { OnErr result (out.new ≡ []) }
     {
@@ -244,14 +244,14 @@ fn message_in(bytes: &[u8]) -> Result<Message<'_>, MessageFault>
 }
 
 fn has_cookie(bytes: &[u8]) -> bool
-    requires { OPTIONS ≤ length bytes.now }
+    requires { 240 ≤ length bytes.now }
     ensures { result ≡ has_cookie bytes.now }
 {
     &bytes[field::COOKIE..field::COOKIE + field::COOKIE_LEN] == field::MAGIC_COOKIE.as_slice()
 }
 
 fn is_ethernet(bytes: &[u8]) -> bool
-    requires { OPTIONS ≤ length bytes.now }
+    requires { 240 ≤ length bytes.now }
     ensures { result ≡ is_ethernet bytes.now }
 {
     bytes[field::HTYPE] == field::ETHERNET && bytes[field::HLEN] == field::ETHERNET_LEN

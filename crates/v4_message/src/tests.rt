@@ -214,5 +214,7 @@ fn what_does_not_fit_leaves_nothing(rt: HostRuntime) {
 fn faults_have_texts(rt: HostRuntime) -> Result<(), std::test::Fail> {
     let texts = format!(in rt.alloc(); "{}", MessageFault::Hardware)?;
     assert_eq!(rt; texts.as_str(), "the message's hardware is not Ethernet");
+    let text = format!(in rt.alloc(); "{}", MessageFault::Cookie)?;
+    assert_eq!(rt; text.as_str(), "the message has no DHCP cookie");
     Ok(())
 }

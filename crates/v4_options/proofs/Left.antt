@@ -1,7 +1,7 @@
 -- Lists without an option, and with one more.
 use Rattle.std.proofs.Common.{◌≡◌, ◌≢◌, ℕ, Bool, true, false, cond, eqb, List, [], ◌∷◌, ◌++◌, Option, Some, None, refl, sym, ap, ◌∙◌, append_assoc}
 use Rattle.std.proofs.lemmas.Bool.{eqb-true, eqb-false, ne_eqb, eq-eqb}
-use Rattle.v4_options.specs.declared.code.TheConstants.{PAD, END}
+use Rattle.v4_options.specs.Codes.{PAD, END}
 use Rattle.v4_options.specs.Spelling.{spelling, option, look_up, without, AreOptions}
 
 gone_step : (b : Bool) (code : ℕ) (o : ℕ × List ℕ) (os : List (ℕ × List ℕ)) → eqb o.0 code ≡ b → look_up code os ≡ None → look_up code (cond b os (o ∷ os)) ≡ None

@@ -1,7 +1,7 @@
 -- A written list is no longer than the bytes that it was read from.
 use Rattle.std.proofs.Common.{◌≡◌, ℕ, ◌+◌, ◌≤◌, Bool, true, false, cond, eqb, List, [], ◌∷◌, ◌++◌, length, ap, arith}
 use Rattle.std.proofs.lemmas.List.{length-append}
-use Rattle.v4_options.specs.declared.code.TheConstants.{END}
+use Rattle.v4_options.specs.Codes.{END}
 use Rattle.v4_options.specs.Spelling.{spelling, option, row, options, without, Piece, Pad, Whole, Spells}
 
 length-option : (code : ℕ) (value rest : List ℕ) → length (option code value ++ rest) ≡ 2 + length value + length rest

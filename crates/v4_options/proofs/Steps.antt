@@ -3,7 +3,7 @@ use Rattle.std.proofs.Common.{◌≡◌, ℕ, zero, suc, ◌≤◌, Bool, true, 
 use Rattle.std.proofs.Math.Seq.{take-append_seam, drop-append_seam}
 use Rattle.std.proofs.lemmas.Bool.{le-leb, lt-leb}
 use Rattle.std.proofs.lemmas.List.{length-append}
-use Rattle.v4_options.specs.declared.code.TheConstants.{PAD, END}
+use Rattle.v4_options.specs.Codes.{PAD, END}
 use Rattle.v4_options.specs.declared.fault.OptFault.TheVariants.{NoEnd, Cut, Twice}
 use Rattle.v4_options.specs.declared.token.Syntax.{Syntax}
 use Rattle.v4_options.specs.Spelling.{option, IsShort}

@@ -1,3 +1,4 @@
+pub mod Codes
 pub mod Next
 pub mod Reading
 pub mod Spelling

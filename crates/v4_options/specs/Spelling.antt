@@ -1,6 +1,6 @@
 -- Which lists of options bytes spell (RFC 2132, section 2), and why others spell none.
 use Rattle.std.specs.Prelude.{◌≡◌, ◌≢◌, ℕ, ◌<◌, ◌==◌, List, [], ◌∷◌, ◌++◌, length, Option, Some, None, IsSome, if◌then◌else◌}
-use Rattle.v4_options.specs.declared.code.TheConstants.{PAD, END}
+use Rattle.v4_options.specs.Codes.{PAD, END}
 use Rattle.v4_options.specs.declared.fault.OptFault.{OptFault}
 use Rattle.v4_options.specs.declared.fault.OptFault.TheVariants.{NoEnd, Cut, Twice}
 

@@ -1,6 +1,6 @@
 -- The next token of a list, by the bytes. Only private functions cite this.
 use Rattle.std.specs.Prelude.{◌≡◌, ℕ, ◌<◌, true, false, List, [], ◌∷◌, ◌++◌, length}
-use Rattle.v4_options.specs.declared.code.TheConstants.{PAD, END}
+use Rattle.v4_options.specs.Codes.{PAD, END}
 use Rattle.v4_options.specs.declared.token.Syntax.{Syntax}
 use Rattle.v4_options.specs.declared.token.Token.{Token}
 use Rattle.v4_options.specs.declared.token.Token.TheVariants.{Nothing, Pad, End, Cut, Whole}

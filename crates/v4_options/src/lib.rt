@@ -17,8 +17,9 @@ mod writing;
 pub use fault::{OptFault, SuboptFault};
 pub use iter::Iter;
 pub use laws::{
-    appended, left_out, one_reading, one_subreading, subwritten_is_read, written_is_read,
+    appended, code_values, exact_reading, exact_subreading, left_out, one_reading, one_subreading,
+    subwritten_is_read, written_is_read,
 };
 pub use options::Options;
 pub use suboptions::Suboptions;
-pub use writing::{MAX_VALUE, put};
+pub use writing::put;

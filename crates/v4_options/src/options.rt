@@ -57,7 +57,7 @@ impl<'a> Options<'a> {
     /// Appends the options in order, without pads and without an end. Where they do not fit, `out` is
     /// left empty.
     pub fn write(&self, out: &mut PacketBuf) -> Result<(), Full>
-        ensures full { IsOk result ↔ (length out.old + length (spelling self.now) ≤ MAX_DATAGRAM) }
+        ensures full { IsOk result ↔ (length out.old + length (spelling self.now) ≤ 1280) }
         ensures ok { OnOk result (out.new ≡ out.old ++ spelling self.now) }
         ensures err { OnErr result (out.new ≡ []) }
     {
@@ -70,7 +70,7 @@ impl<'a> Options<'a> {
 
     /// As `write`, without the option of one code.
     pub fn write_without(&self, left_out: u8, out: &mut PacketBuf) -> Result<(), Full>
-        ensures full { IsOk result ↔ (length out.old + length (spelling (without left_out self.now)) ≤ MAX_DATAGRAM) }
+        ensures full { IsOk result ↔ (length out.old + length (spelling (without left_out self.now)) ≤ 1280) }
         ensures ok { OnOk result (out.new ≡ out.old ++ spelling (without left_out self.now)) }
         ensures err { OnErr result (out.new ≡ []) }
     {

@@ -142,12 +142,12 @@ fn what_does_not_fit_leaves_nothing(rt: HostRuntime) {
         assert_eq!(rt; written, if fits { Ok(()) } else { Err(Full) });
         assert_eq!(rt; out.len(), if fits { 1280 } else { 0 });
     }
-    let long = [1; 256];
-    for (len, fits) in [(255, true), (256, false)] {
-        out.clear();
-        let written = put(61, &long[..len], &mut out);
+    let long = [1; 255];
+    for (len, fits) in [(0, true), (1023, true), (1024, false)] {
+        fill(&mut out, len);
+        let written = put(61, &long, &mut out);
         assert_eq!(rt; written, if fits { Ok(()) } else { Err(Full) });
-        assert_eq!(rt; out.len(), if fits { 257 } else { 0 });
+        assert_eq!(rt; out.len(), if fits { len + 257 } else { 0 });
     }
 }
 
@@ -187,5 +187,7 @@ fn faults_have_texts(rt: HostRuntime) -> Result<(), std::test::Fail> {
         texts.as_str(),
         "an option appears twice; a suboption is cut off"
     );
+    let text = format!(in rt.alloc(); "{}", SuboptFault::Twice)?;
+    assert_eq!(rt; text.as_str(), "a suboption appears twice");
     Ok(())
 }

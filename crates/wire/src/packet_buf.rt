@@ -45,7 +45,7 @@ impl PacketBuf {
 
     /// Appends a byte.
     pub fn push(&mut self, byte: u8) -> Result<(), Full>
-        ensures full { IsOk result ↔ (length self.old + 1 ≤ MAX_DATAGRAM) }
+        ensures full { IsOk result ↔ (length self.old + 1 ≤ 1280) }
         ensures ok { OnOk result (self.new ≡ self.old ++ byte ∷ []) }
         ensures err { OnErr result (self.new ≡ self.old) }
     {
@@ -54,7 +54,7 @@ impl PacketBuf {
 
     /// Appends all of the bytes, or none.
     pub fn extend(&mut self, bytes: &[u8]) -> Result<(), Full>
-        ensures full { IsOk result ↔ (length self.old + length bytes.now ≤ MAX_DATAGRAM) }
+        ensures full { IsOk result ↔ (length self.old + length bytes.now ≤ 1280) }
         ensures ok { OnOk result (self.new ≡ self.old ++ bytes.now) }
         ensures err { OnErr result (self.new ≡ self.old) }
     {
@@ -63,7 +63,7 @@ impl PacketBuf {
 
     /// Appends zeros up to `n` bytes; nothing where there are as many already.
     pub fn pad_to(&mut self, n: usize) -> Result<(), Full>
-        ensures full { IsOk result ↔ (n ≤ MAX_DATAGRAM) }
+        ensures full { IsOk result ↔ (n ≤ 1280) }
         ensures ok { OnOk result (self.new ≡ padded_to n self.old) }
         ensures err { OnErr result (self.new ≡ self.old) }
     {
@@ -76,7 +76,7 @@ impl PacketBuf {
 
     pub fn len(&self) -> usize
         ensures value { result ≡ length self.now }
-        ensures fits { length self.now ≤ MAX_DATAGRAM }
+        ensures fits { length self.now ≤ 1280 }
     {
         self.bytes.len()
     }
@@ -89,7 +89,7 @@ impl PacketBuf {
 
     pub fn as_slice(&self) -> &[u8]
         ensures value { result.now ≡ self.now }
-        ensures fits { length self.now ≤ MAX_DATAGRAM }
+        ensures fits { length self.now ≤ 1280 }
     {
         self.bytes.as_slice()
     }

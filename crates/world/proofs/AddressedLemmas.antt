@@ -11,7 +11,7 @@ use Rattle.types.specs.declared.dest.Proto.TheVariants.{V4}
 use Rattle.types.specs.declared.discard.Discard.{Discard}
 use Rattle.types.specs.declared.discard.Discard.TheVariants.{Hops, WrongType}
 use Rattle.wire.specs.Bytes.{AreBytes}
-use Rattle.v4_options.specs.declared.code.TheConstants.{PAD, END, REQUESTED_ADDRESS, OPTION_OVERLOAD, MESSAGE_TYPE, SERVER_IDENTIFIER, RELAY_AGENT_INFORMATION, CIRCUIT_ID, SERVER_IDENTIFIER_OVERRIDE}
+use Rattle.v4_options.specs.Codes.{PAD, END, REQUESTED_ADDRESS, OPTION_OVERLOAD, MESSAGE_TYPE, SERVER_IDENTIFIER, RELAY_AGENT_INFORMATION, CIRCUIT_ID, SERVER_IDENTIFIER_OVERRIDE}
 use Rattle.v4_options.specs.Spelling.{option, spelling, look_up, AreOptions}
 use Rattle.v4_options.specs.Subreading.{suboptions_of}
 use Rattle.v4_options.proofs.Left.{AreOptions-append, look_up-append_same, look_up-append_other, spelling-append}

@@ -1,9 +1,9 @@
 use Rattle.std.proofs.Common.{◌≡◌, ◌+◌, ◌≤◌, ℕ, ◌++◌, List, length, ap, arith}
 use Rattle.std.proofs.lemmas.List.{length-append}
-use Rattle.v4_options.specs.declared.code.TheConstants.{RELAY_AGENT_INFORMATION}
+use Rattle.v4_options.specs.Codes.{RELAY_AGENT_INFORMATION}
 use Rattle.v4_options.specs.Spelling.{spelling, without}
 use Rattle.v4_options.proofs.Lengths.{length-without}
-use Rattle.v4_message.specs.declared.field.TheConstants.{MAGIC_COOKIE}
+use Rattle.v4_message.specs.Layout.{MAGIC_COOKIE}
 use Rattle.v4_message.specs.Header.{header_bytes}
 use Rattle.v4_message.specs.Written.{header_value}
 use Rattle.v4_message.proofs.Lengths.{length-message_bytes}

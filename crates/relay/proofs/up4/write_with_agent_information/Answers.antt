@@ -2,7 +2,7 @@ use Rattle.std.proofs.Common.{ℕ, ◌+◌, ◌≤◌, List, ◌++◌, length, a
 use Rattle.std.proofs.lemmas.List.{length-append}
 use Rattle.std.proofs.lemmas.Result.{on_ok_weaker}
 use Rattle.v4_options.specs.Spelling.{spelling}
-use Rattle.v4_message.specs.declared.field.TheConstants.{MAGIC_COOKIE}
+use Rattle.v4_message.specs.Layout.{MAGIC_COOKIE}
 use Rattle.v4_message.specs.Header.{HeaderValue, header_bytes}
 use Rattle.v4_message.specs.Written.{header_value}
 use Rattle.v4_message.proofs.Lengths.{length-message_bytes}

@@ -1,6 +1,6 @@
 use Rattle.std.proofs.Common.{◌≡◌, ap, ◌∙◌, [], ◌∷◌, ◌++◌, append_assoc}
 use Rattle.v4_options.specs.Spelling.{spelling}
-use Rattle.v4_message.specs.declared.field.TheConstants.{MAGIC_COOKIE}
+use Rattle.v4_message.specs.Layout.{MAGIC_COOKIE}
 use Rattle.v4_message.specs.Header.{header_bytes}
 use Rattle.wire.specs.Padding.{padded_to}
 use Rattle.replies.specs.Reply4.{reply4_bytes, reply_header, reply_options}

@@ -1,6 +1,6 @@
 use Rattle.std.proofs.Common.{arith, sym, ◌∙◌}
 use Rattle.types.specs.Kind4.{code_of_kind}
-use Rattle.v4_options.specs.declared.code.TheConstants.{MESSAGE_TYPE}
+use Rattle.v4_options.specs.Codes.{MESSAGE_TYPE}
 use Rattle.v4_options.specs.Spelling.{look_up}
 use Rattle.v4_message.proofs.Decisions.{op, allowed, kind_found}
 use Rattle.v4_message.proofs.message.message_in.Goals as goal

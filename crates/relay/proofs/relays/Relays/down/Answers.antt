@@ -1,7 +1,7 @@
 use Rattle.std.proofs.Common.{◌≡◌, true, false, Ok, Err, sym, ap, ◌∙◌, subst}
 use Rattle.std.specs.Prelude.{IfOk, IfErr, Result}
 use Rattle.types.specs.declared.discard.Discard.{Discard}
-use Rattle.relay.specs.Down4.{same_source}
+use Rattle.types.specs.Addr.{same_source}
 use Rattle.relay.specs.Relays.{CircuitFrame}
 use Rattle.relay.proofs.RelaysLemmas.{from_listen4, from_listen6, from_elsewhere}
 use Rattle.relay.proofs.relays.Relays.down.Goals as goal

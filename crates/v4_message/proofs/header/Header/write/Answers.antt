@@ -1,5 +1,5 @@
 use Rattle.std.proofs.Common.{[], ◌∷◌}
-use Rattle.v4_message.specs.declared.field.TheConstants.{ETHERNET, ETHERNET_LEN, MAGIC_COOKIE}
+use Rattle.v4_message.specs.Layout.{ETHERNET, ETHERNET_LEN, MAGIC_COOKIE}
 use Rattle.v4_message.proofs.Headers.{gathered}
 use Rattle.v4_message.proofs.header.Header.write.Goals as goal
 

@@ -1,6 +1,6 @@
 use Rattle.std.proofs.Common.{ap, arith, subst, ◌<◌, ◌^◌}
 use Rattle.std.specs.Int.{w16, from_be_bytes}
-use Rattle.v4_message.specs.declared.field.TheConstants.{FLAGS, FLAGS_LEN}
+use Rattle.v4_message.specs.Layout.{FLAGS, FLAGS_LEN}
 use Rattle.v4_message.specs.Header.{IsSized, part}
 use Rattle.v4_message.specs.Spelling.{MessageValue}
 use Rattle.v4_message.proofs.Headers.{sized_from_flags}
