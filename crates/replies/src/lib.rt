@@ -2,8 +2,10 @@
 //! request and the circuit's part of the configuration.
 #![tactic(auto)]
 
+mod laws;
 mod reply4;
 #[cfg(test)]
 mod tests;
 
+pub use laws::reply_is_read;
 pub use reply4::write4;
