@@ -1,12 +1,12 @@
 -- All circuits together, on the way down, do what each does alone.
-use Rattle.std.proofs.Common.{◌≡◌, ℕ, Bool, true, false, cond, List, [], ◌∷◌, get_or, Option, Some, None, Result, Ok, Err, refl, sym, ap, ◌∙◌, subst, arith}
-use Rattle.std.specs.Prelude.{slice_get}
+use Rattle.std.proofs.Common.{◌≡◌, ℕ, ◌<◌, Bool, true, false, cond, List, [], ◌∷◌, length, get_or, Option, Some, None, Result, Ok, Err, refl, sym, ap, ◌∙◌, subst, arith}
+use Rattle.std.specs.Prelude.{slice_get, nat_lt, ◌==◌}
 use Rattle.std.specs.List.{position}
 use Rattle.std.specs.Str.{bytes_eq}
-use Rattle.std.proofs.lemmas.Bool.{eq-eqb}
+use Rattle.std.proofs.lemmas.Bool.{eq-eqb, lt-ltb}
 use Rattle.std.proofs.lemmas.List.Quantifiers.{position-Some}
 use Rattle.std.proofs.lemmas.List.Sums.{position_or_len_is}
-use Rattle.std.proofs.lemmas.Option.{get_or_from_slice_get}
+use Rattle.std.proofs.lemmas.Option.{get_or_from_slice_get, slice_get-get_or, slice_get_within}
 use Rattle.std.proofs.lemmas.Slice.Eq.{bytes_eq-Decides}
 use Rattle.types.specs.declared.addr.Source.{Source}
 use Rattle.types.specs.declared.discard.Discard.{Discard}
@@ -15,8 +15,10 @@ use Rattle.v4_message.specs.Spelling.{MessageValue}
 use Rattle.config.specs.CircuitPart.{CircuitPart}
 use Rattle.relay.specs.SentFrame.{SentFrame}
 use Rattle.types.specs.Addr.{same_source}
-use Rattle.v4_message.specs.Agent.{agent_of}
-use Rattle.relay.specs.Down4.{◌>>=◌, is_named, reply_of, suboptions_in, reply_on_link, reply_to_circuit, relayed_down4}
+use Rattle.v4_options.specs.Spelling.{look_up}
+use Rattle.v4_message.specs.Agent.{agent_of, is_value}
+use Rattle.v4_message.specs.Reading.{message_of}
+use Rattle.relay.specs.Down4.{◌>>=◌, is_named, message_in_reply, reply_of, suboptions_in, reply_on_link, reply_to_circuit, relayed_down4}
 use Rattle.relay.specs.Relays.{Topology, CircuitFrame, for_circuit, is_behind, reply_to_found, reply_at_index, relayed_down_in, relayed_down4_in}
 use Rattle.relay.proofs.RelaysLemmas.{from_listen4}
 
@@ -126,3 +128,79 @@ unfolding relayed_down4_in relayed_down4
 only_one topology relay source datagram part only behind server =
     from_listen4 topology relay source datagram (ap (same_source source) (sym server) ∙ same_source_self source)
     ∙ only_reply topology relay part (reply_of datagram) only behind
+
+-- ---- the circuit that is named
+
+-- what has both values has one
+same_value : (a b : List ℕ) (o : Option (List ℕ)) → is_value a o ≡ true → is_value b o ≡ true → a ≡ b
+same_value a b None p q = absurd cc
+same_value a b (Some v) p q = sym ((bytes_eq-Decides v a).0 p) ∙ (bytes_eq-Decides v b).0 q
+
+-- the only named circuit is the first
+named_first : (circuits : List CircuitPart) (c : ℕ) (part : CircuitPart) (suboptions : List (ℕ × List ℕ))
+    → slice_get circuits c ≡ Some part → ((d : ℕ) (other : CircuitPart) → slice_get circuits d ≡ Some other → other.id ≡ part.id → d ≡ c)
+    → is_named suboptions part ≡ true → position (is_named suboptions) circuits ≡ Some c
+named_first circuits c part suboptions there alone named =
+    rw (position_or_len_is (is_named suboptions) circuits c part (omega (arith, within)) before (λ less. here), lt-ltb c (length circuits) within) refl
+  where
+    within : c < length circuits
+    within = slice_get_within circuits c part there
+
+    here : is_named suboptions (get_or circuits c part) ≡ true
+    here = ap (is_named suboptions) (get_or_from_slice_get circuits c part part there) ∙ named
+
+    before : (k : ℕ) → k < c → is_named suboptions (get_or circuits k part) ≡ false
+    before k less = by_test (is_named suboptions (get_or circuits k part)) refl
+      where
+        by_test : (b : Bool) → is_named suboptions (get_or circuits k part) ≡ b → b ≡ false
+        by_test false is = refl
+        by_test true is =
+            let other = get_or circuits k part in
+            let same : k ≡ c = alone k other (slice_get-get_or circuits k part (omega (arith, less, within))) (same_value other.id part.id (look_up 1 suboptions) is named) in
+            absurd (omega (arith, less, same))
+
+its_found : (topology : Topology) (relay : ℕ) (m : MessageValue) (c : ℕ) (part : CircuitPart)
+    → slice_get topology.circuits c ≡ Some part → slice_get topology.relays relay ≡ Some part.relay
+    → reply_at_index topology relay m (Some c) ≡ for_circuit c (reply_on_link part m)
+its_found topology relay m c part there behind = rw (there, behind, same_source_self part.relay) refl
+
+module _ (topology : Topology) (relay c : ℕ) (part : CircuitPart) (suboptions : List (ℕ × List ℕ)) (there : slice_get topology.circuits c ≡ Some part)
+    (alone : (d : ℕ) (other : CircuitPart) → slice_get topology.circuits d ≡ Some other → other.id ≡ part.id → d ≡ c)
+    (behind : slice_get topology.relays relay ≡ Some part.relay) (named : is_named suboptions part ≡ true) where
+  its_suboptions : (m : MessageValue) (r : Result (List (ℕ × List ℕ)) Discard) → r ≡ Ok suboptions
+      → (r >>= λ found. reply_at_index topology relay m (position (is_named found) topology.circuits)) ≡ for_circuit c (r >>= λ found. reply_to_circuit part m found)
+  its_suboptions m r is =
+      let both : Result (List (ℕ × List ℕ)) Discard → Type 0 = λ r.
+      (r >>= λ found. reply_at_index topology relay m (position (is_named found) topology.circuits)) ≡ for_circuit c (r >>= λ found. reply_to_circuit part m found) in
+      subst both (sym is)
+      (ap (reply_at_index topology relay m) (named_first topology.circuits c part suboptions there alone named)
+      ∙ its_found topology relay m c part there behind ∙ sym (ap (λ b. for_circuit c (cond b (reply_on_link part m) (Err reason.UnknownCircuitDown))) named))
+
+  its_reply : (m : MessageValue) (r : Result MessageValue Discard) → ((read : MessageValue) → r ≡ Ok read → read ≡ m) → agent_of m ≡ Some (Ok suboptions)
+      → (r >>= λ m. suboptions_in (agent_of m) >>= λ found. reply_at_index topology relay m (position (is_named found) topology.circuits))
+      ≡ for_circuit c (r >>= λ m. suboptions_in (agent_of m) >>= λ found. reply_to_circuit part m found)
+  its_reply m (Err why) same agent = refl
+  its_reply m (Ok read) same agent = its_suboptions read (suboptions_in (agent_of read)) (ap (λ m. suboptions_in (agent_of m)) (same read refl) ∙ ap suboptions_in agent)
+
+-- a reply that was read is the datagram's message
+reply_message : (datagram : List ℕ) (m read : MessageValue) → message_of datagram ≡ Ok m → reply_of datagram ≡ Ok read → read ≡ m
+unfolding reply_of
+reply_message datagram m read is replied = by_length (nat_lt 1280 (length datagram)) (subst (λ r. cond (nat_lt 1280 (length datagram)) (Err reason.MalformedDown) (message_in_reply r) ≡ Ok read) is replied)
+  where
+    by_op : (b : Bool) → cond b (Ok m) (Err reason.MalformedDown) ≡ Ok read → read ≡ m
+    by_op true h = cc
+    by_op false h = absurd cc
+
+    by_length : (b : Bool) → cond b (Err reason.MalformedDown) (message_in_reply (Ok m)) ≡ Ok read → read ≡ m
+    by_length true h = absurd cc
+    by_length false h = by_op (m.header.op == 2) h
+
+pub its_circuit : (topology : Topology) (relay : ℕ) (source : Source) (datagram : List ℕ) (c : ℕ) (part : CircuitPart) (m : MessageValue) (suboptions : List (ℕ × List ℕ))
+    → slice_get topology.circuits c ≡ Some part → ((d : ℕ) (other : CircuitPart) → slice_get topology.circuits d ≡ Some other → other.id ≡ part.id → d ≡ c)
+    → slice_get topology.relays relay ≡ Some part.relay → source ≡ topology.listen4
+    → message_of datagram ≡ Ok m → agent_of m ≡ Some (Ok suboptions) → is_named suboptions part ≡ true
+    → relayed_down_in topology relay source datagram ≡ for_circuit c (relayed_down4 part datagram)
+unfolding relayed_down4_in relayed_down4
+its_circuit topology relay source datagram c part m suboptions there alone behind server is agent named =
+    from_listen4 topology relay source datagram (ap (same_source source) (sym server) ∙ same_source_self source)
+    ∙ its_reply topology relay c part suboptions there alone behind named m (reply_of datagram) (λ read replied. reply_message datagram m read is replied) agent

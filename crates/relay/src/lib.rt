@@ -9,5 +9,5 @@ mod relays;
 mod tests;
 mod up4;
 
-pub use laws::{agrees, only_circuit};
+pub use laws::{agrees, named_circuit, only_circuit};
 pub use relays::{Memory, Relays};
