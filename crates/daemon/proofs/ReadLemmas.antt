@@ -3,7 +3,6 @@ use Rattle.std.proofs.Common.{◌≡◌, ℕ, ◌+◌, ◌<◌, ◌≤◌, List,
 use Rattle.std.specs.Prelude.{Option, Some, None, slice_set}
 use Rattle.std.specs.Io.KnownBytes.{Consumes, Keeps}
 use Rattle.std.proofs.lemmas.List.{take_more_set, length_push, length-take-le}
-use Rattle.daemon.specs.declared.accesslab.line.TheConstants.{MAX_LINE}
 use Rattle.daemon.specs.LineEnd.{IsPart, IsLong}
 use Rattle.daemon.proofs.CutLemmas.{lacks_none, lacks_more}
 
@@ -36,12 +35,12 @@ pub part_next : (a b c : Option (List ℕ)) (line : List ℕ) (len byte : ℕ) �
 part_next a b c line len byte inside h k other =
     subst (IsPart a c) (sym (take_more_set line len byte inside)) (part_more a b c (take len line) byte h k other)
 
-pub part_long : (a b c : Option (List ℕ)) (line : List ℕ) (len byte : ℕ) → length line ≡ len → len ≡ MAX_LINE → IsPart a b (take len line) → Consumes b c (byte ∷ []) → (byte ≡ 10 → ⊥) → IsLong a c
+pub part_long : (a b c : Option (List ℕ)) (line : List ℕ) (len byte : ℕ) → length line ≡ len → len ≡ 8192 → IsPart a b (take len line) → Consumes b c (byte ∷ []) → (byte ≡ 10 → ⊥) → IsLong a c
 part_long a b c line len byte size is h k other = record {
   front = take len line ++ byte ∷ [];
   long = let e = length_push (take len line) byte in let f = length-take-le len line (omega arith) in omega arith;
   part = part_more a b c (take len line) byte h k other;
 }
 
-pub some_bytes : (line : List ℕ) (len : ℕ) → length line ≡ MAX_LINE → len ≤ MAX_LINE → (len ≡ 0 → ⊥) → length (take len line) ≡ 0 → ⊥
+pub some_bytes : (line : List ℕ) (len : ℕ) → length line ≡ 8192 → len ≤ 8192 → (len ≡ 0 → ⊥) → length (take len line) ≡ 0 → ⊥
 some_bytes line len size within some none = let e = length-take-le len line (omega arith) in some (sym e ∙ none)

@@ -3,7 +3,6 @@ use Rattle.std.specs.Prelude.{◌≡◌, ℕ, ◌<◌, true, List, [], ◌∷◌
 use Rattle.std.specs.Io.KnownBytes.{Consumes, IsAtEnd}
 use Rattle.daemon.specs.declared.accesslab.line.LineEnd.{LineEnd}
 use Rattle.daemon.specs.declared.accesslab.line.LineEnd.TheVariants.{Newline, EndOfInput, TooLong}
-use Rattle.daemon.specs.declared.accesslab.line.TheConstants.{MAX_LINE}
 use Rattle.daemon.specs.Lines.{lacks}
 
 -- a part of a line, or all of it
@@ -24,7 +23,7 @@ pub record IsLast (old new : Option (List ℕ)) (line : List ℕ) : Type 0 where
 -- a part of a line that is already too long
 pub record IsLong (old new : Option (List ℕ)) : Type 0 where
   pub front : List ℕ
-  pub long : MAX_LINE < length front
+  pub long : 8192 < length front
   pub part : IsPart old new front
 
 abbrev pub IsLineEnd : Option (List ℕ) → Option (List ℕ) → List ℕ → LineEnd → Type 0

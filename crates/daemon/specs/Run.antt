@@ -8,7 +8,6 @@ use Rattle.world.specs.Alone.{Alone}
 use Rattle.world.specs.Headline.{CircuitState, Represents}
 use Rattle.world.specs.Seen.{Seen, seen_of}
 use Rattle.world.specs.declared.event.Event.{Event}
-use Rattle.daemon.specs.declared.accesslab.status.TheConstants.{DONE, BAD_LINE, FAILED}
 use Rattle.daemon.specs.Lab.{LineResult, Refused, Applied, lab_output}
 use Rattle.daemon.specs.Output.{bad_text}
 use Rattle.daemon.specs.Writing.{AppendsPrefix}
@@ -26,24 +25,24 @@ pub record IsApplied (settings : Settings) (quota : ℕ) (written : List ℕ) (m
   pub appended : Appends held holds written
   pub represents : AllRepresent settings quota states machines
 
--- the status of a run that ends before the end of the text
+-- the status of a run that ends before the end of the text: 3 at a bad line, 6 at a failure
 abbrev pub IsEnd : ℕ → Type 0
-IsEnd status = (status ≡ BAD_LINE) ⊎ (status ≡ FAILED)
+IsEnd status = (status ≡ 3) ⊎ (status ≡ 6)
 
 -- the status of a run
 abbrev pub IsStatus : ℕ → Type 0
-IsStatus status = (status ≡ DONE) ⊎ IsEnd status
+IsStatus status = (status ≡ 0) ⊎ IsEnd status
 
 -- The last line of the output was written, or, where the writer failed, a prefix of it.
 abbrev pub IsRefusal : ℕ → Option (List ℕ) → Option (List ℕ) → ℕ → Type 0
 IsRefusal number held holds status =
-    ((status ≡ BAD_LINE) × Appends held holds (bad_text number)) ⊎ ((status ≡ FAILED) × AppendsPrefix held holds (bad_text number))
+    ((status ≡ 3) × Appends held holds (bad_text number)) ⊎ ((status ≡ 6) × AppendsPrefix held holds (bad_text number))
 
 -- World and writer follow the result of a line: the run goes on where no status is returned, and else
 -- it ends.
 abbrev pub Follows : Settings → ℕ → ℕ → LineResult → List CircuitState → Option (List ℕ) → Option (List ℕ) → Option ℕ → Type 0
 Follows settings quota number (Applied written machines) states held holds None = IsApplied settings quota written machines states held holds
-Follows settings quota number (Applied written machines) states held holds (Some status) = (status ≡ FAILED) × AppendsPrefix held holds written
+Follows settings quota number (Applied written machines) states held holds (Some status) = (status ≡ 6) × AppendsPrefix held holds written
 Follows settings quota number Refused states held holds None = ⊥
 Follows settings quota number Refused states held holds (Some status) = IsRefusal number held holds status
 
@@ -52,8 +51,8 @@ pub record Ends (settings : Settings) (quota : ℕ) (given left held holds : Opt
   pub read : List ℕ
   pub consumed : Consumes given left read
   -- whatever is left of the text, what was written is the output of all of it
-  pub exact : (status ≡ FAILED → ⊥) → (rest : List ℕ) → left ≡ Some rest → Appends held holds (lab_output settings quota (read ++ rest)).text × (status ≡ (lab_output settings quota (read ++ rest)).status)
-  pub partial : status ≡ FAILED → AppendsPrefix held holds (lab_output settings quota read).text
+  pub exact : (status ≡ 6 → ⊥) → (rest : List ℕ) → left ≡ Some rest → Appends held holds (lab_output settings quota (read ++ rest)).text × (status ≡ (lab_output settings quota (read ++ rest)).status)
+  pub partial : status ≡ 6 → AppendsPrefix held holds (lab_output settings quota read).text
 
 -- Some of the text was read, and a prefix of its output was written.
 pub record IsPartial (settings : Settings) (quota : ℕ) (given left held holds : Option (List ℕ)) : Type 0 where

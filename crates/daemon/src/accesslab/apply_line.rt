@@ -116,7 +116,7 @@ pub(crate) fn apply_line<M: Machine, W: Write>(
     out: &mut PacketBuf,
     writer: &mut W,
 ) -> Option<u8>
-    requires { length line.now ≤ MAX_LINE }
+    requires { length line.now ≤ 8192 }
     ensures follows { (quota : ℕ) (machines : ℕ → Alone) → AllRepresent config.now quota (M.states machine.old) machines
         → Follows config.now quota number (line_result config.now quota machines (line_of_text config.now line.now)) (M.states machine.new) (W.contents writer.old) (W.contents writer.new) result }
     ensures status { IfSome result IsEnd }

@@ -70,12 +70,12 @@ pub fn lab<M: Machine, R: Read, W: Write>(
 ) -> u8
     // The output is that of the whole text.
     ensures written { (quota : ℕ) (text : List ℕ) → Starts config.now quota (M.states machine.old)
-        → R.remaining reader.old ≡ Some text → ¬ (result ≡ FAILED)
+        → R.remaining reader.old ≡ Some text → ¬ (result ≡ 6)
         → Appends (W.contents writer.old) (W.contents writer.new) (lab_output config.now quota text).text
         × (result ≡ (lab_output config.now quota text).status) }
 
     // Where the reader or the writer failed, a prefix of the output for what was read is written.
-    ensures partial { (quota : ℕ) → Starts config.now quota (M.states machine.old) → result ≡ FAILED
+    ensures partial { (quota : ℕ) → Starts config.now quota (M.states machine.old) → result ≡ 6
         → IsPartial config.now quota (R.remaining reader.old) (R.remaining reader.new) (W.contents writer.old) (W.contents writer.new) }
 
     // No other status is returned.

@@ -46,7 +46,7 @@ pub(crate) fn read_line<R: Read>(
     line: &mut [u8; MAX_LINE],
 ) -> Result<LineEnd, Failed>
     ensures end { IfOk result (IsLineEnd (R.remaining reader.old) (R.remaining reader.new) line.new) }
-    ensures within { IfOk result (λ end. len_of end ≤ MAX_LINE) }
+    ensures within { IfOk result (λ end. len_of end ≤ 8192) }
     ensures cut { OnErr result (IsCut (R.remaining reader.old) (R.remaining reader.new)) }
 {
     'bytes: for len in 0..MAX_LINE + 1 {

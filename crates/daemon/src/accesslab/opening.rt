@@ -4,10 +4,8 @@ ghost use Rattle.std.specs.Io.KnownBytes.{Appends};
 ghost use Rattle.config.specs.declared.settings.CircuitConfig.{CircuitConfig};
 ghost use Rattle.daemon.specs.Lab.{lab_output};
 ghost use Rattle.daemon.specs.Run.{IsPartial, IsStatus};
-ghost use Rattle.daemon.specs.declared.accesslab.status.TheConstants.{UNOPENED, FAILED};
 ghost use Rattle.world.specs.Start.{Starts};
 ghost use Rattle.world.specs.World.{states};
-ghost use Rattle.lossy_net.specs.declared.net.TheConstants.{MAX_QUOTA};
 
 use super::engine::lab;
 use super::status::UNOPENED;
@@ -34,7 +32,7 @@ fn regions(config: &Config) -> u16
 /// The world of a configuration over a disk with formatted regions.
 fn opened(alloc: Global, config: &Config, quota: u16) -> Result<World, OpenFault>
     requires some { 1 ≤ quota }
-    requires most { quota ≤ MAX_QUOTA }
+    requires most { quota ≤ 256 }
     ensures { IfOk result (λ world. Starts config.now quota (states world)) }
 {
     let Ok(disk) = ModelDisk::new(alloc, regions(config)) else {
@@ -56,22 +54,22 @@ pub fn run<R: Read, W: Write>(
     writer: &mut W,
 ) -> u8
     requires some { 1 ≤ quota }
-    requires most { quota ≤ MAX_QUOTA }
+    requires most { quota ≤ 256 }
 
     // The output is that of the whole text.
-    ensures written { (text : List ℕ) → R.remaining reader.old ≡ Some text → ¬ (result ≡ UNOPENED) → ¬ (result ≡ FAILED)
+    ensures written { (text : List ℕ) → R.remaining reader.old ≡ Some text → ¬ (result ≡ 4) → ¬ (result ≡ 6)
         → Appends (W.contents writer.old) (W.contents writer.new) (lab_output config.now quota text).text
         × (result ≡ (lab_output config.now quota text).status) }
 
     // Without a world nothing is read or written.
-    ensures unread { result ≡ UNOPENED → R.remaining reader.new ≡ R.remaining reader.old }
-    ensures unwritten { result ≡ UNOPENED → W.contents writer.new ≡ W.contents writer.old }
+    ensures unread { result ≡ 4 → R.remaining reader.new ≡ R.remaining reader.old }
+    ensures unwritten { result ≡ 4 → W.contents writer.new ≡ W.contents writer.old }
 
     // The status is 4 or one of `lab`'s.
-    ensures status { (result ≡ UNOPENED) ⊎ IsStatus result }
+    ensures status { (result ≡ 4) ⊎ IsStatus result }
 
     // Where the reader or the writer failed, a prefix of the output for what was read is written.
-    ensures partial { result ≡ FAILED → IsPartial config.now quota (R.remaining reader.old) (R.remaining reader.new) (W.contents writer.old) (W.contents writer.new) }
+    ensures partial { result ≡ 6 → IsPartial config.now quota (R.remaining reader.old) (R.remaining reader.new) (W.contents writer.old) (W.contents writer.new) }
 {
     let Ok(mut world) = opened(alloc, config, quota) else {
         return UNOPENED;

@@ -18,9 +18,9 @@ pub const MAX_DIGITS: usize = 2 * MAX_DATAGRAM;
 
 /// Writes the digits of the bytes to the front of the array and returns their count.
 fn digits_of(bytes: &[u8], digits: &mut [u8; MAX_DIGITS]) -> usize
-    requires { length bytes.now ≤ MAX_DATAGRAM }
+    requires { length bytes.now ≤ 1280 }
     ensures value { take result digits.new ≡ encode_lower bytes.now }
-    ensures within { result ≤ MAX_DIGITS }
+    ensures within { result ≤ 2560 }
 {
     let count = 2 * bytes.len();
     let _ = hex::encode_to_slice(bytes, &mut digits[..count]);
