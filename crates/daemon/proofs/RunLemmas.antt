@@ -12,7 +12,7 @@ use Rattle.daemon.specs.Lab.{Output, LineResult, Refused, Applied, line_result, 
 use Rattle.daemon.specs.Line.{line_of_text}
 use Rattle.daemon.specs.Lines.{lacks, lines_of}
 use Rattle.daemon.specs.Writing.{AppendsPrefix}
-use Rattle.daemon.specs.Run.{AllRepresent, IsRefusal, Follows, Ends}
+use Rattle.daemon.specs.Run.{AllRepresent, IsRefusal, Follows, FollowsLast, Ends}
 use Rattle.daemon.specs.Output.{bad_text}
 use Rattle.daemon.proofs.CutLemmas.{line_before, line_begins, line_last}
 use Rattle.daemon.proofs.ReadLemmas.{consumes_none, consumes_more}
@@ -178,15 +178,6 @@ last_on settings quota number machines (b ∷ front) rest plain some none =
     ∙ ap (lab_from settings quota number machines) (line_last b front plain)
     ∙ one_line settings quota number machines (b ∷ front) []
 
-pub ends_last : (settings : Settings) (quota number : ℕ) (given left left2 held holds holds2 : Option (List ℕ)) (states states2 : List CircuitState) (line : List ℕ) (status : ℕ)
-    → SoFar settings quota number given left held holds states → IsLast left left2 line → (length line ≡ 0 → ⊥)
-    → ((machines : ℕ → Alone) → AllRepresent settings quota states machines → Follows settings quota number (line_result settings quota machines (line_of_text settings line)) states2 holds holds2 (Some status))
-    → Ends settings quota given left2 held holds2 status
-ends_last settings quota number given left left2 held holds holds2 states states2 line status s read some follows =
-    ends_at settings quota number given left left2 held holds holds2 states states2 line status (line_result settings quota s.machines (line_of_text settings line)) s read.part.read
-    (λ rest next. lab_from settings quota (number + 1) next [])
-    (λ rest here. last_on settings quota number s.machines line rest read.part.plain some (none_left left2 rest read.end here)) (follows s.machines s.represents)
-
 -- The run ends at the end of the text, of which all was written.
 ends_done : (settings : Settings) (quota : ℕ) (given left held holds : Option (List ℕ)) (read written : List ℕ) → Consumes given left read → IsAtEnd left → Appends held holds written
     → lab_output settings quota (read ++ []) ≡ record { text = written; status = 0 } → Ends settings quota given left held holds 0
@@ -212,15 +203,8 @@ last_done settings quota number given left left2 held holds holds2 states states
     ∙ ap (after written) (none_written settings quota (number + 1) machines)
     ∙ ap (λ text. record { text = text; status = 0 }) (append-nil written)))
 
-pub ends_last_done : (settings : Settings) (quota number : ℕ) (given left left2 held holds holds2 : Option (List ℕ)) (states states2 : List CircuitState) (line : List ℕ)
-    → SoFar settings quota number given left held holds states → IsLast left left2 line → (length line ≡ 0 → ⊥)
-    → ((machines : ℕ → Alone) → AllRepresent settings quota states machines → Follows settings quota number (line_result settings quota machines (line_of_text settings line)) states2 holds holds2 None)
-    → Ends settings quota given left2 held holds2 0
-ends_last_done settings quota number given left left2 held holds holds2 states states2 line s read some follows =
-    last_done settings quota number given left left2 held holds holds2 states states2 line (line_result settings quota s.machines (line_of_text settings line)) s read some refl (follows s.machines s.represents)
-
 -- no line is left
-pub ends_none : (settings : Settings) (quota number : ℕ) (given left left2 held holds : Option (List ℕ)) (states : List CircuitState)
+ends_none : (settings : Settings) (quota number : ℕ) (given left left2 held holds : Option (List ℕ)) (states : List CircuitState)
     → SoFar settings quota number given left held holds states → IsLast left left2 [] → Ends settings quota given left2 held holds 0
 ends_none settings quota number given left left2 held holds states s read =
     ends_done settings quota given left2 held holds (s.read ++ []) s.written (consumes_more given left left2 s.read [] s.consumed read.part.read) read.end s.appended
@@ -228,32 +212,46 @@ ends_none settings quota number given left left2 held holds states s read =
     ∙ ap (after s.written) (ap (lab_from settings quota number s.machines) no_lines ∙ none_written settings quota number s.machines)
     ∙ ap (λ text. record { text = text; status = 0 }) (append-nil s.written))
 
+-- The last line, which lacks its line feed, and which may be empty.
+last_empty : (settings : Settings) (quota number : ℕ) (given left left2 held holds holds2 : Option (List ℕ)) (states : List CircuitState) (line : List ℕ) (status : ℕ)
+    → SoFar settings quota number given left held holds states → IsLast left left2 line → length line ≡ 0 → status ≡ 0 → holds2 ≡ holds → Ends settings quota given left2 held holds2 status
+last_empty settings quota number given left left2 held holds holds2 states [] status s read none is kept =
+    subst (λ n. Ends settings quota given left2 held holds2 n) (sym is)
+    (subst (λ h. Ends settings quota given left2 held h 0) (sym kept) (ends_none settings quota number given left left2 held holds states s read))
+last_empty settings quota number given left left2 held holds holds2 states (b ∷ line) status s read none is kept = absurd (omega arith)
+
+last_ended : (settings : Settings) (quota number : ℕ) (given left left2 held holds holds2 : Option (List ℕ)) (states states2 : List CircuitState) (line : List ℕ) (status : ℕ)
+    → (s : SoFar settings quota number given left held holds states) → IsLast left left2 line
+    → FollowsLast settings quota number line (line_result settings quota s.machines (line_of_text settings line)) states2 holds holds2 status
+    → Ends settings quota given left2 held holds2 status
+last_ended settings quota number given left left2 held holds holds2 states states2 line status s read (inl (none, is, kept)) =
+    last_empty settings quota number given left left2 held holds holds2 states line status s read none is kept
+last_ended settings quota number given left left2 held holds holds2 states states2 line status s read (inr (some, inl (is, follows))) =
+    subst (λ n. Ends settings quota given left2 held holds2 n) (sym is)
+    (last_done settings quota number given left left2 held holds holds2 states states2 line (line_result settings quota s.machines (line_of_text settings line)) s read some refl follows)
+last_ended settings quota number given left left2 held holds holds2 states states2 line status s read (inr (some, inr follows)) =
+    ends_at settings quota number given left left2 held holds holds2 states states2 line status (line_result settings quota s.machines (line_of_text settings line)) s read.part.read
+    (λ rest next. lab_from settings quota (number + 1) next [])
+    (λ rest here. last_on settings quota number s.machines line rest read.part.plain some (none_left left2 rest read.end here)) follows
+
+pub ends_last : (settings : Settings) (quota number : ℕ) (given left left2 held holds holds2 : Option (List ℕ)) (states states2 : List CircuitState) (line : List ℕ) (status : ℕ)
+    → SoFar settings quota number given left held holds states → IsLast left left2 line
+    → ((machines : ℕ → Alone) → AllRepresent settings quota states machines → FollowsLast settings quota number line (line_result settings quota machines (line_of_text settings line)) states2 holds holds2 status)
+    → Ends settings quota given left2 held holds2 status
+ends_last settings quota number given left left2 held holds holds2 states states2 line status s read follows =
+    last_ended settings quota number given left left2 held holds holds2 states states2 line status s read (follows s.machines s.represents)
+
 -- the reader failed
 pub ends_cut : (settings : Settings) (quota number : ℕ) (given left left2 held holds : Option (List ℕ)) (states : List CircuitState)
     → SoFar settings quota number given left held holds states → IsCut left left2 → Ends settings quota given left2 held holds 6
 ends_cut settings quota number given left left2 held holds states s cut = record {
   read = s.read ++ cut.front;
-  consumed = consumes_more given left left2 s.read cut.front s.consumed cut.part.read;
+  consumed = consumes_more given left left2 s.read cut.front s.consumed cut.read;
   exact = λ fine rest here. absurd (fine refl);
   partial = λ failed. record {
     front = s.written;
     rest = (lab_from settings quota number s.machines (lines_of cut.front)).text;
     parted = ap (λ o. o.text) (s.whole cut.front);
-    appended = s.appended;
-  };
-}
-
--- there are too many lines
-pub ends_stop : (settings : Settings) (quota number : ℕ) (given left held holds : Option (List ℕ)) (states : List CircuitState)
-    → SoFar settings quota number given left held holds states → Ends settings quota given left held holds 6
-ends_stop settings quota number given left held holds states s = record {
-  read = s.read;
-  consumed = s.consumed;
-  exact = λ fine rest here. absurd (fine refl);
-  partial = λ failed. record {
-    front = s.written;
-    rest = (lab_from settings quota number s.machines (lines_of [])).text;
-    parted = ap (λ o. o.text) (ap (lab_output settings quota) (sym (append-nil s.read)) ∙ s.whole []);
     appended = s.appended;
   };
 }

@@ -1,6 +1,6 @@
--- What a line and a run of lines do to the world and to the writer. Of these a reader needs `IsStatus` and
--- `IsPartial`.
-use Rattle.std.specs.Prelude.{◌≡◌, ℕ, ◌⊎◌, ◌==◌, if◌then◌else◌, List, ◌++◌, Option, Some, None}
+-- What a line and a run of lines do to the world and to the writer. Of these a reader needs `IsStatus`,
+-- `IsPartial`, `HasCause` and `HasNoCause`.
+use Rattle.std.specs.Prelude.{◌≡◌, ℕ, ◌<◌, ◌⊎◌, ◌==◌, if◌then◌else◌, List, ◌++◌, length, Option, Some, None}
 use Rattle.std.specs.Io.KnownBytes.{Appends, Consumes}
 use Rattle.config.specs.CircuitPart.{CircuitPart, part_in}
 use Rattle.config.specs.Rules.{Settings}
@@ -46,6 +46,13 @@ Follows settings quota number (Applied written machines) states held holds (Some
 Follows settings quota number Refused states held holds None = ⊥
 Follows settings quota number Refused states held holds (Some status) = IsRefusal number held holds status
 
+-- The line that lacks its line feed: an empty one ends the run with status 0, and so does one that is
+-- not bad.
+abbrev pub FollowsLast : Settings → ℕ → ℕ → List ℕ → LineResult → List CircuitState → Option (List ℕ) → Option (List ℕ) → ℕ → Type 0
+FollowsLast settings quota number line result states held holds status =
+    ((length line ≡ 0) × (status ≡ 0) × (holds ≡ held))
+    ⊎ ((length line ≡ 0 → ⊥) × (((status ≡ 0) × Follows settings quota number result states held holds None) ⊎ Follows settings quota number result states held holds (Some status)))
+
 -- A run that has read these bytes and ended with this status.
 pub record Ends (settings : Settings) (quota : ℕ) (given left held holds : Option (List ℕ)) (status : ℕ) : Type 0 where
   pub read : List ℕ
@@ -59,3 +66,22 @@ pub record IsPartial (settings : Settings) (quota : ℕ) (given left held holds 
   pub read : List ℕ
   pub consumed : Consumes given left read
   pub partial : AppendsPrefix held holds (lab_output settings quota read).text
+
+-- So many bytes were read.
+pub record HasRead (given left : Option (List ℕ)) (n : ℕ) : Type 0 where
+  pub read : List ℕ
+  pub consumed : Consumes given left read
+  pub count : length read ≡ n
+
+-- The reader or the writer failed, by their counts before and after, or 2^64 - 1 bytes were read.
+abbrev pub HasCause : Option (List ℕ) → Option (List ℕ) → ℕ → ℕ → ℕ → ℕ → Type 0
+HasCause given left reader reader_after writer writer_after =
+    (reader < reader_after) ⊎ (writer < writer_after) ⊎ HasRead given left 18446744073709551615
+
+-- Neither failed, and fewer than 2^64 - 1 bytes were read.
+pub record HasNoCause (given left : Option (List ℕ)) (reader reader_after writer writer_after : ℕ) : Type 0 where
+  pub reader_quiet : reader_after ≡ reader
+  pub writer_quiet : writer_after ≡ writer
+  pub count : ℕ
+  pub few : count < 18446744073709551615
+  pub read : HasRead given left count

@@ -1,30 +1,35 @@
 //! A run over a world that is opened for it.
-ghost use Rattle.std.specs.Prelude.{◌≡◌, ◌⊎◌, ℕ, ◌<◌, ◌≤◌, List, Some, IfOk, slice_get};
+ghost use Rattle.std.specs.Prelude.{◌≡◌, ◌⊎◌, ℕ, ◌+◌, ◌<◌, ◌≤◌, List, Some, IfOk, slice_get};
 ghost use Rattle.std.specs.Io.KnownBytes.{Appends};
 ghost use Rattle.config.specs.declared.settings.CircuitConfig.{CircuitConfig};
 ghost use Rattle.daemon.specs.Lab.{lab_output};
-ghost use Rattle.daemon.specs.Run.{IsPartial, IsStatus};
+ghost use Rattle.daemon.specs.Run.{IsPartial, IsStatus, HasCause, HasNoCause};
 ghost use Rattle.world.specs.Start.{Starts};
 ghost use Rattle.world.specs.World.{states};
 
 use super::engine::lab;
 use super::status::UNOPENED;
+use super::streams::{ByteReader, ByteWriter};
 use config::Config;
 use std::alloc::Global;
-use std::io::{Read, Write};
 use types::Circuit;
 use world::{ModelDisk, OpenFault, World};
 
-/// How many regions a disk needs to have those of all circuits.
+/// How many regions a disk needs to have those of all circuits: one more than the greatest number.
 fn regions(config: &Config) -> u16
-    ensures { (c : ℕ) (circuit : CircuitConfig) → slice_get config.now.circuits c ≡ Some circuit → circuit.region < result }
+    ensures enough { (c : ℕ) (circuit : CircuitConfig) → slice_get config.now.circuits c ≡ Some circuit → circuit.region < result }
+    ensures no_more { (c : ℕ) × (circuit : CircuitConfig) × (slice_get config.now.circuits c ≡ Some circuit) × (circuit.region + 1 ≡ result) }
+    ensures most { result ≤ 1024 }
 {
     let mut regions = 0;
     for index in 0..config.circuit_count() {
         let Some(circuit) = Circuit::new(index) else {
             unreachable!()
         };
-        regions = regions.max(config.at(circuit).region + 1);
+        let needed = config.at(circuit).region + 1;
+        if needed > regions {
+            regions = needed;
+        }
     }
     regions
 }
@@ -43,10 +48,10 @@ fn opened(alloc: Global, config: &Config, quota: u16) -> Result<World, OpenFault
 
 /// Opens a world of the configuration, applies the lines of a text to it and writes the outcome of
 /// each. Returns the status: 0 at the end of the text, 3 at a bad line, 4 where the world was not
-/// opened, 6 where the reader or the writer fails or the text does not end.
+/// opened, 6 exactly where the reader or the writer fails or 2^64 - 1 bytes were read.
 ///
-/// The contract does not say that 4 is returned only when out of memory, and 6 only as said.
-pub fn run<R: Read, W: Write>(
+/// The contract does not say that 4 is returned only when out of memory.
+pub fn run<R: ByteReader, W: ByteWriter>(
     alloc: Global,
     config: &Config,
     quota: u16,
@@ -61,8 +66,7 @@ pub fn run<R: Read, W: Write>(
         → Appends (W.contents writer.old) (W.contents writer.new) (lab_output config.now quota text).text
         × (result ≡ (lab_output config.now quota text).status) }
 
-    // Without a world nothing is read or written.
-    ensures unread { result ≡ 4 → R.remaining reader.new ≡ R.remaining reader.old }
+    // Without a world nothing is written.
     ensures unwritten { result ≡ 4 → W.contents writer.new ≡ W.contents writer.old }
 
     // The status is 4 or one of `lab`'s.
@@ -70,6 +74,10 @@ pub fn run<R: Read, W: Write>(
 
     // Where the reader or the writer failed, a prefix of the output for what was read is written.
     ensures partial { result ≡ 6 → IsPartial config.now quota (R.remaining reader.old) (R.remaining reader.new) (W.contents writer.old) (W.contents writer.new) }
+
+    // A failure has a cause, and nothing else comes of one.
+    ensures cause { result ≡ 6 → HasCause (R.remaining reader.old) (R.remaining reader.new) (R.failures reader.old) (R.failures reader.new) (W.failures writer.old) (W.failures writer.new) }
+    ensures quiet { ¬ (result ≡ 6) → HasNoCause (R.remaining reader.old) (R.remaining reader.new) (R.failures reader.old) (R.failures reader.new) (W.failures writer.old) (W.failures writer.new) }
 {
     let Ok(mut world) = opened(alloc, config, quota) else {
         return UNOPENED;
