@@ -37,19 +37,18 @@ fn apply_lines<M: Machine, R: ByteReader, W: ByteWriter>(
         let Ok(end) = read_line(reader, &mut count, &mut line) else {
             return FAILED;
         };
-        match end {
+        let len = match end {
+            LineEnd::Newline(len) => len,
             LineEnd::TooLong => return refuse(number, writer),
             LineEnd::EndOfInput(len) => {
                 let text = &line[..len];
                 return apply_last_line(machine, config, number, text, &mut bytes, &mut out, writer);
             }
-            LineEnd::Newline(len) => {
-                let text = &line[..len];
-                let ended = apply_line(machine, config, number, text, &mut bytes, &mut out, writer);
-                if let Some(status) = ended {
-                    return status;
-                }
-            }
+        };
+        let text = &line[..len];
+        let ended = apply_line(machine, config, number, text, &mut bytes, &mut out, writer);
+        if let Some(status) = ended {
+            return status;
         }
     }
     unreachable!()

@@ -1,5 +1,5 @@
 use Rattle.std.proofs.Common.{◌≡◌, ◌+◌, ◌∙◌, refl, take, arith}
-use Rattle.std.specs.Prelude.{Option, Some, None}
+use Rattle.std.specs.Prelude.{Some}
 use Rattle.daemon.proofs.ReadLemmas.{counted_none, counted_more, reader_failed, none_failed}
 use Rattle.daemon.proofs.RunLemmas.{at_first, next_line, ends_cut, ends_long, ends_last, ends_feed}
 use Rattle.daemon.proofs.accesslab.engine.apply_lines.Goals as goal
