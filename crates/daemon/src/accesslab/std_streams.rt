@@ -36,10 +36,8 @@ impl<R: Read> StdReader<R> {
         ensures reader { result.reader ≡ reader }
         ensures quiet { result.failures.count ≡ 0 }
     {
-        StdReader {
-            reader,
-            failures: Count::new(),
-        }
+        let failures = Count::new();
+        StdReader { reader, failures }
     }
 }
 
@@ -106,10 +104,8 @@ impl<W: Write> StdWriter<W> {
         ensures writer { result.writer ≡ writer }
         ensures quiet { result.failures.count ≡ 0 }
     {
-        StdWriter {
-            writer,
-            failures: Count::new(),
-        }
+        let failures = Count::new();
+        StdWriter { writer, failures }
     }
 
     /// The writer itself.
