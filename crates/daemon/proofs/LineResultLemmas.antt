@@ -15,7 +15,7 @@ use Rattle.world.specs.declared.outcome.Outcome.{Outcome}
 use Rattle.daemon.specs.Lab.{part_result, moved, ticked}
 use Rattle.daemon.specs.Line.{Bad, line_of_text, short_line}
 use Rattle.daemon.specs.Writing.{AppendsPrefix}
-use Rattle.daemon.specs.Run.{AllRepresent, Names, Follows}
+use Rattle.daemon.specs.Follows.{AllRepresent, Names, Follows}
 use Rattle.daemon.specs.Output.{effect_text, outcome_effect, with_newline}
 
 -- the effect of the outcome

@@ -12,7 +12,7 @@ use Rattle.daemon.specs.Lab.{Output, LineResult, Refused, Applied, line_result, 
 use Rattle.daemon.specs.Line.{line_of_text}
 use Rattle.daemon.specs.Lines.{lacks, lines_of}
 use Rattle.daemon.specs.Writing.{AppendsPrefix}
-use Rattle.daemon.specs.Run.{AllRepresent, IsRefusal, Follows, FollowsLast, Ends}
+use Rattle.daemon.specs.Follows.{AllRepresent, IsRefusal, Follows, FollowsLast, Ends}
 use Rattle.daemon.specs.Output.{bad_text}
 use Rattle.daemon.proofs.CutLemmas.{line_before, line_begins, line_last}
 use Rattle.daemon.proofs.ReadLemmas.{consumes_none, consumes_more}

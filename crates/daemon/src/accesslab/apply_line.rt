@@ -7,7 +7,8 @@ ghost use Rattle.world.specs.Seen.{Seen};
 ghost use Rattle.daemon.specs.Lab.{part_result, line_result};
 ghost use Rattle.daemon.specs.Line.{line_of_text, Tick};
 ghost use Rattle.daemon.specs.ParsedLine.{line_of, IsWithin};
-ghost use Rattle.daemon.specs.Run.{AllRepresent, Names, IsEnd, IsRefusal, IsStatus, Follows, FollowsLast};
+ghost use Rattle.daemon.specs.Follows.{AllRepresent, Names, IsRefusal, Follows, FollowsLast};
+ghost use Rattle.daemon.specs.Run.{IsEnd, IsStatus};
 
 use super::hexadecimal::MAX_BYTES;
 use super::line::MAX_LINE;

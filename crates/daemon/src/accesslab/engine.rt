@@ -3,7 +3,8 @@ ghost use Rattle.std.specs.Prelude.{◌≡◌, ℕ, List, Some};
 ghost use Rattle.std.specs.Io.KnownBytes.{Appends};
 ghost use Rattle.world.specs.Start.{Starts};
 ghost use Rattle.daemon.specs.Lab.{lab_output};
-ghost use Rattle.daemon.specs.Run.{IsPartial, Ends, IsStatus, HasCause, HasNoCause};
+ghost use Rattle.daemon.specs.Follows.{Ends};
+ghost use Rattle.daemon.specs.Run.{IsPartial, IsStatus, HasCause, HasNoCause};
 
 use super::apply_line::{apply_last_line, apply_line, refuse};
 use super::hexadecimal::MAX_BYTES;

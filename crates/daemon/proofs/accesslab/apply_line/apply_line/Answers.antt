@@ -1,6 +1,6 @@
 use Rattle.std.proofs.Common.{subst, ◌∙◌}
 use Rattle.daemon.specs.Lab.{line_result}
-use Rattle.daemon.specs.Run.{Follows}
+use Rattle.daemon.specs.Follows.{Follows}
 use Rattle.daemon.proofs.LineResultLemmas.{short_is}
 use Rattle.daemon.proofs.accesslab.apply_line.apply_line.Goals as goal
 
