@@ -8,7 +8,7 @@ use super::streams::{ByteReader, Failed};
 /// The most bytes that a line may have, not counting its line feed.
 pub const MAX_LINE: usize = 8192;
 
-/// The most bytes that a text may have: where so many were read, the run ends.
+/// Where so many bytes were read, the run ends as if the reader had failed.
 pub const MAX_TEXT: u64 = u64::MAX;
 
 /// How a line ended, and its length in bytes.
