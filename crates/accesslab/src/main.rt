@@ -4,7 +4,9 @@
 ghost use Rattle.std.specs.Prelude.{◌≤◌};
 
 use config::Config;
-use daemon::accesslab::{self, FAILED, LabWords, REFUSED, Refusal, UNOPENED, UNREADABLE};
+use daemon::accesslab::{
+    self, FAILED, LabWords, REFUSED, Refusal, StdReader, StdWriter, UNOPENED, UNREADABLE,
+};
 use std::io::{self, BufReader, BufWriter, Write};
 use std::process::ExitCode;
 use std::{env, fs};
@@ -18,7 +20,7 @@ fn complain<D: std::fmt::Display + Drop>(rt: &HostRuntime, why: D, status: u8) -
 /// Shows help, the version or what is wrong with the command line, and returns the status.
 fn show(rt: &HostRuntime, refusal: &Refusal) -> u8 {
     match refusal {
-        Refusal::Memory => complain(rt, "open memory", UNOPENED),
+        Refusal::Memory => complain(rt, "error: out of memory", REFUSED),
         Refusal::BadValue => complain(rt, "error: a value is missing or out of range", REFUSED),
         Refusal::Usage(error) => {
             if error.print(rt).is_err() {
@@ -58,17 +60,19 @@ fn run(rt: &HostRuntime, values: LabWords<'_>) -> u8
         Err(status) => return status,
     };
     let alloc = rt.alloc();
-    let Ok(mut writer) = BufWriter::new(alloc, io::writer(rt)) else {
+    let Ok(writer) = BufWriter::new(alloc, io::writer(rt)) else {
         return complain(rt, "open memory", UNOPENED);
     };
-    let Ok(mut reader) = BufReader::new(alloc, rt.reader()) else {
+    let Ok(reader) = BufReader::new(alloc, rt.reader()) else {
         return complain(rt, "open memory", UNOPENED);
     };
+    let mut reader = StdReader::new(reader);
+    let mut writer = StdWriter::new(writer);
     let status = accesslab::run(alloc, &config, values.quota, &mut reader, &mut writer);
     if status == UNOPENED {
         return complain(rt, "open memory", UNOPENED);
     }
-    if writer.flush().is_err() {
+    if writer.into_inner().flush().is_err() {
         return FAILED;
     }
     status
@@ -81,7 +85,7 @@ fn status(rt: &HostRuntime) -> u8 {
     };
     let given: Result<Vec<String>, _> = given.skip(1).collect(alloc);
     let Ok(given) = given else {
-        return complain(rt, "open memory", UNOPENED);
+        return complain(rt, "error: out of memory", REFUSED);
     };
     match accesslab::words(alloc, &given) {
         Ok(values) => run(rt, values),

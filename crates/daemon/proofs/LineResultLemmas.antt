@@ -12,12 +12,10 @@ use Rattle.world.specs.Seen.{Seen, seen_of}
 use Rattle.world.specs.declared.event.Event.{Event}
 use Rattle.world.specs.declared.event.Event.TheVariants as event
 use Rattle.world.specs.declared.outcome.Outcome.{Outcome}
-use Rattle.daemon.specs.declared.accesslab.status.TheConstants.{FAILED}
-use Rattle.daemon.specs.declared.accesslab.line.TheConstants.{MAX_LINE}
 use Rattle.daemon.specs.Lab.{part_result, moved, ticked}
 use Rattle.daemon.specs.Line.{Bad, line_of_text, short_line}
 use Rattle.daemon.specs.Writing.{AppendsPrefix}
-use Rattle.daemon.specs.Run.{AllRepresent, Names, Follows}
+use Rattle.daemon.specs.Follows.{AllRepresent, Names, Follows}
 use Rattle.daemon.specs.Output.{effect_text, outcome_effect, with_newline}
 
 -- the effect of the outcome
@@ -93,10 +91,10 @@ event_applied settings quota number c id seen e states new o out machines held h
 pub event_not_written : (settings : Settings) (quota number c : ℕ) (id : List ℕ) (seen : Seen) (e : Event) (states new : List CircuitState) (o : Outcome) (out : List ℕ) (machines : ℕ → Alone) (held holds : Option (List ℕ))
     → PartAt settings c id → Names c seen e → Steps e states new o out → AllRepresent settings quota states machines
     → AppendsPrefix held holds (with_newline (effect_text id (outcome_effect o out)))
-    → Follows settings quota number (part_result quota c seen machines (part_in settings c)) new held holds (Some FAILED)
+    → Follows settings quota number (part_result quota c seen machines (part_in settings c)) new held holds (Some 6)
 event_not_written settings quota number c id seen e states new o out machines held holds at names steps represents h =
     let setup : Setup = record { part = at.part; quota = quota } in
-    subst (λ p. Follows settings quota number (part_result quota c seen machines p) new held holds (Some FAILED)) (sym at.is)
+    subst (λ p. Follows settings quota number (part_result quota c seen machines p) new held holds (Some 6)) (sym at.is)
     (refl, subst (AppendsPrefix held holds) (text_is c setup id seen e states new o out (machines c) at.same (named_sees c seen e names) steps (represents.each c at.part at.is)) h)
 
 -- a moment that passes
@@ -110,11 +108,11 @@ represents_ticked settings quota now states new o out machines steps represents 
 }
 
 -- a line that is short enough
-pub short_is : (settings : Settings) (line : List ℕ) → length line ≤ MAX_LINE → short_line settings line ≡ line_of_text settings line
+pub short_is : (settings : Settings) (line : List ℕ) → length line ≤ 8192 → short_line settings line ≡ line_of_text settings line
 unfolding line_of_text
-short_is settings line h = sym (ap (λ t. cond t Bad (short_line settings line)) (le-ltb MAX_LINE (length line) h))
+short_is settings line h = sym (ap (λ t. cond t Bad (short_line settings line)) (le-ltb 8192 (length line) h))
 
 -- one that is too long
-pub long_is : (settings : Settings) (line : List ℕ) → MAX_LINE < length line → line_of_text settings line ≡ Bad
+pub long_is : (settings : Settings) (line : List ℕ) → 8192 < length line → line_of_text settings line ≡ Bad
 unfolding line_of_text
-long_is settings line h = ap (λ t. cond t Bad (short_line settings line)) (lt-ltb MAX_LINE (length line) h)
+long_is settings line h = ap (λ t. cond t Bad (short_line settings line)) (lt-ltb 8192 (length line) h)

@@ -1,10 +1,10 @@
 -- Bytes that are read in several calls.
-use Rattle.std.proofs.Common.{◌≡◌, ℕ, ◌+◌, ◌<◌, ◌≤◌, List, [], ◌∷◌, ◌++◌, length, take, refl, ap, sym, ◌∙◌, arith, append_assoc, ne_eqb, subst}
+use Rattle.std.proofs.Common.{◌≡◌, ℕ, ◌+◌, ◌<◌, ◌≤◌, ◌⊎◌, inl, inr, List, [], ◌∷◌, ◌++◌, length, take, refl, ap, sym, ◌∙◌, arith, append_assoc, length-append, ne_eqb, subst}
 use Rattle.std.specs.Prelude.{Option, Some, None, slice_set}
 use Rattle.std.specs.Io.KnownBytes.{Consumes, Keeps}
 use Rattle.std.proofs.lemmas.List.{take_more_set, length_push, length-take-le}
-use Rattle.daemon.specs.declared.accesslab.line.TheConstants.{MAX_LINE}
-use Rattle.daemon.specs.LineEnd.{IsPart, IsLong}
+use Rattle.daemon.specs.LineEnd.{IsPart, IsLong, IsCounted}
+use Rattle.daemon.specs.Run.{HasRead, HasCause, HasNoCause}
 use Rattle.daemon.proofs.CutLemmas.{lacks_none, lacks_more}
 
 pub consumes_none : (o : Option (List ℕ)) → Consumes o o []
@@ -36,12 +36,44 @@ pub part_next : (a b c : Option (List ℕ)) (line : List ℕ) (len byte : ℕ) �
 part_next a b c line len byte inside h k other =
     subst (IsPart a c) (sym (take_more_set line len byte inside)) (part_more a b c (take len line) byte h k other)
 
-pub part_long : (a b c : Option (List ℕ)) (line : List ℕ) (len byte : ℕ) → length line ≡ len → len ≡ MAX_LINE → IsPart a b (take len line) → Consumes b c (byte ∷ []) → (byte ≡ 10 → ⊥) → IsLong a c
+pub part_long : (a b c : Option (List ℕ)) (line : List ℕ) (len byte : ℕ) → length line ≡ len → len ≡ 8192 → IsPart a b (take len line) → Consumes b c (byte ∷ []) → (byte ≡ 10 → ⊥) → IsLong a c
 part_long a b c line len byte size is h k other = record {
   front = take len line ++ byte ∷ [];
   long = let e = length_push (take len line) byte in let f = length-take-le len line (omega arith) in omega arith;
   part = part_more a b c (take len line) byte h k other;
 }
 
-pub some_bytes : (line : List ℕ) (len : ℕ) → length line ≡ MAX_LINE → len ≤ MAX_LINE → (len ≡ 0 → ⊥) → length (take len line) ≡ 0 → ⊥
+pub some_bytes : (line : List ℕ) (len : ℕ) → length line ≡ 8192 → len ≤ 8192 → (len ≡ 0 → ⊥) → length (take len line) ≡ 0 → ⊥
 some_bytes line len size within some none = let e = length-take-le len line (omega arith) in some (sym e ∙ none)
+
+-- bytes that were counted
+pub counted_none : (o : Option (List ℕ)) (n : ℕ) → IsCounted o o n n
+counted_none o n = record { bytes = []; read = consumes_none o; count = omega arith }
+
+pub counted_more : (a b c : Option (List ℕ)) (i j k : ℕ) → IsCounted a b i j → IsCounted b c j k → IsCounted a c i k
+counted_more a b c i j k h t = record {
+  bytes = h.bytes ++ t.bytes;
+  read = consumes_more a b c h.bytes t.bytes h.read t.read;
+  count = let e = length-append h.bytes t.bytes in let f = h.count in let g = t.count in omega arith;
+}
+
+pub has_read : (given left : Option (List ℕ)) (n : ℕ) → IsCounted given left 0 n → HasRead given left n
+has_read given left n h = record { read = h.bytes; consumed = h.read; count = let e = h.count in omega arith }
+
+-- the reader failed, or the text is too long
+pub reader_failed : (given left left2 : Option (List ℕ)) (reader before after writer writer_after n m : ℕ) → before ≡ reader → IsCounted given left 0 n → IsCounted left left2 n m
+    → (after ≡ before + 1) ⊎ (m ≡ 18446744073709551615) → HasCause given left2 reader after writer writer_after
+reader_failed given left left2 reader before after writer writer_after n m same h more (inl failed) = inl (omega arith)
+reader_failed given left left2 reader before after writer writer_after n m same h more (inr full) =
+    inr (inr (subst (HasRead given left2) full (has_read given left2 m (counted_more given left left2 0 n m h more))))
+
+-- neither failed
+pub none_failed : (given left left2 : Option (List ℕ)) (reader before after writer writer_before writer_after n m : ℕ) → before ≡ reader → after ≡ before → writer_before ≡ writer → writer_after ≡ writer_before
+    → IsCounted given left 0 n → IsCounted left left2 n m → m < 18446744073709551615 → HasNoCause given left2 reader after writer writer_after
+none_failed given left left2 reader before after writer writer_before writer_after n m a b c d h more below = record {
+  reader_quiet = b ∙ a;
+  writer_quiet = d ∙ c;
+  count = m;
+  few = below;
+  read = has_read given left2 m (counted_more given left left2 0 n m h more);
+}

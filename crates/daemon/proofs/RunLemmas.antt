@@ -7,14 +7,12 @@ use Rattle.config.specs.Rules.{Settings}
 use Rattle.world.specs.Alone.{Alone, start}
 use Rattle.world.specs.Headline.{CircuitState}
 use Rattle.world.specs.Start.{Starts}
-use Rattle.daemon.specs.declared.accesslab.line.TheConstants.{MAX_LINE}
-use Rattle.daemon.specs.declared.accesslab.status.TheConstants.{DONE, BAD_LINE, FAILED}
 use Rattle.daemon.specs.LineEnd.{IsLine, IsLast, IsLong, IsCut}
 use Rattle.daemon.specs.Lab.{Output, LineResult, Refused, Applied, line_result, and_then, lab_from, lab_output}
 use Rattle.daemon.specs.Line.{line_of_text}
 use Rattle.daemon.specs.Lines.{lacks, lines_of}
 use Rattle.daemon.specs.Writing.{AppendsPrefix}
-use Rattle.daemon.specs.Run.{AllRepresent, IsRefusal, Follows, Ends}
+use Rattle.daemon.specs.Follows.{AllRepresent, IsRefusal, Follows, FollowsLast, Ends}
 use Rattle.daemon.specs.Output.{bad_text}
 use Rattle.daemon.proofs.CutLemmas.{line_before, line_begins, line_last}
 use Rattle.daemon.proofs.ReadLemmas.{consumes_none, consumes_more}
@@ -46,7 +44,7 @@ at_first settings quota given held states starts = record {
   whole = λ rest. refl;
 }
 
-none_written : (settings : Settings) (quota number : ℕ) (machines : ℕ → Alone) → lab_from settings quota number machines [] ≡ record { text = []; status = DONE }
+none_written : (settings : Settings) (quota number : ℕ) (machines : ℕ → Alone) → lab_from settings quota number machines [] ≡ record { text = []; status = 0 }
 unfolding lab_from
 none_written settings quota number machines = refl
 
@@ -119,7 +117,7 @@ ends_at settings quota number given left left2 held holds holds2 states states2 
   exact = λ fine rest here.
       let all = goes_on settings quota number given left held holds states s part rest ∙ ap (after s.written) (comes rest (inl here)) in
       (subst (λ o. Appends held holds2 o.text) (sym all) (appends_more held holds holds2 s.written (bad_text number) s.appended wrote), is ∙ sym (ap (λ o. o.status) all));
-  partial = λ failed. let e : BAD_LINE ≡ FAILED = sym is ∙ failed in absurd (omega arith);
+  partial = λ failed. let e : 3 ≡ 6 = sym is ∙ failed in absurd (omega arith);
 }
 ends_at settings quota number given left left2 held holds holds2 states states2 part status Refused s read f comes (inr (is, wrote)) = record {
   read = s.read ++ part;
@@ -150,8 +148,8 @@ ends_feed settings quota number given left left2 held holds holds2 states states
     (follows s.machines s.represents)
 
 -- a line that is too long
-long_on : (settings : Settings) (quota number : ℕ) (machines : ℕ → Alone) (front rest : List ℕ) → lacks 10 front ≡ true → MAX_LINE < length front
-    → lab_from settings quota number machines (lines_of (front ++ rest)) ≡ record { text = bad_text number; status = BAD_LINE }
+long_on : (settings : Settings) (quota number : ℕ) (machines : ℕ → Alone) (front rest : List ℕ) → lacks 10 front ≡ true → 8192 < length front
+    → lab_from settings quota number machines (lines_of (front ++ rest)) ≡ record { text = bad_text number; status = 3 }
 long_on settings quota number machines [] rest plain long = absurd (omega arith)
 long_on settings quota number machines (b ∷ front) rest plain long =
     let begins = line_begins b front rest plain in
@@ -164,7 +162,7 @@ pub ends_long : (settings : Settings) (quota number : ℕ) (given left left2 hel
     → SoFar settings quota number given left held holds states → IsLong left left2 → IsRefusal number holds holds2 status → Ends settings quota given left2 held holds2 status
 ends_long settings quota number given left left2 held holds holds2 states status s read wrote =
     ends_at settings quota number given left left2 held holds holds2 states states read.front status Refused s read.part.read
-    (λ rest next. record { text = []; status = DONE }) (λ rest here. long_on settings quota number s.machines read.front rest read.part.plain read.long) wrote
+    (λ rest next. record { text = []; status = 0 }) (λ rest here. long_on settings quota number s.machines read.front rest read.part.plain read.long) wrote
 
 -- nothing is left after the end
 none_left : (left : Option (List ℕ)) (rest : List ℕ) → IsAtEnd left → Left left rest → rest ≡ []
@@ -180,30 +178,21 @@ last_on settings quota number machines (b ∷ front) rest plain some none =
     ∙ ap (lab_from settings quota number machines) (line_last b front plain)
     ∙ one_line settings quota number machines (b ∷ front) []
 
-pub ends_last : (settings : Settings) (quota number : ℕ) (given left left2 held holds holds2 : Option (List ℕ)) (states states2 : List CircuitState) (line : List ℕ) (status : ℕ)
-    → SoFar settings quota number given left held holds states → IsLast left left2 line → (length line ≡ 0 → ⊥)
-    → ((machines : ℕ → Alone) → AllRepresent settings quota states machines → Follows settings quota number (line_result settings quota machines (line_of_text settings line)) states2 holds holds2 (Some status))
-    → Ends settings quota given left2 held holds2 status
-ends_last settings quota number given left left2 held holds holds2 states states2 line status s read some follows =
-    ends_at settings quota number given left left2 held holds holds2 states states2 line status (line_result settings quota s.machines (line_of_text settings line)) s read.part.read
-    (λ rest next. lab_from settings quota (number + 1) next [])
-    (λ rest here. last_on settings quota number s.machines line rest read.part.plain some (none_left left2 rest read.end here)) (follows s.machines s.represents)
-
 -- The run ends at the end of the text, of which all was written.
 ends_done : (settings : Settings) (quota : ℕ) (given left held holds : Option (List ℕ)) (read written : List ℕ) → Consumes given left read → IsAtEnd left → Appends held holds written
-    → lab_output settings quota (read ++ []) ≡ record { text = written; status = DONE } → Ends settings quota given left held holds DONE
+    → lab_output settings quota (read ++ []) ≡ record { text = written; status = 0 } → Ends settings quota given left held holds 0
 ends_done settings quota given left held holds read written consumed end wrote all = record {
   read = read;
   consumed = consumed;
   exact = λ fine rest here.
       let so = ap (λ v. lab_output settings quota (read ++ v)) (none_left left rest end (inl here)) ∙ all in
       (subst (λ o. Appends held holds o.text) (sym so) wrote, sym (ap (λ o. o.status) so));
-  partial = λ failed. let e : DONE ≡ FAILED = failed in absurd (omega arith);
+  partial = λ failed. let e : 0 ≡ 6 = failed in absurd (omega arith);
 }
 
 last_done : (settings : Settings) (quota number : ℕ) (given left left2 held holds holds2 : Option (List ℕ)) (states states2 : List CircuitState) (line : List ℕ) (t : LineResult)
     → (s : SoFar settings quota number given left held holds states) → IsLast left left2 line → (length line ≡ 0 → ⊥) → line_result settings quota s.machines (line_of_text settings line) ≡ t
-    → Follows settings quota number t states2 holds holds2 None → Ends settings quota given left2 held holds2 DONE
+    → Follows settings quota number t states2 holds holds2 None → Ends settings quota given left2 held holds2 0
 last_done settings quota number given left left2 held holds holds2 states states2 line Refused s read some is follows = absurd follows
 last_done settings quota number given left left2 held holds holds2 states states2 line (Applied written machines) s read some is follows =
     ends_done settings quota given left2 held holds2 (s.read ++ line) (s.written ++ written) (consumes_more given left left2 s.read line s.consumed read.part.read) read.end
@@ -212,50 +201,57 @@ last_done settings quota number given left left2 held holds holds2 states states
     ∙ ap (after s.written) (last_on settings quota number s.machines line [] read.part.plain some refl
     ∙ ap (λ t. and_then number t (λ next. lab_from settings quota (number + 1) next [])) is
     ∙ ap (after written) (none_written settings quota (number + 1) machines)
-    ∙ ap (λ text. record { text = text; status = DONE }) (append-nil written)))
-
-pub ends_last_done : (settings : Settings) (quota number : ℕ) (given left left2 held holds holds2 : Option (List ℕ)) (states states2 : List CircuitState) (line : List ℕ)
-    → SoFar settings quota number given left held holds states → IsLast left left2 line → (length line ≡ 0 → ⊥)
-    → ((machines : ℕ → Alone) → AllRepresent settings quota states machines → Follows settings quota number (line_result settings quota machines (line_of_text settings line)) states2 holds holds2 None)
-    → Ends settings quota given left2 held holds2 DONE
-ends_last_done settings quota number given left left2 held holds holds2 states states2 line s read some follows =
-    last_done settings quota number given left left2 held holds holds2 states states2 line (line_result settings quota s.machines (line_of_text settings line)) s read some refl (follows s.machines s.represents)
+    ∙ ap (λ text. record { text = text; status = 0 }) (append-nil written)))
 
 -- no line is left
-pub ends_none : (settings : Settings) (quota number : ℕ) (given left left2 held holds : Option (List ℕ)) (states : List CircuitState)
-    → SoFar settings quota number given left held holds states → IsLast left left2 [] → Ends settings quota given left2 held holds DONE
+ends_none : (settings : Settings) (quota number : ℕ) (given left left2 held holds : Option (List ℕ)) (states : List CircuitState)
+    → SoFar settings quota number given left held holds states → IsLast left left2 [] → Ends settings quota given left2 held holds 0
 ends_none settings quota number given left left2 held holds states s read =
     ends_done settings quota given left2 held holds (s.read ++ []) s.written (consumes_more given left left2 s.read [] s.consumed read.part.read) read.end s.appended
     (goes_on settings quota number given left held holds states s [] []
     ∙ ap (after s.written) (ap (lab_from settings quota number s.machines) no_lines ∙ none_written settings quota number s.machines)
-    ∙ ap (λ text. record { text = text; status = DONE }) (append-nil s.written))
+    ∙ ap (λ text. record { text = text; status = 0 }) (append-nil s.written))
+
+-- The last line, which lacks its line feed, and which may be empty.
+last_empty : (settings : Settings) (quota number : ℕ) (given left left2 held holds holds2 : Option (List ℕ)) (states : List CircuitState) (line : List ℕ) (status : ℕ)
+    → SoFar settings quota number given left held holds states → IsLast left left2 line → length line ≡ 0 → status ≡ 0 → holds2 ≡ holds → Ends settings quota given left2 held holds2 status
+last_empty settings quota number given left left2 held holds holds2 states [] status s read none is kept =
+    subst (λ n. Ends settings quota given left2 held holds2 n) (sym is)
+    (subst (λ h. Ends settings quota given left2 held h 0) (sym kept) (ends_none settings quota number given left left2 held holds states s read))
+last_empty settings quota number given left left2 held holds holds2 states (b ∷ line) status s read none is kept = absurd (omega arith)
+
+last_ended : (settings : Settings) (quota number : ℕ) (given left left2 held holds holds2 : Option (List ℕ)) (states states2 : List CircuitState) (line : List ℕ) (status : ℕ)
+    → (s : SoFar settings quota number given left held holds states) → IsLast left left2 line
+    → FollowsLast settings quota number line (line_result settings quota s.machines (line_of_text settings line)) states2 holds holds2 status
+    → Ends settings quota given left2 held holds2 status
+last_ended settings quota number given left left2 held holds holds2 states states2 line status s read (inl (none, is, kept)) =
+    last_empty settings quota number given left left2 held holds holds2 states line status s read none is kept
+last_ended settings quota number given left left2 held holds holds2 states states2 line status s read (inr (some, inl (is, follows))) =
+    subst (λ n. Ends settings quota given left2 held holds2 n) (sym is)
+    (last_done settings quota number given left left2 held holds holds2 states states2 line (line_result settings quota s.machines (line_of_text settings line)) s read some refl follows)
+last_ended settings quota number given left left2 held holds holds2 states states2 line status s read (inr (some, inr follows)) =
+    ends_at settings quota number given left left2 held holds holds2 states states2 line status (line_result settings quota s.machines (line_of_text settings line)) s read.part.read
+    (λ rest next. lab_from settings quota (number + 1) next [])
+    (λ rest here. last_on settings quota number s.machines line rest read.part.plain some (none_left left2 rest read.end here)) follows
+
+pub ends_last : (settings : Settings) (quota number : ℕ) (given left left2 held holds holds2 : Option (List ℕ)) (states states2 : List CircuitState) (line : List ℕ) (status : ℕ)
+    → SoFar settings quota number given left held holds states → IsLast left left2 line
+    → ((machines : ℕ → Alone) → AllRepresent settings quota states machines → FollowsLast settings quota number line (line_result settings quota machines (line_of_text settings line)) states2 holds holds2 status)
+    → Ends settings quota given left2 held holds2 status
+ends_last settings quota number given left left2 held holds holds2 states states2 line status s read follows =
+    last_ended settings quota number given left left2 held holds holds2 states states2 line status s read (follows s.machines s.represents)
 
 -- the reader failed
 pub ends_cut : (settings : Settings) (quota number : ℕ) (given left left2 held holds : Option (List ℕ)) (states : List CircuitState)
-    → SoFar settings quota number given left held holds states → IsCut left left2 → Ends settings quota given left2 held holds FAILED
+    → SoFar settings quota number given left held holds states → IsCut left left2 → Ends settings quota given left2 held holds 6
 ends_cut settings quota number given left left2 held holds states s cut = record {
   read = s.read ++ cut.front;
-  consumed = consumes_more given left left2 s.read cut.front s.consumed cut.part.read;
+  consumed = consumes_more given left left2 s.read cut.front s.consumed cut.read;
   exact = λ fine rest here. absurd (fine refl);
   partial = λ failed. record {
     front = s.written;
     rest = (lab_from settings quota number s.machines (lines_of cut.front)).text;
     parted = ap (λ o. o.text) (s.whole cut.front);
-    appended = s.appended;
-  };
-}
-
--- there are too many lines
-pub ends_stop : (settings : Settings) (quota number : ℕ) (given left held holds : Option (List ℕ)) (states : List CircuitState)
-    → SoFar settings quota number given left held holds states → Ends settings quota given left held holds FAILED
-ends_stop settings quota number given left held holds states s = record {
-  read = s.read;
-  consumed = s.consumed;
-  exact = λ fine rest here. absurd (fine refl);
-  partial = λ failed. record {
-    front = s.written;
-    rest = (lab_from settings quota number s.machines (lines_of [])).text;
-    parted = ap (λ o. o.text) (ap (lab_output settings quota) (sym (append-nil s.read)) ∙ s.whole []);
     appended = s.appended;
   };
 }
@@ -268,7 +264,7 @@ ended_known settings quota text read None held holds status consumed exact = abs
 ended_known settings quota text read (Some rest) held holds status consumed exact =
     subst (λ v. Appends held holds (lab_output settings quota v).text × (status ≡ (lab_output settings quota v).status)) (sym consumed) (exact rest refl)
 
-pub ended_written : (settings : Settings) (quota : ℕ) (text : List ℕ) (given left held holds : Option (List ℕ)) (status : ℕ) → Ends settings quota given left held holds status → given ≡ Some text → (status ≡ FAILED → ⊥)
+pub ended_written : (settings : Settings) (quota : ℕ) (text : List ℕ) (given left held holds : Option (List ℕ)) (status : ℕ) → Ends settings quota given left held holds status → given ≡ Some text → (status ≡ 6 → ⊥)
     → Appends held holds (lab_output settings quota text).text × (status ≡ (lab_output settings quota text).status)
 ended_written settings quota text given left held holds status ends is fine =
     ended_known settings quota text ends.read left held holds status (subst (λ g. Consumes g left ends.read) is ends.consumed) (ends.exact fine)

@@ -5,7 +5,6 @@ use Rattle.std.specs.Char.{is_ascii_digit}
 use Rattle.hex.specs.Hex.{decode_of}
 use Rattle.hex.specs.declared.error.FromHexError.{FromHexError}
 use Rattle.config.specs.Rules.{Settings}
-use Rattle.daemon.specs.declared.accesslab.hexadecimal.TheConstants.{MAX_BYTES}
 
 -- the number with the digits of n followed by these; the digit `0` is 48
 unfoldable pub digits_after : ℕ → List ℕ → Option ℕ
@@ -33,12 +32,13 @@ abbrev pub ok_of : Result (List ℕ) FromHexError → Option (List ℕ)
 ok_of (Ok bytes) = Some bytes
 ok_of (Err why) = None
 
--- The bytes of an even number of hexadecimal digits of either case. A single `-` is no bytes.
+-- The bytes of an even number of hexadecimal digits of either case, for at most 2048 bytes. A single `-` is no
+-- bytes.
 abbrev pub bytes_of : List ℕ → Option (List ℕ)
 bytes_of [] = None
 bytes_of (b ∷ digits) =
     if bytes_eq (b ∷ digits) (codes "-") then Some []
-    else if nat_le (length (b ∷ digits)) (2 * MAX_BYTES) then ok_of (decode_of (b ∷ digits))
+    else if nat_le (length (b ∷ digits)) (2 * 2048) then ok_of (decode_of (b ∷ digits))
     else None
 
 -- the index of the circuit with exactly this id

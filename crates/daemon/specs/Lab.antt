@@ -5,7 +5,6 @@ use Rattle.config.specs.Rules.{Settings}
 use Rattle.world.specs.Alone.{Alone, Step, Done, start, alone_step}
 use Rattle.world.specs.Seen.{Seen}
 use Rattle.world.specs.Seen as sees
-use Rattle.daemon.specs.declared.accesslab.status.TheConstants.{DONE, BAD_LINE}
 use Rattle.daemon.specs.Line.{Line, Ignored, Bad, Named, Tick, line_of_text}
 use Rattle.daemon.specs.Lines.{lines_of}
 use Rattle.daemon.specs.Output.{effect_text, with_newline, bad_text}
@@ -43,14 +42,14 @@ line_result settings quota machines (Named c seen) = part_result quota c seen ma
 line_result settings quota machines (Tick now) =
     Applied (with_newline (effect_text [] Done)) (λ c. ticked quota now (machines c) (part_in settings c))
 
--- The n-th line is bad and ends the output, or what it writes precedes the output for the rest.
+-- The n-th line is bad and ends the output with status 3, or what it writes precedes the output for the rest.
 abbrev pub and_then : ℕ → LineResult → ((ℕ → Alone) → Output) → Output
-and_then n Refused rest = record { text = bad_text n; status = BAD_LINE }
+and_then n Refused rest = record { text = bad_text n; status = 3 }
 and_then n (Applied written machines) rest = record { text = written ++ (rest machines).text; status = (rest machines).status }
 
--- the output for these lines, the first of which is the n-th of the text
+-- the output for these lines, the first of which is the n-th of the text, with status 0 at their end
 unfoldable pub lab_from : Settings → ℕ → ℕ → (ℕ → Alone) → List (List ℕ) → Output
-lab_from settings quota n machines [] = record { text = []; status = DONE }
+lab_from settings quota n machines [] = record { text = []; status = 0 }
 lab_from settings quota n machines (line ∷ lines) =
     and_then n (line_result settings quota machines (line_of_text settings line)) (λ next. lab_from settings quota (n + 1) next lines)
 

@@ -3,10 +3,7 @@ use Rattle.std.specs.Prelude.{ℕ, nat_lt, ◌==◌, Bool, true, if◌then◌els
 use Rattle.std.specs.Str.{bytes_eq}
 use Rattle.config.specs.Rules.{Settings}
 use Rattle.types.specs.declared.dest.Proto.TheVariants.{V4}
-use Rattle.types.specs.declared.moment.TheConstants.{LAST_MOMENT}
 use Rattle.world.specs.Seen.{Seen, Frame, Up, Down}
-use Rattle.daemon.specs.declared.accesslab.line.TheConstants.{MAX_LINE}
-use Rattle.daemon.specs.declared.accesslab.parse_line.TheConstants.{MAX_NUMBER}
 use Rattle.daemon.specs.Fields.{number_to, bytes_of, circuit_named}
 use Rattle.daemon.specs.Lines.{fields_of}
 
@@ -36,13 +33,13 @@ frame_line settings (circuit ∷ proto ∷ digits ∷ []) =
     else Bad
 frame_line settings fields = Bad
 
--- `up CID J NOW FAULT`: the fault is 0, no fault
+-- `up CID J NOW FAULT`: J is 0 to 65535, NOW is 0 to 2^40 - 1, and the fault is 0, no fault
 abbrev pub up_line : Settings → List (List ℕ) → Line
 up_line settings (circuit ∷ j ∷ now ∷ fault ∷ []) =
     if bytes_eq fault (codes "0") then (do
       c ← circuit_named settings circuit
-      number ← number_to MAX_NUMBER j
-      moment ← number_to LAST_MOMENT now
+      number ← number_to 65535 j
+      moment ← number_to 1099511627775 now
       Named c (Up number moment 0))
     else Bad
 up_line settings fields = Bad
@@ -51,14 +48,14 @@ up_line settings fields = Bad
 abbrev pub down_line : Settings → List (List ℕ) → Line
 down_line settings (circuit ∷ j ∷ []) = do
   c ← circuit_named settings circuit
-  number ← number_to MAX_NUMBER j
+  number ← number_to 65535 j
   Named c (Down number)
 down_line settings fields = Bad
 
 -- `tick NOW`
 abbrev pub tick_line : List (List ℕ) → Line
 tick_line (now ∷ []) = do
-  moment ← number_to LAST_MOMENT now
+  moment ← number_to 1099511627775 now
   Tick moment
 tick_line fields = Bad
 
@@ -81,6 +78,6 @@ is_ignored (b ∷ bytes) = b == 35
 abbrev pub short_line : Settings → List ℕ → Line
 short_line settings line = if is_ignored line then Ignored else line_for_word settings (fields_of line)
 
--- What a line says. A line that is too long is bad, even one that begins with `#`.
+-- What a line says. A line of more than 8192 bytes is bad, even one that begins with `#`.
 unfoldable pub line_of_text : Settings → List ℕ → Line
-line_of_text settings line = if nat_lt MAX_LINE (length line) then Bad else short_line settings line
+line_of_text settings line = if nat_lt 8192 (length line) then Bad else short_line settings line

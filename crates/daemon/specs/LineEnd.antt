@@ -1,9 +1,8 @@
 -- What a call that reads a line has consumed, by how the line ended. Only proofs need these.
-use Rattle.std.specs.Prelude.{◌≡◌, ℕ, ◌<◌, true, List, [], ◌∷◌, ◌++◌, length, take, Option}
+use Rattle.std.specs.Prelude.{◌≡◌, ℕ, ◌+◌, ◌<◌, true, List, [], ◌∷◌, ◌++◌, length, take, Option}
 use Rattle.std.specs.Io.KnownBytes.{Consumes, IsAtEnd}
 use Rattle.daemon.specs.declared.accesslab.line.LineEnd.{LineEnd}
 use Rattle.daemon.specs.declared.accesslab.line.LineEnd.TheVariants.{Newline, EndOfInput, TooLong}
-use Rattle.daemon.specs.declared.accesslab.line.TheConstants.{MAX_LINE}
 use Rattle.daemon.specs.Lines.{lacks}
 
 -- a part of a line, or all of it
@@ -24,7 +23,7 @@ pub record IsLast (old new : Option (List ℕ)) (line : List ℕ) : Type 0 where
 -- a part of a line that is already too long
 pub record IsLong (old new : Option (List ℕ)) : Type 0 where
   pub front : List ℕ
-  pub long : MAX_LINE < length front
+  pub long : 8192 < length front
   pub part : IsPart old new front
 
 abbrev pub IsLineEnd : Option (List ℕ) → Option (List ℕ) → List ℕ → LineEnd → Type 0
@@ -35,10 +34,22 @@ IsLineEnd old new line TooLong = IsLong old new
 -- what was read before the reader failed
 pub record IsCut (old new : Option (List ℕ)) : Type 0 where
   pub front : List ℕ
-  pub part : IsPart old new front
+  pub read : Consumes old new front
+
+-- the count rose by the number of bytes that were read
+pub record IsCounted (old new : Option (List ℕ)) (before after : ℕ) : Type 0 where
+  pub bytes : List ℕ
+  pub read : Consumes old new bytes
+  pub count : after ≡ before + length bytes
 
 -- how many bytes of the array the line has
 abbrev pub len_of : LineEnd → ℕ
 len_of (Newline len) = len
 len_of (EndOfInput len) = len
 len_of TooLong = 0
+
+-- how many line feeds were read
+abbrev pub feeds_of : LineEnd → ℕ
+feeds_of (Newline len) = 1
+feeds_of (EndOfInput len) = 0
+feeds_of TooLong = 0

@@ -3,7 +3,6 @@ use Rattle.std.specs.Prelude.{ℕ, ◌<◌, ◌≤◌, List, length, take, ⊤}
 use Rattle.config.specs.Rules.{Settings}
 use Rattle.types.specs.declared.dest.Proto.TheVariants.{V4}
 use Rattle.world.specs.Seen.{Frame, Up, Down}
-use Rattle.daemon.specs.declared.accesslab.hexadecimal.TheConstants.{MAX_BYTES}
 use Rattle.daemon.specs.declared.accesslab.parse_line.ParsedLine.{ParsedLine}
 use Rattle.daemon.specs.declared.accesslab.parse_line.ParsedLine.TheVariants as parsed
 use Rattle.daemon.specs.Line.{Line, Ignored, Bad, Named, Tick}
@@ -21,7 +20,7 @@ line_of (parsed.Tick now) bytes = Tick now
 abbrev pub IsWithin : Settings → ParsedLine → Type 0
 IsWithin settings parsed.Ignored = ⊤
 IsWithin settings parsed.Bad = ⊤
-IsWithin settings (parsed.Frame circuit len) = (circuit < length settings.circuits) × (len ≤ MAX_BYTES)
+IsWithin settings (parsed.Frame circuit len) = (circuit < length settings.circuits) × (len ≤ 2048)
 IsWithin settings (parsed.Up circuit j now) = circuit < length settings.circuits
 IsWithin settings (parsed.Down circuit j) = circuit < length settings.circuits
 IsWithin settings (parsed.Tick now) = ⊤

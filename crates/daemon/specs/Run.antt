@@ -1,62 +1,39 @@
--- What a line and a run of lines do to the world and to the writer. Of these a reader needs `IsStatus` and
--- `IsPartial`.
-use Rattle.std.specs.Prelude.{◌≡◌, ℕ, ◌⊎◌, ◌==◌, if◌then◌else◌, List, ◌++◌, Option, Some, None}
-use Rattle.std.specs.Io.KnownBytes.{Appends, Consumes}
-use Rattle.config.specs.CircuitPart.{CircuitPart, part_in}
+-- How a run ends: its status, and what was read and written where the reader or the writer fails.
+use Rattle.std.specs.Prelude.{◌≡◌, ℕ, ◌<◌, ◌⊎◌, List, length, Option}
+use Rattle.std.specs.Io.KnownBytes.{Consumes}
 use Rattle.config.specs.Rules.{Settings}
-use Rattle.world.specs.Alone.{Alone}
-use Rattle.world.specs.Headline.{CircuitState, Represents}
-use Rattle.world.specs.Seen.{Seen, seen_of}
-use Rattle.world.specs.declared.event.Event.{Event}
-use Rattle.daemon.specs.declared.accesslab.status.TheConstants.{DONE, BAD_LINE, FAILED}
-use Rattle.daemon.specs.Lab.{LineResult, Refused, Applied, lab_output}
-use Rattle.daemon.specs.Output.{bad_text}
+use Rattle.daemon.specs.Lab.{lab_output}
 use Rattle.daemon.specs.Writing.{AppendsPrefix}
 
--- each circuit's state represents its machine
-pub record AllRepresent (settings : Settings) (quota : ℕ) (states : List CircuitState) (machines : ℕ → Alone) : Type 0 where
-  pub each : (c : ℕ) (part : CircuitPart) → part_in settings c ≡ Some part → Represents c states (record { part = part; quota = quota }) (machines c)
-
--- The event is this one, seen by this circuit alone.
-abbrev pub Names : ℕ → Seen → Event → Type 0
-Names circuit seen event = (c : ℕ) → seen_of c event ≡ (if circuit == c then Some seen else None)
-
--- A line was applied, and its output was written.
-pub record IsApplied (settings : Settings) (quota : ℕ) (written : List ℕ) (machines : ℕ → Alone) (states : List CircuitState) (held holds : Option (List ℕ)) : Type 0 where
-  pub appended : Appends held holds written
-  pub represents : AllRepresent settings quota states machines
-
--- the status of a run that ends before the end of the text
+-- the status of a run that ends before the end of the text: 3 at a bad line, 6 at a failure
 abbrev pub IsEnd : ℕ → Type 0
-IsEnd status = (status ≡ BAD_LINE) ⊎ (status ≡ FAILED)
+IsEnd status = (status ≡ 3) ⊎ (status ≡ 6)
 
 -- the status of a run
 abbrev pub IsStatus : ℕ → Type 0
-IsStatus status = (status ≡ DONE) ⊎ IsEnd status
-
--- The last line of the output was written, or, where the writer failed, a prefix of it.
-abbrev pub IsRefusal : ℕ → Option (List ℕ) → Option (List ℕ) → ℕ → Type 0
-IsRefusal number held holds status =
-    ((status ≡ BAD_LINE) × Appends held holds (bad_text number)) ⊎ ((status ≡ FAILED) × AppendsPrefix held holds (bad_text number))
-
--- World and writer follow the result of a line: the run goes on where no status is returned, and else
--- it ends.
-abbrev pub Follows : Settings → ℕ → ℕ → LineResult → List CircuitState → Option (List ℕ) → Option (List ℕ) → Option ℕ → Type 0
-Follows settings quota number (Applied written machines) states held holds None = IsApplied settings quota written machines states held holds
-Follows settings quota number (Applied written machines) states held holds (Some status) = (status ≡ FAILED) × AppendsPrefix held holds written
-Follows settings quota number Refused states held holds None = ⊥
-Follows settings quota number Refused states held holds (Some status) = IsRefusal number held holds status
-
--- A run that has read these bytes and ended with this status.
-pub record Ends (settings : Settings) (quota : ℕ) (given left held holds : Option (List ℕ)) (status : ℕ) : Type 0 where
-  pub read : List ℕ
-  pub consumed : Consumes given left read
-  -- whatever is left of the text, what was written is the output of all of it
-  pub exact : (status ≡ FAILED → ⊥) → (rest : List ℕ) → left ≡ Some rest → Appends held holds (lab_output settings quota (read ++ rest)).text × (status ≡ (lab_output settings quota (read ++ rest)).status)
-  pub partial : status ≡ FAILED → AppendsPrefix held holds (lab_output settings quota read).text
+IsStatus status = (status ≡ 0) ⊎ IsEnd status
 
 -- Some of the text was read, and a prefix of its output was written.
 pub record IsPartial (settings : Settings) (quota : ℕ) (given left held holds : Option (List ℕ)) : Type 0 where
   pub read : List ℕ
   pub consumed : Consumes given left read
   pub partial : AppendsPrefix held holds (lab_output settings quota read).text
+
+-- So many bytes were read.
+pub record HasRead (given left : Option (List ℕ)) (n : ℕ) : Type 0 where
+  pub read : List ℕ
+  pub consumed : Consumes given left read
+  pub count : length read ≡ n
+
+-- The reader or the writer failed, by their counts before and after, or 2^64 - 1 bytes were read.
+abbrev pub HasCause : Option (List ℕ) → Option (List ℕ) → ℕ → ℕ → ℕ → ℕ → Type 0
+HasCause given left reader reader_after writer writer_after =
+    (reader < reader_after) ⊎ (writer < writer_after) ⊎ HasRead given left 18446744073709551615
+
+-- Neither failed, and fewer than 2^64 - 1 bytes were read.
+pub record HasNoCause (given left : Option (List ℕ)) (reader reader_after writer writer_after : ℕ) : Type 0 where
+  pub reader_quiet : reader_after ≡ reader
+  pub writer_quiet : writer_after ≡ writer
+  pub count : ℕ
+  pub few : count < 18446744073709551615
+  pub read : HasRead given left count

@@ -7,7 +7,6 @@ use Rattle.clap.specs.declared.builder.ArgAction.TheVariants.{Set}
 use Rattle.clap.specs.declared.builder.value_parser.ValueParser.TheVariants as parser
 use Rattle.daemon.specs.declared.accesslab.command_line.Refusal.{Refusal}
 use Rattle.daemon.specs.declared.accesslab.command_line.Refusal.TheVariants.{Memory, Usage, BadValue}
-use Rattle.lossy_net.specs.declared.net.TheConstants.{MAX_QUOTA}
 
 -- the path of the configuration, which is required
 abbrev pub config_rule : Rule
@@ -39,7 +38,7 @@ pub record Spells (words : List Text) (config : List ℕ) (quota : ℕ) : Type 0
   pub numeral : IsNumeral 10 (without_leading_plus text)
   pub value : digits_value 10 (without_leading_plus text) ≡ quota
   pub least : 1 ≤ quota
-  pub most : quota ≤ MAX_QUOTA
+  pub most : quota ≤ 256
 
 -- Why words are refused: out of memory, or clap finds this fault in them, or they spell no values.
 abbrev pub IsRefused : List Text → Refusal → Type 0

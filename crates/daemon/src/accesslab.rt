@@ -11,12 +11,16 @@ mod opening;
 mod output;
 mod parse_line;
 mod status;
+mod std_streams;
+mod streams;
 #[cfg(test)]
 mod tests;
 mod writing;
 
 pub use command_line::{LabWords, Refusal, words};
 pub use engine::lab;
-pub use line::MAX_LINE;
+pub use line::{MAX_LINE, MAX_TEXT};
 pub use opening::run;
 pub use status::{BAD_LINE, DONE, FAILED, REFUSED, UNOPENED, UNREADABLE};
+pub use std_streams::{StdReader, StdWriter};
+pub use streams::{ByteReader, ByteWriter, Failed};

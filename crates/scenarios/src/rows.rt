@@ -38,7 +38,7 @@ pub(crate) struct Row(
 );
 
 #[rattlefmt::skip]
-pub(crate) const ROWS: [Row; 13] = [
+pub(crate) const ROWS: [Row; 14] = [
     Row("an offer", "count4 = 1", 16,
         &[Discover(1), Text("up a 0 100 0"), Text("down a 0")],
         &[Text("up 255"), Text("down 300"), Offer("to a unicast 020000000001 10.0.0.10 ")], DONE),
@@ -71,6 +71,9 @@ pub(crate) const ROWS: [Row; 13] = [
         &[Discover(1), Discover(2), Discover(3),
           Text("up a 2 100 0"), Text("up a 1 100 0"), Text("down a 1"), Text("down a 65535")],
         &[Text("up 255"), Text("up 255"), Text("up 255"), Text("gone"), Text("down 300"), Text("gone"), Text("gone")], DONE),
+    Row("the least and the greatest number of a datagram, and one past it", "count4 = 1", 256,
+        &[Discover(1), Text("up a 65535 100 0"), Text("up a 0 100 0"), Text("down a 65535"), Text("down a 0"), Text("up a 65536 100 0")],
+        &[Text("up 255"), Text("gone"), Text("down 300"), Text("gone"), Offer("to a unicast 020000000001 10.0.0.10 "), Text("line 6 bad")], BAD_LINE),
     Row("a moment that goes back", "count4 = 1", 16,
         &[Text("tick 200"), Discover(1), Text("up a 0 100 0"), Discover(2), Text("up a 0 259 0"), Text("up a 0 260 0")],
         &[Text("ok"), Text("up 255"), Text("down 300"), Text("up 255"), Text("drop 19"), Text("down 300")], DONE),

@@ -1,7 +1,7 @@
 use crate::leases::LEASES;
 use crate::rows::{Line, ROWS, Row};
 use config::Config;
-use daemon::accesslab::{DONE, run};
+use daemon::accesslab::{DONE, StdReader, StdWriter, run};
 use fixtures::{ONE_CIRCUIT, client_frame, nak, offer, one_circuit_with, resized, with_bytes};
 use lossy_net::MAX_QUOTA;
 use std::alloc::{AllocError, Global};
@@ -75,10 +75,10 @@ fn output(alloc: Global, config: &str, quota: u16, lines: &str) -> Option<(Vec<u
     if usize::from(quota) > MAX_QUOTA {
         return None;
     }
-    let mut reader = lines.as_bytes();
-    let mut writer = Vec::new(alloc);
+    let mut reader = StdReader::new(lines.as_bytes());
+    let mut writer = StdWriter::new(Vec::new(alloc));
     let status = run(alloc, &config, quota, &mut reader, &mut writer);
-    Some((writer, status))
+    Some((writer.into_inner(), status))
 }
 
 fn check<R: Abort>(rt: &R, alloc: Global, row: Row) -> Result<(), AllocError> {
@@ -114,8 +114,32 @@ fn leases(rt: HostRuntime) -> Result<(), AllocError> {
 /// While there is memory, the opening has no reason to report that memory ran out.
 #[test]
 fn an_opening_with_memory(rt: HostRuntime) {
-    for quota in [1, 16, 256] {
+    for quota in [1, 2, 16, 255, 256] {
         let ended = output(rt.alloc(), ONE_CIRCUIT, quota, "tick 1\n");
         assert!(rt; matches!(&ended, Some((_, DONE))), "quota {quota}");
     }
+}
+
+/// The network keeps as many datagrams as the quota says, and no more.
+#[test]
+fn a_quota_is_what_is_kept(rt: HostRuntime) -> Result<(), AllocError> {
+    let alloc = rt.alloc();
+    for quota in [1, 2, 16, 255, 256] {
+        let mut lines = String::new(alloc);
+        let mut expected = String::new(alloc);
+        for _ in 0..quota + 1 {
+            push(&mut lines, alloc, Line::Discover(1))?;
+            expected.push_str("up 255\n")?;
+        }
+        lines.push_str(&format!(in alloc; "up a {quota} 100 0\n")?)?;
+        expected.push_str("gone\n")?;
+        lines.push_str(&format!(in alloc; "up a {} 100 0\n", quota - 1)?)?;
+        expected.push_str("down 300\n")?;
+        if let Some((written, DONE)) = output(alloc, ONE_CIRCUIT, quota, lines.as_str()) {
+            assert_eq!(rt; written.as_slice(), expected.as_bytes(), "quota {quota}");
+        } else {
+            assert!(rt; false, "quota {quota}");
+        }
+    }
+    Ok(())
 }

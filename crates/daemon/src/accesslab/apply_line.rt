@@ -1,5 +1,5 @@
 //! One line of events, applied to the machine.
-ghost use Rattle.std.specs.Prelude.{◌≡◌, ◌<◌, ◌≤◌, ℕ, length, IfSome};
+ghost use Rattle.std.specs.Prelude.{◌≡◌, ◌+◌, ◌<◌, ◌≤◌, ℕ, length, Some, IfSome};
 ghost use Rattle.config.specs.CircuitPart.{part_in};
 ghost use Rattle.config.specs.Rules.{Settings};
 ghost use Rattle.world.specs.Alone.{Alone};
@@ -7,23 +7,26 @@ ghost use Rattle.world.specs.Seen.{Seen};
 ghost use Rattle.daemon.specs.Lab.{part_result, line_result};
 ghost use Rattle.daemon.specs.Line.{line_of_text, Tick};
 ghost use Rattle.daemon.specs.ParsedLine.{line_of, IsWithin};
-ghost use Rattle.daemon.specs.Run.{AllRepresent, Names, IsEnd, IsRefusal, Follows};
+ghost use Rattle.daemon.specs.Follows.{AllRepresent, Names, IsRefusal, Follows, FollowsLast};
+ghost use Rattle.daemon.specs.Run.{IsEnd, IsStatus};
 
 use super::hexadecimal::MAX_BYTES;
 use super::line::MAX_LINE;
 use super::output::{write_bad_line, write_done, write_outcome};
 use super::parse_line::{ParsedLine, parse_line};
-use super::status::{BAD_LINE, FAILED};
+use super::status::{BAD_LINE, DONE, FAILED};
+use super::streams::ByteWriter;
 use config::Config;
-use std::io::Write;
 use types::{Circuit, Moment, Proto};
 use wire::PacketBuf;
 use world::{Event, Machine};
 
 /// Writes that the line is bad, and returns the status.
-pub(crate) fn refuse<W: Write>(number: u64, writer: &mut W) -> u8
+pub(crate) fn refuse<W: ByteWriter>(number: u64, writer: &mut W) -> u8
     ensures refusal { IsRefusal number (W.contents writer.old) (W.contents writer.new) result }
     ensures status { IsEnd result }
+    ensures quiet { ¬ (result ≡ 6) → W.failures writer.new ≡ W.failures writer.old }
+    ensures cause { result ≡ 6 → W.failures writer.new ≡ W.failures writer.old + 1 }
 {
     match write_bad_line(writer, number) {
         Ok(()) => BAD_LINE,
@@ -32,7 +35,7 @@ pub(crate) fn refuse<W: Write>(number: u64, writer: &mut W) -> u8
 }
 
 /// Applies an event of a circuit. Returns a status where the run ends with it.
-fn apply_event<M: Machine, W: Write>(
+fn apply_event<M: Machine, W: ByteWriter>(
     machine: &mut M,
     config: &Config,
     circuit: Circuit,
@@ -44,6 +47,8 @@ fn apply_event<M: Machine, W: Write>(
     ensures follows { (quota number : ℕ) (machines : ℕ → Alone) (seen : Seen) → Names circuit seen event.now → AllRepresent config.now quota (M.states machine.old) machines
         → Follows config.now quota number (part_result quota circuit seen machines (part_in config.now circuit)) (M.states machine.new) (W.contents writer.old) (W.contents writer.new) result }
     ensures status { IfSome result IsEnd }
+    ensures quiet { ¬ (result ≡ Some 6) → W.failures writer.new ≡ W.failures writer.old }
+    ensures cause { result ≡ Some 6 → W.failures writer.new ≡ W.failures writer.old + 1 }
 {
     let outcome = machine.step(event, out);
     let named = config.at(circuit);
@@ -54,7 +59,7 @@ fn apply_event<M: Machine, W: Write>(
 }
 
 /// Applies a moment to all circuits. Returns a status where the run ends with it.
-fn apply_tick<M: Machine, W: Write>(
+fn apply_tick<M: Machine, W: ByteWriter>(
     machine: &mut M,
     now: Moment,
     out: &mut PacketBuf,
@@ -63,6 +68,8 @@ fn apply_tick<M: Machine, W: Write>(
     ensures follows { (settings : Settings) (quota number : ℕ) (machines : ℕ → Alone) → AllRepresent settings quota (M.states machine.old) machines
         → Follows settings quota number (line_result settings quota machines (Tick now)) (M.states machine.new) (W.contents writer.old) (W.contents writer.new) result }
     ensures status { IfSome result IsEnd }
+    ensures quiet { ¬ (result ≡ Some 6) → W.failures writer.new ≡ W.failures writer.old }
+    ensures cause { result ≡ Some 6 → W.failures writer.new ≡ W.failures writer.old + 1 }
 {
     let _ = machine.step(&Event::Tick(now), out);
     match write_done(writer) {
@@ -73,7 +80,7 @@ fn apply_tick<M: Machine, W: Write>(
 
 /// Applies a parsed line, whose frame is the first bytes of the array. Returns a status where the run
 /// ends with it.
-fn apply<M: Machine, W: Write>(
+fn apply<M: Machine, W: ByteWriter>(
     machine: &mut M,
     config: &Config,
     number: u64,
@@ -86,6 +93,8 @@ fn apply<M: Machine, W: Write>(
     ensures follows { (quota : ℕ) (machines : ℕ → Alone) → AllRepresent config.now quota (M.states machine.old) machines
         → Follows config.now quota number (line_result config.now quota machines (line_of parsed bytes.now)) (M.states machine.new) (W.contents writer.old) (W.contents writer.new) result }
     ensures status { IfSome result IsEnd }
+    ensures quiet { ¬ (result ≡ Some 6) → W.failures writer.new ≡ W.failures writer.old }
+    ensures cause { result ≡ Some 6 → W.failures writer.new ≡ W.failures writer.old + 1 }
 {
     match parsed {
         ParsedLine::Ignored => None,
@@ -107,7 +116,7 @@ fn apply<M: Machine, W: Write>(
 }
 
 /// Applies the line with this number. Returns a status where the run ends with it.
-pub(crate) fn apply_line<M: Machine, W: Write>(
+pub(crate) fn apply_line<M: Machine, W: ByteWriter>(
     machine: &mut M,
     config: &Config,
     number: u64,
@@ -116,11 +125,40 @@ pub(crate) fn apply_line<M: Machine, W: Write>(
     out: &mut PacketBuf,
     writer: &mut W,
 ) -> Option<u8>
-    requires { length line.now ≤ MAX_LINE }
+    requires { length line.now ≤ 8192 }
     ensures follows { (quota : ℕ) (machines : ℕ → Alone) → AllRepresent config.now quota (M.states machine.old) machines
         → Follows config.now quota number (line_result config.now quota machines (line_of_text config.now line.now)) (M.states machine.new) (W.contents writer.old) (W.contents writer.new) result }
     ensures status { IfSome result IsEnd }
+    ensures quiet { ¬ (result ≡ Some 6) → W.failures writer.new ≡ W.failures writer.old }
+    ensures cause { result ≡ Some 6 → W.failures writer.new ≡ W.failures writer.old + 1 }
 {
     let parsed = parse_line(config, line, bytes);
     apply(machine, config, number, parsed, bytes, out, writer)
+}
+
+/// Applies the line with this number, which lacks its line feed, and returns the status. An empty one is
+/// no line.
+pub(crate) fn apply_last_line<M: Machine, W: ByteWriter>(
+    machine: &mut M,
+    config: &Config,
+    number: u64,
+    line: &[u8],
+    bytes: &mut [u8; MAX_BYTES],
+    out: &mut PacketBuf,
+    writer: &mut W,
+) -> u8
+    requires { length line.now ≤ 8192 }
+    ensures follows { (quota : ℕ) (machines : ℕ → Alone) → AllRepresent config.now quota (M.states machine.old) machines
+        → FollowsLast config.now quota number line.now (line_result config.now quota machines (line_of_text config.now line.now)) (M.states machine.new) (W.contents writer.old) (W.contents writer.new) result }
+    ensures status { IsStatus result }
+    ensures quiet { ¬ (result ≡ 6) → W.failures writer.new ≡ W.failures writer.old }
+    ensures cause { result ≡ 6 → W.failures writer.new ≡ W.failures writer.old + 1 }
+{
+    if line.is_empty() {
+        return DONE;
+    }
+    match apply_line(machine, config, number, line, bytes, out, writer) {
+        Some(status) => status,
+        None => DONE,
+    }
 }

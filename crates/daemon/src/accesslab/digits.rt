@@ -1,6 +1,5 @@
 //! Decimal numbers.
 ghost use Rattle.std.specs.Prelude.{◌≡◌, ◌≤◌, IfSome};
-ghost use Rattle.types.specs.declared.moment.TheConstants.{LAST_MOMENT};
 ghost use Rattle.daemon.specs.Fields.{lacks_first, number_to};
 
 use types::LAST_MOMENT;
@@ -17,7 +16,7 @@ fn lacks_first(text: &[u8]) -> bool
 
 /// The number that a text spells, `None` where it is not a number or exceeds `most`.
 pub(crate) fn number(text: &[u8], most: u64) -> Option<u64>
-    requires { most ≤ LAST_MOMENT }
+    requires { most ≤ 1099511627775 }
     ensures value { result ≡ number_to most text.now }
     ensures within { IfSome result (λ n. n ≤ most) }
 {

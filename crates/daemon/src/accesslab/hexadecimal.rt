@@ -8,7 +8,7 @@ pub const MAX_BYTES: usize = 2048;
 /// Writes the bytes that a text spells to the front of the array and returns their count.
 pub(crate) fn bytes_at(text: &[u8], bytes: &mut [u8; MAX_BYTES]) -> Option<usize>
     ensures value { option_map (λ n. take n bytes.new) result ≡ bytes_of text.now }
-    ensures within { IfSome result (λ n. n ≤ MAX_BYTES) }
+    ensures within { IfSome result (λ n. n ≤ 2048) }
 {
     if text.is_empty() {
         return None;

@@ -1,7 +1,6 @@
 //! The parser of a line.
 ghost use Rattle.std.specs.Prelude.{◌≡◌, ℕ, List, option_map};
 ghost use Rattle.config.specs.Rules.{Settings};
-ghost use Rattle.types.specs.declared.moment.TheConstants.{LAST_MOMENT};
 ghost use Rattle.daemon.specs.Fields.{number_to};
 ghost use Rattle.daemon.specs.Lines.{fields_of};
 ghost use Rattle.daemon.specs.FieldsAfter.{fields_after, fields_of_next};
@@ -45,7 +44,7 @@ fn next_field<'a>(rest: Option<&'a [u8]>) -> Option<(&'a [u8], Option<&'a [u8]>)
 
 /// The number that names a datagram.
 fn datagram_number(text: &[u8]) -> Option<u16>
-    ensures { result ≡ number_to MAX_NUMBER text.now }
+    ensures { result ≡ number_to 65535 text.now }
 {
     match number(text, MAX_NUMBER) {
         Some(number) => Some(number as u16),
@@ -55,7 +54,7 @@ fn datagram_number(text: &[u8]) -> Option<u16>
 
 /// A moment in seconds.
 fn moment(text: &[u8]) -> Option<Moment>
-    ensures { result ≡ number_to LAST_MOMENT text.now }
+    ensures { result ≡ number_to 1099511627775 text.now }
 {
     match number(text, LAST_MOMENT) {
         Some(seconds) => Moment::new(seconds),

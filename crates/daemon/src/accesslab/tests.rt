@@ -55,10 +55,10 @@ fn gives(alloc: Global, text: &[u8], lines: &str, status: u8) -> bool {
     let Ok(config) = Config::read(alloc, ONE_CIRCUIT) else {
         return false;
     };
-    let mut reader = text;
-    let mut writer = Vec::new(alloc);
-    let written = lab(&mut Nowhere, &config, &mut reader, &mut writer);
-    written == status && writer.as_slice() == lines.as_bytes()
+    let mut reader = StdReader::new(text);
+    let mut writer = StdWriter::new(Vec::new(alloc));
+    let ended = lab(&mut Nowhere, &config, &mut reader, &mut writer);
+    ended == status && writer.into_inner().as_slice() == lines.as_bytes()
 }
 
 #[test]
@@ -198,12 +198,13 @@ fn gives_in_pieces(alloc: Global, text: &[u8], most: usize, lines: &str, status:
         return false;
     };
     let pieces = Pieces { rest: text, most };
-    let Ok(mut reader) = BufReader::new(alloc, pieces) else {
+    let Ok(reader) = BufReader::new(alloc, pieces) else {
         return false;
     };
-    let mut writer = Vec::new(alloc);
-    let written = lab(&mut Nowhere, &config, &mut reader, &mut writer);
-    written == status && writer.as_slice() == lines.as_bytes()
+    let mut reader = StdReader::new(reader);
+    let mut writer = StdWriter::new(Vec::new(alloc));
+    let ended = lab(&mut Nowhere, &config, &mut reader, &mut writer);
+    ended == status && writer.into_inner().as_slice() == lines.as_bytes()
 }
 
 #[test]
@@ -257,16 +258,16 @@ const TICKS: &str = "tick 1\ntick 2\n";
 /// The status and the output where the reader and the writer fail after so many calls.
 fn cut_short(alloc: Global, reads: usize, writes: usize) -> Option<(u8, Vec<u8>)> {
     let config = Config::read(alloc, ONE_CIRCUIT).ok()?;
-    let mut reader = Failing {
+    let mut reader = StdReader::new(Failing {
         inner: TICKS.as_bytes(),
         calls: reads,
-    };
-    let mut writer = Failing {
+    });
+    let mut writer = StdWriter::new(Failing {
         inner: Vec::new(alloc),
         calls: writes,
-    };
+    });
     let status = lab(&mut Nowhere, &config, &mut reader, &mut writer);
-    Some((status, writer.inner))
+    Some((status, writer.into_inner().inner))
 }
 
 #[test]
@@ -302,32 +303,153 @@ fn a_writer_that_fails(rt: HostRuntime) {
     }
 }
 
-/// The quota that the words give, 0 where they are refused.
-fn quota_of(alloc: Global, given: &[&str]) -> Result<u16, AllocError> {
-    let mut texts = Vec::new(alloc);
-    for word in given {
-        texts.push(String::from_str(alloc, *word)?)?;
+/// A reader or a writer that is interrupted so often before each call that it takes.
+#[derive(Drop)]
+struct Interrupted<T> {
+    inner: T,
+    often: usize,
+    left: usize,
+}
+
+impl<T> Interrupted<T> {
+    fn call(&mut self) -> io::Result<()> {
+        if self.left == 0 {
+            self.left = self.often;
+            return Ok(());
+        }
+        self.left -= 1;
+        Err(io::Error::from(ErrorKind::Interrupted))
     }
-    match words(alloc, &texts) {
-        Ok(values) => Ok(values.quota),
-        Err(_) => Ok(0),
+}
+
+impl<T: Read> Read for Interrupted<T> {
+    fn read(&mut self, buf: &mut [u8]) -> io::Result<usize> {
+        self.call()?;
+        self.inner.read(buf)
+    }
+}
+
+impl<T: Write> Write for Interrupted<T> {
+    fn write(&mut self, buf: &[u8]) -> io::Result<usize> {
+        self.call()?;
+        self.inner.write(buf)
+    }
+
+    fn flush(&mut self) -> io::Result<()> {
+        Ok(())
+    }
+}
+
+/// The status and the output where each call is interrupted so often first.
+fn after_interruptions(alloc: Global, reads: usize, writes: usize) -> Option<(u8, Vec<u8>)> {
+    let config = Config::read(alloc, ONE_CIRCUIT).ok()?;
+    let mut reader = StdReader::new(Interrupted {
+        inner: TICKS.as_bytes(),
+        often: reads,
+        left: reads,
+    });
+    let mut writer = StdWriter::new(Interrupted {
+        inner: Vec::new(alloc),
+        often: writes,
+        left: writes,
+    });
+    let status = lab(&mut Nowhere, &config, &mut reader, &mut writer);
+    Some((status, writer.into_inner().inner))
+}
+
+#[test]
+fn an_interruption_is_no_failure(rt: HostRuntime) {
+    for (reads, writes) in [(1, 0), (0, 1), (3, 2), (100, 100)] {
+        if let Some((status, written)) = after_interruptions(rt.alloc(), reads, writes) {
+            assert_eq!(rt; status, DONE);
+            assert_eq!(rt; written.as_slice(), b"ok\nok\n".as_slice());
+        } else {
+            assert!(rt; false);
+        }
     }
 }
 
 #[test]
-fn command_lines(rt: HostRuntime) -> Result<(), AllocError> {
+fn many_lines(rt: HostRuntime) -> Result<(), AllocError> {
+    let mut text = Vec::new(rt.alloc());
+    let mut lines = String::new(rt.alloc());
+    for _ in 0..100_000 {
+        text.extend_from_slice(b"tick 1\n")?;
+        lines.push_str("ok\n")?;
+    }
+    assert!(rt; gives(rt.alloc(), &text, lines.as_str(), DONE));
+    text.extend_from_slice(b"tick")?;
+    lines.push_str("line 100001 bad\n")?;
+    assert!(rt; gives(rt.alloc(), &text, lines.as_str(), BAD_LINE));
+    Ok(())
+}
+
+fn texts(alloc: Global, given: &[&str]) -> Result<Vec<String>, AllocError> {
+    let mut texts = Vec::new(alloc);
+    for word in given {
+        texts.push(String::from_str(alloc, *word)?)?;
+    }
+    Ok(texts)
+}
+
+/// Whether the words give this configuration and this quota.
+fn gives_values(
+    alloc: Global,
+    given: &[&str],
+    config: &str,
+    quota: u16,
+) -> Result<bool, AllocError> {
+    let texts = texts(alloc, given)?;
+    match words(alloc, &texts) {
+        Ok(values) => Ok(values.config == config && values.quota == quota),
+        Err(_) => Ok(false),
+    }
+}
+
+/// Whether the words are refused, for another cause than memory.
+fn are_refused(alloc: Global, given: &[&str]) -> Result<bool, AllocError> {
+    let texts = texts(alloc, given)?;
+    match words(alloc, &texts) {
+        Ok(_) => Ok(false),
+        Err(Refusal::Memory) => Ok(false),
+        Err(Refusal::Usage(_)) => Ok(true),
+        Err(Refusal::BadValue) => Ok(true),
+    }
+}
+
+#[test]
+fn words_with_values(rt: HostRuntime) -> Result<(), AllocError> {
     let alloc = rt.alloc();
-    assert_eq!(rt; quota_of(alloc, &["one_circuit.toml"])?, 16);
-    assert_eq!(rt; quota_of(alloc, &["one_circuit.toml", "--quota", "1"])?, 1);
-    assert_eq!(rt; quota_of(alloc, &["--quota=256", "one_circuit.toml"])?, 256);
-    assert_eq!(rt; quota_of(alloc, &["one_circuit.toml", "--quota", "0"])?, 0);
-    assert_eq!(rt;
-        quota_of(alloc, &["one_circuit.toml", "--quota", "257"])?,
-        0
-    );
-    assert_eq!(rt; quota_of(alloc, &["one_circuit.toml", "--quota"])?, 0);
-    assert_eq!(rt; quota_of(alloc, &["one_circuit.toml", "another.toml"])?, 0);
-    assert_eq!(rt; quota_of(alloc, &["--help"])?, 0);
-    assert_eq!(rt; quota_of(alloc, &[])?, 0);
+    assert!(rt; gives_values(alloc, &["a.toml"], "a.toml", 16)?);
+    assert!(rt; gives_values(alloc, &["b"], "b", 16)?);
+    assert!(rt; gives_values(alloc, &["a.toml", "--quota", "1"], "a.toml", 1)?);
+    assert!(rt; gives_values(alloc, &["--quota", "2", "a.toml"], "a.toml", 2)?);
+    assert!(rt; gives_values(alloc, &["a.toml", "--quota=7"], "a.toml", 7)?);
+    assert!(rt; gives_values(alloc, &["--quota=16", "a.toml"], "a.toml", 16)?);
+    assert!(rt; gives_values(alloc, &["a.toml", "--quota", "255"], "a.toml", 255)?);
+    assert!(rt; gives_values(alloc, &["--quota=256", "a.toml"], "a.toml", 256)?);
+    assert!(rt; gives_values(alloc, &["--quota", "3", "--", "--a.toml"], "--a.toml", 3)?);
+    Ok(())
+}
+
+#[test]
+fn words_without_values(rt: HostRuntime) -> Result<(), AllocError> {
+    let alloc = rt.alloc();
+    assert!(rt; are_refused(alloc, &[])?);
+    assert!(rt; are_refused(alloc, &["--quota", "1"])?);
+    assert!(rt; are_refused(alloc, &["a.toml", "b.toml"])?);
+    assert!(rt; are_refused(alloc, &["a.toml", "--quota"])?);
+    assert!(rt; are_refused(alloc, &["a.toml", "--quota="])?);
+    assert!(rt; are_refused(alloc, &["a.toml", "--quota", "0"])?);
+    assert!(rt; are_refused(alloc, &["a.toml", "--quota", "257"])?);
+    assert!(rt; are_refused(alloc, &["a.toml", "--quota", "-1"])?);
+    assert!(rt; are_refused(alloc, &["a.toml", "--quota", "1.5"])?);
+    assert!(rt; are_refused(alloc, &["a.toml", "--quota", "many"])?);
+    assert!(rt; are_refused(alloc, &["a.toml", "--quota", "99999999999999999999"])?);
+    assert!(rt; are_refused(alloc, &["a.toml", "--quota", "1", "--quota", "2"])?);
+    assert!(rt; are_refused(alloc, &["a.toml", "--quotas", "1"])?);
+    assert!(rt; are_refused(alloc, &["a.toml", "-q", "1"])?);
+    assert!(rt; are_refused(alloc, &["a.toml", "--help"])?);
+    assert!(rt; are_refused(alloc, &["--version"])?);
     Ok(())
 }

@@ -1,15 +1,19 @@
-use Rattle.std.proofs.Common.{◌≡◌, ℕ, length}
+use Rattle.std.proofs.Common.{◌≡◌, ℕ, ◌+◌, ◌≤◌, ◌<◌, length}
 use Rattle.world.specs.Start.{Starts}
-use Rattle.daemon.specs.declared.accesslab.line.TheConstants.{MAX_LINE}
-use Rattle.daemon.specs.declared.accesslab.hexadecimal.TheConstants.{MAX_BYTES}
+use Rattle.daemon.specs.LineEnd.{IsCounted}
 use Rattle.daemon.proofs.RunLemmas.{SoFar}
 use Rattle.daemon.proofs.accesslab.engine.apply_lines.Given as goal
 
 abbrev pub invariant-lines : goal.invariant-lines
 invariant-lines g l = record {
-  line : length l.line ≡ MAX_LINE;
-  bytes : length l.bytes ≡ MAX_BYTES;
+  line : length l.line ≡ 8192;
+  bytes : length l.bytes ≡ 2048;
+  lines : l.earlier ≤ l.count;
+  below : l.count < 18446744073709551615;
+  reader_quiet : g.R.ByteReader.failures l.reader ≡ g.R.ByteReader.failures l.fn.reader;
+  writer_quiet : g.W.ByteWriter.failures l.writer ≡ g.W.ByteWriter.failures l.fn.writer;
+  counted : IsCounted (g.R.ByteReader.remaining l.fn.reader) (g.R.ByteReader.remaining l.reader) 0 l.count;
   so_far :
       (quota : ℕ) → Starts l.fn.config quota (g.M.Machine.states l.fn.machine)
-      → SoFar l.fn.config quota l.number (g.R.Read.remaining l.fn.reader) (g.R.Read.remaining l.reader) (g.W.Write.contents l.fn.writer) (g.W.Write.contents l.writer) (g.M.Machine.states l.machine);
+      → SoFar l.fn.config quota (l.earlier + 1) (g.R.ByteReader.remaining l.fn.reader) (g.R.ByteReader.remaining l.reader) (g.W.ByteWriter.contents l.fn.writer) (g.W.ByteWriter.contents l.writer) (g.M.Machine.states l.machine);
 }

@@ -1,12 +1,14 @@
-use Rattle.std.proofs.Common.{◌≡◌, ◌≤◌, length, take}
-use Rattle.daemon.specs.declared.accesslab.line.TheConstants.{MAX_LINE}
-use Rattle.daemon.specs.LineEnd.{IsPart}
+use Rattle.std.proofs.Common.{◌≡◌, ◌≤◌, ◌<◌, length, take}
+use Rattle.daemon.specs.LineEnd.{IsPart, IsCounted}
 use Rattle.daemon.proofs.accesslab.line.read_line.Given as goal
 
 -- the array has what was read
 abbrev pub invariant-bytes : goal.invariant-bytes
 invariant-bytes g l = record {
-  within : l.len ≤ MAX_LINE;
-  size : length l.line ≡ MAX_LINE;
-  part : IsPart (g.R.Read.remaining l.fn.reader) (g.R.Read.remaining l.reader) (take l.len l.line);
+  within : l.len ≤ 8192;
+  size : length l.line ≡ 8192;
+  part : IsPart (g.R.ByteReader.remaining l.fn.reader) (g.R.ByteReader.remaining l.reader) (take l.len l.line);
+  counted : IsCounted (g.R.ByteReader.remaining l.fn.reader) (g.R.ByteReader.remaining l.reader) l.fn.count l.count;
+  below : l.count < 18446744073709551615;
+  quiet : g.R.ByteReader.failures l.reader ≡ g.R.ByteReader.failures l.fn.reader;
 }

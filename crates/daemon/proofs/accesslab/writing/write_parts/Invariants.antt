@@ -1,8 +1,11 @@
-use Rattle.std.proofs.Common.{take}
+use Rattle.std.proofs.Common.{◌≡◌, take}
 use Rattle.std.specs.Io.KnownBytes.{Appends}
 use Rattle.daemon.specs.Writing.{concatenation}
 use Rattle.daemon.proofs.accesslab.writing.write_parts.Given as goal
 
 -- the writer has the parts so far
 abbrev pub invariant-parts : goal.invariant-parts
-invariant-parts g l = Appends (g.W.Write.contents l.fn.writer) (g.W.Write.contents l.writer) (concatenation (take l.part-index l.parts))
+invariant-parts g l = record {
+  so_far : Appends (g.W.ByteWriter.contents l.fn.writer) (g.W.ByteWriter.contents l.writer) (concatenation (take l.part-index l.parts));
+  quiet : g.W.ByteWriter.failures l.writer ≡ g.W.ByteWriter.failures l.fn.writer;
+}

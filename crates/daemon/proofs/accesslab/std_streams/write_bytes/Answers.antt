@@ -1,7 +1,7 @@
 use Rattle.std.proofs.Common.{arith, ap, length}
 use Rattle.std.proofs.lemmas.List.{take_rest, length-drop}
 use Rattle.daemon.proofs.WriteLemmas.{front_at, front_here, appends_next}
-use Rattle.daemon.proofs.accesslab.writing.write_bytes.Goals as goal
+use Rattle.daemon.proofs.accesslab.std_streams.write_bytes.Goals as goal
 
 pub returns : goal.returns
 returns g c = record { ok = tt; err = front_at _ _ c.args.bytes.now c.turns.done c.turns.invariant.so_far }

@@ -1,6 +1,6 @@
 use Rattle.std.proofs.Common.{◌≤◌, length, take}
 use Rattle.std.specs.Io.KnownBytes.{Appends}
-use Rattle.daemon.proofs.accesslab.writing.write_bytes.Given as goal
+use Rattle.daemon.proofs.accesslab.std_streams.write_bytes.Given as goal
 
 -- the writer has the bytes so far
 abbrev pub invariant-turns : goal.invariant-turns
