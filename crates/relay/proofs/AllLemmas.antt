@@ -87,10 +87,10 @@ own_frame topology relay source datagram frame part came there =
 
 -- ---- one circuit
 
-bytes_eq_self : (bytes : List ℕ) → bytes_eq bytes bytes ≡ true
+pub bytes_eq_self : (bytes : List ℕ) → bytes_eq bytes bytes ≡ true
 bytes_eq_self bytes = (bytes_eq-Decides bytes bytes).1 refl
 
-same_source_self : (source : Source) → same_source source source ≡ true
+pub same_source_self : (source : Source) → same_source source source ≡ true
 same_source_self source = rw (bytes_eq_self source.addr.0, eq-eqb source.port source.port refl) refl
 
 position_of_one : {X : Type 0} (p : X → Bool) (x : X) → position p (x ∷ []) ≡ cond (p x) (Some 0) None
@@ -137,7 +137,7 @@ same_value a b None p q = absurd cc
 same_value a b (Some v) p q = sym ((bytes_eq-Decides v a).0 p) ∙ (bytes_eq-Decides v b).0 q
 
 -- the only named circuit is the first
-named_first : (circuits : List CircuitPart) (c : ℕ) (part : CircuitPart) (suboptions : List (ℕ × List ℕ))
+pub named_first : (circuits : List CircuitPart) (c : ℕ) (part : CircuitPart) (suboptions : List (ℕ × List ℕ))
     → slice_get circuits c ≡ Some part → ((d : ℕ) (other : CircuitPart) → slice_get circuits d ≡ Some other → other.id ≡ part.id → d ≡ c)
     → is_named suboptions part ≡ true → position (is_named suboptions) circuits ≡ Some c
 named_first circuits c part suboptions there alone named =

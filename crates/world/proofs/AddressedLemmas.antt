@@ -1,9 +1,9 @@
 -- What the relay sends up for a circuit reads again at the server, and is that circuit's there.
-use Rattle.std.proofs.Common.{◌≡◌, ◌≢◌, ℕ, ◌+◌, ◌≤◌, Bool, true, false, not, cond, eqb, nat_le, is_some, List, [], ◌∷◌, ◌++◌, length, Option, Some, None, Result, Ok, Err, refl, sym, ap, ◌∙◌, arith}
-use Rattle.std.specs.Str.{bytes_eq}
+use Rattle.std.proofs.Common.{◌≡◌, ◌≢◌, ℕ, zero, suc, ◌+◌, ◌≤◌, Bool, true, false, not, cond, eqb, nat_le, is_some, List, [], ◌∷◌, ◌++◌, length, Option, Some, None, Result, Ok, Err, refl, sym, ap, ◌∙◌, arith}
+use Rattle.std.specs.Prelude.{slice_get}
+use Rattle.std.specs.List.{list_any, position}
 use Rattle.std.proofs.lemmas.Bool.{eq-eqb, eqb-true, eqb-false, ltb-false}
 use Rattle.std.proofs.lemmas.List.{append-nil, length-append}
-use Rattle.std.proofs.lemmas.Slice.Eq.{bytes_eq-Decides}
 use Rattle.types.specs.Addr.{is_unspecified, same_source}
 use Rattle.types.specs.declared.addr.Source.{Source}
 use Rattle.types.specs.declared.dest.Proto.{Proto}
@@ -26,7 +26,9 @@ use Rattle.config.specs.CircuitPart.{CircuitPart, IsPart}
 use Rattle.dispatch.specs.Addressee.{addressee, message_check}
 use Rattle.dispatch.proofs.AddresseeLemmas.{within}
 use Rattle.relay.specs.Up4.{agent_information, with_agent_information, is_from_server, message_relayed_up, relayed_up4}
+use Rattle.relay.specs.Down4.{is_named}
 use Rattle.relay.specs.Relays.{relayed_up}
+use Rattle.relay.proofs.AllLemmas.{bytes_eq_self, same_source_self, named_first}
 
 -- ---- what the relay tested
 
@@ -158,28 +160,38 @@ is_short part frame m p s short =
 
 -- ---- its circuit
 
-bytes_eq_self : (bytes : List ℕ) → bytes_eq bytes bytes ≡ true
-bytes_eq_self bytes = (bytes_eq-Decides bytes bytes).1 refl
+-- Where no other circuit has its id, a circuit's messages pass the server's tests.
+module _ (circuits : List CircuitPart) (c : ℕ) (part : CircuitPart) (there : slice_get circuits c ≡ Some part)
+    (alone : (d : ℕ) (other : CircuitPart) → slice_get circuits d ≡ Some other → other.id ≡ part.id → d ≡ c) where
+  is_found : position (is_named (agent_suboptions part)) circuits ≡ Some c
+  is_found = named_first circuits c part (agent_suboptions part) there alone (bytes_eq_self part.id)
 
-same_source_self : (source : Source) → same_source source source ≡ true
-same_source_self source = rw (bytes_eq_self source.addr.0, eq-eqb source.port source.port refl) refl
+  is_checked : (m : MessageValue) → m.header.op ≡ 1 → look_up RELAY_AGENT_INFORMATION m.options ≡ None
+      → is_unspecified part.gateway4.0 ≡ false → message_check circuits part.relay (Ok (with_agent_information part m)) ≡ Ok c
+  is_checked m request new gateway =
+      rw (eq-eqb m.header.op 1 request, gateway, look_up-append_same m.options RELAY_AGENT_INFORMATION (agent_information part) new, agent_is_read part, is_found, there, same_source_self part.relay, bytes_eq_self part.gateway4.0) refl
 
--- Where the circuit is the only one, its messages pass the server's tests.
-is_checked : (part : CircuitPart) (m : MessageValue) → m.header.op ≡ 1 → look_up RELAY_AGENT_INFORMATION m.options ≡ None
-    → is_unspecified part.gateway4.0 ≡ false → message_check (part ∷ []) part.relay (Ok (with_agent_information part m)) ≡ Ok 0
-is_checked part m request new gateway =
-    rw (eq-eqb m.header.op 1 request, gateway, look_up-append_same m.options RELAY_AGENT_INFORMATION (agent_information part) new, agent_is_read part, bytes_eq_self part.id, same_source_self part.relay, bytes_eq_self part.gateway4.0) refl
+  message_is_addressed : (relays : List Source) (frame datagram : List ℕ) → list_any (same_source part.relay) relays ≡ true → IsPart part → AreBytes frame
+      → IsSentUp part frame datagram → addressee relays circuits part.relay datagram ≡ Ok c
+  message_is_addressed relays frame datagram known p fits sent =
+      let m = sent.message in
+      let s : Spells frame m = (messages.spelled frame fits m).0 sent.read in
+      within relays circuits part.relay datagram known (rw sent.bytes (is_short part frame m p s sent.short))
+      ∙ ap (message_check circuits part.relay) (ap message_of sent.bytes ∙ is_read_again part frame m s sent.new p.gateway4_size)
+      ∙ is_checked m sent.request sent.new p.gateway4
 
-message_is_addressed : (part : CircuitPart) (frame datagram : List ℕ) → IsPart part → AreBytes frame → IsSentUp part frame datagram
-    → addressee (part.relay ∷ []) (part ∷ []) part.relay datagram ≡ Ok 0
-message_is_addressed part frame datagram p fits sent =
-    let m = sent.message in
-    let s : Spells frame m = (messages.spelled frame fits m).0 sent.read in
-    within (part.relay ∷ []) (part ∷ []) part.relay datagram (rw (same_source_self part.relay) refl) (rw sent.bytes (is_short part frame m p s sent.short))
-    ∙ ap (message_check (part ∷ []) part.relay) (ap message_of sent.bytes ∙ is_read_again part frame m s sent.new p.gateway4_size)
-    ∙ is_checked part m sent.request sent.new p.gateway4
+  -- What the relay sends up for a circuit is that circuit's at the server.
+  pub relayed_is_addressed : (relays : List Source) (proto : Proto) (frame datagram : List ℕ) → list_any (same_source part.relay) relays ≡ true → IsPart part → AreBytes frame
+      → relayed_up part proto frame ≡ Ok datagram → addressee relays circuits part.relay datagram ≡ Ok c
+  relayed_is_addressed relays V4 frame datagram known p fits e = message_is_addressed relays frame datagram known p fits (is_sent_up part frame datagram e)
 
--- What the relay sends up for a circuit is that circuit's at the server, where it is the only one.
-pub relayed_is_addressed : (part : CircuitPart) (proto : Proto) (frame datagram : List ℕ) → IsPart part → AreBytes frame
+-- The only circuit of a list is the first.
+only_first : (part : CircuitPart) (d : ℕ) (other : CircuitPart) → slice_get (part ∷ []) d ≡ Some other → d ≡ 0
+only_first part zero other h = refl
+only_first part (suc d) other h = absurd cc
+
+pub is_addressed_alone : (part : CircuitPart) (proto : Proto) (frame datagram : List ℕ) → IsPart part → AreBytes frame
     → relayed_up part proto frame ≡ Ok datagram → addressee (part.relay ∷ []) (part ∷ []) part.relay datagram ≡ Ok 0
-relayed_is_addressed part V4 frame datagram p fits e = message_is_addressed part frame datagram p fits (is_sent_up part frame datagram e)
+is_addressed_alone part proto frame datagram p fits e =
+    relayed_is_addressed (part ∷ []) 0 part refl (λ d other h same. only_first part d other h) (part.relay ∷ []) proto frame datagram
+    (rw (same_source_self part.relay) refl) p fits e

@@ -2,6 +2,7 @@
 //! leave towards it.
 #![tactic(auto)]
 
+mod addressed;
 mod books;
 mod event;
 pub mod examples;
@@ -14,6 +15,7 @@ mod tests;
 mod two_runs;
 mod world;
 
+pub use addressed::comes_to_its_circuit;
 pub use books::leaves_a_book;
 pub use event::Event;
 pub use machine::{Machine, run};

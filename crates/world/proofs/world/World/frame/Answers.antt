@@ -4,7 +4,7 @@ use Rattle.world.specs.Seen.{Frame}
 use Rattle.world.specs.StepsAs.{StepsAs}
 use Rattle.world.specs.World.{WorldValue, state_of}
 use Rattle.world.specs.declared.outcome.Outcome.TheVariants as outcome
-use Rattle.world.proofs.AddressedLemmas.{relayed_is_addressed}
+use Rattle.world.proofs.AddressedLemmas.{is_addressed_alone}
 use Rattle.world.proofs.WorldLemmas.{frame_sent, frame_dropped, only_part, still_world, sent_addressed, kept_at_0, same_at_0}
 use Rattle.world.proofs.world.World.frame.Goals as goal
 
@@ -14,7 +14,7 @@ invariant_of-self c =
     let new : WorldValue = record w { relays = c.up.new.self; net = c.send.new.self } in
     let part = c.self.inside.server.part in
     let sent = c.in-Ok.ensures.ok part (only_part w.relays.topology.circuits part c.args.circuit c.self.invariant.circuits c.requires) in
-    let comes = relayed_is_addressed part c.args.proto c.args.frame.now c.up.new.out c.self.invariant.part (record { each = λ i. omega (arith, c.type_inv.frame i) }) sent in
+    let comes = is_addressed_alone part c.args.proto c.args.frame.now c.up.new.out c.self.invariant.part (record { each = λ i. omega (arith, c.type_inv.frame i) }) sent in
     still_world w new c.self.invariant refl (ap (λ r. r.topology) c.in-Ok.ensures.kept) refl c.send.ensures.circuits
     (sent_addressed part w.net.quota (record { proto = c.args.proto; bytes = c.up.new.out }) _ _ comes c.self.invariant.addressed
     (kept_at_0 c.args.circuit dir.Up w.net new.net _ c.requires c.send.ensures.kept))

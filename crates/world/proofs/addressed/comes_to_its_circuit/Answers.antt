@@ -1,0 +1,6 @@
+use Rattle.world.proofs.AddressedLemmas.{relayed_is_addressed}
+use Rattle.world.proofs.addressed.comes_to_its_circuit.Goals as goal
+
+pub returns : goal.returns
+returns x relays circuits c part proto frame datagram there alone known sound fits sent =
+    relayed_is_addressed circuits c part there alone relays proto frame datagram known sound fits sent
