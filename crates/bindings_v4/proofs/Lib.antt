@@ -6,3 +6,4 @@ pub mod TableLemmas
 pub mod LawLemmas
 pub mod ShownBook
 pub mod LaterBook
+pub mod ReplyLemmas

@@ -1,11 +1,14 @@
 //! What holds of every book and every decision: functions that do nothing, for their contracts.
-ghost use Rattle.std.specs.Prelude.{◌≡◌, ◌≤◌, ℕ};
+ghost use Rattle.std.specs.Prelude.{◌≡◌, ◌≤◌, ℕ, length, Ok};
 ghost use Rattle.types.specs.Pool4.{IsPool4, PoolValue};
+ghost use Rattle.types.specs.declared.addr.Addr4.{Addr4};
+ghost use Rattle.types.specs.declared.request4.Reply4.TheVariants as reply;
 ghost use Rattle.types.specs.declared.request4.Request4.{Request4};
 ghost use Rattle.bindings_v4.specs.Book4.{book4_at, empty_book};
 ghost use Rattle.bindings_v4.specs.Book4 as maps;
 ghost use Rattle.bindings_v4.specs.IsBook4.{IsBook4, LeavesABook, KeepsOthers, ChangesOffersAlone, GrantsItsOwn, RenewsInTime};
 ghost use Rattle.bindings_v4.specs.Slots4.{book_of};
+ghost use Rattle.bindings_v4.specs.Table4.{answer4};
 
 use crate::book4::Book4;
 use types::{Moment, Pool4, Request4};
@@ -52,4 +55,10 @@ pub fn grants_its_own(pool: Pool4, clock: Moment, request: &Request4)
 /// A client that renews before its lease ends keeps its address.
 pub fn renews_in_time(pool: Pool4, clock: Moment, request: &Request4)
     ensures { RenewsInTime pool clock request.now }
+{}
+
+/// An address that is offered or leased has four bytes.
+pub fn gives_whole_addresses()
+    ensures offered { (pool : PoolValue) (clock : ℕ) (b : maps.Book4) (m : Request4) (address : Addr4) → (answer4 pool clock b m).answer ≡ Ok (reply.Offer address) → length address.0 ≡ 4 }
+    ensures leased { (pool : PoolValue) (clock : ℕ) (b : maps.Book4) (m : Request4) (address : Addr4) → (answer4 pool clock b m).answer ≡ Ok (reply.Ack address) → length address.0 ≡ 4 }
 {}

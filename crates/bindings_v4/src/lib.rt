@@ -17,6 +17,6 @@ mod write;
 pub use book4::Book4;
 pub use decision4::{Decision4, KeptSlot, OfferChange};
 pub use laws::{
-    changes_offers_alone, expires_by_the_clock, grants_its_own, is_a_book, keeps_others,
-    leaves_a_book, renews_in_time,
+    changes_offers_alone, expires_by_the_clock, gives_whole_addresses, grants_its_own, is_a_book,
+    keeps_others, leaves_a_book, renews_in_time,
 };

@@ -5,3 +5,4 @@ pub mod OneCircuit
 pub mod Runs
 pub mod StartLemmas
 pub mod WorldLemmas
+pub mod ReturnLemmas

@@ -6,8 +6,15 @@ ghost use Rattle.types.specs.declared.addr.Source.{Source};
 ghost use Rattle.types.specs.declared.dest.Proto.{Proto};
 ghost use Rattle.config.specs.CircuitPart.{CircuitPart, IsPart};
 ghost use Rattle.dispatch.specs.Addressee.{addressee};
-ghost use Rattle.relay.specs.Relays.{relayed_up};
+ghost use Rattle.dispatch.specs.Server.{Book, served};
+ghost use Rattle.relay.specs.Relays.{Topology, for_circuit, relayed_down, relayed_down_in, relayed_up};
+ghost use Rattle.types.specs.declared.dest.Proto.TheVariants.{V4};
 ghost use Rattle.wire.specs.Bytes.{AreBytes};
+
+use bindings_v4::gives_whole_addresses;
+use relay::named_circuit;
+use replies::reply_is_read;
+use v4_message::exact_reading;
 
 /// What the relay sends up for a circuit is that circuit's at the server, among any circuits of which no
 /// other has its id, and any relays of which one is its own.
@@ -18,3 +25,19 @@ pub fn comes_to_its_circuit()
         → list_any (same_source part.relay) relays ≡ true → IsPart part → AreBytes frame
         → relayed_up part proto frame ≡ Ok datagram → addressee relays circuits part.relay datagram ≡ Ok c }
 {}
+
+/// What the server answers to a circuit's datagram comes down to that circuit, by the relay behind which
+/// it is, as the circuit's own part makes it.
+pub fn reply_comes_to_its_circuit()
+    ensures { (topology : Topology) (relay c : ℕ) (part : CircuitPart) (now : ℕ) (datagram bytes : List ℕ) (b : Book)
+        → slice_get topology.circuits c ≡ Some part
+        → ((d : ℕ) (other : CircuitPart) → slice_get topology.circuits d ≡ Some other → other.id ≡ part.id → d ≡ c)
+        → slice_get topology.relays relay ≡ Some part.relay → IsPart part → AreBytes datagram
+        → addressee topology.relays topology.circuits part.relay datagram ≡ Ok c → (served part now datagram b).answer ≡ Ok bytes
+        → relayed_down_in topology relay topology.listen4 bytes ≡ for_circuit c (relayed_down part V4 bytes) }
+{
+    gives_whole_addresses();
+    reply_is_read();
+    named_circuit();
+    exact_reading();
+}

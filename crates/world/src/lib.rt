@@ -15,7 +15,7 @@ mod tests;
 mod two_runs;
 mod world;
 
-pub use addressed::comes_to_its_circuit;
+pub use addressed::{comes_to_its_circuit, reply_comes_to_its_circuit};
 pub use books::leaves_a_book;
 pub use event::Event;
 pub use machine::{Machine, run};

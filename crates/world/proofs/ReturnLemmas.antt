@@ -1,0 +1,146 @@
+-- What the server answers to a circuit's datagram, and what its reply bears.
+use Rattle.std.proofs.Common.{◌≡◌, ℕ, Bool, true, false, cond, List, [], ◌∷◌, ◌++◌, length, refl, sym, ap, subst, ◌∙◌}
+use Rattle.std.specs.Prelude.{Option, Some, None, Result, Ok, Err, option_map, slice_get, not, nat_lt, ◌==◌}
+use Rattle.std.specs.List.{list_any, position}
+use Rattle.std.specs.Str.{bytes_eq}
+use Rattle.std.proofs.lemmas.List.Quantifiers.{position-Some}
+use Rattle.std.proofs.lemmas.Option.{get_or_from_slice_get}
+use Rattle.types.specs.Addr.{is_unspecified, same_source}
+use Rattle.types.specs.declared.addr.Addr4.{Addr4}
+use Rattle.types.specs.declared.addr.Source.{Source}
+use Rattle.types.specs.declared.discard.Discard.{Discard}
+use Rattle.types.specs.declared.request4.Reply4.{Reply4}
+use Rattle.types.specs.declared.request4.Reply4.TheVariants.{Offer, Ack, Inform, Nak}
+use Rattle.types.specs.declared.request4.Request4.{Request4}
+use Rattle.v4_options.specs.declared.fault.SuboptFault.{SuboptFault}
+use Rattle.v4_options.specs.Spelling.{look_up}
+use Rattle.v4_options.specs.Subreading.{suboptions_of}
+use Rattle.v4_message.specs.declared.fault.MessageFault.{MessageFault}
+use Rattle.v4_message.specs.Agent.{is_value}
+use Rattle.v4_message.specs.Reading.{message_of}
+use Rattle.v4_message.specs.Spelling.{MessageValue}
+use Rattle.config.specs.CircuitPart.{CircuitPart, pool4_of}
+use Rattle.bindings_v4.specs.Table4.{answer4}
+use Rattle.dispatch.specs.Addressee.{addressee, message_check, agent_check, index_check, circuit_check}
+use Rattle.dispatch.specs.Request.{request_in}
+use Rattle.dispatch.specs.Server.{Book, book_at, reply_to, request_served, message_served, served}
+use Rattle.relay.specs.Down4.{is_named}
+use Rattle.replies.specs.Reply4.{name_servers, echo, reply_options, reply4_bytes}
+
+-- ---- what the server tested of a circuit's datagram
+
+-- The datagram's message, whose option 82 names the circuit.
+pub record IsOf (part : CircuitPart) (datagram : List ℕ) : Type 0 where
+  pub message : MessageValue
+  pub read : message_of datagram ≡ Ok message
+  pub information : List ℕ
+  pub there : look_up 82 message.options ≡ Some information
+  pub suboptions : List (ℕ × List ℕ)
+  pub are_read : suboptions_of information ≡ Ok suboptions
+  pub named : is_named suboptions part ≡ true
+
+passed : {A : Type 0} (b : Bool) (why : Discard) (behind : Result A Discard) (x : A) → cond b (Err why) behind ≡ Ok x → behind ≡ Ok x
+passed true why behind x e = absurd cc
+passed false why behind x e = e
+
+abbrev index : ℕ → Result ℕ Discard
+index c = Ok c
+
+same : (d c : ℕ) → index d ≡ index c → d ≡ c
+same d c e = cc
+
+same_index : (d c : ℕ) (source : Source) (m : MessageValue) (suboptions : List (ℕ × List ℕ)) (found : Option CircuitPart) → circuit_check d source m suboptions found ≡ Ok c → d ≡ c
+same_index d c source m suboptions None e = absurd cc
+same_index d c source m suboptions (Some part) e =
+    let relay = passed (not (same_source part.relay source)) _ _ c e in
+    let gateway = passed (not (bytes_eq m.header.giaddr part.gateway4.0)) _ _ c relay in
+    let all : index d ≡ index c = passed (not (is_value part.gateway4.0 (look_up 11 suboptions))) _ _ c gateway in
+    same d c all
+
+module _ (circuits : List CircuitPart) (c : ℕ) (part : CircuitPart) (at : slice_get circuits c ≡ Some part) (source : Source) (datagram : List ℕ) where
+  at_index : (m : MessageValue) (suboptions : List (ℕ × List ℕ)) (index : Option ℕ) → position (is_named suboptions) circuits ≡ index
+      → index_check circuits source m suboptions index ≡ Ok c → is_named suboptions part ≡ true
+  at_index m suboptions None first e = absurd cc
+  at_index m suboptions (Some d) first e =
+      let is : d ≡ c = same_index d c source m suboptions (slice_get circuits d) e in
+      let its : position (is_named suboptions) circuits ≡ Some c = first ∙ ap Some is in
+      ap (is_named suboptions) (sym (get_or_from_slice_get circuits c part part at)) ∙ (position-Some (is_named suboptions) circuits c part its).1
+
+  at_suboptions : (m : MessageValue) (information : List ℕ) (r : Result (List (ℕ × List ℕ)) SuboptFault) → message_of datagram ≡ Ok m → look_up 82 m.options ≡ Some information
+      → suboptions_of information ≡ r → agent_check circuits source m (Some r) ≡ Ok c → IsOf part datagram
+  at_suboptions m information (Err fault) read there are e = absurd cc
+  at_suboptions m information (Ok suboptions) read there are e = record {
+    message = m;
+    read = read;
+    information = information;
+    there = there;
+    suboptions = suboptions;
+    are_read = are;
+    named = at_index m suboptions (position (is_named suboptions) circuits) refl e;
+  }
+
+  at_agent : (m : MessageValue) (o : Option (List ℕ)) → message_of datagram ≡ Ok m → look_up 82 m.options ≡ o → agent_check circuits source m (option_map suboptions_of o) ≡ Ok c → IsOf part datagram
+  at_agent m None read there e = absurd cc
+  at_agent m (Some information) read there e = at_suboptions m information (suboptions_of information) read there refl e
+
+  at_message : (r : Result MessageValue MessageFault) → message_of datagram ≡ r → message_check circuits source r ≡ Ok c → IsOf part datagram
+  at_message (Err fault) read e = absurd cc
+  at_message (Ok m) read e =
+      let op = passed (not (m.header.op == 1)) _ _ c e in
+      let giaddr = passed (is_unspecified m.header.giaddr) _ _ c op in
+      at_agent m (look_up 82 m.options) read refl giaddr
+
+  pub is_of : (relays : List Source) → addressee relays circuits source datagram ≡ Ok c → IsOf part datagram
+  unfolding addressee
+  is_of relays e =
+      let known = passed (not (list_any (same_source source) relays)) _ _ c e in
+      let short = passed (nat_lt 1280 (length datagram)) _ _ c known in
+      at_message (message_of datagram) refl short
+
+-- ---- the reply
+
+abbrev ok : List ℕ → Result (List ℕ) Discard
+ok bytes = Ok bytes
+
+-- These bytes are a reply to the message.
+pub record IsReply (part : CircuitPart) (m : MessageValue) (b : Book) (bytes : List ℕ) : Type 0 where
+  pub request : Request4
+  pub reply : Reply4
+  pub answer : (answer4 (pool4_of part) b.clock b.four request).answer ≡ Ok reply
+  pub written : bytes ≡ reply4_bytes part m reply
+
+by_answer : (part : CircuitPart) (m : MessageValue) (b : Book) (bytes : List ℕ) (request : Request4) (answer : Result Reply4 Discard)
+    → (answer4 (pool4_of part) b.clock b.four request).answer ≡ answer → reply_to part m answer ≡ Ok bytes → IsReply part m b bytes
+by_answer part m b bytes request (Err why) is e = absurd cc
+by_answer part m b bytes request (Ok reply) is e =
+    let same : reply4_bytes part m reply ≡ bytes = same_bytes (reply4_bytes part m reply) bytes e in
+    record { request = request; reply = reply; answer = is; written = sym same }
+  where
+    same_bytes : (x y : List ℕ) → ok x ≡ ok y → x ≡ y
+    same_bytes x y h = cc
+
+by_request : (part : CircuitPart) (m : MessageValue) (b : Book) (bytes : List ℕ) (request : Result Request4 Discard) → (request_served part m b request).answer ≡ Ok bytes → IsReply part m b bytes
+by_request part m b bytes (Err why) e = absurd cc
+by_request part m b bytes (Ok request) e = by_answer part m b bytes request (answer4 (pool4_of part) b.clock b.four request).answer refl e
+
+pub is_reply : (part : CircuitPart) (now : ℕ) (datagram bytes : List ℕ) (b : Book) (m : MessageValue) → message_of datagram ≡ Ok m → (served part now datagram b).answer ≡ Ok bytes
+    → IsReply part m (book_at now b) bytes
+unfolding served
+is_reply part now datagram bytes b m read e =
+    by_request part m (book_at now b) bytes (request_in m) (subst (λ r. (message_served part (book_at now b) r).answer ≡ Ok bytes) read e)
+
+-- the reply bears the request's option 82
+last_is : (dns : List Addr4) (information : List ℕ) → look_up 82 (name_servers dns ++ echo (Some information)) ≡ Some information
+last_is [] information = refl
+last_is (address ∷ addresses) information = refl
+
+echoed : (part : CircuitPart) (m : MessageValue) (information : List ℕ) → look_up 82 m.options ≡ Some information
+    → look_up 82 (name_servers part.dns ++ echo (look_up 82 m.options)) ≡ Some information
+echoed part m information there = ap (λ o. look_up 82 (name_servers part.dns ++ echo o)) there ∙ last_is part.dns information
+
+pub bears : (part : CircuitPart) (m : MessageValue) (reply : Reply4) (information : List ℕ) → look_up 82 m.options ≡ Some information
+    → look_up 82 (reply_options part m reply) ≡ Some information
+bears part m (Offer address) information there = echoed part m information there
+bears part m (Ack address) information there = echoed part m information there
+bears part m Inform information there = echoed part m information there
+bears part m Nak information there = ap (λ o. look_up 82 (echo o)) there

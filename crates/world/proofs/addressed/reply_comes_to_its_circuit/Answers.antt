@@ -1,0 +1,31 @@
+use Rattle.std.proofs.Common.{◌≡◌, length, refl, ap, ◌∙◌}
+use Rattle.std.specs.Prelude.{Ok, Some, option_map}
+use Rattle.types.specs.declared.request4.Reply4.{Reply4}
+use Rattle.types.specs.declared.request4.Reply4.TheVariants.{Offer, Ack, Inform, Nak}
+use Rattle.v4_options.specs.Subreading.{suboptions_of}
+use Rattle.v4_message.specs.Agent.{agent_of}
+use Rattle.v4_message.specs.Reading.{message_of}
+use Rattle.types.specs.declared.request4.Request4.{Request4}
+use Rattle.config.specs.CircuitPart.{CircuitPart, pool4_of}
+use Rattle.bindings_v4.specs.Table4.{answer4}
+use Rattle.dispatch.specs.Server.{Book, book_at}
+use Rattle.replies.specs.Reply4.{reply_message, yiaddr_in}
+use Rattle.world.proofs.ReturnLemmas.{is_of, is_reply, bears}
+use Rattle.world.proofs.addressed.reply_comes_to_its_circuit.Goals as goal
+
+whole : (x : goal.After-exact_reading) (part : CircuitPart) (b : Book) (request : Request4) (reply : Reply4) → (answer4 (pool4_of part) b.clock b.four request).answer ≡ Ok reply → length (yiaddr_in reply) ≡ 4
+whole x part b request (Offer address) is = x.gives_whole_addresses.ensures.offered (pool4_of part) b.clock b.four request address is
+whole x part b request (Ack address) is = x.gives_whole_addresses.ensures.leased (pool4_of part) b.clock b.four request address is
+whole x part b request Inform is = refl
+whole x part b request Nak is = refl
+
+pub returns : goal.returns
+returns x topology relay c part now datagram bytes b there alone behind sound fits found answered =
+    let of = is_of topology.circuits c part there part.relay datagram topology.relays found in
+    let sent = is_reply part now datagram bytes b of.message of.read answered in
+    let spelled = (x.exact_reading.ensures.message datagram of.message fits).0 of.read in
+    let again = reply_message part of.message sent.reply in
+    let size = whole x part (book_at now b) sent.request sent.reply sent.answer in
+    let read : message_of bytes ≡ Ok again = ap message_of sent.written ∙ x.reply_is_read.ensures part of.message sent.reply sound spelled.sized size in
+    let agent : agent_of again ≡ Some (Ok of.suboptions) = ap (option_map suboptions_of) (bears part of.message sent.reply of.information of.there) ∙ ap Some of.are_read in
+    x.named_circuit.ensures topology relay topology.listen4 bytes c part again of.suboptions there alone behind refl read agent of.named
