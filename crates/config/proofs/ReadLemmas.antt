@@ -4,13 +4,16 @@ use Rattle.toml.specs.Data.{Data, string, integer, float, boolean, datetime, arr
 use Rattle.toml.specs.View.{items_view}
 use Rattle.toml.specs.declared.value.Value.{Value as Code}
 use Rattle.types.specs.CircuitId.{IsCircuitId}
+use Rattle.types.specs.declared.addr.Source.{Source}
+use Rattle.config.specs.declared.settings.ServerConfig.{ServerConfig}
 use Rattle.config.specs.declared.settings.RelayConfig.{RelayConfig}
 use Rattle.config.specs.declared.settings.CircuitConfig.{CircuitConfig}
 use Rattle.config.specs.Field.{Field, Missing, Other, Value, HasValue, field_map, table_of, each}
-use Rattle.config.specs.Rules.{IsWithinLimits}
-use Rattle.config.specs.Tables.{RelayKeys, CircuitKeys}
+use Rattle.config.specs.Rules.{IsServerWithinLimits, IsRelayWithinLimits, IsWithinLimits}
+use Rattle.config.specs.Tables.{ServerKeys, RelayKeys, CircuitKeys}
+use Rattle.config.specs.Texts.{IsSource}
 use Rattle.config.specs.Valid.{EachReads}
-use Rattle.config.specs.Values.{IsName, IsId, IsNameAt, IsRelay, IsCircuit}
+use Rattle.config.specs.Values.{IsName, IsDuid, IsId, IsNameAt, IsServer, IsRelay, IsCircuit}
 use Rattle.config.proofs.NameLemmas.{name_within}
 
 pub length-entries : {A : Type 0} (f : Option Data → Field A) (vs : List Code) → length (each f (items_view vs)) ≡ length vs
@@ -109,15 +112,41 @@ within_limits relays keys c h = record {
   id = visible_in_field keys.id c.id h.id;
   relay = relay_within relays keys c h;
   region = h.region.to;
-  least_lease = h.lease.from;
-  most_lease = h.lease.to;
+  pool4 = record { least = h.count4.from; most = h.count4.to; no_wrap = h.no_wrap4; shortest = h.lease.from; longest = h.lease.to };
   least_prefix4 = h.prefix4.from;
   most_prefix4 = h.prefix4.to;
-  least_count4 = h.count4.from;
-  most_count4 = h.count4.to;
-  no_wrap4 = h.no_wrap4;
   few_dns = h.few_dns;
   least_count6 = h.count6.from;
   most_count6 = h.count6.to;
   no_wrap6 = h.no_wrap6;
+}
+
+-- what holds of each thing that a text can spell holds of what this text spells
+spelled_so : {A B : Type 0} (f : Field A) (P : A → B → Type 0) (Q : B → Type 0) (b : B) → ((a : A) → P a b → Q b) → HasValue f (λ a. P a b) → Q b
+spelled_so Missing P Q b so h = absurd h
+spelled_so Other P Q b so h = absurd h
+spelled_so (Value a) P Q b so h = so a h
+
+least_port : (f : Field (List ℕ)) (s : Source) → HasValue f (λ text. IsSource text s) → 1 ≤ s.port
+least_port f s h = spelled_so f IsSource (λ x. 1 ≤ x.port) s (λ text x. x.port.least) h
+
+most_port : (f : Field (List ℕ)) (s : Source) → HasValue f (λ text. IsSource text s) → s.port ≤ 65535
+most_port f s h = spelled_so f IsSource (λ x. x.port ≤ 65535) s (λ text x. omega (arith, x.port.most)) h
+
+pub server_within : (keys : ServerKeys) (server : ServerConfig) → IsServer keys server → IsServerWithinLimits server
+server_within keys server h = record {
+  least_port4 = least_port keys.listen4 server.listen4 h.listen4;
+  most_port4 = most_port keys.listen4 server.listen4 h.listen4;
+  least_port6 = least_port keys.listen6 server.listen6 h.listen6;
+  most_port6 = most_port keys.listen6 server.listen6 h.listen6;
+  least_duid = spelled_so keys.duid IsDuid (λ duid. 3 ≤ length duid) server.duid.items (λ text x. x.least) h.duid;
+  most_duid = spelled_so keys.duid IsDuid (λ duid. length duid ≤ 130) server.duid.items (λ text x. x.most) h.duid;
+}
+
+pub relay_within_limits : (keys : RelayKeys) (relay : RelayConfig) → IsRelay keys relay → IsRelayWithinLimits relay
+relay_within_limits keys relay h = record {
+  least_name = spelled_so keys.name IsName (λ name. 1 ≤ length name) relay.name.items (λ text x. x.least) h.name;
+  most_name = spelled_so keys.name IsName (λ name. length name ≤ 32) relay.name.items (λ text x. x.most) h.name;
+  least_port = least_port keys.source relay.source h.source;
+  most_port = most_port keys.source relay.source h.source;
 }

@@ -2,7 +2,6 @@
 use Rattle.std.specs.Prelude.{◌≡◌, ℕ, ◌≤◌, List, [], ◌∷◌, length, Some, None, ⊤}
 use Rattle.toml.specs.Data.{Members}
 use Rattle.toml.specs.Parse.{parse_document}
-use Rattle.config.specs.declared.limits.TheConstants.{READ_RELAYS, READ_CIRCUITS}
 use Rattle.config.specs.declared.fault.ConfigFault.{ConfigFault}
 use Rattle.config.specs.declared.fault.ConfigFault.TheVariants.{Memory, Text, Missing, Limit, IdTwice, RegionTwice, Overlap4, Overlap6, GatewayInPool, OffSubnet}
 use Rattle.config.specs.Field.{Field, HasValue}
@@ -23,10 +22,11 @@ pub record IsRead (tables : Tables) (settings : Settings) : Type 0 where
   pub server : HasValue tables.server (λ keys. IsServer keys settings.server)
   pub relays : HasValue tables.relays (λ entries. EachReads IsRelay entries settings.relays)
   pub some_relay : 1 ≤ length settings.relays
-  pub few_relays : length settings.relays ≤ READ_RELAYS
+  -- for now one relay and one circuit are read
+  pub few_relays : length settings.relays ≤ 1
   pub circuits : HasValue tables.circuits (λ entries. EachReads (IsCircuit settings.relays) entries settings.circuits)
   pub some_circuit : 1 ≤ length settings.circuits
-  pub few_circuits : length settings.circuits ≤ READ_CIRCUITS
+  pub few_circuits : length settings.circuits ≤ 1
 
 -- no rule is broken, and these are the values
 pub record IsValid (tables : Tables) (settings : Settings) : Type 0 where

@@ -4,7 +4,7 @@ ghost use Rattle.toml.specs.Data.{Members};
 ghost use Rattle.toml.specs.View.{items_view, table_view};
 ghost use Rattle.config.specs.Field.{Value as Told, table_of, table_at, list_at, each};
 ghost use Rattle.config.specs.Keys.{HasAll};
-ghost use Rattle.config.specs.Rules.{Settings, IsWithinLimits, one_each};
+ghost use Rattle.config.specs.Rules.{Settings, IsServerWithinLimits, IsRelayWithinLimits, IsWithinLimits, one_each};
 ghost use Rattle.config.specs.Tables.{tables_of, found_tables};
 ghost use Rattle.config.specs.Valid.{IsRead};
 ghost use Rattle.config.specs.Values.{IsCircuit};
@@ -80,6 +80,8 @@ pub struct Values {
 /// The values of tables with one relay and one circuit, or a location that is outside its limits.
 pub fn values_in(server: &Table, relays: &[Value], circuits: &[Value]) -> Result<Values, Location>
     ensures read { IfOk result (λ v. IsRead (found_tables (table_view server.now) (items_view relays.now) (items_view circuits.now)) (one_each v.server v.relay v.circuit)) }
+    ensures server { IfOk result (λ v. IsServerWithinLimits v.server) }
+    ensures relay { IfOk result (λ v. IsRelayWithinLimits v.relay) }
     ensures limits { IfOk result (λ v. IsWithinLimits (v.relay ∷ []) v.circuit) }
     ensures broken { IfErr result (λ _. (s : Settings) → ¬ IsRead (found_tables (table_view server.now) (items_view relays.now) (items_view circuits.now)) s) }
 {

@@ -72,12 +72,10 @@ fn good(rt: HostRuntime) -> Result<(), AllocError> {
     );
     assert_eq!(rt; config.relay_count(), 1);
     assert_eq!(rt; config.circuit_count(), 1);
-    assert!(rt; config.relay(RelayNo::new(1).unwrap()).is_none());
-    if let Some(relay) = config.relay(RelayNo::new(0).unwrap()) {
+    if config.relay_count() == 1 {
+        let relay = config.relay(RelayNo::new(0).unwrap());
         assert_eq!(rt; relay.name.as_slice(), b"r1".as_slice());
         assert_eq!(rt; relay.source.port, 6801);
-    } else {
-        assert!(rt; false);
     }
     for (id, there) in [(b"a".as_slice(), true), (b"a1".as_slice(), false)] {
         if let Some(id) = CircuitId::new(id) {

@@ -3,7 +3,7 @@ use Rattle.toml.specs.View.{items_view, table_view}
 use Rattle.types.specs.declared.limits.TheConstants.{MAX_RELAYS}
 use Rattle.config.specs.Tables.{relay_keys, circuit_keys}
 use Rattle.config.specs.Values.{IsRelay, IsCircuit}
-use Rattle.config.proofs.ReadLemmas.{only, only_reads, same_keys, same_relay, relay_within, within_limits}
+use Rattle.config.proofs.ReadLemmas.{only, only_reads, same_keys, same_relay, relay_within, relay_within_limits, server_within, within_limits}
 use Rattle.config.proofs.reading.values_in.Goals as goal
 
 pub returns-in_default-clause-broken : goal.returns-in_default-clause-broken
@@ -55,3 +55,9 @@ returns-clause-read c = record {
 pub returns-clause-limits : goal.returns-clause-limits
 returns-clause-limits c =
     within_limits (c.in-Ok-relay_of.relay ∷ []) _ c.in-Ok-circuit_of.circuit (subst (λ rs. IsCircuit rs (circuit_keys (table_view c.in-Some-only_table.circuit.now)) c.in-Ok-circuit_of.circuit) c.from_ref.ensures.value c.in-Ok-circuit_of.ensures.ok)
+
+pub returns-clause-server : goal.returns-clause-server
+returns-clause-server c = server_within _ c.in-Ok.server c.in-Ok.ensures.ok
+
+pub returns-clause-relay : goal.returns-clause-relay
+returns-clause-relay c = relay_within_limits _ c.in-Ok-relay_of.relay c.in-Ok-relay_of.ensures.ok
