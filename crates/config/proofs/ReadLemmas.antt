@@ -1,5 +1,6 @@
 -- The settings of a list with one entry.
-use Rattle.std.proofs.Common.{◌≡◌, ℕ, zero, suc, ◌≤◌, ◌<◌, List, [], ◌∷◌, length, Option, Some, refl, sym, ap, subst, ◌∙◌, arith}
+use Rattle.std.specs.Prelude.{⊤}
+use Rattle.std.proofs.Common.{◌≡◌, inl, inr, ℕ, zero, suc, ◌≤◌, ◌<◌, List, [], ◌∷◌, length, Option, Some, refl, sym, ap, subst, ◌∙◌, arith}
 use Rattle.toml.specs.Data.{Data, string, integer, float, boolean, datetime, array, table, Items, no_items, item, Members}
 use Rattle.toml.specs.View.{items_view}
 use Rattle.toml.specs.declared.value.Value.{Value as Code}
@@ -9,6 +10,7 @@ use Rattle.config.specs.declared.settings.ServerConfig.{ServerConfig}
 use Rattle.config.specs.declared.settings.RelayConfig.{RelayConfig}
 use Rattle.config.specs.declared.settings.CircuitConfig.{CircuitConfig}
 use Rattle.config.specs.Field.{Field, Missing, Other, Value, HasValue, field_map, table_of, each}
+use Rattle.config.specs.Keys.{AllThere, IsRelayName, HasCircuitKeys}
 use Rattle.config.specs.Rules.{IsServerWithinLimits, IsRelayWithinLimits, IsWithinLimits}
 use Rattle.config.specs.Tables.{ServerKeys, RelayKeys, CircuitKeys}
 use Rattle.config.specs.Texts.{IsSource}
@@ -20,6 +22,45 @@ pub length-entries : {A : Type 0} (f : Option Data → Field A) (vs : List Code)
 length-entries f [] = refl
 length-entries f (v ∷ vs) = ap suc (length-entries f vs)
 
+-- an entry of a list of tables
+abbrev entry_of : {A : Type 0} → (Members → A) → Option Data → Field A
+entry_of g d = field_map g (table_of d)
+
+-- where the tables are one, so are the entries
+pub one_entry : {A : Type 0} (g : Members → A) (items : Items) (keys : Members) → each table_of items ≡ Value keys ∷ [] → each (entry_of g) items ≡ Value (g keys) ∷ []
+one_entry g no_items keys e = absurd (cc)
+one_entry g (item d no_items) keys e = let same : table_of (Some d) ≡ Value keys = cc in ap (λ f. field_map g f ∷ []) same
+one_entry g (item d (item d2 ds)) keys e = absurd (cc)
+
+-- an entry with keys is a table
+table_there : {A : Type 0} (P : A → Type 0) (g : Members → A) (f : Field Members) → HasValue (field_map g f) P → HasValue f (λ _. ⊤)
+table_there P g Missing h = h
+table_there P g Other h = h
+table_there P g (Value keys) h = tt
+
+pub tables_there : {A : Type 0} (P : A → Type 0) (g : Members → A) (items : Items) → AllThere P (each (entry_of g) items) → AllThere (λ _. ⊤) (each table_of items)
+tables_there P g no_items h = tt
+tables_there P g (item d ds) h = (table_there P g (table_of (Some d)) h.0, tables_there P g ds h.1)
+
+-- a circuit that names a relay of one entry names that relay
+named_by : (f : Field (List ℕ)) (r : RelayConfig) (name : List ℕ) → f ≡ Value name → HasValue f (λ text. IsName text r.name.items) → IsNameAt (r ∷ []) 0 name
+named_by Missing r name e h = absurd h
+named_by Other r name e h = absurd h
+named_by (Value text) r name e h = let same : text ≡ name = cc in ap Some (sym h.value ∙ same)
+
+named_one : (k : RelayKeys) (r : RelayConfig) (name : List ℕ) → IsRelay k r → IsRelayName (Value k ∷ []) name → IsNameAt (r ∷ []) 0 name
+named_one k r name is (inl h) = named_by k.name r name h is.name
+named_one k r name is (inr h) = absurd h
+
+pub behind_one : (k : RelayKeys) (r : RelayConfig) (f : Field (List ℕ)) → IsRelay k r → HasValue f (IsRelayName (Value k ∷ [])) → HasValue f (IsNameAt (r ∷ []) 0)
+behind_one k r Missing is h = absurd h
+behind_one k r Other is h = absurd h
+behind_one k r (Value name) is h = named_one k r name is h
+
+-- the keys of the only circuit are there
+pub one_has_keys : (relays : List (Field RelayKeys)) (circuits : List (Field CircuitKeys)) (keys : CircuitKeys) → circuits ≡ Value keys ∷ [] → AllThere (HasCircuitKeys relays) circuits → HasCircuitKeys relays keys
+one_has_keys relays circuits keys e h = (subst (AllThere (HasCircuitKeys relays)) e h).0
+
 -- entries that read as one value are one table
 pub record Only {A B : Type 0} (P : A → B → Type 0) (g : Members → A) (items : Items) (xs : List B) : Type 0 where
   pub value : B
@@ -27,9 +68,6 @@ pub record Only {A B : Type 0} (P : A → B → Type 0) (g : Members → A) (ite
   pub one : xs ≡ value ∷ []
   pub entry : each table_of items ≡ Value keys ∷ []
   pub reads : P (g keys) value
-
-abbrev entry_of : {A : Type 0} → (Members → A) → Option Data → Field A
-entry_of g d = field_map g (table_of d)
 
 only_field : {A B : Type 0} (P : A → B → Type 0) (g : Members → A) (d : Data) (x : B) → HasValue (entry_of g (Some d)) (λ a. P a x) → Only P g (item d no_items) (x ∷ [])
 only_field P g (string s) x h = absurd h

@@ -99,7 +99,7 @@ impl Config {
         };
         let values = match values_in(tables.server, tables.relays, tables.circuits) {
             Ok(values) => values,
-            Err(location) => return Err(ConfigFault::Limit(location)),
+            Err(limit) => return Err(ConfigFault::Limit(limit)),
         };
         if let Err(fault) = rules(&values.server, &values.relay, &values.circuit) {
             return Err(fault);

@@ -6,40 +6,41 @@ ghost use Rattle.config.specs.Keys.{AllThere, IsRelayName, HasServerKeys, HasRel
 ghost use Rattle.config.specs.Tables.{server_keys, relay_keys, circuit_keys, relay_entry, circuit_entry};
 
 use crate::lookup::{integer_at, list_at, text_at};
+use crate::names::{CircuitKey, RelayKey, ServerKey};
 use toml::{Table, Value};
 
 /// A key of the server that is not there, or of another type.
-pub fn server_lacks(server: &Table) -> Option<&'static str>
+pub fn server_lacks(server: &Table) -> Option<ServerKey>
     ensures { IsNone result ↔ HasServerKeys (server_keys (table_view server.now)) }
 {
     if text_at(server, "listen4").is_none() {
-        return Some("listen4");
+        return Some(ServerKey::Listen4);
     }
     if text_at(server, "listen6").is_none() {
-        return Some("listen6");
+        return Some(ServerKey::Listen6);
     }
     if text_at(server, "duid").is_none() {
-        return Some("duid");
+        return Some(ServerKey::Duid);
     }
     None
 }
 
 /// A key of a relay that is not there, or of another type.
-fn relay_lacks(relay: &Table) -> Option<&'static str>
+fn relay_lacks(relay: &Table) -> Option<RelayKey>
     ensures { IsNone result ↔ HasRelayKeys (relay_keys (table_view relay.now)) }
 {
     if text_at(relay, "name").is_none() {
-        return Some("name");
+        return Some(RelayKey::Name);
     }
     if text_at(relay, "source").is_none() {
-        return Some("source");
+        return Some(RelayKey::Source);
     }
     None
 }
 
 /// A location in the list of relays where a table or a key is not there: the entry, from 0, and the
 /// key.
-pub fn relays_lack(entries: &[Value]) -> Option<(usize, &'static str)>
+pub fn relays_lack(entries: &[Value]) -> Option<(usize, RelayKey)>
     ensures { IsNone result ↔ AllThere HasRelayKeys (each relay_entry (items_view entries.now)) }
 {
     for (i, entry) in entries.iter().enumerate() {
@@ -51,12 +52,12 @@ pub fn relays_lack(entries: &[Value]) -> Option<(usize, &'static str)>
 }
 
 /// A key of an entry of the list of relays that is not there: `name` where the entry is no table.
-fn relay_entry_lacks(entry: &Value) -> Option<&'static str>
+fn relay_entry_lacks(entry: &Value) -> Option<RelayKey>
     ensures { IsNone result ↔ HasValue (relay_entry (Some (view entry.now))) HasRelayKeys }
 {
     match entry.as_table() {
         Some(relay) => relay_lacks(relay),
-        None => Some("name"),
+        None => Some(RelayKey::Name),
     }
 }
 
@@ -115,61 +116,61 @@ fn has_relay(circuit: &Table, relays: &[Value]) -> bool
 }
 
 /// A key of a circuit that is not there, or of another type, or `relay` where it is no relay's name.
-fn circuit_lacks(circuit: &Table, relays: &[Value]) -> Option<&'static str>
+fn circuit_lacks(circuit: &Table, relays: &[Value]) -> Option<CircuitKey>
     ensures { IsNone result ↔ HasCircuitKeys (each relay_entry (items_view relays.now)) (circuit_keys (table_view circuit.now)) }
 {
     if text_at(circuit, "id").is_none() {
-        return Some("id");
+        return Some(CircuitKey::Id);
     }
     if !has_relay(circuit, relays) {
-        return Some("relay");
+        return Some(CircuitKey::Relay);
     }
     if integer_at(circuit, "region").is_none() {
-        return Some("region");
+        return Some(CircuitKey::Region);
     }
     if integer_at(circuit, "lease").is_none() {
-        return Some("lease");
+        return Some(CircuitKey::Lease);
     }
     if text_at(circuit, "gateway4").is_none() {
-        return Some("gateway4");
+        return Some(CircuitKey::Gateway4);
     }
     if integer_at(circuit, "prefix4").is_none() {
-        return Some("prefix4");
+        return Some(CircuitKey::Prefix4);
     }
     if text_at(circuit, "first4").is_none() {
-        return Some("first4");
+        return Some(CircuitKey::First4);
     }
     if integer_at(circuit, "count4").is_none() {
-        return Some("count4");
+        return Some(CircuitKey::Count4);
     }
     if !has_dns(circuit) {
-        return Some("dns");
+        return Some(CircuitKey::Dns);
     }
     if text_at(circuit, "link6").is_none() {
-        return Some("link6");
+        return Some(CircuitKey::Link6);
     }
     if text_at(circuit, "first6").is_none() {
-        return Some("first6");
+        return Some(CircuitKey::First6);
     }
     if integer_at(circuit, "count6").is_none() {
-        return Some("count6");
+        return Some(CircuitKey::Count6);
     }
     None
 }
 
 /// A key of an entry of the list of circuits that is not there: `id` where the entry is no table.
-fn circuit_entry_lacks(entry: &Value, relays: &[Value]) -> Option<&'static str>
+fn circuit_entry_lacks(entry: &Value, relays: &[Value]) -> Option<CircuitKey>
     ensures { IsNone result ↔ HasValue (circuit_entry (Some (view entry.now))) (HasCircuitKeys (each relay_entry (items_view relays.now))) }
 {
     match entry.as_table() {
         Some(circuit) => circuit_lacks(circuit, relays),
-        None => Some("id"),
+        None => Some(CircuitKey::Id),
     }
 }
 
 /// A location in the list of circuits where a table or a key is not there: the entry, from 0, and the
 /// key.
-pub fn circuits_lack(entries: &[Value], relays: &[Value]) -> Option<(usize, &'static str)>
+pub fn circuits_lack(entries: &[Value], relays: &[Value]) -> Option<(usize, CircuitKey)>
     ensures { IsNone result ↔ AllThere (HasCircuitKeys (each relay_entry (items_view relays.now))) (each circuit_entry (items_view entries.now)) }
 {
     for (i, entry) in entries.iter().enumerate() {
