@@ -61,31 +61,7 @@ behind_one k r (Value name) is h = named_one k r name is h
 pub one_has_keys : (relays : List (Field RelayKeys)) (circuits : List (Field CircuitKeys)) (keys : CircuitKeys) → circuits ≡ Value keys ∷ [] → AllThere (HasCircuitKeys relays) circuits → HasCircuitKeys relays keys
 one_has_keys relays circuits keys e h = (subst (AllThere (HasCircuitKeys relays)) e h).0
 
--- entries that read as one value are one table
-pub record Only {A B : Type 0} (P : A → B → Type 0) (g : Members → A) (items : Items) (xs : List B) : Type 0 where
-  pub value : B
-  pub keys : Members
-  pub one : xs ≡ value ∷ []
-  pub entry : each table_of items ≡ Value keys ∷ []
-  pub reads : P (g keys) value
-
-only_field : {A B : Type 0} (P : A → B → Type 0) (g : Members → A) (d : Data) (x : B) → HasValue (entry_of g (Some d)) (λ a. P a x) → Only P g (item d no_items) (x ∷ [])
-only_field P g (string s) x h = absurd h
-only_field P g (integer n) x h = absurd h
-only_field P g (float n) x h = absurd h
-only_field P g (boolean b) x h = absurd h
-only_field P g (datetime t) x h = absurd h
-only_field P g (array ds) x h = absurd h
-only_field P g (table keys) x h = record { value = x; keys = keys; one = refl; entry = refl; reads = h }
-
-pub only : {A B : Type 0} (P : A → B → Type 0) (g : Members → A) (items : Items) (xs : List B) → 1 ≤ length xs → length xs ≤ 1 → EachReads P (each (λ d. field_map g (table_of d)) items) xs → Only P g items xs
-only P g items [] some few h = absurd (omega arith)
-only P g no_items (x ∷ []) some few h = absurd h
-only P g (item d no_items) (x ∷ []) some few h = only_field P g d x h.0
-only P g (item d (item e ds)) (x ∷ []) some few h = absurd h.1
-only P g items (x ∷ y ∷ ys) some few h = absurd (omega arith)
-
--- and one table reads as one value
+-- one table reads as one value
 only_reads_field : {A B : Type 0} (P : A → B → Type 0) (g : Members → A) (f : Field Members) (keys : Members) (x : B) → f ≡ Value keys → P (g keys) x → HasValue (field_map g f) (λ a. P a x)
 only_reads_field P g f keys x e h = subst (λ q. HasValue (field_map g q) (λ a. P a x)) (sym e) h
 
@@ -93,43 +69,6 @@ pub only_reads : {A B : Type 0} (P : A → B → Type 0) (g : Members → A) (it
 only_reads P g no_items keys x e h = absurd (cc)
 only_reads P g (item d no_items) keys x e h = (only_reads_field P g (table_of (Some d)) keys x (cc) h, tt)
 only_reads P g (item d (item d2 ds)) keys x e h = absurd (cc)
-
-pub same_keys : (items : Items) (k l : Members) → each table_of items ≡ Value k ∷ [] → each table_of items ≡ Value l ∷ [] → k ≡ l
-same_keys items k l e f = let g : Value k ∷ [] ≡ Value l ∷ [] = sym e ∙ f in cc
-
--- a relay's entry has one name
-same_name : (f : Field (List ℕ)) (m n : List ℕ) → HasValue f (λ text. IsName text m) → HasValue f (λ text. IsName text n) → m ≡ n
-same_name Missing m n h k = absurd h
-same_name Other m n h k = absurd h
-same_name (Value text) m n h k = sym h.value ∙ k.value
-
-named_so : (r s : RelayConfig) → r.name.items ≡ s.name.items → (index : ℕ) (name : List ℕ) → IsNameAt (r ∷ []) index name → IsNameAt (s ∷ []) index name
-named_so r s e zero name h = ap Some (sym e) ∙ h
-named_so r s e (suc index) name h = h
-
-named_in_field : (f : Field (List ℕ)) (r s : RelayConfig) → r.name.items ≡ s.name.items → (index : ℕ) → HasValue f (IsNameAt (r ∷ []) index) → HasValue f (IsNameAt (s ∷ []) index)
-named_in_field Missing r s e index h = absurd h
-named_in_field Other r s e index h = absurd h
-named_in_field (Value name) r s e index h = named_so r s e index name h
-
-pub same_relay : (k : RelayKeys) (r s : RelayConfig) (keys : CircuitKeys) (c : CircuitConfig) → IsRelay k r → IsRelay k s → IsCircuit (r ∷ []) keys c → IsCircuit (s ∷ []) keys c
-same_relay k r s keys c p q h = record {
-  id = h.id;
-  relay = named_in_field keys.relay r s (same_name k.name r.name.items s.name.items p.name q.name) c.relay h.relay;
-  region = h.region;
-  lease = h.lease;
-  gateway4 = h.gateway4;
-  prefix4 = h.prefix4;
-  first4 = h.first4;
-  count4 = h.count4;
-  no_wrap4 = h.no_wrap4;
-  dns = h.dns;
-  few_dns = h.few_dns;
-  link6 = h.link6;
-  first6 = h.first6;
-  count6 = h.count6;
-  no_wrap6 = h.no_wrap6;
-}
 
 index_in_field : (relays : List RelayConfig) (f : Field (List ℕ)) (index : ℕ) → HasValue f (IsNameAt relays index) → index < length relays
 index_in_field relays Missing index h = absurd h
