@@ -1,6 +1,6 @@
 -- One text has one configuration, or faults of one number.
 use Rattle.std.proofs.Common.{◌≡◌, ◌≢◌, ◌+◌, ◌-◌, ◌<◌, ◌≤◌, ℕ, zero, suc, List, [], ◌∷◌, length, get_or, Option, Some, None, option_map, refl, ap, sym, subst, ◌∙◌, arith}
-use Rattle.std.specs.Prelude.{All, AllPairs, slice_get}
+use Rattle.std.specs.Prelude.{All, AllPairs, slice_get, ⊤}
 use Rattle.std.specs.Int.{w32, w128, from_be_bytes}
 use Rattle.std.proofs.lemmas.Option.{slice_get_within, same_Some, slice_get-get_or}
 use Rattle.config.specs.declared.limit_fault.LimitFault.{LimitFault}
@@ -19,14 +19,17 @@ use Rattle.config.specs.declared.settings.CircuitConfig.{CircuitConfig}
 use Rattle.toml.specs.Data.{Members}
 use Rattle.toml.specs.Parse.{parse_document}
 use Rattle.config.specs.declared.names.CircuitRef.{CircuitRef}
+use Rattle.config.specs.declared.names.TableName.TheVariants.{Server as ServerTable, Relay as RelayTable, Circuit as CircuitTable}
+use Rattle.config.specs.declared.fault.Location.{Location}
+use Rattle.config.specs.declared.fault.Location.TheVariants.{Table, Server as AtServer, Relay as AtRelay, Circuit as AtCircuit}
 use Rattle.config.specs.declared.fault.SameName.{SameName}
 use Rattle.config.specs.declared.fault.SameName.TheVariants.{Ids, Names, Sources, Listens, Listen4 as RelayListen4, Listen6 as RelayListen6}
 use Rattle.config.specs.declared.fault.ConfigFault.{ConfigFault}
 use Rattle.config.specs.declared.fault.ConfigFault.TheVariants.{Memory, Text, Missing, Limit, IdTwice, RegionTwice, Overlap4, Overlap6, GatewayInPool, OffSubnet}
 use Rattle.types.specs.Addr.{number4, number6}
-use Rattle.config.specs.Broken.{IsEntry, IsCircuitOf, AreTwo, AreTwoRelays, HasSource, AreSame, ShareRegion, SharePool4, SharePool6, IsGatewayInPool, IsOffSubnet, IsTableOf, IsServerUnfit, IsRelayUnfit, IsCircuitUnfit, IsUnfit}
+use Rattle.config.specs.Broken.{IsEntry, IsCircuitOf, AreTwo, AreTwoRelays, HasSource, AreSame, ShareRegion, SharePool4, SharePool6, IsGatewayInPool, IsOffSubnet, IsEntryOf, HasServerKey, HasRelayKey, HasCircuitKey, RelayLacks, CircuitLacks, IsMissing, IsServerUnfit, IsRelayUnfit, IsCircuitUnfit, IsUnfit}
 use Rattle.config.specs.Fault.{number_of}
-use Rattle.config.specs.Keys.{HasAll}
+use Rattle.config.specs.Keys.{AllThere, HasServerKeys, HasRelayKeys, HasCircuitKeys, HasAll}
 use Rattle.config.specs.Field.{Field, Missing, Other, Value, HasValue}
 use Rattle.config.specs.Rules.{Settings, IsInPool4, IsInPool6, IsOnSubnet, NamesDiffer, RegionsDiffer, Pools4Apart, Pools6Apart, GatewaysOutside, OnSubnets, KeepsRules}
 use Rattle.config.specs.Tables.{ServerKeys, RelayKeys, CircuitKeys, Tables, tables_of}
@@ -106,9 +109,65 @@ unfit_is_unread t (Relay number key) s unfit h =
     let read = reads_entry IsRelay entries s.relays (number - 1) u.0 r u.1.there in
     relay_unfit u.0 key read.0 u.2 read.1) unfit h.relays
 unfit_is_unread t (Circuit circuit limit) s unfit h =
-    meet t.circuits (λ entries. (keys : CircuitKeys) × IsTableOf entries circuit keys × IsCircuitUnfit keys limit) (λ entries. EachReads (IsCircuit s.relays) entries s.circuits) ⊥ (λ entries u r.
-    let read = reads_entry (IsCircuit s.relays) entries s.circuits (circuit.number - 1) u.0 r u.1.entry.there in
+    meet t.circuits (λ entries. (keys : CircuitKeys) × IsEntryOf entries circuit (Value keys) × IsCircuitUnfit keys limit) (λ entries. EachReads (IsCircuit s.relays) entries s.circuits) ⊥ (λ entries u r.
+    let read = reads_entry (IsCircuit s.relays) entries s.circuits (circuit.number - 1) u.0 r u.1.is.there in
     circuit_unfit s.relays u.0 limit read.0 u.2 read.1) unfit h.circuits
+
+-- rule 42: what lacks a table or a key has not all
+
+has_server_key : (keys : ServerKeys) → HasServerKeys keys → (key : ServerKey) → HasServerKey keys key
+has_server_key keys h Listen4 = h.listen4
+has_server_key keys h Listen6 = h.listen6
+has_server_key keys h Duid = h.duid
+
+has_relay_key : (keys : RelayKeys) → HasRelayKeys keys → (key : RelayKey) → HasRelayKey keys key
+has_relay_key keys h Name = h.name
+has_relay_key keys h SourceKey = h.source
+
+has_circuit_key : (relays : List (Field RelayKeys)) (keys : CircuitKeys) → HasCircuitKeys relays keys → (key : CircuitKey) → HasCircuitKey relays keys key
+has_circuit_key relays keys h Id = h.id
+has_circuit_key relays keys h RelayOf = h.relay
+has_circuit_key relays keys h Region = h.region
+has_circuit_key relays keys h Lease = h.lease
+has_circuit_key relays keys h Gateway4 = h.gateway4
+has_circuit_key relays keys h Prefix4 = h.prefix4
+has_circuit_key relays keys h First4 = h.first4
+has_circuit_key relays keys h Count4 = h.count4
+has_circuit_key relays keys h Dns = h.dns
+has_circuit_key relays keys h Link6 = h.link6
+has_circuit_key relays keys h First6 = h.first6
+has_circuit_key relays keys h Count6 = h.count6
+
+-- what holds of a field's value does so of what follows from it
+weaker : {A : Type 0} (f : Field A) (P Q : A → Type 0) → ((a : A) → P a → Q a) → HasValue f P → HasValue f Q
+weaker Missing P Q so h = h
+weaker Other P Q so h = h
+weaker (Value a) P Q so h = so a h
+
+entry_there : {A : Type 0} (P : A → Type 0) (fs : List (Field A)) (n : ℕ) (f : Field A) → AllThere P fs → slice_get fs n ≡ Some f → HasValue f P
+entry_there P [] n f h e = absurd (cc)
+entry_there P (g ∷ gs) zero f h e = subst (λ q. HasValue q P) (same_Some g f e) h.0
+entry_there P (g ∷ gs) (suc n) f h e = entry_there P gs n f h.1 e
+
+relay_lacks : (entries : List (Field RelayKeys)) (number : ℕ) (key : RelayKey) → RelayLacks entries number key → AllThere HasRelayKeys entries → ⊥
+relay_lacks entries number key lacks all =
+    lacks.2 (weaker lacks.0 HasRelayKeys (λ keys. HasRelayKey keys key) (λ keys has. has_relay_key keys has key) (entry_there HasRelayKeys entries (number - 1) lacks.0 all lacks.1.there))
+
+circuit_lacks : (relays : List (Field RelayKeys)) (entries : List (Field CircuitKeys)) (circuit : CircuitRef) (key : CircuitKey) → CircuitLacks relays entries circuit key → AllThere (HasCircuitKeys relays) entries → ⊥
+circuit_lacks relays entries circuit key lacks all =
+    lacks.2 (weaker lacks.0 (HasCircuitKeys relays) (λ keys. HasCircuitKey relays keys key) (λ keys has. has_circuit_key relays keys has key) (entry_there (HasCircuitKeys relays) entries (circuit.number - 1) lacks.0 all lacks.1.is.there))
+
+missing_lacks : (t : Tables) (location : Location) → IsMissing t location → HasAll t → ⊥
+missing_lacks t (Table ServerTable) lacks h = lacks (weaker t.server HasServerKeys (λ _. ⊤) (λ _ _. tt) h.server)
+missing_lacks t (Table RelayTable) lacks h = lacks (weaker t.relays (AllThere HasRelayKeys) (λ _. ⊤) (λ _ _. tt) h.relays)
+missing_lacks t (Table CircuitTable) lacks h =
+    meet t.relays (AllThere HasRelayKeys) (λ relays. HasValue t.circuits (AllThere (HasCircuitKeys relays))) ⊥ (λ relays _ circuits. lacks (weaker t.circuits (AllThere (HasCircuitKeys relays)) (λ _. ⊤) (λ _ _. tt) circuits)) h.relays h.circuits
+missing_lacks t (AtServer key) lacks h = meet t.server (λ keys. HasServerKey keys key → ⊥) HasServerKeys ⊥ (λ keys l has. l (has_server_key keys has key)) lacks h.server
+missing_lacks t (AtRelay number key) lacks h =
+    meet t.relays (λ entries. RelayLacks entries number key) (AllThere HasRelayKeys) ⊥ (λ entries l all. relay_lacks entries number key l all) lacks h.relays
+missing_lacks t (AtCircuit circuit key) lacks h =
+    meet t.relays (λ relays. HasValue t.circuits (λ entries. CircuitLacks relays entries circuit key)) (λ relays. HasValue t.circuits (AllThere (HasCircuitKeys relays))) ⊥ (λ relays ls alls.
+    meet t.circuits (λ entries. CircuitLacks relays entries circuit key) (AllThere (HasCircuitKeys relays)) ⊥ (λ entries l all. circuit_lacks relays entries circuit key l all) ls alls) lacks h.circuits
 
 -- one text's settings
 
@@ -354,7 +413,7 @@ clash_rule text fault n doc parsed h p from less =
 clash : (text : List ℕ) (fault : ConfigFault) (n : ℕ) → fault ≢ Memory → IsFaultOf text fault → Passes text n → number_of fault < n → ⊥
 clash text Memory n other h p less = absurd (other refl)
 clash text (Text error) n other h p less = let e = sym h ∙ (p.parses less).1 in absurd (cc)
-clash text (Missing location) n other h p less = h.2 (p.all h.0 h.1 less)
+clash text (Missing location) n other h p less = missing_lacks (tables_of h.0) location h.2 (p.all h.0 h.1 less)
 clash text (Limit limit) n other h p less =
     let read = p.read h.0 h.1 less in
     unfit_is_unread (tables_of h.0) limit read.0 h.2.broken read.1

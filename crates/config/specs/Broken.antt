@@ -1,5 +1,5 @@
 -- What a fault points at: the entries, keys and values that break its rule.
-use Rattle.std.specs.Prelude.{◌≡◌, ◌≢◌, ℕ, ℤ, ◌+◌, ◌-◌, ◌^◌, ◌/◌, ◌≤◌, ◌<◌, List, length, slice_get, Some, IfSome}
+use Rattle.std.specs.Prelude.{◌≡◌, ◌≢◌, ℕ, ℤ, ◌+◌, ◌-◌, ◌^◌, ◌/◌, ◌≤◌, ◌<◌, List, length, slice_get, Some, IfSome, ⊤}
 use Rattle.types.specs.Addr.{number4, number6}
 use Rattle.types.specs.declared.addr.Addr4.{Addr4}
 use Rattle.types.specs.declared.addr.Addr6.{Addr6}
@@ -10,17 +10,21 @@ use Rattle.config.specs.declared.names.ServerKey.TheVariants.{Listen4, Listen6, 
 use Rattle.config.specs.declared.names.RelayKey.{RelayKey}
 use Rattle.config.specs.declared.names.RelayKey.TheVariants.{Name, Source as SourceKey}
 use Rattle.config.specs.declared.names.CircuitKey.{CircuitKey}
-use Rattle.config.specs.declared.names.CircuitKey.TheVariants.{Id, Region, Lease, Gateway4, Prefix4, First4, Count4, Dns, Link6, First6, Count6}
+use Rattle.config.specs.declared.names.CircuitKey.TheVariants.{Id, Relay as RelayOf, Region, Lease, Gateway4, Prefix4, First4, Count4, Dns, Link6, First6, Count6}
 use Rattle.config.specs.declared.limit_fault.Outside.{Outside}
 use Rattle.config.specs.declared.limit_fault.CircuitLimit.{CircuitLimit}
 use Rattle.config.specs.declared.limit_fault.CircuitLimit.TheVariants.{Number, Form, PastLast4, PastLast6}
 use Rattle.config.specs.declared.limit_fault.LimitFault.{LimitFault}
 use Rattle.config.specs.declared.limit_fault.LimitFault.TheVariants.{Relays, Circuits, Server, Relay, Circuit}
+use Rattle.config.specs.declared.names.TableName.TheVariants.{Server as ServerTable, Relay as RelayTable, Circuit as CircuitTable}
+use Rattle.config.specs.declared.fault.Location.{Location}
+use Rattle.config.specs.declared.fault.Location.TheVariants.{Table, Server as AtServer, Relay as AtRelay, Circuit as AtCircuit}
 use Rattle.config.specs.declared.fault.SameName.{SameName}
 use Rattle.config.specs.declared.fault.SameName.TheVariants.{Ids, Names, Sources, Listens, Listen4 as RelayListen4, Listen6 as RelayListen6}
 use Rattle.config.specs.declared.settings.RelayConfig.{RelayConfig}
 use Rattle.config.specs.declared.settings.CircuitConfig.{CircuitConfig}
-use Rattle.config.specs.Field.{Field, Value, HasValue}
+use Rattle.config.specs.Field.{Field, Value, HasValue, IsThere}
+use Rattle.config.specs.Keys.{AllThere, IsRelayName}
 use Rattle.config.specs.Rules.{Settings, IsInPool4, IsInPool6, IsHost}
 use Rattle.config.specs.Tables.{ServerKeys, RelayKeys, CircuitKeys, Tables}
 use Rattle.config.specs.Texts.{IsAddress, IsSource, IsAddress6}
@@ -31,12 +35,54 @@ pub record IsEntry {A : Type 0} (entries : List A) (number : ℕ) (entry : A) : 
   pub counted : 1 ≤ number
   pub there : slice_get entries (number - 1) ≡ Some entry
 
--- rule 43
+-- the entry of a circuit of the text, with the id that the text has there where one is named
+pub record IsEntryOf (entries : List (Field CircuitKeys)) (circuit : CircuitRef) (entry : Field CircuitKeys) : Type 0 where
+  pub is : IsEntry entries circuit.number entry
+  pub id : IfSome circuit.id (λ id. HasValue entry (λ keys. keys.id ≡ Value id))
 
--- the table of a circuit of the text, and its id where one is named
-pub record IsTableOf (entries : List (Field CircuitKeys)) (circuit : CircuitRef) (keys : CircuitKeys) : Type 0 where
-  pub entry : IsEntry entries circuit.number (Value keys)
-  pub id : IfSome circuit.id (λ id. keys.id ≡ Value id)
+-- rule 42
+
+-- a key of the server, of a relay, of a circuit is there and of its type
+abbrev pub HasServerKey : ServerKeys → ServerKey → Type 0
+HasServerKey keys Listen4 = IsThere keys.listen4
+HasServerKey keys Listen6 = IsThere keys.listen6
+HasServerKey keys Duid = IsThere keys.duid
+
+abbrev pub HasRelayKey : RelayKeys → RelayKey → Type 0
+HasRelayKey keys Name = IsThere keys.name
+HasRelayKey keys SourceKey = IsThere keys.source
+
+abbrev pub HasCircuitKey : List (Field RelayKeys) → CircuitKeys → CircuitKey → Type 0
+HasCircuitKey relays keys Id = IsThere keys.id
+HasCircuitKey relays keys RelayOf = HasValue keys.relay (IsRelayName relays)
+HasCircuitKey relays keys Region = IsThere keys.region
+HasCircuitKey relays keys Lease = IsThere keys.lease
+HasCircuitKey relays keys Gateway4 = IsThere keys.gateway4
+HasCircuitKey relays keys Prefix4 = IsThere keys.prefix4
+HasCircuitKey relays keys First4 = IsThere keys.first4
+HasCircuitKey relays keys Count4 = IsThere keys.count4
+HasCircuitKey relays keys Dns = HasValue keys.dns (AllThere (λ _. ⊤))
+HasCircuitKey relays keys Link6 = IsThere keys.link6
+HasCircuitKey relays keys First6 = IsThere keys.first6
+HasCircuitKey relays keys Count6 = IsThere keys.count6
+
+-- an entry of the list of relays, or of circuits, lacks this key; one that is no table lacks each
+abbrev pub RelayLacks : List (Field RelayKeys) → ℕ → RelayKey → Type 0
+RelayLacks entries number key = (entry : Field RelayKeys) × IsEntry entries number entry × ¬ HasValue entry (λ keys. HasRelayKey keys key)
+
+abbrev pub CircuitLacks : List (Field RelayKeys) → List (Field CircuitKeys) → CircuitRef → CircuitKey → Type 0
+CircuitLacks relays entries circuit key = (entry : Field CircuitKeys) × IsEntryOf entries circuit entry × ¬ HasValue entry (λ keys. HasCircuitKey relays keys key)
+
+-- The table or the key that the fault names is missing.
+abbrev pub IsMissing : Tables → Location → Type 0
+IsMissing t (Table ServerTable) = ¬ IsThere t.server
+IsMissing t (Table RelayTable) = ¬ IsThere t.relays
+IsMissing t (Table CircuitTable) = ¬ IsThere t.circuits
+IsMissing t (AtServer key) = HasValue t.server (λ keys. ¬ HasServerKey keys key)
+IsMissing t (AtRelay number key) = HasValue t.relays (λ entries. RelayLacks entries number key)
+IsMissing t (AtCircuit circuit key) = HasValue t.relays (λ relays. HasValue t.circuits (λ entries. CircuitLacks relays entries circuit key))
+
+-- rule 43
 
 -- the number at a key, which is not from `least` to `most`
 pub record IsOutside (field : Field ℤ) (least most : ℕ) (number : Outside) : Type 0 where
@@ -93,7 +139,7 @@ IsUnfit t (Relays n) = HasValue t.relays (λ entries. (length entries ≡ n) × 
 IsUnfit t (Circuits n) = HasValue t.circuits (λ entries. (length entries ≡ n) × (n ≢ 1))
 IsUnfit t (Server key) = HasValue t.server (λ keys. IsServerUnfit keys key)
 IsUnfit t (Relay number key) = HasValue t.relays (λ entries. (keys : RelayKeys) × IsEntry entries number (Value keys) × IsRelayUnfit keys key)
-IsUnfit t (Circuit circuit limit) = HasValue t.circuits (λ entries. (keys : CircuitKeys) × IsTableOf entries circuit keys × IsCircuitUnfit keys limit)
+IsUnfit t (Circuit circuit limit) = HasValue t.circuits (λ entries. (keys : CircuitKeys) × IsEntryOf entries circuit (Value keys) × IsCircuitUnfit keys limit)
 
 -- rules 44 to 49
 

@@ -5,7 +5,7 @@ use Rattle.toml.specs.Parse.{parse_document}
 use Rattle.config.specs.declared.limit_fault.LimitFault.{LimitFault}
 use Rattle.config.specs.declared.fault.ConfigFault.{ConfigFault}
 use Rattle.config.specs.declared.fault.ConfigFault.TheVariants.{Memory, Text, Missing, Limit, IdTwice, RegionTwice, Overlap4, Overlap6, GatewayInPool, OffSubnet}
-use Rattle.config.specs.Broken.{AreSame, ShareRegion, SharePool4, SharePool6, IsGatewayInPool, IsOffSubnet, IsUnfit}
+use Rattle.config.specs.Broken.{AreSame, ShareRegion, SharePool4, SharePool6, IsGatewayInPool, IsOffSubnet, IsMissing, IsUnfit}
 use Rattle.config.specs.Field.{Field, HasValue}
 use Rattle.config.specs.Keys.{HasAll}
 use Rattle.config.specs.Rules.{Settings, NamesDiffer, RegionsDiffer, Pools4Apart, Pools6Apart, GatewaysOutside, OnSubnets, KeepsRules}
@@ -69,7 +69,7 @@ pub record BreaksLimit (tables : Tables) (fault : LimitFault) : Type 0 where
 
 -- the fault is the least rule that the tables break
 abbrev pub IsLeastBroken : Tables → ConfigFault → Type 0
-IsLeastBroken tables (Missing location) = ¬ HasAll tables
+IsLeastBroken tables (Missing location) = IsMissing tables location
 IsLeastBroken tables (Limit limit) = BreaksLimit tables limit
 IsLeastBroken tables fault = BreaksRule tables fault
 

@@ -2,7 +2,7 @@
 ghost use Rattle.std.specs.Prelude.{◌≡◌, ◌≢◌, [], ◌∷◌, length, codes, IfOk, IfErr, IfSome, IfNone, ⊤};
 ghost use Rattle.toml.specs.View.{items_view, table_view};
 ghost use Rattle.config.specs.Field.{Value as Told, table_of, table_at, list_at, each};
-ghost use Rattle.config.specs.Broken.{IsUnfit};
+ghost use Rattle.config.specs.Broken.{IsMissing, IsUnfit};
 ghost use Rattle.config.specs.Keys.{AllThere, HasAll};
 ghost use Rattle.config.specs.Rules.{IsServerWithinLimits, IsRelayWithinLimits, IsWithinLimits, one_each};
 ghost use Rattle.config.specs.Tables.{circuit_keys, tables_of, found_tables};
@@ -18,7 +18,6 @@ use crate::settings::{CircuitConfig, RelayConfig, ServerConfig};
 use crate::values::id_at;
 use std::slice;
 use toml::{Table, Value};
-use types::CircuitId;
 
 /// The tables of a text, which have every key.
 #[derive(Clone, Copy)]
@@ -32,7 +31,7 @@ pub struct TextTables<'a> {
 pub fn tables_in<'a>(doc: &'a Table) -> Result<TextTables<'a>, Location>
     ensures tables { IfOk result (λ f. tables_of (table_view doc.now) ≡ found_tables (table_view f.server.now) (items_view f.relays.now) (items_view f.circuits.now)) }
     ensures all { IfOk result (λ _. HasAll (tables_of (table_view doc.now))) }
-    ensures lacks { IfErr result (λ _. ¬ HasAll (tables_of (table_view doc.now))) }
+    ensures lacks { IfErr result (IsMissing (tables_of (table_view doc.now))) }
 {
     let Some(server) = table_at(doc, "server") else {
         return Err(Location::Table(TableName::Server));
@@ -44,18 +43,14 @@ pub fn tables_in<'a>(doc: &'a Table) -> Result<TextTables<'a>, Location>
         return Err(Location::Table(TableName::Relay));
     };
     let relays = relays.as_slice();
-    if let Some((i, key)) = relays_lack(relays) {
-        return Err(Location::Relay(i.saturating_add(1), key));
+    if let Some((number, key)) = relays_lack(relays) {
+        return Err(Location::Relay(number, key));
     }
     let Some(circuits) = list_at(doc, "circuit") else {
         return Err(Location::Table(TableName::Circuit));
     };
     let circuits = circuits.as_slice();
-    if let Some((i, key)) = circuits_lack(circuits, relays) {
-        let circuit = CircuitRef {
-            number: i.saturating_add(1),
-            id: id_in(circuits, i),
-        };
+    if let Some((circuit, key)) = circuits_lack(circuits, relays) {
         return Err(Location::Circuit(circuit, key));
     }
     Ok(TextTables {
@@ -63,11 +58,6 @@ pub fn tables_in<'a>(doc: &'a Table) -> Result<TextTables<'a>, Location>
         relays,
         circuits,
     })
-}
-
-/// The id of an entry of the list of circuits, where it is a table with an id.
-fn id_in(circuits: &[Value], index: usize) -> Option<CircuitId> {
-    id_at(circuits.get(index)?.as_table()?, "id")
 }
 
 /// The only entry, where there is one. Each is a table.

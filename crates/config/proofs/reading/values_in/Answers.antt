@@ -48,7 +48,7 @@ returns-in-Err-circuit_of-clause-broken c =
     let one = one_entry circuit_keys (items_view c.args.circuits.now) _ c.in-Some-only_table.ensures.some in
     let entries = each circuit_entry (items_view c.args.circuits.now) in
     let there = ap (λ n. slice_get entries (n - 1)) c.named.ensures.number ∙ ap (λ es. slice_get es 0) one in
-    (_, record { entry = record { counted = omega (arith, c.named.ensures.number); there = there }; id = c.named.ensures.id }, c.in-Err-circuit_of.ensures.err)
+    (_, record { is = record { counted = omega (arith, c.named.ensures.number); there = there }; id = c.named.ensures.id }, c.in-Err-circuit_of.ensures.err)
 
 pub returns-clause-read : goal.returns-clause-read
 returns-clause-read c = record {
