@@ -29,12 +29,19 @@ macro_rules! found {
     };
 }
 
-/// The number at a key of a circuit, or the fault of one outside its limits.
+/// What was found at a key of a circuit, or that it is not of its form.
+macro_rules! formed {
+    ($found:expr, $key:ident) => {
+        found!($found, CircuitLimit::Form(CircuitKey::$key))
+    };
+}
+
+/// The number at a key of a circuit, or that it is outside its limits.
 macro_rules! number {
-    ($found:expr, $key:expr) => {
+    ($found:expr, $key:ident) => {
         match $found {
             Ok(number) => number,
-            Err(outside) => return Err(CircuitLimit::Number($key, outside)),
+            Err(outside) => return Err(CircuitLimit::Number(CircuitKey::$key, outside)),
         }
     };
 }
@@ -71,35 +78,18 @@ pub fn circuit_of(table: &Table, relays: &[RelayConfig]) -> Result<CircuitConfig
     ensures ok { IfOk result (IsCircuit relays.now (circuit_keys (table_view table.now))) }
     ensures err { IfErr result (IsCircuitUnfit (circuit_keys (table_view table.now))) }
 {
-    let id = found!(id_at(table, "id"), CircuitLimit::Form(CircuitKey::Id));
+    let id = formed!(id_at(table, "id"), Id);
     let Some(relay) = relay_at(table, "relay", relays) else {
         unreachable!()
     };
-    let region = number!(
-        number_at(table, "region", 0, MAX_REGION),
-        CircuitKey::Region
-    );
-    let lease = number!(
-        number_at(table, "lease", MIN_LEASE, MAX_LEASE),
-        CircuitKey::Lease
-    );
-    let gateway4 = found!(
-        address_at(table, "gateway4"),
-        CircuitLimit::Form(CircuitKey::Gateway4)
-    );
-    let prefix4 = number!(
-        number_at(table, "prefix4", MIN_PREFIX4, MAX_PREFIX4),
-        CircuitKey::Prefix4
-    );
+    let region = number!(number_at(table, "region", 0, MAX_REGION), Region);
+    let lease = number!(number_at(table, "lease", MIN_LEASE, MAX_LEASE), Lease);
+    let gateway4 = formed!(address_at(table, "gateway4"), Gateway4);
+    let prefix4 = number_at(table, "prefix4", MIN_PREFIX4, MAX_PREFIX4);
+    let prefix4 = number!(prefix4, Prefix4);
     let (first4, count4) = pool4_of(table)?;
-    let dns = found!(
-        addresses_at(table, "dns"),
-        CircuitLimit::Form(CircuitKey::Dns)
-    );
-    let link6 = found!(
-        address6_at(table, "link6"),
-        CircuitLimit::Form(CircuitKey::Link6)
-    );
+    let dns = formed!(addresses_at(table, "dns"), Dns);
+    let link6 = formed!(address6_at(table, "link6"), Link6);
     let (first6, count6) = pool6_of(table)?;
     Ok(CircuitConfig {
         id,
@@ -123,14 +113,8 @@ fn pool4_of(table: &Table) -> Result<(Addr4, u8), CircuitLimit>
     ensures ok { IfOk result (λ p. HasValue (circuit_keys (table_view table.now)).first4 (λ text. IsAddress text p.0) × IsNumber (circuit_keys (table_view table.now)).count4 1 16 p.1 × (number4 p.0 + p.1 ≤ 2 ^ 32)) }
     ensures err { IfErr result (IsCircuitUnfit (circuit_keys (table_view table.now))) }
 {
-    let first = found!(
-        address_at(table, "first4"),
-        CircuitLimit::Form(CircuitKey::First4)
-    );
-    let count = number!(
-        number_at(table, "count4", 1, MAX_POOL as u32),
-        CircuitKey::Count4
-    );
+    let first = formed!(address_at(table, "first4"), First4);
+    let count = number!(number_at(table, "count4", 1, MAX_POOL as u32), Count4);
     if !is_within4(first, count as u8) {
         return Err(CircuitLimit::PastLast4);
     }
@@ -143,14 +127,8 @@ fn pool6_of(table: &Table) -> Result<(Addr6, u8), CircuitLimit>
     ensures ok { IfOk result (λ p. HasValue (circuit_keys (table_view table.now)).first6 (λ text. IsAddress6 text p.0) × IsNumber (circuit_keys (table_view table.now)).count6 1 16 p.1 × (number6 p.0 + p.1 ≤ 2 ^ 128)) }
     ensures err { IfErr result (IsCircuitUnfit (circuit_keys (table_view table.now))) }
 {
-    let first = found!(
-        address6_at(table, "first6"),
-        CircuitLimit::Form(CircuitKey::First6)
-    );
-    let count = number!(
-        number_at(table, "count6", 1, MAX_POOL as u32),
-        CircuitKey::Count6
-    );
+    let first = formed!(address6_at(table, "first6"), First6);
+    let count = number!(number_at(table, "count6", 1, MAX_POOL as u32), Count6);
     if !is_within6(first, count as u8) {
         return Err(CircuitLimit::PastLast6);
     }

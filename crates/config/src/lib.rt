@@ -26,6 +26,6 @@ pub use config::Config;
 pub use fault::{ConfigFault, Location, SameName};
 pub use laws::{no_fault, one_configuration, one_number};
 pub use limit_fault::{CircuitLimit, LimitFault, Outside};
-pub use limits::{MAX_DNS, MAX_NAME, MAX_PREFIX4, MIN_PREFIX4, READ_CIRCUITS, READ_RELAYS};
+pub use limits::{MAX_DNS, MAX_NAME, MAX_PREFIX4, MIN_PREFIX4};
 pub use names::{CircuitKey, CircuitRef, RelayKey, ServerKey, TableName};
 pub use settings::{CircuitConfig, RelayConfig, ServerConfig};
