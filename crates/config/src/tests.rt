@@ -226,7 +226,8 @@ fn one_line_edited(rt: HostRuntime) -> Result<(), AllocError> {
 
 /// Two edits, and the number of the lesser rule.
 #[rattlefmt::skip]
-const PAIRS: [((&str, &str), (&str, &str), u8); 19] = [
+const PAIRS: [((&str, &str), (&str, &str), u8); 20] = [
+    (("prefix4", "prefix4 = 30"), ("first4", "first4 = '10.0.0.2'"), 0),
     (("id", ""), ("lease", "lease = 59"), 42),
     (("lease", "lease = 59"), ("listen6", "listen6 = '127.0.0.1:6767'"), 43),
     (("source", "source = '127.0.0.1:6767'"), ("gateway4", "gateway4 = '10.0.0.10'"), 44),
@@ -303,7 +304,7 @@ type Words = (&'static str, &'static str, &'static str);
 
 /// The texts of faults 42, 43, 44, 48 and 49.
 #[rattlefmt::skip]
-const WORDS: [Words; 34] = [
+const WORDS: [Words; 38] = [
     ("[server]", "[other]", "server is missing, or no table"),
     ("[[relay]]", "[relay]", "relay is missing, or no list of tables"),
     ("[[circuit]]", "[circuit]", "circuit is missing, or no list of tables"),
@@ -312,6 +313,10 @@ const WORDS: [Words; 34] = [
     ("id", "", "circuit 1: id is missing, or no text"),
     ("id", "id = ''\nmore = 1\n[[circuit]]", "circuit 1: relay is missing, or no relay's name"),
     ("relay", "relay = 'r2'", "circuit \"a\": relay is missing, or no relay's name"),
+    ("source", "source = '127.0.0.1:6801'\n[[relay]]\nname = 'r2'", "relay 2: source is missing, or no text"),
+    ("count6", "count6 = 1\n[[circuit]]", "circuit 2: id is missing, or no text"),
+    ("count6", "count6 = 1\n[[circuit]]\nid = 'a1'\nrelay = 'r1'", "circuit \"a1\": region is missing, or no whole number"),
+    ("source", "source = '127.0.0.1:6801'\n[[relay]]\nname = 'r2'\nsource = '127.0.0.1:6802'", "the number of relays is 2: for now a configuration has 1"),
     ("lease", "lease = '600'", "circuit \"a\": lease is missing, or no whole number"),
     ("dns", "dns = [1]", "circuit \"a\": dns is missing, or no list of texts"),
     ("first6", "", "circuit \"a\": first6 is missing, or no text"),
@@ -429,6 +434,20 @@ fn faults_of_two_have_words(rt: HostRuntime) -> Result<(), AllocError> {
     for (fault, wanted) in rows {
         let words = format!(in rt.alloc(); "{fault}")?;
         assert_eq!(rt; words.as_str(), wanted);
+    }
+    Ok(())
+}
+
+/// The shortest and the longest DUID, and those beside them.
+#[test]
+fn duids_at_their_limits(rt: HostRuntime) -> Result<(), AllocError> {
+    for (bytes, wanted) in [(2, 43), (3, 0), (128, 0), (130, 0), (131, 43)] {
+        let mut digits = String::new(rt.alloc());
+        for _ in 0..bytes {
+            digits.push_str("0a")?;
+        }
+        let text = ONE_CIRCUIT.replace(rt.alloc(), "00030001020000000001", digits.as_str())?;
+        assert_eq!(rt; number(rt.alloc(), text.as_str()), wanted);
     }
     Ok(())
 }
