@@ -1,5 +1,5 @@
 -- One text has one configuration, or faults of one number.
-use Rattle.std.proofs.Common.{◌≡◌, ◌≢◌, ◌+◌, ◌-◌, ◌<◌, ◌≤◌, ℕ, zero, suc, List, [], ◌∷◌, length, get_or, Option, Some, None, option_map, refl, ap, sym, subst, ◌∙◌, arith}
+use Rattle.std.proofs.Common.{◌≡◌, ◌≢◌, ◌-◌, ◌<◌, ◌≤◌, ℕ, zero, suc, List, [], ◌∷◌, length, get_or, Option, Some, None, option_map, refl, ap, sym, subst, ◌∙◌, arith}
 use Rattle.std.specs.Prelude.{All, AllPairs, slice_get, ⊤}
 use Rattle.std.specs.Int.{w32, w128, from_be_bytes}
 use Rattle.std.proofs.lemmas.Option.{slice_get_within, same_Some, slice_get-get_or}
@@ -27,13 +27,13 @@ use Rattle.config.specs.declared.fault.SameName.TheVariants.{Ids, Names, Sources
 use Rattle.config.specs.declared.fault.ConfigFault.{ConfigFault}
 use Rattle.config.specs.declared.fault.ConfigFault.TheVariants.{Memory, Text, Missing, Limit, IdTwice, RegionTwice, Overlap4, Overlap6, GatewayInPool, OffSubnet}
 use Rattle.types.specs.Addr.{number4, number6}
-use Rattle.config.specs.Broken.{IsEntry, IsCircuitOf, AreTwo, AreTwoRelays, HasSource, AreSame, ShareRegion, SharePool4, SharePool6, IsGatewayInPool, IsOffSubnet, IsEntryOf, HasServerKey, HasRelayKey, HasCircuitKey, RelayLacks, CircuitLacks, IsMissing, IsServerUnfit, IsRelayUnfit, IsCircuitUnfit, IsUnfit}
+use Rattle.config.specs.Broken.{IsEntry, AreSame, ShareRegion, SharePool4, SharePool6, IsGatewayInPool, IsOffSubnet, IsEntryOf, HasServerKey, HasRelayKey, HasCircuitKey, RelayLacks, CircuitLacks, IsMissing, IsServerUnfit, IsRelayUnfit, IsCircuitUnfit, IsUnfit}
 use Rattle.config.specs.Fault.{number_of}
 use Rattle.config.specs.Keys.{AllThere, HasServerKeys, HasRelayKeys, HasCircuitKeys, HasAll}
 use Rattle.config.specs.Field.{Field, Missing, Other, Value, HasValue}
 use Rattle.config.specs.Rules.{Settings, IsInPool4, IsInPool6, IsOnSubnet, NamesDiffer, RegionsDiffer, Pools4Apart, Pools6Apart, GatewaysOutside, OnSubnets, KeepsRules}
 use Rattle.config.specs.Tables.{ServerKeys, RelayKeys, CircuitKeys, Tables, tables_of}
-use Rattle.config.specs.Valid.{EachReads, IsRead, IsValid, BreaksRule, IsLeastRule, IsLeastBroken, IsConfig, IsFaultOf}
+use Rattle.config.specs.Valid.{EachReads, IsRead, IsValid, BreaksRule, IsLeastRule, IsConfig, IsFaultOf}
 use Rattle.config.specs.Values.{IsNameAt, IsServer, IsRelay, IsCircuit}
 use Rattle.config.proofs.SameLemmas.{meet, same_address, same_address6, same_number, same_name, same_id, same_duid, same_source, same_addresses}
 

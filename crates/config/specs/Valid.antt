@@ -8,7 +8,7 @@ use Rattle.config.specs.declared.fault.ConfigFault.TheVariants.{Memory, Text, Mi
 use Rattle.config.specs.Broken.{AreSame, ShareRegion, SharePool4, SharePool6, IsGatewayInPool, IsOffSubnet, IsMissing, IsUnfit}
 use Rattle.config.specs.Field.{Field, HasValue}
 use Rattle.config.specs.Keys.{HasAll}
-use Rattle.config.specs.Rules.{Settings, NamesDiffer, RegionsDiffer, Pools4Apart, Pools6Apart, GatewaysOutside, OnSubnets, KeepsRules}
+use Rattle.config.specs.Rules.{Settings, NamesDiffer, RegionsDiffer, Pools4Apart, Pools6Apart, GatewaysOutside, KeepsRules}
 use Rattle.config.specs.Tables.{Tables, tables_of}
 use Rattle.config.specs.Values.{IsServer, IsRelay, IsCircuit}
 

@@ -1,4 +1,4 @@
-use Rattle.std.proofs.Common.{sym, ap, ◌∙◌}
+use Rattle.std.proofs.Common.{ap}
 use Rattle.config.proofs.PartLemmas.{gateway_is_given, is_part, part_there}
 use Rattle.config.proofs.circuit_part.CircuitPart.of.Goals as goal
 
