@@ -1,5 +1,5 @@
 -- The entries of a list from one on, and the addresses that they spell.
-use Rattle.std.proofs.Common.{◌≡◌, ℕ, ◌+◌, ◌<◌, ◌≤◌, List, [], ◌∷◌, ◌++◌, append_assoc, append-nil, length-append, length, get_or, drop, Option, Some, ap, subst, sym, refl, arith}
+use Rattle.std.proofs.Common.{◌≡◌, ℕ, zero, suc, slice_get, ◌+◌, ◌<◌, ◌≤◌, List, [], ◌∷◌, ◌++◌, append_assoc, append-nil, length-append, length, get_or, drop, Option, Some, ap, subst, sym, refl, arith}
 use Rattle.std.proofs.lemmas.List.{at_drop_all}
 use Rattle.toml.specs.Data.{Data}
 use Rattle.toml.specs.View.{view, items_view}
@@ -17,6 +17,12 @@ entries_from f vs i = each f (items_view (drop i vs))
 
 pub entries_step : {A : Type 0} (f : Option Data → Field A) (vs : List Value) (i : ℕ) (d : Value) → i < length vs → entries_from f vs i ≡ f (Some (view (get_or vs i d))) ∷ entries_from f vs (i + 1)
 entries_step f vs i d h = ap (each f) (items_view-drop vs i d h)
+
+-- the entry at an index
+pub entry_at : {A : Type 0} (f : Option Data → Field A) (vs : List Value) (i : ℕ) (d : Value) → i < length vs → slice_get (each f (items_view vs)) i ≡ Some (f (Some (view (get_or vs i d))))
+entry_at f [] i d h = absurd (omega arith)
+entry_at f (v ∷ vs) zero d h = refl
+entry_at f (v ∷ vs) (suc i) d h = entry_at f vs i d (omega arith)
 
 -- what a loop over texts has found after i of them
 pub record HasRead (texts : List Value) (i : ℕ) (found : List Addr4) : Type 0 where

@@ -1,4 +1,5 @@
 pub mod EntryLemmas
+pub mod LawLemmas
 pub mod NameLemmas
 pub mod OneLemmas
 pub mod PartLemmas

@@ -1,11 +1,13 @@
 -- The rules for one relay and one circuit.
-use Rattle.std.proofs.Common.{◌≢◌, ℕ, zero, suc, [], ◌∷◌, arith, lit<}
-use Rattle.std.specs.Prelude.{All, AllPairs}
+use Rattle.std.proofs.Common.{◌≡◌, ◌≢◌, ◌-◌, ℕ, zero, suc, [], ◌∷◌, Some, ap, arith}
+use Rattle.std.specs.Prelude.{All, AllPairs, slice_get}
 use Rattle.types.specs.Addr.{number4, number6}
+use Rattle.config.specs.declared.names.CircuitRef.{CircuitRef}
 use Rattle.config.specs.declared.settings.ServerConfig.{ServerConfig}
 use Rattle.config.specs.declared.settings.RelayConfig.{RelayConfig}
 use Rattle.config.specs.declared.settings.CircuitConfig.{CircuitConfig}
-use Rattle.config.specs.Rules.{one_each, IsInPool4, IsInPool6, NamesDiffer, RegionsDiffer, Pools4Apart, Pools6Apart, GatewaysOutside, IsOnSubnet, OnSubnets}
+use Rattle.config.specs.Broken.{IsCircuitOf}
+use Rattle.config.specs.Rules.{one_each, IsInPool4, IsInPool6, NamesDiffer, RegionsDiffer, Pools4Apart, Pools6Apart, GatewaysOutside}
 
 pub pairs_one : {X : Type 0} (R : X → X → Type 0) (x : X) → AllPairs R (x ∷ [])
 pairs_one R x i j d before inside = absurd (omega arith)
@@ -13,9 +15,6 @@ pairs_one R x i j d before inside = absurd (omega arith)
 pub all_one : {X : Type 0} (P : X → Type 0) (x : X) → P x → All P (x ∷ [])
 all_one P x h zero d inside = h
 all_one P x h (suc k) d inside = absurd (omega arith)
-
-pub from_one : {X : Type 0} (P : X → Type 0) (x : X) → All P (x ∷ []) → P x
-from_one P x h = h 0 x (lit< tt)
 
 pub regions_one : (s : ServerConfig) (r : RelayConfig) (c : CircuitConfig) → RegionsDiffer (one_each s r c)
 regions_one s r c = pairs_one (λ x y. x.region ≢ y.region) c
@@ -42,11 +41,9 @@ gateways_one s r c four six = record {
   six = all_one (λ x. All (λ y. IsInPool6 y (number6 x.link6) → ⊥) (c ∷ [])) c (all_one (λ y. IsInPool6 y (number6 c.link6) → ⊥) c six);
 }
 
-pub gateway4_one : (s : ServerConfig) (r : RelayConfig) (c : CircuitConfig) → IsInPool4 c (number4 c.gateway4) → GatewaysOutside (one_each s r c) → ⊥
-gateway4_one s r c inside h = h.four 0 c (lit< tt) 0 c (lit< tt) inside
-
-pub link6_one : (s : ServerConfig) (r : RelayConfig) (c : CircuitConfig) → IsInPool6 c (number6 c.link6) → GatewaysOutside (one_each s r c) → ⊥
-link6_one s r c inside h = h.six 0 c (lit< tt) 0 c (lit< tt) inside
-
-pub subnet_one : (s : ServerConfig) (r : RelayConfig) (c : CircuitConfig) → OnSubnets (one_each s r c) → IsOnSubnet c
-subnet_one s r c h = h 0 c (lit< tt)
+-- the only circuit is the first
+pub only_circuit : (s : ServerConfig) (r : RelayConfig) (c : CircuitConfig) (named : CircuitRef) → named.number ≡ 1 → named.id ≡ Some c.id → IsCircuitOf (one_each s r c) named c
+only_circuit s r c named number id = record {
+  entry = record { counted = omega arith; there = ap (λ n. slice_get (c ∷ []) (n - 1)) number };
+  id = id;
+}

@@ -67,7 +67,7 @@ is_part settings c circuit copy relay listen4 listen6 duid there copied limits s
     let P : CircuitConfig → Type 0 = λ x. IsPart (part_of x relay listen4 listen6 duid) in
     subst P (sym copied) (record {
       id = limits.id;
-      pool4 = record { least = limits.least_count4; most = limits.most_count4; no_wrap = limits.no_wrap4; shortest = limits.least_lease; longest = limits.most_lease };
+      pool4 = limits.pool4;
       gateway4_size = size;
       gateway4 = gateway_is_given settings c circuit there sound;
     })

@@ -7,10 +7,10 @@ abbrev pub number_of : ConfigFault → ℕ
 number_of Memory = 40
 number_of (Text error) = 41
 number_of (Missing location) = 42
-number_of (Limit location) = 43
-number_of (IdTwice first second) = 44
+number_of (Limit limit) = 43
+number_of (IdTwice same) = 44
 number_of (RegionTwice first second) = 45
 number_of (Overlap4 first second) = 46
 number_of (Overlap6 first second) = 47
-number_of (GatewayInPool location circuit) = 48
-number_of (OffSubnet location) = 49
+number_of (GatewayInPool circuit key owner) = 48
+number_of (OffSubnet circuit key) = 49

@@ -1,3 +1,4 @@
+pub mod Broken
 pub mod CircuitPart
 pub mod Fault
 pub mod Field

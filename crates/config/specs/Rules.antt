@@ -2,9 +2,7 @@
 use Rattle.std.specs.Prelude.{◌≡◌, ◌≢◌, ℕ, ◌+◌, ◌-◌, ◌/◌, ◌%◌, ◌^◌, ◌≤◌, ◌<◌, List, [], ◌∷◌, length, slice_get, option_map, Some, All, AllPairs}
 use Rattle.types.specs.Addr.{number4, number6}
 use Rattle.types.specs.CircuitId.{IsCircuitId}
-use Rattle.types.specs.declared.pool4.TheConstants.{MAX_POOL, MIN_LEASE, MAX_LEASE}
-use Rattle.types.specs.declared.limits.TheConstants.{MAX_RELAYS, MAX_CIRCUITS, MAX_REGION}
-use Rattle.config.specs.declared.limits.TheConstants.{MIN_PREFIX4, MAX_PREFIX4, MAX_DNS, READ_CIRCUITS}
+use Rattle.types.specs.Pool4.{IsPool4}
 use Rattle.config.specs.declared.settings.ServerConfig.{ServerConfig}
 use Rattle.config.specs.declared.settings.RelayConfig.{RelayConfig}
 use Rattle.config.specs.declared.settings.CircuitConfig.{CircuitConfig}
@@ -71,21 +69,33 @@ pub record IsOnSubnet (circuit : CircuitConfig) : Type 0 where
 abbrev pub OnSubnets : Settings → Type 0
 OnSubnets settings = All IsOnSubnet settings.circuits
 
+-- the limits of the server's values
+pub record IsServerWithinLimits (server : ServerConfig) : Type 0 where
+  pub least_port4 : 1 ≤ server.listen4.port
+  pub most_port4 : server.listen4.port ≤ 65535
+  pub least_port6 : 1 ≤ server.listen6.port
+  pub most_port6 : server.listen6.port ≤ 65535
+  pub least_duid : 3 ≤ length server.duid.items
+  pub most_duid : length server.duid.items ≤ 130
+
+-- the limits of a relay's values
+pub record IsRelayWithinLimits (relay : RelayConfig) : Type 0 where
+  pub least_name : 1 ≤ length relay.name.items
+  pub most_name : length relay.name.items ≤ 32
+  pub least_port : 1 ≤ relay.source.port
+  pub most_port : relay.source.port ≤ 65535
+
 -- the limits of a circuit's values
 pub record IsWithinLimits (relays : List RelayConfig) (circuit : CircuitConfig) : Type 0 where
   pub id : IsCircuitId circuit.id
   pub relay : circuit.relay < length relays
-  pub region : circuit.region ≤ MAX_REGION
-  pub least_lease : MIN_LEASE ≤ circuit.lease
-  pub most_lease : circuit.lease ≤ MAX_LEASE
-  pub least_prefix4 : MIN_PREFIX4 ≤ circuit.prefix4
-  pub most_prefix4 : circuit.prefix4 ≤ MAX_PREFIX4
-  pub least_count4 : 1 ≤ circuit.count4
-  pub most_count4 : circuit.count4 ≤ MAX_POOL
-  pub no_wrap4 : number4 circuit.first4 + circuit.count4 ≤ 2 ^ 32
-  pub few_dns : length circuit.dns.items ≤ MAX_DNS
+  pub region : circuit.region ≤ 1023
+  pub pool4 : IsPool4 circuit.first4 circuit.count4 circuit.lease
+  pub least_prefix4 : 8 ≤ circuit.prefix4
+  pub most_prefix4 : circuit.prefix4 ≤ 30
+  pub few_dns : length circuit.dns.items ≤ 4
   pub least_count6 : 1 ≤ circuit.count6
-  pub most_count6 : circuit.count6 ≤ MAX_POOL
+  pub most_count6 : circuit.count6 ≤ 16
   pub no_wrap6 : number6 circuit.first6 + circuit.count6 ≤ 2 ^ 128
 
 -- the rules 44 to 49
@@ -99,11 +109,13 @@ pub record KeepsRules (settings : Settings) : Type 0 where
 
 -- what holds of every configuration that was read
 pub record IsSound (settings : Settings) : Type 0 where
-  pub relays : length settings.relays ≤ MAX_RELAYS
-  pub circuits : length settings.circuits ≤ MAX_CIRCUITS
+  pub relays : length settings.relays ≤ 8
+  pub circuits : length settings.circuits ≤ 1024
   pub some_circuit : 1 ≤ length settings.circuits
   -- for now no more are read
-  pub few_circuits : length settings.circuits ≤ READ_CIRCUITS
+  pub few_circuits : length settings.circuits ≤ 1
+  pub server : IsServerWithinLimits settings.server
+  pub each_relay : All IsRelayWithinLimits settings.relays
   pub limits : All (IsWithinLimits settings.relays) settings.circuits
   pub rules : KeepsRules settings
 

@@ -2,12 +2,13 @@
 use Rattle.std.specs.Prelude.{◌≡◌, ℕ, ◌≤◌, List, [], ◌∷◌, length, Some, None, ⊤}
 use Rattle.toml.specs.Data.{Members}
 use Rattle.toml.specs.Parse.{parse_document}
-use Rattle.config.specs.declared.limits.TheConstants.{READ_RELAYS, READ_CIRCUITS}
+use Rattle.config.specs.declared.limit_fault.LimitFault.{LimitFault}
 use Rattle.config.specs.declared.fault.ConfigFault.{ConfigFault}
 use Rattle.config.specs.declared.fault.ConfigFault.TheVariants.{Memory, Text, Missing, Limit, IdTwice, RegionTwice, Overlap4, Overlap6, GatewayInPool, OffSubnet}
+use Rattle.config.specs.Broken.{AreSame, ShareRegion, SharePool4, SharePool6, IsGatewayInPool, IsOffSubnet, IsMissing, IsUnfit}
 use Rattle.config.specs.Field.{Field, HasValue}
 use Rattle.config.specs.Keys.{HasAll}
-use Rattle.config.specs.Rules.{Settings, NamesDiffer, RegionsDiffer, Pools4Apart, Pools6Apart, GatewaysOutside, OnSubnets, KeepsRules}
+use Rattle.config.specs.Rules.{Settings, NamesDiffer, RegionsDiffer, Pools4Apart, Pools6Apart, GatewaysOutside, KeepsRules}
 use Rattle.config.specs.Tables.{Tables, tables_of}
 use Rattle.config.specs.Values.{IsServer, IsRelay, IsCircuit}
 
@@ -23,10 +24,11 @@ pub record IsRead (tables : Tables) (settings : Settings) : Type 0 where
   pub server : HasValue tables.server (λ keys. IsServer keys settings.server)
   pub relays : HasValue tables.relays (λ entries. EachReads IsRelay entries settings.relays)
   pub some_relay : 1 ≤ length settings.relays
-  pub few_relays : length settings.relays ≤ READ_RELAYS
+  -- for now one relay and one circuit are read
+  pub few_relays : length settings.relays ≤ 1
   pub circuits : HasValue tables.circuits (λ entries. EachReads (IsCircuit settings.relays) entries settings.circuits)
   pub some_circuit : 1 ≤ length settings.circuits
-  pub few_circuits : length settings.circuits ≤ READ_CIRCUITS
+  pub few_circuits : length settings.circuits ≤ 1
 
 -- no rule is broken, and these are the values
 pub record IsValid (tables : Tables) (settings : Settings) : Type 0 where
@@ -37,20 +39,21 @@ pub record IsValid (tables : Tables) (settings : Settings) : Type 0 where
   -- rules 44 to 49
   pub rules : KeepsRules settings
 
--- the fault is the least of the rules 44 to 49 that the settings break
+-- The fault is the least of the rules 44 to 49 that the settings break, and the entries that it names
+-- break it.
 abbrev pub IsLeastRule : Settings → ConfigFault → Type 0
-IsLeastRule s (IdTwice first second) = ¬ NamesDiffer s
-IsLeastRule s (RegionTwice first second) = NamesDiffer s × ¬ RegionsDiffer s
-IsLeastRule s (Overlap4 first second) = NamesDiffer s × RegionsDiffer s × ¬ Pools4Apart s
-IsLeastRule s (Overlap6 first second) = NamesDiffer s × RegionsDiffer s × Pools4Apart s × ¬ Pools6Apart s
-IsLeastRule s (GatewayInPool location circuit) =
-    NamesDiffer s × RegionsDiffer s × Pools4Apart s × Pools6Apart s × ¬ GatewaysOutside s
-IsLeastRule s (OffSubnet location) =
-    NamesDiffer s × RegionsDiffer s × Pools4Apart s × Pools6Apart s × GatewaysOutside s × ¬ OnSubnets s
+IsLeastRule s (IdTwice same) = AreSame s same
+IsLeastRule s (RegionTwice first second) = NamesDiffer s × ShareRegion s first second
+IsLeastRule s (Overlap4 first second) = NamesDiffer s × RegionsDiffer s × SharePool4 s first second
+IsLeastRule s (Overlap6 first second) = NamesDiffer s × RegionsDiffer s × Pools4Apart s × SharePool6 s first second
+IsLeastRule s (GatewayInPool circuit key owner) =
+    NamesDiffer s × RegionsDiffer s × Pools4Apart s × Pools6Apart s × IsGatewayInPool s circuit key owner
+IsLeastRule s (OffSubnet circuit key) =
+    NamesDiffer s × RegionsDiffer s × Pools4Apart s × Pools6Apart s × GatewaysOutside s × IsOffSubnet s circuit key
 IsLeastRule s Memory = ⊥
 IsLeastRule s (Text error) = ⊥
 IsLeastRule s (Missing location) = ⊥
-IsLeastRule s (Limit location) = ⊥
+IsLeastRule s (Limit limit) = ⊥
 
 -- the settings that are read break a rule, and the fault is the least one
 pub record BreaksRule (tables : Tables) (fault : ConfigFault) : Type 0 where
@@ -59,22 +62,22 @@ pub record BreaksRule (tables : Tables) (fault : ConfigFault) : Type 0 where
   pub read : IsRead tables settings
   pub broken : IsLeastRule settings fault
 
--- no values within their limits are read
-pub record BreaksLimit (tables : Tables) : Type 0 where
+-- no values within their limits are read, and the fault names one that is not
+pub record BreaksLimit (tables : Tables) (fault : LimitFault) : Type 0 where
   pub all : HasAll tables
-  pub broken : (settings : Settings) → ¬ IsRead tables settings
+  pub broken : IsUnfit tables fault
 
 -- the fault is the least rule that the tables break
 abbrev pub IsLeastBroken : Tables → ConfigFault → Type 0
-IsLeastBroken tables (Missing location) = ¬ HasAll tables
-IsLeastBroken tables (Limit location) = BreaksLimit tables
+IsLeastBroken tables (Missing location) = IsMissing tables location
+IsLeastBroken tables (Limit limit) = BreaksLimit tables limit
 IsLeastBroken tables fault = BreaksRule tables fault
 
 -- the text is a configuration with these settings
 abbrev pub IsConfig : List ℕ → Settings → Type 0
 IsConfig text settings = (doc : Members) × (parse_document text ≡ Some doc) × IsValid (tables_of doc) settings
 
--- The fault is right for the text. Want of memory says nothing of it.
+-- The fault is right for the text. Out of memory says nothing of it.
 abbrev pub IsFaultOf : List ℕ → ConfigFault → Type 0
 IsFaultOf text Memory = ⊤
 IsFaultOf text (Text error) = parse_document text ≡ None

@@ -4,9 +4,6 @@ use Rattle.hex.specs.Hex.{decode_sized}
 use Rattle.types.specs.Addr.{number4, number6}
 use Rattle.types.specs.CircuitId.{IsCircuitId}
 use Rattle.types.specs.declared.addr.Addr4.{Addr4}
-use Rattle.types.specs.declared.limits.TheConstants.{MIN_DUID, MAX_DUID, MAX_REGION}
-use Rattle.types.specs.declared.pool4.TheConstants.{MAX_POOL, MIN_LEASE, MAX_LEASE}
-use Rattle.config.specs.declared.limits.TheConstants.{MAX_NAME, MIN_PREFIX4, MAX_PREFIX4, MAX_DNS}
 use Rattle.config.specs.declared.settings.ServerConfig.{ServerConfig}
 use Rattle.config.specs.declared.settings.RelayConfig.{RelayConfig}
 use Rattle.config.specs.declared.settings.CircuitConfig.{CircuitConfig}
@@ -24,13 +21,13 @@ pub record IsNumber (field : Field ℤ) (least most n : ℕ) : Type 0 where
 pub record IsName (text name : List ℕ) : Type 0 where
   pub value : text ≡ name
   pub least : 1 ≤ length name
-  pub most : length name ≤ MAX_NAME
+  pub most : length name ≤ 32
 
 -- two hexadecimal digits of either case for each of the 3 to 130 bytes
 pub record IsDuid (text duid : List ℕ) : Type 0 where
   pub spelled : decode_sized text (length duid) ≡ Ok duid
-  pub least : MIN_DUID ≤ length duid
-  pub most : length duid ≤ MAX_DUID
+  pub least : 3 ≤ length duid
+  pub most : length duid ≤ 130
 
 -- the text itself, of 1 to 32 visible characters
 pub record IsId (text id : List ℕ) : Type 0 where
@@ -60,16 +57,16 @@ pub record IsRelay (keys : RelayKeys) (relay : RelayConfig) : Type 0 where
 pub record IsCircuit (relays : List RelayConfig) (keys : CircuitKeys) (circuit : CircuitConfig) : Type 0 where
   pub id : HasValue keys.id (λ text. IsId text circuit.id)
   pub relay : HasValue keys.relay (IsNameAt relays circuit.relay)
-  pub region : IsNumber keys.region 0 MAX_REGION circuit.region
-  pub lease : IsNumber keys.lease MIN_LEASE MAX_LEASE circuit.lease
+  pub region : IsNumber keys.region 0 1023 circuit.region
+  pub lease : IsNumber keys.lease 60 604800 circuit.lease
   pub gateway4 : HasValue keys.gateway4 (λ text. IsAddress text circuit.gateway4)
-  pub prefix4 : IsNumber keys.prefix4 MIN_PREFIX4 MAX_PREFIX4 circuit.prefix4
+  pub prefix4 : IsNumber keys.prefix4 8 30 circuit.prefix4
   pub first4 : HasValue keys.first4 (λ text. IsAddress text circuit.first4)
-  pub count4 : IsNumber keys.count4 1 MAX_POOL circuit.count4
+  pub count4 : IsNumber keys.count4 1 16 circuit.count4
   pub no_wrap4 : number4 circuit.first4 + circuit.count4 ≤ 2 ^ 32
   pub dns : HasValue keys.dns (λ texts. AreAddresses texts circuit.dns.items)
-  pub few_dns : length circuit.dns.items ≤ MAX_DNS
+  pub few_dns : length circuit.dns.items ≤ 4
   pub link6 : HasValue keys.link6 (λ text. IsAddress6 text circuit.link6)
   pub first6 : HasValue keys.first6 (λ text. IsAddress6 text circuit.first6)
-  pub count6 : IsNumber keys.count6 1 MAX_POOL circuit.count6
+  pub count6 : IsNumber keys.count6 1 16 circuit.count6
   pub no_wrap6 : number6 circuit.first6 + circuit.count6 ≤ 2 ^ 128

@@ -41,9 +41,7 @@ impl CircuitPart {
         ensures sound { IsPart result }
     {
         let values = config.at(circuit);
-        let Some(relay) = config.relay(values.relay) else {
-            unreachable!()
-        };
+        let relay = config.relay(values.relay);
         let server = config.server();
         prove!(!values.gateway4.is_unspecified());
         CircuitPart {

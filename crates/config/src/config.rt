@@ -1,10 +1,10 @@
 //! A configuration that keeps every rule.
-ghost use Rattle.std.specs.Prelude.{◌≡◌, ◌<◌, ◌≤◌, ◌↔◌, [], ◌∷◌, length, IsSome, IfOk, IfErr, IfSome, IfNone, slice_get, option_copied, ℕ, Some};
+ghost use Rattle.std.specs.Prelude.{◌≡◌, ◌<◌, ◌≤◌, ◌↔◌, [], ◌∷◌, length, IsSome, IfOk, IfErr, IfSome, IfNone, slice_get, ℕ, Some};
 ghost use Rattle.toml.specs.Parse.{parse_document};
 ghost use Rattle.toml.specs.View.{table_view};
 ghost use Rattle.types.specs.declared.limits.TheConstants.{MAX_RELAYS, MAX_CIRCUITS};
 ghost use Rattle.config.specs.Fault.{number_of};
-ghost use Rattle.config.specs.Rules.{IsSound, IsWithinLimits, IsIdAt, KeepsRules, one_each};
+ghost use Rattle.config.specs.Rules.{IsSound, IsServerWithinLimits, IsRelayWithinLimits, IsWithinLimits, IsIdAt, KeepsRules, one_each};
 ghost use Rattle.config.specs.Valid.{IsConfig, IsFaultOf};
 
 use crate::fault::ConfigFault;
@@ -67,6 +67,8 @@ fn index_of(circuits: &[CircuitConfig], id: &CircuitId) -> Option<usize>
 impl Config {
     /// The configuration of values that keep the rules; an error where memory is refused.
     fn of(alloc: Global, values: Values) -> Result<Config, AllocError>
+        requires server { IsServerWithinLimits values.server }
+        requires relay { IsRelayWithinLimits values.relay }
         requires limits { IsWithinLimits (values.relay ∷ []) values.circuit }
         requires rules { KeepsRules (one_each values.server values.relay values.circuit) }
         ensures { IfOk result (λ config. config ≡ one_each values.server values.relay values.circuit) }
@@ -97,7 +99,7 @@ impl Config {
         };
         let values = match values_in(tables.server, tables.relays, tables.circuits) {
             Ok(values) => values,
-            Err(location) => return Err(ConfigFault::Limit(location)),
+            Err(limit) => return Err(ConfigFault::Limit(limit)),
         };
         if let Err(fault) = rules(&values.server, &values.relay, &values.circuit) {
             return Err(fault);
@@ -110,6 +112,7 @@ impl Config {
 
     pub fn server(&self) -> &ServerConfig
         ensures value { result.now ≡ self.now.server }
+        ensures limits { IsServerWithinLimits result.now }
         ensures sound { IsSound self.now }
     {
         &self.server
@@ -131,12 +134,14 @@ impl Config {
         self.circuits.len()
     }
 
-    /// The relay of this index; `None` where there are fewer.
-    pub fn relay(&self, relay: RelayNo) -> Option<&RelayConfig>
-        ensures value { option_copied result ≡ slice_get self.now.relays relay }
+    /// The relay at this index.
+    pub fn relay(&self, relay: RelayNo) -> &RelayConfig
+        requires { relay < length self.now.relays }
+        ensures value { slice_get self.now.relays relay ≡ Some result.now }
+        ensures limits { IsRelayWithinLimits result.now }
         ensures sound { IsSound self.now }
     {
-        self.relays.get(relay.index())
+        &self.relays[relay.index()]
     }
 
     /// The circuit at this index.

@@ -1,36 +1,59 @@
 //! The server, a relay and a circuit, each from its table.
-ghost use Rattle.std.specs.Prelude.{◌<◌, IfOk, IfErr};
+ghost use Rattle.std.specs.Prelude.{ℕ, ◌+◌, ◌^◌, ◌≤◌, ◌<◌, List, IfOk, IfErr};
 ghost use Rattle.toml.specs.View.{table_view};
-ghost use Rattle.types.specs.declared.limits.TheConstants.{MAX_RELAYS};
-ghost use Rattle.config.specs.Tables.{server_keys, relay_keys, circuit_keys};
-ghost use Rattle.config.specs.Values.{IsServer, IsRelay, IsCircuit};
+ghost use Rattle.types.specs.Addr.{number4, number6};
+ghost use Rattle.config.specs.Broken.{IsServerUnfit, IsRelayUnfit, IsCircuitUnfit};
+ghost use Rattle.config.specs.Field.{Field, HasValue, IsThere};
+ghost use Rattle.config.specs.Keys.{HasCircuitKeys};
+ghost use Rattle.config.specs.Tables.{RelayKeys, server_keys, relay_keys, circuit_keys};
+ghost use Rattle.config.specs.Texts.{IsAddress, IsAddress6};
+ghost use Rattle.config.specs.Values.{IsNumber, IsNameAt, IsServer, IsRelay, IsCircuit};
 
+use crate::limit_fault::CircuitLimit;
 use crate::limits::{MAX_PREFIX4, MIN_PREFIX4};
 use crate::lists::{addresses_at, duid_at, relay_at};
+use crate::names::{CircuitKey, RelayKey, ServerKey};
 use crate::pools::{is_within4, is_within6};
 use crate::settings::{CircuitConfig, RelayConfig, ServerConfig};
 use crate::values::{address_at, address6_at, id_at, name_at, number_at, source_at};
 use toml::Table;
-use types::{MAX_LEASE, MAX_POOL, MAX_REGION, MIN_LEASE};
+use types::{Addr4, Addr6, MAX_LEASE, MAX_POOL, MAX_REGION, MIN_LEASE};
 
-/// What was found, or the key at which nothing was.
+/// What was found, or this fault where nothing was.
 macro_rules! found {
-    ($found:expr, $key:literal) => {
+    ($found:expr, $fault:expr) => {
         match $found {
             Some(value) => value,
-            None => return Err($key),
+            None => return Err($fault),
         }
     };
 }
 
-/// What the table says of the server, or a key whose value is outside its limits.
-pub fn server_of(table: &Table) -> Result<ServerConfig, &'static str>
+/// What was found at a key of a circuit, or that it is not of its form.
+macro_rules! formed {
+    ($found:expr, $key:ident) => {
+        found!($found, CircuitLimit::Form(CircuitKey::$key))
+    };
+}
+
+/// The number at a key of a circuit, or that it is outside its limits.
+macro_rules! number {
+    ($found:expr, $key:ident) => {
+        match $found {
+            Ok(number) => number,
+            Err(outside) => return Err(CircuitLimit::Number(CircuitKey::$key, outside)),
+        }
+    };
+}
+
+/// What the table says of the server, or a key whose value is not of its form.
+pub fn server_of(table: &Table) -> Result<ServerConfig, ServerKey>
     ensures ok { IfOk result (IsServer (server_keys (table_view table.now))) }
-    ensures err { IfErr result (λ _. (server : ServerConfig) → ¬ IsServer (server_keys (table_view table.now)) server) }
+    ensures err { IfErr result (IsServerUnfit (server_keys (table_view table.now))) }
 {
-    let listen4 = found!(source_at(table, "listen4"), "listen4");
-    let listen6 = found!(source_at(table, "listen6"), "listen6");
-    let duid = found!(duid_at(table, "duid"), "duid");
+    let listen4 = found!(source_at(table, "listen4"), ServerKey::Listen4);
+    let listen6 = found!(source_at(table, "listen6"), ServerKey::Listen6);
+    let duid = found!(duid_at(table, "duid"), ServerKey::Duid);
     Ok(ServerConfig {
         listen4,
         listen6,
@@ -38,43 +61,36 @@ pub fn server_of(table: &Table) -> Result<ServerConfig, &'static str>
     })
 }
 
-/// What the table says of a relay, or a key whose value is outside its limits.
-pub fn relay_of(table: &Table) -> Result<RelayConfig, &'static str>
+/// What the table says of a relay, or a key whose value is not of its form.
+pub fn relay_of(table: &Table) -> Result<RelayConfig, RelayKey>
     ensures ok { IfOk result (IsRelay (relay_keys (table_view table.now))) }
-    ensures err { IfErr result (λ _. (relay : RelayConfig) → ¬ IsRelay (relay_keys (table_view table.now)) relay) }
+    ensures err { IfErr result (IsRelayUnfit (relay_keys (table_view table.now))) }
 {
-    let name = found!(name_at(table, "name"), "name");
-    let source = found!(source_at(table, "source"), "source");
+    let name = found!(name_at(table, "name"), RelayKey::Name);
+    let source = found!(source_at(table, "source"), RelayKey::Source);
     Ok(RelayConfig { name, source })
 }
 
-/// What the table says of a circuit behind one of the relays, or a key whose value is outside its
-/// limits.
-pub fn circuit_of(table: &Table, relays: &[RelayConfig]) -> Result<CircuitConfig, &'static str>
+/// What the table says of a circuit behind one of the relays, or what is wrong with one of its values.
+pub fn circuit_of(table: &Table, relays: &[RelayConfig]) -> Result<CircuitConfig, CircuitLimit>
+    requires keys { (entries : List (Field RelayKeys)) × HasCircuitKeys entries (circuit_keys (table_view table.now)) }
+    requires relay { (index : ℕ) × (index < 8) × HasValue (circuit_keys (table_view table.now)).relay (IsNameAt relays.now index) }
     ensures ok { IfOk result (IsCircuit relays.now (circuit_keys (table_view table.now))) }
-    ensures err { IfErr result (λ _. (circuit : CircuitConfig) → circuit.relay < MAX_RELAYS → ¬ IsCircuit relays.now (circuit_keys (table_view table.now)) circuit) }
+    ensures err { IfErr result (IsCircuitUnfit (circuit_keys (table_view table.now))) }
 {
-    let id = found!(id_at(table, "id"), "id");
-    let relay = found!(relay_at(table, "relay", relays), "relay");
-    let region = found!(number_at(table, "region", 0, MAX_REGION), "region");
-    let lease = found!(number_at(table, "lease", MIN_LEASE, MAX_LEASE), "lease");
-    let gateway4 = found!(address_at(table, "gateway4"), "gateway4");
-    let prefix4 = found!(
-        number_at(table, "prefix4", MIN_PREFIX4, MAX_PREFIX4),
-        "prefix4"
-    );
-    let first4 = found!(address_at(table, "first4"), "first4");
-    let count4 = found!(number_at(table, "count4", 1, MAX_POOL as u32), "count4");
-    let dns = found!(addresses_at(table, "dns"), "dns");
-    let link6 = found!(address6_at(table, "link6"), "link6");
-    let first6 = found!(address6_at(table, "first6"), "first6");
-    let count6 = found!(number_at(table, "count6", 1, MAX_POOL as u32), "count6");
-    if !is_within4(first4, count4 as u8) {
-        return Err("count4");
-    }
-    if !is_within6(first6, count6 as u8) {
-        return Err("count6");
-    }
+    let id = formed!(id_at(table, "id"), Id);
+    let Some(relay) = relay_at(table, "relay", relays) else {
+        unreachable!()
+    };
+    let region = number!(number_at(table, "region", 0, MAX_REGION), Region);
+    let lease = number!(number_at(table, "lease", MIN_LEASE, MAX_LEASE), Lease);
+    let gateway4 = formed!(address_at(table, "gateway4"), Gateway4);
+    let prefix4 = number_at(table, "prefix4", MIN_PREFIX4, MAX_PREFIX4);
+    let prefix4 = number!(prefix4, Prefix4);
+    let (first4, count4) = pool4_of(table)?;
+    let dns = formed!(addresses_at(table, "dns"), Dns);
+    let link6 = formed!(address6_at(table, "link6"), Link6);
+    let (first6, count6) = pool6_of(table)?;
     Ok(CircuitConfig {
         id,
         relay,
@@ -83,10 +99,38 @@ pub fn circuit_of(table: &Table, relays: &[RelayConfig]) -> Result<CircuitConfig
         gateway4,
         prefix4: prefix4 as u8,
         first4,
-        count4: count4 as u8,
+        count4,
         dns,
         link6,
         first6,
-        count6: count6 as u8,
+        count6,
     })
+}
+
+/// The first address of a circuit's DHCPv4 pool and how many it has.
+fn pool4_of(table: &Table) -> Result<(Addr4, u8), CircuitLimit>
+    requires { IsThere (circuit_keys (table_view table.now)).count4 }
+    ensures ok { IfOk result (λ p. HasValue (circuit_keys (table_view table.now)).first4 (λ text. IsAddress text p.0) × IsNumber (circuit_keys (table_view table.now)).count4 1 16 p.1 × (number4 p.0 + p.1 ≤ 2 ^ 32)) }
+    ensures err { IfErr result (IsCircuitUnfit (circuit_keys (table_view table.now))) }
+{
+    let first = formed!(address_at(table, "first4"), First4);
+    let count = number!(number_at(table, "count4", 1, MAX_POOL as u32), Count4);
+    if !is_within4(first, count as u8) {
+        return Err(CircuitLimit::PastLast4);
+    }
+    Ok((first, count as u8))
+}
+
+/// The first address of a circuit's DHCPv6 pool and how many it has.
+fn pool6_of(table: &Table) -> Result<(Addr6, u8), CircuitLimit>
+    requires { IsThere (circuit_keys (table_view table.now)).count6 }
+    ensures ok { IfOk result (λ p. HasValue (circuit_keys (table_view table.now)).first6 (λ text. IsAddress6 text p.0) × IsNumber (circuit_keys (table_view table.now)).count6 1 16 p.1 × (number6 p.0 + p.1 ≤ 2 ^ 128)) }
+    ensures err { IfErr result (IsCircuitUnfit (circuit_keys (table_view table.now))) }
+{
+    let first = formed!(address6_at(table, "first6"), First6);
+    let count = number!(number_at(table, "count6", 1, MAX_POOL as u32), Count6);
+    if !is_within6(first, count as u8) {
+        return Err(CircuitLimit::PastLast6);
+    }
+    Ok((first, count as u8))
 }

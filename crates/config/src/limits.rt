@@ -1,11 +1,5 @@
 //! The limits of a configuration's values.
 
-/// How many relays a configuration has: for now one.
-pub const READ_RELAYS: usize = 1;
-
-/// How many circuits a configuration has: for now one.
-pub const READ_CIRCUITS: usize = 1;
-
 /// The most bytes of a relay's name.
 pub const MAX_NAME: usize = 32;
 

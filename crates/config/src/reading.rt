@@ -1,19 +1,21 @@
 //! From a text's tables to the values of one relay and one circuit.
-ghost use Rattle.std.specs.Prelude.{◌≡◌, ◌≢◌, [], ◌∷◌, codes, IfOk, IfErr, IfSome, IfNone};
-ghost use Rattle.toml.specs.Data.{Members};
+ghost use Rattle.std.specs.Prelude.{◌≡◌, ◌≢◌, [], ◌∷◌, length, codes, IfOk, IfErr, IfSome, IfNone, ⊤};
 ghost use Rattle.toml.specs.View.{items_view, table_view};
 ghost use Rattle.config.specs.Field.{Value as Told, table_of, table_at, list_at, each};
-ghost use Rattle.config.specs.Keys.{HasAll};
-ghost use Rattle.config.specs.Rules.{Settings, IsWithinLimits, one_each};
-ghost use Rattle.config.specs.Tables.{tables_of, found_tables};
+ghost use Rattle.config.specs.Broken.{IsMissing, IsUnfit};
+ghost use Rattle.config.specs.Keys.{AllThere, HasAll};
+ghost use Rattle.config.specs.Rules.{IsServerWithinLimits, IsRelayWithinLimits, IsWithinLimits, one_each};
+ghost use Rattle.config.specs.Tables.{circuit_keys, tables_of, found_tables};
 ghost use Rattle.config.specs.Valid.{IsRead};
-ghost use Rattle.config.specs.Values.{IsCircuit};
 
 use crate::entries::{circuit_of, relay_of, server_of};
 use crate::fault::Location;
 use crate::keys::{circuits_lack, relays_lack, server_lacks};
+use crate::limit_fault::LimitFault;
 use crate::lookup::{list_at, table_at};
+use crate::names::{CircuitRef, TableName};
 use crate::settings::{CircuitConfig, RelayConfig, ServerConfig};
+use crate::values::id_at;
 use std::slice;
 use toml::{Table, Value};
 
@@ -29,27 +31,27 @@ pub struct TextTables<'a> {
 pub fn tables_in<'a>(doc: &'a Table) -> Result<TextTables<'a>, Location>
     ensures tables { IfOk result (λ f. tables_of (table_view doc.now) ≡ found_tables (table_view f.server.now) (items_view f.relays.now) (items_view f.circuits.now)) }
     ensures all { IfOk result (λ _. HasAll (tables_of (table_view doc.now))) }
-    ensures lacks { IfErr result (λ _. ¬ HasAll (tables_of (table_view doc.now))) }
+    ensures lacks { IfErr result (IsMissing (tables_of (table_view doc.now))) }
 {
     let Some(server) = table_at(doc, "server") else {
-        return Err(Location::Table("server"));
+        return Err(Location::Table(TableName::Server));
     };
     if let Some(key) = server_lacks(server) {
         return Err(Location::Server(key));
     }
     let Some(relays) = list_at(doc, "relay") else {
-        return Err(Location::Table("relay"));
+        return Err(Location::Table(TableName::Relay));
     };
     let relays = relays.as_slice();
-    if let Some((i, key)) = relays_lack(relays) {
-        return Err(Location::Relay(i.saturating_add(1), key));
+    if let Some((number, key)) = relays_lack(relays) {
+        return Err(Location::Relay(number, key));
     }
     let Some(circuits) = list_at(doc, "circuit") else {
-        return Err(Location::Table("circuit"));
+        return Err(Location::Table(TableName::Circuit));
     };
     let circuits = circuits.as_slice();
-    if let Some((i, key)) = circuits_lack(circuits, relays) {
-        return Err(Location::Circuit(i.saturating_add(1), key));
+    if let Some((circuit, key)) = circuits_lack(circuits, relays) {
+        return Err(Location::Circuit(circuit, key));
     }
     Ok(TextTables {
         server,
@@ -58,10 +60,11 @@ pub fn tables_in<'a>(doc: &'a Table) -> Result<TextTables<'a>, Location>
     })
 }
 
-/// The only entry, where it is one and a table.
+/// The only entry, where there is one. Each is a table.
 fn only_table(entries: &[Value]) -> Option<&Table>
+    requires { AllThere (λ _. ⊤) (each table_of (items_view entries.now)) }
     ensures some { IfSome result (λ t. each table_of (items_view entries.now) ≡ Told (table_view t.now) ∷ []) }
-    ensures none { IfNone result ((keys : Members) → each table_of (items_view entries.now) ≢ Told keys ∷ []) }
+    ensures none { IfNone result (length entries.now ≢ 1) }
 {
     if entries.len() != 1 {
         return None;
@@ -77,29 +80,43 @@ pub struct Values {
     pub circuit: CircuitConfig,
 }
 
-/// The values of tables with one relay and one circuit, or a location that is outside its limits.
-pub fn values_in(server: &Table, relays: &[Value], circuits: &[Value]) -> Result<Values, Location>
+/// The reference to a circuit of the text by its number, with its id where that can be read.
+fn named(number: usize, circuit: &Table) -> CircuitRef
+    ensures number { result.number ≡ number }
+    ensures id { IfSome result.id (λ id. (circuit_keys (table_view circuit.now)).id ≡ Told id) }
+{
+    CircuitRef {
+        number,
+        id: id_at(circuit, "id"),
+    }
+}
+
+/// The values of tables with one relay and one circuit, or the one that is outside its limits.
+pub fn values_in(server: &Table, relays: &[Value], circuits: &[Value]) -> Result<Values, LimitFault>
+    requires { HasAll (found_tables (table_view server.now) (items_view relays.now) (items_view circuits.now)) }
     ensures read { IfOk result (λ v. IsRead (found_tables (table_view server.now) (items_view relays.now) (items_view circuits.now)) (one_each v.server v.relay v.circuit)) }
+    ensures server { IfOk result (λ v. IsServerWithinLimits v.server) }
+    ensures relay { IfOk result (λ v. IsRelayWithinLimits v.relay) }
     ensures limits { IfOk result (λ v. IsWithinLimits (v.relay ∷ []) v.circuit) }
-    ensures broken { IfErr result (λ _. (s : Settings) → ¬ IsRead (found_tables (table_view server.now) (items_view relays.now) (items_view circuits.now)) s) }
+    ensures broken { IfErr result (IsUnfit (found_tables (table_view server.now) (items_view relays.now) (items_view circuits.now))) }
 {
     let server = match server_of(server) {
         Ok(server) => server,
-        Err(key) => return Err(Location::Server(key)),
+        Err(key) => return Err(LimitFault::Server(key)),
     };
-    let Some(relay) = only_table(relays) else {
-        return Err(Location::Count("relay"));
+    let Some(relay_table) = only_table(relays) else {
+        return Err(LimitFault::Relays(relays.len()));
     };
-    let relay = match relay_of(relay) {
+    let relay = match relay_of(relay_table) {
         Ok(relay) => relay,
-        Err(key) => return Err(Location::Relay(1, key)),
+        Err(key) => return Err(LimitFault::Relay(1, key)),
     };
-    let Some(circuit) = only_table(circuits) else {
-        return Err(Location::Count("circuit"));
+    let Some(circuit_table) = only_table(circuits) else {
+        return Err(LimitFault::Circuits(circuits.len()));
     };
-    let circuit = match circuit_of(circuit, slice::from_ref(&relay)) {
+    let circuit = match circuit_of(circuit_table, slice::from_ref(&relay)) {
         Ok(circuit) => circuit,
-        Err(key) => return Err(Location::Circuit(1, key)),
+        Err(limit) => return Err(LimitFault::Circuit(named(1, circuit_table), limit)),
     };
     Ok(Values {
         server,

@@ -1,10 +1,13 @@
 //! The rules about a configuration's values, as far as one relay and one circuit can break them.
-ghost use Rattle.std.specs.Prelude.{◌≡◌, ◌≢◌, ℕ, ◌+◌, ◌/◌, ◌^◌, ◌≤◌, ◌<◌, ◌↔◌, IsTrue, IsNone, OnOk, IfErr};
+ghost use Rattle.std.specs.Prelude.{◌≡◌, ◌≢◌, ℕ, ◌+◌, ◌/◌, ◌^◌, ◌≤◌, ◌<◌, ◌↔◌, Some, IsTrue, IsNone, OnOk, IfErr, IfSome, IfNone};
+ghost use Rattle.std.specs.Bool.{OnTrue, OnFalse};
 ghost use Rattle.types.specs.Addr.{number4, number6};
-ghost use Rattle.config.specs.Rules.{IsInPool4, IsInPool6, IsHost, KeepsRules, one_each};
+ghost use Rattle.config.specs.Broken.{AreSame, IsCircuitOf, IsGatewayInPool, IsOffSubnet};
+ghost use Rattle.config.specs.Rules.{Settings, IsInPool4, IsInPool6, IsHost, IsOnSubnet, KeepsRules, one_each};
 ghost use Rattle.config.specs.Valid.{IsLeastRule};
 
-use crate::fault::{ConfigFault, Location};
+use crate::fault::{ConfigFault, SameName};
+use crate::names::{CircuitKey, CircuitRef};
 use crate::settings::{CircuitConfig, RelayConfig, ServerConfig};
 
 /// Whether the circuit's DHCPv4 pool has its gateway.
@@ -46,7 +49,8 @@ pub fn has_host_gateway(circuit: &CircuitConfig) -> bool
 /// Whether every address of the DHCPv4 pool is a host's in the gateway's network.
 pub fn has_host_pool(circuit: &CircuitConfig) -> bool
     requires prefix { circuit.now.prefix4 ≤ 30 }
-    ensures { IsTrue result ↔ ((n : ℕ) → IsInPool4 circuit.now n → IsHost circuit.now.prefix4 (number4 circuit.now.gateway4) n) }
+    ensures all { OnTrue result ((n : ℕ) → IsInPool4 circuit.now n → IsHost circuit.now.prefix4 (number4 circuit.now.gateway4) n) }
+    ensures one { OnFalse result ((n : ℕ) × IsInPool4 circuit.now n × ¬ IsHost circuit.now.prefix4 (number4 circuit.now.gateway4) n) }
 {
     let first = u64::from(circuit.first4.number());
     let gateway = u64::from(circuit.gateway4.number());
@@ -61,7 +65,8 @@ pub fn has_host_pool(circuit: &CircuitConfig) -> bool
 /// Whether every address of the DHCPv6 pool has the link's first 64 bits.
 pub fn is_on_link6(circuit: &CircuitConfig) -> bool
     requires within { number6 circuit.now.first6 + circuit.now.count6 ≤ 2 ^ 128 }
-    ensures { IsTrue result ↔ ((n : ℕ) → IsInPool6 circuit.now n → n / 2 ^ 64 ≡ number6 circuit.now.link6 / 2 ^ 64) }
+    ensures all { OnTrue result ((n : ℕ) → IsInPool6 circuit.now n → n / 2 ^ 64 ≡ number6 circuit.now.link6 / 2 ^ 64) }
+    ensures one { OnFalse result ((n : ℕ) × IsInPool6 circuit.now n × (n / 2 ^ 64 ≢ number6 circuit.now.link6 / 2 ^ 64)) }
 {
     let first = circuit.first6.number();
     let link = circuit.link6.number();
@@ -76,20 +81,32 @@ pub fn is_on_link6(circuit: &CircuitConfig) -> bool
 /// How many addresses have one first half.
 const LINK_SIZE: u128 = 1 << 64;
 
-/// Two places whose sources have to differ and don't.
-pub fn same_source(server: &ServerConfig, relay: &RelayConfig) -> Option<(Location, Location)>
-    ensures { IsNone result ↔ ((server.now.listen4 ≢ server.now.listen6) × (relay.now.source ≢ server.now.listen4) × (relay.now.source ≢ server.now.listen6)) }
+/// Two sources that have to differ and are the same.
+pub fn same_source(server: &ServerConfig, relay: &RelayConfig) -> Option<SameName>
+    ensures none { IsNone result ↔ ((server.now.listen4 ≢ server.now.listen6) × (relay.now.source ≢ server.now.listen4) × (relay.now.source ≢ server.now.listen6)) }
+    ensures some { IfSome result (λ same. (circuit : CircuitConfig) → AreSame (one_each server.now relay.now circuit) same) }
 {
     if server.listen4 == server.listen6 {
-        return Some((Location::Server("listen4"), Location::Server("listen6")));
+        return Some(SameName::Listens);
     }
     if relay.source == server.listen4 {
-        return Some((Location::Server("listen4"), Location::Relay(1, "source")));
+        return Some(SameName::Listen4(1));
     }
     if relay.source == server.listen6 {
-        return Some((Location::Server("listen6"), Location::Relay(1, "source")));
+        return Some(SameName::Listen6(1));
     }
     None
+}
+
+/// The only circuit, by its number and its id.
+fn only(circuit: &CircuitConfig) -> CircuitRef
+    ensures number { result.number ≡ 1 }
+    ensures id { result.id ≡ Some circuit.now.id }
+{
+    CircuitRef {
+        number: 1,
+        id: Some(circuit.id.copy()),
+    }
 }
 
 /// The rules about the server's, one relay's and one circuit's values, in order.
@@ -103,23 +120,47 @@ pub fn rules(
     ensures ok { OnOk result (KeepsRules (one_each server.now relay.now circuit.now)) }
     ensures err { IfErr result (IsLeastRule (one_each server.now relay.now circuit.now)) }
 {
-    if let Some((first, second)) = same_source(server, relay) {
-        return Err(ConfigFault::IdTwice(first, second));
+    if let Some(same) = same_source(server, relay) {
+        return Err(ConfigFault::IdTwice(same));
     }
-    if has_gateway4(circuit) {
-        return Err(ConfigFault::GatewayInPool(Location::Circuit(1, "gateway4"), 1));
+    if let Some(key) = gateway_in_pool(circuit) {
+        return Err(ConfigFault::GatewayInPool(only(circuit), key, only(circuit)));
     }
-    if has_link6(circuit) {
-        return Err(ConfigFault::GatewayInPool(Location::Circuit(1, "link6"), 1));
-    }
-    if !has_host_gateway(circuit) {
-        return Err(ConfigFault::OffSubnet(Location::Circuit(1, "gateway4")));
-    }
-    if !has_host_pool(circuit) {
-        return Err(ConfigFault::OffSubnet(Location::Circuit(1, "first4")));
-    }
-    if !is_on_link6(circuit) {
-        return Err(ConfigFault::OffSubnet(Location::Circuit(1, "first6")));
+    if let Some(key) = off_subnet(circuit) {
+        return Err(ConfigFault::OffSubnet(only(circuit), key));
     }
     Ok(())
+}
+
+/// The key of the circuit's gateway or link address, where it is in the circuit's own pool.
+fn gateway_in_pool(circuit: &CircuitConfig) -> Option<CircuitKey>
+    ensures none { IfNone result (¬ IsInPool4 circuit.now (number4 circuit.now.gateway4) × ¬ IsInPool6 circuit.now (number6 circuit.now.link6)) }
+    ensures some { IfSome result (λ key. (s : Settings) (named owner : CircuitRef) → IsCircuitOf s named circuit.now → IsCircuitOf s owner circuit.now → IsGatewayInPool s named key owner) }
+{
+    if has_gateway4(circuit) {
+        return Some(CircuitKey::Gateway4);
+    }
+    if has_link6(circuit) {
+        return Some(CircuitKey::Link6);
+    }
+    None
+}
+
+/// The key of the gateway or of the pool that is off the circuit's subnet.
+fn off_subnet(circuit: &CircuitConfig) -> Option<CircuitKey>
+    requires prefix { circuit.now.prefix4 ≤ 30 }
+    requires within { number6 circuit.now.first6 + circuit.now.count6 ≤ 2 ^ 128 }
+    ensures none { IfNone result (IsOnSubnet circuit.now) }
+    ensures some { IfSome result (λ key. (s : Settings) (named : CircuitRef) → IsCircuitOf s named circuit.now → IsOffSubnet s named key) }
+{
+    if !has_host_gateway(circuit) {
+        return Some(CircuitKey::Gateway4);
+    }
+    if !has_host_pool(circuit) {
+        return Some(CircuitKey::First4);
+    }
+    if !is_on_link6(circuit) {
+        return Some(CircuitKey::First6);
+    }
+    None
 }

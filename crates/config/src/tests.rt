@@ -1,31 +1,8 @@
 use super::*;
+use fixtures::ONE_CIRCUIT;
 use std::alloc::{AllocError, Global};
 use std::process::Abort;
 use types::{Addr4, Addr6, CircuitId, RelayNo};
-
-/// One relay and one circuit, a line an entry.
-const GOOD: [&str; 20] = [
-    "[server]",
-    "listen4 = '127.0.0.1:6767'",
-    "listen6 = '127.0.0.1:6547'",
-    "duid = '00030001020000000001'",
-    "[[relay]]",
-    "name = 'r1'",
-    "source = '127.0.0.1:6801'",
-    "[[circuit]]",
-    "id = 'a'",
-    "relay = 'r1'",
-    "region = 0",
-    "lease = 600",
-    "gateway4 = '10.0.0.1'",
-    "prefix4 = 24",
-    "first4 = '10.0.0.10'",
-    "count4 = 1",
-    "dns = ['10.255.0.53']",
-    "link6 = '20010db8000000000000000000000001'",
-    "first6 = '20010db8000000000000000000000100'",
-    "count6 = 1",
-];
 
 /// What stands in a line's place: the edit whose beginning the line has.
 fn replaced(line: &'static str, edits: &[(&'static str, &'static str)]) -> &'static str {
@@ -37,10 +14,10 @@ fn replaced(line: &'static str, edits: &[(&'static str, &'static str)]) -> &'sta
     line
 }
 
-/// The good text, with each line that begins as an edit says replaced.
+/// The text of one circuit, with each line that begins as an edit says replaced.
 fn edited(alloc: Global, edits: &[(&'static str, &'static str)]) -> Result<String, AllocError> {
     let mut text = String::new(alloc);
-    for line in GOOD {
+    for line in ONE_CIRCUIT.lines() {
         text.push_str(replaced(line, edits))?;
         text.push('\n')?;
     }
@@ -49,14 +26,14 @@ fn edited(alloc: Global, edits: &[(&'static str, &'static str)]) -> Result<Strin
 
 /// The number of the fault, or 0 where the text is a configuration.
 fn number(alloc: Global, text: &str) -> u8 {
-    match Config::read(alloc, text) {
-        Ok(_) => 0,
-        Err(fault) => fault.number(),
+    if let Err(fault) = Config::read(alloc, text) {
+        return fault.number();
     }
+    0
 }
 
 #[test]
-fn good(rt: HostRuntime) -> Result<(), AllocError> {
+fn one_circuit(rt: HostRuntime) -> Result<(), AllocError> {
     let text = edited(rt.alloc(), &[])?;
     let Ok(config) = Config::read(rt.alloc(), text.as_str()) else {
         assert!(rt; false);
@@ -72,25 +49,23 @@ fn good(rt: HostRuntime) -> Result<(), AllocError> {
     );
     assert_eq!(rt; config.relay_count(), 1);
     assert_eq!(rt; config.circuit_count(), 1);
-    assert!(rt; config.relay(RelayNo::new(1).unwrap()).is_none());
-    if let Some(relay) = config.relay(RelayNo::new(0).unwrap()) {
+    if config.relay_count() == 1 {
+        let relay = config.relay(RelayNo::new(0).unwrap());
         assert_eq!(rt; relay.name.as_slice(), b"r1".as_slice());
         assert_eq!(rt; relay.source.port, 6801);
-    } else {
-        assert!(rt; false);
     }
     for (id, there) in [(b"a".as_slice(), true), (b"a1".as_slice(), false)] {
         if let Some(id) = CircuitId::new(id) {
             assert_eq!(rt; config.circuit(&id).is_some(), there);
             if let Some(circuit) = config.circuit(&id) {
-                circuit_of_good(&rt, config.at(circuit));
+                is_circuit_a(&rt, config.at(circuit));
             }
         }
     }
     Ok(())
 }
 
-fn circuit_of_good(rt: &impl Abort, circuit: &CircuitConfig) {
+fn is_circuit_a(rt: &impl Abort, circuit: &CircuitConfig) {
     assert_eq!(rt; circuit.id.as_bytes(), b"a".as_slice());
     assert_eq!(rt; circuit.relay.index(), 0);
     assert_eq!(rt; circuit.region, 0);
@@ -251,7 +226,8 @@ fn one_line_edited(rt: HostRuntime) -> Result<(), AllocError> {
 
 /// Two edits, and the number of the lesser rule.
 #[rattlefmt::skip]
-const PAIRS: [((&str, &str), (&str, &str), u8); 19] = [
+const PAIRS: [((&str, &str), (&str, &str), u8); 20] = [
+    (("prefix4", "prefix4 = 30"), ("first4", "first4 = '10.0.0.2'"), 0),
     (("id", ""), ("lease", "lease = 59"), 42),
     (("lease", "lease = 59"), ("listen6", "listen6 = '127.0.0.1:6767'"), 43),
     (("source", "source = '127.0.0.1:6767'"), ("gateway4", "gateway4 = '10.0.0.10'"), 44),
@@ -323,47 +299,172 @@ fn written_otherwise(rt: HostRuntime) -> Result<(), AllocError> {
     Ok(())
 }
 
+/// A line's beginning, what stands in its place, and the text of the fault.
+type Words = (&'static str, &'static str, &'static str);
+
+/// The texts of faults 42, 43, 44, 48 and 49.
+#[rattlefmt::skip]
+const WORDS: [Words; 38] = [
+    ("[server]", "[other]", "server is missing, or no table"),
+    ("[[relay]]", "[relay]", "relay is missing, or no list of tables"),
+    ("[[circuit]]", "[circuit]", "circuit is missing, or no list of tables"),
+    ("listen6", "", "server: listen6 is missing, or no text"),
+    ("source", "", "relay 1: source is missing, or no text"),
+    ("id", "", "circuit 1: id is missing, or no text"),
+    ("id", "id = ''\nmore = 1\n[[circuit]]", "circuit 1: relay is missing, or no relay's name"),
+    ("relay", "relay = 'r2'", "circuit \"a\": relay is missing, or no relay's name"),
+    ("source", "source = '127.0.0.1:6801'\n[[relay]]\nname = 'r2'", "relay 2: source is missing, or no text"),
+    ("count6", "count6 = 1\n[[circuit]]", "circuit 2: id is missing, or no text"),
+    ("count6", "count6 = 1\n[[circuit]]\nid = 'a1'\nrelay = 'r1'", "circuit \"a1\": region is missing, or no whole number"),
+    ("source", "source = '127.0.0.1:6801'\n[[relay]]\nname = 'r2'\nsource = '127.0.0.1:6802'", "the number of relays is 2: for now a configuration has 1"),
+    ("lease", "lease = '600'", "circuit \"a\": lease is missing, or no whole number"),
+    ("dns", "dns = [1]", "circuit \"a\": dns is missing, or no list of texts"),
+    ("first6", "", "circuit \"a\": first6 is missing, or no text"),
+    ("listen4", "listen4 = '127.0.0.1'", "server: listen4 is not an address and a port, as 10.0.0.1:67"),
+    ("duid", "duid = '0003'", "server: duid is not 3 to 130 bytes, two hexadecimal digits each"),
+    ("source", "source = '1.1.1.1:0'", "relay 1: source is not an address and a port, as 10.0.0.1:67"),
+    ("id", "id = ''", "circuit 1: id is not 1 to 32 visible ASCII characters"),
+    ("id", "id = 'a b'", "circuit 1: id is not 1 to 32 visible ASCII characters"),
+    ("region", "region = 1024", "circuit \"a\": region 1024 is outside 0 to 1023"),
+    ("region", "region = -1", "circuit \"a\": region -1 is outside 0 to 1023"),
+    ("lease", "lease = 6", "circuit \"a\": lease 6 is outside 60 to 604800"),
+    ("gateway4", "gateway4 = '10.0.0'", "circuit \"a\": gateway4 is not an address, as 10.0.0.1"),
+    ("prefix4", "prefix4 = 31", "circuit \"a\": prefix4 31 is outside 8 to 30"),
+    ("first4", "first4 = 'x'", "circuit \"a\": first4 is not an address, as 10.0.0.1"),
+    ("count4", "count4 = 17", "circuit \"a\": count4 17 is outside 1 to 16"),
+    ("dns", "dns = ['1.1.1']", "circuit \"a\": dns is not a list of at most 4 addresses"),
+    ("link6", "link6 = '2001'", "circuit \"a\": link6 is not 32 hexadecimal digits"),
+    ("first6", "first6 = '2001'", "circuit \"a\": first6 is not 32 hexadecimal digits"),
+    ("count6", "count6 = 0", "circuit \"a\": count6 0 is outside 1 to 16"),
+    ("listen6", "listen6 = '127.0.0.1:6767'", "server: listen4 and listen6 are the same"),
+    ("source", "source = '127.0.0.1:6767'", "the source of relay 1 is the server's listen4"),
+    ("source", "source = '127.0.0.1:6547'", "the source of relay 1 is the server's listen6"),
+    ("gateway4", "gateway4 = '10.0.0.10'", "circuit \"a\": gateway4 is in the pool of circuit \"a\""),
+    ("link6", "link6 = '20010db8000000000000000000000100'", "circuit \"a\": link6 is in the pool of circuit \"a\""),
+    ("gateway4", "gateway4 = '10.0.0.255'", "circuit \"a\": gateway4 gives an address off the circuit's subnet, or one that no host may have"),
+    ("id", "id = ", "TOML parse error at line 9, column 6\ninvalid value, expected a string, number, boolean, date-time, array or inline table\n"),
+];
+
 #[test]
 fn faults_have_words(rt: HostRuntime) -> Result<(), AllocError> {
+    for (old, new, wanted) in WORDS {
+        let text = edited(rt.alloc(), &[(old, new)])?;
+        let mut words = String::new(rt.alloc());
+        if let Err(fault) = Config::read(rt.alloc(), text.as_str()) {
+            words = format!(in rt.alloc(); "{fault}")?;
+        }
+        assert_eq!(rt; words.as_str(), wanted);
+    }
+    Ok(())
+}
+
+#[test]
+fn pools_past_the_last_address(rt: HostRuntime) -> Result<(), AllocError> {
+    let four = [
+        ("first4", "first4 = '255.255.255.250'"),
+        ("count4", "count4 = 7"),
+    ];
+    let six = [
+        ("first6", "first6 = 'fffffffffffffffffffffffffffffffe'"),
+        ("count6", "count6 = 3"),
+    ];
     let rows = [
         (
-            ("id", "id = ''"),
-            "`id` of circuit 1 is outside its limits, or not of its form",
+            four,
+            "circuit \"a\": the DHCPv4 pool runs past the last address",
         ),
         (
-            ("source", ""),
-            "`source` of relay 1 is missing, of another type, or names no relay",
-        ),
-        (
-            ("[server]", "[other]"),
-            "`server` is missing, of another type, or names no relay",
-        ),
-        (
-            ("listen6", "listen6 = '127.0.0.1:6767'"),
-            "`listen4` of the server and `listen6` of the server are the same",
-        ),
-        (
-            ("gateway4", "gateway4 = '10.0.0.10'"),
-            "`gateway4` of circuit 1 is in the pool of circuit 1",
-        ),
-        (
-            ("first4", "first4 = '10.0.0.255'"),
-            "`first4` of circuit 1 gives an address off the circuit's subnet, or one that no host may have",
-        ),
-        (
-            ("id", "id = "),
-            "TOML parse error at line 9, column 6\ninvalid value, expected a string, number, boolean, date-time, array or inline table\n",
+            six,
+            "circuit \"a\": the DHCPv6 pool runs past the last address",
         ),
     ];
-    for (edit, wanted) in rows {
-        let text = edited(rt.alloc(), &[edit])?;
-        match Config::read(rt.alloc(), text.as_str()) {
-            Ok(_) => assert!(rt; false),
-            Err(fault) => {
-                let words = format!(in rt.alloc(); "{fault}")?;
-                assert_eq!(rt; words.as_str(), wanted);
-            }
+    for (edits, wanted) in rows {
+        let text = edited(rt.alloc(), &edits)?;
+        if let Err(fault) = Config::read(rt.alloc(), text.as_str()) {
+            let words = format!(in rt.alloc(); "{fault}")?;
+            assert_eq!(rt; words.as_str(), wanted);
+        } else {
+            assert!(rt; false);
         }
+    }
+    Ok(())
+}
+
+fn named(number: usize, id: &[u8]) -> CircuitRef {
+    CircuitRef {
+        number,
+        id: CircuitId::new(id),
+    }
+}
+
+/// Faults about two circuits or two relays, which no text has for now.
+#[test]
+fn faults_of_two_have_words(rt: HostRuntime) -> Result<(), AllocError> {
+    let rows = [
+        (
+            ConfigFault::IdTwice(SameName::Ids(named(1, b"a"), named(2, b"a"))),
+            "circuits 1 and 2 have one id, \"a\"",
+        ),
+        (
+            ConfigFault::IdTwice(SameName::Names(1, 2)),
+            "relays 1 and 2 have one name",
+        ),
+        (
+            ConfigFault::IdTwice(SameName::Sources(1, 2)),
+            "relays 1 and 2 have one source",
+        ),
+        (
+            ConfigFault::RegionTwice(named(1, b"a"), named(2, b"a1")),
+            "circuits \"a\" and \"a1\" have one region",
+        ),
+        (
+            ConfigFault::Overlap4(named(1, b"a"), named(2, b"a1")),
+            "circuits \"a\" and \"a1\" share DHCPv4 addresses",
+        ),
+        (
+            ConfigFault::Overlap6(named(1, b"a"), named(2, b"a1")),
+            "circuits \"a\" and \"a1\" share DHCPv6 addresses",
+        ),
+        (
+            ConfigFault::GatewayInPool(named(1, b"a"), CircuitKey::Gateway4, named(2, b"a1")),
+            "circuit \"a\": gateway4 is in the pool of circuit \"a1\"",
+        ),
+        (ConfigFault::Memory, "out of memory"),
+    ];
+    for (fault, wanted) in rows {
+        let words = format!(in rt.alloc(); "{fault}")?;
+        assert_eq!(rt; words.as_str(), wanted);
+    }
+    Ok(())
+}
+
+/// The shortest and the longest DUID, and those beside them.
+#[test]
+fn duids_at_their_limits(rt: HostRuntime) -> Result<(), AllocError> {
+    for (bytes, wanted) in [(2, 43), (3, 0), (128, 0), (130, 0), (131, 43)] {
+        let mut digits = String::new(rt.alloc());
+        for _ in 0..bytes {
+            digits.push_str("0a")?;
+        }
+        let text = ONE_CIRCUIT.replace(rt.alloc(), "00030001020000000001", digits.as_str())?;
+        assert_eq!(rt; number(rt.alloc(), text.as_str()), wanted);
+    }
+    Ok(())
+}
+
+/// Long texts: a line of comment makes 4 KB of one, 300 KB of the other.
+#[test]
+fn long_texts(rt: HostRuntime) -> Result<(), AllocError> {
+    for (lines, size) in [(40, 4_000), (3_000, 300_000)] {
+        let mut text = String::new(rt.alloc());
+        for _ in 0..lines {
+            text.push_str(
+                "# a line of a hundred bytes that says nothing, so that the text gets as long as a large network's is\n",
+            )?;
+        }
+        text.push_str(ONE_CIRCUIT)?;
+        assert!(rt; text.len() >= size);
+        assert_eq!(rt; number(rt.alloc(), text.as_str()), 0);
     }
     Ok(())
 }

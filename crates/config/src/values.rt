@@ -1,11 +1,13 @@
 //! What the texts and numbers at the keys of a table stand for, each within its limits.
-ghost use Rattle.std.specs.Prelude.{◌≡◌, ℕ, List, length, ◌≤◌, IfSome, IfNone};
+ghost use Rattle.std.specs.Prelude.{◌≡◌, ℕ, List, length, ◌≤◌, IfOk, IfErr, IfSome, IfNone};
 ghost use Rattle.toml.specs.View.{table_view};
 ghost use Rattle.types.specs.CircuitId.{IsCircuitId};
-ghost use Rattle.config.specs.Field.{HasValue, text_at, integer_at};
+ghost use Rattle.config.specs.Broken.{IsOutside};
+ghost use Rattle.config.specs.Field.{HasValue, IsThere, text_at, integer_at};
 ghost use Rattle.config.specs.Texts.{IsAddress, IsSource, IsAddress6};
 ghost use Rattle.config.specs.Values.{IsNumber, IsName, IsDuid, IsId};
 
+use crate::limit_fault::Outside;
 use crate::limits::MAX_NAME;
 use crate::lookup::{integer_at, text_at};
 use crate::text_forms::{address, address6, source};
@@ -13,18 +15,19 @@ use arrayvec::ArrayVec;
 use toml::Table;
 use types::{Addr4, Addr6, CircuitId, Source};
 
-/// The whole number at a key, from `least` to `most`.
-pub fn number_at(table: &Table, key: &str, least: u32, most: u32) -> Option<u32>
-    ensures some { IfSome result (IsNumber (integer_at key.now (table_view table.now)) least most) }
-    ensures none { IfNone result ((n : ℕ) → ¬ IsNumber (integer_at key.now (table_view table.now)) least most n) }
+/// The whole number at a key, from `least` to `most`; else the one that is there.
+pub fn number_at(table: &Table, key: &str, least: u32, most: u32) -> Result<u32, Outside>
+    requires { IsThere (integer_at key.now (table_view table.now)) }
+    ensures ok { IfOk result (IsNumber (integer_at key.now (table_view table.now)) least most) }
+    ensures err { IfErr result (IsOutside (integer_at key.now (table_view table.now)) least most) }
 {
-    let Some(n) = integer_at(table, key) else {
-        return None;
+    let Some(found) = integer_at(table, key) else {
+        unreachable!()
     };
-    if n < i64::from(least) || i64::from(most) < n {
-        return None;
+    if found < i64::from(least) || i64::from(most) < found {
+        return Err(Outside { found, least, most });
     }
-    Some(n as u32)
+    Ok(found as u32)
 }
 
 /// The IPv4 address at a key.

@@ -204,10 +204,7 @@ fn sources_of(alloc: Global, config: &Config) -> Result<Vec<Source>, AllocError>
         let Some(no) = RelayNo::new(index) else {
             unreachable!()
         };
-        let Some(relay) = config.relay(no) else {
-            unreachable!()
-        };
-        sources.push(relay.source)?;
+        sources.push(config.relay(no).source)?;
     }
     Ok(sources)
 }

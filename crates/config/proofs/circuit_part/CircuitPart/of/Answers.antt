@@ -1,27 +1,21 @@
-use Rattle.std.proofs.Common.{sym, ap, ◌∙◌}
-use Rattle.std.specs.Option.{option_copied}
-use Rattle.config.proofs.PartLemmas.{gateway_is_given, is_part, part_there, some_within}
+use Rattle.std.proofs.Common.{ap}
+use Rattle.config.proofs.PartLemmas.{gateway_is_given, is_part, part_there}
 use Rattle.config.proofs.circuit_part.CircuitPart.of.Goals as goal
-
-pub unreachable-requires : goal.unreachable-requires
-unreachable-requires c =
-    some_within c.args.config.now.relays c.at-values.result.now.relay c.at-values.ensures.limits.relay
-    (sym c.relay.ensures.value ∙ ap option_copied c.in_default.is)
 
 pub invariant_of-result : goal.invariant_of-result
 invariant_of-result c =
-    is_part c.args.config.now c.args.circuit c.at-values.result.now c.copy.result c.in-Some.relay.now.source c.server-server.result.now.listen4 c.server-server.result.now.listen6 c.copy_of.result.items
+    is_part c.args.config.now c.args.circuit c.at-values.result.now c.copy.result c.relay-relay.result.now.source c.server-server.result.now.listen4 c.server-server.result.now.listen6 c.copy_of.result.items
     c.at-values.ensures.value c.copy.ensures c.at-values.ensures.limits c.at-values.ensures.sound c.is_unspecified.ensures.size
 
 pub returns-clause-sound : goal.returns-clause-sound
 returns-clause-sound c =
-    is_part c.args.config.now c.args.circuit c.at-values.result.now c.copy.result c.in-Some.relay.now.source c.server-server.result.now.listen4 c.server-server.result.now.listen6 c.copy_of.result.items
+    is_part c.args.config.now c.args.circuit c.at-values.result.now c.copy.result c.relay-relay.result.now.source c.server-server.result.now.listen4 c.server-server.result.now.listen6 c.copy_of.result.items
     c.at-values.ensures.value c.copy.ensures c.at-values.ensures.limits c.at-values.ensures.sound c.is_unspecified.ensures.size
 
 pub returns-clause-value : goal.returns-clause-value
 returns-clause-value c =
-    part_there c.args.config.now c.args.circuit c.at-values.result.now c.copy.result c.in-Some.relay.now c.server-server.result.now c.copy_of.result.items
-    c.at-values.ensures.value (sym c.in-Some.ensures.value) c.copy.ensures c.server-server.ensures.value (ap (λ x. x.items) c.copy_of.ensures)
+    part_there c.args.config.now c.args.circuit c.at-values.result.now c.copy.result c.relay-relay.result.now c.server-server.result.now c.copy_of.result.items
+    c.at-values.ensures.value c.relay-relay.ensures.value c.copy.ensures c.server-server.ensures.value (ap (λ x. x.items) c.copy_of.ensures)
 
 pub prove-unreachable-requires : goal.prove-unreachable-requires
 prove-unreachable-requires c =

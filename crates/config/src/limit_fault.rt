@@ -1,0 +1,118 @@
+//! Which value is outside its limits or not of its form.
+use crate::names::{CircuitKey, CircuitRef, RelayKey, ServerKey};
+use std::fmt;
+
+/// A whole number outside its limits.
+#[derive(Clone, Copy, Debug, PartialEq, Eq)]
+pub struct Outside {
+    pub found: i64,
+    pub least: u32,
+    pub most: u32,
+}
+
+/// What is wrong with a value of a circuit.
+#[derive(Clone, Copy, Debug, PartialEq, Eq)]
+pub enum CircuitLimit {
+    /// A number is outside its limits.
+    Number(CircuitKey, Outside),
+    /// A text, or a list of texts, is not of its form.
+    Form(CircuitKey),
+    /// The DHCPv4 pool runs past the last IPv4 address.
+    PastLast4,
+    /// The DHCPv6 pool runs past the last IPv6 address.
+    PastLast6,
+}
+
+/// A value, or a number of entries, that is outside its limits or not of its form. Relays are counted
+/// from 1.
+#[derive(Debug, PartialEq, Eq, Drop)]
+pub enum LimitFault {
+    /// So many relays.
+    Relays(usize),
+    /// So many circuits.
+    Circuits(usize),
+    Server(ServerKey),
+    Relay(usize, RelayKey),
+    Circuit(CircuitRef, CircuitLimit),
+}
+
+const ENDPOINT: &str = "an address and a port, as 10.0.0.1:67";
+
+const ADDRESS: &str = "an address, as 10.0.0.1";
+
+const DIGITS: &str = "32 hexadecimal digits";
+
+const NUMBER: &str = "a whole number";
+
+/// What a value of the server has to be.
+fn server_form(key: ServerKey) -> &'static str {
+    match key {
+        ServerKey::Listen4 | ServerKey::Listen6 => ENDPOINT,
+        ServerKey::Duid => "3 to 130 bytes, two hexadecimal digits each",
+    }
+}
+
+/// What a value of a relay has to be.
+fn relay_form(key: RelayKey) -> &'static str {
+    match key {
+        RelayKey::Name => "1 to 32 bytes",
+        RelayKey::Source => ENDPOINT,
+    }
+}
+
+/// What a text of a circuit has to be.
+fn circuit_form(key: CircuitKey) -> &'static str {
+    match key {
+        CircuitKey::Id => "1 to 32 visible ASCII characters",
+        CircuitKey::Relay => "a relay's name",
+        CircuitKey::Gateway4 | CircuitKey::First4 => ADDRESS,
+        CircuitKey::Dns => "a list of at most 4 addresses",
+        CircuitKey::Link6 | CircuitKey::First6 => DIGITS,
+        CircuitKey::Region | CircuitKey::Lease | CircuitKey::Prefix4 => NUMBER,
+        CircuitKey::Count4 | CircuitKey::Count6 => NUMBER,
+    }
+}
+
+impl fmt::Display for LimitFault {
+    fn fmt<W: fmt::Write>(&self, f: &mut fmt::Formatter<W>) -> fmt::Result {
+        match self {
+            LimitFault::Relays(count) => {
+                write!(
+                    f,
+                    "the number of relays is {count}: for now a configuration has 1"
+                )
+            }
+            LimitFault::Circuits(count) => {
+                write!(
+                    f,
+                    "the number of circuits is {count}: for now a configuration has 1"
+                )
+            }
+            LimitFault::Server(key) => {
+                let form = server_form(*key);
+                write!(f, "server: {key} is not {form}")
+            }
+            LimitFault::Relay(number, key) => {
+                let form = relay_form(*key);
+                write!(f, "relay {number}: {key} is not {form}")
+            }
+            LimitFault::Circuit(circuit, limit) => write!(f, "circuit {circuit}: {limit}"),
+        }
+    }
+}
+
+impl fmt::Display for CircuitLimit {
+    fn fmt<W: fmt::Write>(&self, f: &mut fmt::Formatter<W>) -> fmt::Result {
+        match self {
+            CircuitLimit::Number(key, Outside { found, least, most }) => {
+                write!(f, "{key} {found} is outside {least} to {most}")
+            }
+            CircuitLimit::Form(key) => {
+                let form = circuit_form(*key);
+                write!(f, "{key} is not {form}")
+            }
+            CircuitLimit::PastLast4 => f.write_str("the DHCPv4 pool runs past the last address"),
+            CircuitLimit::PastLast6 => f.write_str("the DHCPv6 pool runs past the last address"),
+        }
+    }
+}

@@ -1,0 +1,111 @@
+//! The names of a configuration's tables and keys, and of its circuits.
+use std::fmt;
+use types::CircuitId;
+
+/// A table of the text, or a list of tables.
+#[derive(Clone, Copy, Debug, PartialEq, Eq)]
+pub enum TableName {
+    Server,
+    Relay,
+    Circuit,
+}
+
+/// A key of the server.
+#[derive(Clone, Copy, Debug, PartialEq, Eq)]
+pub enum ServerKey {
+    Listen4,
+    Listen6,
+    Duid,
+}
+
+/// A key of a relay.
+#[derive(Clone, Copy, Debug, PartialEq, Eq)]
+pub enum RelayKey {
+    Name,
+    Source,
+}
+
+/// A key of a circuit.
+#[derive(Clone, Copy, Debug, PartialEq, Eq)]
+pub enum CircuitKey {
+    Id,
+    Relay,
+    Region,
+    Lease,
+    Gateway4,
+    Prefix4,
+    First4,
+    Count4,
+    Dns,
+    Link6,
+    First6,
+    Count6,
+}
+
+/// A circuit of the text: its number among the circuits, counted from 1, and its id where that can be
+/// read.
+#[derive(Debug, PartialEq, Eq, Drop)]
+pub struct CircuitRef {
+    pub number: usize,
+    pub id: Option<CircuitId>,
+}
+
+impl fmt::Display for TableName {
+    fn fmt<W: fmt::Write>(&self, f: &mut fmt::Formatter<W>) -> fmt::Result {
+        f.write_str(match self {
+            TableName::Server => "server",
+            TableName::Relay => "relay",
+            TableName::Circuit => "circuit",
+        })
+    }
+}
+
+impl fmt::Display for ServerKey {
+    fn fmt<W: fmt::Write>(&self, f: &mut fmt::Formatter<W>) -> fmt::Result {
+        f.write_str(match self {
+            ServerKey::Listen4 => "listen4",
+            ServerKey::Listen6 => "listen6",
+            ServerKey::Duid => "duid",
+        })
+    }
+}
+
+impl fmt::Display for RelayKey {
+    fn fmt<W: fmt::Write>(&self, f: &mut fmt::Formatter<W>) -> fmt::Result {
+        f.write_str(match self {
+            RelayKey::Name => "name",
+            RelayKey::Source => "source",
+        })
+    }
+}
+
+impl fmt::Display for CircuitKey {
+    fn fmt<W: fmt::Write>(&self, f: &mut fmt::Formatter<W>) -> fmt::Result {
+        f.write_str(match self {
+            CircuitKey::Id => "id",
+            CircuitKey::Relay => "relay",
+            CircuitKey::Region => "region",
+            CircuitKey::Lease => "lease",
+            CircuitKey::Gateway4 => "gateway4",
+            CircuitKey::Prefix4 => "prefix4",
+            CircuitKey::First4 => "first4",
+            CircuitKey::Count4 => "count4",
+            CircuitKey::Dns => "dns",
+            CircuitKey::Link6 => "link6",
+            CircuitKey::First6 => "first6",
+            CircuitKey::Count6 => "count6",
+        })
+    }
+}
+
+/// `"a1"` by its id, or `2` by its number.
+impl fmt::Display for CircuitRef {
+    fn fmt<W: fmt::Write>(&self, f: &mut fmt::Formatter<W>) -> fmt::Result {
+        if let Some(id) = &self.id {
+            if let Ok(text) = std::str::from_utf8(id.as_bytes()) {
+                return write!(f, "\"{text}\"");
+            }
+        }
+        write!(f, "{}", self.number)
+    }
+}
