@@ -6,3 +6,4 @@ pub mod Runs
 pub mod StartLemmas
 pub mod WorldLemmas
 pub mod ReturnLemmas
+pub mod CircuitSteps

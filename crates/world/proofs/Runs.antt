@@ -110,7 +110,7 @@ its_answer k (event.Tick now) setup b o out named h = absurd cc
 -- ---- towards a circuit that doesn't exist
 
 -- towards another circuit the frame of circuit k's effect does not leave
-away_from : (k c : ℕ) (f : Effect) (o : Outcome) (out : List ℕ) → IsOutcome k f o out → eqb k c ≡ false → frames_to c (frame_of o out) ≡ []
+pub away_from : (k c : ℕ) (f : Effect) (o : Outcome) (out : List ℕ) → IsOutcome k f o out → eqb k c ≡ false → frames_to c (frame_of o out) ≡ []
 away_from k c (Framed frame) o out h other = ap (λ v. frames_to c (frame_of v out)) h.0 ∙ rw other refl
 away_from k c (Dropped reason) o out h other = ap (λ v. frames_to c (frame_of v out)) h.0
 away_from k c Gone o out h other = ap (λ v. frames_to c (frame_of v out)) h.0

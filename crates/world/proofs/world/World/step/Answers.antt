@@ -50,4 +50,4 @@ returns-else-index-ne0-3-clause-steps c =
 pub returns-in-Tick-clause-steps : goal.returns-in-Tick-clause-steps
 returns-in-Tick-clause-steps c =
     tick_steps c.args.event.now c.in-Tick.now (state_of c.args.self.now) (state_of c.tick.new.self) c.tick.result c.tick.new.out
-    (ap (seen_of 0) c.in-Tick.is) (ap named_by c.in-Tick.is) c.tick.ensures.steps c.tick.ensures.done c.tick.ensures.empty
+    c.in-Tick.is c.tick.ensures.steps c.tick.ensures.done c.tick.ensures.empty
