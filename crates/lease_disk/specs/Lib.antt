@@ -1,0 +1,5 @@
+pub mod Crash
+pub mod Layout
+pub mod Model
+pub mod Recovered
+pub mod Region

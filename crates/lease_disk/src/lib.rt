@@ -1,0 +1,16 @@
+//! Regions on a device, in which each circuit's leases outlive a crash.
+#![tactic(auto)]
+
+mod bank;
+mod device;
+mod image;
+mod layout;
+mod model_disk;
+#[cfg(test)]
+mod tests;
+
+pub use bank::{Bank, Marks};
+pub use device::{Disk, Fault, REGION};
+pub use image::Image;
+pub use layout::{FORMAT, FORMAT_AT, GATE_OPEN};
+pub use model_disk::ModelDisk;
