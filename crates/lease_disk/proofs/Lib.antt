@@ -1,0 +1,4 @@
+pub mod Banks
+pub mod Steps
+pub mod Exits
+pub mod ReadBack

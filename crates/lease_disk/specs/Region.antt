@@ -48,3 +48,13 @@ IsRead r at bytes = (i : ℕ) → i < length bytes → slice_index bytes i ≡ r
 -- a fault raises the count of failures by one, and nothing else does
 abbrev pub faults_after : {T E : Type 0} → Result T E → ℕ → ℕ
 faults_after result failures = if is_ok result then failures else failures + 1
+
+-- a region after a write of n bytes failed, or the sync behind it: the range is in doubt
+pub record IsTorn (at n : ℕ) (old new : Region) : Type 0 where
+  pub byte : (i : ℕ) → is_within at n i ≡ false → new.byte i ≡ old.byte i
+  pub unsynced : (i : ℕ) → new.unsynced i ≡ (is_within at n i || old.unsynced i)
+  pub readable : new.readable ≡ old.readable
+
+-- of the next n calls the one that fails, by a fuse; 0 where none of them does
+abbrev pub effective : ℕ → ℕ → ℕ
+effective n fuse = if nat_le fuse n then fuse else 0

@@ -6,6 +6,8 @@ mod device;
 mod image;
 mod layout;
 mod model_disk;
+mod saving;
+mod write_bank;
 #[cfg(test)]
 mod tests;
 
@@ -14,3 +16,4 @@ pub use device::{Disk, Fault, REGION};
 pub use image::Image;
 pub use layout::{FORMAT, FORMAT_AT, GATE_OPEN};
 pub use model_disk::ModelDisk;
+pub use saving::save;
