@@ -2,3 +2,4 @@ pub mod Banks
 pub mod Steps
 pub mod Exits
 pub mod ReadBack
+pub mod FormatLemmas

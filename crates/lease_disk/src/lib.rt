@@ -3,6 +3,7 @@
 
 mod bank;
 mod device;
+mod formatting;
 mod image;
 mod layout;
 mod model_disk;
@@ -13,6 +14,7 @@ mod tests;
 
 pub use bank::{Bank, Marks};
 pub use device::{Disk, Fault, REGION};
+pub use formatting::format;
 pub use image::Image;
 pub use layout::{FORMAT, FORMAT_AT, GATE_OPEN};
 pub use model_disk::ModelDisk;

@@ -2,13 +2,12 @@
 ghost use Rattle.std.specs.Prelude.{◌≡◌, ◌<◌, ◌≤◌, ◌+◌, ◌-◌, ℕ, length, slice_index, slice_index_or, true, false, if◌then◌else◌};
 ghost use Rattle.std.specs.Prelude.{nat_lt};
 ghost use Rattle.lease_disk.specs.Crash.{formatted_region};
-ghost use Rattle.lease_disk.specs.Layout.{formatted};
 ghost use Rattle.lease_disk.specs.Model.{region_of};
 ghost use Rattle.lease_disk.specs.Region.{is_within};
 
 use crate::device::{Disk, Fault, REGION};
 use crate::image::Image;
-use crate::layout::{FORMAT, FORMAT_AT, GATE_OPEN};
+use crate::formatting::{format_bytes, overwrite, put};
 use std::alloc::{AllocError, Global};
 use std::marker::Model;
 use types::Count;
@@ -42,16 +41,6 @@ impl Model for ModelDisk {
     ghost invariant = { λ d. length d.regions.items < 65536 };
 }
 
-/// Copies `source` over the bytes of `target` from an offset on.
-fn put(target: &mut [u8], at: usize, source: &[u8])
-    requires { at + length source.now ≤ length target.old }
-    ensures { (i : ℕ) → slice_index target.new i ≡ (if is_within at (length source.now) i then slice_index source.now (i - at) else slice_index target.old i) }
-{
-    for (i, byte) in source.iter().enumerate() {
-        target[at + i] = *byte;
-    }
-}
-
 /// Marks the n places from an offset on.
 fn mark(target: &mut [bool], at: usize, n: usize)
     requires { at + n ≤ length target.old }
@@ -81,25 +70,6 @@ fn settle(bytes: &mut [u8], unsynced: &[bool], byte: u8)
             bytes[i] = byte;
         }
     }
-}
-
-/// Gives all bytes one value.
-fn overwrite(bytes: &mut [u8], byte: u8)
-    ensures { (i : ℕ) → slice_index bytes.new i ≡ (if nat_lt i (length bytes.old) then byte else 0) }
-{
-    for place in bytes.iter_mut() {
-        *place = byte;
-    }
-}
-
-/// Writes what a formatted region has over zeros.
-fn format_bytes(bytes: &mut [u8])
-    requires { length bytes.old ≡ 32768 }
-    ensures { (i : ℕ) → slice_index bytes.new i ≡ formatted i }
-{
-    overwrite(bytes, 0);
-    put(bytes, 0, &[GATE_OPEN]);
-    put(bytes, FORMAT_AT, &[FORMAT]);
 }
 
 /// A region that was just formatted.
