@@ -109,6 +109,6 @@ pub while_closing : (f g : ℕ → ℕ) (bank : Bank) (was_open : Bool) → was_
 while_closing f g bank true e s p =
     let same = beside_gate bank 1 f g (omega arith) s in
     rw (same_gate bank f g same, same_sequence bank f g same, behind_gate (other bank) 1 f g (omega arith) s)
-        (by_gate (is_open f bank) (is_open g (other bank)) (is_open f (other bank)) (sequence f bank) (sequence f (other bank)) e p)
+    (by_gate (is_open f bank) (is_open g (other bank)) (is_open f (other bank)) (sequence f bank) (sequence f (other bank)) e p)
 while_closing f g bank false e s p =
     while_closed f g bank (beside_gate bank 0 f g (omega arith) s) p (same_open (other bank) f g s ∙ sym e)

@@ -89,10 +89,10 @@ is_filled marks bank sequence bytes whole r0 r1 r2 h =
     let s = is_shut marks bank r0 r1 h.bank_is h.marks_are h.closed in
     let e : r2 ≡ synced (written (bank_at (other marks.bank) + 1) (drop 1 whole) r1) = rw (← h.bank_is, ← h.bytes_are) h.filled in
     let first : slice_index (drop 1 whole) 0 ≡ next (sequence_of r0.byte marks.bank) =
-        first_behind whole ∙ h.sequence_in ∙ next_marks marks bank sequence bytes whole r0 r1 r2 h ∙ ap next h.marks_are.sequence in
+    first_behind whole ∙ h.sequence_in ∙ next_marks marks bank sequence bytes whole r0 r1 r2 h ∙ ap next h.marks_are.sequence in
     let f = fills marks.bank (drop 1 whole) r0.byte r1 (size_behind whole h.size) s.same first in
     let g : IsFilled marks.bank (slice_index whole) r0.byte (synced (written (bank_at (other marks.bank) + 1) (drop 1 whole) r1)).byte =
-        subst (λ (xs : List ℕ). IsFilled marks.bank (slice_index xs) r0.byte (synced (written (bank_at (other marks.bank) + 1) (drop 1 whole) r1)).byte) (front_zero whole h.gate h.size) f in
+    subst (λ (xs : List ℕ). IsFilled marks.bank (slice_index xs) r0.byte (synced (written (bank_at (other marks.bank) + 1) (drop 1 whole) r1)).byte) (front_zero whole h.gate h.size) f in
     subst (λ (r : Region). IsFilled marks.bank (slice_index whole) r0.byte r.byte) (sym e) g
 
 pub exit_opening : (counts : List ℕ) (after : Option Slots) (marks : Marks) (bank : Bank) (sequence : ℕ) (bytes whole : List ℕ) (r0 r1 r2 r : Region) (k k1 k2 : ℕ)
@@ -102,7 +102,7 @@ pub exit_opening : (counts : List ℕ) (after : Option Slots) (marks : Marks) (b
     → IsLeft k (other marks.bank) (recovered counts r0.byte) after counts r
 exit_opening counts after marks bank sequence bytes whole r0 r1 r2 r k k1 k2 h e f book torn answer =
     left_opening k counts after marks (slice_index whole) r0 r2 r h.marks_are (is_filled marks bank sequence bytes whole r0 r1 r2 h) (is_clean (written (bank_at bank + 1) bytes r1) r2 h.filled) book (rw h.bank_is at torn)
-        (late k (rw (f, e) at answer))
+    (late k (rw (f, e) at answer))
 
 pub exit_saved : (counts : List ℕ) (slots : Slots) (marks : Marks) (bank : Bank) (sequence : ℕ) (bytes whole : List ℕ) (r0 r1 r2 r3 : Region)
     → AreFilled marks bank sequence bytes whole r0 r1 r2
@@ -114,7 +114,7 @@ exit_saved counts slots marks bank sequence bytes whole r0 r1 r2 r3 h e book =
     record {
       clean = is_clean (written (gate_at bank) (gate_open ∷ []) r2) r3 e;
       kept = subst (λ (r : Region). recovered counts r.byte ≡ Some slots) (sym e')
-        (saved_book counts (Some slots) marks (slice_index whole) r0 r2 h.marks_are (is_filled marks bank sequence bytes whole r0 r1 r2 h) book)
+          (saved_book counts (Some slots) marks (slice_index whole) r0 r2 h.marks_are (is_filled marks bank sequence bytes whole r0 r1 r2 h) book);
     }
 
 pub exit_marks : (marks : Marks) (bank : Bank) (sequence : ℕ) (bytes whole : List ℕ) (r0 r1 r2 r3 : Region)

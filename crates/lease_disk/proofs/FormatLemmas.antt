@@ -13,6 +13,6 @@ pub is_formatted : (bytes : List ℕ) (old middle new : Region) → length bytes
 is_formatted bytes old middle new size h e f =
     let w : IsFormatted (synced (written 0 bytes old)) = record {
       byte = λ i k. rw (size, is_inside 0 32768 i (omega arith) (omega arith)) (ap (slice_index bytes) (omega arith) ∙ h i);
-      clean = record { each = λ i. refl }
-      } in
+      clean = record { each = λ i. refl };
+    } in
     subst (λ (r : Region). IsFormatted r) (sym (f ∙ ap synced e)) w

@@ -3,3 +3,4 @@ pub mod Steps
 pub mod Exits
 pub mod ReadBack
 pub mod FormatLemmas
+pub mod Fresh

@@ -43,15 +43,26 @@ fits_8 until h = from_be_bytes-to_be_bytes_8 until (omega arith)
 slot4_read : (slot : Slot4) (post : List ℕ) → HasKey4 slot → IsWithin4 slot → slot4_of (slice_index (slot4_bytes slot ++ post)) ≡ Some slot
 slot4_read S4.Free post k w = refl
 slot4_read (S4.Bound key until) post k w =
-    rw (fits_8 until w, not_past until w, at_least 2 (length key) k.0, at_least (length key) 64 k.1,
-        bytes_before ((1 ∷ length key ∷ replicate 6 0) ++ to_be_bytes w64 until) key (replicate (64 - length key) 0) post 16 refl) refl
+    rw (
+      fits_8 until w,
+      not_past until w,
+      at_least 2 (length key) k.0,
+      at_least (length key) 64 k.1,
+      bytes_before ((1 ∷ length key ∷ replicate 6 0) ++ to_be_bytes w64 until) key (replicate (64 - length key) 0) post 16 refl,
+    ) refl
 slot4_read (S4.Barred until) post k w = rw (fits_8 until w, not_past until w) refl
 
 slot6_read : (slot : Slot6) (post : List ℕ) → HasKey6 slot → IsWithin6 slot → slot6_of (slice_index (slot6_bytes slot ++ post)) ≡ Some slot
 slot6_read S6.Free post k w = refl
 slot6_read (S6.Bound key until) post k w =
-    rw (fits_8 until w, not_past until w, at_least 3 (length key.duid) k.0, at_least (length key.duid) 130 k.1, from_be_bytes-to_be_bytes_4 key.iaid k.2,
-        bytes_before ((1 ∷ length key.duid ∷ replicate 2 0) ++ to_be_bytes w32 key.iaid ++ to_be_bytes w64 until) key.duid (replicate (136 - length key.duid) 0) post 16 refl) refl
+    rw (
+      fits_8 until w,
+      not_past until w,
+      at_least 3 (length key.duid) k.0,
+      at_least (length key.duid) 130 k.1,
+      from_be_bytes-to_be_bytes_4 key.iaid k.2,
+      bytes_before ((1 ∷ length key.duid ∷ replicate 2 0) ++ to_be_bytes w32 key.iaid ++ to_be_bytes w64 until) key.duid (replicate (136 - length key.duid) 0) post 16 refl,
+    ) refl
 slot6_read (S6.Barred until) post k w = rw (fits_8 until w, not_past until w) refl
 
 -- all slots by what each reads as
@@ -107,7 +118,7 @@ slot_from : {A : Type 0} → (f : A → List ℕ) (size start : ℕ) (xs : List 
 slot_from f size start xs j d bank pre post e n h k =
     let s : length (flat_map f (take j xs)) ≡ size * j = sizes f size xs j h (omega arith) in
     piece_from bank (pre ++ flat_map f (take j xs)) _ (start + size * j) (e ∙ pieces f xs j d pre post k)
-        (length-append pre (flat_map f (take j xs)) ∙ rw (n, s) refl)
+    (length-append pre (flat_map f (take j xs)) ∙ rw (n, s) refl)
 
 not_below : (j count : ℕ) → nat_lt j count ≡ false → count ≤ j
 not_below j count e = grind (arith, e)
@@ -121,8 +132,8 @@ four_read : (count clock : ℕ) (four : List Slot4) (bank pre post : List ℕ)
 four_read count clock four bank pre post e n c keys within live past j h true t =
     let slot : Slot4 = get_or four j S4.Free in
     let read : slot4_of (from (32 + 80 * j) (slice_index bank)) ≡ Some slot =
-        ap slot4_of (slot_from slot4_bytes 80 32 four j S4.Free bank pre post e n (λ i d l. size4 (get_or four i d) (keys i d l)) h)
-          ∙ slot4_read slot (flat_map slot4_bytes (drop (suc j) four) ++ post) (keys j S4.Free h) (within j S4.Free h) in
+    ap slot4_of (slot_from slot4_bytes 80 32 four j S4.Free bank pre post e n (λ i d l. size4 (get_or four i d) (keys i d l)) h)
+    ∙ slot4_read slot (flat_map slot4_bytes (drop (suc j) four) ++ post) (keys j S4.Free h) (within j S4.Free h) in
     ap (λ (o : Option Slot4). option_map (live4 (clock_of (slice_index bank))) o) read ∙ ap (λ (t : ℕ). Some (live4 t slot)) c ∙ ap Some (live j S4.Free h)
 four_read count clock four bank pre post e n c keys within live past j h false t = ap Some (sym (past j (not_below j count t)))
 
@@ -135,8 +146,8 @@ six_read : (count clock : ℕ) (six : List Slot6) (bank pre post : List ℕ)
 six_read count clock six bank pre post e n c keys within live past j h true t =
     let slot : Slot6 = get_or six j S6.Free in
     let read : slot6_of (from (1312 + 152 * j) (slice_index bank)) ≡ Some slot =
-        ap slot6_of (slot_from slot6_bytes 152 1312 six j S6.Free bank pre post e n (λ i d l. size6 (get_or six i d) (keys i d l)) h)
-          ∙ slot6_read slot (flat_map slot6_bytes (drop (suc j) six) ++ post) (keys j S6.Free h) (within j S6.Free h) in
+    ap slot6_of (slot_from slot6_bytes 152 1312 six j S6.Free bank pre post e n (λ i d l. size6 (get_or six i d) (keys i d l)) h)
+    ∙ slot6_read slot (flat_map slot6_bytes (drop (suc j) six) ++ post) (keys j S6.Free h) (within j S6.Free h) in
     ap (λ (o : Option Slot6). option_map (live6 (clock_of (slice_index bank))) o) read ∙ ap (λ (t : ℕ). Some (live6 t slot)) c ∙ ap Some (live j S6.Free h)
 six_read count clock six bank pre post e n c keys within live past j h false t = ap Some (sym (past j (not_below j count t)))
 
@@ -176,11 +187,11 @@ book_read counts slots sequence bank e n4 n6 small keys4 keys6 book =
     let l4 : length four ≡ 1280 = sizes_all slot4_bytes 80 slots.four (λ i d l. size4 (get_or slots.four i d) (keys4 i d l)) ∙ rw n4 refl in
     let l6 : length (front ++ four) ≡ 1312 = length-append front four ∙ rw l4 refl in
     let r4 : slots_from (four_in (slice_index counts 0) (slice_index bank)) 0 16 ≡ Some slots.four =
-        subst (λ (n : ℕ). slots_from (four_in (slice_index counts 0) (slice_index bank)) 0 n ≡ Some slots.four) n4
-          (all_read (four_in (slice_index counts 0) (slice_index bank)) slots.four S4.Free 0 (λ j h. ap (four_in (slice_index counts 0) (slice_index bank)) (zero-add j) ∙
-            four_read (slice_index counts 0) slots.clock slots.four bank front (six ++ rest) as4 refl c keys4 book.within4 book.live4 book.past4 j h (nat_lt j (slice_index counts 0)) refl)) in
+    subst (λ (n : ℕ). slots_from (four_in (slice_index counts 0) (slice_index bank)) 0 n ≡ Some slots.four) n4
+    (all_read (four_in (slice_index counts 0) (slice_index bank)) slots.four S4.Free 0 (λ j h. ap (four_in (slice_index counts 0) (slice_index bank)) (zero-add j) ∙
+    four_read (slice_index counts 0) slots.clock slots.four bank front (six ++ rest) as4 refl c keys4 book.within4 book.live4 book.past4 j h (nat_lt j (slice_index counts 0)) refl)) in
     let r6 : slots_from (six_in (slice_index counts 1) (slice_index bank)) 0 16 ≡ Some slots.six =
-        subst (λ (n : ℕ). slots_from (six_in (slice_index counts 1) (slice_index bank)) 0 n ≡ Some slots.six) n6
-          (all_read (six_in (slice_index counts 1) (slice_index bank)) slots.six S6.Free 0 (λ j h. ap (six_in (slice_index counts 1) (slice_index bank)) (zero-add j) ∙
-            six_read (slice_index counts 1) slots.clock slots.six bank (front ++ four) rest as6 l6 c keys6 book.within6 book.live6 book.past6 j h (nat_lt j (slice_index counts 1)) refl)) in
+    subst (λ (n : ℕ). slots_from (six_in (slice_index counts 1) (slice_index bank)) 0 n ≡ Some slots.six) n6
+    (all_read (six_in (slice_index counts 1) (slice_index bank)) slots.six S6.Free 0 (λ j h. ap (six_in (slice_index counts 1) (slice_index bank)) (zero-add j) ∙
+    six_read (slice_index counts 1) slots.clock slots.six bank (front ++ four) rest as6 l6 c keys6 book.within6 book.live6 book.past6 j h (nat_lt j (slice_index counts 1)) refl)) in
     (λ i. book_with (c i) (r4 i) (r6 i)) ∙ (book_of_slots slots.clock slots.four slots.six small book.once4 book.once6)

@@ -112,8 +112,8 @@ pub still_filled : (bank : Bank) (whole f g h : ℕ → ℕ) → IsFilled bank w
 still_filled bank whole f g h s t = record {
   same = same_trans bank f g h s.same (beside_gate bank 1 g h (omega arith) t);
   sequence = behind_gate (other bank) 1 g h (omega arith) t ∙ s.sequence;
-  body = body_behind (other bank) g h t ∙ s.body
-  }
+  body = body_behind (other bank) g h t ∙ s.body;
+}
 
 -- with the other bank written, its gate decides
 by_open : (counts : List ℕ) (bank : Bank) (whole f g : ℕ → ℕ) (o : Bool) → is_open g (other bank) ≡ o → is_counting f bank ≡ true → IsFilled bank whole f g → recovered counts g ≡ (if o then book_of counts whole else recovered counts f)
@@ -160,8 +160,8 @@ pub fills : (bank : Bank) (bytes : List ℕ) (f : ℕ → ℕ) (r : Region) → 
 fills bank bytes f r size same e = record {
   same = same_trans bank f r.byte _ same (beside_body bank _ _ (writes (other bank) bytes r size));
   sequence = body_at_one (other bank) (written (bank_at (other bank) + 1) bytes r).byte ∙ ap (λ b. b 1) (body_written (other bank) bytes r size) ∙ e;
-  body = body_written (other bank) bytes r size
-  }
+  body = body_written (other bank) bytes r size;
+}
 
 opens : (bank : Bank) (r : Region) → SameButGate bank 1 r.byte (written (gate_at bank) (gate_open ∷ []) r).byte
 opens bank r = record { each = λ i h. rw h refl }
@@ -177,23 +177,23 @@ pub left_closing : (k : ℕ) (counts : List ℕ) (after : Option Slots) (marks :
     → IsLeft k (other marks.bank) (recovered counts old.byte) after counts new
 left_closing k counts after marks old new m clean torn e = record {
   crash = λ f crash.
-    let s : SameButGate (other marks.bank) (if marks.other_open then 1 else 0) old.byte f = record { each = outside _ _ old new f clean torn crash } in
-    rw e (same_book counts old.byte f marks.bank (beside_closing marks.bank marks.other_open old.byte f s) m.counting
+      let s : SameButGate (other marks.bank) (if marks.other_open then 1 else 0) old.byte f = record { each = outside _ _ old new f clean torn crash } in
+      rw e (same_book counts old.byte f marks.bank (beside_closing marks.bank marks.other_open old.byte f s) m.counting
       (while_closing old.byte f marks.bank marks.other_open m.other_open s m.counting));
-  doubt = λ h. absurd (not_late k e h)
-  }
+  doubt = λ h. absurd (not_late k e h);
+}
 
 pub left_writing : (k : ℕ) (counts : List ℕ) (after : Option Slots) (marks : Marks) (first old new : Region) → AreMarks first.byte marks → IsShut marks.bank first.byte old.byte → IsClean old
     → IsTorn (bank_at (other marks.bank) + 1) 4095 old new → nat_le 5 k ≡ false
     → IsLeft k (other marks.bank) (recovered counts first.byte) after counts new
 left_writing k counts after marks first old new m s clean torn e = record {
   crash = λ f crash.
-    let t : SameButBody (other marks.bank) old.byte f = record { each = outside _ _ old new f clean torn crash } in
-    let same : SameIn marks.bank first.byte f = same_trans marks.bank first.byte old.byte f s.same (beside_body marks.bank old.byte f t) in
-    rw e (same_book counts first.byte f marks.bank same m.counting
+      let t : SameButBody (other marks.bank) old.byte f = record { each = outside _ _ old new f clean torn crash } in
+      let same : SameIn marks.bank first.byte f = same_trans marks.bank first.byte old.byte f s.same (beside_body marks.bank old.byte f t) in
+      rw e (same_book counts first.byte f marks.bank same m.counting
       (while_closed first.byte f marks.bank same m.counting (gate_stays (other marks.bank) old.byte f t ∙ s.shut)));
-  doubt = λ h. absurd (not_late k e h)
-  }
+  doubt = λ h. absurd (not_late k e h);
+}
 
 pub left_opening : (k : ℕ) (counts : List ℕ) (after : Option Slots) (marks : Marks) (whole : ℕ → ℕ) (first old new : Region) → AreMarks first.byte marks → IsFilled marks.bank whole first.byte old.byte → IsClean old
     → book_of counts whole ≡ after
@@ -201,10 +201,10 @@ pub left_opening : (k : ℕ) (counts : List ℕ) (after : Option Slots) (marks :
     → IsLeft k (other marks.bank) (recovered counts first.byte) after counts new
 left_opening k counts after marks whole first old new m s clean book torn e = record {
   crash = λ f crash.
-    let t : SameButGate (other marks.bank) 1 old.byte f = record { each = outside _ _ old new f clean torn crash } in
-    rw (e, ← book) (by_open counts marks.bank whole first.byte f (is_open f (other marks.bank)) refl m.counting (still_filled marks.bank whole first.byte old.byte f s t));
-  doubt = λ h. torn.unsynced (gate_at (other marks.bank)) ∙ rw (is_inside (gate_at (other marks.bank)) 1 (gate_at (other marks.bank)) (omega arith) (omega arith)) refl
-  }
+      let t : SameButGate (other marks.bank) 1 old.byte f = record { each = outside _ _ old new f clean torn crash } in
+      rw (e, ← book) (by_open counts marks.bank whole first.byte f (is_open f (other marks.bank)) refl m.counting (still_filled marks.bank whole first.byte old.byte f s t));
+  doubt = λ h. torn.unsynced (gate_at (other marks.bank)) ∙ rw (is_inside (gate_at (other marks.bank)) 1 (gate_at (other marks.bank)) (omega arith) (omega arith)) refl;
+}
 
 pub saved_book : (counts : List ℕ) (after : Option Slots) (marks : Marks) (whole : ℕ → ℕ) (first old : Region) → AreMarks first.byte marks → IsFilled marks.bank whole first.byte old.byte
     → book_of counts whole ≡ after
@@ -219,5 +219,5 @@ saved_marks marks whole first old m s =
     record {
       counting = filled_counts marks.bank whole first.byte _ m.counting t (opened_to (other marks.bank) old);
       sequence = ap next m.sequence ∙ sym t.sequence;
-      other_open = rw (other_other marks.bank) (sym (still_open marks.bank first.byte _ t.same m.counting))
+      other_open = rw (other_other marks.bank) (sym (still_open marks.bank first.byte _ t.same m.counting));
     }

@@ -46,4 +46,4 @@ slot6_bytes (S6.Barred until) = (2 ∷ replicate 7 0) ++ to_be_bytes w64 until +
 unfoldable pub bank_bytes : ℕ → Slots → List ℕ
 bank_bytes sequence slots =
     (0 ∷ sequence ∷ replicate 6 0) ++ to_be_bytes w64 slots.clock ++ replicate 16 0
-        ++ flat_map slot4_bytes slots.four ++ flat_map slot6_bytes slots.six ++ replicate 352 0
+    ++ flat_map slot4_bytes slots.four ++ flat_map slot6_bytes slots.six ++ replicate 352 0

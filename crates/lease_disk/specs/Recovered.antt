@@ -38,8 +38,8 @@ next n = (n + 1) % 3
 abbrev pub is_counting : (ℕ → ℕ) → Bank → Bool
 is_counting region bank =
     is_valid region bank
-        && (not (is_open region (other bank))
-            || (is_valid region (other bank) && sequence region bank == next (sequence region (other bank))))
+    && (not (is_open region (other bank))
+    || (is_valid region (other bank) && sequence region bank == next (sequence region (other bank))))
 
 -- the bytes behind a bank's gate, by their offset in the bank
 abbrev pub body : (ℕ → ℕ) → Bank → ℕ → ℕ
@@ -75,9 +75,9 @@ slot4_of slot =
     if slot state_at == 0 then Some S4.Free
     else if nat_lt last_until (until_of slot) then None
     else if slot state_at == 1 then
-        (if nat_le 2 (slot length_at) && nat_le (slot length_at) 64
-            then Some (S4.Bound (bytes_at slot key_at (slot length_at)) (until_of slot))
-            else None)
+    (if nat_le 2 (slot length_at) && nat_le (slot length_at) 64
+    then Some (S4.Bound (bytes_at slot key_at (slot length_at)) (until_of slot))
+    else None)
     else if slot state_at == 2 then Some (S4.Barred (until_of slot))
     else None
 
@@ -87,9 +87,9 @@ slot6_of slot =
     if slot state_at == 0 then Some S6.Free
     else if nat_lt last_until (until_of slot) then None
     else if slot state_at == 1 then
-        (if nat_le 3 (slot length_at) && nat_le (slot length_at) 130
-            then Some (S6.Bound (record { duid = bytes_at slot key_at (slot length_at); iaid = from_be_bytes w32 (bytes_at slot iaid_at 4) }) (until_of slot))
-            else None)
+    (if nat_le 3 (slot length_at) && nat_le (slot length_at) 130
+    then Some (S6.Bound (record { duid = bytes_at slot key_at (slot length_at); iaid = from_be_bytes w32 (bytes_at slot iaid_at 4) }) (until_of slot))
+    else None)
     else if slot state_at == 2 then Some (S6.Barred (until_of slot))
     else None
 
@@ -137,16 +137,16 @@ none_twice alike (x ∷ xs) = not (list_any (alike x) xs) && none_twice alike xs
 abbrev pub book_with : ℕ → Option (List Slot4) → Option (List Slot6) → Option Slots
 book_with clock (Some four) (Some six) =
     if nat_le clock last_clock && none_twice same_client4 four && none_twice same_client6 six
-        then Some (record { four = four; six = six; clock = clock })
-        else None
+    then Some (record { four = four; six = six; clock = clock })
+    else None
 book_with clock _ _ = None
 
 -- what a bank holds for pools of so many addresses
 unfoldable pub book_of : List ℕ → (ℕ → ℕ) → Option Slots
 book_of counts bank =
     book_with (clock_of bank)
-        (slots_from (four_in (slice_index counts 0) bank) 0 16)
-        (slots_from (six_in (slice_index counts 1) bank) 0 16)
+    (slots_from (four_in (slice_index counts 0) bank) 0 16)
+    (slots_from (six_in (slice_index counts 1) bank) 0 16)
 
 -- What the region holds
 

@@ -18,8 +18,8 @@ abbrev pub written : ℕ → List ℕ → Region → Region
 written at bytes r = record {
   byte = λ i. if is_within at (length bytes) i then slice_index bytes (i - at) else r.byte i;
   unsynced = λ i. is_within at (length bytes) i || r.unsynced i;
-  readable = r.readable
-  }
+  readable = r.readable;
+}
 
 -- a region after a write of n bytes that failed
 abbrev pub spoilt : ℕ → ℕ → Region → Region

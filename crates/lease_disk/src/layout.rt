@@ -14,4 +14,5 @@ pub const BANK_SIZE: usize = 4096;
 
 /// Where bank 0 and bank 1 stand in a region.
 pub const FIRST_BANK: usize = 0;
+
 pub const SECOND_BANK: usize = 4096;

@@ -8,9 +8,9 @@ mod image;
 mod layout;
 mod model_disk;
 mod saving;
-mod write_bank;
 #[cfg(test)]
 mod tests;
+mod write_bank;
 
 pub use bank::{Bank, Marks};
 pub use device::{Disk, Fault, REGION};

@@ -82,11 +82,17 @@ fn sequence_after(sequence: u8) -> u8
 
 /// Saves the slots of a circuit in its region, by six calls of the device. After an error the region
 /// is not written to again until a crash has settled what is in doubt.
-pub fn save<D: Disk>(region: u16, disk: &mut D, marks: &mut Marks, slots: &Slots) -> Result<(), Fault>
+pub fn save<D: Disk>(
+    region: u16,
+    disk: &mut D,
+    marks: &mut Marks,
+    slots: &Slots,
+) -> Result<(), Fault>
     requires exists { region < D.count disk.old }
     requires clean { D.tells ≡ true → IsClean (D.state disk.old region) }
     requires marks { D.tells ≡ true → AreMarks (D.state disk.old region).byte marks.old }
     ensures ok { D.tells ≡ true → (counts : List ℕ) → IsBook counts slots.now → OnOk result (IsSaved counts slots.now (D.state disk.new region)) }
+    ensures clean { D.tells ≡ true → OnOk result (IsClean (D.state disk.new region)) }
     ensures marks { D.tells ≡ true → OnOk result (AreMarks (D.state disk.new region).byte marks.new) }
     ensures err { D.tells ≡ true → (counts : List ℕ) → IsBook counts slots.now →
         OnErr result (IsLeft (D.fuse disk.old region) (other marks.old.bank) (recovered counts (D.state disk.old region).byte) (Some slots.now) counts (D.state disk.new region)) }

@@ -10,5 +10,5 @@ abbrev pub invariant-loop-slot : goal.invariant-loop-slot
 invariant-loop-slot l = record {
   bytes : l.bank.items ≡ l.fn.bank.items ++ flat_map slot4_bytes (take l.slot-index l.four);
   size : length l.bank.items ≡ 32 + 80 * l.slot-index;
-  keys : (k : ℕ) (d : Slot4) → k < l.slot-index → HasKey4 (slice_index_or l.four k d)
-  }
+  keys : (k : ℕ) (d : Slot4) → k < l.slot-index → HasKey4 (slice_index_or l.four k d);
+}

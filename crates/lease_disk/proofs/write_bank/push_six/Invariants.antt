@@ -10,5 +10,5 @@ abbrev pub invariant-loop-slot : goal.invariant-loop-slot
 invariant-loop-slot l = record {
   bytes : l.bank.items ≡ l.fn.bank.items ++ flat_map slot6_bytes (take l.slot-index l.six);
   size : length l.bank.items ≡ 1312 + 152 * l.slot-index;
-  keys : (k : ℕ) (d : Slot6) → k < l.slot-index → HasKey6 (slice_index_or l.six k d)
-  }
+  keys : (k : ℕ) (d : Slot6) → k < l.slot-index → HasKey6 (slice_index_or l.six k d);
+}

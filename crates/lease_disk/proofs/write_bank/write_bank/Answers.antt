@@ -10,4 +10,4 @@ returns-clause-bytes c = rw (c.push_zeros.ensures, c.push_six.ensures.bytes, c.p
 pub returns-clause-book : goal.returns-clause-book
 returns-clause-book c = λ counts book.
     book_read counts c.args.slots.now c.args.sequence c.push_zeros.new.bank.items (returns-clause-bytes c) (search rules) (search rules) (rw (← c.seconds.ensures.value) c.seconds.ensures.within)
-        c.push_four.ensures.keys c.push_six.ensures.keys book
+    c.push_four.ensures.keys c.push_six.ensures.keys book
