@@ -1,12 +1,11 @@
 -- Which bank counts after each step of a save, over regions as functions of the offset.
-use Rattle.std.proofs.Common.{◌≡◌, ℕ, ◌+◌, ◌-◌, ◌<◌, ◌≤◌, ◌%◌, Bool, true, false, not, ◌&&◌, ◌||◌, nat_le, nat_lt, List, [], ◌∷◌, length, slice_index, Option, Some, refl, sym, ap, ◌∙◌, subst, arith}
+use Rattle.std.proofs.Common.{◌≡◌, ℕ, ◌+◌, ◌<◌, ◌≤◌, ◌%◌, Bool, true, false, not, ◌&&◌, ◌||◌, nat_le, List, refl, sym, ap, ◌∙◌, arith}
 use Rattle.std.specs.Prelude.{if◌then◌else◌, ◌==◌}
-use Rattle.types.specs.declared.slots.Slots.{Slots}
 use Rattle.lease_disk.specs.declared.bank.Bank.{Bank}
 use Rattle.lease_disk.specs.declared.bank.Bank.TheVariants.{First, Second}
 use Rattle.lease_disk.specs.Layout.{gate_open, gate_at, bank_at}
 use Rattle.lease_disk.specs.Recovered.{other, is_open, sequence, is_valid, next, is_counting, body, book_of, recovered}
-use Rattle.lease_disk.specs.Region.{Region, is_within, written, synced, IsCrash, IsClean, IsTorn}
+use Rattle.lease_disk.specs.Region.{is_within}
 
 -- two regions have the same bytes in a bank
 pub record SameIn (bank : Bank) (f g : ℕ → ℕ) : Type 0 where

@@ -1,12 +1,12 @@
 -- The exits of a save, by what its three functions promise.
-use Rattle.std.proofs.Common.{◌≡◌, ℕ, ◌+◌, ◌-◌, ◌≤◌, Bool, true, false, nat_le, List, [], ◌∷◌, length, take, slice_index, Option, Some, Result, OnErr, Ok, Err, refl, sym, ap, ◌∙◌, subst, arith}
-use Rattle.std.specs.Prelude.{if◌then◌else◌, ◌==◌, drop, suc, zero}
+use Rattle.std.proofs.Common.{◌≡◌, ℕ, ◌+◌, ◌-◌, ◌≤◌, true, false, List, [], ◌∷◌, length, take, slice_index, Option, Some, Result, OnErr, Ok, Err, refl, sym, ap, ◌∙◌, subst, arith}
+use Rattle.std.specs.Prelude.{if◌then◌else◌, ◌==◌, drop, suc}
 use Rattle.std.proofs.Math.Seq.{take-length}
 use Rattle.types.specs.declared.slots.Slots.{Slots}
 use Rattle.lease_disk.specs.declared.bank.Bank.{Bank}
 use Rattle.lease_disk.specs.declared.bank.Marks.{Marks}
 use Rattle.lease_disk.specs.Layout.{gate_open, gate_at, bank_at}
-use Rattle.lease_disk.specs.Recovered.{other, next, sequence as sequence_of, is_counting, book_of, recovered}
+use Rattle.lease_disk.specs.Recovered.{other, next, sequence as sequence_of, book_of, recovered}
 use Rattle.lease_disk.specs.Region.{Region, written, synced, effective, IsClean, IsTorn}
 use Rattle.lease_disk.specs.Save.{AreMarks, IsSaved, IsLeft}
 use Rattle.lease_disk.proofs.Steps.{IsShut, IsFilled, early, middle, late, shut, fills, counted_sequence, left_closing, left_writing, left_opening, saved_book, saved_marks}

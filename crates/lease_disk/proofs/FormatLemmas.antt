@@ -1,8 +1,8 @@
 -- A region whose bytes were all written.
-use Rattle.std.proofs.Common.{◌≡◌, ℕ, ◌+◌, ◌-◌, ◌<◌, true, false, List, length, slice_index, Result, OnOk, Ok, Err, refl, ap, ◌∙◌, subst, sym, arith}
+use Rattle.std.proofs.Common.{◌≡◌, ℕ, List, length, slice_index, Result, OnOk, Ok, Err, refl, ap, ◌∙◌, subst, sym, arith}
 use Rattle.lease_disk.specs.Layout.{formatted}
 use Rattle.lease_disk.specs.Crash.{IsFormatted}
-use Rattle.lease_disk.specs.Region.{Region, is_within, written, synced}
+use Rattle.lease_disk.specs.Region.{Region, written, synced}
 use Rattle.lease_disk.proofs.Banks.{is_inside}
 
 pub on_ok : {T E : Type 0} → (r : Result T E) → {P Q : Type 0} → (P → Q) → OnOk r P → OnOk r Q

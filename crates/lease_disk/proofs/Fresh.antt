@@ -1,5 +1,5 @@
 -- A region that was just formatted.
-use Rattle.std.proofs.Common.{◌≡◌, ℕ, sym, subst, refl}
+use Rattle.std.proofs.Common.{◌≡◌, sym, subst, refl}
 use Rattle.lease_disk.specs.declared.bank.Marks.{Marks}
 use Rattle.lease_disk.specs.Crash.{formatted_region}
 use Rattle.lease_disk.specs.Layout.{formatted}

@@ -1,13 +1,12 @@
 -- What is written to a bank is what is read from it.
-use Rattle.std.proofs.Common.{◌≡◌, ℕ, ◌+◌, ◌-◌, ◌*◌, ◌<◌, ◌≤◌, ◌^◌, Bool, true, false, not, ◌&&◌, nat_le, nat_lt, suc, zero, List, [], ◌∷◌, ◌++◌, length, take, drop, replicate, get_or, slice_index, All, Option, Some, None, refl, sym, ap, ◌∙◌, subst, arith, append_assoc, zero-add}
-use Rattle.std.specs.Prelude.{if◌then◌else◌, ◌==◌, option_map}
+use Rattle.std.proofs.Common.{◌≡◌, ℕ, ◌+◌, ◌-◌, ◌*◌, ◌<◌, ◌≤◌, Bool, true, false, nat_le, nat_lt, suc, zero, List, [], ◌∷◌, ◌++◌, length, take, drop, replicate, get_or, slice_index, All, Option, Some, refl, sym, ap, ◌∙◌, subst, arith, append_assoc, zero-add}
+use Rattle.std.specs.Prelude.{if◌then◌else◌, option_map}
 use Rattle.std.specs.Int.{w32, w64, to_be_bytes, from_be_bytes}
 use Rattle.std.specs.List.{flat_map}
 use Rattle.std.proofs.lemmas.List.{get_or-append-add, length-append, length-replicate}
 use Rattle.std.proofs.lemmas.Nat.{from_be_bytes-to_be_bytes_8, from_be_bytes-to_be_bytes_4}
 use Rattle.std.proofs.Math.ListN.{get_or-append}
 use Rattle.std.proofs.Math.Seq.{take-length}
-use Rattle.types.specs.Key6.{Key6Value}
 use Rattle.types.specs.declared.slot4.Slot4.{Slot4}
 use Rattle.types.specs.declared.slot4.Slot4.TheVariants as S4
 use Rattle.types.specs.declared.slots.Slot6.{Slot6}
@@ -15,7 +14,7 @@ use Rattle.types.specs.declared.slots.Slot6.TheVariants as S6
 use Rattle.types.specs.declared.slots.Slots.{Slots}
 use Rattle.lease_disk.specs.Book.{IsBook, IsWithin4, IsWithin6, slot4_bytes, slot6_bytes, bank_bytes}
 use Rattle.lease_disk.specs.Keys.{HasKey4, HasKey6}
-use Rattle.lease_disk.specs.Recovered.{bytes_at, from, until_of, clock_of, slot4_of, slot6_of, live4, live6, cons_some, slots_from, four_in, six_in, none_twice, same_client4, same_client6, book_with, book_of, last_clock, last_until}
+use Rattle.lease_disk.specs.Recovered.{bytes_at, from, clock_of, slot4_of, slot6_of, live4, live6, slots_from, four_in, six_in, none_twice, same_client4, same_client6, book_with, book_of, last_clock, last_until}
 
 -- bytes one after the other
 bytes_read : (f : ℕ → ℕ) (at : ℕ) (xs : List ℕ) → ((j : ℕ) → j < length xs → f (at + j) ≡ get_or xs j 0) → bytes_at f at (length xs) ≡ xs

@@ -1,15 +1,15 @@
 -- What a crash leaves after each step of a save.
-use Rattle.std.proofs.Common.{◌≡◌, ℕ, ◌+◌, ◌-◌, ◌<◌, ◌≤◌, ◌%◌, Bool, true, false, not, ◌&&◌, ◌||◌, nat_le, nat_lt, suc, zero, List, [], ◌∷◌, length, slice_index, Option, Some, refl, sym, ap, ◌∙◌, subst, arith}
-use Rattle.std.specs.Prelude.{if◌then◌else◌, ◌==◌, drop}
+use Rattle.std.proofs.Common.{◌≡◌, ℕ, ◌+◌, ◌-◌, ◌<◌, ◌≤◌, Bool, true, false, not, ◌&&◌, ◌||◌, nat_le, nat_lt, suc, zero, List, [], ◌∷◌, length, slice_index, Option, refl, sym, ap, ◌∙◌, arith}
+use Rattle.std.specs.Prelude.{if◌then◌else◌, ◌==◌}
 use Rattle.std.proofs.lemmas.List.{get_or_past}
 use Rattle.types.specs.declared.slots.Slots.{Slots}
 use Rattle.lease_disk.specs.declared.bank.Bank.{Bank}
 use Rattle.lease_disk.specs.declared.bank.Bank.TheVariants.{First, Second}
 use Rattle.lease_disk.specs.declared.bank.Marks.{Marks}
 use Rattle.lease_disk.specs.Layout.{gate_open, gate_at, bank_at}
-use Rattle.lease_disk.specs.Recovered.{other, is_open, sequence, is_valid, next, is_counting, body, book_of, recovered}
+use Rattle.lease_disk.specs.Recovered.{other, is_open, sequence, next, is_counting, body, book_of, recovered}
 use Rattle.lease_disk.specs.Region.{Region, is_within, written, synced, effective, IsCrash, IsClean, IsTorn}
-use Rattle.lease_disk.specs.Save.{AreMarks, IsSaved, IsLeft}
+use Rattle.lease_disk.specs.Save.{AreMarks, IsLeft}
 use Rattle.lease_disk.proofs.Banks.{SameIn, SameButGate, is_below, is_above, is_inside, same_gate, same_sequence, same_book, other_other, recovered_by, while_closed, while_closing, beside_gate, behind_gate, same_open}
 
 -- which call failed

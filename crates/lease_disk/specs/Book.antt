@@ -1,5 +1,5 @@
 -- What a bank is written for: slots within their limits, and their bytes. Bytes not named are 0.
-use Rattle.std.specs.Prelude.{◌≡◌, ℕ, ◌-◌, ◌≤◌, true, List, [], ◌∷◌, ◌++◌, length, replicate, All, slice_index, slice_index_or}
+use Rattle.std.specs.Prelude.{◌≡◌, ℕ, ◌-◌, ◌≤◌, true, List, ◌∷◌, ◌++◌, length, replicate, All, slice_index, slice_index_or}
 use Rattle.std.specs.Int.{w32, w64, to_be_bytes}
 use Rattle.std.specs.List.{flat_map}
 use Rattle.types.specs.declared.slot4.Slot4.{Slot4}
@@ -7,7 +7,7 @@ use Rattle.types.specs.declared.slot4.Slot4.TheVariants as S4
 use Rattle.types.specs.declared.slots.Slot6.{Slot6}
 use Rattle.types.specs.declared.slots.Slot6.TheVariants as S6
 use Rattle.types.specs.declared.slots.Slots.{Slots}
-use Rattle.lease_disk.specs.Recovered.{last_clock, last_until, live4, live6, none_twice, same_client4, same_client6}
+use Rattle.lease_disk.specs.Recovered.{last_until, live4, live6, none_twice, same_client4, same_client6}
 
 -- no until past its limit
 abbrev pub IsWithin4 : Slot4 → Type 0

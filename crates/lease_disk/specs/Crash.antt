@@ -1,5 +1,5 @@
 -- What a restart finds of a region.
-use Rattle.std.specs.Prelude.{◌≡◌, ◌<◌, ℕ, Bool, true, false, nat_lt, if◌then◌else◌}
+use Rattle.std.specs.Prelude.{◌≡◌, ◌<◌, ℕ, true, false, nat_lt, if◌then◌else◌}
 use Rattle.lease_disk.specs.declared.image.Image.{Image}
 use Rattle.lease_disk.specs.declared.image.Image.TheVariants.{Byte, Unreadable}
 use Rattle.lease_disk.specs.Layout.{formatted, region_size}

@@ -1,5 +1,5 @@
 -- Slots whose clients have keys of a key's length.
-use Rattle.std.specs.Prelude.{ℕ, ◌^◌, ◌<◌, ◌≤◌, length}
+use Rattle.std.specs.Prelude.{◌^◌, ◌<◌, ◌≤◌, length}
 use Rattle.types.specs.declared.slot4.Slot4.{Slot4}
 use Rattle.types.specs.declared.slot4.Slot4.TheVariants as S4
 use Rattle.types.specs.declared.slots.Slot6.{Slot6}

@@ -1,5 +1,5 @@
 -- A device in memory, by its fields.
-use Rattle.std.specs.Prelude.{◌≡◌, ◌≢◌, ℕ, Bool, false, List, [], length, slice_index, slice_index_or}
+use Rattle.std.specs.Prelude.{◌≡◌, ◌≢◌, ℕ, false, List, [], length, slice_index, slice_index_or}
 use Rattle.lease_disk.specs.declared.model_disk.Stored.{Stored}
 use Rattle.lease_disk.specs.Region.{Region}
 

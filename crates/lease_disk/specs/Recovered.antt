@@ -1,6 +1,6 @@
 -- What the bytes of a region of format 1 mean: the slots that a book begins with, or None where the
 -- region is damaged.
-use Rattle.std.specs.Prelude.{ℕ, ◌+◌, ◌-◌, ◌%◌, ◌==◌, Bool, true, false, not, ◌&&◌, ◌||◌, nat_le, nat_lt, suc, zero, if◌then◌else◌, List, [], ◌∷◌, slice_index, Option, Some, None, option_map}
+use Rattle.std.specs.Prelude.{ℕ, ◌+◌, ◌%◌, ◌==◌, Bool, true, false, not, ◌&&◌, ◌||◌, nat_le, nat_lt, suc, zero, if◌then◌else◌, List, [], ◌∷◌, slice_index, Option, Some, None, option_map}
 use Rattle.std.specs.Int.{w32, w64, from_be_bytes}
 use Rattle.std.specs.List.{list_any}
 use Rattle.std.specs.Str.{bytes_eq}

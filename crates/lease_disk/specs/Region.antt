@@ -1,6 +1,6 @@
 -- A region of a device, without its layout: its bytes, which of them a crash may still change, and
 -- whether it can be read.
-use Rattle.std.specs.Prelude.{◌≡◌, ℕ, ◌+◌, ◌-◌, ◌<◌, Bool, true, false, ◌&&◌, ◌||◌, nat_le, nat_lt, if◌then◌else◌, List, length, slice_index, Result, is_ok}
+use Rattle.std.specs.Prelude.{◌≡◌, ℕ, ◌+◌, ◌-◌, ◌<◌, Bool, false, ◌&&◌, ◌||◌, nat_le, nat_lt, if◌then◌else◌, List, length, slice_index, Result, is_ok}
 
 pub record Region : Type 0 where
   -- what a read gives at an offset

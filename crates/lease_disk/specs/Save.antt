@@ -1,5 +1,5 @@
 -- What a save leaves.
-use Rattle.std.specs.Prelude.{◌≡◌, ℕ, ◌≤◌, Bool, true, ◌&&◌, nat_le, if◌then◌else◌, List, Option, Some}
+use Rattle.std.specs.Prelude.{◌≡◌, ℕ, ◌≤◌, true, ◌&&◌, nat_le, if◌then◌else◌, List, Option, Some}
 use Rattle.types.specs.declared.slots.Slots.{Slots}
 use Rattle.lease_disk.specs.declared.bank.Bank.{Bank}
 use Rattle.lease_disk.specs.declared.bank.Marks.{Marks}

@@ -1,4 +1,4 @@
-use Rattle.std.proofs.Common.{◌≡◌, ℕ, ◌-◌, slice_index_or, true, false}
+use Rattle.std.proofs.Common.{◌≡◌, ℕ, slice_index_or, true, false}
 use Rattle.std.specs.Prelude.{if◌then◌else◌}
 use Rattle.lease_disk.specs.Region.{is_within}
 use Rattle.lease_disk.proofs.model_disk.mark.Given as goal

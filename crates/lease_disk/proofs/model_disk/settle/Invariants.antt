@@ -1,4 +1,4 @@
-use Rattle.std.proofs.Common.{◌≡◌, ◌<◌, ℕ, Bool, ◌&&◌, slice_index, slice_index_or, false}
+use Rattle.std.proofs.Common.{◌≡◌, ℕ, ◌&&◌, slice_index, slice_index_or, false}
 use Rattle.std.specs.Prelude.{if◌then◌else◌, nat_lt}
 use Rattle.lease_disk.proofs.model_disk.settle.Given as goal
 

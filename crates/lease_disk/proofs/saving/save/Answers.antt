@@ -1,5 +1,4 @@
-use Rattle.std.proofs.Common.{drop, rules, arith}
-use Rattle.lease_disk.proofs.Exits.{on_err, slice_behind, AreFilled, exit_closing, exit_writing, exit_opening, exit_saved, exit_marks}
+use Rattle.lease_disk.proofs.Exits.{on_err, slice_behind, exit_closing, exit_writing, exit_opening, exit_saved, exit_marks}
 use Rattle.lease_disk.proofs.saving.save.Goals as goal
 
 pub returns-in_err-close-clause-err : goal.returns-in_err-close-clause-err

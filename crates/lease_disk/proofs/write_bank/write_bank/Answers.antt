@@ -1,4 +1,4 @@
-use Rattle.std.proofs.Common.{refl, rules, arith}
+use Rattle.std.proofs.Common.{refl, rules}
 use Rattle.lease_disk.proofs.ReadBack.{book_read}
 use Rattle.lease_disk.specs.Book.{bank_bytes}
 use Rattle.lease_disk.proofs.write_bank.write_bank.Goals as goal
