@@ -1,1 +1,2 @@
 pub mod Key4Lemmas
+pub mod Key6Lemmas

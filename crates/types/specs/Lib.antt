@@ -2,5 +2,6 @@ pub mod Addr
 pub mod CircuitId
 pub mod Discard
 pub mod Key4
+pub mod Key6
 pub mod Kind4
 pub mod Pool4

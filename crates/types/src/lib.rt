@@ -9,6 +9,7 @@ mod count;
 mod dest;
 mod discard;
 mod key4;
+mod key6;
 mod kind4;
 mod limits;
 mod moment;
@@ -16,6 +17,7 @@ mod pool4;
 mod relay_no;
 mod request4;
 mod slot4;
+mod slots;
 #[cfg(test)]
 mod tests;
 
@@ -26,6 +28,7 @@ pub use count::Count;
 pub use dest::{Dest, Proto};
 pub use discard::Discard;
 pub use key4::{Key4, MAX_KEY4, MIN_KEY4};
+pub use key6::Key6;
 pub use kind4::Kind4;
 pub use limits::{
     MAX_CIRCUITS, MAX_DATAGRAM, MAX_DUID, MAX_FRAME, MAX_REGION, MAX_RELAYS, MIN_DUID, limit_values,
@@ -35,3 +38,4 @@ pub use pool4::{MAX_LEASE, MAX_POOL, MIN_LEASE, Pool4};
 pub use relay_no::RelayNo;
 pub use request4::{Reply4, Request4};
 pub use slot4::Slot4;
+pub use slots::{Slot6, Slots};

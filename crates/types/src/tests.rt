@@ -73,6 +73,44 @@ fn keys(rt: HostRuntime) {
 }
 
 #[test]
+fn keys_of_dhcpv6(rt: HostRuntime) {
+    let bytes = [7; 131];
+    for (len, there) in [(0, false), (2, false), (3, true), (130, true), (131, false)] {
+        assert_eq!(rt;
+            Key6::new(&bytes[..len], 1).is_some(),
+            there,
+            "of {len} bytes"
+        );
+    }
+    let duid = [0, 3, 0, 1, 2, 0, 0, 0, 0, 2];
+    let key = Key6::new(&duid, 0x0102_0304).unwrap();
+    assert_eq!(rt; key.duid(), [0, 3, 0, 1, 2, 0, 0, 0, 0, 2].as_slice());
+    assert_eq!(rt; key.iaid(), 0x0102_0304);
+    assert!(rt; key == Key6::new(&duid, 0x0102_0304).unwrap());
+    // another association of the same client
+    assert!(rt; key != Key6::new(&duid, 0x0102_0305).unwrap());
+    // a zero more is another client
+    let longer = [0, 3, 0, 1, 2, 0, 0, 0, 0, 2, 0];
+    assert!(rt; key != Key6::new(&longer, 0x0102_0304).unwrap());
+}
+
+#[test]
+fn slots_copy_themselves(rt: HostRuntime) {
+    let key = Key6::new(&[0, 3, 0], 1).unwrap();
+    let mut slots = Slots {
+        four: [Slot4::Free; 16],
+        six: [Slot6::Free; 16],
+        clock: Moment::first(),
+    };
+    let before = slots;
+    slots.six[15] = Slot6::Bound(key, 700);
+    assert_eq!(rt; before.six[15], Slot6::Free);
+    assert_eq!(rt; slots.six[15], Slot6::Bound(key, 700));
+    assert!(rt; slots.six[15] != Slot6::Barred(700));
+    assert_eq!(rt; slots.six[14], Slot6::Free);
+}
+
+#[test]
 fn kinds(rt: HostRuntime) {
     assert_eq!(rt; Kind4::new(1), Some(Kind4::Discover));
     assert_eq!(rt; Kind4::new(8), Some(Kind4::Inform));

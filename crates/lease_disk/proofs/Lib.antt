@@ -1,0 +1,6 @@
+pub mod Banks
+pub mod Steps
+pub mod Exits
+pub mod ReadBack
+pub mod FormatLemmas
+pub mod Fresh

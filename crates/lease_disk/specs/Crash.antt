@@ -1,0 +1,24 @@
+-- What a restart finds of a region.
+use Rattle.std.specs.Prelude.{◌≡◌, ◌<◌, ℕ, true, false, nat_lt, if◌then◌else◌}
+use Rattle.lease_disk.specs.declared.image.Image.{Image}
+use Rattle.lease_disk.specs.declared.image.Image.TheVariants.{Byte, Unreadable}
+use Rattle.lease_disk.specs.Layout.{formatted, region_size}
+use Rattle.lease_disk.specs.Region.{Region, image, IsClean}
+
+-- an unreadable region keeps its bytes and what is in doubt
+abbrev pub crashed : Image → Region → Region
+crashed (Byte byte) r = record { byte = image byte r; unsynced = λ i. false; readable = true }
+crashed Unreadable r = record { byte = r.byte; unsynced = r.unsynced; readable = false }
+
+-- each byte is this one, and what was in doubt stays so
+abbrev pub filled : ℕ → Region → Region
+filled byte r = record { byte = λ i. if nat_lt i 32768 then byte else 0; unsynced = r.unsynced; readable = r.readable }
+
+-- a region that was just formatted
+abbrev pub formatted_region : Region
+formatted_region = record { byte = formatted; unsynced = λ i. false; readable = true }
+
+-- its bytes, of which a crash changes none
+pub record IsFormatted (r : Region) : Type 0 where
+  pub byte : (i : ℕ) → i < region_size → r.byte i ≡ formatted i
+  pub clean : IsClean r

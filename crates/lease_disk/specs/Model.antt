@@ -1,0 +1,35 @@
+-- A device in memory, by its fields.
+use Rattle.std.specs.Prelude.{◌≡◌, ◌≢◌, ℕ, false, List, [], length, slice_index, slice_index_or}
+use Rattle.lease_disk.specs.declared.model_disk.Stored.{Stored}
+use Rattle.lease_disk.specs.Region.{Region}
+
+pub record ModelDiskValue : Type 0 where
+  pub regions : List Stored
+  pub reads : ℕ
+  pub writes : ℕ
+  pub failures : ℕ
+
+abbrev pub region_of : Stored → Region
+region_of stored = record { byte = slice_index stored.bytes; unsynced = λ i. slice_index_or stored.unsynced i false; readable = stored.readable }
+
+-- a region that does not exist
+abbrev pub absent : Stored
+absent = record { bytes = []; unsynced = []; readable = false; fuse = 0 }
+
+abbrev pub stored_at : List Stored → ℕ → Stored
+stored_at regions region = slice_index_or regions region absent
+
+abbrev pub state_of : ModelDiskValue → ℕ → Region
+state_of disk region = region_of (stored_at disk.regions region)
+
+-- which of a region's writes and syncs from now on fails
+abbrev pub fuse_of : ModelDiskValue → ℕ → ℕ
+fuse_of disk region = (stored_at disk.regions region).fuse
+
+-- the same device but for one region's contents and fuse
+pub record SameBut (region : ℕ) (old new : ModelDiskValue) : Type 0 where
+  pub count : length new.regions ≡ length old.regions
+  pub others : (q : ℕ) → q ≢ region → stored_at new.regions q ≡ stored_at old.regions q
+  pub reads : new.reads ≡ old.reads
+  pub writes : new.writes ≡ old.writes
+  pub failures : new.failures ≡ old.failures

@@ -1,0 +1,157 @@
+-- What the bytes of a region of format 1 mean: the slots that a book begins with, or None where the
+-- region is damaged.
+use Rattle.std.specs.Prelude.{ℕ, ◌+◌, ◌%◌, ◌==◌, Bool, true, false, not, ◌&&◌, ◌||◌, nat_le, nat_lt, suc, zero, if◌then◌else◌, List, [], ◌∷◌, slice_index, Option, Some, None, option_map}
+use Rattle.std.specs.Int.{w32, w64, from_be_bytes}
+use Rattle.std.specs.List.{list_any}
+use Rattle.std.specs.Str.{bytes_eq}
+use Rattle.types.specs.Key6.{same_key6}
+use Rattle.types.specs.declared.slot4.Slot4.{Slot4}
+use Rattle.types.specs.declared.slot4.Slot4.TheVariants as S4
+use Rattle.types.specs.declared.slots.Slot6.{Slot6}
+use Rattle.types.specs.declared.slots.Slot6.TheVariants as S6
+use Rattle.types.specs.declared.slots.Slots.{Slots}
+use Rattle.lease_disk.specs.declared.bank.Bank.{Bank}
+use Rattle.lease_disk.specs.declared.bank.Bank.TheVariants.{First, Second}
+use Rattle.lease_disk.specs.Layout.{gate_open, gate_at, bank_at, bank_size, sequence_at, clock_at, four_at, six_at, state_at, length_at, iaid_at, until_at, key_at}
+
+-- Which bank counts
+
+abbrev pub other : Bank → Bank
+other First = Second
+other Second = First
+
+abbrev pub is_open : (ℕ → ℕ) → Bank → Bool
+is_open region bank = region (gate_at bank) == gate_open
+
+abbrev pub sequence : (ℕ → ℕ) → Bank → ℕ
+sequence region bank = region (bank_at bank + sequence_at)
+
+-- open, with a sequence from 0 to 2
+abbrev pub is_valid : (ℕ → ℕ) → Bank → Bool
+is_valid region bank = is_open region bank && nat_le (sequence region bank) 2
+
+-- 0, 1, 2, 0, and so on
+abbrev pub next : ℕ → ℕ
+next n = (n + 1) % 3
+
+-- the only open one; of two open ones the one whose sequence is the next after the other's
+abbrev pub is_counting : (ℕ → ℕ) → Bank → Bool
+is_counting region bank =
+    is_valid region bank
+    && (not (is_open region (other bank))
+    || (is_valid region (other bank) && sequence region bank == next (sequence region (other bank))))
+
+-- the bytes behind a bank's gate, by their offset in the bank
+abbrev pub body : (ℕ → ℕ) → Bank → ℕ → ℕ
+body region bank i = if nat_lt 0 i && nat_lt i bank_size then region (bank_at bank + i) else 0
+
+-- What a bank holds. Below, `bank` and `slot` are bytes by their offset in a bank and in a slot.
+
+-- the n bytes from an offset on
+abbrev pub bytes_at : (ℕ → ℕ) → ℕ → ℕ → List ℕ
+bytes_at bytes at zero = []
+bytes_at bytes at (suc n) = bytes at ∷ bytes_at bytes (suc at) n
+
+abbrev pub from : ℕ → (ℕ → ℕ) → ℕ → ℕ
+from at bytes i = bytes (at + i)
+
+abbrev pub clock_of : (ℕ → ℕ) → ℕ
+clock_of bank = from_be_bytes w64 (bytes_at bank clock_at 8)
+
+abbrev pub until_of : (ℕ → ℕ) → ℕ
+until_of slot = from_be_bytes w64 (bytes_at slot until_at 8)
+
+-- 2^40 - 1, and the longest lease after it
+abbrev pub last_clock : ℕ
+last_clock = 1099511627775
+
+abbrev pub last_until : ℕ
+last_until = 1099511627775 + 604800
+
+-- 0 free, 1 bound, 2 barred; None where the state is above 2, until is past its limit, or the key
+-- of a bound slot has not 2 to 64 bytes
+abbrev pub slot4_of : (ℕ → ℕ) → Option Slot4
+slot4_of slot =
+    if slot state_at == 0 then Some S4.Free
+    else if nat_lt last_until (until_of slot) then None
+    else if slot state_at == 1 then
+    (if nat_le 2 (slot length_at) && nat_le (slot length_at) 64
+    then Some (S4.Bound (bytes_at slot key_at (slot length_at)) (until_of slot))
+    else None)
+    else if slot state_at == 2 then Some (S4.Barred (until_of slot))
+    else None
+
+-- the same with a DUID of 3 to 130 bytes and an IAID
+abbrev pub slot6_of : (ℕ → ℕ) → Option Slot6
+slot6_of slot =
+    if slot state_at == 0 then Some S6.Free
+    else if nat_lt last_until (until_of slot) then None
+    else if slot state_at == 1 then
+    (if nat_le 3 (slot length_at) && nat_le (slot length_at) 130
+    then Some (S6.Bound (record { duid = bytes_at slot key_at (slot length_at); iaid = from_be_bytes w32 (bytes_at slot iaid_at 4) }) (until_of slot))
+    else None)
+    else if slot state_at == 2 then Some (S6.Barred (until_of slot))
+    else None
+
+-- a slot at this clock: free where it is no longer live
+abbrev pub live4 : ℕ → Slot4 → Slot4
+live4 clock S4.Free = S4.Free
+live4 clock (S4.Bound key until) = if nat_lt clock until then S4.Bound key until else S4.Free
+live4 clock (S4.Barred until) = if nat_lt clock until then S4.Barred until else S4.Free
+
+abbrev pub live6 : ℕ → Slot6 → Slot6
+live6 clock S6.Free = S6.Free
+live6 clock (S6.Bound key until) = if nat_lt clock until then S6.Bound key until else S6.Free
+live6 clock (S6.Barred until) = if nat_lt clock until then S6.Barred until else S6.Free
+
+abbrev pub cons_some : {A : Type 0} → Option A → Option (List A) → Option (List A)
+cons_some (Some x) (Some xs) = Some (x ∷ xs)
+cons_some _ _ = None
+
+-- n slots from the i-th on, by a function that reads the i-th; None where one of them is damaged
+abbrev pub slots_from : {A : Type 0} → (ℕ → Option A) → ℕ → ℕ → Option (List A)
+slots_from read i zero = Some []
+slots_from read i (suc n) = cons_some (read i) (slots_from read (suc i) n)
+
+-- the i-th slot of a pool of so many addresses: a slot past them is not read, and free
+abbrev pub four_in : ℕ → (ℕ → ℕ) → ℕ → Option Slot4
+four_in count bank i = if nat_lt i count then option_map (live4 (clock_of bank)) (slot4_of (from (four_at i) bank)) else Some S4.Free
+
+abbrev pub six_in : ℕ → (ℕ → ℕ) → ℕ → Option Slot6
+six_in count bank i = if nat_lt i count then option_map (live6 (clock_of bank)) (slot6_of (from (six_at i) bank)) else Some S6.Free
+
+abbrev pub same_client4 : Slot4 → Slot4 → Bool
+same_client4 (S4.Bound a _) (S4.Bound b _) = bytes_eq a b
+same_client4 _ _ = false
+
+abbrev pub same_client6 : Slot6 → Slot6 → Bool
+same_client6 (S6.Bound a _) (S6.Bound b _) = same_key6 a b
+same_client6 _ _ = false
+
+-- no two of them are alike
+abbrev pub none_twice : {A : Type 0} → (A → A → Bool) → List A → Bool
+none_twice alike [] = true
+none_twice alike (x ∷ xs) = not (list_any (alike x) xs) && none_twice alike xs
+
+-- the clock within its limit, and no client with two live leases of one protocol
+abbrev pub book_with : ℕ → Option (List Slot4) → Option (List Slot6) → Option Slots
+book_with clock (Some four) (Some six) =
+    if nat_le clock last_clock && none_twice same_client4 four && none_twice same_client6 six
+    then Some (record { four = four; six = six; clock = clock })
+    else None
+book_with clock _ _ = None
+
+-- what a bank holds for pools of so many addresses
+unfoldable pub book_of : List ℕ → (ℕ → ℕ) → Option Slots
+book_of counts bank =
+    book_with (clock_of bank)
+    (slots_from (four_in (slice_index counts 0) bank) 0 16)
+    (slots_from (six_in (slice_index counts 1) bank) 0 16)
+
+-- What the region holds
+
+abbrev pub recovered : List ℕ → (ℕ → ℕ) → Option Slots
+recovered counts region =
+    if is_counting region First then book_of counts (body region First)
+    else if is_counting region Second then book_of counts (body region Second)
+    else None

@@ -1,0 +1,57 @@
+//! Formatting a region.
+ghost use Rattle.std.specs.Prelude.{◌≡◌, ◌≢◌, ◌<◌, ◌≤◌, ◌+◌, ◌-◌, ◌==◌, ℕ, true, length, is_ok, slice_index, nat_lt, if◌then◌else◌, OnOk};
+ghost use Rattle.lease_disk.specs.Crash.{IsFormatted};
+ghost use Rattle.lease_disk.specs.Layout.{formatted};
+ghost use Rattle.lease_disk.specs.Region.{is_within, effective, faults_after};
+
+use crate::device::{Disk, Fault, REGION};
+use crate::layout::{FORMAT, FORMAT_AT, GATE_OPEN};
+
+/// Copies `source` over the bytes of `target` from an offset on.
+pub fn put(target: &mut [u8], at: usize, source: &[u8])
+    requires { at + length source.now ≤ length target.old }
+    ensures { (i : ℕ) → slice_index target.new i ≡ (if is_within at (length source.now) i then slice_index source.now (i - at) else slice_index target.old i) }
+{
+    for (i, byte) in source.iter().enumerate() {
+        target[at + i] = *byte;
+    }
+}
+
+/// Gives all bytes one value.
+pub fn overwrite(bytes: &mut [u8], byte: u8)
+    ensures { (i : ℕ) → slice_index bytes.new i ≡ (if nat_lt i (length bytes.old) then byte else 0) }
+{
+    for place in bytes.iter_mut() {
+        *place = byte;
+    }
+}
+
+/// Writes what a formatted region has over zeros.
+pub fn format_bytes(bytes: &mut [u8])
+    requires { length bytes.old ≡ 32768 }
+    ensures { (i : ℕ) → slice_index bytes.new i ≡ formatted i }
+{
+    overwrite(bytes, 0);
+    put(bytes, 0, &[GATE_OPEN]);
+    put(bytes, FORMAT_AT, &[FORMAT]);
+}
+
+/// Formats a region, whatever it holds: an empty book at clock 0.
+pub fn format<D: Disk>(region: u16, disk: &mut D) -> Result<(), Fault>
+    requires { region < D.count disk.old }
+    ensures ok { D.tells ≡ true → OnOk result (IsFormatted (D.state disk.new region)) }
+    ensures readable { D.tells ≡ true → (D.state disk.new region).readable ≡ (D.state disk.old region).readable }
+    ensures answer { D.tells ≡ true → is_ok result ≡ (effective 2 (D.fuse disk.old region) == 0) }
+    ensures fuse { D.tells ≡ true → OnOk result (D.fuse disk.new region ≡ D.fuse disk.old region - 2) }
+    ensures others { D.tells ≡ true → (q : ℕ) → q ≢ region → D.state disk.new q ≡ D.state disk.old q }
+    ensures other_fuses { D.tells ≡ true → (q : ℕ) → q ≢ region → D.fuse disk.new q ≡ D.fuse disk.old q }
+    ensures count { D.count disk.new ≡ D.count disk.old }
+    ensures reads { D.reads disk.new ≡ D.reads disk.old }
+    ensures writes { OnOk result (D.writes disk.new ≡ D.writes disk.old + 2) }
+    ensures failures { D.failures disk.new ≡ faults_after result (D.failures disk.old) }
+{
+    let mut bytes = [0; REGION];
+    format_bytes(&mut bytes);
+    disk.write_at(region, 0, &bytes)?;
+    disk.sync(region)
+}

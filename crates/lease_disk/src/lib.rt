@@ -1,0 +1,21 @@
+//! Regions on a device, in which each circuit's leases outlive a crash.
+#![tactic(auto)]
+
+mod bank;
+mod device;
+mod formatting;
+mod image;
+mod layout;
+mod model_disk;
+mod saving;
+#[cfg(test)]
+mod tests;
+mod write_bank;
+
+pub use bank::{Bank, Marks};
+pub use device::{Disk, Fault, REGION};
+pub use formatting::format;
+pub use image::Image;
+pub use layout::{FORMAT, FORMAT_AT, GATE_OPEN};
+pub use model_disk::ModelDisk;
+pub use saving::save;

@@ -1,0 +1,227 @@
+//! A device in memory.
+ghost use Rattle.std.specs.Prelude.{◌≡◌, ◌<◌, ◌≤◌, ◌+◌, ◌-◌, ℕ, length, slice_index, slice_index_or, true, false, if◌then◌else◌};
+ghost use Rattle.std.specs.Prelude.{nat_lt};
+ghost use Rattle.lease_disk.specs.Crash.{formatted_region};
+ghost use Rattle.lease_disk.specs.Model.{region_of};
+ghost use Rattle.lease_disk.specs.Region.{is_within};
+
+use crate::device::{Disk, Fault, REGION};
+use crate::formatting::{format_bytes, overwrite, put};
+use crate::image::Image;
+use std::alloc::{AllocError, Global};
+use std::marker::Model;
+use types::Count;
+
+/// One region in memory.
+#[derive(Drop)]
+pub struct Stored {
+    bytes: [u8; REGION],
+    unsynced: [bool; REGION],
+    readable: bool,
+    fuse: u8,
+}
+
+/// A device in memory. It tells what its regions hold.
+#[derive(Drop)]
+pub struct ModelDisk {
+    regions: Vec<Stored>,
+    reads: Count,
+    writes: Count,
+    failures: Count,
+}
+
+impl Model for ModelDisk {
+    ghost use Rattle.std.specs.Prelude.{◌<◌, length};
+    ghost use Rattle.lease_disk.specs.Model.{ModelDiskValue};
+
+    ghost Value = { ModelDiskValue };
+
+    ghost view = { λ d. record { regions = d.regions.items; reads = d.reads.count; writes = d.writes.count; failures = d.failures.count } };
+
+    ghost invariant = { λ d. length d.regions.items < 65536 };
+}
+
+/// Marks the n places from an offset on.
+fn mark(target: &mut [bool], at: usize, n: usize)
+    requires { at + n ≤ length target.old }
+    ensures { (i : ℕ) → slice_index_or target.new i false ≡ (if is_within at n i then true else slice_index_or target.old i false) }
+{
+    for i in 0..n {
+        target[at + i] = true;
+    }
+}
+
+/// Clears all marks.
+fn unmark(target: &mut [bool])
+    ensures { (i : ℕ) → slice_index_or target.new i false ≡ false }
+{
+    for mark in target.iter_mut() {
+        *mark = false;
+    }
+}
+
+/// Gives the marked bytes one value.
+fn settle(bytes: &mut [u8], unsynced: &[bool], byte: u8)
+    requires { length unsynced.now ≡ length bytes.old }
+    ensures { (i : ℕ) → slice_index bytes.new i ≡ (if slice_index_or unsynced.now i false then byte else slice_index bytes.old i) }
+{
+    for (i, mark) in unsynced.iter().enumerate() {
+        if *mark {
+            bytes[i] = byte;
+        }
+    }
+}
+
+/// A region that was just formatted.
+fn fresh() -> Stored
+    ensures region { region_of result ≡ formatted_region }
+    ensures fuse { result.fuse ≡ 0 }
+{
+    let mut bytes = [0; REGION];
+    format_bytes(&mut bytes);
+    let mut unsynced = [false; REGION];
+    unmark(&mut unsynced);
+    Stored {
+        bytes,
+        unsynced,
+        readable: true,
+        fuse: 0,
+    }
+}
+
+impl ModelDisk {
+    ghost use Rattle.std.specs.Prelude.{ℕ, ◌≡◌, ◌<◌, length, IfOk};
+    ghost use Rattle.lease_disk.specs.Crash.{crashed, filled, formatted_region};
+    ghost use Rattle.lease_disk.specs.Model.{state_of, fuse_of, SameBut};
+    ghost use Rattle.lease_disk.specs.Region.{IsRead};
+
+    /// A device of so many formatted regions. Its memory is all taken here; an error where some is
+    /// refused.
+    pub fn new(alloc: Global, regions: u16) -> Result<ModelDisk, AllocError>
+        ensures count { IfOk result (λ disk. length disk.regions ≡ regions) }
+        ensures formatted { IfOk result (λ disk. (q : ℕ) → q < regions → state_of disk q ≡ formatted_region) }
+        ensures fuses { IfOk result (λ disk. (q : ℕ) → q < regions → fuse_of disk q ≡ 0) }
+        ensures reads { IfOk result (λ disk. disk.reads ≡ 0) }
+        ensures writes { IfOk result (λ disk. disk.writes ≡ 0) }
+        ensures failures { IfOk result (λ disk. disk.failures ≡ 0) }
+    {
+        let mut stored = Vec::with_capacity(alloc, usize::from(regions))?;
+        'regions: for _ in 0..regions {
+            stored.push(fresh())?;
+        }
+        Ok(ModelDisk {
+            regions: stored,
+            reads: Count::new(),
+            writes: Count::new(),
+            failures: Count::new(),
+        })
+    }
+
+    /// From now on the k-th write or sync of this region fails; none where k is 0.
+    pub fn fail_at(&mut self, region: u16, k: u8)
+        requires { region < length self.old.regions }
+        ensures fuse { fuse_of self.new region ≡ k }
+        ensures state { state_of self.new region ≡ state_of self.old region }
+        ensures others { SameBut region self.old self.new }
+    {
+        self.regions[usize::from(region)].fuse = k;
+    }
+
+    /// Stops the device and starts it again: a region then is as the image says.
+    pub fn crash(&mut self, region: u16, image: Image)
+        requires { region < length self.old.regions }
+        ensures state { state_of self.new region ≡ crashed image (state_of self.old region) }
+        ensures fuse { fuse_of self.new region ≡ fuse_of self.old region }
+        ensures others { SameBut region self.old self.new }
+    {
+        let stored = &mut self.regions[usize::from(region)];
+        match image {
+            Image::Byte(byte) => {
+                settle(&mut stored.bytes, &stored.unsynced, byte);
+                unmark(&mut stored.unsynced);
+                stored.readable = true;
+            }
+            Image::Unreadable => stored.readable = false,
+        }
+    }
+
+    /// Gives each byte of a region one value, as if it had always been there.
+    pub fn fill(&mut self, region: u16, byte: u8)
+        requires { region < length self.old.regions }
+        ensures state { state_of self.new region ≡ filled byte (state_of self.old region) }
+        ensures fuse { fuse_of self.new region ≡ fuse_of self.old region }
+        ensures others { SameBut region self.old self.new }
+    {
+        overwrite(&mut self.regions[usize::from(region)].bytes, byte);
+    }
+
+    /// The bytes of a region as a read gives them, though none is made.
+    pub fn bytes(&self, region: u16) -> &[u8]
+        requires { region < length self.now.regions }
+        ensures bytes { IsRead (state_of self.now region) 0 result.now }
+        ensures all { length result.now ≡ 32768 }
+    {
+        &self.regions[usize::from(region)].bytes
+    }
+}
+
+impl Disk for ModelDisk {
+    ghost use Rattle.std.specs.Prelude.{true, length};
+    ghost use Rattle.lease_disk.specs.Model.{state_of, fuse_of};
+
+    ghost tells = { true };
+
+    ghost state = { state_of };
+
+    ghost fuse = { fuse_of };
+
+    ghost count = { λ d. length d.regions };
+
+    ghost reads = { λ d. d.reads };
+
+    ghost writes = { λ d. d.writes };
+
+    ghost failures = { λ d. d.failures };
+
+    fn regions(&self) -> u16 {
+        self.regions.len() as u16
+    }
+
+    fn read(&mut self, region: u16, at: usize, out: &mut [u8]) -> Result<(), Fault> {
+        self.reads.tick();
+        let stored = &self.regions[usize::from(region)];
+        if !stored.readable {
+            self.failures.tick();
+            return Err(Fault);
+        }
+        out.copy_from_slice(&stored.bytes[at..at + out.len()]);
+        Ok(())
+    }
+
+    fn write_at(&mut self, region: u16, at: usize, bytes: &[u8]) -> Result<(), Fault> {
+        self.writes.tick();
+        let stored = &mut self.regions[usize::from(region)];
+        mark(&mut stored.unsynced, at, bytes.len());
+        let fails = stored.fuse == 1;
+        stored.fuse = stored.fuse.saturating_sub(1);
+        if fails {
+            self.failures.tick();
+            return Err(Fault);
+        }
+        put(&mut stored.bytes, at, bytes);
+        Ok(())
+    }
+
+    fn sync(&mut self, region: u16) -> Result<(), Fault> {
+        self.writes.tick();
+        let stored = &mut self.regions[usize::from(region)];
+        let fails = stored.fuse == 1;
+        stored.fuse = stored.fuse.saturating_sub(1);
+        if fails {
+            self.failures.tick();
+            return Err(Fault);
+        }
+        unmark(&mut stored.unsynced);
+        Ok(())
+    }
+}

@@ -1,0 +1,24 @@
+//! What a circuit's book and its region exchange.
+use crate::key6::Key6;
+use crate::moment::Moment;
+use crate::slot4::Slot4;
+
+/// What a region keeps of one address of a DHCPv6 pool. A moment is in seconds; what it stands
+/// behind is live while it is greater than the circuit's clock.
+#[derive(Clone, Copy, Debug, PartialEq, Eq)]
+pub enum Slot6 {
+    Free,
+    /// Leased to this client until this moment.
+    Bound(Key6, u64),
+    /// A client declined it: given to nobody until this moment.
+    Barred(u64),
+}
+
+/// One circuit's leases and bars, by address: a slot for each address that a pool can have, in the
+/// pool's order, and the circuit's clock. Slots past a pool's count are free.
+#[derive(Clone, Copy, Debug)]
+pub struct Slots {
+    pub four: [Slot4; 16],
+    pub six: [Slot6; 16],
+    pub clock: Moment,
+}
