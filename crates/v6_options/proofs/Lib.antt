@@ -1,0 +1,5 @@
+pub mod Exact
+pub mod Fronts
+pub mod Results
+pub mod Steps
+pub mod Tokens

@@ -1,0 +1,19 @@
+//! Lists of DHCPv6 options (RFC 8415, section 21), read as views of their bytes, and written.
+#![tactic(auto)]
+
+pub mod code;
+mod fault;
+mod iter;
+mod laws;
+mod options;
+#[cfg(test)]
+mod tests;
+mod token;
+mod writing;
+
+pub use fault::OptFault;
+pub use iter::Iter;
+pub use laws::{code_values, exact_reading, one_reading, written_is_read};
+pub use options::Options;
+pub use token::{Token, next_token};
+pub use writing::put;
