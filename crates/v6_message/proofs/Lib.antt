@@ -1,0 +1,4 @@
+pub mod Fronts
+pub mod Lists
+pub mod RelayExact
+pub mod Tokens

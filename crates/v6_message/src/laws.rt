@@ -1,0 +1,27 @@
+//! Laws of the definitions alone: what any reader and writer of messages can rely on.
+ghost use Rattle.std.specs.Prelude.{◌≡◌, ◌↔◌, ℕ, List, Ok, Err};
+ghost use Rattle.wire.specs.Bytes.{AreBytes};
+ghost use Rattle.v6_message.specs.declared.fault.RelayFault.{RelayFault};
+ghost use Rattle.v6_message.specs.declared.relay_header.TheConstants.{RELAY_FORWARD, RELAY_REPLY};
+ghost use Rattle.v6_message.specs.Relay.{RelayValue, SpellsRelay, FailsRelay};
+ghost use Rattle.v6_message.specs.RelayReading.{relay_of};
+
+/// The named values as the standard's numbers (RFC 8415, section 7.3).
+pub fn relay_values()
+    ensures forward { RELAY_FORWARD ≡ 12 }
+    ensures reply { RELAY_REPLY ≡ 13 }
+{}
+
+/// Reading any bytes returns a relay message exactly where they spell it, and a fault exactly where
+/// they have it.
+pub fn exact_relay_reading()
+    ensures message { (bytes : List ℕ) (m : RelayValue) → AreBytes bytes → relay_of bytes ≡ Ok m ↔ SpellsRelay bytes m }
+    ensures fault { (bytes : List ℕ) (fault : RelayFault) → AreBytes bytes → relay_of bytes ≡ Err fault ↔ FailsRelay fault bytes }
+{}
+
+/// Bytes spell at most one relay message, have at most one fault, and never both.
+pub fn one_relay_reading()
+    ensures message { (bytes : List ℕ) (a : RelayValue) (b : RelayValue) → SpellsRelay bytes a → SpellsRelay bytes b → a ≡ b }
+    ensures fault { (bytes : List ℕ) (a : RelayFault) (b : RelayFault) → FailsRelay a bytes → FailsRelay b bytes → a ≡ b }
+    ensures never_both { (bytes : List ℕ) (m : RelayValue) (fault : RelayFault) → SpellsRelay bytes m → FailsRelay fault bytes → ⊥ }
+{}

@@ -1,0 +1,18 @@
+//! DHCPv6 messages (RFC 8415, sections 8 and 9), read as views of their bytes, and written.
+#![tactic(auto)]
+
+mod fault;
+mod ia;
+mod laws;
+mod parts;
+mod relay;
+mod relay_header;
+mod scan;
+mod seen_codes;
+#[cfg(test)]
+mod tests;
+
+pub use fault::RelayFault;
+pub use laws::{exact_relay_reading, one_relay_reading, relay_values};
+pub use relay::Relay6;
+pub use relay_header::{RELAY_FORWARD, RELAY_REPLY, RelayHeader};
