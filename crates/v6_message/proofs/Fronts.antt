@@ -51,7 +51,7 @@ both true true h = (refl, refl)
 both true false h = absurd cc
 both false y h = absurd cc
 
-same_code : (m n : ℕ) → m ≡ n → eqb m n ≡ true
+pub same_code : (m n : ℕ) → m ≡ n → eqb m n ≡ true
 same_code m n e = by (eqb m n) refl where
   by : (b : Bool) → eqb m n ≡ b → eqb m n ≡ true
   by true h = h

@@ -179,7 +179,7 @@ found_is s bytes cut list found same cut_is d l =
 by_longest : (s : Sender) (bytes : List ℕ) (cut : Bool) (list : List (ℕ × List ℕ)) (found : Option ListFault) → listed bytes ≡ list → cut_from 0 bytes ≡ cut → AreDecided s list → Cutting s bytes cut list → Longest s false false cut found list → Is s bytes (first_fault s bytes)
 by_longest s bytes cut list found same cut_is d c l = rw (found_is s bytes cut list found same cut_is d l) (is_found s bytes cut list found same c l)
 
-listed_of : (bytes : List ℕ) (cut : Bool) (front : List (ℕ × List ℕ)) (rest : List ℕ) → bytes ≡ spelling front ++ rest → AreOptions front → bytes_of.Ends cut rest → listed bytes ≡ front
+pub listed_of : (bytes : List ℕ) (cut : Bool) (front : List (ℕ × List ℕ)) (rest : List ℕ) → bytes ≡ spelling front ++ rest → AreOptions front → bytes_of.Ends cut rest → listed bytes ≡ front
 listed_of bytes true front rest w o e = ap listed w ∙ listed_front front rest o ∙ ap (λ (t : List (ℕ × List ℕ)). front ++ t) (listed_cut rest e) ∙ append-nil front
 listed_of bytes false front rest w o e = ap listed w ∙ listed_front front rest o ∙ ap (λ (t : List (ℕ × List ℕ)). front ++ t) (ap listed e ∙ listed_nothing) ∙ append-nil front
 

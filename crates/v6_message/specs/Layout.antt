@@ -5,6 +5,10 @@ use Rattle.std.specs.Prelude.{ℕ, List, take, drop}
 abbrev pub part : List ℕ → ℕ → ℕ → List ℕ
 part bytes at len = take len (drop at bytes)
 
+-- A client's or server's message: type and transaction id, 1 and 3 bytes, then options.
+abbrev pub MESSAGE_OPTIONS : ℕ
+MESSAGE_OPTIONS = 4
+
 -- A relay message: type and hop count, one byte each, link address and peer address, 16 bytes each,
 -- then options.
 abbrev pub RELAY_OPTIONS : ℕ

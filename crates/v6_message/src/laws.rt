@@ -2,6 +2,9 @@
 ghost use Rattle.std.specs.Prelude.{◌≡◌, ◌↔◌, ℕ, List, Ok, Err};
 ghost use Rattle.wire.specs.Bytes.{AreBytes};
 ghost use Rattle.v6_message.specs.declared.fault.RelayFault.{RelayFault};
+ghost use Rattle.v6_message.specs.declared.fault.MessageFault.{MessageFault};
+ghost use Rattle.v6_message.specs.Message.{MessageValue, SpellsMessage, FailsMessage};
+ghost use Rattle.v6_message.specs.MessageReading.{message_of};
 ghost use Rattle.v6_message.specs.declared.relay_header.TheConstants.{RELAY_FORWARD, RELAY_REPLY};
 ghost use Rattle.v6_message.specs.Relay.{RelayValue, SpellsRelay, FailsRelay};
 ghost use Rattle.v6_message.specs.RelayReading.{relay_of};
@@ -24,4 +27,18 @@ pub fn one_relay_reading()
     ensures message { (bytes : List ℕ) (a : RelayValue) (b : RelayValue) → SpellsRelay bytes a → SpellsRelay bytes b → a ≡ b }
     ensures fault { (bytes : List ℕ) (a : RelayFault) (b : RelayFault) → FailsRelay a bytes → FailsRelay b bytes → a ≡ b }
     ensures never_both { (bytes : List ℕ) (m : RelayValue) (fault : RelayFault) → SpellsRelay bytes m → FailsRelay fault bytes → ⊥ }
+{}
+
+/// Reading any bytes returns a message exactly where they spell it, and a fault exactly where they have
+/// it.
+pub fn exact_message_reading()
+    ensures message { (bytes : List ℕ) (m : MessageValue) → AreBytes bytes → message_of bytes ≡ Ok m ↔ SpellsMessage bytes m }
+    ensures fault { (bytes : List ℕ) (fault : MessageFault) → AreBytes bytes → message_of bytes ≡ Err fault ↔ FailsMessage fault bytes }
+{}
+
+/// Bytes spell at most one message, have at most one fault, and never both.
+pub fn one_message_reading()
+    ensures message { (bytes : List ℕ) (a : MessageValue) (b : MessageValue) → AreBytes bytes → SpellsMessage bytes a → SpellsMessage bytes b → a ≡ b }
+    ensures fault { (bytes : List ℕ) (a : MessageFault) (b : MessageFault) → AreBytes bytes → FailsMessage a bytes → FailsMessage b bytes → a ≡ b }
+    ensures never_both { (bytes : List ℕ) (m : MessageValue) (fault : MessageFault) → AreBytes bytes → SpellsMessage bytes m → FailsMessage fault bytes → ⊥ }
 {}

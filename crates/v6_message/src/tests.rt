@@ -159,3 +159,164 @@ fn faults_have_texts(rt: HostRuntime) -> Result<(), AllocError> {
     );
     Ok(())
 }
+
+fn message_fault(bytes: &[u8]) -> Option<MessageFault> {
+    match Message6::read(bytes) {
+        Ok(_) => None,
+        Err(fault) => Some(fault),
+    }
+}
+
+/// The fault of a Solicit with these options.
+fn message_fault_of(options: &[u8]) -> Option<MessageFault> {
+    let mut out = PacketBuf::new();
+    if out.extend(&[1, 0, 0, 7]).is_err() || out.extend(options).is_err() {
+        return None;
+    }
+    message_fault(out.as_slice())
+}
+
+/// The fault of a Solicit whose IA_NA has these options.
+fn ia_fault_of(options: &[u8]) -> Option<MessageFault> {
+    let mut value = PacketBuf::new();
+    let mut out = PacketBuf::new();
+    if value.extend(&[0; 12]).is_err() || value.extend(options).is_err() {
+        return None;
+    }
+    if value.len() > 1280 || v6_options::put(code::IA_NA, value.as_slice(), &mut out).is_err() {
+        return None;
+    }
+    message_fault_of(out.as_slice())
+}
+
+#[test]
+fn a_short_message(rt: HostRuntime) {
+    for len in 0..4 {
+        assert_eq!(rt;
+            message_fault(&SOLICIT[..len]),
+            Some(MessageFault::Short),
+            "{len}"
+        );
+    }
+    assert_eq!(rt; message_fault(&SOLICIT[..4]), Some(MessageFault::IaCount));
+    assert_eq!(rt; message_fault(&SOLICIT), None);
+}
+
+#[test]
+#[rattlefmt::skip]
+fn the_first_fault_of_a_message(rt: HostRuntime) {
+    let rows: [(&[u8], Option<MessageFault>); 14] = [
+        // 1 to 3 bytes left over
+        (&[0], Some(MessageFault::Cut)),
+        (&[0, 8], Some(MessageFault::Cut)),
+        (&[0, 8, 0], Some(MessageFault::Cut)),
+        (&[0, 8, 0, 2, 0], Some(MessageFault::Cut)),
+        // no IA_NA
+        (&[0, 1, 0, 0], Some(MessageFault::IaCount)),
+        // an IA_NA of 11 bytes, before the one that would be one too many
+        (&[0, 3, 0, 11, 0, 0, 0, 1, 0, 0, 0, 0, 0, 0, 0], Some(MessageFault::Cut)),
+        // two
+        (&[0, 3, 0, 12, 0, 0, 0, 1, 0, 0, 0, 0, 0, 0, 0, 0, 0, 3, 0, 12, 0, 0, 0, 2, 0, 0, 0, 0, 0, 0, 0, 0], Some(MessageFault::IaCount)),
+        // two client ids, two server ids, with and without an IA_NA
+        (&[0, 1, 0, 0, 0, 1, 0, 0], Some(MessageFault::Twice)),
+        (&[0, 2, 0, 0, 0, 1, 0, 0, 0, 2, 0, 0], Some(MessageFault::Twice)),
+        (&[0, 1, 0, 0, 0, 1, 0, 1, 7, 0, 3, 0, 12, 0, 0, 0, 1, 0, 0, 0, 0, 0, 0, 0, 0], Some(MessageFault::Twice)),
+        // the leftmost option decides
+        (&[0, 1, 0, 0, 0, 1, 0, 0, 0, 3, 0, 0], Some(MessageFault::Twice)),
+        (&[0, 1, 0, 0, 0, 3, 0, 0, 0, 1, 0, 0], Some(MessageFault::Cut)),
+        // other codes may appear twice
+        (&[0, 8, 0, 0, 0, 8, 0, 0, 0, 9, 0, 0, 0, 9, 0, 0, 0, 3, 0, 12, 0, 0, 0, 1, 0, 0, 0, 0, 0, 0, 0, 0], None),
+        // option 0 is like any other
+        (&[0, 0, 0, 0, 0, 3, 0, 12, 0, 0, 0, 1, 0, 0, 0, 0, 0, 0, 0, 0, 0, 1, 0, 0], None),
+    ];
+    for (options, want) in rows {
+        assert_eq!(rt; message_fault_of(options), want, "{options:?}");
+    }
+}
+
+#[test]
+fn addresses_in_an_ia(rt: HostRuntime) {
+    let mut out = PacketBuf::new();
+    // 1 to 3 bytes left over
+    for rest in [[0].as_slice(), &[0, 5], &[0, 5, 0], &[0, 5, 0, 24, 0]] {
+        assert_eq!(rt; ia_fault_of(rest), Some(MessageFault::Cut), "{rest:?}");
+    }
+    let wants = [None, None, None, None, Some(MessageFault::AddrCount)];
+    for want in wants {
+        assert_eq!(rt;
+            v6_options::put(code::IA_ADDRESS, &[7; 24], &mut out),
+            Ok(())
+        );
+        assert_eq!(rt; ia_fault_of(out.as_slice()), want);
+    }
+    // the bytes after an address's lifetimes are ignored
+    out.clear();
+    assert_eq!(rt;
+        v6_options::put(code::IA_ADDRESS, &[7; 27], &mut out),
+        Ok(())
+    );
+    assert_eq!(rt; ia_fault_of(out.as_slice()), None);
+    // lifetimes of one byte too few
+    out.clear();
+    assert_eq!(rt;
+        v6_options::put(code::IA_ADDRESS, &[7; 23], &mut out),
+        Ok(())
+    );
+    assert_eq!(rt; ia_fault_of(out.as_slice()), Some(MessageFault::Cut));
+}
+
+#[test]
+fn fields_of_a_solicit(rt: HostRuntime) {
+    let Ok(message) = Message6::read(&SOLICIT) else {
+        return assert!(rt; false);
+    };
+    assert_eq!(rt; message.kind(), 1);
+    assert_eq!(rt; message.transaction_id(), [0, 0, 7]);
+    assert_eq!(rt;
+        message.client_id(),
+        Some([0, 3, 0, 1, 2, 0, 0, 0, 0, 2].as_slice())
+    );
+    assert_eq!(rt; message.server_id(), None);
+    let ia: &[u8] = &[0, 0, 0, 1, 0, 0, 0, 0, 0, 0, 0, 0];
+    assert_eq!(rt; message.options().get(code::IA_NA), Some(ia));
+    let mut out = PacketBuf::new();
+    assert_eq!(rt; message.write(&mut out), Ok(()));
+    assert_eq!(rt; out.as_slice(), SOLICIT.as_slice());
+    out.clear();
+    assert_eq!(rt; out.pad_to(1247), Ok(()));
+    assert_eq!(rt; message.write(&mut out), Err(Full));
+    assert!(rt; out.is_empty());
+}
+
+/// The reply to that Solicit: an address with lifetimes of 600.
+const REPLY: [u8; 76] = [
+    2, 0, 0, 7, 0, 1, 0, 10, 0, 3, 0, 1, 2, 0, 0, 0, 0, 2, 0, 2, 0, 10, 0, 3, 0, 1, 2, 0, 0, 0, 0,
+    1, 0, 3, 0, 40, 0, 0, 0, 1, 0, 0, 1, 0x2c, 0, 0, 1, 0xe0, 0, 5, 0, 24, 0x20, 1, 0xd, 0xb8, 0,
+    0, 0, 0, 0, 0, 0, 0, 0, 0, 1, 0, 0, 0, 2, 0x58, 0, 0, 2, 0x58,
+];
+
+#[test]
+fn a_reply_in_a_relay_message(rt: HostRuntime) {
+    let mut out = PacketBuf::new();
+    assert_eq!(rt; forward(0, &REPLY, &mut out), Ok(()));
+    assert_eq!(rt; out.len(), 119);
+    let Ok(relay) = Relay6::read(out.as_slice()) else {
+        return assert!(rt; false);
+    };
+    let Some(inner) = relay.relay_message() else {
+        return assert!(rt; false);
+    };
+    let Ok(message) = Message6::read(inner) else {
+        return assert!(rt; false);
+    };
+    assert_eq!(rt; message.kind(), 2);
+    assert_eq!(rt;
+        message.client_id(),
+        Some([0, 3, 0, 1, 2, 0, 0, 0, 0, 2].as_slice())
+    );
+    assert_eq!(rt;
+        message.server_id(),
+        Some([0, 3, 0, 1, 2, 0, 0, 0, 0, 1].as_slice())
+    );
+    assert_eq!(rt; message.options().get(code::IA_NA), Some(&REPLY[36..]));
+}
