@@ -1,3 +1,4 @@
+pub mod Ia
 pub mod Layout
 pub mod Lists
 pub mod Message

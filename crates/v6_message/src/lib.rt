@@ -15,6 +15,7 @@ mod seen_codes;
 mod tests;
 
 pub use fault::{MessageFault, RelayFault};
+pub use ia::Ia6;
 pub use laws::{
     exact_message_reading, exact_relay_reading, one_message_reading, one_relay_reading,
     relay_values,

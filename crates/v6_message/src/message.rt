@@ -1,13 +1,14 @@
 //! Messages of clients and servers (RFC 8415, section 8).
 ghost use Rattle.std.specs.Prelude.{◌≡◌, ◌≤◌, ◌+◌, ◌↔◌, ℕ, [], ◌++◌, length, Ok, Err, IsOk, OnOk, OnErr, option_map};
-ghost use Rattle.v6_options.specs.Codes.{CLIENT_ID, SERVER_ID};
+ghost use Rattle.v6_options.specs.Codes.{CLIENT_ID, SERVER_ID, IA_NA};
 ghost use Rattle.v6_options.specs.Spelling.{look_up};
+ghost use Rattle.v6_message.specs.Ia.{ia_in};
 ghost use Rattle.v6_message.specs.Message.{MessageValue, SpellsMessage, FailsMessage, message_bytes};
 ghost use Rattle.v6_message.specs.MessageReading.{message_of};
 
 use crate::count::has_at_most;
 use crate::fault::MessageFault;
-use crate::ia::has_few_addresses;
+use crate::ia::{Ia6, has_few_addresses};
 use crate::parts::array_at;
 use crate::scan::{ListFault, Sender, fault_in};
 use std::marker::Model;
@@ -78,6 +79,16 @@ impl<'a> Message6<'a> {
         ensures { option_map (λ value. value.now) result ≡ look_up SERVER_ID self.now.options }
     {
         self.options.get(code::SERVER_ID)
+    }
+
+    /// Option 3, the IA_NA.
+    pub fn ia(&self) -> Option<Ia6<'a>>
+        ensures { result ≡ ia_in (look_up IA_NA self.now.options) }
+    {
+        match self.options.get(code::IA_NA) {
+            None => None,
+            Some(value) => Ia6::read(value),
+        }
     }
 
     /// Appends the message. Where it does not fit, `out` is left empty.

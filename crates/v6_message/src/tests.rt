@@ -319,4 +319,11 @@ fn a_reply_in_a_relay_message(rt: HostRuntime) {
         Some([0, 3, 0, 1, 2, 0, 0, 0, 0, 1].as_slice())
     );
     assert_eq!(rt; message.options().get(code::IA_NA), Some(&REPLY[36..]));
+    let Some(ia) = message.ia() else {
+        return assert!(rt; false);
+    };
+    assert_eq!(rt; ia.iaid(), 1);
+    assert_eq!(rt; ia.t1(), 300);
+    assert_eq!(rt; ia.t2(), 480);
+    assert_eq!(rt; ia.options().get(code::IA_ADDRESS), Some(&REPLY[52..]));
 }
