@@ -1,12 +1,15 @@
 //! Laws of the definitions alone: what any reader and writer of messages can rely on.
-ghost use Rattle.std.specs.Prelude.{◌≡◌, ◌↔◌, ℕ, List, Ok, Err};
+ghost use Rattle.std.specs.Prelude.{◌≡◌, ◌↔◌, ℕ, List, length, Ok, Err};
+ghost use Rattle.v6_options.specs.Spelling.{AreOptions};
+ghost use Rattle.v6_message.specs.declared.scan.Sender.TheVariants.{Relay};
+ghost use Rattle.v6_message.specs.Lists.{AreAllowed};
 ghost use Rattle.wire.specs.Bytes.{AreBytes};
 ghost use Rattle.v6_message.specs.declared.fault.RelayFault.{RelayFault};
 ghost use Rattle.v6_message.specs.declared.fault.MessageFault.{MessageFault};
 ghost use Rattle.v6_message.specs.Message.{MessageValue, SpellsMessage, FailsMessage};
 ghost use Rattle.v6_message.specs.MessageReading.{message_of};
 ghost use Rattle.v6_message.specs.declared.relay_header.TheConstants.{RELAY_FORWARD, RELAY_REPLY};
-ghost use Rattle.v6_message.specs.Relay.{RelayValue, SpellsRelay, FailsRelay};
+ghost use Rattle.v6_message.specs.Relay.{RelayValue, SpellsRelay, FailsRelay, relay_bytes};
 ghost use Rattle.v6_message.specs.RelayReading.{relay_of};
 
 /// The named values as the standard's numbers (RFC 8415, section 7.3).
@@ -20,6 +23,12 @@ pub fn relay_values()
 pub fn exact_relay_reading()
     ensures message { (bytes : List ℕ) (m : RelayValue) → AreBytes bytes → relay_of bytes ≡ Ok m ↔ SpellsRelay bytes m }
     ensures fault { (bytes : List ℕ) (fault : RelayFault) → AreBytes bytes → relay_of bytes ≡ Err fault ↔ FailsRelay fault bytes }
+{}
+
+/// A relay message that was written reads back as the same message, if its options are allowed.
+pub fn written_relay_is_read()
+    ensures spelled { (m : RelayValue) → length m.link_address ≡ 16 → length m.peer_address ≡ 16 → AreOptions m.options → AreAllowed Relay m.options → SpellsRelay (relay_bytes m) m }
+    ensures read { (m : RelayValue) → length m.link_address ≡ 16 → length m.peer_address ≡ 16 → AreOptions m.options → AreAllowed Relay m.options → relay_of (relay_bytes m) ≡ Ok m }
 {}
 
 /// Bytes spell at most one relay message, have at most one fault, and never both.

@@ -18,7 +18,7 @@ pub use fault::{MessageFault, RelayFault};
 pub use ia::Ia6;
 pub use laws::{
     exact_message_reading, exact_relay_reading, one_message_reading, one_relay_reading,
-    relay_values,
+    relay_values, written_relay_is_read,
 };
 pub use message::Message6;
 pub use relay::Relay6;
