@@ -327,3 +327,18 @@ fn a_reply_in_a_relay_message(rt: HostRuntime) {
     assert_eq!(rt; ia.t2(), 480);
     assert_eq!(rt; ia.options().get(code::IA_ADDRESS), Some(&REPLY[52..]));
 }
+
+#[test]
+fn message_faults_have_texts(rt: HostRuntime) -> Result<(), AllocError> {
+    let texts = format!(in rt.alloc(); "{}; {}", MessageFault::Short, MessageFault::Cut)?;
+    assert_eq!(rt;
+        texts.as_str(),
+        "the message is too short; an option of the message is cut off"
+    );
+    let texts = format!(in rt.alloc(); "{}; {}", MessageFault::IaCount, MessageFault::AddrCount)?;
+    assert_eq!(rt;
+        texts.as_str(),
+        "the message has not exactly one IA_NA; the message lists more than 4 addresses"
+    );
+    Ok(())
+}
