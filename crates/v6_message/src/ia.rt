@@ -13,10 +13,10 @@ use std::marker::Model;
 use v6_options::{Options, code};
 
 /// The bytes of IAID, T1 and T2. The options follow them.
-pub(crate) const IA_OPTIONS: usize = 12;
+const IA_OPTIONS: usize = 12;
 
 /// The bytes of an address and its two lifetimes. Options follow them.
-pub(crate) const IA_ADDRESS_OPTIONS: usize = 24;
+const IA_ADDRESS_OPTIONS: usize = 24;
 
 /// The most addresses that a client may list.
 const MAX_ADDRESSES: u8 = 4;
