@@ -1,0 +1,7 @@
+pub mod Counts
+pub mod Decided
+pub mod Fronts
+pub mod Lists
+pub mod MessageExact
+pub mod RelayExact
+pub mod Tokens

@@ -1,0 +1,25 @@
+//! DHCPv6 messages (RFC 8415, sections 8 and 9), read as views of their bytes, and written.
+#![tactic(auto)]
+
+mod count;
+mod fault;
+mod ia;
+mod laws;
+mod message;
+mod parts;
+mod relay;
+mod relay_header;
+mod scan;
+mod seen_codes;
+#[cfg(test)]
+mod tests;
+
+pub use fault::{MessageFault, RelayFault};
+pub use ia::Ia6;
+pub use laws::{
+    exact_message_reading, exact_relay_reading, one_message_reading, one_relay_reading,
+    relay_values, written_relay_is_read,
+};
+pub use message::Message6;
+pub use relay::Relay6;
+pub use relay_header::{RELAY_FORWARD, RELAY_REPLY, RelayHeader};

@@ -1,0 +1,133 @@
+//! Messages of clients and servers (RFC 8415, section 8).
+ghost use Rattle.std.specs.Prelude.{◌≡◌, ◌≤◌, ◌+◌, ◌↔◌, ℕ, [], ◌++◌, length, Ok, Err, IsOk, OnOk, OnErr, option_map};
+ghost use Rattle.v6_options.specs.Codes.{CLIENT_ID, SERVER_ID, IA_NA};
+ghost use Rattle.v6_options.specs.Spelling.{look_up};
+ghost use Rattle.v6_message.specs.Ia.{ia_in};
+ghost use Rattle.v6_message.specs.Message.{MessageValue, SpellsMessage, FailsMessage, message_bytes};
+ghost use Rattle.v6_message.specs.MessageReading.{message_of};
+
+use crate::count::has_at_most;
+use crate::fault::MessageFault;
+use crate::ia::{Ia6, has_few_addresses};
+use crate::parts::array_at;
+use crate::scan::{ListFault, Sender, fault_in};
+use std::marker::Model;
+use v6_options::{Options, code};
+use wire::{Full, PacketBuf};
+
+/// The bytes before the options.
+const HEADER: usize = 4;
+
+/// A client's or server's message in the bytes that it was read from. Its fields are slices of those
+/// bytes, or small values. The type is not tested.
+#[derive(Debug, Drop)]
+pub struct Message6<'a> {
+    bytes: &'a [u8],
+    options: Options<'a>,
+}
+
+impl<'a> Model for Message6<'a> {
+    ghost use Rattle.std.specs.Prelude.{◌≤◌, length};
+    ghost use Rattle.v6_message.specs.Message.{MessageValue};
+    ghost use Rattle.v6_message.specs.MessageReading.{message_at};
+
+    ghost Value = { MessageValue };
+
+    ghost view = { λ m. message_at m.bytes.now m.options };
+
+    ghost invariant = { λ m. 4 ≤ length m.bytes.now };
+}
+
+impl<'a> Message6<'a> {
+    /// The message that these bytes spell, all of them.
+    pub fn read(bytes: &'a [u8]) -> Result<Message6<'a>, MessageFault>
+        ensures exact { result ≡ message_of bytes.now }
+        ensures spelled { (m : MessageValue) → result ≡ Ok m ↔ SpellsMessage bytes.now m }
+        ensures fails { (fault : MessageFault) → result ≡ Err fault ↔ FailsMessage fault bytes.now }
+    {
+        message_in(bytes)
+    }
+
+    /// The message type.
+    pub fn kind(&self) -> u8
+        ensures { result ≡ self.now.kind }
+    {
+        self.bytes[0]
+    }
+
+    pub fn transaction_id(&self) -> [u8; 3]
+        ensures { result ≡ self.now.transaction_id }
+    {
+        *array_at(self.bytes, 1)
+    }
+
+    pub fn options(&self) -> &Options<'a>
+        ensures { result.now ≡ self.now.options }
+    {
+        &self.options
+    }
+
+    /// Option 1, the client's DUID. Its length is not tested.
+    pub fn client_id(&self) -> Option<&'a [u8]>
+        ensures { option_map (λ value. value.now) result ≡ look_up CLIENT_ID self.now.options }
+    {
+        self.options.get(code::CLIENT_ID)
+    }
+
+    /// Option 2, the DUID of the server that the message names. Its length is not tested.
+    pub fn server_id(&self) -> Option<&'a [u8]>
+        ensures { option_map (λ value. value.now) result ≡ look_up SERVER_ID self.now.options }
+    {
+        self.options.get(code::SERVER_ID)
+    }
+
+    /// Option 3, the IA_NA.
+    pub fn ia(&self) -> Option<Ia6<'a>>
+        ensures { result ≡ ia_in (look_up IA_NA self.now.options) }
+    {
+        match self.options.get(code::IA_NA) {
+            None => None,
+            Some(value) => Ia6::read(value),
+        }
+    }
+
+    /// Appends the message. Where it does not fit, `out` is left empty.
+    pub fn write(&self, out: &mut PacketBuf) -> Result<(), Full>
+        ensures full { IsOk result ↔ (length out.old + length (message_bytes self.now) ≤ 1280) }
+        ensures ok { OnOk result (out.new ≡ out.old ++ message_bytes self.now) }
+        ensures err { OnErr result (out.new ≡ []) }
+    {
+        if out.push(self.kind()).is_err() || out.extend(&self.transaction_id()).is_err() {
+            out.clear();
+            return Err(Full);
+        }
+        self.options.write(out)
+    }
+}
+
+fn message_in(bytes: &[u8]) -> Result<Message6<'_>, MessageFault>
+    ensures { result ≡ message_of bytes.now }
+{
+    if bytes.len() < HEADER {
+        return Err(MessageFault::Short);
+    }
+    let (_, tail) = bytes.split_at(HEADER);
+    match fault_in(tail, Sender::Client) {
+        Some(ListFault::Cut) => return Err(MessageFault::Cut),
+        Some(ListFault::Twice) => return Err(MessageFault::Twice),
+        None => {}
+    }
+    let Ok(options) = Options::read(tail) else {
+        unreachable!();
+    };
+    if !has_at_most(1, code::IA_NA, tail) {
+        return Err(MessageFault::IaCount);
+    }
+    let Some(value) = options.get(code::IA_NA) else {
+        return Err(MessageFault::IaCount);
+    };
+    if !has_few_addresses(value) {
+        return Err(MessageFault::AddrCount);
+    }
+    Ok(Message6 { bytes, options })
+}
