@@ -1,2 +1,3 @@
 pub mod AddresseeLemmas
 pub mod ReceivedLemmas
+pub mod ServerLemmas

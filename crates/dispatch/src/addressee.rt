@@ -1,13 +1,15 @@
 //! Which circuit a datagram at the server is of (RFC 3046, section 2.2; RFC 5107, section 4).
-ghost use Rattle.std.specs.Prelude.{◌≡◌, ◌<◌, length, Ok, Err, IfOk, IfErr};
+ghost use Rattle.std.specs.Prelude.{◌≡◌, ◌<◌, length, map, Ok, Err, IfOk, IfErr, IfSome};
 ghost use Rattle.std.specs.List.{list_any, position};
 ghost use Rattle.types.specs.Addr.{same_source};
 ghost use Rattle.v4_options.specs.Spelling.{look_up};
 ghost use Rattle.v4_options.specs.Codes.{CIRCUIT_ID};
 ghost use Rattle.v4_message.specs.Agent.{is_value};
 ghost use Rattle.v4_message.specs.Reading.{message_of};
+ghost use Rattle.dispatch.specs.ServerValue.{part_of};
 ghost use Rattle.dispatch.specs.Addressee.{addressee, message_check, circuit_check, index_check};
 
+use crate::circuit_server::CircuitServer;
 use config::CircuitPart;
 use types::{Discard, MAX_DATAGRAM, Source};
 use v4_message::{Message, OP_REQUEST};
@@ -17,13 +19,14 @@ use v4_options::{Suboptions, code};
 /// of none.
 pub(crate) fn addressee<'a>(
     relays: &[Source],
-    circuits: &[CircuitPart],
+    circuits: &[CircuitServer],
     source: Source,
     datagram: &'a [u8],
 ) -> Result<(usize, Message<'a>), Discard>
-    ensures circuit { IfOk result (λ found. addressee relays.now circuits.now source datagram.now ≡ Ok found.0) }
+    ensures circuit { IfOk result (λ found. addressee relays.now (map part_of circuits.now) source datagram.now ≡ Ok found.0) }
+    ensures within { IfOk result (λ found. found.0 < length circuits.now) }
     ensures message { IfOk result (λ found. message_of datagram.now ≡ Ok found.1) }
-    ensures err { IfErr result (λ why. addressee relays.now circuits.now source datagram.now ≡ Err why) }
+    ensures err { IfErr result (λ why. addressee relays.now (map part_of circuits.now) source datagram.now ≡ Err why) }
 {
     if !is_relay(relays, source) {
         return Err(Discard::UnknownSource);
@@ -48,11 +51,12 @@ fn is_relay(relays: &[Source], source: Source) -> bool
 
 /// The tests of a message that was read.
 fn message_check(
-    circuits: &[CircuitPart],
+    circuits: &[CircuitServer],
     source: Source,
     message: &Message<'_>,
 ) -> Result<usize, Discard>
-    ensures { result ≡ message_check circuits.now source (Ok message.now) }
+    ensures check { result ≡ message_check (map part_of circuits.now) source (Ok message.now) }
+    ensures within { IfOk result (λ index. index < length circuits.now) }
 {
     if message.op() != OP_REQUEST {
         return Err(Discard::Malformed);
@@ -67,16 +71,29 @@ fn message_check(
         return Err(Discard::Malformed);
     };
     match index_of(circuits, &suboptions) {
-        Some(index) => circuit_check(index, &circuits[index], source, message, &suboptions),
+        Some(index) => circuit_check(index, circuits[index].part(), source, message, &suboptions),
         None => Err(Discard::UnknownCircuit),
     }
 }
 
 /// The circuit of exactly the id in option 82.
-fn index_of(circuits: &[CircuitPart], suboptions: &Suboptions<'_>) -> Option<usize>
-    ensures { result ≡ position (λ part. is_value part.id (look_up CIRCUIT_ID suboptions.now)) circuits.now }
+fn index_of(circuits: &[CircuitServer], suboptions: &Suboptions<'_>) -> Option<usize>
+    ensures index { result ≡ position (λ part. is_value part.id (look_up CIRCUIT_ID suboptions.now)) (map part_of circuits.now) }
+    ensures within { IfSome result (λ index. index < length circuits.now) }
 {
-    circuits.iter().position(|part| is_value(suboptions, code::CIRCUIT_ID, part.id().as_bytes()))
+    named_server(circuits, suboptions)
+}
+
+/// The server of the circuit of this id.
+fn named_server(circuits: &[CircuitServer], suboptions: &Suboptions<'_>) -> Option<usize>
+    ensures index { result ≡ position (λ server. is_value (part_of server).id (look_up CIRCUIT_ID suboptions.now)) circuits.now }
+    ensures within { IfSome result (λ index. index < length circuits.now) }
+{
+    circuits.iter().position(|server| is_value(
+        suboptions,
+        code::CIRCUIT_ID,
+        server.part().id().as_bytes(),
+    ))
 }
 
 /// The tests that the message is of the circuit that was found: its relay, and its gateway twice.
@@ -87,7 +104,8 @@ fn circuit_check(
     message: &Message<'_>,
     suboptions: &Suboptions<'_>,
 ) -> Result<usize, Discard>
-    ensures { result ≡ circuit_check index source message.now suboptions.now (Some part.now) }
+    ensures check { result ≡ circuit_check index source message.now suboptions.now (Some part.now) }
+    ensures index { IfOk result (λ found. found ≡ index) }
 {
     if part.relay() != source {
         return Err(Discard::UnknownCircuit);

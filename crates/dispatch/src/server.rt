@@ -1,65 +1,99 @@
-//! The server of one circuit: its clock, its book, and what it makes of a datagram.
-ghost use Rattle.std.specs.Prelude.{◌≡◌, [], Ok};
+//! The server of all circuits.
+ghost use Rattle.std.specs.Prelude.{◌≡◌, ◌<◌, [], length, map, slice_get, All, Some, IfOk};
 ghost use Rattle.bindings_v4.specs.Book4.{empty_book};
-ghost use Rattle.dispatch.specs.Server.{book_at, message_served};
+ghost use Rattle.config.specs.CircuitPart.{IsPart, parts_of};
+ghost use Rattle.dispatch.specs.Server.{book_at};
 ghost use Rattle.dispatch.specs.Received.{IsAnswer, received};
-ghost use Rattle.dispatch.specs.ServerValue.{book_of};
+ghost use Rattle.dispatch.specs.ServerValue.{book_of, books_in, part_of, parts_in};
 
 use crate::addressee::addressee;
-use crate::request::request_in;
-use bindings_v4::{Book4, expires_by_the_clock};
-use config::CircuitPart;
-use replies::write4;
+use crate::circuit_server::CircuitServer;
+use config::{CircuitPart, Config};
+use std::alloc::{AllocError, Global};
 use std::marker::Model;
-use std::slice;
-use types::{Discard, Moment, Source};
-use v4_message::Message;
+use types::{Circuit, Discard, Moment, RelayNo, Source};
 use wire::PacketBuf;
 
-/// The server of one circuit. It holds all that it needs of the configuration, and none of its calls
-/// allocates.
+/// The server of all circuits of a configuration. It holds all that it needs of it, and no call but
+/// `open` takes memory.
 #[derive(Drop)]
 pub struct Server {
-    part: CircuitPart,
-    clock: Moment,
-    book: Book4,
+    relays: Vec<Source>,
+    circuits: Vec<CircuitServer>,
 }
 
 impl Model for Server {
-    ghost use Rattle.std.specs.Prelude.{◌≡◌};
-    ghost use Rattle.config.specs.CircuitPart.{pool4_of};
     ghost use Rattle.dispatch.specs.ServerValue.{ServerValue};
 
     ghost Value = { ServerValue };
 
-    ghost view = { λ s. record { part = s.part; clock = s.clock; slots = s.book } };
+    ghost view = { λ s. record { relays = s.relays.items; circuits = s.circuits.items } };
+}
 
-    ghost invariant = { λ s. s.book.pool ≡ pool4_of s.part };
+/// Where the datagrams of each relay come from, in the order of the configuration.
+fn relay_sources(alloc: Global, config: &Config) -> Result<Vec<Source>, AllocError>
+    ensures { IfOk result (λ sources. sources.items ≡ map (λ relay. relay.source) config.now.relays) }
+{
+    let mut sources = Vec::with_capacity(alloc, config.relay_count())?;
+    'relays: for index in 0..config.relay_count() {
+        let Some(no) = RelayNo::new(index) else {
+            unreachable!()
+        };
+        sources.push(config.relay(no).source)?;
+    }
+    Ok(sources)
+}
+
+/// A server for each circuit, in the order of the configuration.
+fn circuit_servers(alloc: Global, config: &Config) -> Result<Vec<CircuitServer>, AllocError>
+    ensures parts { IfOk result (λ circuits. map part_of circuits.items ≡ parts_of config.now) }
+    ensures books { IfOk result (λ circuits. map book_of circuits.items ≡ map (λ part. record { clock = 0; four = empty_book }) (parts_of config.now)) }
+    ensures sound { IfOk result (λ circuits. All IsPart (parts_of config.now)) }
+{
+    let mut circuits = Vec::with_capacity(alloc, config.circuit_count())?;
+    'circuits: for index in 0..config.circuit_count() {
+        let Some(circuit) = Circuit::new(index) else {
+            unreachable!()
+        };
+        circuits.push(CircuitServer::new(CircuitPart::of(config, circuit)))?;
+    }
+    Ok(circuits)
+}
+
+/// Moves the clock of each to this moment, where it is a later one.
+fn tick_all(circuits: &mut [CircuitServer], now: Moment)
+    ensures parts { map part_of circuits.new ≡ map part_of circuits.old }
+    ensures books { map book_of circuits.new ≡ map (book_at now) (map book_of circuits.old) }
+{
+    'circuits: for index in 0..circuits.len() {
+        circuits[index].tick(now);
+    }
 }
 
 impl Server {
-    /// The server of this circuit at the clock 0, without leases.
-    pub fn new(part: CircuitPart) -> Server
-        ensures part { result.part ≡ part }
-        ensures book { book_of result ≡ record { clock = 0; four = empty_book } }
+    /// The server of a configuration: each circuit at the clock 0, without leases. All memory that it
+    /// needs is taken here.
+    pub fn open(alloc: Global, config: &Config) -> Result<Server, AllocError>
+        ensures relays { IfOk result (λ server. server.relays ≡ map (λ relay. relay.source) config.now.relays) }
+        ensures parts { IfOk result (λ server. parts_in server ≡ parts_of config.now) }
+        ensures books { IfOk result (λ server. books_in server ≡ map (λ part. record { clock = 0; four = empty_book }) (parts_of config.now)) }
+        ensures sound { IfOk result (λ server. All IsPart (parts_of config.now)) }
     {
-        let book = Book4::new(part.pool4());
-        Server {
-            part,
-            clock: Moment::first(),
-            book,
-        }
+        let relays = relay_sources(alloc, config)?;
+        let circuits = circuit_servers(alloc, config)?;
+        Ok(Server { relays, circuits })
     }
 
-    /// The circuit's part of the configuration.
-    pub fn part(&self) -> &CircuitPart
-        ensures { result.now ≡ self.now.part }
+    /// A circuit's part of the configuration.
+    pub fn part(&self, circuit: Circuit) -> &CircuitPart
+        requires { circuit < length self.now.circuits }
+        ensures { slice_get (parts_in self.now) circuit ≡ Some result.now }
     {
-        &self.part
+        self.circuits[circuit.index()].part()
     }
 
-    /// Takes a datagram from this source at this moment. At `Ok` the reply's datagram is in `out`, which
-    /// is empty otherwise.
+    /// Takes a datagram from this source at this moment, for the circuit that it is of. At `Ok` the
+    /// reply's datagram is in `out`, which is empty otherwise.
     pub fn receive(
         &mut self,
         source: Source,
@@ -67,50 +101,27 @@ impl Server {
         now: Moment,
         out: &mut PacketBuf,
     ) -> Result<(), Discard>
-        ensures part { self.new.part ≡ self.old.part }
-        ensures answer { IsAnswer (received self.old.part now source datagram.now (book_of self.old)).answer result out.new }
-        ensures book { book_of self.new ≡ (received self.old.part now source datagram.now (book_of self.old)).book }
+        ensures relays { self.new.relays ≡ self.old.relays }
+        ensures parts { parts_in self.new ≡ parts_in self.old }
+        ensures answer { IsAnswer (received self.old.relays (parts_in self.old) now source datagram.now (books_in self.old)).answer result out.new }
+        ensures books { books_in self.new ≡ (received self.old.relays (parts_in self.old) now source datagram.now (books_in self.old)).books }
     {
         out.clear();
-        let relay = self.part.relay();
-        let circuits = slice::from_ref(&self.part);
-        let message = match addressee(slice::from_ref(&relay), circuits, source, datagram) {
-            Ok((_, message)) => message,
+        let (index, message) = match addressee(&self.relays, &self.circuits, source, datagram) {
+            Ok(found) => found,
             Err(why) => return Err(why),
         };
-        self.tick(now);
-        self.answer(&message, out)
+        let circuit = &mut self.circuits[index];
+        circuit.tick(now);
+        circuit.answer(&message, out)
     }
 
-    /// Answers a message of the circuit at the clock.
-    fn answer(&mut self, message: &Message<'_>, out: &mut PacketBuf) -> Result<(), Discard>
-        requires { out.old ≡ [] }
-        ensures part { self.new.part ≡ self.old.part }
-        ensures answer { IsAnswer (message_served self.old.part (book_of self.old) (Ok message.now)).answer result out.new }
-        ensures book { book_of self.new ≡ (message_served self.old.part (book_of self.old) (Ok message.now)).book }
-    {
-        let request = match request_in(message) {
-            Ok(request) => request,
-            Err(why) => return Err(why),
-        };
-        let decision = self.book.decide(&request, self.clock);
-        self.book.commit(&decision);
-        match decision.answer {
-            Ok(reply) => {
-                write4(&self.part, message, reply, out);
-                Ok(())
-            }
-            Err(why) => Err(why),
-        }
-    }
-
-    /// Moves the clock to this moment, if it is a later one.
+    /// Moves every circuit's clock to this moment, where it is a later one.
     pub fn tick(&mut self, now: Moment)
-        ensures part { self.new.part ≡ self.old.part }
-        ensures book { book_of self.new ≡ book_at now (book_of self.old) }
+        ensures relays { self.new.relays ≡ self.old.relays }
+        ensures parts { parts_in self.new ≡ parts_in self.old }
+        ensures books { books_in self.new ≡ map (book_at now) (books_in self.old) }
     {
-        let later = self.clock.later(now);
-        expires_by_the_clock(&self.book, self.clock, later);
-        self.clock = later;
+        tick_all(&mut self.circuits, now);
     }
 }

@@ -1,10 +1,10 @@
-//! The server of one circuit, on datagrams worked out by hand.
+//! The server of a configuration of one circuit, on datagrams worked out by hand.
 use super::*;
-use config::{CircuitPart, Config};
+use config::Config;
 use fixtures::ONE_CIRCUIT;
 use std::alloc::Global;
 use std::process::Abort;
-use types::{Addr4, Circuit, Discard, Moment, Source};
+use types::{Addr4, Discard, Moment, Source};
 use wire::PacketBuf;
 
 /// Option 82 of circuit `a` with its gateway as server identifier override, and the end.
@@ -12,10 +12,7 @@ const AGENT: &[u8] = &[82, 9, 1, 1, 97, 11, 4, 10, 0, 0, 1, 255];
 
 fn new_server(rt: &impl Abort, alloc: Global) -> Server {
     let config = Config::read(alloc, ONE_CIRCUIT).expect(rt, "a configuration");
-    assert!(rt; config.circuit_count() == 1);
-    let circuit = Circuit::new(0).expect(rt, "a circuit");
-    assert!(rt; circuit.index() == 0);
-    Server::new(CircuitPart::of(&config, circuit))
+    Server::open(alloc, &config).expect(rt, "a server")
 }
 
 /// Client n's message of this type with this giaddr, and these bytes after the message type.
@@ -114,11 +111,4 @@ fn an_offer_expires_by_the_circuits_clock(rt: HostRuntime) {
 
     server.tick(Moment::new(160).expect(&rt, "a moment"));
     assert_eq!(rt; discover(&rt, &mut server, 2, 100), Ok(()));
-}
-
-#[test]
-fn a_server_keeps_its_part(rt: HostRuntime) {
-    let server = new_server(&rt, rt.alloc());
-    assert_eq!(rt; server.part().id().as_bytes(), b"a".as_slice());
-    assert_eq!(rt; server.part().gateway4(), Addr4([10, 0, 0, 1]));
 }

@@ -1,86 +1,128 @@
--- The state of a world that was just opened represents its machine at the start.
-use Rattle.std.proofs.Common.{◌≡◌, ℕ, zero, suc, ◌<◌, ◌≤◌, List, [], ◌∷◌, length, map, refl, sym, ap, subst, ◌∙◌, arith}
-use Rattle.std.specs.Prelude.{Some, None, slice_get, option_map}
-use Rattle.std.proofs.lemmas.Option.{slice_get-map}
+-- The states of a world that was just opened represent their circuits' machines at the start.
+use Rattle.std.proofs.Common.{◌≡◌, ◌≢◌, ℕ, zero, suc, ◌<◌, List, [], ◌∷◌, length, map, refl, sym, ap, subst, ◌∙◌, arith}
+use Rattle.std.specs.Prelude.{Some, All, AllPairs, slice_get, option_map, true}
+use Rattle.std.specs.List.{list_any}
+use Rattle.std.proofs.lemmas.Option.{slice_get-map, slice_get_within, get_or_from_slice_get}
 use Rattle.std.proofs.lemmas.List.{length-map}
+use Rattle.std.proofs.lemmas.List.Elements.{All-get_or}
+use Rattle.std.proofs.lemmas.List.Folds.{list_any_at}
+use Rattle.types.specs.Addr.{same_source}
+use Rattle.types.specs.declared.addr.Source.{Source}
+use Rattle.bindings_v4.specs.Book4.{empty_book}
 use Rattle.config.specs.CircuitPart.{CircuitPart, IsPart, part_of, source_at, part_in, parts_of}
-use Rattle.config.specs.Rules.{Settings}
+use Rattle.config.specs.Rules.{Settings, IsSound, IsWithinLimits}
 use Rattle.config.specs.declared.settings.CircuitConfig.{CircuitConfig}
 use Rattle.config.specs.declared.settings.RelayConfig.{RelayConfig}
-use Rattle.lossy_net.specs.Net.{Datagram, datagrams}
-use Rattle.lossy_net.specs.declared.dir.Dir.TheVariants.{Up}
-use Rattle.relay.specs.Relays.{topology_of}
+use Rattle.dispatch.specs.Server.{Book}
+use Rattle.dispatch.specs.ServerValue.{books_in, parts_in}
+use Rattle.lossy_net.specs.Net.{datagrams}
+use Rattle.lossy_net.specs.declared.dir.Dir.{Dir}
+use Rattle.lossy_net.specs.declared.dir.Dir.TheVariants as dir
+use Rattle.relay.specs.Relays.{Topology, topology_of}
+use Rattle.relay.proofs.AllLemmas.{same_source_self}
 use Rattle.world.specs.Alone.{start}
 use Rattle.world.specs.Headline.{Represents}
 use Rattle.world.specs.Start.{Starts}
-use Rattle.world.specs.StepsAs.{AreAddressed, IsWorld, machine_of}
+use Rattle.world.specs.StepsAs.{Each, IsFor, Returns, IsWorldOf, IsWorld}
 use Rattle.world.specs.World.{WorldValue, state_of, states}
+use Rattle.world.proofs.StateLemmas.{some_is, state_at}
+use Rattle.world.proofs.WorldLemmas.{states_count}
 
--- a list of one element has no other
-none_behind : {T : Type 0} (xs : List T) (c : ℕ) → length xs ≤ 1 → slice_get xs (suc c) ≡ None
-none_behind [] c h = refl
-none_behind (x ∷ []) c h = refl
-none_behind (x ∷ y ∷ xs) c h = absurd (omega (arith, h))
+-- ---- lists
 
-pub starts : (settings : Settings) (quota : ℕ) (part : CircuitPart) (w : WorldValue) → 1 ≤ length settings.circuits → length settings.circuits ≤ 1
-    → part_in settings 0 ≡ Some part → w.server.part ≡ part → w.net.quota ≡ quota → machine_of (state_of w) ≡ start
-    → Starts settings quota (states w)
-starts settings quota part w some few is same quotas begins = record {
-  count = omega (arith, some, few);
-  each = λ c other there. at c other there;
-}
-  where
-    at : (c : ℕ) (other : CircuitPart) → part_in settings c ≡ Some other → Represents c (states w) (record { part = other; quota = quota }) start
-    at zero other there =
-        let part_is : part ≡ other = let h : Some part ≡ Some other = sym is ∙ there in cc in
-        record {
-          state = state_of w;
-          there = refl;
-          setup_is = λ i. record { part = (same ∙ part_is) i; quota = quotas i };
-          up = ap (λ a. a.up) begins;
-          down = ap (λ a. a.down) begins;
-          book = ap (λ a. a.book) begins;
-        }
-    at (suc c) other there =
-        let none : part_in settings (suc c) ≡ None = none_behind (parts_of settings) c (omega (arith, few, length-map settings.circuits (λ circuit. part_of circuit (source_at settings.relays circuit.relay) settings.server.listen4 settings.server.listen6 settings.server.duid.items))) in
-        let h : Some other ≡ None = sym there ∙ none in
-        absurd cc
+all_at : {A : Type 0} (P : A → Type 0) (xs : List A) (n : ℕ) (x : A) → All P xs → slice_get xs n ≡ Some x → P x
+all_at P xs n x all at = subst P (get_or_from_slice_get xs n x x at) (All-get_or P xs n x (slice_get_within xs n x at) all)
 
--- the values of a part that is in the configuration
-part_values : (settings : Settings) (c : ℕ) (circuit : CircuitConfig) (part : CircuitPart) → slice_get settings.circuits c ≡ Some circuit → part_in settings c ≡ Some part
-    → part ≡ part_of circuit (source_at settings.relays circuit.relay) settings.server.listen4 settings.server.listen6 settings.server.duid.items
-part_values settings c circuit part there is =
-    let values : CircuitConfig → CircuitPart = λ x. part_of x (source_at settings.relays x.relay) settings.server.listen4 settings.server.listen6 settings.server.duid.items in
-    let h : Some part ≡ Some (values circuit) = sym is ∙ slice_get-map values settings.circuits c ∙ ap (option_map values) there in
-    cc
+-- what is at an index of a mapped list comes from there
+of_map : {A B : Type 0} (f : A → B) (xs : List A) (n : ℕ) (y : B) → slice_get (map f xs) n ≡ Some y → (x : A) × (slice_get xs n ≡ Some x) × (y ≡ f x)
+of_map f [] n y at = absurd cc
+of_map f (x ∷ xs) zero y at = (x, refl, sym (some_is (f x) y at))
+of_map f (x ∷ xs) (suc n) y at = of_map f xs n y at
+
+neither_before : (c d : ℕ) → (c < d → ⊥) → (d < c → ⊥) → d ≡ c
+neither_before zero zero before after = refl
+neither_before zero (suc d) before after = absurd (before (omega arith))
+neither_before (suc c) zero before after = absurd (after (omega arith))
+neither_before (suc c) (suc d) before after = ap suc (neither_before c d (λ h. before (omega (arith, h))) (λ h. after (omega (arith, h))))
+
+-- where no two are alike, one that is like the other is at its index
+module _ {A B : Type 0} (f : A → B) (xs : List A) (apart : AllPairs (λ a b. f a ≢ f b) xs) where
+  unlike : (c d : ℕ) (x y : A) → slice_get xs c ≡ Some x → slice_get xs d ≡ Some y → c < d → f x ≡ f y → ⊥
+  unlike c d x y at other below same =
+      apart c d x below (slice_get_within xs d y other) (ap f (get_or_from_slice_get xs c x x at) ∙ same ∙ sym (ap f (get_or_from_slice_get xs d y x other)))
+
+  same_index : (c d : ℕ) (x y : A) → slice_get xs c ≡ Some x → slice_get xs d ≡ Some y → f y ≡ f x → d ≡ c
+  same_index c d x y at other same = neither_before c d (λ below. unlike c d x y at other below (sym same)) (λ above. unlike d c y x other at above same)
 
 source_is : (relays : List RelayConfig) (n : ℕ) → n < length relays → slice_get (map (λ (r : RelayConfig). r.source) relays) n ≡ Some (source_at relays n)
 source_is [] n h = absurd (omega (arith, h))
 source_is (r ∷ rs) zero h = refl
 source_is (r ∷ rs) (suc n) h = source_is rs n (omega (arith, h))
 
-only_one : {T : Type 0} (xs : List T) (x : T) → length xs ≤ 1 → slice_get xs 0 ≡ Some x → xs ≡ x ∷ []
-only_one [] x h there = absurd cc
-only_one (y ∷ []) x h there = let same : y ≡ x = cc in ap (λ z. z ∷ []) same
-only_one (y ∷ z ∷ xs) x h there = absurd (omega (arith, h))
+known_source : (sources : List Source) (n : ℕ) (source : Source) → slice_get sources n ≡ Some source → list_any (same_source source) sources ≡ true
+known_source sources n source at =
+    list_any_at (same_source source) sources n source (slice_get_within sources n source at)
+    (ap (same_source source) (get_or_from_slice_get sources n source source at) ∙ same_source_self source)
 
--- relay, network and server of a world that was just opened are those of the one circuit
-pub opens : (settings : Settings) (circuit : CircuitConfig) (part : CircuitPart) (w : WorldValue) → length settings.circuits ≤ 1
-    → slice_get settings.circuits 0 ≡ Some circuit → circuit.relay < length settings.relays → part_in settings 0 ≡ Some part → IsPart part
-    → w.relays.topology ≡ topology_of settings → w.relay ≡ circuit.relay → w.server.part ≡ part → length w.net.circuits ≡ 1 → datagrams w.net 0 Up ≡ []
-    → IsWorld w
-opens settings circuit part w few there relay_there is sound topology relay server count empty =
-    let values = part_values settings 0 circuit part there is in
-    let P : CircuitPart → Type 0 = IsPart in
-    let A : List Datagram → Type 0 = AreAddressed w.server.part in
-    let parts : parts_of settings ≡ part ∷ [] = only_one (parts_of settings) part (omega (arith, few, length-map settings.circuits (λ x. part_of x (source_at settings.relays x.relay) settings.server.listen4 settings.server.listen6 settings.server.duid.items))) is in
-    record {
-      part = subst P (sym server) sound;
-      circuits = ap (λ t. t.circuits) topology ∙ parts ∙ ap (λ p. p ∷ []) (sym server);
-      relay =
-          (λ i. slice_get (topology i).relays (relay i)) ∙ source_is settings.relays circuit.relay relay_there
-          ∙ ap (λ p. Some p.relay) (sym values) ∙ ap (λ p. Some p.relay) (sym server);
-      listen4 = ap (λ t. t.listen4) topology ∙ ap (λ p. p.listen4) (sym values) ∙ ap (λ p. p.listen4) (sym server);
-      count = count;
-      addressed = subst A (sym empty) tt;
+-- ---- a world that was just opened
+
+module _ (settings : Settings) (quota : ℕ) (w : WorldValue) (sound : IsSound settings) (are_parts : All IsPart (parts_of settings)) (topology : w.relays.topology ≡ topology_of settings)
+    (behind : w.behind ≡ map (λ (circuit : CircuitConfig). circuit.relay) settings.circuits)
+    (sources : w.server.relays ≡ map (λ (relay : RelayConfig). relay.source) settings.relays) (parts : parts_in w.server ≡ parts_of settings)
+    (books : books_in w.server ≡ map (λ (part : CircuitPart). record { clock = 0; four = empty_book }) (parts_of settings))
+    (count : length w.net.circuits ≡ length settings.circuits) (empty : (c : ℕ) (way : Dir) → datagrams w.net c way ≡ []) where
+  abbrev t : Topology
+  t = topology_of settings
+
+  abbrev values : CircuitConfig → CircuitPart
+  values circuit = part_of circuit (source_at settings.relays circuit.relay) settings.server.listen4 settings.server.listen6 settings.server.duid.items
+
+  its : (c : ℕ) (part : CircuitPart) → slice_get t.circuits c ≡ Some part → (circuit : CircuitConfig) × (slice_get settings.circuits c ≡ Some circuit) × (part ≡ values circuit)
+  its c part at = of_map values settings.circuits c part at
+
+  its_relay : (c : ℕ) (part : CircuitPart) → slice_get t.circuits c ≡ Some part → (relay : ℕ) × (slice_get w.behind c ≡ Some relay) × (slice_get t.relays relay ≡ Some part.relay)
+  its_relay c part at =
+      let circuit = its c part at in
+      let limits = all_at (IsWithinLimits settings.relays) settings.circuits c circuit.0 sound.limits circuit.1 in (
+        circuit.0.relay,
+        ap (λ xs. slice_get xs c) behind ∙ slice_get-map (λ (x : CircuitConfig). x.relay) settings.circuits c ∙ ap (option_map (λ (x : CircuitConfig). x.relay)) circuit.1,
+        source_is settings.relays circuit.0.relay limits.relay ∙ ap (λ (p : CircuitPart). Some p.relay) (sym circuit.2),
+      )
+
+  pub opens : IsWorld w
+  opens = subst (λ v. IsWorldOf v w) (sym topology) (record {
+    parts = parts;
+    sources = sources;
+    count = count ∙ sym (length-map settings.circuits values);
+    each = λ c part at. all_at IsPart (parts_of settings) c part are_parts at;
+    listen4 = λ c part at. ap (λ (p : CircuitPart). p.listen4) (its c part at).2;
+    known = λ c part at. let relay = its_relay c part at in known_source t.relays relay.0 part.relay relay.2;
+    behind = its_relay;
+    ids = λ c part at d other there same. ids c part at d other there same;
+    addressed = λ c part at. subst (Each (IsFor t c part)) (sym (empty c dir.Up)) tt;
+    returned = λ c part at. subst (Each (Returns t c part)) (sym (empty c dir.Down)) tt;
+  })
+    where
+      ids : (c : ℕ) (part : CircuitPart) → slice_get t.circuits c ≡ Some part → (d : ℕ) (other : CircuitPart) → slice_get t.circuits d ≡ Some other → other.id ≡ part.id → d ≡ c
+      ids c part at d other there same =
+          let one = its c part at in
+          let two = its d other there in
+          same_index (λ (x : CircuitConfig). x.id) settings.circuits sound.rules.names.ids c d one.0 two.0 one.1 two.1
+          (ap (λ (p : CircuitPart). p.id) (sym two.2) ∙ same ∙ ap (λ (p : CircuitPart). p.id) one.2)
+
+  pub starts : w.net.quota ≡ quota → Starts settings quota (states w)
+  starts quotas = record { count = states_count w opens ∙ count; each = λ c part there. at c part there } where
+    first : Book
+    first = record { clock = 0; four = empty_book }
+
+    at : (c : ℕ) (part : CircuitPart) → part_in settings c ≡ Some part → Represents c (states w) (record { part = part; quota = quota }) start
+    at c part there = record {
+      state = state_of w c part first;
+      there =
+          state_at (state_of w) (parts_in w.server) (books_in w.server) c part first (ap (λ xs. slice_get xs c) parts ∙ there)
+          (ap (λ xs. slice_get xs c) books ∙ slice_get-map (λ (p : CircuitPart). first) (parts_of settings) c ∙ ap (option_map (λ (p : CircuitPart). first)) there);
+      setup_is = λ i. record { part = part; quota = quotas i };
+      up = empty c dir.Up;
+      down = empty c dir.Down;
+      book = refl;
     }

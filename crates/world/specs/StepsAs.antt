@@ -1,9 +1,13 @@
--- What the world of one circuit keeps from step to step. Only proofs need these.
-use Rattle.std.specs.Prelude.{◌≡◌, ℕ, List, [], ◌∷◌, length, slice_get, Some, Ok}
+-- What a world keeps from step to step. Only proofs need these.
+use Rattle.std.specs.Prelude.{◌≡◌, ℕ, ◌==◌, true, false, List, [], ◌∷◌, length, slice_get, Some, Ok}
+use Rattle.std.specs.List.{list_any}
+use Rattle.types.specs.Addr.{same_source}
 use Rattle.config.specs.CircuitPart.{CircuitPart, IsPart}
 use Rattle.dispatch.specs.Addressee.{addressee}
+use Rattle.dispatch.specs.ServerValue.{parts_in}
 use Rattle.lossy_net.specs.Net.{Datagram, datagrams}
-use Rattle.lossy_net.specs.declared.dir.Dir.TheVariants.{Up}
+use Rattle.lossy_net.specs.declared.dir.Dir.TheVariants.{Up, Down}
+use Rattle.relay.specs.Relays.{Topology, for_circuit, relayed_down, relayed_down_in}
 use Rattle.world.specs.Alone.{Alone, alone_step}
 use Rattle.world.specs.Headline.{CircuitState, IsOutcome}
 use Rattle.world.specs.Seen.{Seen}
@@ -20,16 +24,49 @@ pub record StepsAs (c : ℕ) (s : Seen) (old new : CircuitState) (o : Outcome) (
   pub next : machine_of new ≡ (alone_step old.setup s (machine_of old)).next
   pub outcome : IsOutcome c (alone_step old.setup s (machine_of old)).effect o out
 
--- the server finds that each of the datagrams is the circuit's
-abbrev pub AreAddressed : CircuitPart → List Datagram → Type 0
-AreAddressed part [] = Unit {0}
-AreAddressed part (d ∷ ds) = (addressee (part.relay ∷ []) (part ∷ []) part.relay d.bytes ≡ Ok 0) × AreAddressed part ds
+-- Circuit k's state moves so, and every other one stays.
+pub record Moves (k : ℕ) (s : Seen) (old new : List CircuitState) (o : Outcome) (out : List ℕ) : Type 0 where
+  pub count : length new ≡ length old
+  pub before : CircuitState
+  pub after : CircuitState
+  pub was : slice_get old k ≡ Some before
+  pub is : slice_get new k ≡ Some after
+  pub steps : StepsAs k s before after o out
+  pub others : (c : ℕ) → (k == c) ≡ false → slice_get new c ≡ slice_get old c
 
--- Relay, network and server are those of the one circuit.
-pub record IsWorld (w : WorldValue) : Type 0 where
-  pub part : IsPart w.server.part
-  pub circuits : w.relays.topology.circuits ≡ w.server.part ∷ []
-  pub relay : slice_get w.relays.topology.relays w.relay ≡ Some w.server.part.relay
-  pub listen4 : w.relays.topology.listen4 ≡ w.server.part.listen4
-  pub count : length w.net.circuits ≡ 1
-  pub addressed : AreAddressed w.server.part (datagrams w.net 0 Up)
+-- Every state moves so.
+pub record AllMove (s : Seen) (old new : List CircuitState) (o : Outcome) (out : List ℕ) : Type 0 where
+  pub count : length new ≡ length old
+  pub each : (c : ℕ) (before : CircuitState) → slice_get old c ≡ Some before → (after : CircuitState) × (slice_get new c ≡ Some after) × StepsAs c s before after o out
+
+-- each of the datagrams
+abbrev pub Each : (Datagram → Type 0) → List Datagram → Type 0
+Each P [] = Unit {0}
+Each P (d ∷ ds) = P d × Each P ds
+
+-- the server finds that a datagram is circuit k's
+abbrev pub IsFor : Topology → ℕ → CircuitPart → Datagram → Type 0
+IsFor t k part d = addressee t.relays t.circuits part.relay d.bytes ≡ Ok k
+
+-- and so does the circuit's relay, whatever its index
+abbrev pub Returns : Topology → ℕ → CircuitPart → Datagram → Type 0
+Returns t k part d = (relay : ℕ) → slice_get t.relays relay ≡ Some part.relay → relayed_down_in t relay t.listen4 d.bytes ≡ for_circuit k (relayed_down part d.proto d.bytes)
+
+-- Relay, network and server know the circuits of this topology, and what the network keeps of each is its
+-- own.
+pub record IsWorldOf (t : Topology) (w : WorldValue) : Type 0 where
+  pub parts : parts_in w.server ≡ t.circuits
+  pub sources : w.server.relays ≡ t.relays
+  pub count : length w.net.circuits ≡ length t.circuits
+  pub each : (c : ℕ) (part : CircuitPart) → slice_get t.circuits c ≡ Some part → IsPart part
+  pub listen4 : (c : ℕ) (part : CircuitPart) → slice_get t.circuits c ≡ Some part → part.listen4 ≡ t.listen4
+  pub known : (c : ℕ) (part : CircuitPart) → slice_get t.circuits c ≡ Some part → list_any (same_source part.relay) t.relays ≡ true
+  -- the index of its relay
+  pub behind : (c : ℕ) (part : CircuitPart) → slice_get t.circuits c ≡ Some part → (relay : ℕ) × (slice_get w.behind c ≡ Some relay) × (slice_get t.relays relay ≡ Some part.relay)
+  -- no two circuits have one id
+  pub ids : (c : ℕ) (part : CircuitPart) → slice_get t.circuits c ≡ Some part → (d : ℕ) (other : CircuitPart) → slice_get t.circuits d ≡ Some other → other.id ≡ part.id → d ≡ c
+  pub addressed : (c : ℕ) (part : CircuitPart) → slice_get t.circuits c ≡ Some part → Each (IsFor t c part) (datagrams w.net c Up)
+  pub returned : (c : ℕ) (part : CircuitPart) → slice_get t.circuits c ≡ Some part → Each (Returns t c part) (datagrams w.net c Down)
+
+abbrev pub IsWorld : WorldValue → Type 0
+IsWorld w = IsWorldOf w.relays.topology w

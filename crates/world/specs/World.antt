@@ -1,6 +1,8 @@
--- What shows of a world of one circuit.
-use Rattle.std.specs.Prelude.{ℕ, List, [], ◌∷◌, slice_index}
-use Rattle.dispatch.specs.ServerValue.{ServerValue, book_of}
+-- What shows of a world: a state for each circuit.
+use Rattle.std.specs.Prelude.{ℕ, suc, List, [], ◌∷◌, slice_index}
+use Rattle.config.specs.CircuitPart.{CircuitPart}
+use Rattle.dispatch.specs.Server.{Book}
+use Rattle.dispatch.specs.ServerValue.{ServerValue, books_in, parts_in}
 use Rattle.lossy_net.specs.Net.{NetValue, datagrams}
 use Rattle.lossy_net.specs.declared.dir.Dir.TheVariants.{Up, Down}
 use Rattle.relay.specs.Relays.{RelaysValue}
@@ -8,22 +10,28 @@ use Rattle.world.specs.Headline.{CircuitState}
 
 pub record WorldValue : Type 0 where
   pub relays : RelaysValue
-  -- the index of the circuit's relay
-  pub relay : ℕ
+  -- the index of each circuit's relay
+  pub behind : List ℕ
   pub net : NetValue
   pub server : ServerValue
   -- the bytes of the disk's regions, which nothing writes
   pub disk : List (List ℕ)
 
-abbrev pub state_of : WorldValue → CircuitState
-state_of w = record {
-  setup = record { part = w.server.part; quota = w.net.quota };
-  up = datagrams w.net 0 Up;
-  down = datagrams w.net 0 Down;
-  discarded = slice_index w.relays.discarded 0;
-  book = book_of w.server;
+-- circuit c's state, with its part of the configuration and its book
+abbrev pub state_of : WorldValue → ℕ → CircuitPart → Book → CircuitState
+state_of w c part book = record {
+  setup = record { part = part; quota = w.net.quota };
+  up = datagrams w.net c Up;
+  down = datagrams w.net c Down;
+  discarded = slice_index w.relays.discarded c;
+  book = book;
 }
 
--- one state, of the one circuit
+-- a state for each part and book, in order
+abbrev pub each_state : (ℕ → CircuitPart → Book → CircuitState) → List CircuitPart → List Book → List CircuitState
+each_state state (part ∷ parts) (book ∷ books) = state 0 part book ∷ each_state (λ c. state (suc c)) parts books
+each_state state (part ∷ parts) [] = []
+each_state state [] books = []
+
 abbrev pub states : WorldValue → List CircuitState
-states w = state_of w ∷ []
+states w = each_state (state_of w) (parts_in w.server) (books_in w.server)

@@ -1,22 +1,24 @@
-//! A world of one circuit: its relay, the network, its server and a disk.
-ghost use Rattle.std.specs.Prelude.{◌≡◌, ℕ, ◌+◌, ◌<◌, ◌≤◌, [], length, take, IfOk, IfErr, OnOk};
+//! A world: its relays, the network, the server and a disk.
+ghost use Rattle.std.specs.Prelude.{◌≡◌, ℕ, ◌+◌, ◌<◌, ◌≤◌, [], length, map, nat_lt, take, IfOk, IfErr, OnOk};
 ghost use Rattle.world.specs.Headline.{EmitsAt, Emits, Reaches, Steps};
 ghost use Rattle.world.specs.Seen.{Frame, Up, Down, Tick};
 ghost use Rattle.world.specs.declared.outcome.Outcome.TheVariants as outcome;
 ghost use Rattle.world.specs.Start.{Starts};
-ghost use Rattle.world.specs.StepsAs.{StepsAs};
-ghost use Rattle.world.specs.World.{state_of, states};
+ghost use Rattle.world.specs.StepsAs.{AllMove, Moves};
+ghost use Rattle.world.specs.World.{states};
+ghost use Rattle.wire.specs.Bytes.{AreBytes};
 
+use crate::addressed::{comes_to_its_circuit, reply_comes_to_its_circuit};
 use crate::event::Event;
 use crate::machine::{Machine, run};
 use crate::model_disk::ModelDisk;
 use crate::outcome::Outcome;
 use crate::sink::Sink;
-use config::{CircuitPart, Config};
+use config::Config;
 use dispatch::Server;
 use lossy_net::{Dir, Net};
 use relay::Relays;
-use std::alloc::Global;
+use std::alloc::{AllocError, Global};
 use std::marker::Model;
 use thiserror::Error;
 use types::{Circuit, Moment, Proto, RelayNo};
@@ -30,11 +32,11 @@ pub enum OpenFault {
     Memory,
 }
 
-/// A world of one circuit.
+/// A world.
 #[derive(Drop)]
 pub struct World {
     relays: Relays,
-    relay: RelayNo,
+    behind: Vec<RelayNo>,
     net: Net,
     server: Server,
     disk: ModelDisk,
@@ -46,9 +48,9 @@ impl Model for World {
 
     ghost Value = { WorldValue };
 
-    ghost view = { λ w. record { relays = w.relays; relay = w.relay; net = w.net; server = w.server; disk = w.disk } };
+    ghost view = { λ w. record { relays = w.relays; behind = w.behind.items; net = w.net; server = w.server; disk = w.disk } };
 
-    ghost invariant = { λ w. IsWorld (record { relays = w.relays; relay = w.relay; net = w.net; server = w.server; disk = w.disk }) };
+    ghost invariant = { λ w. IsWorld (record { relays = w.relays; behind = w.behind.items; net = w.net; server = w.server; disk = w.disk }) };
 }
 
 /// There is no such circuit.
@@ -58,6 +60,25 @@ fn gone(out: &mut PacketBuf) -> Outcome
 {
     out.clear();
     Outcome::Gone
+}
+
+/// For its contract: what a slice of bytes holds are bytes.
+fn are_bytes(bytes: &[u8])
+    ensures { AreBytes bytes.now }
+{}
+
+/// The index of each circuit's relay, in the order of the configuration.
+fn relay_indexes(alloc: Global, config: &Config) -> Result<Vec<RelayNo>, AllocError>
+    ensures { IfOk result (λ behind. behind.items ≡ map (λ circuit. circuit.relay) config.now.circuits) }
+{
+    let mut behind = Vec::with_capacity(alloc, config.circuit_count())?;
+    'circuits: for index in 0..config.circuit_count() {
+        let Some(circuit) = Circuit::new(index) else {
+            unreachable!()
+        };
+        behind.push(config.at(circuit).relay)?;
+    }
+    Ok(behind)
 }
 
 impl World {
@@ -74,22 +95,21 @@ impl World {
         ensures starts { IfOk result (λ world. Starts config.now quota (states world)) }
         ensures disk { IfOk result (λ world. world.disk ≡ disk) }
     {
-        let Some(only) = Circuit::new(0) else {
-            unreachable!()
-        };
-        let circuits = config.circuit_count();
-        prove!(circuits == 1);
         let Ok(relays) = Relays::new(alloc, config) else {
             return Err(OpenFault::Memory);
         };
-        let Ok(net) = Net::new(alloc, circuits, usize::from(quota)) else {
+        let Ok(behind) = relay_indexes(alloc, config) else {
             return Err(OpenFault::Memory);
         };
-        let relay = config.at(only).relay;
-        let server = Server::new(CircuitPart::of(config, only));
+        let Ok(net) = Net::new(alloc, config.circuit_count(), usize::from(quota)) else {
+            return Err(OpenFault::Memory);
+        };
+        let Ok(server) = Server::open(alloc, config) else {
+            return Err(OpenFault::Memory);
+        };
         Ok(World {
             relays,
-            relay,
+            behind,
             net,
             server,
             disk,
@@ -103,6 +123,14 @@ impl World {
         &self.disk
     }
 
+    /// Whether there is such a circuit.
+    fn exists(&self, circuit: Circuit) -> bool
+        ensures value { result ≡ nat_lt circuit (length self.now.net.circuits) }
+        ensures states { result ≡ nat_lt circuit (length (states self.now)) }
+    {
+        circuit.index() < self.net.circuit_count()
+    }
+
     /// A client's frame at the relay.
     fn frame(
         &mut self,
@@ -111,10 +139,11 @@ impl World {
         frame: &[u8],
         out: &mut PacketBuf,
     ) -> Outcome
-        requires { circuit ≡ 0 }
-        ensures steps { StepsAs 0 (Frame proto frame.now) (state_of self.old) (state_of self.new) result out.new }
+        requires { circuit < length self.old.net.circuits }
+        ensures moves { Moves circuit (Frame proto frame.now) (states self.old) (states self.new) result out.new }
         ensures disk { self.new.disk ≡ self.old.disk }
     {
+        comes_to_its_circuit();
         match self.relays.up(circuit, proto, frame, out) {
             Ok(()) => {
                 self.net.send(circuit, Dir::Up, proto, out);
@@ -128,15 +157,17 @@ impl World {
 
     /// A datagram at the server.
     fn up(&mut self, circuit: Circuit, number: u16, now: Moment, out: &mut PacketBuf) -> Outcome
-        requires { circuit ≡ 0 }
-        ensures steps { (fault : ℕ) → StepsAs 0 (Up number now fault) (state_of self.old) (state_of self.new) result out.new }
+        requires { circuit < length self.old.net.circuits }
+        ensures moves { (fault : ℕ) → Moves circuit (Up number now fault) (states self.old) (states self.new) result out.new }
         ensures disk { self.new.disk ≡ self.old.disk }
     {
+        reply_comes_to_its_circuit();
         out.clear();
-        let source = self.server.part().relay();
+        let source = self.server.part(circuit).relay();
         let Some((proto, datagram)) = self.net.deliver(circuit, Dir::Up, number) else {
             return Outcome::Gone;
         };
+        are_bytes(datagram);
         match self.server.receive(source, datagram, now, out) {
             Ok(()) => {
                 self.net.send(circuit, Dir::Down, proto, out);
@@ -150,8 +181,8 @@ impl World {
 
     /// A datagram at the relay.
     fn down(&mut self, circuit: Circuit, number: u16, out: &mut PacketBuf) -> Outcome
-        requires { circuit ≡ 0 }
-        ensures steps { StepsAs 0 (Down number) (state_of self.old) (state_of self.new) result out.new }
+        requires { circuit < length self.old.net.circuits }
+        ensures moves { Moves circuit (Down number) (states self.old) (states self.new) result out.new }
         ensures disk { self.new.disk ≡ self.old.disk }
     {
         out.clear();
@@ -159,9 +190,10 @@ impl World {
             return Outcome::Gone;
         };
         let source = match proto {
-            Proto::V4 => self.server.part().listen4(),
+            Proto::V4 => self.server.part(circuit).listen4(),
         };
-        match self.relays.down(self.relay, source, datagram, out) {
+        let relay = self.behind[circuit.index()];
+        match self.relays.down(relay, source, datagram, out) {
             Ok(sent) => Outcome::Framed(sent.0, sent.1),
             Err(why) => Outcome::Dropped(why),
         }
@@ -169,7 +201,7 @@ impl World {
 
     /// A moment for all circuits.
     fn tick(&mut self, now: Moment, out: &mut PacketBuf) -> Outcome
-        ensures steps { StepsAs 0 (Tick now) (state_of self.old) (state_of self.new) result out.new }
+        ensures moves { AllMove (Tick now) (states self.old) (states self.new) result out.new }
         ensures done { result ≡ outcome.Done }
         ensures disk { self.new.disk ≡ self.old.disk }
         ensures empty { out.new ≡ [] }
@@ -186,19 +218,19 @@ impl World {
     {
         match *event {
             Event::Frame(circuit, proto, frame) => {
-                if circuit.index() != 0 {
+                if !self.exists(circuit) {
                     return gone(out);
                 }
                 self.frame(circuit, proto, frame, out)
             }
             Event::Up(circuit, number, now, _) => {
-                if circuit.index() != 0 {
+                if !self.exists(circuit) {
                     return gone(out);
                 }
                 self.up(circuit, number, now, out)
             }
             Event::Down(circuit, number) => {
-                if circuit.index() != 0 {
+                if !self.exists(circuit) {
                     return gone(out);
                 }
                 self.down(circuit, number, out)
@@ -228,6 +260,7 @@ impl World {
 
 impl Machine for World {
     ghost use Rattle.world.specs.World.{states};
+    ghost use Rattle.wire.specs.Bytes.{AreBytes};
 
     ghost states = { λ world. states world };
 

@@ -1,36 +1,72 @@
-use Rattle.std.proofs.Common.{sym, ap, ◌∙◌, subst}
+use Rattle.std.proofs.Common.{◌≡◌, ◌<◌, length, refl, sym, ap, subst, ◌∙◌, get_or, arith}
+use Rattle.std.specs.Prelude.{Some, slice_get}
 use Rattle.std.proofs.lemmas.Option.{slice_get_within}
-use Rattle.lossy_net.specs.Net.{Datagram}
+use Rattle.lossy_net.specs.Net.{Datagram, datagrams}
+use Rattle.relay.specs.Relays.{relayed_down_in}
 use Rattle.lossy_net.specs.declared.dir.Dir.TheVariants as dir
 use Rattle.world.specs.Seen.{Down}
-use Rattle.world.specs.StepsAs.{StepsAs}
-use Rattle.world.specs.World.{WorldValue, state_of}
+use Rattle.world.specs.StepsAs.{Moves, Returns, StepsAs}
+use Rattle.world.specs.World.{WorldValue, state_of, states}
 use Rattle.world.specs.declared.outcome.Outcome.{Outcome}
 use Rattle.world.specs.declared.outcome.Outcome.TheVariants as outcome
-use Rattle.world.proofs.WorldLemmas.{down_gone, down_framed, down_dropped, delivered_none, delivered_some}
+use Rattle.world.proofs.StateLemmas.{moves, some_is}
+use Rattle.world.proofs.WorldLemmas.{the_circuit, behind_is, whole, each_at, down_gone, down_framed, down_dropped}
 use Rattle.world.proofs.world.World.down.Goals.{in-Ok, in-Err}
 use Rattle.world.proofs.world.World.down.Goals as goal
 
-pub returns-in_default-clause-steps : goal.returns-in_default-clause-steps
-returns-in_default-clause-steps c =
-    let w : WorldValue = record { relays = c.self.inside.relays; relay = c.self.inside.relay; net = c.self.inside.net; server = c.self.inside.server; disk = c.self.inside.disk } in
-    let P : WorldValue → Type 0 = λ v. StepsAs 0 (Down c.args.number) (state_of v) (state_of v) outcome.Gone c.clear.new.self in
-    subst P c.self.view_is (down_gone 0 w c.args.number c.clear.new.self (delivered_none c.args.circuit c.args.number dir.Down w.net c.requires c.in_default.ensures) c.clear.ensures)
+pub returns-in_default-clause-moves : goal.returns-in_default-clause-moves
+returns-in_default-clause-moves c =
+    let w : WorldValue = record { relays = c.self.inside.relays; behind = c.self.inside.behind.items; net = c.self.inside.net; server = c.self.inside.server; disk = c.self.inside.disk } in
+    let k = c.args.circuit in
+    let within = subst (λ (v : WorldValue). k < length v.net.circuits) (sym c.self.view_is) c.requires in
+    let the = the_circuit w c.self.invariant k within in
+    let P : WorldValue → Type 0 = λ v. Moves k (Down c.args.number) (states v) (states v) outcome.Gone c.clear.new.self in
+    subst P c.self.view_is (
+    moves k (Down c.args.number) w w the.part the.book the.book outcome.Gone c.clear.new.self refl (whole w) refl the.served the.its the.its (λ n other. refl) (λ n other p b. refl)
+    (down_gone k w the.part the.book c.args.number c.clear.new.self (sym c.in_default.ensures) c.clear.ensures)
+    )
+
+pub index-relay-requires : goal.index-relay-requires
+index-relay-requires c =
+    let w : WorldValue = record { relays = c.self.inside.relays; behind = c.self.inside.behind.items; net = c.self.inside.net; server = c.self.inside.server; disk = c.self.inside.disk } in
+    let k = c.args.circuit in
+    let within = subst (λ (v : WorldValue). k < length v.net.circuits) (sym c.self.view_is) c.requires in
+    let the = the_circuit w c.self.invariant k within in
+    let b = c.self.invariant.behind k the.part the.there in
+    omega (arith, c.index.ensures.value, slice_get_within w.behind k b.0 b.1, c.self.inside.behind.ok)
 
 pub down-requires : goal.down-requires
-down-requires c = slice_get_within c.self.inside.relays.topology.relays c.self.inside.relay c.self.inside.server.part.relay c.self.invariant.relay
+down-requires c =
+    let w : WorldValue = record { relays = c.self.inside.relays; behind = c.self.inside.behind.items; net = c.self.inside.net; server = c.self.inside.server; disk = c.self.inside.disk } in
+    let k = c.args.circuit in
+    let within = subst (λ (v : WorldValue). k < length v.net.circuits) (sym c.self.view_is) c.requires in
+    let is = c.self.invariant in
+    let the = the_circuit w is k within in
+    let t = w.relays.topology in
+    let relay = c.index-relay.result.now in
+    let here = behind_is w is k the.part the.there relay (c.index-relay.ensures ∙ ap (λ n. get_or w.behind n relay) c.index.ensures.value) in
+    slice_get_within t.relays relay the.part.relay here
 
-pub returns-clause-steps : goal.returns-clause-steps
-returns-clause-steps c =
-    let w : WorldValue = record { relays = c.self.inside.relays; relay = c.self.inside.relay; net = c.self.inside.net; server = c.self.inside.server; disk = c.self.inside.disk } in
+pub returns-clause-moves : goal.returns-clause-moves
+returns-clause-moves c =
+    let w : WorldValue = record { relays = c.self.inside.relays; behind = c.self.inside.behind.items; net = c.self.inside.net; server = c.self.inside.server; disk = c.self.inside.disk } in
+    let k = c.args.circuit in
+    let within = subst (λ (v : WorldValue). k < length v.net.circuits) (sym c.self.view_is) c.requires in
+    let is = c.self.invariant in
+    let the = the_circuit w is k within in
+    let t = w.relays.topology in
+    let relay = c.index-relay.result.now in
+    let here = behind_is w is k the.part the.there relay (c.index-relay.ensures ∙ ap (λ n. get_or w.behind n relay) c.index.ensures.value) in
     let d : Datagram = record { proto = c.in-Some.proto; bytes = c.in-Some.datagram.now } in
-    let there = delivered_some c.args.circuit c.args.number dir.Down w.net d c.requires c.in-Some.ensures in
-    let source = c.listen4-source.ensures ∙ ap (λ p. p.listen4) c.part.ensures ∙ sym c.self.invariant.listen4 in
-    let P : WorldValue → Type 0 = λ v. StepsAs 0 (Down c.args.number) (state_of v) (state_of v) c.match-down.result c.down.new.out in
-    let O : Outcome → Type 0 = λ o. StepsAs 0 (Down c.args.number) (state_of w) (state_of w) o c.down.new.out in
+    let there : slice_get (datagrams w.net k dir.Down) c.args.number ≡ Some d = sym c.in-Some.ensures in
+    let source = c.listen4-source.ensures ∙ ap (λ p. p.listen4) (some_is c.part.result.now the.part (sym c.part.ensures ∙ the.served)) ∙ is.listen4 k the.part the.there in
+    let comes = each_at (Returns t k the.part) (datagrams w.net k dir.Down) c.args.number d (is.returned k the.part the.there) there relay here in
+    let result = sym comes ∙ ap (λ s. relayed_down_in t relay s d.bytes) (sym source) in
+    let P : WorldValue → Type 0 = λ v. Moves k (Down c.args.number) (states v) (states v) c.match-down.result c.down.new.out in
+    let O : Outcome → Type 0 = λ o. StepsAs k (Down c.args.number) (state_of w k the.part the.book) (state_of w k the.part the.book) o c.down.new.out in
     subst P c.self.view_is (
-    elim c.match-down.branch [
-      | in-Ok v ↦ subst O (sym v.result-is) (down_framed w c.args.number d c.listen4-source.result c.self.invariant source there v.in-Ok.sent.0 v.in-Ok.sent.1 c.down.new.out v.in-Ok.ensures.ok)
-      | in-Err v ↦ subst O (sym v.result-is) (down_dropped w c.args.number d c.listen4-source.result c.self.invariant source there v.in-Err.why c.down.new.out v.in-Err.ensures.err v.in-Err.ensures.empty)
-    ]
-    )
+    moves k (Down c.args.number) w w the.part the.book the.book c.match-down.result c.down.new.out refl (whole w) refl the.served the.its the.its (λ n other. refl) (λ n other p b. refl)
+    (elim c.match-down.branch [
+      | in-Ok v ↦ subst O (sym v.result-is) (down_framed k w the.part the.book c.args.number d there v.in-Ok.sent.0 v.in-Ok.sent.1 c.down.new.out (result ∙ v.in-Ok.ensures.ok))
+      | in-Err v ↦ subst O (sym v.result-is) (down_dropped k w the.part the.book c.args.number d there v.in-Err.why c.down.new.out (result ∙ v.in-Err.ensures.err) v.in-Err.ensures.empty)
+    ]))

@@ -1,42 +1,64 @@
-use Rattle.std.proofs.Common.{refl, ap, subst, arith}
+use Rattle.std.proofs.Common.{◌<◌, length, refl, sym, ap, subst, ◌∙◌, arith}
+use Rattle.std.specs.Prelude.{slice_index}
+use Rattle.lossy_net.specs.Net.{Datagram}
 use Rattle.lossy_net.specs.declared.dir.Dir.TheVariants as dir
 use Rattle.world.specs.Seen.{Frame}
-use Rattle.world.specs.StepsAs.{StepsAs}
-use Rattle.world.specs.World.{WorldValue, state_of}
+use Rattle.world.specs.StepsAs.{IsFor, Returns, Moves}
+use Rattle.world.specs.World.{WorldValue, states}
 use Rattle.world.specs.declared.outcome.Outcome.TheVariants as outcome
-use Rattle.world.proofs.AddressedLemmas.{is_addressed_alone}
-use Rattle.world.proofs.WorldLemmas.{frame_sent, frame_dropped, only_part, still_world, sent_addressed, kept_at_0, same_at_0}
+use Rattle.world.proofs.StateLemmas.{moves}
+use Rattle.world.proofs.WorldLemmas.{the_circuit, whole, each_sent, each_kept, other_way, still_world, same_circuit, other_count, apart, frame_sent, frame_dropped}
 use Rattle.world.proofs.world.World.frame.Goals as goal
 
 pub invariant_of-self : goal.invariant_of-self
 invariant_of-self c =
-    let w : WorldValue = record { relays = c.self.inside.relays; relay = c.self.inside.relay; net = c.self.inside.net; server = c.self.inside.server; disk = c.self.inside.disk } in
+    let w : WorldValue = record { relays = c.self.inside.relays; behind = c.self.inside.behind.items; net = c.self.inside.net; server = c.self.inside.server; disk = c.self.inside.disk } in
     let new : WorldValue = record w { relays = c.up.new.self; net = c.send.new.self } in
-    let part = c.self.inside.server.part in
-    let sent = c.in-Ok.ensures.ok part (only_part w.relays.topology.circuits part c.args.circuit c.self.invariant.circuits c.requires) in
-    let comes = is_addressed_alone part c.args.proto c.args.frame.now c.up.new.out c.self.invariant.part (record { each = λ i. omega (arith, c.type_inv.frame i) }) sent in
-    still_world w new c.self.invariant refl (ap (λ r. r.topology) c.in-Ok.ensures.kept) refl c.send.ensures.circuits
-    (sent_addressed part w.net.quota (record { proto = c.args.proto; bytes = c.up.new.out }) _ _ comes c.self.invariant.addressed
-    (kept_at_0 c.args.circuit dir.Up w.net new.net _ c.requires c.send.ensures.kept))
+    let is = c.self.invariant in
+    let t = w.relays.topology in
+    let k = c.args.circuit in
+    let d : Datagram = record { proto = c.args.proto; bytes = c.up.new.out } in
+    still_world w new is (ap (λ r. r.topology) c.in-Ok.ensures.kept) refl refl refl c.send.ensures.circuits
+    (each_sent (IsFor t) t.circuits dir.Up w.net new.net is.addressed k d c.send.ensures.kept (λ n other. c.send.ensures.other_circuits n dir.Up (apart k n other))
+    (λ part there.
+    c.comes_to_its_circuit.ensures t.relays t.circuits k part c.args.proto c.args.frame.now c.up.new.out there (is.ids k part there) (is.known k part there) (is.each k part there)
+    (record { each = λ i. omega (arith, c.type_inv.frame i) }) (c.in-Ok.ensures.ok part there)))
+    (each_kept (Returns t) t.circuits dir.Down w.net new.net is.returned
+    (other_way k dir.Down w.net new.net c.send.ensures.other_direction (λ n other. c.send.ensures.other_circuits n dir.Down (apart k n other))))
 
-pub returns-in-Ok-clause-steps : goal.returns-in-Ok-clause-steps
-returns-in-Ok-clause-steps c =
-    let w : WorldValue = record { relays = c.self.inside.relays; relay = c.self.inside.relay; net = c.self.inside.net; server = c.self.inside.server; disk = c.self.inside.disk } in
+pub invariant_of-self-in-Err : goal.invariant_of-self-in-Err
+invariant_of-self-in-Err c =
+    let w : WorldValue = record { relays = c.self.inside.relays; behind = c.self.inside.behind.items; net = c.self.inside.net; server = c.self.inside.server; disk = c.self.inside.disk } in
+    let new : WorldValue = record w { relays = c.up.new.self } in
+    still_world w new c.self.invariant (ap (λ r. r.topology) c.in-Err.ensures.counted) refl refl refl refl c.self.invariant.addressed c.self.invariant.returned
+
+pub returns-in-Ok-clause-moves : goal.returns-in-Ok-clause-moves
+returns-in-Ok-clause-moves c =
+    let w : WorldValue = record { relays = c.self.inside.relays; behind = c.self.inside.behind.items; net = c.self.inside.net; server = c.self.inside.server; disk = c.self.inside.disk } in
     let new : WorldValue = record w { relays = c.up.new.self; net = c.send.new.self } in
-    let part = c.self.inside.server.part in
-    let sent = c.in-Ok.ensures.ok part (only_part w.relays.topology.circuits part c.args.circuit c.self.invariant.circuits c.requires) in
-    let P : WorldValue → Type 0 = λ v. StepsAs 0 (Frame c.args.proto c.args.frame.now) (state_of v) (state_of new) (outcome.SentUp c.len-len.result) c.clear.new.self in
+    let k = c.args.circuit in
+    let within = subst (λ (v : WorldValue). k < length v.net.circuits) (sym c.self.view_is) c.requires in
+    let the = the_circuit w c.self.invariant k within in
+    let P : WorldValue → Type 0 = λ v. Moves k (Frame c.args.proto c.args.frame.now) (states v) (states new) (outcome.SentUp c.len-len.result) c.clear.new.self in
     subst P c.self.view_is (
-    frame_sent w new c.args.proto c.args.frame.now c.up.new.out c.len-len.result c.clear.new.self sent refl c.send.ensures.quota
-    (kept_at_0 c.args.circuit dir.Up w.net new.net _ c.requires c.send.ensures.kept) (same_at_0 c.args.circuit dir.Down w.net new.net c.requires c.send.ensures.other_direction)
-    c.len-len.ensures.value c.clear.ensures
+    moves k (Frame c.args.proto c.args.frame.now) w new the.part the.book the.book (outcome.SentUp c.len-len.result) c.clear.new.self refl (whole w) refl the.served the.its the.its (λ n other. refl)
+    (λ n other p b.
+    same_circuit w new n p b c.send.ensures.quota (c.send.ensures.other_circuits n dir.Up (apart k n other)) (c.send.ensures.other_circuits n dir.Down (apart k n other))
+    (ap (λ r. slice_index r.discarded n) c.in-Ok.ensures.kept))
+    (frame_sent k w new the.part the.book c.args.proto c.args.frame.now c.up.new.out c.len-len.result c.clear.new.self (c.in-Ok.ensures.ok the.part the.there) c.send.ensures.quota
+    c.send.ensures.kept c.send.ensures.other_direction c.len-len.ensures.value c.clear.ensures)
     )
 
-pub returns-in-Err-clause-steps : goal.returns-in-Err-clause-steps
-returns-in-Err-clause-steps c =
-    let w : WorldValue = record { relays = c.self.inside.relays; relay = c.self.inside.relay; net = c.self.inside.net; server = c.self.inside.server; disk = c.self.inside.disk } in
+pub returns-in-Err-clause-moves : goal.returns-in-Err-clause-moves
+returns-in-Err-clause-moves c =
+    let w : WorldValue = record { relays = c.self.inside.relays; behind = c.self.inside.behind.items; net = c.self.inside.net; server = c.self.inside.server; disk = c.self.inside.disk } in
     let new : WorldValue = record w { relays = c.up.new.self } in
-    let part = c.self.inside.server.part in
-    let dropped = c.in-Err.ensures.err part (only_part w.relays.topology.circuits part c.args.circuit c.self.invariant.circuits c.requires) in
-    let P : WorldValue → Type 0 = λ v. StepsAs 0 (Frame c.args.proto c.args.frame.now) (state_of v) (state_of new) (outcome.Dropped c.in-Err.why) c.up.new.out in
-    subst P c.self.view_is (frame_dropped w new c.args.proto c.args.frame.now c.in-Err.why c.up.new.out dropped refl refl c.in-Err.ensures.empty)
+    let k = c.args.circuit in
+    let within = subst (λ (v : WorldValue). k < length v.net.circuits) (sym c.self.view_is) c.requires in
+    let the = the_circuit w c.self.invariant k within in
+    let P : WorldValue → Type 0 = λ v. Moves k (Frame c.args.proto c.args.frame.now) (states v) (states new) (outcome.Dropped c.in-Err.why) c.up.new.out in
+    subst P c.self.view_is (
+    moves k (Frame c.args.proto c.args.frame.now) w new the.part the.book the.book (outcome.Dropped c.in-Err.why) c.up.new.out refl (whole w) refl the.served the.its the.its (λ n other. refl)
+    (λ n other p b. same_circuit w new n p b refl refl refl (ap (λ r. slice_index r.discarded n) c.in-Err.ensures.counted ∙ other_count k n w.relays.discarded other))
+    (frame_dropped k w new the.part the.book c.args.proto c.args.frame.now c.in-Err.why c.up.new.out (c.in-Err.ensures.err the.part the.there) refl c.in-Err.ensures.empty)
+    )
