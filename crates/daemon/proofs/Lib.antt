@@ -3,6 +3,7 @@ pub mod CutLemmas
 pub mod NumberLemmas
 pub mod ReadLemmas
 pub mod RegionLemmas
+pub mod RelayLemmas
 pub mod RunLemmas
 pub mod WriteLemmas
 pub mod LineResultLemmas

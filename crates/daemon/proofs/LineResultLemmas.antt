@@ -1,6 +1,6 @@
 -- A step of the world as the result of a line.
 use Rattle.std.proofs.Common.{◌≡◌, ℕ, ◌<◌, ◌≤◌, Bool, true, false, cond, eqb, eqb-true, eq-eqb, le-ltb, lt-ltb, List, length, refl, ap, sym, subst, ◌∙◌}
-use Rattle.std.specs.Prelude.{Option, Some, None, slice_get, option_map}
+use Rattle.std.specs.Prelude.{Option, Some, None, IfSome, slice_get, option_map}
 use Rattle.std.specs.Io.KnownBytes.{Appends}
 use Rattle.std.proofs.lemmas.Option.{same_Some, slice_get-map}
 use Rattle.config.specs.Rules.{Settings}
@@ -12,8 +12,11 @@ use Rattle.world.specs.Seen.{Seen, seen_of}
 use Rattle.world.specs.declared.event.Event.{Event}
 use Rattle.world.specs.declared.event.Event.TheVariants as event
 use Rattle.world.specs.declared.outcome.Outcome.{Outcome}
-use Rattle.daemon.specs.Lab.{part_result, moved, ticked}
-use Rattle.daemon.specs.Line.{Bad, line_of_text, short_line}
+use Rattle.world.specs.declared.outcome.Outcome.TheVariants as outcome
+use Rattle.world.specs.Stray.{is_stray}
+use Rattle.types.specs.declared.discard.Discard.{Discard}
+use Rattle.daemon.specs.Lab.{part_result, line_result, moved, ticked}
+use Rattle.daemon.specs.Line.{Bad, Stray, line_of_text, short_line}
 use Rattle.daemon.specs.Writing.{AppendsPrefix}
 use Rattle.daemon.specs.Follows.{AllRepresent, Names, Follows}
 use Rattle.daemon.specs.Output.{effect_text, outcome_effect, with_newline}
@@ -106,6 +109,27 @@ represents_ticked settings quota now states new o out machines steps represents 
       subst (λ p. Represents c new (record { part = part; quota = quota }) (ticked quota now (machines c) p)) (sym h)
       (steps.each c (record { part = part; quota = quota }) (machines c) (represents.each c part h));
 }
+
+-- a stray, which changes nothing
+stray_is : (expected : Option Outcome) (o : Outcome) (why : Discard) → IfSome expected (λ v. o ≡ v) → expected ≡ Some (outcome.Dropped why) → o ≡ outcome.Dropped why
+stray_is expected o why h is = rw is at h
+
+pub stray_applied : (settings : Settings) (quota number : ℕ) (why : Discard) (machines : ℕ → Alone) (e : Event) (states new : List CircuitState) (expected : Option Outcome) (o : Outcome) (out : List ℕ)
+    (held holds : Option (List ℕ)) → is_stray e ≡ true → Steps e states new o out → IfSome expected (λ v. o ≡ v) → expected ≡ Some (outcome.Dropped why)
+    → AllRepresent settings quota states machines → Appends held holds (with_newline (effect_text [] (outcome_effect o out)))
+    → Follows settings quota number (line_result settings quota machines (Stray why)) new held holds None
+stray_applied settings quota number why machines e states new expected o out held holds stray steps h is represents written = record {
+  appended = subst (λ v. Appends held holds (with_newline (effect_text [] (outcome_effect v out)))) (stray_is expected o why h is) written;
+  represents = subst (λ s. AllRepresent settings quota s machines) (sym (steps.stray stray).2) represents;
+}
+
+-- and one where the writer failed
+pub stray_not_written : (settings : Settings) (quota number : ℕ) (why : Discard) (machines : ℕ → Alone) (states : List CircuitState) (expected : Option Outcome) (o : Outcome) (out : List ℕ)
+    (held holds : Option (List ℕ)) → IfSome expected (λ v. o ≡ v) → expected ≡ Some (outcome.Dropped why)
+    → AppendsPrefix held holds (with_newline (effect_text [] (outcome_effect o out)))
+    → Follows settings quota number (line_result settings quota machines (Stray why)) states held holds (Some 6)
+stray_not_written settings quota number why machines states expected o out held holds h is written =
+    (refl, subst (λ v. AppendsPrefix held holds (with_newline (effect_text [] (outcome_effect v out)))) (stray_is expected o why h is) written)
 
 -- a line that is short enough
 pub short_is : (settings : Settings) (line : List ℕ) → length line ≤ 8192 → short_line settings line ≡ line_of_text settings line

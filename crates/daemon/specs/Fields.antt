@@ -1,9 +1,11 @@
--- The value of a field: a number, bytes, or a circuit.
-use Rattle.std.specs.Prelude.{ℕ, ◌+◌, ◌-◌, ◌*◌, nat_le, ◌==◌, Bool, true, false, if◌then◌else◌, List, [], ◌∷◌, length, codes, position, Option, Some, None, Result, Ok, Err}
+-- The value of a field: a number, bytes, a circuit, a relay, or an address and port.
+use Rattle.std.specs.Prelude.{ℕ, ◌+◌, ◌-◌, ◌*◌, nat_le, ◌==◌, Bool, true, false, if◌then◌else◌, List, [], ◌∷◌, length, take, drop, codes, position, Option, option_map, Some, None, Result, Ok, Err}
 use Rattle.std.specs.Str.{bytes_eq}
 use Rattle.std.specs.Char.{is_ascii_digit}
 use Rattle.hex.specs.Hex.{decode_of}
 use Rattle.hex.specs.declared.error.FromHexError.{FromHexError}
+use Rattle.types.specs.declared.addr.Addr4.{Addr4}
+use Rattle.types.specs.declared.addr.Source.{Source}
 use Rattle.config.specs.Rules.{Settings}
 
 -- the number with the digits of n followed by these; the digit `0` is 48
@@ -44,3 +46,42 @@ bytes_of (b ∷ digits) =
 -- the index of the circuit with exactly this id
 abbrev pub circuit_named : Settings → List ℕ → Option ℕ
 circuit_named settings id = position (λ circuit. bytes_eq circuit.id id) settings.circuits
+
+-- the index of the first relay with exactly this name
+abbrev pub relay_named : Settings → List ℕ → Option ℕ
+relay_named settings name = position (λ relay. bytes_eq relay.name.items name) settings.relays
+
+-- ---- an address and port
+
+-- what a text has before and behind the first of these bytes
+abbrev pub parted : ℕ → List ℕ → Option (List ℕ × List ℕ)
+parted byte text = option_map (λ i. (take i text, drop (i + 1) text)) (position (λ b. b == byte) text)
+
+infixl 10 ◌>>=◌
+abbrev pub ◌>>=◌ : {A B : Type 0} → Option A → (A → Option B) → Option B
+None >>= f = None
+Some a >>= f = f a
+
+-- four numbers from 0 to 255 with points (46) between them
+abbrev pub address_of : List ℕ → Option Addr4
+address_of text = do
+  one ← parted 46 text
+  two ← parted 46 one.1
+  three ← parted 46 two.1
+  a ← number_to 255 one.0
+  b ← number_to 255 two.0
+  c ← number_to 255 three.0
+  d ← number_to 255 three.1
+  Some (record { 0 = a ∷ b ∷ c ∷ d ∷ [] })
+
+abbrev pub at_least : ℕ → Option ℕ → Option ℕ
+at_least least None = None
+at_least least (Some n) = if nat_le least n then Some n else None
+
+-- an address and a port from 1 to 65535 on both sides of a colon (58)
+abbrev pub source_of : List ℕ → Option Source
+source_of text = do
+  parts ← parted 58 text
+  addr ← address_of parts.0
+  port ← at_least 1 (number_to 65535 parts.1)
+  Some (record { addr = addr; port = port })

@@ -2,10 +2,10 @@
 use Rattle.std.specs.Prelude.{ℕ, ◌+◌, ◌==◌, if◌then◌else◌, List, [], ◌∷◌, ◌++◌, Option, Some, None}
 use Rattle.config.specs.CircuitPart.{CircuitPart, part_in}
 use Rattle.config.specs.Rules.{Settings}
-use Rattle.world.specs.Alone.{Alone, Step, Done, start, alone_step}
+use Rattle.world.specs.Alone.{Alone, Step, Dropped, Done, start, alone_step}
 use Rattle.world.specs.Seen.{Seen}
 use Rattle.world.specs.Seen as sees
-use Rattle.daemon.specs.Line.{Line, Ignored, Bad, Named, Tick, line_of_text}
+use Rattle.daemon.specs.Line.{Line, Ignored, Bad, Named, Tick, Stray, line_of_text}
 use Rattle.daemon.specs.Lines.{lines_of}
 use Rattle.daemon.specs.Output.{effect_text, with_newline, bad_text}
 
@@ -41,6 +41,8 @@ line_result settings quota machines Bad = Refused
 line_result settings quota machines (Named c seen) = part_result quota c seen machines (part_in settings c)
 line_result settings quota machines (Tick now) =
     Applied (with_newline (effect_text [] Done)) (λ c. ticked quota now (machines c) (part_in settings c))
+-- a stray changes no machine
+line_result settings quota machines (Stray why) = Applied (with_newline (effect_text [] (Dropped why))) machines
 
 -- The n-th line is bad and ends the output with status 3, or what it writes precedes the output for the rest.
 abbrev pub and_then : ℕ → LineResult → ((ℕ → Alone) → Output) → Output

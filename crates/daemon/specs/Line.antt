@@ -3,8 +3,11 @@ use Rattle.std.specs.Prelude.{ℕ, nat_lt, ◌==◌, Bool, true, if◌then◌els
 use Rattle.std.specs.Str.{bytes_eq}
 use Rattle.config.specs.Rules.{Settings}
 use Rattle.types.specs.declared.dest.Proto.TheVariants.{V4}
+use Rattle.types.specs.declared.discard.Discard.{Discard}
+use Rattle.types.specs.declared.discard.Discard.TheVariants.{UnknownSource, NotServer}
+use Rattle.relay.specs.Relays.{topology_of, is_relay, is_server}
 use Rattle.world.specs.Seen.{Seen, Frame, Up, Down}
-use Rattle.daemon.specs.Fields.{number_to, bytes_of, circuit_named}
+use Rattle.daemon.specs.Fields.{number_to, bytes_of, circuit_named, relay_named, source_of}
 use Rattle.daemon.specs.Lines.{fields_of}
 
 pub data Line : Type 0 where
@@ -16,6 +19,8 @@ pub data Line : Type 0 where
   Named : ℕ → Seen → Line
   -- the moment passes for all circuits
   Tick : ℕ → Line
+  -- a stray, which is dropped for this reason
+  Stray : Discard → Line
 
 -- A line is bad where a field has no value.
 infixl 10 ◌>>=◌
@@ -59,6 +64,26 @@ tick_line (now ∷ []) = do
   Tick moment
 tick_line fields = Bad
 
+-- `strayup 4 SRC HEX NOW`: no relay sends from this source
+abbrev pub stray_up_line : Settings → List (List ℕ) → Line
+stray_up_line settings (proto ∷ from ∷ digits ∷ now ∷ []) =
+    if bytes_eq proto (codes "4") then (do
+      source ← source_of from
+      bytes ← bytes_of digits
+      moment ← number_to 1099511627775 now
+      if is_relay (topology_of settings) source then Bad else Stray UnknownSource)
+    else Bad
+stray_up_line settings fields = Bad
+
+-- `straydown RELAY SRC HEX`: the server does not send from this source
+abbrev pub stray_down_line : Settings → List (List ℕ) → Line
+stray_down_line settings (name ∷ from ∷ digits ∷ []) = do
+  relay ← relay_named settings name
+  source ← source_of from
+  bytes ← bytes_of digits
+  if is_server (topology_of settings) source then Bad else Stray NotServer
+stray_down_line settings fields = Bad
+
 -- the line by its first field
 abbrev pub line_for_word : Settings → List (List ℕ) → Line
 line_for_word settings [] = Bad
@@ -67,6 +92,8 @@ line_for_word settings (word ∷ fields) =
     else if bytes_eq word (codes "up") then up_line settings fields
     else if bytes_eq word (codes "down") then down_line settings fields
     else if bytes_eq word (codes "tick") then tick_line fields
+    else if bytes_eq word (codes "strayup") then stray_up_line settings fields
+    else if bytes_eq word (codes "straydown") then stray_down_line settings fields
     else Bad
 
 -- An empty line, or one that begins with `#` (35), is ignored.

@@ -37,6 +37,8 @@ outcome_effect (outcome.SentUp len) out = SentUp len
 outcome_effect (outcome.SentDown len) out = SentDown len
 outcome_effect (outcome.Framed circuit dest) out = Framed (record { dest = dest; bytes = out })
 outcome_effect outcome.Done out = Done
+-- no line asks for it
+outcome_effect outcome.NotAStray out = Gone
 
 -- a line with its line feed
 abbrev pub with_newline : List ℕ → List ℕ

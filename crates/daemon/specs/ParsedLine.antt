@@ -1,11 +1,13 @@
 -- What the parser of a line returns, as a line. Only proofs need these.
-use Rattle.std.specs.Prelude.{ℕ, ◌<◌, ◌≤◌, List, length, take, ⊤}
+use Rattle.std.specs.Prelude.{◌≡◌, ℕ, ◌<◌, ◌≤◌, false, List, length, take, ⊤}
 use Rattle.config.specs.Rules.{Settings}
 use Rattle.types.specs.declared.dest.Proto.TheVariants.{V4}
+use Rattle.types.specs.declared.discard.Discard.TheVariants.{UnknownSource, NotServer}
+use Rattle.relay.specs.Relays.{topology_of, is_relay, is_server}
 use Rattle.world.specs.Seen.{Frame, Up, Down}
 use Rattle.daemon.specs.declared.accesslab.parse_line.ParsedLine.{ParsedLine}
 use Rattle.daemon.specs.declared.accesslab.parse_line.ParsedLine.TheVariants as parsed
-use Rattle.daemon.specs.Line.{Line, Ignored, Bad, Named, Tick}
+use Rattle.daemon.specs.Line.{Line, Ignored, Bad, Named, Tick, Stray}
 
 -- The line that a parsed line is. A frame has the first of these bytes.
 abbrev pub line_of : ParsedLine → List ℕ → Line
@@ -15,8 +17,10 @@ line_of (parsed.Frame circuit len) bytes = Named circuit (Frame V4 (take len byt
 line_of (parsed.Up circuit j now) bytes = Named circuit (Up j now 0)
 line_of (parsed.Down circuit j) bytes = Named circuit (Down j)
 line_of (parsed.Tick now) bytes = Tick now
+line_of (parsed.StrayUp source len now) bytes = Stray UnknownSource
+line_of (parsed.StrayDown relay source len) bytes = Stray NotServer
 
--- The circuit exists, and the buffer has room for the frame.
+-- The circuit or the relay exists, the buffer has room for the bytes, and a stray is one.
 abbrev pub IsWithin : Settings → ParsedLine → Type 0
 IsWithin settings parsed.Ignored = ⊤
 IsWithin settings parsed.Bad = ⊤
@@ -24,3 +28,6 @@ IsWithin settings (parsed.Frame circuit len) = (circuit < length settings.circui
 IsWithin settings (parsed.Up circuit j now) = circuit < length settings.circuits
 IsWithin settings (parsed.Down circuit j) = circuit < length settings.circuits
 IsWithin settings (parsed.Tick now) = ⊤
+IsWithin settings (parsed.StrayUp source len now) = (len ≤ 2048) × (is_relay (topology_of settings) source ≡ false)
+IsWithin settings (parsed.StrayDown relay source len) =
+    (len ≤ 2048) × (relay < length settings.relays) × (is_server (topology_of settings) source ≡ false)

@@ -1,6 +1,6 @@
 -- The relays of a configuration with all their circuits, in both protocols.
-use Rattle.std.specs.Prelude.{ℕ, ◌+◌, min, Bool, false, List, map, Option, Some, None, slice_get, slice_index, slice_set, Result, Ok, Err, if◌then◌else◌}
-use Rattle.std.specs.List.{position}
+use Rattle.std.specs.Prelude.{ℕ, ◌+◌, min, Bool, false, ◌||◌, List, map, Option, Some, None, slice_get, slice_index, slice_set, Result, Ok, Err, if◌then◌else◌}
+use Rattle.std.specs.List.{list_any, position}
 use Rattle.types.specs.Addr.{same_source}
 use Rattle.types.specs.declared.addr.Source.{Source}
 use Rattle.types.specs.declared.dest.Proto.{Proto}
@@ -40,6 +40,13 @@ topology_of settings = record {
   relays = map (λ relay. relay.source) settings.relays;
   circuits = parts_of settings;
 }
+
+-- whether datagrams from this source are a relay's, or the server's
+abbrev pub is_relay : Topology → Source → Bool
+is_relay topology source = list_any (same_source source) topology.relays
+
+abbrev pub is_server : Topology → Source → Bool
+is_server topology source = same_source source topology.listen4 || same_source source topology.listen6
 
 -- A frame for the circuit of this index.
 pub record CircuitFrame : Type 0 where

@@ -1,10 +1,10 @@
 //! All relays of a configuration.
-ghost use Rattle.std.specs.Prelude.{◌≡◌, ◌≤◌, ◌<◌, [], length, map, replicate, Ok, Err, Some, IfOk, IfErr, OnOk, OnErr, slice_get};
+ghost use Rattle.std.specs.Prelude.{◌≡◌, ◌≤◌, ◌<◌, nat_lt, [], length, map, replicate, Ok, Err, Some, IfOk, IfErr, OnOk, OnErr, slice_get};
 ghost use Rattle.std.specs.List.{position};
 ghost use Rattle.std.specs.Str.{bytes_eq};
 ghost use Rattle.config.specs.CircuitPart as parts;
 ghost use Rattle.relay.specs.Down4.{is_named};
-ghost use Rattle.relay.specs.Relays.{is_behind, one_more, relayed_down_in, relayed_down4_in, relayed_up, topology_of};
+ghost use Rattle.relay.specs.Relays.{is_behind, is_relay, is_server, one_more, relayed_down_in, relayed_down4_in, relayed_up, topology_of};
 
 use crate::down4::{read_reply, read_suboptions, relay_down4};
 use crate::up4::relay_up4;
@@ -177,6 +177,27 @@ impl Relays {
         ensures { result ≡ is_behind (slice_get self.now.topology.relays relay) part.now }
     {
         self.sources[relay.index()] == part.relay()
+    }
+
+    /// Whether there is a relay of this index.
+    pub fn exists(&self, relay: RelayNo) -> bool
+        ensures { result ≡ nat_lt relay (length self.now.topology.relays) }
+    {
+        relay.index() < self.sources.len()
+    }
+
+    /// Whether one of the relays sends its datagrams from here.
+    pub fn is_relay(&self, source: Source) -> bool
+        ensures { result ≡ is_relay self.now.topology source }
+    {
+        self.sources.iter().any(|relay| source == *relay)
+    }
+
+    /// Whether the server sends its datagrams from here, in either protocol.
+    pub fn is_server(&self, source: Source) -> bool
+        ensures { result ≡ is_server self.now.topology source }
+    {
+        source == self.listen4 || source == self.listen6
     }
 
     /// How many frames of a circuit were discarded, at most 4294967295.

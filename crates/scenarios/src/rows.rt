@@ -24,6 +24,14 @@ pub(crate) enum Line {
     Offer(&'static str),
     /// A client's DHCPNAK as it leaves the relay, after these words.
     Nak(&'static str, u8),
+    /// A client's DHCPNAK of this gateway, after these words.
+    NakOf(&'static str, u8, &'static [u8]),
+    /// `Frame` on this circuit.
+    FrameOn(&'static str, Kind4, u8, &'static [u8]),
+    /// `Discover` on this circuit.
+    DiscoverOn(&'static str, u8),
+    /// A client's DHCPOFFER of 10.0.1.10, after these words.
+    OfferOn(&'static str, u8),
 }
 
 /// A run: its name, the size of the pool, the quota, its lines, the output, and the status.

@@ -1,8 +1,9 @@
+use crate::circuits::{CIRCUITS, TWO_CIRCUITS};
 use crate::leases::LEASES;
 use crate::rows::{Line, ROWS, Row};
 use config::Config;
 use daemon::accesslab::{DONE, StdReader, StdWriter, run};
-use fixtures::{ONE_CIRCUIT, client_frame, nak, offer, one_circuit_with, resized, with_bytes};
+use fixtures::{ONE_CIRCUIT, client_frame, nak, offer, resized, with_bytes};
 use lossy_net::MAX_QUOTA;
 use std::alloc::{AllocError, Global};
 use std::process::Abort;
@@ -15,8 +16,34 @@ fn push_digits(text: &mut String, alloc: Global, frame: &PacketBuf) -> Result<()
 }
 
 fn push_frame(text: &mut String, alloc: Global, frame: &PacketBuf) -> Result<(), AllocError> {
-    text.push_str("frame a 4 ")?;
+    push_frame_on(text, alloc, "a", frame)
+}
+
+fn push_frame_on(
+    text: &mut String,
+    alloc: Global,
+    circuit: &str,
+    frame: &PacketBuf,
+) -> Result<(), AllocError> {
+    text.push_str("frame ")?;
+    text.push_str(circuit)?;
+    text.push_str(" 4 ")?;
     push_digits(text, alloc, frame)
+}
+
+/// The DHCPOFFER of 10.0.1.10 on circuit `a1`.
+fn offer_on_a1(client: u8) -> PacketBuf {
+    let gateway = &[10, 0, 1, 1];
+    let offer = with_bytes(&offer(client), 16, &[10, 0, 1, 10]);
+    let offer = with_bytes(&offer, 24, gateway);
+    let offer = with_bytes(&offer, 245, gateway);
+    with_bytes(&offer, 275, gateway)
+}
+
+/// A DHCPNAK of another gateway.
+fn nak_of(client: u8, gateway: &[u8]) -> PacketBuf {
+    let nak = with_bytes(&nak(client), 24, gateway);
+    with_bytes(&nak, 245, gateway)
 }
 
 /// Client 1's DHCPDISCOVER with a client identifier of this many bytes.
@@ -42,6 +69,20 @@ fn push(text: &mut String, alloc: Global, line: Line) -> Result<(), AllocError> 
         Line::Nak(words, client) => {
             text.push_str(words)?;
             push_digits(text, alloc, &nak(client))?;
+        }
+        Line::NakOf(words, client, gateway) => {
+            text.push_str(words)?;
+            push_digits(text, alloc, &nak_of(client, gateway))?;
+        }
+        Line::FrameOn(circuit, kind, client, options) => {
+            push_frame_on(text, alloc, circuit, &client_frame(kind, client, options))?;
+        }
+        Line::DiscoverOn(circuit, client) => {
+            push_frame_on(text, alloc, circuit, &client_frame(Kind4::Discover, client, &[]))?;
+        }
+        Line::OfferOn(words, client) => {
+            text.push_str(words)?;
+            push_digits(text, alloc, &offer_on_a1(client))?;
         }
         Line::Discover(client) => {
             push_frame(text, alloc, &client_frame(Kind4::Discover, client, &[]))?;
@@ -81,9 +122,10 @@ fn output(alloc: Global, config: &str, quota: u16, lines: &str) -> Option<(Vec<u
     Some((writer.into_inner(), status))
 }
 
-fn check<R: Abort>(rt: &R, alloc: Global, row: Row) -> Result<(), AllocError> {
+/// Checks a row over this configuration, with the row's pool in place of a pool of one address.
+fn check<R: Abort>(rt: &R, alloc: Global, config: &str, row: Row) -> Result<(), AllocError> {
     let Row(name, pool, quota, lines, expected, status) = row;
-    let config = one_circuit_with(alloc, pool)?;
+    let config = config.replace(alloc, "count4 = 1", pool)?;
     let lines = text_of(alloc, lines)?;
     let expected = text_of(alloc, expected)?;
     if let Some((written, ended)) = output(alloc, config.as_str(), quota, lines.as_str()) {
@@ -98,7 +140,7 @@ fn check<R: Abort>(rt: &R, alloc: Global, row: Row) -> Result<(), AllocError> {
 #[test]
 fn rows(rt: HostRuntime) -> Result<(), AllocError> {
     for row in ROWS {
-        check(&rt, rt.alloc(), row)?;
+        check(&rt, rt.alloc(), ONE_CIRCUIT, row)?;
     }
     Ok(())
 }
@@ -106,7 +148,118 @@ fn rows(rt: HostRuntime) -> Result<(), AllocError> {
 #[test]
 fn leases(rt: HostRuntime) -> Result<(), AllocError> {
     for row in LEASES {
-        check(&rt, rt.alloc(), row)?;
+        check(&rt, rt.alloc(), ONE_CIRCUIT, row)?;
+    }
+    Ok(())
+}
+
+#[test]
+fn circuits(rt: HostRuntime) -> Result<(), AllocError> {
+    for row in CIRCUITS {
+        check(&rt, rt.alloc(), TWO_CIRCUITS, row)?;
+    }
+    Ok(())
+}
+
+/// The lines of one client that gets a lease on a circuit at the moment 100, whose addresses begin with
+/// 10.0.N, and the beginnings of the output lines.
+fn push_lease(
+    lines: &mut String,
+    expected: &mut String,
+    alloc: Global,
+    circuit: &str,
+    third: u8,
+    client: u8,
+) -> Result<(), AllocError> {
+    let address = 9 + client % 128;
+    let options = &[54, 4, 10, 0, third, 1, 50, 4, 10, 0, third, address];
+    push_frame_on(lines, alloc, circuit, &client_frame(Kind4::Discover, client, &[]))?;
+    lines.push_str(&format!(in alloc; "\nup {circuit} 0 100 0\ndown {circuit} 0\n")?)?;
+    push_frame_on(lines, alloc, circuit, &client_frame(Kind4::Request, client, options))?;
+    lines.push_str(&format!(in alloc; "\nup {circuit} 0 100 0\ndown {circuit} 0\n")?)?;
+    let to = format!(in alloc; "to {circuit} unicast 0200000000{client:02x} 10.0.{third}.{address} ")?;
+    expected.push_str(&format!(in alloc; "up \ndown 300\n{to}\nup \ndown 300\n{to}\n")?)
+}
+
+/// Each circuit gives away its own pool, in order, and no address of the other's.
+#[test]
+fn two_full_pools(rt: HostRuntime) -> Result<(), AllocError> {
+    let alloc = rt.alloc();
+    let config = TWO_CIRCUITS.replace(alloc, "count4 = 1", "count4 = 16")?;
+    let mut lines = String::new(alloc);
+    let mut expected = String::new(alloc);
+    for client in 1..17 {
+        push_lease(&mut lines, &mut expected, alloc, "a", 0, client)?;
+    }
+    for client in 1..17 {
+        push_lease(&mut lines, &mut expected, alloc, "a1", 1, client)?;
+    }
+    push(&mut lines, alloc, Line::Discover(17))?;
+    lines.push_str("up a 0 100 0\n")?;
+    expected.push_str("up 255\ndrop 19\n")?;
+    let renewal = client_frame(Kind4::Request, 1, &[]);
+    push_frame_on(&mut lines, alloc, "a1", &with_bytes(&renewal, 12, &[10, 0, 1, 10]))?;
+    lines.push_str("\nup a1 0 100 0\n")?;
+    expected.push_str("up 256\ndown 300\n")?;
+    let Some((written, DONE)) = output(alloc, config.as_str(), 16, lines.as_str()) else {
+        assert!(rt; false);
+        return Ok(());
+    };
+    let mut rows = written.as_slice().split(|byte| *byte == b'\n');
+    for begins in expected.as_str().split('\n') {
+        let row = rows.next().unwrap_or(&[]);
+        assert!(rt; row.starts_with(begins.as_bytes()), "{begins}");
+    }
+    assert!(rt; rows.next().is_none());
+    Ok(())
+}
+
+/// Circuit `a1` of `TWO_CIRCUITS` without `a`, and before it.
+fn elsewhere(alloc: Global) -> Result<(String, String), AllocError> {
+    let mut parts = TWO_CIRCUITS.split("[[circuit]]");
+    let head = parts.next().unwrap_or("");
+    let first = parts.next().unwrap_or("");
+    let second = parts.next().unwrap_or("");
+    let alone = format!(in alloc; "{head}[[circuit]]{second}")?;
+    let before = format!(in alloc; "{head}[[circuit]]{second}[[circuit]]{first}")?;
+    Ok((alone, before))
+}
+
+/// A circuit is answered alike alone and beside another circuit that floods, at whatever index it is.
+#[test]
+fn the_same_circuit_elsewhere(rt: HostRuntime) -> Result<(), AllocError> {
+    let alloc = rt.alloc();
+    let (alone, before) = elsewhere(alloc)?;
+    let mut lines = String::new(alloc);
+    let mut beside = String::new(alloc);
+    let own = [
+        Line::DiscoverOn("a1", 1),
+        Line::Text("up a1 0 100 0"),
+        Line::Text("down a1 0"),
+        Line::DiscoverOn("a1", 2),
+        Line::Text("up a1 0 159 0"),
+        Line::Text("up a1 0 160 0"),
+        Line::Text("down a1 0"),
+    ];
+    for line in own {
+        push(&mut lines, alloc, line)?;
+        push(&mut beside, alloc, line)?;
+        push(&mut beside, alloc, Line::Discover(3))?;
+        push(&mut beside, alloc, Line::Text("up a 0 1099511627775 0"))?;
+    }
+    let Some((expected, DONE)) = output(alloc, alone.as_str(), 16, lines.as_str()) else {
+        assert!(rt; false);
+        return Ok(());
+    };
+    for config in [TWO_CIRCUITS, before.as_str()] {
+        let Some((written, DONE)) = output(alloc, config, 16, beside.as_str()) else {
+            assert!(rt; false);
+            return Ok(());
+        };
+        let rows = written.as_slice().split(|byte| *byte == b'\n').step_by(3);
+        for (row, wanted) in rows.zip(expected.as_slice().split(|byte| *byte == b'\n')) {
+            assert_eq!(rt; row, wanted);
+        }
     }
     Ok(())
 }

@@ -7,6 +7,7 @@ use Rattle.world.specs.Alone.{Setup, Alone, alone_step}
 use Rattle.world.specs.Seen.{Seen, Tick, seen_of, named_by}
 use Rattle.world.specs.Headline.{CircuitState, Represents, frames_to, frame_of, IsOutcome, Answers, after_seen, Steps}
 use Rattle.world.specs.StepsAs.{StepsAs, machine_of}
+use Rattle.world.specs.Stray.{is_stray}
 use Rattle.world.proofs.Runs.{away_from}
 use Rattle.world.specs.declared.event.Event.{Event}
 use Rattle.world.specs.declared.event.Event.TheVariants as event
@@ -54,6 +55,40 @@ module _ (c : ℕ) (s : Seen) (old new : List CircuitState) (p q : CircuitState)
 still_represents : (c : ℕ) (old new : List CircuitState) → slice_get new c ≡ slice_get old c → (setup : Setup) (a : Alone) → Represents c old setup a → Represents c new setup a
 still_represents c old new same setup a here = record { state = here.state; there = same ∙ here.there; setup_is = here.setup_is; up = here.up; down = here.down; book = here.book }
 
+-- ---- strays
+
+pub stray_unseen : (e : Event) → is_stray e ≡ true → (c : ℕ) → seen_of c e ≡ None
+stray_unseen (event.Frame circuit proto bytes) stray c = absurd cc
+stray_unseen (event.Up circuit j now fault) stray c = absurd cc
+stray_unseen (event.Down circuit j) stray c = absurd cc
+stray_unseen (event.Tick now) stray c = absurd cc
+stray_unseen (event.StrayUp proto source bytes now) stray c = refl
+stray_unseen (event.StrayDown relay source bytes) stray c = refl
+
+stray_unnamed : (e : Event) → is_stray e ≡ true → named_by e ≡ None
+stray_unnamed (event.Frame circuit proto bytes) stray = absurd cc
+stray_unnamed (event.Up circuit j now fault) stray = absurd cc
+stray_unnamed (event.Down circuit j) stray = absurd cc
+stray_unnamed (event.Tick now) stray = absurd cc
+stray_unnamed (event.StrayUp proto source bytes now) stray = refl
+stray_unnamed (event.StrayDown relay source bytes) stray = refl
+
+-- a stray changes nothing, and nothing leaves with it
+pub stray_steps : (e : Event) (old new : List CircuitState) (o : Outcome) (out : List ℕ) → is_stray e ≡ true → frame_of o out ≡ [] → out ≡ [] → new ≡ old → Steps e old new o out
+stray_steps e old new o out stray nothing empty same = record {
+  count = ap length same;
+  each = λ c setup a here.
+      let Q : Option Seen → Type 0 = λ v. Represents c new setup (after_seen setup v a) in
+      subst Q (sym (stray_unseen e stray c)) (still_represents c old new (ap (λ states. slice_get states c) same) setup a here);
+  answers = λ c setup a here.
+      let Q : Option Seen → Type 0 = λ v. Answers c setup v a o out in
+      subst Q (sym (stray_unseen e stray c)) (ap (frames_to c) nothing);
+  others = λ c blind. ap (λ states. slice_get states c) same;
+  gone = λ c name far. let h : None ≡ Some c = sym (stray_unnamed e stray) ∙ name in absurd cc;
+  ticked = λ now tick. let h : Some (Tick now) ≡ None = sym (ap (seen_of 0) tick) ∙ stray_unseen e stray 0 in absurd cc;
+  stray = λ is. (nothing, empty, same);
+}
+
 -- ---- an event of circuit k, and what its circuit sees
 
 abbrev pub IsSeenBy : Event → ℕ → Seen → Type 0
@@ -68,6 +103,10 @@ module _ (e : Event) (k : ℕ) (s : Seen) (sees : IsSeenBy e k s) (named : named
 
   no_tick : (now : ℕ) → e ≡ event.Tick now → ⊥
   no_tick now tick = let h : Some k ≡ None = sym named ∙ ap named_by tick in absurd cc
+
+  -- what a circuit sees is no stray
+  no_stray : is_stray e ≡ true → ⊥
+  no_stray stray = let h : None ≡ Some s = sym (stray_unseen e stray k) ∙ seen_by_it in absurd cc
 
   names_it : (c : ℕ) → named_by e ≡ Some c → c ≡ k
   names_it c name = let h : Some k ≡ Some c = sym named ∙ name in cc
@@ -93,6 +132,7 @@ module _ (e : Event) (k : ℕ) (s : Seen) (sees : IsSeenBy e k s) (named : named
       others = λ c blind. others c (sees_not c blind (eqb k c) refl);
       gone = λ c name far. absurd (too_far c (names_it c name) far);
       ticked = λ now tick. absurd (no_tick now tick);
+      stray = λ is. absurd (no_stray is);
     }
       where
         each : (c : ℕ) (setup : Setup) (a : Alone) (b : Bool) → eqb k c ≡ b → Represents c old setup a → Represents c new setup (after_seen setup (seen_of c e) a)
@@ -125,6 +165,7 @@ module _ (e : Event) (k : ℕ) (s : Seen) (sees : IsSeenBy e k s) (named : named
     others = λ c blind. refl;
     gone = λ c name far. (gone, empty, refl);
     ticked = λ now tick. absurd (no_tick now tick);
+    stray = λ is. absurd (no_stray is);
   }
     where
       apart : (c : ℕ) (setup : Setup) (a : Alone) → Represents c states setup a → eqb k c ≡ false
@@ -148,4 +189,5 @@ tick_steps e now old new o out tick count moves done empty = record {
   others = λ c blind. let h : Some (Tick now) ≡ None = sym (ap (seen_of c) tick) ∙ blind in absurd cc;
   gone = λ c name far. let h : None ≡ Some c = sym (ap named_by tick) ∙ name in absurd cc;
   ticked = λ moment is. (done, empty);
+  stray = λ is. let h : Some (Tick now) ≡ None = sym (ap (seen_of 0) tick) ∙ stray_unseen e is 0 in absurd cc;
 }

@@ -7,3 +7,4 @@ pub mod WorldLemmas
 pub mod ReturnLemmas
 pub mod CircuitSteps
 pub mod StateLemmas
+pub mod StrayLemmas

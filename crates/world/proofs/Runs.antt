@@ -13,6 +13,7 @@ use Rattle.world.specs.Alone.{Setup, Alone, Effect, Dropped, Gone, SentUp, SentD
 use Rattle.world.specs.Seen.{Seen, Frame, Up, Down, seen_of, seen_by, named_by}
 use Rattle.world.specs.Headline.{CircuitState, Represents, towards, frames_to, frame_of, IsOutcome, Answers, after_seen, Steps, Reaches, AreFrames, BeginsWith, Emits, EmitsAt}
 use Rattle.world.specs.StepsAs.{machine_of}
+use Rattle.world.specs.Stray.{is_stray}
 use Rattle.world.specs.declared.event.Event.{Event}
 use Rattle.world.specs.declared.event.Event.TheVariants as event
 use Rattle.world.specs.declared.outcome.Outcome.{Outcome}
@@ -106,6 +107,8 @@ its_answer k (event.Frame circuit proto bytes) setup b o out named h = seen_answ
 its_answer k (event.Up circuit j now fault) setup b o out named h = seen_answer k circuit (Up j now fault) setup b o out (same_name named) h
 its_answer k (event.Down circuit j) setup b o out named h = seen_answer k circuit (Down j) setup b o out (same_name named) h
 its_answer k (event.Tick now) setup b o out named h = absurd cc
+its_answer k (event.StrayUp proto source bytes now) setup b o out named h = absurd cc
+its_answer k (event.StrayDown relay source bytes) setup b o out named h = absurd cc
 
 -- ---- towards a circuit that doesn't exist
 
@@ -146,6 +149,8 @@ past_step e old new o out steps c past = by_name e refl where
   by_name (event.Up circuit j now fault) is = at_name circuit (ap named_by is)
   by_name (event.Down circuit j) is = at_name circuit (ap named_by is)
   by_name (event.Tick now) is = silent outcome.Done (steps.ticked now is).0 refl
+  by_name (event.StrayUp proto source bytes now) is = ap (frames_to c) (steps.stray (ap is_stray is)).0
+  by_name (event.StrayDown relay source bytes) is = ap (frames_to c) (steps.stray (ap is_stray is)).0
 
 -- ---- the frames with one event more
 
@@ -249,6 +254,8 @@ module _ (events : List Event) (n : ℕ) (e : Event) (there : n < length events)
     by_event (event.Up circuit j moment fault) is = counted start now new o out reaches steps circuit (ap named_by is) one (ltb circuit (length start)) refl
     by_event (event.Down circuit j) is = counted start now new o out reaches steps circuit (ap named_by is) one (ltb circuit (length start)) refl
     by_event (event.Tick moment) is = absurd (none_is_one (ap (λ v. length (frame_of v out)) (steps.ticked moment is).0) one)
+    by_event (event.StrayUp proto source bytes moment) is = absurd (none_is_one (ap length (steps.stray (ap is_stray is)).0) one)
+    by_event (event.StrayDown relay source bytes) is = absurd (none_is_one (ap length (steps.stray (ap is_stray is)).0) one)
 
 pub reaches_nothing : (start : List CircuitState) → Reaches [] start start
 unfolding after_all

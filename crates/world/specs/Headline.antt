@@ -1,6 +1,6 @@
 -- The words of the headline: when the state of a circuit in the world represents the circuit's machine,
 -- what a step and a run of the world do, and which frames leave towards a circuit.
-use Rattle.std.specs.Prelude.{◌≡◌, ℕ, ◌+◌, ◌<◌, ◌≤◌, List, [], ◌∷◌, ◌++◌, length, take, slice_get, Option, Some, None, ◌==◌, if◌then◌else◌}
+use Rattle.std.specs.Prelude.{◌≡◌, ℕ, ◌+◌, ◌<◌, ◌≤◌, List, [], ◌∷◌, ◌++◌, length, take, slice_get, Option, Some, None, true, ◌==◌, if◌then◌else◌}
 use Rattle.std.specs.List.{filter_map}
 use Rattle.dispatch.specs.Server.{Book}
 use Rattle.lossy_net.specs.Net.{Datagram}
@@ -12,6 +12,7 @@ use Rattle.world.specs.declared.outcome.Outcome.{Outcome}
 use Rattle.world.specs.declared.outcome.Outcome.TheVariants as outcome
 use Rattle.world.specs.Alone.{Setup, Alone, Effect, Dropped, Gone, SentUp, SentDown, Framed, Done, alone_step, after_all, frames}
 use Rattle.world.specs.Seen.{Seen, seen_of, seen_by, named_by}
+use Rattle.world.specs.Stray.{is_stray}
 
 -- All that the world has of one circuit: its part of the configuration and the quota, what the network
 -- keeps of it, how many of its frames the relay discarded, and its server's book.
@@ -46,6 +47,7 @@ frame_of outcome.Gone out = []
 frame_of (outcome.SentUp len) out = []
 frame_of (outcome.SentDown len) out = []
 frame_of outcome.Done out = []
+frame_of outcome.NotAStray out = []
 
 -- An effect of circuit c's machine as an outcome, with what `out` then holds.
 abbrev pub IsOutcome : ℕ → Effect → Outcome → List ℕ → Type 0
@@ -78,6 +80,8 @@ pub record Steps (e : Event) (old new : List CircuitState) (o : Outcome) (out : 
   pub gone : (c : ℕ) → named_by e ≡ Some c → length old ≤ c → (o ≡ outcome.Gone) × (out ≡ []) × (new ≡ old)
   -- a tick is done
   pub ticked : (now : ℕ) → e ≡ event.Tick now → (o ≡ outcome.Done) × (out ≡ [])
+  -- a stray changes nothing, and nothing leaves with it
+  pub stray : is_stray e ≡ true → (frame_of o out ≡ []) × (out ≡ []) × (new ≡ old)
 
 -- A run reaches these states: each represents its machine after all that its circuit saw.
 pub record Reaches (events : List Event) (start now : List CircuitState) : Type 0 where

@@ -5,4 +5,5 @@ pub mod Region
 pub mod Seen
 pub mod Start
 pub mod StepsAs
+pub mod Stray
 pub mod World

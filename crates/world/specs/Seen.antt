@@ -16,12 +16,14 @@ pub data Seen : Type 0 where
   -- the moment passes
   Tick : ℕ → Seen
 
--- what circuit c sees of an event: what names it, and every tick
+-- what circuit c sees of an event: what names it, and every tick, but no stray
 abbrev pub seen_of : ℕ → Event → Option Seen
 seen_of c (event.Frame circuit proto bytes) = if circuit == c then Some (Frame proto bytes.now) else None
 seen_of c (event.Up circuit j now fault) = if circuit == c then Some (Up j now fault) else None
 seen_of c (event.Down circuit j) = if circuit == c then Some (Down j) else None
 seen_of c (event.Tick now) = Some (Tick now)
+seen_of c (event.StrayUp proto source bytes now) = None
+seen_of c (event.StrayDown relay source bytes) = None
 
 -- what circuit c sees of a run, in order
 abbrev pub seen_by : ℕ → List Event → List Seen
@@ -33,3 +35,5 @@ named_by (event.Frame circuit proto bytes) = Some circuit
 named_by (event.Up circuit j now fault) = Some circuit
 named_by (event.Down circuit j) = Some circuit
 named_by (event.Tick now) = None
+named_by (event.StrayUp proto source bytes now) = None
+named_by (event.StrayDown relay source bytes) = None

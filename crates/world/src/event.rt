@@ -1,5 +1,5 @@
 //! What happens to a world.
-use types::{Circuit, Moment, Proto};
+use types::{Circuit, Moment, Proto, RelayNo, Source};
 
 /// One thing that happens, taken whole before the next. It lends its bytes.
 #[derive(Clone, Copy, Debug)]
@@ -14,4 +14,8 @@ pub enum Event<'a> {
     Down(Circuit, u16),
     /// The moment passes for all circuits.
     Tick(Moment),
+    /// A datagram that no relay of the configuration sent reaches the server at this moment.
+    StrayUp(Proto, Source, &'a [u8], Moment),
+    /// A datagram that the server did not send reaches a relay.
+    StrayDown(RelayNo, Source, &'a [u8]),
 }

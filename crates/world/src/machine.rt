@@ -1,6 +1,8 @@
 //! A run: one event after the other, each frame delivered as it leaves.
-ghost use Rattle.std.specs.Prelude.{◌≡◌, ℕ, ◌+◌, ◌<◌, List, [], ◌++◌, length, take, true, false, IfErr, OnOk};
+ghost use Rattle.std.specs.Prelude.{◌≡◌, ℕ, ◌+◌, ◌<◌, List, [], ◌++◌, length, take, true, false, IfErr, IfSome, OnOk};
+ghost use Rattle.relay.specs.Relays.{Topology};
 ghost use Rattle.world.specs.Headline.{CircuitState, EmitsAt, Emits, Reaches, Steps, frame_of};
+ghost use Rattle.world.specs.Stray.{stray_outcome};
 
 use crate::event::Event;
 use crate::outcome::Outcome;
@@ -12,9 +14,14 @@ pub trait Machine {
     /// The state of each circuit.
     ghost states: { Self → List CircuitState };
 
+    /// What the relays know of the configuration.
+    ghost topology: { Self → Topology };
+
     /// Takes one event. A frame that leaves is in `out`, which is empty after every other outcome.
     fn step(&mut self, event: &Event<'_>, out: &mut PacketBuf) -> Outcome
-        ensures { Steps event.now (states self.old) (states self.new) result out.new };
+        ensures steps { Steps event.now (states self.old) (states self.new) result out.new }
+        ensures stray { IfSome (stray_outcome (topology self.old) event.now) (λ expected. result ≡ expected) }
+        ensures topology { topology self.new ≡ topology self.old };
 }
 
 /// Hands the frame of an outcome to the sink, if there is one.
@@ -32,6 +39,7 @@ fn deliver<S: Sink>(outcome: Outcome, out: &PacketBuf, sink: &mut S) -> bool
         Outcome::SentUp(_) => true,
         Outcome::SentDown(_) => true,
         Outcome::Done => true,
+        Outcome::NotAStray => true,
     }
 }
 

@@ -6,7 +6,7 @@ use types::{Circuit, Dest, Discard};
 pub enum Outcome {
     /// A frame or a datagram was dropped.
     Dropped(Discard),
-    /// There is no such circuit or datagram.
+    /// There is no such circuit, datagram or relay.
     Gone,
     /// The relay sent a datagram of this many bytes to the server.
     SentUp(usize),
@@ -15,4 +15,6 @@ pub enum Outcome {
     /// A frame leaves the relay towards this circuit; its bytes are in the output buffer.
     Framed(Circuit, Dest),
     Done,
+    /// The source of a stray is one of the configuration, so it is none. Nothing happened.
+    NotAStray,
 }

@@ -1,9 +1,11 @@
 //! A world: its relays, the network, the server and a disk.
-ghost use Rattle.std.specs.Prelude.{◌≡◌, ℕ, ◌+◌, ◌<◌, ◌≤◌, [], length, map, nat_lt, take, IfOk, IfErr, OnOk};
-ghost use Rattle.world.specs.Headline.{EmitsAt, Emits, Reaches, Steps};
+ghost use Rattle.std.specs.Prelude.{◌≡◌, ℕ, ◌+◌, ◌<◌, ◌≤◌, [], length, map, nat_lt, take, IfOk, IfErr, IfSome, OnOk};
+ghost use Rattle.relay.specs.Relays.{topology_of};
+ghost use Rattle.world.specs.Headline.{EmitsAt, Emits, Reaches, Steps, frame_of};
 ghost use Rattle.world.specs.Seen.{Frame, Up, Down, Tick};
 ghost use Rattle.world.specs.declared.outcome.Outcome.TheVariants as outcome;
 ghost use Rattle.world.specs.Start.{Starts};
+ghost use Rattle.world.specs.Stray.{stray_outcome, stray_down_outcome, stray_up_outcome};
 ghost use Rattle.world.specs.StepsAs.{AllMove, Moves};
 ghost use Rattle.world.specs.World.{states};
 ghost use Rattle.wire.specs.Bytes.{AreBytes};
@@ -21,7 +23,7 @@ use relay::Relays;
 use std::alloc::{AllocError, Global};
 use std::marker::Model;
 use thiserror::Error;
-use types::{Circuit, Moment, Proto, RelayNo};
+use types::{Circuit, Moment, Proto, RelayNo, Source};
 use wire::PacketBuf;
 
 /// Why a world was not opened.
@@ -93,6 +95,7 @@ impl World {
         requires some { 1 ≤ quota }
         requires most { quota ≤ 256 }
         ensures starts { IfOk result (λ world. Starts config.now quota (states world)) }
+        ensures topology { IfOk result (λ world. world.relays.topology ≡ topology_of config.now) }
         ensures disk { IfOk result (λ world. world.disk ≡ disk) }
     {
         let Ok(relays) = Relays::new(alloc, config) else {
@@ -141,6 +144,7 @@ impl World {
     ) -> Outcome
         requires { circuit < length self.old.net.circuits }
         ensures moves { Moves circuit (Frame proto frame.now) (states self.old) (states self.new) result out.new }
+        ensures topology { self.new.relays.topology ≡ self.old.relays.topology }
         ensures disk { self.new.disk ≡ self.old.disk }
     {
         comes_to_its_circuit();
@@ -159,6 +163,7 @@ impl World {
     fn up(&mut self, circuit: Circuit, number: u16, now: Moment, out: &mut PacketBuf) -> Outcome
         requires { circuit < length self.old.net.circuits }
         ensures moves { (fault : ℕ) → Moves circuit (Up number now fault) (states self.old) (states self.new) result out.new }
+        ensures topology { self.new.relays.topology ≡ self.old.relays.topology }
         ensures disk { self.new.disk ≡ self.old.disk }
     {
         reply_comes_to_its_circuit();
@@ -183,6 +188,7 @@ impl World {
     fn down(&mut self, circuit: Circuit, number: u16, out: &mut PacketBuf) -> Outcome
         requires { circuit < length self.old.net.circuits }
         ensures moves { Moves circuit (Down number) (states self.old) (states self.new) result out.new }
+        ensures topology { self.new.relays.topology ≡ self.old.relays.topology }
         ensures disk { self.new.disk ≡ self.old.disk }
     {
         out.clear();
@@ -203,6 +209,7 @@ impl World {
     fn tick(&mut self, now: Moment, out: &mut PacketBuf) -> Outcome
         ensures moves { AllMove (Tick now) (states self.old) (states self.new) result out.new }
         ensures done { result ≡ outcome.Done }
+        ensures topology { self.new.relays.topology ≡ self.old.relays.topology }
         ensures disk { self.new.disk ≡ self.old.disk }
         ensures empty { out.new ≡ [] }
     {
@@ -211,9 +218,61 @@ impl World {
         Outcome::Done
     }
 
+    /// A datagram at the server that no relay sent.
+    fn stray_up(
+        &mut self,
+        source: Source,
+        datagram: &[u8],
+        now: Moment,
+        out: &mut PacketBuf,
+    ) -> Outcome
+        ensures outcome { result ≡ stray_up_outcome self.old.relays.topology source }
+        ensures frame { frame_of result out.new ≡ [] }
+        ensures empty { out.new ≡ [] }
+        ensures states { states self.new ≡ states self.old }
+        ensures topology { self.new.relays.topology ≡ self.old.relays.topology }
+        ensures disk { self.new.disk ≡ self.old.disk }
+    {
+        out.clear();
+        if self.relays.is_relay(source) {
+            return Outcome::NotAStray;
+        }
+        match self.server.receive(source, datagram, now, out) {
+            Ok(()) => unreachable!(),
+            Err(why) => Outcome::Dropped(why),
+        }
+    }
+
+    /// A datagram at a relay that the server didn't send.
+    fn stray_down(
+        &self,
+        relay: RelayNo,
+        source: Source,
+        datagram: &[u8],
+        out: &mut PacketBuf,
+    ) -> Outcome
+        ensures outcome { result ≡ stray_down_outcome self.now.relays.topology relay source }
+        ensures frame { frame_of result out.new ≡ [] }
+        ensures empty { out.new ≡ [] }
+    {
+        out.clear();
+        if !self.relays.exists(relay) {
+            return Outcome::Gone;
+        }
+        if self.relays.is_server(source) {
+            return Outcome::NotAStray;
+        }
+        match self.relays.down(relay, source, datagram, out) {
+            Ok(_) => unreachable!(),
+            Err(why) => Outcome::Dropped(why),
+        }
+    }
+
     /// Takes one event. A frame that leaves is in `out`, which is empty after every other outcome.
     pub fn step(&mut self, event: &Event<'_>, out: &mut PacketBuf) -> Outcome
         ensures steps { Steps event.now (states self.old) (states self.new) result out.new }
+        ensures stray { IfSome (stray_outcome self.old.relays.topology event.now) (λ expected. result ≡ expected) }
+        ensures topology { self.new.relays.topology ≡ self.old.relays.topology }
         ensures disk { self.new.disk ≡ self.old.disk }
     {
         match *event {
@@ -236,6 +295,10 @@ impl World {
                 self.down(circuit, number, out)
             }
             Event::Tick(now) => self.tick(now, out),
+            Event::StrayUp(_, source, datagram, now) => self.stray_up(source, datagram, now, out),
+            Event::StrayDown(relay, source, datagram) => {
+                self.stray_down(relay, source, datagram, out)
+            }
         }
     }
 
@@ -263,6 +326,8 @@ impl Machine for World {
     ghost use Rattle.wire.specs.Bytes.{AreBytes};
 
     ghost states = { λ world. states world };
+
+    ghost topology = { λ world. world.relays.topology };
 
     fn step(&mut self, event: &Event<'_>, out: &mut PacketBuf) -> Outcome {
         World::step(self, event, out)

@@ -1,11 +1,15 @@
 //! One line of events, applied to the machine.
-ghost use Rattle.std.specs.Prelude.{◌≡◌, ◌+◌, ◌<◌, ◌≤◌, ℕ, length, Some, IfSome};
+ghost use Rattle.std.specs.Prelude.{◌≡◌, ◌+◌, ◌<◌, ◌≤◌, ℕ, true, length, Some, IfSome};
 ghost use Rattle.config.specs.CircuitPart.{part_in};
 ghost use Rattle.config.specs.Rules.{Settings};
+ghost use Rattle.relay.specs.Relays.{topology_of};
+ghost use Rattle.types.specs.declared.discard.Discard.{Discard};
 ghost use Rattle.world.specs.Alone.{Alone};
 ghost use Rattle.world.specs.Seen.{Seen};
+ghost use Rattle.world.specs.Stray.{is_stray, stray_outcome};
+ghost use Rattle.world.specs.declared.outcome.Outcome.TheVariants as outcome;
 ghost use Rattle.daemon.specs.Lab.{part_result, line_result};
-ghost use Rattle.daemon.specs.Line.{line_of_text, Tick};
+ghost use Rattle.daemon.specs.Line.{line_of_text, Tick, Stray};
 ghost use Rattle.daemon.specs.ParsedLine.{line_of, IsWithin};
 ghost use Rattle.daemon.specs.Follows.{AllRepresent, Names, IsRefusal, Follows, FollowsLast};
 ghost use Rattle.daemon.specs.Run.{IsEnd, IsStatus};
@@ -46,6 +50,7 @@ fn apply_event<M: Machine, W: ByteWriter>(
     requires { circuit < length config.now.circuits }
     ensures follows { (quota number : ℕ) (machines : ℕ → Alone) (seen : Seen) → Names circuit seen event.now → AllRepresent config.now quota (M.states machine.old) machines
         → Follows config.now quota number (part_result quota circuit seen machines (part_in config.now circuit)) (M.states machine.new) (W.contents writer.old) (W.contents writer.new) result }
+    ensures topology { M.topology machine.new ≡ M.topology machine.old }
     ensures status { IfSome result IsEnd }
     ensures quiet { ¬ (result ≡ Some 6) → W.failures writer.new ≡ W.failures writer.old }
     ensures cause { result ≡ Some 6 → W.failures writer.new ≡ W.failures writer.old + 1 }
@@ -67,12 +72,36 @@ fn apply_tick<M: Machine, W: ByteWriter>(
 ) -> Option<u8>
     ensures follows { (settings : Settings) (quota number : ℕ) (machines : ℕ → Alone) → AllRepresent settings quota (M.states machine.old) machines
         → Follows settings quota number (line_result settings quota machines (Tick now)) (M.states machine.new) (W.contents writer.old) (W.contents writer.new) result }
+    ensures topology { M.topology machine.new ≡ M.topology machine.old }
     ensures status { IfSome result IsEnd }
     ensures quiet { ¬ (result ≡ Some 6) → W.failures writer.new ≡ W.failures writer.old }
     ensures cause { result ≡ Some 6 → W.failures writer.new ≡ W.failures writer.old + 1 }
 {
     let _ = machine.step(&Event::Tick(now), out);
     match write_done(writer) {
+        Ok(()) => None,
+        Err(_) => Some(FAILED),
+    }
+}
+
+/// Applies a stray. Returns a status where the run ends with it.
+fn apply_stray<M: Machine, W: ByteWriter>(
+    machine: &mut M,
+    event: &Event<'_>,
+    out: &mut PacketBuf,
+    writer: &mut W,
+) -> Option<u8>
+    requires { is_stray event.now ≡ true }
+    ensures follows { (settings : Settings) (quota number : ℕ) (why : Discard) (machines : ℕ → Alone) → AllRepresent settings quota (M.states machine.old) machines
+        → stray_outcome (M.topology machine.old) event.now ≡ Some (outcome.Dropped why)
+        → Follows settings quota number (line_result settings quota machines (Stray why)) (M.states machine.new) (W.contents writer.old) (W.contents writer.new) result }
+    ensures topology { M.topology machine.new ≡ M.topology machine.old }
+    ensures status { IfSome result IsEnd }
+    ensures quiet { ¬ (result ≡ Some 6) → W.failures writer.new ≡ W.failures writer.old }
+    ensures cause { result ≡ Some 6 → W.failures writer.new ≡ W.failures writer.old + 1 }
+{
+    let outcome = machine.step(event, out);
+    match write_outcome(writer, &[], outcome, out) {
         Ok(()) => None,
         Err(_) => Some(FAILED),
     }
@@ -90,8 +119,9 @@ fn apply<M: Machine, W: ByteWriter>(
     writer: &mut W,
 ) -> Option<u8>
     requires { IsWithin config.now parsed }
-    ensures follows { (quota : ℕ) (machines : ℕ → Alone) → AllRepresent config.now quota (M.states machine.old) machines
+    ensures follows { (quota : ℕ) (machines : ℕ → Alone) → AllRepresent config.now quota (M.states machine.old) machines → M.topology machine.old ≡ topology_of config.now
         → Follows config.now quota number (line_result config.now quota machines (line_of parsed bytes.now)) (M.states machine.new) (W.contents writer.old) (W.contents writer.new) result }
+    ensures topology { M.topology machine.new ≡ M.topology machine.old }
     ensures status { IfSome result IsEnd }
     ensures quiet { ¬ (result ≡ Some 6) → W.failures writer.new ≡ W.failures writer.old }
     ensures cause { result ≡ Some 6 → W.failures writer.new ≡ W.failures writer.old + 1 }
@@ -112,6 +142,14 @@ fn apply<M: Machine, W: ByteWriter>(
             apply_event(machine, config, circuit, &event, out, writer)
         }
         ParsedLine::Tick(now) => apply_tick(machine, now, out, writer),
+        ParsedLine::StrayUp(source, len, now) => {
+            let event = Event::StrayUp(Proto::V4, source, &bytes[..len], now);
+            apply_stray(machine, &event, out, writer)
+        }
+        ParsedLine::StrayDown(relay, source, len) => {
+            let event = Event::StrayDown(relay, source, &bytes[..len]);
+            apply_stray(machine, &event, out, writer)
+        }
     }
 }
 
@@ -126,8 +164,9 @@ pub(crate) fn apply_line<M: Machine, W: ByteWriter>(
     writer: &mut W,
 ) -> Option<u8>
     requires { length line.now ≤ 8192 }
-    ensures follows { (quota : ℕ) (machines : ℕ → Alone) → AllRepresent config.now quota (M.states machine.old) machines
+    ensures follows { (quota : ℕ) (machines : ℕ → Alone) → AllRepresent config.now quota (M.states machine.old) machines → M.topology machine.old ≡ topology_of config.now
         → Follows config.now quota number (line_result config.now quota machines (line_of_text config.now line.now)) (M.states machine.new) (W.contents writer.old) (W.contents writer.new) result }
+    ensures topology { M.topology machine.new ≡ M.topology machine.old }
     ensures status { IfSome result IsEnd }
     ensures quiet { ¬ (result ≡ Some 6) → W.failures writer.new ≡ W.failures writer.old }
     ensures cause { result ≡ Some 6 → W.failures writer.new ≡ W.failures writer.old + 1 }
@@ -148,7 +187,7 @@ pub(crate) fn apply_last_line<M: Machine, W: ByteWriter>(
     writer: &mut W,
 ) -> u8
     requires { length line.now ≤ 8192 }
-    ensures follows { (quota : ℕ) (machines : ℕ → Alone) → AllRepresent config.now quota (M.states machine.old) machines
+    ensures follows { (quota : ℕ) (machines : ℕ → Alone) → AllRepresent config.now quota (M.states machine.old) machines → M.topology machine.old ≡ topology_of config.now
         → FollowsLast config.now quota number line.now (line_result config.now quota machines (line_of_text config.now line.now)) (M.states machine.new) (W.contents writer.old) (W.contents writer.new) result }
     ensures status { IsStatus result }
     ensures quiet { ¬ (result ≡ 6) → W.failures writer.new ≡ W.failures writer.old }

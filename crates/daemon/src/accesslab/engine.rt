@@ -1,6 +1,7 @@
 //! A run over the lines of a text.
 ghost use Rattle.std.specs.Prelude.{◌≡◌, ℕ, List, Some};
 ghost use Rattle.std.specs.Io.KnownBytes.{Appends};
+ghost use Rattle.relay.specs.Relays.{topology_of};
 ghost use Rattle.world.specs.Start.{Starts};
 ghost use Rattle.daemon.specs.Lab.{lab_output};
 ghost use Rattle.daemon.specs.Follows.{Ends};
@@ -22,7 +23,7 @@ fn apply_lines<M: Machine, R: ByteReader, W: ByteWriter>(
     reader: &mut R,
     writer: &mut W,
 ) -> u8
-    ensures ends { (quota : ℕ) → Starts config.now quota (M.states machine.old)
+    ensures ends { (quota : ℕ) → Starts config.now quota (M.states machine.old) → M.topology machine.old ≡ topology_of config.now
         → Ends config.now quota (R.remaining reader.old) (R.remaining reader.new) (W.contents writer.old) (W.contents writer.new) result }
     ensures status { IsStatus result }
     ensures cause { result ≡ 6 → HasCause (R.remaining reader.old) (R.remaining reader.new) (R.failures reader.old) (R.failures reader.new) (W.failures writer.old) (W.failures writer.new) }
@@ -65,13 +66,13 @@ pub fn lab<M: Machine, R: ByteReader, W: ByteWriter>(
     writer: &mut W,
 ) -> u8
     // The output is that of the whole text.
-    ensures written { (quota : ℕ) (text : List ℕ) → Starts config.now quota (M.states machine.old)
+    ensures written { (quota : ℕ) (text : List ℕ) → Starts config.now quota (M.states machine.old) → M.topology machine.old ≡ topology_of config.now
         → R.remaining reader.old ≡ Some text → ¬ (result ≡ 6)
         → Appends (W.contents writer.old) (W.contents writer.new) (lab_output config.now quota text).text
         × (result ≡ (lab_output config.now quota text).status) }
 
     // Where the reader or the writer failed, a prefix of the output for what was read is written.
-    ensures partial { (quota : ℕ) → Starts config.now quota (M.states machine.old) → result ≡ 6
+    ensures partial { (quota : ℕ) → Starts config.now quota (M.states machine.old) → M.topology machine.old ≡ topology_of config.now → result ≡ 6
         → IsPartial config.now quota (R.remaining reader.old) (R.remaining reader.new) (W.contents writer.old) (W.contents writer.new) }
 
     // No other status is returned.

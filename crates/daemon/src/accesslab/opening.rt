@@ -4,6 +4,7 @@ ghost use Rattle.std.specs.Io.KnownBytes.{Appends};
 ghost use Rattle.config.specs.declared.settings.CircuitConfig.{CircuitConfig};
 ghost use Rattle.daemon.specs.Lab.{lab_output};
 ghost use Rattle.daemon.specs.Run.{IsPartial, IsStatus, HasCause, HasNoCause};
+ghost use Rattle.relay.specs.Relays.{topology_of};
 ghost use Rattle.world.specs.Start.{Starts};
 ghost use Rattle.world.specs.World.{states};
 
@@ -38,7 +39,8 @@ fn regions(config: &Config) -> u16
 fn opened(alloc: Global, config: &Config, quota: u16) -> Result<World, OpenFault>
     requires some { 1 ≤ quota }
     requires most { quota ≤ 256 }
-    ensures { IfOk result (λ world. Starts config.now quota (states world)) }
+    ensures starts { IfOk result (λ world. Starts config.now quota (states world)) }
+    ensures topology { IfOk result (λ world. world.relays.topology ≡ topology_of config.now) }
 {
     let Ok(disk) = ModelDisk::new(alloc, regions(config)) else {
         return Err(OpenFault::Memory);

@@ -4,16 +4,17 @@ ghost use Rattle.config.specs.Rules.{Settings};
 ghost use Rattle.daemon.specs.Fields.{number_to};
 ghost use Rattle.daemon.specs.Lines.{fields_of};
 ghost use Rattle.daemon.specs.FieldsAfter.{fields_after, fields_of_next};
-ghost use Rattle.daemon.specs.Line.{frame_line, up_line, down_line, tick_line, line_for_word, short_line};
+ghost use Rattle.daemon.specs.Line.{frame_line, up_line, down_line, tick_line, stray_up_line, stray_down_line, line_for_word, short_line};
 ghost use Rattle.daemon.specs.ParsedLine.{line_of};
 ghost use Rattle.daemon.specs.ParsedLine.{IsWithin};
 
-use super::circuits::circuit_named;
+use super::circuits::{circuit_named, is_relay, is_server, relay_named};
 use super::digits::number;
 use super::fields::first_field;
 use super::hexadecimal::{MAX_BYTES, bytes_at};
+use super::sources::source;
 use config::Config;
-use types::{Circuit, LAST_MOMENT, Moment};
+use types::{Circuit, LAST_MOMENT, Moment, RelayNo, Source};
 
 /// The greatest number that names a datagram.
 pub const MAX_NUMBER: u64 = 65535;
@@ -30,6 +31,10 @@ pub(crate) enum ParsedLine {
     Up(Circuit, u16, Moment),
     Down(Circuit, u16),
     Tick(Moment),
+    /// The length of the datagram in bytes.
+    StrayUp(Source, usize, Moment),
+    /// The length of the datagram in bytes.
+    StrayDown(RelayNo, Source, usize),
 }
 
 /// The next field and what follows it, `None` where none is left.
@@ -161,6 +166,66 @@ fn parse_tick(rest: Option<&[u8]>) -> ParsedLine
     }
 }
 
+/// `strayup 4 SRC HEX NOW`.
+fn parse_stray_up(config: &Config, rest: Option<&[u8]>, bytes: &mut [u8; MAX_BYTES]) -> ParsedLine
+    ensures value { line_of result bytes.new ≡ stray_up_line config.now (fields_after (option_map (λ line. line.now) rest.entry)) }
+    ensures within { IsWithin config.now result }
+{
+    let Some((proto, rest)) = next_field(rest) else {
+        return ParsedLine::Bad;
+    };
+    let Some((from, rest)) = next_field(rest) else {
+        return ParsedLine::Bad;
+    };
+    let Some((digits, rest)) = next_field(rest) else {
+        return ParsedLine::Bad;
+    };
+    let Some((now, rest)) = next_field(rest) else {
+        return ParsedLine::Bad;
+    };
+    if next_field(rest).is_some() {
+        return ParsedLine::Bad;
+    }
+    if proto != b"4".as_slice() {
+        return ParsedLine::Bad;
+    }
+    match (source(from), bytes_at(digits, bytes), moment(now)) {
+        (Some(source), Some(len), Some(now)) if !is_relay(config, source) => {
+            ParsedLine::StrayUp(source, len, now)
+        }
+        _ => ParsedLine::Bad,
+    }
+}
+
+/// `straydown RELAY SRC HEX`.
+fn parse_stray_down(config: &Config, rest: Option<&[u8]>, bytes: &mut [u8; MAX_BYTES]) -> ParsedLine
+    ensures value { line_of result bytes.new ≡ stray_down_line config.now (fields_after (option_map (λ line. line.now) rest.entry)) }
+    ensures within { IsWithin config.now result }
+{
+    let Some((name, rest)) = next_field(rest) else {
+        return ParsedLine::Bad;
+    };
+    let Some((from, rest)) = next_field(rest) else {
+        return ParsedLine::Bad;
+    };
+    let Some((digits, rest)) = next_field(rest) else {
+        return ParsedLine::Bad;
+    };
+    if next_field(rest).is_some() {
+        return ParsedLine::Bad;
+    }
+    match (
+        relay_named(config, name),
+        source(from),
+        bytes_at(digits, bytes),
+    ) {
+        (Some(relay), Some(source), Some(len)) if !is_server(config, source) => {
+            ParsedLine::StrayDown(relay, source, len)
+        }
+        _ => ParsedLine::Bad,
+    }
+}
+
 /// Parses a line by its first field.
 fn parse_event(config: &Config, line: &[u8], bytes: &mut [u8; MAX_BYTES]) -> ParsedLine
     ensures value { line_of result bytes.new ≡ line_for_word config.now (fields_of line.now) }
@@ -178,6 +243,12 @@ fn parse_event(config: &Config, line: &[u8], bytes: &mut [u8; MAX_BYTES]) -> Par
     }
     if word == b"tick".as_slice() {
         return parse_tick(rest);
+    }
+    if word == b"strayup".as_slice() {
+        return parse_stray_up(config, rest, bytes);
+    }
+    if word == b"straydown".as_slice() {
+        return parse_stray_down(config, rest, bytes);
     }
     ParsedLine::Bad
 }

@@ -13,9 +13,11 @@ use world::{Event, Machine, Outcome};
 struct Nowhere;
 
 impl Machine for Nowhere {
-    ghost use Rattle.std.specs.Prelude.{[]};
+    ghost use Rattle.std.specs.Prelude.{[], ◌∷◌};
 
     ghost states = { λ _. [] };
+
+    ghost topology = { λ _. record { listen4 = record { addr = record { 0 = 0 ∷ 0 ∷ 0 ∷ 0 ∷ [] }; port = 0 }; listen6 = record { addr = record { 0 = 0 ∷ 0 ∷ 0 ∷ 0 ∷ [] }; port = 0 }; relays = []; circuits = [] } };
 
     fn step(&mut self, event: &Event<'_>, out: &mut PacketBuf) -> Outcome {
         out.clear();
@@ -24,6 +26,8 @@ impl Machine for Nowhere {
             Event::Up(_, _, _, _) => Outcome::Gone,
             Event::Down(_, _) => Outcome::Gone,
             Event::Tick(_) => Outcome::Done,
+            Event::StrayUp(_, _, _, _) => Outcome::Dropped(Discard::UnknownSource),
+            Event::StrayDown(_, _, _) => Outcome::Gone,
         }
     }
 }

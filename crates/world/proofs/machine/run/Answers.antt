@@ -9,19 +9,19 @@ events-init g c =
 
 pub returns-then-not-taken-clause-reaches_past : goal.returns-then-not-taken-clause-reaches_past
 returns-then-not-taken-clause-reaches_past g c =
-    reaches_next c.args.events.now c.events.n c.index-events-n.result c.events-test.true c.index-events-n.is _ _ _ _ _ c.events.invariant.reaches c.step-outcome.ensures
+    reaches_next c.args.events.now c.events.n c.index-events-n.result c.events-test.true c.index-events-n.is _ _ _ _ _ c.events.invariant.reaches c.step-outcome.ensures.steps
 
 pub returns-then-not-taken-clause-emits_at : goal.returns-then-not-taken-clause-emits_at
 returns-then-not-taken-clause-emits_at g c =
-    emits_at c.args.events.now c.events.n c.index-events-n.result c.events-test.true c.index-events-n.is _ _ _ _ _ c.events.invariant.reaches c.step-outcome.ensures
+    emits_at c.args.events.now c.events.n c.index-events-n.result c.events-test.true c.index-events-n.is _ _ _ _ _ c.events.invariant.reaches c.step-outcome.ensures.steps
     (c.deliver-taken.ensures.one c.if-not-taken.true)
 
 pub events-preserved : goal.events-preserved
 events-preserved g c = record {
   emits =
       emits_next c.args.events.now c.events.n c.index-events-n.result c.events-test.true c.index-events-n.is _ _ _ _ _ _ _ _
-      c.events.invariant.emits c.events.invariant.reaches c.step-outcome.ensures (c.deliver-taken.ensures.yes c.if-not-taken.false);
+      c.events.invariant.emits c.events.invariant.reaches c.step-outcome.ensures.steps (c.deliver-taken.ensures.yes c.if-not-taken.false);
   reaches =
-      reaches_next c.args.events.now c.events.n c.index-events-n.result c.events-test.true c.index-events-n.is _ _ _ _ _ c.events.invariant.reaches c.step-outcome.ensures;
+      reaches_next c.args.events.now c.events.n c.index-events-n.result c.events-test.true c.index-events-n.is _ _ _ _ _ c.events.invariant.reaches c.step-outcome.ensures.steps;
   quiet = c.deliver-taken.ensures.quiet c.if-not-taken.false ∙ c.events.invariant.quiet;
 }

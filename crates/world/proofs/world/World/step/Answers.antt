@@ -1,8 +1,9 @@
-use Rattle.std.proofs.Common.{length, sym, ap, ◌∙◌}
+use Rattle.std.proofs.Common.{length, refl, sym, ap, ◌∙◌}
 use Rattle.std.proofs.lemmas.Bool.{ltb-false}
 use Rattle.world.specs.Seen.{Frame, Up, Down, seen_of, named_by}
+use Rattle.world.specs.Stray.{is_stray}
 use Rattle.world.specs.World.{states}
-use Rattle.world.proofs.CircuitSteps.{named_steps, gone_steps, tick_steps}
+use Rattle.world.proofs.CircuitSteps.{named_steps, gone_steps, tick_steps, stray_steps}
 use Rattle.world.proofs.world.World.step.Goals as goal
 
 pub returns-then-not-exists-clause-steps : goal.returns-then-not-exists-clause-steps
@@ -47,3 +48,13 @@ pub returns-in-Tick-clause-steps : goal.returns-in-Tick-clause-steps
 returns-in-Tick-clause-steps c =
     let m = c.tick.ensures.moves in
     tick_steps c.args.event.now c.in-Tick.now (states c.args.self.now) (states c.tick.new.self) c.tick.result c.tick.new.out c.in-Tick.is m.count m.each c.tick.ensures.done c.tick.ensures.empty
+
+pub returns-in-StrayUp-clause-steps : goal.returns-in-StrayUp-clause-steps
+returns-in-StrayUp-clause-steps c =
+    stray_steps c.args.event.now (states c.args.self.now) (states c.stray_up.new.self) c.stray_up.result c.stray_up.new.out (ap is_stray c.in-StrayUp.is)
+    c.stray_up.ensures.frame c.stray_up.ensures.empty c.stray_up.ensures.states
+
+pub returns-in-StrayDown-clause-steps : goal.returns-in-StrayDown-clause-steps
+returns-in-StrayDown-clause-steps c =
+    stray_steps c.args.event.now (states c.args.self.now) (states c.args.self.now) c.stray_down.result c.stray_down.new.out (ap is_stray c.in-StrayDown.is)
+    c.stray_down.ensures.frame c.stray_down.ensures.empty refl

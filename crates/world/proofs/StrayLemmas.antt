@@ -1,0 +1,46 @@
+-- What server and relay make of strays.
+use Rattle.std.proofs.Common.{◌≡◌, ℕ, Bool, true, false, List, refl, sym, ap, ◌∙◌}
+use Rattle.std.specs.Prelude.{◌||◌, Result, Ok, Err}
+use Rattle.std.specs.List.{list_any}
+use Rattle.types.specs.Addr.{same_source}
+use Rattle.types.specs.declared.addr.Source.{Source}
+use Rattle.types.specs.declared.discard.Discard.{Discard}
+use Rattle.types.specs.declared.discard.Discard.TheVariants.{UnknownSource, NotServer}
+use Rattle.config.specs.CircuitPart.{CircuitPart}
+use Rattle.dispatch.specs.Addressee.{addressee}
+use Rattle.dispatch.specs.Received.{IsAnswer, Received, drop_all, received}
+use Rattle.dispatch.specs.Server.{Book}
+use Rattle.relay.specs.Relays.{CircuitFrame, Topology, is_server, relayed_down_in}
+
+either_false : (a b : Bool) → (a || b) ≡ false → (a ≡ false) × (b ≡ false)
+either_false true b h = absurd cc
+either_false false b h = (refl, h)
+
+-- the server drops what no relay sent, and every book stays
+pub stray_received : (relays : List Source) (parts : List CircuitPart) (now : ℕ) (source : Source) (datagram : List ℕ) (books : List Book)
+    → list_any (same_source source) relays ≡ false → received relays parts now source datagram books ≡ drop_all UnknownSource books
+unfolding addressee
+stray_received relays parts now source datagram books h = rw h refl
+
+-- a relay drops what the server did not send
+pub stray_relayed : (t : Topology) (relay : ℕ) (source : Source) (datagram : List ℕ) → is_server t source ≡ false → relayed_down_in t relay source datagram ≡ Err NotServer
+unfolding relayed_down_in
+stray_relayed t relay source datagram h =
+    let apart = either_false (same_source source t.listen4) (same_source source t.listen6) h in
+    rw (apart.0, apart.1) refl
+
+-- so the answer is a refusal, and the reason is this one
+pub refusal_is : (answer : Received) (why : Discard) (books : List Book) (result : Result (Unit {0}) Discard) (out : List ℕ) → answer ≡ drop_all why books → IsAnswer answer.answer result out → result ≡ Err why
+refusal_is answer why books result out h is = (rw h at is).0
+
+pub no_ok : (result : Result (Unit {0}) Discard) (u : Unit {0}) (why : Discard) → result ≡ Ok u → result ≡ Err why → ⊥
+no_ok result u why ok err = let h : Ok u ≡ Err why = sym ok ∙ err in absurd cc
+
+pub same_reason : (result : Result (Unit {0}) Discard) (why other : Discard) → result ≡ Err why → result ≡ Err other → why ≡ other
+same_reason result why other one two = let h : Err why ≡ Err other = sym one ∙ two in cc
+
+pub no_frame : (t : Topology) (relay : ℕ) (source : Source) (datagram : List ℕ) (frame : CircuitFrame) → is_server t source ≡ false → relayed_down_in t relay source datagram ≡ Ok frame → ⊥
+no_frame t relay source datagram frame apart ok = let h : Ok frame ≡ Err NotServer = sym ok ∙ stray_relayed t relay source datagram apart in absurd cc
+
+pub relay_reason : (t : Topology) (relay : ℕ) (source : Source) (datagram : List ℕ) (why : Discard) → is_server t source ≡ false → relayed_down_in t relay source datagram ≡ Err why → why ≡ NotServer
+relay_reason t relay source datagram why apart err = let h : Err why ≡ Err NotServer = sym err ∙ stray_relayed t relay source datagram apart in cc

@@ -1,0 +1,40 @@
+use Rattle.std.proofs.Common.{◌≡◌, false, refl, sym, ap, subst, ◌∙◌}
+use Rattle.std.specs.List.{list_any}
+use Rattle.types.specs.Addr.{same_source}
+use Rattle.types.specs.declared.discard.Discard.TheVariants.{UnknownSource}
+use Rattle.dispatch.specs.ServerValue.{books_in, parts_in}
+use Rattle.world.specs.World.{WorldValue, each_state, state_of, states}
+use Rattle.world.specs.Stray.{stray_up_outcome}
+use Rattle.world.specs.declared.outcome.Outcome.{Outcome}
+use Rattle.world.specs.declared.outcome.Outcome.TheVariants as outcome
+use Rattle.world.proofs.StrayLemmas.{stray_received, refusal_is, no_ok, same_reason}
+use Rattle.world.proofs.world.World.stray_up.Goals as goal
+
+pub unreachable-requires : goal.unreachable-requires
+unreachable-requires c =
+    let w : WorldValue = record { relays = c.self.inside.relays; behind = c.self.inside.behind.items; net = c.self.inside.net; server = c.self.inside.server; disk = c.self.inside.disk } in
+    let apart : list_any (same_source c.args.source) w.server.relays ≡ false = ap (list_any (same_source c.args.source)) c.self.invariant.sources ∙ sym c.is_relay.ensures ∙ c.if-is_relay.false in
+    let all = stray_received w.server.relays (parts_in w.server) c.args.now c.args.source c.args.datagram.now (books_in w.server) apart in
+    no_ok c.receive.result c.in-Ok.field-0 UnknownSource c.in-Ok.is
+    (refusal_is _ UnknownSource (books_in w.server) c.receive.result c.receive.new.out all (c.receive.ensures.answer))
+
+pub returns-clause-outcome : goal.returns-clause-outcome
+returns-clause-outcome c =
+    let w : WorldValue = record { relays = c.self.inside.relays; behind = c.self.inside.behind.items; net = c.self.inside.net; server = c.self.inside.server; disk = c.self.inside.disk } in
+    let apart : list_any (same_source c.args.source) w.server.relays ≡ false = ap (list_any (same_source c.args.source)) c.self.invariant.sources ∙ sym c.is_relay.ensures ∙ c.if-is_relay.false in
+    let all = stray_received w.server.relays (parts_in w.server) c.args.now c.args.source c.args.datagram.now (books_in w.server) apart in
+    let same = same_reason c.receive.result c.in-Err.why UnknownSource c.in-Err.is
+    (refusal_is _ UnknownSource (books_in w.server) c.receive.result c.receive.new.out all (c.receive.ensures.answer)) in
+    let known : false ≡ (c.is_relay.result) = sym c.if-is_relay.false in
+    let P : WorldValue → Type 0 = λ v. outcome.Dropped c.in-Err.why ≡ stray_up_outcome v.relays.topology c.args.source in
+    subst P c.self.view_is (rw (sym c.is_relay.ensures, c.if-is_relay.false) (ap outcome.Dropped same))
+
+pub returns-clause-states : goal.returns-clause-states
+returns-clause-states c =
+    let w : WorldValue = record { relays = c.self.inside.relays; behind = c.self.inside.behind.items; net = c.self.inside.net; server = c.self.inside.server; disk = c.self.inside.disk } in
+    let new : WorldValue = record w { server = c.receive.new.self } in
+    let apart : list_any (same_source c.args.source) w.server.relays ≡ false = ap (list_any (same_source c.args.source)) c.self.invariant.sources ∙ sym c.is_relay.ensures ∙ c.if-is_relay.false in
+    let all = stray_received w.server.relays (parts_in w.server) c.args.now c.args.source c.args.datagram.now (books_in w.server) apart in
+    let books : books_in new.server ≡ books_in w.server = c.receive.ensures.books ∙ ap (λ r. r.books) all in
+    let P : WorldValue → Type 0 = λ v. states new ≡ states v in
+    subst P c.self.view_is (λ i. each_state (state_of w) (c.receive.ensures.parts i) (books i))
