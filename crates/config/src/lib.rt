@@ -12,8 +12,10 @@ mod limits;
 mod lists;
 mod lookup;
 mod names;
+mod pairs;
 mod pools;
 mod reading;
+mod relations;
 mod rules;
 mod settings;
 #[cfg(test)]
