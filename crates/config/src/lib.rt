@@ -18,6 +18,7 @@ mod reading;
 mod relations;
 mod rules;
 mod settings;
+mod subnets;
 #[cfg(test)]
 mod tests;
 mod text_forms;
