@@ -1,5 +1,5 @@
--- What two lists of pools have in common, and what no two of them have.
-use Rattle.std.proofs.Common.{ℕ, ◌<◌, List}
+-- Pools that share no address, as the walk over pairs gives it and as the rules have it.
+use Rattle.std.proofs.Common.{ℕ}
 use Rattle.std.specs.Prelude.{AllPairs}
 use Rattle.config.specs.Rules.{Settings, IsInPool4, IsInPool6, Pools4Apart, Pools6Apart}
 

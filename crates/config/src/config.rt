@@ -102,7 +102,11 @@ impl Config {
             Ok(values) => values,
             Err(limit) => return Err(ConfigFault::Limit(limit)),
         };
-        if let Err(fault) = rules(&values.server, slice::from_ref(&values.relay), slice::from_ref(&values.circuit)) {
+        if let Err(fault) = rules(
+            &values.server,
+            slice::from_ref(&values.relay),
+            slice::from_ref(&values.circuit),
+        ) {
             return Err(fault);
         }
         match Config::of(alloc, values) {

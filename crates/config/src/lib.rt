@@ -16,6 +16,8 @@ mod pairs;
 mod pools;
 mod reading;
 mod relations;
+#[cfg(test)]
+mod rule_tests;
 mod rules;
 mod settings;
 mod subnets;

@@ -44,9 +44,9 @@ pub fn first_of_all<T, R: Relation<T, T>>(entries: &[T]) -> Option<(usize, usize
     ensures some { IfSome result (λ pair. AreRelated R.related entries.now pair.0 pair.1) }
     ensures none { IfNone result (All (λ one. All (λ other. ¬ R.related one other) entries.now) entries.now) }
 {
-    for first in 0..entries.len() {
-        if let Some(second) = first_related::<T, T, R>(&entries[first], entries, 0) {
-            return Some((first, second));
+    for one in 0..entries.len() {
+        if let Some(other) = first_related::<T, T, R>(&entries[one], entries, 0) {
+            return Some((one, other));
         }
     }
     None

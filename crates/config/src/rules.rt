@@ -41,7 +41,9 @@ fn two_circuits<R: Relation<CircuitConfig, CircuitConfig>>(
 }
 
 /// The numbers of two relays that are related, the lesser first.
-fn two_relays<R: Relation<RelayConfig, RelayConfig>>(relays: &[RelayConfig]) -> Option<(usize, usize)>
+fn two_relays<R: Relation<RelayConfig, RelayConfig>>(
+    relays: &[RelayConfig],
+) -> Option<(usize, usize)>
     ensures some { IfSome result (λ two. (s : Settings) → s.relays ≡ relays.now → AreTwoRelays s two.0 two.1 R.related) }
     ensures none { IfNone result (AllPairs (λ r q. ¬ R.related r q) relays.now) }
 {
