@@ -36,8 +36,8 @@ fn is_within(relays: &[RelayConfig], circuit: &CircuitConfig) -> bool
 fn are_within(relays: &[RelayConfig], circuits: &[CircuitConfig]) -> bool
     ensures { OnTrue result (All (IsWithinLimits relays.now) circuits.now) }
 {
-    for circuit in circuits {
-        if !is_within(relays, circuit) {
+    for index in 0..circuits.len() {
+        if !is_within(relays, &circuits[index]) {
             return false;
         }
     }
