@@ -1,9 +1,9 @@
 pub mod EntryLemmas
 pub mod LawLemmas
 pub mod NameLemmas
-pub mod OneLemmas
 pub mod PartLemmas
 pub mod PoolLemmas
 pub mod ReadLemmas
+pub mod RuleLemmas
 pub mod SameLemmas
 pub mod TextLemmas

@@ -3,6 +3,7 @@ pub mod CircuitPart
 pub mod Fault
 pub mod Field
 pub mod Keys
+pub mod Pairs
 pub mod Rules
 pub mod Tables
 pub mod Texts

@@ -13,6 +13,7 @@ use crate::rules::rules;
 use crate::settings::{CircuitConfig, RelayConfig, ServerConfig};
 use std::alloc::{AllocError, Global};
 use std::marker::Model;
+use std::slice;
 use toml::Table;
 use types::{Circuit, CircuitId, RelayNo};
 
@@ -101,7 +102,11 @@ impl Config {
             Ok(values) => values,
             Err(limit) => return Err(ConfigFault::Limit(limit)),
         };
-        if let Err(fault) = rules(&values.server, &values.relay, &values.circuit) {
+        if let Err(fault) = rules(
+            &values.server,
+            slice::from_ref(&values.relay),
+            slice::from_ref(&values.circuit),
+        ) {
             return Err(fault);
         }
         match Config::of(alloc, values) {

@@ -12,10 +12,15 @@ mod limits;
 mod lists;
 mod lookup;
 mod names;
+mod pairs;
 mod pools;
 mod reading;
+mod relations;
+#[cfg(test)]
+mod rule_tests;
 mod rules;
 mod settings;
+mod subnets;
 #[cfg(test)]
 mod tests;
 mod text_forms;

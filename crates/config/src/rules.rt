@@ -1,166 +1,154 @@
-//! The rules about a configuration's values, as far as one relay and one circuit can break them.
-ghost use Rattle.std.specs.Prelude.{◌≡◌, ◌≢◌, ℕ, ◌+◌, ◌/◌, ◌^◌, ◌≤◌, ◌<◌, ◌↔◌, Some, IsTrue, IsNone, OnOk, IfErr, IfSome, IfNone};
+//! The rules about a configuration's values, for any number of relays and circuits.
+ghost use Rattle.std.specs.Prelude.{◌≡◌, ◌≢◌, ℕ, ◌+◌, ◌/◌, ◌^◌, ◌≤◌, ◌<◌, ◌↔◌, List, length, slice_get, All, AllPairs, Some, IsTrue, OnOk, IfErr, IfSome, IfNone};
 ghost use Rattle.std.specs.Bool.{OnTrue, OnFalse};
 ghost use Rattle.types.specs.Addr.{number4, number6};
-ghost use Rattle.config.specs.Broken.{AreSame, IsCircuitOf, IsGatewayInPool, IsOffSubnet};
-ghost use Rattle.config.specs.Rules.{Settings, IsInPool4, IsInPool6, IsHost, IsOnSubnet, KeepsRules, one_each};
+ghost use Rattle.config.specs.Broken.{AreSame, AreTwo, AreTwoRelays, HasSource, IsCircuitOf, IsGatewayInPool, IsOffSubnet};
+ghost use Rattle.config.specs.Rules.{Settings, IsInPool4, IsInPool6, IsHost, IsOnSubnet, IsWithinLimits, NamesDiffer, GatewaysOutside, KeepsRules};
 ghost use Rattle.config.specs.Valid.{IsLeastRule};
 
 use crate::fault::{ConfigFault, SameName};
 use crate::names::{CircuitKey, CircuitRef};
+use crate::pairs::{Relation, first_of_all, first_pair, first_related};
+use crate::relations::{
+    GatewayInPool4, IsSourceOf, LinkInPool6, SameId, SameRegion, SameRelayName, SameSource,
+    SharedPool4, SharedPool6,
+};
 use crate::settings::{CircuitConfig, RelayConfig, ServerConfig};
+use crate::subnets::off_subnet;
+use types::Source;
 
-/// Whether the circuit's DHCPv4 pool has its gateway.
-pub fn has_gateway4(circuit: &CircuitConfig) -> bool
-    ensures { IsTrue result ↔ IsInPool4 circuit.now (number4 circuit.now.gateway4) }
+/// A circuit of the list, by its number and its id.
+fn circuit_ref(circuits: &[CircuitConfig], index: usize) -> CircuitRef
+    requires { index < length circuits.now }
+    ensures number { result.number ≡ index + 1 }
+    ensures id { (c : CircuitConfig) → slice_get circuits.now index ≡ Some c → result.id ≡ Some c.id }
 {
-    let first = u64::from(circuit.first4.number());
-    let gateway = u64::from(circuit.gateway4.number());
-    first <= gateway && gateway < first + u64::from(circuit.count4)
-}
-
-/// Whether the circuit's DHCPv6 pool has its link address.
-pub fn has_link6(circuit: &CircuitConfig) -> bool
-    ensures { IsTrue result ↔ IsInPool6 circuit.now (number6 circuit.now.link6) }
-{
-    let first = circuit.first6.number();
-    let link = circuit.link6.number();
-    first <= link && link - first < u128::from(circuit.count6)
-}
-
-/// Whether an address is a host's in the gateway's network.
-fn is_host(address: u64, gateway: u64, prefix: u8) -> bool
-    requires { prefix ≤ 30 }
-    ensures { IsTrue result ↔ IsHost prefix gateway address }
-{
-    let size = 2u64.pow(32 - u32::from(prefix));
-    address / size == gateway / size && address % size != 0 && address % size != size - 1
-}
-
-/// Whether the gateway is a host's address in its network.
-pub fn has_host_gateway(circuit: &CircuitConfig) -> bool
-    requires prefix { circuit.now.prefix4 ≤ 30 }
-    ensures { IsTrue result ↔ IsHost circuit.now.prefix4 (number4 circuit.now.gateway4) (number4 circuit.now.gateway4) }
-{
-    let gateway = u64::from(circuit.gateway4.number());
-    is_host(gateway, gateway, circuit.prefix4)
-}
-
-/// Whether every address of the DHCPv4 pool is a host's in the gateway's network.
-pub fn has_host_pool(circuit: &CircuitConfig) -> bool
-    requires prefix { circuit.now.prefix4 ≤ 30 }
-    ensures all { OnTrue result ((n : ℕ) → IsInPool4 circuit.now n → IsHost circuit.now.prefix4 (number4 circuit.now.gateway4) n) }
-    ensures one { OnFalse result ((n : ℕ) × IsInPool4 circuit.now n × ¬ IsHost circuit.now.prefix4 (number4 circuit.now.gateway4) n) }
-{
-    let first = u64::from(circuit.first4.number());
-    let gateway = u64::from(circuit.gateway4.number());
-    for slot in 0..u64::from(circuit.count4) {
-        if !is_host(first + slot, gateway, circuit.prefix4) {
-            return false;
-        }
+    CircuitRef {
+        number: index + 1,
+        id: Some(circuits[index].id.copy()),
     }
-    true
 }
 
-/// Whether every address of the DHCPv6 pool has the link's first 64 bits.
-pub fn is_on_link6(circuit: &CircuitConfig) -> bool
-    requires within { number6 circuit.now.first6 + circuit.now.count6 ≤ 2 ^ 128 }
-    ensures all { OnTrue result ((n : ℕ) → IsInPool6 circuit.now n → n / 2 ^ 64 ≡ number6 circuit.now.link6 / 2 ^ 64) }
-    ensures one { OnFalse result ((n : ℕ) × IsInPool6 circuit.now n × (n / 2 ^ 64 ≢ number6 circuit.now.link6 / 2 ^ 64)) }
+/// Two circuits that are related, the first before the second.
+fn two_circuits<R: Relation<CircuitConfig, CircuitConfig>>(
+    circuits: &[CircuitConfig],
+) -> Option<(CircuitRef, CircuitRef)>
+    ensures some { IfSome result (λ two. (s : Settings) → s.circuits ≡ circuits.now → AreTwo s two.0 two.1 R.related) }
+    ensures none { IfNone result (AllPairs (λ c d. ¬ R.related c d) circuits.now) }
 {
-    let first = circuit.first6.number();
-    let link = circuit.link6.number();
-    for slot in 0..u128::from(circuit.count6) {
-        if (first + slot) / LINK_SIZE != link / LINK_SIZE {
-            return false;
-        }
+    let (first, second) = first_pair::<CircuitConfig, R>(circuits)?;
+    Some((circuit_ref(circuits, first), circuit_ref(circuits, second)))
+}
+
+/// The numbers of two relays that are related, the lesser first.
+fn two_relays<R: Relation<RelayConfig, RelayConfig>>(
+    relays: &[RelayConfig],
+) -> Option<(usize, usize)>
+    ensures some { IfSome result (λ two. (s : Settings) → s.relays ≡ relays.now → AreTwoRelays s two.0 two.1 R.related) }
+    ensures none { IfNone result (AllPairs (λ r q. ¬ R.related r q) relays.now) }
+{
+    let (first, second) = first_pair::<RelayConfig, R>(relays)?;
+    Some((first + 1, second + 1))
+}
+
+/// The number of a relay with this source.
+fn relay_of(relays: &[RelayConfig], source: &Source) -> Option<usize>
+    ensures some { IfSome result (λ number. (s : Settings) → s.relays ≡ relays.now → HasSource s number source.now) }
+    ensures none { IfNone result (All (λ r. r.source ≢ source.now) relays.now) }
+{
+    let index = first_related::<Source, RelayConfig, IsSourceOf>(source, relays, 0)?;
+    Some(index + 1)
+}
+
+/// Rule 44: two ids, two relays' names, or two of the sources and the server's addresses that are the
+/// same. The variants of `SameName` are looked for in their order.
+fn same_name(
+    server: &ServerConfig,
+    relays: &[RelayConfig],
+    circuits: &[CircuitConfig],
+) -> Option<SameName>
+    ensures some { IfSome result (AreSame (record { server = server.now; relays = relays.now; circuits = circuits.now })) }
+    ensures none { IfNone result (NamesDiffer (record { server = server.now; relays = relays.now; circuits = circuits.now })) }
+{
+    if let Some((first, second)) = two_circuits::<SameId>(circuits) {
+        return Some(SameName::Ids(first, second));
     }
-    true
-}
-
-/// How many addresses have one first half.
-const LINK_SIZE: u128 = 1 << 64;
-
-/// Two sources that have to differ and are the same.
-pub fn same_source(server: &ServerConfig, relay: &RelayConfig) -> Option<SameName>
-    ensures none { IsNone result ↔ ((server.now.listen4 ≢ server.now.listen6) × (relay.now.source ≢ server.now.listen4) × (relay.now.source ≢ server.now.listen6)) }
-    ensures some { IfSome result (λ same. (circuit : CircuitConfig) → AreSame (one_each server.now relay.now circuit) same) }
-{
+    if let Some((first, second)) = two_relays::<SameRelayName>(relays) {
+        return Some(SameName::Names(first, second));
+    }
+    if let Some((first, second)) = two_relays::<SameSource>(relays) {
+        return Some(SameName::Sources(first, second));
+    }
     if server.listen4 == server.listen6 {
         return Some(SameName::Listens);
     }
-    if relay.source == server.listen4 {
-        return Some(SameName::Listen4(1));
+    if let Some(relay) = relay_of(relays, &server.listen4) {
+        return Some(SameName::Listen4(relay));
     }
-    if relay.source == server.listen6 {
-        return Some(SameName::Listen6(1));
+    if let Some(relay) = relay_of(relays, &server.listen6) {
+        return Some(SameName::Listen6(relay));
     }
     None
 }
 
-/// The only circuit, by its number and its id.
-fn only(circuit: &CircuitConfig) -> CircuitRef
-    ensures number { result.number ≡ 1 }
-    ensures id { result.id ≡ Some circuit.now.id }
+/// Rule 48: a circuit, the key of its gateway or of its link address, and the circuit whose pool has it.
+fn gateway_in_pool(circuits: &[CircuitConfig]) -> Option<(CircuitRef, CircuitKey, CircuitRef)>
+    ensures some { IfSome result (λ found. (s : Settings) → s.circuits ≡ circuits.now → IsGatewayInPool s found.0 found.1 found.2) }
+    ensures none { IfNone result ((s : Settings) → s.circuits ≡ circuits.now → GatewaysOutside s) }
 {
-    CircuitRef {
-        number: 1,
-        id: Some(circuit.id.copy()),
+    if let Some((first, second)) = first_of_all::<CircuitConfig, GatewayInPool4>(circuits) {
+        let (circuit, owner) = (circuit_ref(circuits, first), circuit_ref(circuits, second));
+        return Some((circuit, CircuitKey::Gateway4, owner));
     }
+    if let Some((first, second)) = first_of_all::<CircuitConfig, LinkInPool6>(circuits) {
+        let (circuit, owner) = (circuit_ref(circuits, first), circuit_ref(circuits, second));
+        return Some((circuit, CircuitKey::Link6, owner));
+    }
+    None
 }
 
-/// The rules about the server's, one relay's and one circuit's values, in order.
+/// Rule 49: a circuit, and the key of its gateway or of its pool that is off its subnet.
+fn circuit_off_subnet(circuits: &[CircuitConfig]) -> Option<(CircuitRef, CircuitKey)>
+    requires limits { (relays : List RelayConfig) × All (IsWithinLimits relays) circuits.now }
+    ensures some { IfSome result (λ found. (s : Settings) → s.circuits ≡ circuits.now → IsOffSubnet s found.0 found.1) }
+    ensures none { IfNone result (All IsOnSubnet circuits.now) }
+{
+    for index in 0..circuits.len() {
+        if let Some(key) = off_subnet(&circuits[index]) {
+            return Some((circuit_ref(circuits, index), key));
+        }
+    }
+    None
+}
+
+/// The rules 44 to 49 about the values of the server, its relays and its circuits, in their order: the
+/// least that is broken, and the entries that break it.
 pub fn rules(
     server: &ServerConfig,
-    relay: &RelayConfig,
-    circuit: &CircuitConfig,
+    relays: &[RelayConfig],
+    circuits: &[CircuitConfig],
 ) -> Result<(), ConfigFault>
-    requires prefix { circuit.now.prefix4 ≤ 30 }
-    requires within { number6 circuit.now.first6 + circuit.now.count6 ≤ 2 ^ 128 }
-    ensures ok { OnOk result (KeepsRules (one_each server.now relay.now circuit.now)) }
-    ensures err { IfErr result (IsLeastRule (one_each server.now relay.now circuit.now)) }
+    requires limits { All (IsWithinLimits relays.now) circuits.now }
+    ensures ok { OnOk result (KeepsRules (record { server = server.now; relays = relays.now; circuits = circuits.now })) }
+    ensures err { IfErr result (IsLeastRule (record { server = server.now; relays = relays.now; circuits = circuits.now })) }
 {
-    if let Some(same) = same_source(server, relay) {
+    if let Some(same) = same_name(server, relays, circuits) {
         return Err(ConfigFault::IdTwice(same));
     }
-    if let Some(key) = gateway_in_pool(circuit) {
-        return Err(ConfigFault::GatewayInPool(only(circuit), key, only(circuit)));
+    if let Some((first, second)) = two_circuits::<SameRegion>(circuits) {
+        return Err(ConfigFault::RegionTwice(first, second));
     }
-    if let Some(key) = off_subnet(circuit) {
-        return Err(ConfigFault::OffSubnet(only(circuit), key));
+    if let Some((first, second)) = two_circuits::<SharedPool4>(circuits) {
+        return Err(ConfigFault::Overlap4(first, second));
+    }
+    if let Some((first, second)) = two_circuits::<SharedPool6>(circuits) {
+        return Err(ConfigFault::Overlap6(first, second));
+    }
+    if let Some((circuit, key, owner)) = gateway_in_pool(circuits) {
+        return Err(ConfigFault::GatewayInPool(circuit, key, owner));
+    }
+    if let Some((circuit, key)) = circuit_off_subnet(circuits) {
+        return Err(ConfigFault::OffSubnet(circuit, key));
     }
     Ok(())
-}
-
-/// The key of the circuit's gateway or link address, where it is in the circuit's own pool.
-fn gateway_in_pool(circuit: &CircuitConfig) -> Option<CircuitKey>
-    ensures none { IfNone result (¬ IsInPool4 circuit.now (number4 circuit.now.gateway4) × ¬ IsInPool6 circuit.now (number6 circuit.now.link6)) }
-    ensures some { IfSome result (λ key. (s : Settings) (named owner : CircuitRef) → IsCircuitOf s named circuit.now → IsCircuitOf s owner circuit.now → IsGatewayInPool s named key owner) }
-{
-    if has_gateway4(circuit) {
-        return Some(CircuitKey::Gateway4);
-    }
-    if has_link6(circuit) {
-        return Some(CircuitKey::Link6);
-    }
-    None
-}
-
-/// The key of the gateway or of the pool that is off the circuit's subnet.
-fn off_subnet(circuit: &CircuitConfig) -> Option<CircuitKey>
-    requires prefix { circuit.now.prefix4 ≤ 30 }
-    requires within { number6 circuit.now.first6 + circuit.now.count6 ≤ 2 ^ 128 }
-    ensures none { IfNone result (IsOnSubnet circuit.now) }
-    ensures some { IfSome result (λ key. (s : Settings) (named : CircuitRef) → IsCircuitOf s named circuit.now → IsOffSubnet s named key) }
-{
-    if !has_host_gateway(circuit) {
-        return Some(CircuitKey::Gateway4);
-    }
-    if !has_host_pool(circuit) {
-        return Some(CircuitKey::First4);
-    }
-    if !is_on_link6(circuit) {
-        return Some(CircuitKey::First6);
-    }
-    None
 }

@@ -1,7 +1,7 @@
 use Rattle.std.proofs.Common.{ℕ, ◌+◌, ◌<◌}
 use Rattle.types.specs.Addr.{number4}
 use Rattle.config.specs.Rules.{IsHost}
-use Rattle.config.proofs.rules.has_host_pool.Given as goal
+use Rattle.config.proofs.subnets.has_host_pool.Given as goal
 
 abbrev pub invariant-loop-slot : goal.invariant-loop-slot
 invariant-loop-slot l =

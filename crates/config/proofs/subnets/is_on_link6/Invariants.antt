@@ -1,6 +1,6 @@
 use Rattle.std.proofs.Common.{◌≡◌, ℕ, ◌+◌, ◌/◌, ◌^◌, ◌<◌}
 use Rattle.types.specs.Addr.{number6}
-use Rattle.config.proofs.rules.is_on_link6.Given as goal
+use Rattle.config.proofs.subnets.is_on_link6.Given as goal
 
 abbrev pub invariant-loop-slot : goal.invariant-loop-slot
 invariant-loop-slot l =

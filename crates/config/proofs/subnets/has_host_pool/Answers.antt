@@ -2,7 +2,7 @@ use Rattle.std.proofs.Common.{arith}
 use Rattle.types.specs.Addr.{number4}
 use Rattle.config.specs.Rules.{IsHost}
 use Rattle.config.proofs.PoolLemmas.{at_slots}
-use Rattle.config.proofs.rules.has_host_pool.Goals as goal
+use Rattle.config.proofs.subnets.has_host_pool.Goals as goal
 
 pub returns-clause-all : goal.returns-clause-all
 returns-clause-all c = λ n h.
