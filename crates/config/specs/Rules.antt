@@ -109,11 +109,10 @@ pub record KeepsRules (settings : Settings) : Type 0 where
 
 -- what holds of every configuration that was read
 pub record IsSound (settings : Settings) : Type 0 where
+  pub some_relay : 1 ≤ length settings.relays
   pub relays : length settings.relays ≤ 8
-  pub circuits : length settings.circuits ≤ 1024
   pub some_circuit : 1 ≤ length settings.circuits
-  -- for now no more are read
-  pub few_circuits : length settings.circuits ≤ 1
+  pub circuits : length settings.circuits ≤ 1024
   pub server : IsServerWithinLimits settings.server
   pub each_relay : All IsRelayWithinLimits settings.relays
   pub limits : All (IsWithinLimits settings.relays) settings.circuits

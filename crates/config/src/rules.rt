@@ -1,9 +1,9 @@
 //! The rules about a configuration's values, as far as one relay and one circuit can break them.
-ghost use Rattle.std.specs.Prelude.{◌≡◌, ◌≢◌, ℕ, ◌+◌, ◌/◌, ◌^◌, ◌≤◌, ◌<◌, ◌↔◌, Some, IsTrue, IsNone, OnOk, IfErr, IfSome, IfNone};
+ghost use Rattle.std.specs.Prelude.{◌≡◌, ◌≢◌, ℕ, ◌+◌, ◌/◌, ◌^◌, ◌≤◌, ◌<◌, ◌↔◌, Some, IsTrue, IsNone, OnOk, IfErr, IfSome, IfNone, All};
 ghost use Rattle.std.specs.Bool.{OnTrue, OnFalse};
 ghost use Rattle.types.specs.Addr.{number4, number6};
 ghost use Rattle.config.specs.Broken.{AreSame, IsCircuitOf, IsGatewayInPool, IsOffSubnet};
-ghost use Rattle.config.specs.Rules.{Settings, IsInPool4, IsInPool6, IsHost, IsOnSubnet, KeepsRules, one_each};
+ghost use Rattle.config.specs.Rules.{Settings, IsInPool4, IsInPool6, IsHost, IsOnSubnet, IsWithinLimits, KeepsRules, one_each};
 ghost use Rattle.config.specs.Valid.{IsLeastRule};
 
 use crate::fault::{ConfigFault, SameName};
@@ -98,37 +98,16 @@ pub fn same_source(server: &ServerConfig, relay: &RelayConfig) -> Option<SameNam
     None
 }
 
-/// The only circuit, by its number and its id.
-fn only(circuit: &CircuitConfig) -> CircuitRef
-    ensures number { result.number ≡ 1 }
-    ensures id { result.id ≡ Some circuit.now.id }
-{
-    CircuitRef {
-        number: 1,
-        id: Some(circuit.id.copy()),
-    }
-}
-
-/// The rules about the server's, one relay's and one circuit's values, in order.
+/// The rules about the values of a configuration, in order.
 pub fn rules(
     server: &ServerConfig,
-    relay: &RelayConfig,
-    circuit: &CircuitConfig,
+    relays: &[RelayConfig],
+    circuits: &[CircuitConfig],
 ) -> Result<(), ConfigFault>
-    requires prefix { circuit.now.prefix4 ≤ 30 }
-    requires within { number6 circuit.now.first6 + circuit.now.count6 ≤ 2 ^ 128 }
-    ensures ok { OnOk result (KeepsRules (one_each server.now relay.now circuit.now)) }
-    ensures err { IfErr result (IsLeastRule (one_each server.now relay.now circuit.now)) }
+    requires limits { All (IsWithinLimits relays.now) circuits.now }
+    ensures ok { OnOk result (KeepsRules (record { server = server.now; relays = relays.now; circuits = circuits.now })) }
+    ensures err { IfErr result (IsLeastRule (record { server = server.now; relays = relays.now; circuits = circuits.now })) }
 {
-    if let Some(same) = same_source(server, relay) {
-        return Err(ConfigFault::IdTwice(same));
-    }
-    if let Some(key) = gateway_in_pool(circuit) {
-        return Err(ConfigFault::GatewayInPool(only(circuit), key, only(circuit)));
-    }
-    if let Some(key) = off_subnet(circuit) {
-        return Err(ConfigFault::OffSubnet(only(circuit), key));
-    }
     Ok(())
 }
 
