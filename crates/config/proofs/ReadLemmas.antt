@@ -1,12 +1,13 @@
 -- The values of the entries of a list.
 use Rattle.std.specs.Prelude.{All, slice_get}
-use Rattle.std.proofs.Common.{◌≡◌, inl, inr, ℕ, zero, suc, ◌+◌, ◌-◌, ◌≤◌, ◌<◌, List, [], ◌∷◌, ◌++◌, append_assoc, append-nil, length, get_or, Option, Some, refl, sym, ap, subst, ◌∙◌, arith}
+use Rattle.std.proofs.Common.{◌≡◌, ◌⊎◌, inl, inr, ℕ, zero, suc, ◌+◌, ◌-◌, ◌≤◌, ◌<◌, List, [], ◌∷◌, ◌++◌, append_assoc, append-nil, length, get_or, Option, Some, refl, sym, ap, subst, ◌∙◌, arith}
 use Rattle.std.proofs.lemmas.List.{at_drop_all}
 use Rattle.std.proofs.lemmas.Option.{same_Some}
-use Rattle.toml.specs.Data.{Data, Members}
+use Rattle.toml.specs.Data.{Data, Members, as_table}
 use Rattle.toml.specs.Parse.{parse_document}
 use Rattle.toml.specs.View.{view, items_view}
 use Rattle.toml.specs.declared.value.Value.{Value as Code}
+use Rattle.toml.proofs.Lines.{data_of_table}
 use Rattle.types.specs.CircuitId.{IsCircuitId}
 use Rattle.types.specs.declared.addr.Source.{Source}
 use Rattle.config.specs.declared.fault.ConfigFault.{ConfigFault}
@@ -15,12 +16,12 @@ use Rattle.config.specs.declared.settings.ServerConfig.{ServerConfig}
 use Rattle.config.specs.declared.settings.RelayConfig.{RelayConfig}
 use Rattle.config.specs.declared.settings.CircuitConfig.{CircuitConfig}
 use Rattle.config.specs.Broken.{IsEntry, IsUnfit}
-use Rattle.config.specs.Field.{Field, Missing, Other, Value, HasValue, each}
+use Rattle.config.specs.Field.{Field, Missing, Other, Value, HasValue, field_map, table_of, each}
 use Rattle.config.specs.Keys.{AllThere, IsRelayName, HasAll}
-use Rattle.config.specs.Rules.{IsServerWithinLimits, IsRelayWithinLimits, IsWithinLimits}
+use Rattle.config.specs.Rules.{Settings, IsServerWithinLimits, IsRelayWithinLimits, IsWithinLimits}
 use Rattle.config.specs.Tables.{ServerKeys, RelayKeys, CircuitKeys, Tables, tables_of}
 use Rattle.config.specs.Texts.{IsSource}
-use Rattle.config.specs.Valid.{EachReads, IsUnread, IsFaultOf}
+use Rattle.config.specs.Valid.{EachReads, IsRead, IsUnread, IsLeastRule, IsFaultOf}
 use Rattle.config.specs.Values.{IsName, IsDuid, IsId, IsNameAt, IsServer, IsRelay, IsCircuit}
 use Rattle.config.proofs.EntryLemmas.{entries_from, entries_step, entry_at}
 use Rattle.config.proofs.NameLemmas.{name_within}
@@ -41,17 +42,29 @@ entry_there P [] n f h e = absurd (cc)
 entry_there P (g ∷ gs) zero f h e = subst (λ q. HasValue q P) (same_Some g f e) h.0
 entry_there P (g ∷ gs) (suc n) f h e = entry_there P gs n f h.1 e
 
--- The entries of a list of TOML's values, each of which is there.
-pub one_of_all : {A : Type 0} (P : A → Type 0) (f : Option Data → Field A) (vs : List Code) (i : ℕ) (d : Code) → i < length vs → AllThere P (each f (items_view vs)) → HasValue (f (Some (view (get_or vs i d)))) P
-one_of_all P f vs i d h all = entry_there P (each f (items_view vs)) i _ all (entry_at f vs i d h)
+-- the entry that a loop over a list has at an index
+entry_is : {A : Type 0} (f : Option Data → Field A) (vs : List Code) (i : ℕ) (v : Code) → i < length vs → v ≡ get_or vs i v → slice_get (each f (items_view vs)) i ≡ Some (f (Some (view v)))
+entry_is f vs i v inside is = entry_at f vs i v inside ∙ ap (λ x. Some (f (Some (view x)))) (sym is)
 
--- the entry of a number, counted from 1, has a value
-pub numbered : {A : Type 0} (P : A → Type 0) (f : Option Data → Field A) (vs : List Code) (i : ℕ) (d : Code) → i < length vs → HasValue (f (Some (view (get_or vs i d)))) P → (a : A) × IsEntry (each f (items_view vs)) (i + 1) (Value a) × (f (Some (view (get_or vs i d))) ≡ Value a) × P a
-numbered P f vs i d h has =
+pub one_of_all : {A : Type 0} (P : A → Type 0) (f : Option Data → Field A) (vs : List Code) (i : ℕ) (v : Code) → i < length vs → v ≡ get_or vs i v → AllThere P (each f (items_view vs)) → HasValue (f (Some (view v))) P
+one_of_all P f vs i v inside is all = entry_there P (each f (items_view vs)) i _ all (entry_is f vs i v inside is)
+
+-- it has a value, and its number is counted from 1
+pub numbered : {A : Type 0} (P : A → Type 0) (f : Option Data → Field A) (vs : List Code) (i : ℕ) (v : Code) → i < length vs → v ≡ get_or vs i v → HasValue (f (Some (view v))) P → (a : A) × IsEntry (each f (items_view vs)) (i + 1) (Value a) × (f (Some (view v)) ≡ Value a) × P a
+numbered P f vs i v inside is has =
     let back : i + 1 - 1 ≡ i = omega arith in
-    let value = valued (f (Some (view (get_or vs i d)))) P has in
-    let there = ap (slice_get (each f (items_view vs))) back ∙ entry_at f vs i d h ∙ ap Some value.1 in
+    let value = valued (f (Some (view v))) P has in
+    let there = ap (slice_get (each f (items_view vs))) back ∙ entry_is f vs i v inside is ∙ ap Some value.1 in
     (value.0, record { counted = omega arith; there = there }, value.1, value.2)
+
+-- what holds of an entry holds of its table
+pub of_table : {A : Type 0} (P : A → Type 0) (g : Members → A) (d : Data) (keys : Members) → Some keys ≡ as_table d → HasValue (field_map g (table_of (Some d))) P → P (g keys)
+of_table P g d keys e h = subst (λ x. HasValue (field_map g (table_of (Some x))) P) (data_of_table d keys (sym e)) h
+
+-- a number outside 1 to `most`
+pub one_side : (n most : ℕ) → (n < 1) ⊎ ((1 ≤ n) × (most < n)) → (n < 1) ⊎ (most < n)
+one_side n most (inl none) = inl none
+one_side n most (inr many) = inr many.1
 
 -- what a loop has read of the first i entries: with what the rest stands for it is what all stand for
 abbrev pub ReadTo : {A B : Type 0} → (A → B → Type 0) → (Option Data → Field A) → List Code → ℕ → List B → Type 0
@@ -60,9 +73,10 @@ ReadTo P f vs i found = (rest : List _) → EachReads P (entries_from f vs i) re
 pub reads_none : {A B : Type 0} (P : A → B → Type 0) (f : Option Data → Field A) (vs : List Code) → ReadTo P f vs 0 []
 reads_none P f vs = λ rest h. h
 
-pub each_reads_more : {A B : Type 0} (P : A → B → Type 0) (f : Option Data → Field A) (vs : List Code) (i : ℕ) (d : Code) (found : List B) (b : B) → i < length vs → HasValue (f (Some (view (get_or vs i d)))) (λ a. P a b) → ReadTo P f vs i found → ReadTo P f vs (i + 1) (found ++ b ∷ [])
-each_reads_more P f vs i d found b h here read = λ rest are.
-    let behind = subst (λ fs. EachReads P fs (b ∷ rest)) (sym (entries_step f vs i d h)) (here, are) in
+pub each_reads_more : {A B : Type 0} (P : A → B → Type 0) (f : Option Data → Field A) (vs : List Code) (i : ℕ) (v : Code) (found : List B) (b : B) → i < length vs → v ≡ get_or vs i v → HasValue (f (Some (view v))) (λ a. P a b) → ReadTo P f vs i found → ReadTo P f vs (i + 1) (found ++ b ∷ [])
+each_reads_more P f vs i v found b inside is here read = λ rest are.
+    let step = entries_step f vs i v inside ∙ ap (λ x. f (Some (view x)) ∷ entries_from f vs (i + 1)) (sym is) in
+    let behind = subst (λ fs. EachReads P fs (b ∷ rest)) (sym step) (here, are) in
     subst (EachReads P (each f (items_view vs))) (sym (append_assoc found (b ∷ []) rest)) (read (b ∷ rest) behind)
 
 pub each_reads_all : {A B : Type 0} (P : A → B → Type 0) (f : Option Data → Field A) (vs : List Code) (i : ℕ) (found : List B) → length vs ≤ i → ReadTo P f vs i found → EachReads P (each f (items_view vs)) found
@@ -166,8 +180,8 @@ relay_within_limits keys relay h = record {
 -- what follows from each reading holds of each value
 all_read : {A B : Type 0} (P : A → B → Type 0) (Q : B → Type 0) → ((a : A) (b : B) → P a b → Q b) → (fs : List (Field A)) (bs : List B) → EachReads P fs bs → All Q bs
 all_read P Q so [] [] h k d inside = absurd (omega (arith, inside))
-all_read P Q so [] (b ∷ bs) h = absurd h
-all_read P Q so (f ∷ fs) [] h = absurd h
+all_read P Q so [] (b ∷ bs) h k d inside = absurd h
+all_read P Q so (f ∷ fs) [] h k d inside = absurd h
 all_read P Q so (f ∷ fs) (b ∷ bs) h zero d inside = spelled_so f P Q b (λ a p. so a b p) h.0
 all_read P Q so (f ∷ fs) (b ∷ bs) h (suc k) d inside = all_read P Q so fs bs h.1 k d (omega (arith, inside))
 
@@ -189,3 +203,16 @@ unread_is_fault text doc t (Overlap4 a b) parsed same all h = absurd h
 unread_is_fault text doc t (Overlap6 a b) parsed same all h = absurd h
 unread_is_fault text doc t (GatewayInPool a key b) parsed same all h = absurd h
 unread_is_fault text doc t (OffSubnet a key) parsed same all h = absurd h
+
+-- and so is a broken rule of the settings
+pub broken_is_fault : (text : List ℕ) (doc : Members) (t : Tables) (s : Settings) (fault : ConfigFault) → parse_document text ≡ Some doc → tables_of doc ≡ t → HasAll (tables_of doc) → IsRead t s → IsLeastRule s fault → IsFaultOf text fault
+broken_is_fault text doc t s Memory parsed same all read h = absurd h
+broken_is_fault text doc t s (Text error) parsed same all read h = absurd h
+broken_is_fault text doc t s (Lacking location) parsed same all read h = absurd h
+broken_is_fault text doc t s (Limit limit) parsed same all read h = absurd h
+broken_is_fault text doc t s (IdTwice pair) parsed same all read h = (doc, parsed, record { settings = s; all = all; read = subst (λ x. IsRead x s) (sym same) read; broken = h })
+broken_is_fault text doc t s (RegionTwice a b) parsed same all read h = (doc, parsed, record { settings = s; all = all; read = subst (λ x. IsRead x s) (sym same) read; broken = h })
+broken_is_fault text doc t s (Overlap4 a b) parsed same all read h = (doc, parsed, record { settings = s; all = all; read = subst (λ x. IsRead x s) (sym same) read; broken = h })
+broken_is_fault text doc t s (Overlap6 a b) parsed same all read h = (doc, parsed, record { settings = s; all = all; read = subst (λ x. IsRead x s) (sym same) read; broken = h })
+broken_is_fault text doc t s (GatewayInPool a key b) parsed same all read h = (doc, parsed, record { settings = s; all = all; read = subst (λ x. IsRead x s) (sym same) read; broken = h })
+broken_is_fault text doc t s (OffSubnet a key) parsed same all read h = (doc, parsed, record { settings = s; all = all; read = subst (λ x. IsRead x s) (sym same) read; broken = h })

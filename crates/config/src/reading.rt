@@ -179,8 +179,14 @@ pub fn values_in(
         Ok(server) => server,
         Err(key) => return Err(ConfigFault::Limit(LimitFault::Server(key))),
     };
-    let relays = relays_in(alloc, relays)?;
-    let circuits = circuits_in(alloc, circuits, &relays)?;
+    let relays = match relays_in(alloc, relays) {
+        Ok(relays) => relays,
+        Err(fault) => return Err(fault),
+    };
+    let circuits = match circuits_in(alloc, circuits, &relays) {
+        Ok(circuits) => circuits,
+        Err(fault) => return Err(fault),
+    };
     Ok(Values {
         server,
         relays,
