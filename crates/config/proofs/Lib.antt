@@ -1,7 +1,6 @@
 pub mod EntryLemmas
 pub mod LawLemmas
 pub mod NameLemmas
-pub mod OneLemmas
 pub mod PartLemmas
 pub mod PoolLemmas
 pub mod ReadLemmas

@@ -1,5 +1,5 @@
 -- The rules about a configuration's values, for any number of relays and circuits.
-use Rattle.std.specs.Prelude.{◌≡◌, ◌≢◌, ℕ, ◌+◌, ◌-◌, ◌/◌, ◌%◌, ◌^◌, ◌≤◌, ◌<◌, List, [], ◌∷◌, length, slice_get, option_map, Some, All, AllPairs}
+use Rattle.std.specs.Prelude.{◌≡◌, ◌≢◌, ℕ, ◌+◌, ◌-◌, ◌/◌, ◌%◌, ◌^◌, ◌≤◌, ◌<◌, List, length, slice_get, option_map, Some, All, AllPairs}
 use Rattle.types.specs.Addr.{number4, number6}
 use Rattle.types.specs.CircuitId.{IsCircuitId}
 use Rattle.types.specs.Pool4.{IsPool4}
@@ -12,10 +12,6 @@ pub record Settings : Type 0 where
   pub server : ServerConfig
   pub relays : List RelayConfig
   pub circuits : List CircuitConfig
-
--- one relay and one circuit
-abbrev pub one_each : ServerConfig → RelayConfig → CircuitConfig → Settings
-one_each server relay circuit = record { server = server; relays = relay ∷ []; circuits = circuit ∷ [] }
 
 -- the addresses of a circuit's pools, as numbers
 pub record IsInPool4 (circuit : CircuitConfig) (n : ℕ) : Type 0 where

@@ -2,12 +2,13 @@
 ghost use Rattle.std.specs.Prelude.{◌≡◌, ◌≢◌, ℕ, ◌+◌, ◌/◌, ◌^◌, ◌≤◌, ◌<◌, ◌↔◌, Some, IsTrue, IsNone, OnOk, IfErr, IfSome, IfNone, All};
 ghost use Rattle.std.specs.Bool.{OnTrue, OnFalse};
 ghost use Rattle.types.specs.Addr.{number4, number6};
-ghost use Rattle.config.specs.Broken.{AreSame, IsCircuitOf, IsGatewayInPool, IsOffSubnet};
-ghost use Rattle.config.specs.Rules.{Settings, IsInPool4, IsInPool6, IsHost, IsOnSubnet, IsWithinLimits, KeepsRules, one_each};
+ghost use Rattle.config.specs.declared.names.CircuitRef.{CircuitRef};
+ghost use Rattle.config.specs.Broken.{IsCircuitOf, IsGatewayInPool, IsOffSubnet};
+ghost use Rattle.config.specs.Rules.{Settings, IsInPool4, IsInPool6, IsHost, IsOnSubnet, IsWithinLimits, KeepsRules};
 ghost use Rattle.config.specs.Valid.{IsLeastRule};
 
-use crate::fault::{ConfigFault, SameName};
-use crate::names::{CircuitKey, CircuitRef};
+use crate::fault::ConfigFault;
+use crate::names::CircuitKey;
 use crate::settings::{CircuitConfig, RelayConfig, ServerConfig};
 
 /// Whether the circuit's DHCPv4 pool has its gateway.
@@ -80,23 +81,6 @@ pub fn is_on_link6(circuit: &CircuitConfig) -> bool
 
 /// How many addresses have one first half.
 const LINK_SIZE: u128 = 1 << 64;
-
-/// Two sources that have to differ and are the same.
-pub fn same_source(server: &ServerConfig, relay: &RelayConfig) -> Option<SameName>
-    ensures none { IsNone result ↔ ((server.now.listen4 ≢ server.now.listen6) × (relay.now.source ≢ server.now.listen4) × (relay.now.source ≢ server.now.listen6)) }
-    ensures some { IfSome result (λ same. (circuit : CircuitConfig) → AreSame (one_each server.now relay.now circuit) same) }
-{
-    if server.listen4 == server.listen6 {
-        return Some(SameName::Listens);
-    }
-    if relay.source == server.listen4 {
-        return Some(SameName::Listen4(1));
-    }
-    if relay.source == server.listen6 {
-        return Some(SameName::Listen6(1));
-    }
-    None
-}
 
 /// The rules about the values of a configuration, in order.
 pub fn rules(
