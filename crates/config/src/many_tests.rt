@@ -7,17 +7,22 @@ use types::{Circuit, RelayNo};
 /// number are behind the first relay, the others behind the second.
 fn text_of(alloc: Global, relays: u32, circuits: u32) -> Result<String, AllocError> {
     let mut text = String::new(alloc);
-    text.push_str("[server]\nlisten4 = '127.0.0.1:6767'\nlisten6 = '127.0.0.1:6547'\nduid = '00030001020000000001'\n")?;
+    text.push_str(
+        "[server]\nlisten4 = '127.0.0.1:6767'\nlisten6 = '127.0.0.1:6547'\nduid = '00030001020000000001'\n",
+    )?;
     for n in 0..relays {
-        let relay =
-            format!(in alloc; "[[relay]]\nname = 'r{n}'\nsource = '127.0.1.{n}:6801'\n")?;
+        let relay = format!(in alloc; "[[relay]]\nname = 'r{n}'\nsource = '127.0.1.{n}:6801'\n")?;
         text.push_str(relay.as_str())?;
     }
     for n in 0..circuits {
         let (relay, high, low) = (n % 2, n / 256, n % 256);
-        let circuit = format!(in alloc; "[[circuit]]\nid = 'c{n}'\nrelay = 'r{relay}'\nregion = {n}\nlease = 600\ngateway4 = '10.{high}.{low}.1'\nprefix4 = 24\nfirst4 = '10.{high}.{low}.10'\ncount4 = 2\ndns = []\n")?;
+        let circuit = format!(in alloc;
+            "[[circuit]]\nid = 'c{n}'\nrelay = 'r{relay}'\nregion = {n}\nlease = 600\ngateway4 = '10.{high}.{low}.1'\nprefix4 = 24\nfirst4 = '10.{high}.{low}.10'\ncount4 = 2\ndns = []\n"
+        )?;
         text.push_str(circuit.as_str())?;
-        let circuit = format!(in alloc; "link6 = '20010db8{n:08x}0000000000000001'\nfirst6 = '20010db8{n:08x}0000000000000100'\ncount6 = 2\n")?;
+        let circuit = format!(in alloc;
+            "link6 = '20010db8{n:08x}0000000000000001'\nfirst6 = '20010db8{n:08x}0000000000000100'\ncount6 = 2\n"
+        )?;
         text.push_str(circuit.as_str())?;
     }
     Ok(text)

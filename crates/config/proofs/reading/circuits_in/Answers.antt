@@ -1,4 +1,4 @@
-use Rattle.std.proofs.Common.{◌≡◌, ◌∙◌, length, arith, subst}
+use Rattle.std.proofs.Common.{◌≡◌, length, arith, subst}
 use Rattle.std.specs.Prelude.{IfSome}
 use Rattle.config.specs.Broken.{IsCircuitUnfit}
 use Rattle.config.specs.Field.{Value, HasValue}

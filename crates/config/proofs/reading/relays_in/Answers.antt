@@ -1,4 +1,4 @@
-use Rattle.std.proofs.Common.{◌≡◌, ◌∙◌, length, arith}
+use Rattle.std.proofs.Common.{length, arith}
 use Rattle.config.specs.Keys.{HasRelayKeys}
 use Rattle.config.specs.Broken.{IsRelayUnfit}
 use Rattle.config.specs.Tables.{relay_entry}
