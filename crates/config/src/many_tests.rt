@@ -70,8 +70,6 @@ fn as_many_as_there_may_be(rt: HostRuntime) -> Result<(), AllocError> {
             1025,
             "43: the number of circuits, 1025, is outside 1 to 1024",
         ),
-        // relays come before circuits
-        (9, 1025, "43: the number of relays, 9, is outside 1 to 8"),
         (2, 0, "42: circuit is missing, or no list of tables"),
     ];
     for (relays, circuits, wanted) in rows {
@@ -82,28 +80,41 @@ fn as_many_as_there_may_be(rt: HostRuntime) -> Result<(), AllocError> {
     Ok(())
 }
 
-/// One line of a text of 8 relays and 1024 circuits replaced, and the fault.
+/// One line of a text of 8 relays and 12 circuits replaced, and the fault.
 #[rattlefmt::skip]
-const ONE_LINE: [(&str, &str, &str); 8] = [
-    ("region = 699\n", "region = 1024\n", "43: circuit \"c699\": region 1024 is outside 0 to 1023"),
-    ("id = 'c699'", "id = 'c 699'", "43: circuit 700: id is not 1 to 32 visible ASCII characters"),
-    ("id = 'c699'", "id = ''\nmore = 1", "43: circuit 700: id is not 1 to 32 visible ASCII characters"),
-    ("id = 'c699'", "id = 699", "42: circuit 700: id is missing, or no text"),
-    ("id = 'c1023'", "id = 'c 1023'", "43: circuit 1024: id is not 1 to 32 visible ASCII characters"),
+const ONE_LINE: [(&str, &str, &str); 9] = [
+    ("region = 9\n", "region = 1024\n", "43: circuit \"c9\": region 1024 is outside 0 to 1023"),
+    ("id = 'c9'", "id = 'c 9'", "43: circuit 10: id is not 1 to 32 visible ASCII characters"),
+    ("id = 'c9'", "id = 9", "42: circuit 10: id is missing, or no text"),
+    ("id = 'c11'", "id = ''\nmore = 1", "43: circuit 12: id is not 1 to 32 visible ASCII characters"),
     ("source = '127.0.1.7:6801'", "source = '127.0.1.7:0'", "43: relay 8: source is not an address and a port, as 10.0.0.1:67"),
-    ("region = 1023\n", "region = 5\n", "45: circuits \"c5\" and \"c1023\" have one region"),
-    // the last pool begins with the last address of the first pool
-    ("first4 = '10.3.255.10'", "first4 = '10.0.0.11'", "46: circuits \"c0\" and \"c1023\" share DHCPv4 addresses"),
+    ("name = 'r7'", "name = 'r1'", "44: relays 2 and 8 have one name"),
+    ("id = 'c11'", "id = 'c5'", "44: circuits 6 and 12 have one id, \"c5\""),
+    ("region = 11\n", "region = 5\n", "45: circuits \"c5\" and \"c11\" have one region"),
+    ("gateway4 = '10.0.11.1'", "gateway4 = '10.0.5.11'", "48: circuit \"c11\": gateway4 is in the pool of circuit \"c5\""),
 ];
 
 #[test]
 fn one_of_many_edited(rt: HostRuntime) -> Result<(), AllocError> {
-    let text = text_of(rt.alloc(), 8, 1024)?;
+    let text = text_of(rt.alloc(), 8, 12)?;
     for (old, new, wanted) in ONE_LINE {
         let edited = text.replace(rt.alloc(), old, new)?;
         let found = words(rt.alloc(), edited.as_str())?;
         assert_eq!(rt; found.as_str(), wanted);
     }
+    Ok(())
+}
+
+/// The last of 1024 pools begins with the last address of the first.
+#[test]
+fn the_first_and_the_last_pool_share_an_address(rt: HostRuntime) -> Result<(), AllocError> {
+    let text = text_of(rt.alloc(), 8, 1024)?;
+    let edited = text.replace(rt.alloc(), "first4 = '10.3.255.10'", "first4 = '10.0.0.11'")?;
+    let found = words(rt.alloc(), edited.as_str())?;
+    assert_eq!(rt;
+        found.as_str(),
+        "46: circuits \"c0\" and \"c1023\" share DHCPv4 addresses"
+    );
     Ok(())
 }
 
