@@ -1,5 +1,5 @@
 -- One text has one configuration, or faults of one number.
-use Rattle.std.proofs.Common.{◌≡◌, ◌≢◌, ◌-◌, ◌<◌, ◌≤◌, ℕ, zero, suc, List, [], ◌∷◌, length, get_or, Option, Some, None, option_map, refl, ap, sym, subst, ◌∙◌, arith}
+use Rattle.std.proofs.Common.{◌≡◌, ◌≢◌, ◌⊎◌, inl, inr, ◌-◌, ◌<◌, ◌≤◌, ℕ, zero, suc, List, [], ◌∷◌, length, get_or, Option, Some, None, option_map, refl, ap, sym, subst, ◌∙◌, arith}
 use Rattle.std.specs.Prelude.{All, AllPairs, slice_get, ⊤}
 use Rattle.std.specs.Int.{w32, w128, from_be_bytes}
 use Rattle.std.proofs.lemmas.Option.{slice_get_within, same_Some, slice_get-get_or}
@@ -35,6 +35,7 @@ use Rattle.config.specs.Rules.{Settings, IsInPool4, IsInPool6, IsOnSubnet, Names
 use Rattle.config.specs.Tables.{ServerKeys, RelayKeys, CircuitKeys, Tables, tables_of}
 use Rattle.config.specs.Valid.{EachReads, IsRead, IsValid, BreaksRule, IsLeastRule, IsConfig, IsFaultOf}
 use Rattle.config.specs.Values.{IsNameAt, IsServer, IsRelay, IsCircuit}
+use Rattle.config.proofs.ReadLemmas.{entry_there, reads_length}
 use Rattle.config.proofs.SameLemmas.{meet, same_address, same_address6, same_number, same_name, same_id, same_duid, same_source, same_addresses}
 
 -- rule 43: what is unfit is not read
@@ -82,12 +83,6 @@ circuit_unfit relays keys PastLast6 c unfit h =
     let count = same_number keys.count6 _ _ unfit.count c.count6 unfit.count_is h.count6 in
     omega (arith, unfit.past, h.no_wrap6)
 
-reads_length : {A B : Type 0} (P : A → B → Type 0) (fs : List (Field A)) (bs : List B) → EachReads P fs bs → length fs ≡ length bs
-reads_length P [] [] h = refl
-reads_length P [] (b ∷ bs) h = absurd h
-reads_length P (f ∷ fs) [] h = absurd h
-reads_length P (f ∷ fs) (b ∷ bs) h = ap suc (reads_length P fs bs h.1)
-
 -- an entry that is there is read as some value
 reads_entry : {A B : Type 0} (P : A → B → Type 0) (fs : List (Field A)) (bs : List B) (n : ℕ) (a : A) → EachReads P fs bs → slice_get fs n ≡ Some (Value a) → (b : B) × P a b
 reads_entry P [] bs n a h e = absurd (cc)
@@ -97,11 +92,16 @@ reads_entry P (f ∷ fs) (b ∷ bs) zero a h e =
     (b, subst (λ q. HasValue q (λ x. P x b)) same h.0)
 reads_entry P (f ∷ fs) (b ∷ bs) (suc n) a h e = reads_entry P fs bs n a h.1 e
 
+-- a number from 1 on is not outside its limits
+outside : (count most n : ℕ) → count ≡ n → 1 ≤ count → count ≤ most → (n < 1) ⊎ (most < n) → ⊥
+outside count most n is least_one few (inl none) = omega (arith, is, none)
+outside count most n is least_one few (inr many) = omega (arith, is, many)
+
 pub unfit_is_unread : (t : Tables) (limit : LimitFault) (s : Settings) → IsUnfit t limit → IsRead t s → ⊥
 unfit_is_unread t (Relays n) s unfit h =
-    meet t.relays _ _ ⊥ (λ entries u r. u.1 (sym u.0 ∙ reads_length IsRelay entries s.relays r ∙ omega (arith, h.some_relay, h.few_relays))) unfit h.relays
+    meet t.relays (λ entries. (length entries ≡ n) × ((n < 1) ⊎ (8 < n))) (λ entries. EachReads IsRelay entries s.relays) ⊥ (λ entries u r. outside (length s.relays) 8 n (sym (reads_length IsRelay entries s.relays r) ∙ u.0) h.some_relay h.few_relays u.1) unfit h.relays
 unfit_is_unread t (Circuits n) s unfit h =
-    meet t.circuits _ _ ⊥ (λ entries u r. u.1 (sym u.0 ∙ reads_length (IsCircuit s.relays) entries s.circuits r ∙ omega (arith, h.some_circuit, h.few_circuits))) unfit h.circuits
+    meet t.circuits (λ entries. (length entries ≡ n) × ((n < 1) ⊎ (1024 < n))) (λ entries. EachReads (IsCircuit s.relays) entries s.circuits) ⊥ (λ entries u r. outside (length s.circuits) 1024 n (sym (reads_length (IsCircuit s.relays) entries s.circuits r) ∙ u.0) h.some_circuit h.few_circuits u.1) unfit h.circuits
 unfit_is_unread t (Server key) s unfit h =
     meet t.server (λ keys. IsServerUnfit keys key) (λ keys. IsServer keys s.server) ⊥ (λ keys u r. server_unfit keys key s.server u r) unfit h.server
 unfit_is_unread t (Relay number key) s unfit h =
@@ -143,11 +143,6 @@ weaker : {A : Type 0} (f : Field A) (P Q : A → Type 0) → ((a : A) → P a �
 weaker Missing P Q so h = h
 weaker Other P Q so h = h
 weaker (Value a) P Q so h = so a h
-
-entry_there : {A : Type 0} (P : A → Type 0) (fs : List (Field A)) (n : ℕ) (f : Field A) → AllThere P fs → slice_get fs n ≡ Some f → HasValue f P
-entry_there P [] n f h e = absurd (cc)
-entry_there P (g ∷ gs) zero f h e = subst (λ q. HasValue q P) (same_Some g f e) h.0
-entry_there P (g ∷ gs) (suc n) f h e = entry_there P gs n f h.1 e
 
 relay_lacks : (entries : List (Field RelayKeys)) (number : ℕ) (key : RelayKey) → RelayLacks entries number key → AllThere HasRelayKeys entries → ⊥
 relay_lacks entries number key lacks all =

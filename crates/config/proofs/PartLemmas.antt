@@ -73,7 +73,9 @@ is_part settings c circuit copy relay listen4 listen6 duid there copied limits s
     })
 
 -- one part more
-pub one_part_more : (settings : Settings) (c : ℕ) (part : CircuitPart) → part_in settings c ≡ Some part → take (c + 1) (parts_of settings) ≡ take c (parts_of settings) ++ part ∷ []
-one_part_more settings c part there =
-    take_more (parts_of settings) c part (slice_get_within (parts_of settings) c part there)
-    ∙ ap (λ x. take c (parts_of settings) ++ x ∷ []) (get_or_from_slice_get (parts_of settings) c part part there)
+pub one_part_more : (settings : Settings) (c : ℕ) (parts new : List CircuitPart) (part : CircuitPart)
+    → parts ≡ take c (parts_of settings) → part_in settings c ≡ Some part → new ≡ parts ++ part ∷ [] → new ≡ take (c + 1) (parts_of settings)
+one_part_more settings c parts new part before there pushed =
+    let next = get_or_from_slice_get (parts_of settings) c part part there in
+    let more = take_more (parts_of settings) c part (slice_get_within (parts_of settings) c part there) in
+    pushed ∙ ap (λ ps. ps ++ part ∷ []) before ∙ sym (more ∙ ap (λ x. take c (parts_of settings) ++ x ∷ []) next)

@@ -1,74 +1,123 @@
--- The settings of a list with one entry.
-use Rattle.std.specs.Prelude.{⊤}
-use Rattle.std.proofs.Common.{◌≡◌, inl, inr, ℕ, suc, ◌≤◌, ◌<◌, List, [], ◌∷◌, length, Option, Some, refl, sym, ap, subst, ◌∙◌, arith}
-use Rattle.toml.specs.Data.{Data, Items, no_items, item, Members}
-use Rattle.toml.specs.View.{items_view}
+-- The values of the entries of a list.
+use Rattle.std.specs.Prelude.{All, slice_get}
+use Rattle.std.proofs.Common.{◌≡◌, ◌⊎◌, inl, inr, ℕ, zero, suc, ◌+◌, ◌-◌, ◌≤◌, ◌<◌, List, [], ◌∷◌, ◌++◌, append_assoc, append-nil, length, get_or, Option, Some, refl, sym, ap, subst, ◌∙◌, arith}
+use Rattle.std.proofs.lemmas.List.{at_drop_all}
+use Rattle.std.proofs.lemmas.Option.{same_Some}
+use Rattle.toml.specs.Data.{Data, Members, as_table}
+use Rattle.toml.specs.Parse.{parse_document}
+use Rattle.toml.specs.View.{view, items_view}
 use Rattle.toml.specs.declared.value.Value.{Value as Code}
+use Rattle.toml.proofs.Lines.{data_of_table}
 use Rattle.types.specs.CircuitId.{IsCircuitId}
 use Rattle.types.specs.declared.addr.Source.{Source}
+use Rattle.config.specs.declared.fault.ConfigFault.{ConfigFault}
+use Rattle.config.specs.declared.fault.ConfigFault.TheVariants.{Memory, Text, Missing as Lacking, Limit, IdTwice, RegionTwice, Overlap4, Overlap6, GatewayInPool, OffSubnet}
 use Rattle.config.specs.declared.settings.ServerConfig.{ServerConfig}
 use Rattle.config.specs.declared.settings.RelayConfig.{RelayConfig}
 use Rattle.config.specs.declared.settings.CircuitConfig.{CircuitConfig}
+use Rattle.config.specs.Broken.{IsEntry, IsUnfit}
 use Rattle.config.specs.Field.{Field, Missing, Other, Value, HasValue, field_map, table_of, each}
-use Rattle.config.specs.Keys.{AllThere, IsRelayName, HasCircuitKeys}
-use Rattle.config.specs.Rules.{IsServerWithinLimits, IsRelayWithinLimits, IsWithinLimits}
-use Rattle.config.specs.Tables.{ServerKeys, RelayKeys, CircuitKeys}
+use Rattle.config.specs.Keys.{AllThere, IsRelayName, HasAll}
+use Rattle.config.specs.Rules.{Settings, IsServerWithinLimits, IsRelayWithinLimits, IsWithinLimits}
+use Rattle.config.specs.Tables.{ServerKeys, RelayKeys, CircuitKeys, Tables, tables_of}
 use Rattle.config.specs.Texts.{IsSource}
-use Rattle.config.specs.Valid.{EachReads}
+use Rattle.config.specs.Valid.{EachReads, IsRead, IsUnread, IsLeastRule, IsFaultOf}
 use Rattle.config.specs.Values.{IsName, IsDuid, IsId, IsNameAt, IsServer, IsRelay, IsCircuit}
+use Rattle.config.proofs.EntryLemmas.{entries_from, entries_step, entry_at}
 use Rattle.config.proofs.NameLemmas.{name_within}
 
 pub length-entries : {A : Type 0} (f : Option Data → Field A) (vs : List Code) → length (each f (items_view vs)) ≡ length vs
 length-entries f [] = refl
 length-entries f (v ∷ vs) = ap suc (length-entries f vs)
 
--- an entry of a list of tables
-abbrev entry_of : {A : Type 0} → (Members → A) → Option Data → Field A
-entry_of g d = field_map g (table_of d)
+-- what is there has a value
+valued : {A : Type 0} (f : Field A) (P : A → Type 0) → HasValue f P → (a : A) × (f ≡ Value a) × P a
+valued Missing P h = absurd h
+valued Other P h = absurd h
+valued (Value a) P h = (a, refl, h)
 
--- where the tables are one, so are the entries
-pub one_entry : {A : Type 0} (g : Members → A) (items : Items) (keys : Members) → each table_of items ≡ Value keys ∷ [] → each (entry_of g) items ≡ Value (g keys) ∷ []
-one_entry g no_items keys e = absurd (cc)
-one_entry g (item d no_items) keys e = let same : table_of (Some d) ≡ Value keys = cc in ap (λ f. field_map g f ∷ []) same
-one_entry g (item d (item d2 ds)) keys e = absurd (cc)
+-- what holds of each entry holds of the one at an index
+pub entry_there : {A : Type 0} (P : A → Type 0) (fs : List (Field A)) (n : ℕ) (f : Field A) → AllThere P fs → slice_get fs n ≡ Some f → HasValue f P
+entry_there P [] n f h e = absurd (cc)
+entry_there P (g ∷ gs) zero f h e = subst (λ q. HasValue q P) (same_Some g f e) h.0
+entry_there P (g ∷ gs) (suc n) f h e = entry_there P gs n f h.1 e
 
--- an entry with keys is a table
-table_there : {A : Type 0} (P : A → Type 0) (g : Members → A) (f : Field Members) → HasValue (field_map g f) P → HasValue f (λ _. ⊤)
-table_there P g Missing h = h
-table_there P g Other h = h
-table_there P g (Value keys) h = tt
+-- the entry that a loop over a list has at an index
+entry_is : {A : Type 0} (f : Option Data → Field A) (vs : List Code) (i : ℕ) (v : Code) → i < length vs → v ≡ get_or vs i v → slice_get (each f (items_view vs)) i ≡ Some (f (Some (view v)))
+entry_is f vs i v inside is = entry_at f vs i v inside ∙ ap (λ x. Some (f (Some (view x)))) (sym is)
 
-pub tables_there : {A : Type 0} (P : A → Type 0) (g : Members → A) (items : Items) → AllThere P (each (entry_of g) items) → AllThere (λ _. ⊤) (each table_of items)
-tables_there P g no_items h = tt
-tables_there P g (item d ds) h = (table_there P g (table_of (Some d)) h.0, tables_there P g ds h.1)
+pub one_of_all : {A : Type 0} (P : A → Type 0) (f : Option Data → Field A) (vs : List Code) (i : ℕ) (v : Code) → i < length vs → v ≡ get_or vs i v → AllThere P (each f (items_view vs)) → HasValue (f (Some (view v))) P
+one_of_all P f vs i v inside is all = entry_there P (each f (items_view vs)) i _ all (entry_is f vs i v inside is)
 
--- a circuit that names a relay of one entry names that relay
-named_by : (f : Field (List ℕ)) (r : RelayConfig) (name : List ℕ) → f ≡ Value name → HasValue f (λ text. IsName text r.name.items) → IsNameAt (r ∷ []) 0 name
+-- it has a value, and its number is counted from 1
+pub numbered : {A : Type 0} (P : A → Type 0) (f : Option Data → Field A) (vs : List Code) (i : ℕ) (v : Code) → i < length vs → v ≡ get_or vs i v → HasValue (f (Some (view v))) P → (a : A) × IsEntry (each f (items_view vs)) (i + 1) (Value a) × (f (Some (view v)) ≡ Value a) × P a
+numbered P f vs i v inside is has =
+    let back : i + 1 - 1 ≡ i = omega arith in
+    let value = valued (f (Some (view v))) P has in
+    let there = ap (slice_get (each f (items_view vs))) back ∙ entry_is f vs i v inside is ∙ ap Some value.1 in
+    (value.0, record { counted = omega arith; there = there }, value.1, value.2)
+
+-- what holds of an entry holds of its table
+pub of_table : {A : Type 0} (P : A → Type 0) (g : Members → A) (d : Data) (keys : Members) → Some keys ≡ as_table d → HasValue (field_map g (table_of (Some d))) P → P (g keys)
+of_table P g d keys e h = subst (λ x. HasValue (field_map g (table_of (Some x))) P) (data_of_table d keys (sym e)) h
+
+-- a number outside 1 to `most`
+pub one_side : (n most : ℕ) → (n < 1) ⊎ ((1 ≤ n) × (most < n)) → (n < 1) ⊎ (most < n)
+one_side n most (inl none) = inl none
+one_side n most (inr many) = inr many.1
+
+-- what a loop has read of the first i entries: with what the rest stands for it is what all stand for
+abbrev pub ReadTo : {A B : Type 0} → (A → B → Type 0) → (Option Data → Field A) → List Code → ℕ → List B → Type 0
+ReadTo P f vs i found = (rest : List _) → EachReads P (entries_from f vs i) rest → EachReads P (each f (items_view vs)) (found ++ rest)
+
+pub reads_none : {A B : Type 0} (P : A → B → Type 0) (f : Option Data → Field A) (vs : List Code) → ReadTo P f vs 0 []
+reads_none P f vs = λ rest h. h
+
+pub each_reads_more : {A B : Type 0} (P : A → B → Type 0) (f : Option Data → Field A) (vs : List Code) (i : ℕ) (v : Code) (found : List B) (b : B) → i < length vs → v ≡ get_or vs i v → HasValue (f (Some (view v))) (λ a. P a b) → ReadTo P f vs i found → ReadTo P f vs (i + 1) (found ++ b ∷ [])
+each_reads_more P f vs i v found b inside is here read = λ rest are.
+    let step = entries_step f vs i v inside ∙ ap (λ x. f (Some (view x)) ∷ entries_from f vs (i + 1)) (sym is) in
+    let behind = subst (λ fs. EachReads P fs (b ∷ rest)) (sym step) (here, are) in
+    subst (EachReads P (each f (items_view vs))) (sym (append_assoc found (b ∷ []) rest)) (read (b ∷ rest) behind)
+
+pub each_reads_all : {A B : Type 0} (P : A → B → Type 0) (f : Option Data → Field A) (vs : List Code) (i : ℕ) (found : List B) → length vs ≤ i → ReadTo P f vs i found → EachReads P (each f (items_view vs)) found
+each_reads_all P f vs i found past read =
+    let none_left = at_drop_all (λ ws. each f (items_view ws)) vs i past in
+    let behind = subst (λ fs. EachReads P fs []) (sym none_left) tt in
+    subst (EachReads P (each f (items_view vs))) (append-nil found) (read [] behind)
+
+pub reads_length : {A B : Type 0} (P : A → B → Type 0) (fs : List (Field A)) (bs : List B) → EachReads P fs bs → length fs ≡ length bs
+reads_length P [] [] h = refl
+reads_length P [] (b ∷ bs) h = absurd h
+reads_length P (f ∷ fs) [] h = absurd h
+reads_length P (f ∷ fs) (b ∷ bs) h = ap suc (reads_length P fs bs h.1)
+
+-- as many values as there are entries
+pub count_read : {A B : Type 0} (P : A → B → Type 0) (f : Option Data → Field A) (vs : List Code) (bs : List B) → EachReads P (each f (items_view vs)) bs → length bs ≡ length vs
+count_read P f vs bs read = sym (reads_length P (each f (items_view vs)) bs read) ∙ length-entries f vs
+
+-- a circuit that names an entry of the list of relays names the relay that the entry stands for
+named_by : (f : Field (List ℕ)) (r : RelayConfig) (name : List ℕ) → f ≡ Value name → HasValue f (λ text. IsName text r.name.items) → r.name.items ≡ name
 named_by Missing r name e h = absurd h
 named_by Other r name e h = absurd h
-named_by (Value text) r name e h = let same : text ≡ name = cc in ap Some (sym h.value ∙ same)
+named_by (Value text) r name e h = let same : text ≡ name = cc in sym h.value ∙ same
 
-named_one : (k : RelayKeys) (r : RelayConfig) (name : List ℕ) → IsRelay k r → IsRelayName (Value k ∷ []) name → IsNameAt (r ∷ []) 0 name
-named_one k r name is (inl h) = named_by k.name r name h is.name
-named_one k r name is (inr h) = absurd h
+named_here : (f : Field RelayKeys) (r : RelayConfig) (name : List ℕ) → HasValue f (λ keys. IsRelay keys r) → HasValue f (λ keys. keys.name ≡ Value name) → r.name.items ≡ name
+named_here Missing r name is h = absurd h
+named_here Other r name is h = absurd h
+named_here (Value keys) r name is h = named_by keys.name r name h is.name
 
-pub behind_one : (k : RelayKeys) (r : RelayConfig) (f : Field (List ℕ)) → IsRelay k r → HasValue f (IsRelayName (Value k ∷ [])) → HasValue f (IsNameAt (r ∷ []) 0)
-behind_one k r Missing is h = absurd h
-behind_one k r Other is h = absurd h
-behind_one k r (Value name) is h = named_one k r name is h
+named_among : (names : List (Field RelayKeys)) (relays : List RelayConfig) (name : List ℕ) → EachReads IsRelay names relays → IsRelayName names name → (index : ℕ) × (index < length relays) × IsNameAt relays index name
+named_among [] relays name read h = absurd h
+named_among (f ∷ fs) [] name read h = absurd read
+named_among (f ∷ fs) (r ∷ rs) name read (inl h) = (0, omega arith, ap Some (named_here f r name read.0 h))
+named_among (f ∷ fs) (r ∷ rs) name read (inr h) =
+    let behind = named_among fs rs name read.1 h in
+    (suc behind.0, omega (arith, behind.1), behind.2)
 
--- the keys of the only circuit are there
-pub one_has_keys : (relays : List (Field RelayKeys)) (circuits : List (Field CircuitKeys)) (keys : CircuitKeys) → circuits ≡ Value keys ∷ [] → AllThere (HasCircuitKeys relays) circuits → HasCircuitKeys relays keys
-one_has_keys relays circuits keys e h = (subst (AllThere (HasCircuitKeys relays)) e h).0
-
--- one table reads as one value
-only_reads_field : {A B : Type 0} (P : A → B → Type 0) (g : Members → A) (f : Field Members) (keys : Members) (x : B) → f ≡ Value keys → P (g keys) x → HasValue (field_map g f) (λ a. P a x)
-only_reads_field P g f keys x e h = subst (λ q. HasValue (field_map g q) (λ a. P a x)) (sym e) h
-
-pub only_reads : {A B : Type 0} (P : A → B → Type 0) (g : Members → A) (items : Items) (keys : Members) (x : B) → each table_of items ≡ Value keys ∷ [] → P (g keys) x → EachReads P (each (λ d. field_map g (table_of d)) items) (x ∷ [])
-only_reads P g no_items keys x e h = absurd (cc)
-only_reads P g (item d no_items) keys x e h = (only_reads_field P g (table_of (Some d)) keys x (cc) h, tt)
-only_reads P g (item d (item d2 ds)) keys x e h = absurd (cc)
+pub behind_some : (names : List (Field RelayKeys)) (relays : List RelayConfig) (f : Field (List ℕ)) → EachReads IsRelay names relays → HasValue f (IsRelayName names) → (index : ℕ) × (index < length relays) × HasValue f (IsNameAt relays index)
+behind_some names relays Missing read h = absurd h
+behind_some names relays Other read h = absurd h
+behind_some names relays (Value name) read h = named_among names relays name read h
 
 index_in_field : (relays : List RelayConfig) (f : Field (List ℕ)) (index : ℕ) → HasValue f (IsNameAt relays index) → index < length relays
 index_in_field relays Missing index h = absurd h
@@ -127,3 +176,43 @@ relay_within_limits keys relay h = record {
   least_port = least_port keys.source relay.source h.source;
   most_port = most_port keys.source relay.source h.source;
 }
+
+-- what follows from each reading holds of each value
+all_read : {A B : Type 0} (P : A → B → Type 0) (Q : B → Type 0) → ((a : A) (b : B) → P a b → Q b) → (fs : List (Field A)) (bs : List B) → EachReads P fs bs → All Q bs
+all_read P Q so [] [] h k d inside = absurd (omega (arith, inside))
+all_read P Q so [] (b ∷ bs) h k d inside = absurd h
+all_read P Q so (f ∷ fs) [] h k d inside = absurd h
+all_read P Q so (f ∷ fs) (b ∷ bs) h zero d inside = spelled_so f P Q b (λ a p. so a b p) h.0
+all_read P Q so (f ∷ fs) (b ∷ bs) h (suc k) d inside = all_read P Q so fs bs h.1 k d (omega (arith, inside))
+
+pub all_relays_within : (fs : List (Field RelayKeys)) (relays : List RelayConfig) → EachReads IsRelay fs relays → All IsRelayWithinLimits relays
+all_relays_within fs relays h = all_read IsRelay IsRelayWithinLimits relay_within_limits fs relays h
+
+pub all_circuits_within : (relays : List RelayConfig) (fs : List (Field CircuitKeys)) (circuits : List CircuitConfig) → EachReads (IsCircuit relays) fs circuits → All (IsWithinLimits relays) circuits
+all_circuits_within relays fs circuits h = all_read (IsCircuit relays) (IsWithinLimits relays) (within_limits relays) fs circuits h
+
+-- a fault of the values of a text is a fault of the text
+pub unread_is_fault : (text : List ℕ) (doc : Members) (t : Tables) (fault : ConfigFault) → parse_document text ≡ Some doc → tables_of doc ≡ t → HasAll (tables_of doc) → IsUnread t fault → IsFaultOf text fault
+unread_is_fault text doc t Memory parsed same all h = tt
+unread_is_fault text doc t (Limit limit) parsed same all h = (doc, parsed, record { all = all; broken = subst (λ x. IsUnfit x limit) (sym same) h })
+unread_is_fault text doc t (Text error) parsed same all h = absurd h
+unread_is_fault text doc t (Lacking location) parsed same all h = absurd h
+unread_is_fault text doc t (IdTwice same_name) parsed same all h = absurd h
+unread_is_fault text doc t (RegionTwice a b) parsed same all h = absurd h
+unread_is_fault text doc t (Overlap4 a b) parsed same all h = absurd h
+unread_is_fault text doc t (Overlap6 a b) parsed same all h = absurd h
+unread_is_fault text doc t (GatewayInPool a key b) parsed same all h = absurd h
+unread_is_fault text doc t (OffSubnet a key) parsed same all h = absurd h
+
+-- and so is a broken rule of the settings
+pub broken_is_fault : (text : List ℕ) (doc : Members) (t : Tables) (s : Settings) (fault : ConfigFault) → parse_document text ≡ Some doc → tables_of doc ≡ t → HasAll (tables_of doc) → IsRead t s → IsLeastRule s fault → IsFaultOf text fault
+broken_is_fault text doc t s Memory parsed same all read h = absurd h
+broken_is_fault text doc t s (Text error) parsed same all read h = absurd h
+broken_is_fault text doc t s (Lacking location) parsed same all read h = absurd h
+broken_is_fault text doc t s (Limit limit) parsed same all read h = absurd h
+broken_is_fault text doc t s (IdTwice pair) parsed same all read h = (doc, parsed, record { settings = s; all = all; read = subst (λ x. IsRead x s) (sym same) read; broken = h })
+broken_is_fault text doc t s (RegionTwice a b) parsed same all read h = (doc, parsed, record { settings = s; all = all; read = subst (λ x. IsRead x s) (sym same) read; broken = h })
+broken_is_fault text doc t s (Overlap4 a b) parsed same all read h = (doc, parsed, record { settings = s; all = all; read = subst (λ x. IsRead x s) (sym same) read; broken = h })
+broken_is_fault text doc t s (Overlap6 a b) parsed same all read h = (doc, parsed, record { settings = s; all = all; read = subst (λ x. IsRead x s) (sym same) read; broken = h })
+broken_is_fault text doc t s (GatewayInPool a key b) parsed same all read h = (doc, parsed, record { settings = s; all = all; read = subst (λ x. IsRead x s) (sym same) read; broken = h })
+broken_is_fault text doc t s (OffSubnet a key) parsed same all read h = (doc, parsed, record { settings = s; all = all; read = subst (λ x. IsRead x s) (sym same) read; broken = h })

@@ -1,5 +1,5 @@
 -- What a fault points at: the entries, keys and values that break its rule.
-use Rattle.std.specs.Prelude.{◌≡◌, ◌≢◌, ℕ, ℤ, ◌+◌, ◌-◌, ◌^◌, ◌/◌, ◌≤◌, ◌<◌, List, length, slice_get, Some, IfSome, ⊤}
+use Rattle.std.specs.Prelude.{◌≡◌, ◌≢◌, ◌⊎◌, ℕ, ℤ, ◌+◌, ◌-◌, ◌^◌, ◌/◌, ◌≤◌, ◌<◌, List, length, slice_get, Some, IfSome, ⊤}
 use Rattle.types.specs.Addr.{number4, number6}
 use Rattle.types.specs.declared.addr.Addr4.{Addr4}
 use Rattle.types.specs.declared.addr.Addr6.{Addr6}
@@ -134,9 +134,8 @@ IsCircuitUnfit keys (Form key) = ⊥
 
 -- The value or the number of entries that the fault names is outside its limits.
 abbrev pub IsUnfit : Tables → LimitFault → Type 0
--- for now one relay and one circuit are read
-IsUnfit t (Relays n) = HasValue t.relays (λ entries. (length entries ≡ n) × (n ≢ 1))
-IsUnfit t (Circuits n) = HasValue t.circuits (λ entries. (length entries ≡ n) × (n ≢ 1))
+IsUnfit t (Relays n) = HasValue t.relays (λ entries. (length entries ≡ n) × ((n < 1) ⊎ (8 < n)))
+IsUnfit t (Circuits n) = HasValue t.circuits (λ entries. (length entries ≡ n) × ((n < 1) ⊎ (1024 < n)))
 IsUnfit t (Server key) = HasValue t.server (λ keys. IsServerUnfit keys key)
 IsUnfit t (Relay number key) = HasValue t.relays (λ entries. (keys : RelayKeys) × IsEntry entries number (Value keys) × IsRelayUnfit keys key)
 IsUnfit t (Circuit circuit limit) = HasValue t.circuits (λ entries. (keys : CircuitKeys) × IsEntryOf entries circuit (Value keys) × IsCircuitUnfit keys limit)

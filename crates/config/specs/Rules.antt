@@ -1,5 +1,5 @@
 -- The rules about a configuration's values, for any number of relays and circuits.
-use Rattle.std.specs.Prelude.{◌≡◌, ◌≢◌, ℕ, ◌+◌, ◌-◌, ◌/◌, ◌%◌, ◌^◌, ◌≤◌, ◌<◌, List, [], ◌∷◌, length, slice_get, option_map, Some, All, AllPairs}
+use Rattle.std.specs.Prelude.{◌≡◌, ◌≢◌, ℕ, ◌+◌, ◌-◌, ◌/◌, ◌%◌, ◌^◌, ◌≤◌, ◌<◌, List, length, slice_get, option_map, Some, All, AllPairs}
 use Rattle.types.specs.Addr.{number4, number6}
 use Rattle.types.specs.CircuitId.{IsCircuitId}
 use Rattle.types.specs.Pool4.{IsPool4}
@@ -12,10 +12,6 @@ pub record Settings : Type 0 where
   pub server : ServerConfig
   pub relays : List RelayConfig
   pub circuits : List CircuitConfig
-
--- one relay and one circuit
-abbrev pub one_each : ServerConfig → RelayConfig → CircuitConfig → Settings
-one_each server relay circuit = record { server = server; relays = relay ∷ []; circuits = circuit ∷ [] }
 
 -- the addresses of a circuit's pools, as numbers
 pub record IsInPool4 (circuit : CircuitConfig) (n : ℕ) : Type 0 where
@@ -109,11 +105,10 @@ pub record KeepsRules (settings : Settings) : Type 0 where
 
 -- what holds of every configuration that was read
 pub record IsSound (settings : Settings) : Type 0 where
+  pub some_relay : 1 ≤ length settings.relays
   pub relays : length settings.relays ≤ 8
-  pub circuits : length settings.circuits ≤ 1024
   pub some_circuit : 1 ≤ length settings.circuits
-  -- for now no more are read
-  pub few_circuits : length settings.circuits ≤ 1
+  pub circuits : length settings.circuits ≤ 1024
   pub server : IsServerWithinLimits settings.server
   pub each_relay : All IsRelayWithinLimits settings.relays
   pub limits : All (IsWithinLimits settings.relays) settings.circuits

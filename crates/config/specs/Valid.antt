@@ -24,11 +24,10 @@ pub record IsRead (tables : Tables) (settings : Settings) : Type 0 where
   pub server : HasValue tables.server (λ keys. IsServer keys settings.server)
   pub relays : HasValue tables.relays (λ entries. EachReads IsRelay entries settings.relays)
   pub some_relay : 1 ≤ length settings.relays
-  -- for now one relay and one circuit are read
-  pub few_relays : length settings.relays ≤ 1
+  pub few_relays : length settings.relays ≤ 8
   pub circuits : HasValue tables.circuits (λ entries. EachReads (IsCircuit settings.relays) entries settings.circuits)
   pub some_circuit : 1 ≤ length settings.circuits
-  pub few_circuits : length settings.circuits ≤ 1
+  pub few_circuits : length settings.circuits ≤ 1024
 
 -- no rule is broken, and these are the values
 pub record IsValid (tables : Tables) (settings : Settings) : Type 0 where
@@ -66,6 +65,13 @@ pub record BreaksRule (tables : Tables) (fault : ConfigFault) : Type 0 where
 pub record BreaksLimit (tables : Tables) (fault : LimitFault) : Type 0 where
   pub all : HasAll tables
   pub broken : IsUnfit tables fault
+
+-- No values are read: the fault names one outside its limits, or memory was refused, which says nothing
+-- of the tables.
+abbrev pub IsUnread : Tables → ConfigFault → Type 0
+IsUnread tables Memory = ⊤
+IsUnread tables (Limit limit) = IsUnfit tables limit
+IsUnread tables fault = ⊥
 
 -- the fault is the least rule that the tables break
 abbrev pub IsLeastBroken : Tables → ConfigFault → Type 0

@@ -1,19 +1,18 @@
 //! A configuration that keeps every rule.
-ghost use Rattle.std.specs.Prelude.{◌≡◌, ◌<◌, ◌≤◌, ◌↔◌, [], ◌∷◌, length, IsSome, IfOk, IfErr, IfSome, IfNone, slice_get, ℕ, Some};
+ghost use Rattle.std.specs.Prelude.{◌≡◌, ◌<◌, ◌≤◌, length, All, IsSome, IfOk, IfErr, IfSome, IfNone, slice_get, ℕ, Some};
 ghost use Rattle.toml.specs.Parse.{parse_document};
 ghost use Rattle.toml.specs.View.{table_view};
 ghost use Rattle.types.specs.declared.limits.TheConstants.{MAX_RELAYS, MAX_CIRCUITS};
 ghost use Rattle.config.specs.Fault.{number_of};
-ghost use Rattle.config.specs.Rules.{IsSound, IsServerWithinLimits, IsRelayWithinLimits, IsWithinLimits, IsIdAt, KeepsRules, one_each};
+ghost use Rattle.config.specs.Rules.{IsSound, IsServerWithinLimits, IsRelayWithinLimits, IsWithinLimits, IsIdAt, KeepsRules};
 ghost use Rattle.config.specs.Valid.{IsConfig, IsFaultOf};
 
 use crate::fault::ConfigFault;
 use crate::reading::{Values, tables_in, values_in};
 use crate::rules::rules;
 use crate::settings::{CircuitConfig, RelayConfig, ServerConfig};
-use std::alloc::{AllocError, Global};
+use std::alloc::Global;
 use std::marker::Model;
-use std::slice;
 use toml::Table;
 use types::{Circuit, CircuitId, RelayNo};
 
@@ -66,23 +65,23 @@ fn index_of(circuits: &[CircuitConfig], id: &CircuitId) -> Option<usize>
 }
 
 impl Config {
-    /// The configuration of values that keep the rules; an error where memory is refused.
-    fn of(alloc: Global, values: Values) -> Result<Config, AllocError>
+    /// The configuration of values that keep the rules.
+    fn of(values: Values) -> Config
         requires server { IsServerWithinLimits values.server }
-        requires relay { IsRelayWithinLimits values.relay }
-        requires limits { IsWithinLimits (values.relay ∷ []) values.circuit }
-        requires rules { KeepsRules (one_each values.server values.relay values.circuit) }
-        ensures { IfOk result (λ config. config ≡ one_each values.server values.relay values.circuit) }
+        requires some_relay { 1 ≤ length values.relays.items }
+        requires few_relays { length values.relays.items ≤ 8 }
+        requires relays { All IsRelayWithinLimits values.relays.items }
+        requires some_circuit { 1 ≤ length values.circuits.items }
+        requires few_circuits { length values.circuits.items ≤ 1024 }
+        requires circuits { All (IsWithinLimits values.relays.items) values.circuits.items }
+        requires rules { KeepsRules (record { server = values.server; relays = values.relays.items; circuits = values.circuits.items }) }
+        ensures { result ≡ record { server = values.server; relays = values.relays.items; circuits = values.circuits.items } }
     {
-        let mut relays = Vec::new(alloc);
-        relays.push(values.relay)?;
-        let mut circuits = Vec::new(alloc);
-        circuits.push(values.circuit)?;
-        Ok(Config {
+        Config {
             server: values.server,
-            relays,
-            circuits,
-        })
+            relays: values.relays,
+            circuits: values.circuits,
+        }
     }
 
     /// The configuration that a text is.
@@ -98,21 +97,14 @@ impl Config {
             Ok(tables) => tables,
             Err(location) => return Err(ConfigFault::Missing(location)),
         };
-        let values = match values_in(tables.server, tables.relays, tables.circuits) {
+        let values = match values_in(alloc, tables.server, tables.relays, tables.circuits) {
             Ok(values) => values,
-            Err(limit) => return Err(ConfigFault::Limit(limit)),
+            Err(fault) => return Err(fault),
         };
-        if let Err(fault) = rules(
-            &values.server,
-            slice::from_ref(&values.relay),
-            slice::from_ref(&values.circuit),
-        ) {
+        if let Err(fault) = rules(&values.server, &values.relays, &values.circuits) {
             return Err(fault);
         }
-        match Config::of(alloc, values) {
-            Ok(config) => Ok(config),
-            Err(_) => Err(ConfigFault::Memory),
-        }
+        Ok(Config::of(values))
     }
 
     pub fn server(&self) -> &ServerConfig

@@ -11,6 +11,8 @@ mod limit_fault;
 mod limits;
 mod lists;
 mod lookup;
+#[cfg(test)]
+mod many_tests;
 mod names;
 mod pairs;
 mod pools;

@@ -27,9 +27,9 @@ pub enum CircuitLimit {
 /// from 1.
 #[derive(Debug, PartialEq, Eq, Drop)]
 pub enum LimitFault {
-    /// So many relays.
+    /// So many relays, and not 1 to 8.
     Relays(usize),
-    /// So many circuits.
+    /// So many circuits, and not 1 to 1024.
     Circuits(usize),
     Server(ServerKey),
     Relay(usize, RelayKey),
@@ -77,16 +77,10 @@ impl fmt::Display for LimitFault {
     fn fmt<W: fmt::Write>(&self, f: &mut fmt::Formatter<W>) -> fmt::Result {
         match self {
             LimitFault::Relays(count) => {
-                write!(
-                    f,
-                    "the number of relays is {count}: for now a configuration has 1"
-                )
+                write!(f, "the number of relays, {count}, is outside 1 to 8")
             }
             LimitFault::Circuits(count) => {
-                write!(
-                    f,
-                    "the number of circuits is {count}: for now a configuration has 1"
-                )
+                write!(f, "the number of circuits, {count}, is outside 1 to 1024")
             }
             LimitFault::Server(key) => {
                 let form = server_form(*key);

@@ -1,23 +1,26 @@
-//! From a text's tables to the values of one relay and one circuit.
-ghost use Rattle.std.specs.Prelude.{◌≡◌, ◌≢◌, [], ◌∷◌, length, codes, IfOk, IfErr, IfSome, IfNone, ⊤};
-ghost use Rattle.toml.specs.View.{items_view, table_view};
-ghost use Rattle.config.specs.Field.{Value as Told, table_of, table_at, list_at, each};
-ghost use Rattle.config.specs.Broken.{IsMissing, IsUnfit};
-ghost use Rattle.config.specs.Keys.{AllThere, HasAll};
-ghost use Rattle.config.specs.Rules.{IsServerWithinLimits, IsRelayWithinLimits, IsWithinLimits, one_each};
-ghost use Rattle.config.specs.Tables.{circuit_keys, tables_of, found_tables};
-ghost use Rattle.config.specs.Valid.{IsRead};
+//! From a text's tables to the values of its relays and circuits.
+ghost use Rattle.std.specs.Prelude.{◌≡◌, ◌≤◌, List, length, All, Some, IfOk, IfErr};
+ghost use Rattle.toml.specs.Data.{Items, Members};
+ghost use Rattle.toml.specs.View.{view, items_view, table_view};
+ghost use Rattle.types.specs.declared.limits.TheConstants.{MAX_RELAYS, MAX_CIRCUITS};
+ghost use Rattle.config.specs.Field.{Field, HasValue, each};
+ghost use Rattle.config.specs.Broken.{IsMissing, IsRelayUnfit, IsCircuitUnfit};
+ghost use Rattle.config.specs.Keys.{AllThere, HasAll, HasRelayKeys, HasCircuitKeys};
+ghost use Rattle.config.specs.Rules.{IsServerWithinLimits, IsRelayWithinLimits, IsWithinLimits};
+ghost use Rattle.config.specs.Tables.{RelayKeys, relay_entry, circuit_entry, tables_of, found_tables};
+ghost use Rattle.config.specs.Valid.{EachReads, IsRead, IsUnread};
+ghost use Rattle.config.specs.Values.{IsRelay, IsCircuit};
 
 use crate::entries::{circuit_of, relay_of, server_of};
-use crate::fault::Location;
-use crate::keys::{circuits_lack, relays_lack, server_lacks};
-use crate::limit_fault::LimitFault;
+use crate::fault::{ConfigFault, Location};
+use crate::keys::{circuits_lack, entry_id, relays_lack, server_lacks};
+use crate::limit_fault::{CircuitLimit, LimitFault};
 use crate::lookup::{list_at, table_at};
-use crate::names::{CircuitRef, TableName};
+use crate::names::{CircuitRef, RelayKey, TableName};
 use crate::settings::{CircuitConfig, RelayConfig, ServerConfig};
-use crate::values::id_at;
-use std::slice;
+use std::alloc::Global;
 use toml::{Table, Value};
+use types::{MAX_CIRCUITS, MAX_RELAYS};
 
 /// The tables of a text, which have every key.
 #[derive(Clone, Copy)]
@@ -60,67 +63,133 @@ pub fn tables_in<'a>(doc: &'a Table) -> Result<TextTables<'a>, Location>
     })
 }
 
-/// The only entry, where there is one. Each is a table.
-fn only_table(entries: &[Value]) -> Option<&Table>
-    requires { AllThere (λ _. ⊤) (each table_of (items_view entries.now)) }
-    ensures some { IfSome result (λ t. each table_of (items_view entries.now) ≡ Told (table_view t.now) ∷ []) }
-    ensures none { IfNone result (length entries.now ≢ 1) }
-{
-    if entries.len() != 1 {
-        return None;
-    }
-    entries[0].as_table()
-}
-
-/// The values of the server, of one relay and of one circuit.
+/// The values of the server, the relays and the circuits.
 #[derive(Drop)]
 pub struct Values {
     pub server: ServerConfig,
-    pub relay: RelayConfig,
-    pub circuit: CircuitConfig,
+    pub relays: Vec<RelayConfig>,
+    pub circuits: Vec<CircuitConfig>,
 }
 
-/// The reference to a circuit of the text by its number, with its id where that can be read.
-fn named(number: usize, circuit: &Table) -> CircuitRef
-    ensures number { result.number ≡ number }
-    ensures id { IfSome result.id (λ id. (circuit_keys (table_view circuit.now)).id ≡ Told id) }
+/// The values of an entry of the list of relays, or a key whose value is not of its form.
+fn relay_in(entry: &Value) -> Result<RelayConfig, RelayKey>
+    requires { HasValue (relay_entry (Some (view entry.now))) HasRelayKeys }
+    ensures ok { IfOk result (λ relay. HasValue (relay_entry (Some (view entry.now))) (λ keys. IsRelay keys relay)) }
+    ensures err { IfErr result (λ key. HasValue (relay_entry (Some (view entry.now))) (λ keys. IsRelayUnfit keys key)) }
 {
-    CircuitRef {
-        number,
-        id: id_at(circuit, "id"),
+    match entry.as_table() {
+        Some(relay) => relay_of(relay),
+        None => unreachable!(),
     }
 }
 
-/// The values of tables with one relay and one circuit, or the one that is outside its limits.
-pub fn values_in(server: &Table, relays: &[Value], circuits: &[Value]) -> Result<Values, LimitFault>
+/// The values of an entry of the list of circuits, or what is wrong with one of them.
+fn circuit_in(entry: &Value, relays: &[RelayConfig]) -> Result<CircuitConfig, CircuitLimit>
+    requires few { length relays.now ≤ 8 }
+    requires keys { (names : List (Field RelayKeys)) × EachReads IsRelay names relays.now × HasValue (circuit_entry (Some (view entry.now))) (HasCircuitKeys names) }
+    ensures ok { IfOk result (λ circuit. HasValue (circuit_entry (Some (view entry.now))) (λ keys. IsCircuit relays.now keys circuit)) }
+    ensures err { IfErr result (λ limit. HasValue (circuit_entry (Some (view entry.now))) (λ keys. IsCircuitUnfit keys limit)) }
+{
+    match entry.as_table() {
+        Some(circuit) => circuit_of(circuit, relays),
+        None => unreachable!(),
+    }
+}
+
+/// The values of each relay, in order, or the first relay that has one outside its limits.
+fn relays_in(alloc: Global, entries: &[Value]) -> Result<Vec<RelayConfig>, ConfigFault>
+    requires { AllThere HasRelayKeys (each relay_entry (items_view entries.now)) }
+    ensures read { IfOk result (λ relays. EachReads IsRelay (each relay_entry (items_view entries.now)) relays.items) }
+    ensures some { IfOk result (λ relays. 1 ≤ length relays.items) }
+    ensures few { IfOk result (λ relays. length relays.items ≤ 8) }
+    ensures unread { IfErr result (λ fault. (server : Members) (circuits : Items) → IsUnread (found_tables server (items_view entries.now) circuits) fault) }
+{
+    let count = entries.len();
+    if count < 1 || MAX_RELAYS < count {
+        return Err(ConfigFault::Limit(LimitFault::Relays(count)));
+    }
+    let Ok(mut relays) = Vec::with_capacity(alloc, count) else {
+        return Err(ConfigFault::Memory);
+    };
+    for (i, entry) in entries.iter().enumerate() {
+        let relay = match relay_in(entry) {
+            Ok(relay) => relay,
+            Err(key) => return Err(ConfigFault::Limit(LimitFault::Relay(i + 1, key))),
+        };
+        if relays.push(relay).is_err() {
+            return Err(ConfigFault::Memory);
+        }
+    }
+    Ok(relays)
+}
+
+/// The values of each circuit, in order, or the first circuit that has one outside its limits.
+fn circuits_in(
+    alloc: Global,
+    entries: &[Value],
+    relays: &[RelayConfig],
+) -> Result<Vec<CircuitConfig>, ConfigFault>
+    requires few { length relays.now ≤ 8 }
+    requires keys { (names : List (Field RelayKeys)) × EachReads IsRelay names relays.now × AllThere (HasCircuitKeys names) (each circuit_entry (items_view entries.now)) }
+    ensures read { IfOk result (λ circuits. EachReads (IsCircuit relays.now) (each circuit_entry (items_view entries.now)) circuits.items) }
+    ensures some { IfOk result (λ circuits. 1 ≤ length circuits.items) }
+    ensures few { IfOk result (λ circuits. length circuits.items ≤ 1024) }
+    ensures unread { IfErr result (λ fault. (server : Members) (names : Items) → IsUnread (found_tables server names (items_view entries.now)) fault) }
+{
+    let count = entries.len();
+    if count < 1 || MAX_CIRCUITS < count {
+        return Err(ConfigFault::Limit(LimitFault::Circuits(count)));
+    }
+    let Ok(mut circuits) = Vec::with_capacity(alloc, count) else {
+        return Err(ConfigFault::Memory);
+    };
+    for (i, entry) in entries.iter().enumerate() {
+        let circuit = match circuit_in(entry, relays) {
+            Ok(circuit) => circuit,
+            Err(limit) => {
+                let number = i + 1;
+                let id = entry_id(entry);
+                let circuit = CircuitRef { number, id };
+                return Err(ConfigFault::Limit(LimitFault::Circuit(circuit, limit)));
+            }
+        };
+        if circuits.push(circuit).is_err() {
+            return Err(ConfigFault::Memory);
+        }
+    }
+    Ok(circuits)
+}
+
+/// The values of tables that have every key, or the first fault: a value or a number of entries outside
+/// its limits, or out of memory.
+pub fn values_in(
+    alloc: Global,
+    server: &Table,
+    relays: &[Value],
+    circuits: &[Value],
+) -> Result<Values, ConfigFault>
     requires { HasAll (found_tables (table_view server.now) (items_view relays.now) (items_view circuits.now)) }
-    ensures read { IfOk result (λ v. IsRead (found_tables (table_view server.now) (items_view relays.now) (items_view circuits.now)) (one_each v.server v.relay v.circuit)) }
+    ensures read { IfOk result (λ v. IsRead (found_tables (table_view server.now) (items_view relays.now) (items_view circuits.now)) (record { server = v.server; relays = v.relays.items; circuits = v.circuits.items })) }
     ensures server { IfOk result (λ v. IsServerWithinLimits v.server) }
-    ensures relay { IfOk result (λ v. IsRelayWithinLimits v.relay) }
-    ensures limits { IfOk result (λ v. IsWithinLimits (v.relay ∷ []) v.circuit) }
-    ensures broken { IfErr result (IsUnfit (found_tables (table_view server.now) (items_view relays.now) (items_view circuits.now))) }
+    ensures relays { IfOk result (λ v. All IsRelayWithinLimits v.relays.items) }
+    ensures circuits { IfOk result (λ v. All (IsWithinLimits v.relays.items) v.circuits.items) }
+    ensures unread { IfErr result (IsUnread (found_tables (table_view server.now) (items_view relays.now) (items_view circuits.now))) }
 {
     let server = match server_of(server) {
         Ok(server) => server,
-        Err(key) => return Err(LimitFault::Server(key)),
+        Err(key) => return Err(ConfigFault::Limit(LimitFault::Server(key))),
     };
-    let Some(relay_table) = only_table(relays) else {
-        return Err(LimitFault::Relays(relays.len()));
+    let relays = match relays_in(alloc, relays) {
+        Ok(relays) => relays,
+        Err(fault) => return Err(fault),
     };
-    let relay = match relay_of(relay_table) {
-        Ok(relay) => relay,
-        Err(key) => return Err(LimitFault::Relay(1, key)),
-    };
-    let Some(circuit_table) = only_table(circuits) else {
-        return Err(LimitFault::Circuits(circuits.len()));
-    };
-    let circuit = match circuit_of(circuit_table, slice::from_ref(&relay)) {
-        Ok(circuit) => circuit,
-        Err(limit) => return Err(LimitFault::Circuit(named(1, circuit_table), limit)),
+    let circuits = match circuits_in(alloc, circuits, &relays) {
+        Ok(circuits) => circuits,
+        Err(fault) => return Err(fault),
     };
     Ok(Values {
         server,
-        relay,
-        circuit,
+        relays,
+        circuits,
     })
 }
