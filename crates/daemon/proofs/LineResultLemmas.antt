@@ -1,7 +1,8 @@
 -- A step of the world as the result of a line.
-use Rattle.std.proofs.Common.{◌≡◌, ℕ, ◌<◌, ◌≤◌, Bool, true, false, cond, eqb, eqb-true, eq-eqb, le-ltb, lt-ltb, List, length, refl, ap, sym, subst, ◌∙◌}
+use Rattle.std.proofs.Common.{◌≡◌, ℕ, ◌<◌, ◌≤◌, Bool, true, false, cond, eqb, eqb-true, eq-eqb, le-ltb, lt-ltb, List, [], length, refl, ap, sym, subst, ◌∙◌, arith}
 use Rattle.std.specs.Prelude.{Option, Some, None, IfSome, slice_get, option_map}
 use Rattle.std.specs.Io.KnownBytes.{Appends}
+use Rattle.std.proofs.lemmas.List.{length-map}
 use Rattle.std.proofs.lemmas.Option.{same_Some, slice_get-map}
 use Rattle.config.specs.Rules.{Settings}
 use Rattle.config.specs.declared.settings.CircuitConfig.{CircuitConfig}
@@ -13,7 +14,11 @@ use Rattle.world.specs.declared.event.Event.{Event}
 use Rattle.world.specs.declared.event.Event.TheVariants as event
 use Rattle.world.specs.declared.outcome.Outcome.{Outcome}
 use Rattle.world.specs.declared.outcome.Outcome.TheVariants as outcome
-use Rattle.world.specs.Stray.{is_stray}
+use Rattle.world.specs.Stray.{is_stray, stray_up_outcome, stray_down_outcome}
+use Rattle.relay.specs.Relays.{Topology, topology_of, is_relay, is_server}
+use Rattle.config.specs.declared.settings.RelayConfig.{RelayConfig}
+use Rattle.types.specs.declared.addr.Source.{Source}
+use Rattle.types.specs.declared.discard.Discard.TheVariants.{UnknownSource, NotServer}
 use Rattle.types.specs.declared.discard.Discard.{Discard}
 use Rattle.daemon.specs.Lab.{part_result, line_result, moved, ticked}
 use Rattle.daemon.specs.Line.{Bad, Stray, line_of_text, short_line}
@@ -130,6 +135,20 @@ pub stray_not_written : (settings : Settings) (quota number : ℕ) (why : Discar
     → Follows settings quota number (line_result settings quota machines (Stray why)) states held holds (Some 6)
 stray_not_written settings quota number why machines states expected o out held holds h is written =
     (refl, subst (λ v. AppendsPrefix held holds (with_newline (effect_text [] (outcome_effect v out)))) (stray_is expected o why h is) written)
+
+-- what comes of a stray whose source is not one of the configuration
+pub stray_up_known : (t : Topology) (settings : Settings) (source : Source) → t ≡ topology_of settings → is_relay (topology_of settings) source ≡ false
+    → Some (stray_up_outcome t source) ≡ Some (outcome.Dropped UnknownSource)
+stray_up_known t settings source knows apart =
+    ap (λ u. Some (stray_up_outcome u source)) knows ∙ ap (λ b. Some (cond b outcome.NotAStray (outcome.Dropped UnknownSource))) apart
+
+pub stray_down_known : (t : Topology) (settings : Settings) (relay : ℕ) (source : Source) → t ≡ topology_of settings → relay < length settings.relays → is_server (topology_of settings) source ≡ false
+    → Some (stray_down_outcome t relay source) ≡ Some (outcome.Dropped NotServer)
+stray_down_known t settings relay source knows there apart =
+    let within : relay < length (topology_of settings).relays = omega (arith, there, length-map settings.relays (λ r. r.source)) in
+    ap (λ u. Some (stray_down_outcome u relay source)) knows
+    ∙ ap (λ b. Some (cond b (cond (is_server (topology_of settings) source) outcome.NotAStray (outcome.Dropped NotServer)) outcome.Gone)) (lt-ltb relay (length (topology_of settings).relays) within)
+    ∙ ap (λ b. Some (cond b outcome.NotAStray (outcome.Dropped NotServer))) apart
 
 -- a line that is short enough
 pub short_is : (settings : Settings) (line : List ℕ) → length line ≤ 8192 → short_line settings line ≡ line_of_text settings line

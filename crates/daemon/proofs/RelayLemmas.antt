@@ -1,6 +1,6 @@
 -- The first relay with a name, and whether one has a source, found by a walk.
 use Rattle.std.proofs.Common.{◌≡◌, ℕ, zero, suc, ◌+◌, ◌<◌, ◌≤◌, Bool, true, false, cond, List, [], ◌∷◌, length, drop, drop-cons, get_or, refl, ap, sym, ◌∙◌, arith}
-use Rattle.std.specs.Prelude.{Option, Some, None, map, position, slice_get}
+use Rattle.std.specs.Prelude.{◌||◌, Option, Some, None, map, position, slice_get}
 use Rattle.std.specs.List.{list_any, position_from}
 use Rattle.std.proofs.lemmas.Iterator.Adapters.{position_from-zero}
 use Rattle.std.proofs.lemmas.Option.{same_Some, slice_get_within, slice_get-get_or}
@@ -34,8 +34,8 @@ module _ {A : Type 0} (p : A → Bool) (xs : List A) where
   pub found_here : (i : ℕ) (x : A) → slice_get xs i ≡ Some x → p x ≡ true → LacksBefore i → position p xs ≡ Some i
   found_here i x there is so_far = at_one i x true there is so_far
 
-  any_one : (i : ℕ) (x : A) (t : Bool) → slice_get xs i ≡ Some x → p x ≡ t → NoneBefore i → list_any p xs ≡ cond t true (list_any p (drop (suc i) xs))
-  any_one i x t there is so_far = so_far ∙ ap (list_any p) (from_here i x there) ∙ ap (λ b. cond b true (list_any p (drop (suc i) xs))) is
+  any_one : (i : ℕ) (x : A) (t : Bool) → slice_get xs i ≡ Some x → p x ≡ t → NoneBefore i → list_any p xs ≡ (t || list_any p (drop (suc i) xs))
+  any_one i x t there is so_far = so_far ∙ ap (list_any p) (from_here i x there) ∙ ap (λ b. b || list_any p (drop (suc i) xs)) is
 
   pub none_one_more : (i : ℕ) (x : A) → slice_get xs i ≡ Some x → p x ≡ false → NoneBefore i → NoneBefore (i + 1)
   none_one_more i x there is so_far =
@@ -59,4 +59,4 @@ none_of_all p xs i past so_far = so_far ∙ ap (list_any p) (drop_past xs i past
 
 pub any_of_map : {A B : Type 0} (p : B → Bool) (f : A → B) (xs : List A) → list_any p (map f xs) ≡ list_any (λ x. p (f x)) xs
 any_of_map p f [] = refl
-any_of_map p f (x ∷ xs) = ap (λ t. cond (p (f x)) true t) (any_of_map p f xs)
+any_of_map p f (x ∷ xs) = ap (λ t. p (f x) || t) (any_of_map p f xs)
