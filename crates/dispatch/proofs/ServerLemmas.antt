@@ -1,6 +1,6 @@
 -- Lists of circuits' servers.
-use Rattle.std.proofs.Common.{◌≡◌, ℕ, suc, ◌+◌, ◌<◌, Bool, not, cond, List, [], ◌∷◌, ◌++◌, map, length, take, drop, get_or, set, refl, sym, ap, ◌∙◌, arith, append_assoc}
-use Rattle.std.specs.List.{position, position_or_len}
+use Rattle.std.proofs.Common.{◌≡◌, ℕ, zero, suc, ◌+◌, ◌<◌, Bool, not, cond, List, [], ◌∷◌, ◌++◌, map, length, take, drop, get_or, set, refl, sym, ap, ◌∙◌, arith, append_assoc}
+use Rattle.std.specs.List.{All, position, position_or_len}
 use Rattle.std.proofs.lemmas.List.{length-map, length-take-le, map-append, map-set, get_or-map, take_more}
 use Rattle.std.proofs.Math.Seq.{drop-cons, get_or-append_seam, set-append_seam, map-set_same}
 
@@ -48,3 +48,7 @@ module _ {A B : Type 0} (f : A → B) (t : B → B) (old : List B) (xs : List A)
 -- An element is changed, and f of it is not.
 pub same_seen : {A B : Type 0} (f : A → B) (xs : List A) (i : ℕ) (x y : A) → f y ≡ f (get_or xs i x) → map f (set xs i y) ≡ map f xs
 same_seen f xs i x y same = map-set_same f xs i y x same
+
+pub all_one : {X : Type 0} (P : X → Type 0) (x : X) → P x → All P (x ∷ [])
+all_one P x h zero d inside = h
+all_one P x h (suc k) d inside = absurd (omega (arith, inside))
