@@ -1,10 +1,10 @@
 -- Bytes that are read ahead of the lines.
-use Rattle.std.proofs.Common.{◌≡◌, ℕ, zero, suc, ◌+◌, ◌-◌, ◌<◌, ◌≤◌, true, false, nat_lt, List, [], ◌∷◌, ◌++◌, length, take, drop, slice_range, get_or, refl, ap, sym, subst, ◌∙◌, arith, add-one, append_assoc, append-nil, eq-eqb, eqb-true, ltb-false, take-append-drop, take_all, drop-drop, length-take, length-append}
+use Rattle.std.proofs.Common.{◌≡◌, ℕ, zero, suc, ◌+◌, ◌-◌, ◌≤◌, true, false, nat_lt, List, [], ◌∷◌, ◌++◌, length, take, drop, slice_range, refl, ap, sym, subst, ◌∙◌, arith, add-one, append_assoc, append-nil, eq-eqb, ltb-false, take-append-drop, take_all, drop-drop, length-take, length-append}
 use Rattle.std.proofs.lemmas.List.{length-take-le, drop-take}
 use Rattle.std.proofs.Math.Seq.{take-add}
 use Rattle.std.specs.Prelude.{Option, Some, None}
-use Rattle.std.specs.Io.KnownBytes.{Consumes, Keeps, IsAtEnd, prepend_known}
-use Rattle.memchr.specs.Find.{Nowhere, Passes, is_byte, IsFirstByte}
+use Rattle.std.specs.Io.KnownBytes.{Consumes, Keeps, prepend_known}
+use Rattle.memchr.specs.Find.{Nowhere, Passes, is_byte}
 use Rattle.daemon.specs.LineEnd.{IsLine, IsLast, IsLong, IsCut, IsCounted, IsFirstEnd, IsLineEnd, HoldsLine, HoldsLong, HoldsLast, len_of, feeds_of}
 use Rattle.daemon.specs.declared.accesslab.line.LineEnd.{LineEnd}
 use Rattle.daemon.specs.declared.accesslab.line.LineEnd.TheVariants.{Newline, EndOfInput, TooLong}

@@ -1,4 +1,4 @@
-use Rattle.std.proofs.Common.{◌≡◌, ◌+◌, ◌∙◌, length, refl, take, drop, arith, length-drop, ap, sym}
+use Rattle.std.proofs.Common.{◌≡◌, ◌+◌, ◌∙◌, length, refl, take, drop, arith, length-drop, ap}
 use Rattle.std.specs.Prelude.{Some}
 use Rattle.daemon.specs.ReadAhead.{held}
 use Rattle.daemon.proofs.AheadLemmas.{line_consumed, last_consumed, long_consumed, cut_consumed}

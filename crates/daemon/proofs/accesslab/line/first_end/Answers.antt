@@ -1,4 +1,4 @@
-use Rattle.std.proofs.Common.{◌≡◌, ◌≤◌, length, eqb-true, arith, take_all, ap, ◌∙◌}
+use Rattle.std.proofs.Common.{◌≤◌, length, eqb-true, arith, take_all, ap, ◌∙◌}
 use Rattle.daemon.specs.Lines.{lacks}
 use Rattle.daemon.proofs.AheadLemmas.{lacks_nowhere, lacks_everywhere}
 use Rattle.daemon.proofs.accesslab.line.first_end.Goals as goal

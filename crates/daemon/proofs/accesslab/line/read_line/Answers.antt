@@ -1,4 +1,4 @@
-use Rattle.std.proofs.Common.{◌≡◌, ◌+◌, ◌≤◌, ◌∙◌, length, refl, ap, sym, arith}
+use Rattle.std.proofs.Common.{◌≤◌, ◌∙◌, length, refl, ap, sym, arith}
 use Rattle.std.proofs.KnownBytes.{Keeps-trans}
 use Rattle.daemon.specs.Lines.{lacks}
 use Rattle.daemon.specs.ReadAhead.{held}

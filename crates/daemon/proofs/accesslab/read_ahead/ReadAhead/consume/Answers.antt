@@ -1,4 +1,3 @@
-
 use Rattle.daemon.proofs.AheadLemmas.{slice_range_advance}
 use Rattle.daemon.proofs.accesslab.read_ahead.ReadAhead.consume.Goals as goal
 

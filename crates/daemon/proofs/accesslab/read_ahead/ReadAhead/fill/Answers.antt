@@ -1,4 +1,4 @@
-use Rattle.std.proofs.Common.{◌≡◌, ◌+◌, ◌++◌, slice_range, arith}
+use Rattle.std.proofs.Common.{◌+◌, slice_range, arith}
 use Rattle.daemon.specs.ReadAhead.{held}
 use Rattle.daemon.proofs.AheadLemmas.{slice_range_more, moved_kept, moved_grown, moved_same, moved_counted}
 use Rattle.daemon.proofs.accesslab.read_ahead.ReadAhead.fill.Goals as goal
