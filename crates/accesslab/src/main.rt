@@ -7,7 +7,7 @@ use config::Config;
 use daemon::accesslab::{
     self, FAILED, LabWords, REFUSED, Refusal, StdReader, StdWriter, UNOPENED, UNREADABLE,
 };
-use std::io::{self, BufReader, BufWriter, Write};
+use std::io::{self, BufWriter, Write};
 use std::process::ExitCode;
 use std::{env, fs};
 
@@ -63,10 +63,7 @@ fn run(rt: &HostRuntime, values: LabWords<'_>) -> u8
     let Ok(writer) = BufWriter::new(alloc, io::writer(rt)) else {
         return complain(rt, "open memory", UNOPENED);
     };
-    let Ok(reader) = BufReader::new(alloc, rt.reader()) else {
-        return complain(rt, "open memory", UNOPENED);
-    };
-    let mut reader = StdReader::new(reader);
+    let mut reader = StdReader::new(rt.reader());
     let mut writer = StdWriter::new(writer);
     let status = accesslab::run(alloc, &config, values.quota, &mut reader, &mut writer);
     if status == UNOPENED {

@@ -1,3 +1,5 @@
+pub mod AheadLemmas
+pub mod CauseLemmas
 pub mod CircuitLemmas
 pub mod CutLemmas
 pub mod NumberLemmas

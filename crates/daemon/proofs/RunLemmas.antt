@@ -1,7 +1,8 @@
 -- A run, one line more at a time.
 use Rattle.std.proofs.Common.{◌≡◌, ℕ, ◌+◌, ◌<◌, ◌⊎◌, inl, inr, true, List, [], ◌∷◌, ◌++◌, length, refl, ap, sym, subst, ◌∙◌, arith, append_assoc, append-nil, length-append}
 use Rattle.std.specs.Prelude.{Option, Some, None}
-use Rattle.std.specs.Io.KnownBytes.{Appends, Consumes, IsAtEnd}
+use Rattle.std.specs.Io.KnownBytes.{Appends, Consumes, Keeps, IsAtEnd, prepend_known}
+use Rattle.std.proofs.KnownBytes.{prepend_known-nil}
 use Rattle.std.proofs.lemmas.Option.{same_Some}
 use Rattle.config.specs.Rules.{Settings}
 use Rattle.world.specs.Alone.{Alone, start}
@@ -14,9 +15,10 @@ use Rattle.daemon.specs.Lines.{lacks, lines_of}
 use Rattle.daemon.specs.Writing.{AppendsPrefix}
 use Rattle.daemon.specs.Follows.{AllRepresent, IsRefusal, Follows, FollowsLast, Ends}
 use Rattle.daemon.specs.Output.{bad_text}
+use Rattle.daemon.proofs.AheadLemmas.{all_consumed}
 use Rattle.daemon.proofs.CutLemmas.{line_before, line_begins, line_last}
 use Rattle.daemon.proofs.ReadLemmas.{consumes_none, consumes_more}
-use Rattle.daemon.proofs.WriteLemmas.{appends_none, appends_more, front_behind, front_longer}
+use Rattle.daemon.proofs.WriteLemmas.{appends_none, appends_kept, appends_more, front_behind, front_longer}
 use Rattle.daemon.proofs.LineResultLemmas.{long_is}
 
 -- the output that follows what was written
@@ -33,7 +35,7 @@ pub record SoFar (settings : Settings) (quota number : ℕ) (given left held hol
   pub appended : Appends held holds written
   pub whole : (rest : List ℕ) → lab_output settings quota (read ++ rest) ≡ after written (lab_from settings quota number machines (lines_of rest))
 
-pub at_first : (settings : Settings) (quota : ℕ) (given held : Option (List ℕ)) (states : List CircuitState) → Starts settings quota states → SoFar settings quota 1 given given held held states
+at_first : (settings : Settings) (quota : ℕ) (given held : Option (List ℕ)) (states : List CircuitState) → Starts settings quota states → SoFar settings quota 1 given given held held states
 at_first settings quota given held states starts = record {
   machines = λ c. start;
   represents = record { each = starts.each };
@@ -42,6 +44,25 @@ at_first settings quota given held states starts = record {
   written = [];
   appended = appends_none held;
   whole = λ rest. refl;
+}
+
+-- nothing is held at first
+pub at_start : (settings : Settings) (quota : ℕ) (given : Option (List ℕ)) (none : List ℕ) (writes : Option (List ℕ)) (states : List CircuitState) → none ≡ [] → Starts settings quota states
+    → SoFar settings quota 1 given (prepend_known none given) writes writes states
+at_start settings quota given none writes states is starts =
+    subst (λ left. SoFar settings quota 1 given left writes writes states) (sym (ap (λ v. prepend_known v given) is ∙ prepend_known-nil given)) (at_first settings quota given writes states starts)
+
+-- what was written is flushed
+pub so_far_kept : (settings : Settings) (quota number : ℕ) (given left held holds holds2 : Option (List ℕ)) (states : List CircuitState)
+    → SoFar settings quota number given left held holds states → Keeps holds holds2 → SoFar settings quota number given left held holds2 states
+so_far_kept settings quota number given left held holds holds2 states s kept = record {
+  machines = s.machines;
+  represents = s.represents;
+  read = s.read;
+  consumed = s.consumed;
+  written = s.written;
+  appended = appends_kept held holds holds2 s.written s.appended kept;
+  whole = s.whole;
 }
 
 none_written : (settings : Settings) (quota number : ℕ) (machines : ℕ → Alone) → lab_from settings quota number machines [] ≡ record { text = []; status = 0 }
@@ -137,14 +158,18 @@ ends_at settings quota number given left left2 held holds holds2 states states2 
       (front_behind held holds holds2 s.written (written ++ (f [] machines).text) s.appended (front_longer holds holds2 written (f [] machines).text wrote));
 }
 
--- where the lines of a text end, however it goes on
-pub ends_feed : (settings : Settings) (quota number : ℕ) (given left left2 held holds holds2 : Option (List ℕ)) (states states2 : List CircuitState) (line : List ℕ) (status : ℕ)
-    → SoFar settings quota number given left held holds states → IsLine left left2 line
+-- where the lines of a text end, however it goes on, behind what was read ahead
+pub ends_feed : (settings : Settings) (quota number : ℕ) (given left left2 held holds holds2 : Option (List ℕ)) (states states2 : List CircuitState) (line ahead : List ℕ) (status : ℕ)
+    → SoFar settings quota number given left held holds states → IsLine left (prepend_known ahead left2) line
     → ((machines : ℕ → Alone) → AllRepresent settings quota states machines → Follows settings quota number (line_result settings quota machines (line_of_text settings line)) states2 holds holds2 (Some status))
     → Ends settings quota given left2 held holds2 status
-ends_feed settings quota number given left left2 held holds holds2 states states2 line status s read follows =
-    ends_at settings quota number given left left2 held holds holds2 states states2 (line ++ 10 ∷ []) status (line_result settings quota s.machines (line_of_text settings line)) s read.read
-    (λ rest next. lab_from settings quota (number + 1) next (lines_of rest)) (λ rest here. line_on settings quota number s.machines line rest read.plain)
+ends_feed settings quota number given left left2 held holds holds2 states states2 line ahead status s read follows =
+    ends_at settings quota number given left left2 held holds holds2 states states2 ((line ++ 10 ∷ []) ++ ahead) status (line_result settings quota s.machines (line_of_text settings line)) s
+    (consumes_more left (prepend_known ahead left2) left2 (line ++ 10 ∷ []) ahead read.read (all_consumed left2 ahead))
+    (λ rest next. lab_from settings quota (number + 1) next (lines_of (ahead ++ rest)))
+    (λ rest here.
+    ap (λ text. lab_from settings quota number s.machines (lines_of text)) (append_assoc (line ++ 10 ∷ []) ahead rest)
+    ∙ line_on settings quota number s.machines line (ahead ++ rest) read.plain)
     (follows s.machines s.represents)
 
 -- a line that is too long
@@ -158,11 +183,16 @@ long_on settings quota number machines (b ∷ front) rest plain long =
     ap (lab_from settings quota number machines) begins.is ∙ one_line settings quota number machines line begins.others
     ∙ ap (λ l. and_then number (line_result settings quota machines l) (λ next. lab_from settings quota (number + 1) next begins.others)) (long_is settings line (omega arith))
 
-pub ends_long : (settings : Settings) (quota number : ℕ) (given left left2 held holds holds2 : Option (List ℕ)) (states : List CircuitState) (status : ℕ)
-    → SoFar settings quota number given left held holds states → IsLong left left2 → IsRefusal number holds holds2 status → Ends settings quota given left2 held holds2 status
-ends_long settings quota number given left left2 held holds holds2 states status s read wrote =
-    ends_at settings quota number given left left2 held holds holds2 states states read.front status Refused s read.part.read
-    (λ rest next. record { text = []; status = 0 }) (λ rest here. long_on settings quota number s.machines read.front rest read.part.plain read.long) wrote
+pub ends_long : (settings : Settings) (quota number : ℕ) (given left left2 held holds holds2 : Option (List ℕ)) (states : List CircuitState) (ahead : List ℕ) (status : ℕ)
+    → SoFar settings quota number given left held holds states → IsLong left (prepend_known ahead left2) → IsRefusal number holds holds2 status → Ends settings quota given left2 held holds2 status
+ends_long settings quota number given left left2 held holds holds2 states ahead status s read wrote =
+    ends_at settings quota number given left left2 held holds holds2 states states (read.front ++ ahead) status Refused s
+    (consumes_more left (prepend_known ahead left2) left2 read.front ahead read.part.read (all_consumed left2 ahead))
+    (λ rest next. record { text = []; status = 0 })
+    (λ rest here.
+    ap (λ text. lab_from settings quota number s.machines (lines_of text)) (append_assoc read.front ahead rest)
+    ∙ long_on settings quota number s.machines read.front (ahead ++ rest) read.part.plain read.long)
+    wrote
 
 -- nothing is left after the end
 none_left : (left : Option (List ℕ)) (rest : List ℕ) → IsAtEnd left → Left left rest → rest ≡ []

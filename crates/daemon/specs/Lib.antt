@@ -7,6 +7,7 @@ pub mod LineEnd
 pub mod Lines
 pub mod Output
 pub mod ParsedLine
+pub mod ReadAhead
 pub mod Run
 pub mod Words
 pub mod Writing

@@ -1,5 +1,6 @@
 -- What a call that reads a line has consumed, by how the line ended. Only proofs need these.
-use Rattle.std.specs.Prelude.{◌≡◌, ℕ, ◌+◌, ◌<◌, true, List, [], ◌∷◌, ◌++◌, length, take, Option}
+use Rattle.std.specs.Prelude.{◌≡◌, ℕ, ◌+◌, ◌<◌, ◌≤◌, true, List, [], ◌∷◌, ◌++◌, length, take, Option}
+use Rattle.std.proofs.Common.{get_or}
 use Rattle.std.specs.Io.KnownBytes.{Consumes, IsAtEnd}
 use Rattle.daemon.specs.declared.accesslab.line.LineEnd.{LineEnd}
 use Rattle.daemon.specs.declared.accesslab.line.LineEnd.TheVariants.{Newline, EndOfInput, TooLong}
@@ -26,10 +27,38 @@ pub record IsLong (old new : Option (List ℕ)) : Type 0 where
   pub long : 8192 < length front
   pub part : IsPart old new front
 
-abbrev pub IsLineEnd : Option (List ℕ) → Option (List ℕ) → List ℕ → LineEnd → Type 0
-IsLineEnd old new line (Newline len) = IsLine old new (take len line)
-IsLineEnd old new line (EndOfInput len) = IsLast old new (take len line)
-IsLineEnd old new line TooLong = IsLong old new
+-- The bytes that are held begin with a line of this length and its line feed.
+pub record HoldsLine (held : List ℕ) (len : ℕ) : Type 0 where
+  pub short : len ≤ 8192
+  pub inside : len < length held
+  pub plain : lacks 10 (take len held) ≡ true
+  pub feed : get_or held len 0 ≡ 10
+
+-- They begin with a part of a line that is already too long.
+pub record HoldsLong (held : List ℕ) : Type 0 where
+  pub size : ℕ
+  pub long : 8192 < size
+  pub within : size ≤ length held
+  pub plain : lacks 10 (take size held) ≡ true
+
+-- They are what follows the last line feed of the input.
+pub record HoldsLast (held : List ℕ) (left : Option (List ℕ)) (len : ℕ) : Type 0 where
+  pub size : length held ≡ len
+  pub short : len ≤ 8192
+  pub plain : lacks 10 held ≡ true
+  pub end : IsAtEnd left
+
+-- The first line of the bytes that are held ends so, whatever follows them.
+abbrev pub IsFirstEnd : List ℕ → LineEnd → Type 0
+IsFirstEnd held (Newline len) = HoldsLine held len
+IsFirstEnd held (EndOfInput len) = ⊥
+IsFirstEnd held TooLong = HoldsLong held
+
+-- It ends so, where this is left to read.
+abbrev pub IsLineEnd : List ℕ → Option (List ℕ) → LineEnd → Type 0
+IsLineEnd held left (Newline len) = HoldsLine held len
+IsLineEnd held left (EndOfInput len) = HoldsLast held left len
+IsLineEnd held left TooLong = HoldsLong held
 
 -- what was read before the reader failed
 pub record IsCut (old new : Option (List ℕ)) : Type 0 where
@@ -42,13 +71,13 @@ pub record IsCounted (old new : Option (List ℕ)) (before after : ℕ) : Type 0
   pub read : Consumes old new bytes
   pub count : after ≡ before + length bytes
 
--- how many bytes of the array the line has
+-- the length of the line; nothing of one that is too long is used
 abbrev pub len_of : LineEnd → ℕ
 len_of (Newline len) = len
 len_of (EndOfInput len) = len
 len_of TooLong = 0
 
--- how many line feeds were read
+-- how many line feeds are held behind it
 abbrev pub feeds_of : LineEnd → ℕ
 feeds_of (Newline len) = 1
 feeds_of (EndOfInput len) = 0

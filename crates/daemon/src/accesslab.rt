@@ -10,6 +10,7 @@ mod line;
 mod opening;
 mod output;
 mod parse_line;
+mod read_ahead;
 mod sources;
 mod status;
 mod std_streams;

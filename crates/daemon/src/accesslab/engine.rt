@@ -9,7 +9,8 @@ ghost use Rattle.daemon.specs.Run.{IsPartial, IsStatus, HasCause, HasNoCause};
 
 use super::apply_line::{apply_last_line, apply_line, refuse};
 use super::hexadecimal::MAX_BYTES;
-use super::line::{LineEnd, MAX_LINE, MAX_TEXT, read_line};
+use super::line::{LineEnd, MAX_TEXT, read_line};
+use super::read_ahead::ReadAhead;
 use super::status::FAILED;
 use super::streams::{ByteReader, ByteWriter};
 use config::Config;
@@ -29,29 +30,29 @@ fn apply_lines<M: Machine, R: ByteReader, W: ByteWriter>(
     ensures cause { result ≡ 6 → HasCause (R.remaining reader.old) (R.remaining reader.new) (R.failures reader.old) (R.failures reader.new) (W.failures writer.old) (W.failures writer.new) }
     ensures quiet { ¬ (result ≡ 6) → HasNoCause (R.remaining reader.old) (R.remaining reader.new) (R.failures reader.old) (R.failures reader.new) (W.failures writer.old) (W.failures writer.new) }
 {
-    let mut line = [0; MAX_LINE];
+    let mut ahead = ReadAhead::new();
     let mut bytes = [0; MAX_BYTES];
     let mut out = PacketBuf::new();
-    let mut count = 0;
     // each line before the last has a byte at least, its line feed
     'lines: for earlier in 0..MAX_TEXT {
         let number = earlier + 1;
-        let Ok(end) = read_line(reader, &mut count, &mut line) else {
+        let Ok(end) = read_line(&mut ahead, reader, writer) else {
             return FAILED;
         };
         let len = match end {
             LineEnd::Newline(len) => len,
             LineEnd::TooLong => return refuse(number, writer),
             LineEnd::EndOfInput(len) => {
-                let text = &line[..len];
+                let text = &ahead.as_slice()[..len];
                 return apply_last_line(machine, config, number, text, &mut bytes, &mut out, writer);
             }
         };
-        let text = &line[..len];
+        let text = &ahead.as_slice()[..len];
         let ended = apply_line(machine, config, number, text, &mut bytes, &mut out, writer);
         if let Some(status) = ended {
             return status;
         }
+        ahead.consume(len + 1);
     }
     unreachable!()
 }

@@ -1,9 +1,13 @@
 //! Lines of input.
-ghost use Rattle.std.specs.Prelude.{◌≡◌, ◌+◌, ◌⊎◌, ◌<◌, ◌≤◌, ◌∷◌, [], IfOk, IfSome, IfNone, OnOk, OnErr};
-ghost use Rattle.std.specs.Io.KnownBytes.{Consumes, IsAtEnd};
-ghost use Rattle.daemon.specs.LineEnd.{IsCounted, IsCut, IsLineEnd, feeds_of, len_of};
+ghost use Rattle.std.specs.Prelude.{◌≡◌, ◌+◌, ◌⊎◌, ◌<◌, ◌≤◌, length, true, IfOk, IfSome, IfNone, OnOk, OnErr};
+ghost use Rattle.std.specs.Io.KnownBytes.{Keeps, prepend_known};
+ghost use Rattle.daemon.specs.LineEnd.{IsCounted, IsLineEnd, IsFirstEnd, len_of, feeds_of};
+ghost use Rattle.daemon.specs.Lines.{lacks};
+ghost use Rattle.daemon.specs.ReadAhead.{held};
 
-use super::streams::{ByteReader, Failed};
+use super::read_ahead::ReadAhead;
+use super::streams::{ByteReader, ByteWriter, Failed};
+use memchr::memchr;
 
 /// The most bytes that a line may have, not counting its line feed.
 pub const MAX_LINE: usize = 8192;
@@ -11,71 +15,66 @@ pub const MAX_LINE: usize = 8192;
 /// Where so many bytes were read, the run ends as if the reader had failed.
 pub const MAX_TEXT: u64 = u64::MAX;
 
-/// How a line ended, and its length in bytes.
+/// How the first line of what was read ends, and its length in bytes.
 #[derive(Clone, Copy, Debug, PartialEq, Eq)]
 pub(crate) enum LineEnd {
     /// By a line feed.
     Newline(usize),
     /// By the end of the input.
     EndOfInput(usize),
-    /// The line is too long, and the rest of it was not read.
+    /// The line is too long. Its end may not have been read.
     TooLong,
 }
 
-/// The next byte, `None` at the end of the input. `count` is the number of bytes that were read. `Failed`
-/// also where it has reached `MAX_TEXT`.
-fn next_byte<R: ByteReader>(reader: &mut R, count: &mut u64) -> Result<Option<u8>, Failed>
-    requires { count.old < 18446744073709551615 }
-    ensures some { IfOk result (λ next. IfSome next (λ b. Consumes (R.remaining reader.old) (R.remaining reader.new) (b ∷ []))) }
-    ensures none { IfOk result (λ next. IfNone next (Consumes (R.remaining reader.old) (R.remaining reader.new) [])) }
-    ensures end { IfOk result (λ next. IfNone next (IsAtEnd (R.remaining reader.new))) }
-    ensures one_more { IfOk result (λ next. IfSome next (λ b. count.new ≡ count.old + 1)) }
-    ensures counted { IsCounted (R.remaining reader.old) (R.remaining reader.new) count.old count.new }
-    ensures below { OnOk result (count.new < 18446744073709551615) }
-    ensures quiet { OnOk result (R.failures reader.new ≡ R.failures reader.old) }
-    ensures cause { OnErr result ((R.failures reader.new ≡ R.failures reader.old + 1) ⊎ (count.new ≡ 18446744073709551615)) }
+/// How the first line of the text ends, `None` where the text has no line feed and may be too short.
+fn first_end(text: &[u8]) -> Option<LineEnd>
+    ensures some { IfSome result (IsFirstEnd text.now) }
+    ensures plain { IfNone result (lacks 10 text.now ≡ true) }
+    ensures short { IfNone result (length text.now ≤ 8192) }
 {
-    let mut byte = [0];
-    match reader.read(&mut byte) {
-        Ok(0) => return Ok(None),
-        Ok(_) => *count += 1,
-        Err(failed) => return Err(failed),
+    match memchr(b'\n', text) {
+        Some(len) if len <= MAX_LINE => Some(LineEnd::Newline(len)),
+        Some(_) => Some(LineEnd::TooLong),
+        None if text.len() > MAX_LINE => Some(LineEnd::TooLong),
+        None => None,
     }
-    if *count == MAX_TEXT {
-        return Err(Failed);
-    }
-    Ok(Some(byte[0]))
 }
 
-/// Reads the next line to the front of the array, and counts the bytes that were read.
-pub(crate) fn read_line<R: ByteReader>(
+/// Reads until the first line is held or is too long. What was written is flushed before each read, which
+/// may wait for input.
+pub(crate) fn read_line<R: ByteReader, W: ByteWriter>(
+    ahead: &mut ReadAhead,
     reader: &mut R,
-    count: &mut u64,
-    line: &mut [u8; MAX_LINE],
+    writer: &mut W,
 ) -> Result<LineEnd, Failed>
-    requires { count.old < 18446744073709551615 }
-    ensures end { IfOk result (IsLineEnd (R.remaining reader.old) (R.remaining reader.new) line.new) }
+    requires { ahead.old.count < 18446744073709551615 }
+    ensures end { IfOk result (IsLineEnd (held ahead.new) (R.remaining reader.new)) }
     ensures within { IfOk result (λ end. len_of end ≤ 8192) }
-    ensures cut { OnErr result (IsCut (R.remaining reader.old) (R.remaining reader.new)) }
-    ensures feeds { IfOk result (λ end. count.old + feeds_of end ≤ count.new) }
-    ensures counted { IsCounted (R.remaining reader.old) (R.remaining reader.new) count.old count.new }
-    ensures below { OnOk result (count.new < 18446744073709551615) }
+    ensures inside { IfOk result (λ end. len_of end + feeds_of end ≤ length (held ahead.new)) }
+    ensures kept { Keeps (prepend_known (held ahead.old) (R.remaining reader.old)) (prepend_known (held ahead.new) (R.remaining reader.new)) }
+    ensures written { Keeps (W.contents writer.old) (W.contents writer.new) }
+    ensures grown { length (held ahead.old) + ahead.new.count ≡ length (held ahead.new) + ahead.old.count }
+    ensures counted { IsCounted (R.remaining reader.old) (R.remaining reader.new) ahead.old.count ahead.new.count }
+    ensures below { OnOk result (ahead.new.count < 18446744073709551615) }
     ensures quiet { OnOk result (R.failures reader.new ≡ R.failures reader.old) }
-    ensures cause { OnErr result ((R.failures reader.new ≡ R.failures reader.old + 1) ⊎ (count.new ≡ 18446744073709551615)) }
+    ensures writer_quiet { OnOk result (W.failures writer.new ≡ W.failures writer.old) }
+    ensures cause { OnErr result ((R.failures reader.new ≡ R.failures reader.old + 1) ⊎ (ahead.new.count ≡ 18446744073709551615) ⊎ (W.failures writer.new ≡ W.failures writer.old + 1)) }
 {
-    'bytes: for len in 0..MAX_LINE + 1 {
-        let byte = match next_byte(reader, count) {
-            Ok(Some(byte)) => byte,
-            Ok(None) => return Ok(LineEnd::EndOfInput(len)),
+    // each read but the last makes it longer by a byte at least
+    'reads: for longer in 0..MAX_LINE + 2 {
+        let text = ahead.as_slice();
+        if let Some(end) = first_end(text) {
+            return Ok(end);
+        }
+        let len = text.len();
+        if let Err(failed) = writer.flush() {
+            return Err(failed);
+        }
+        match ahead.fill(reader) {
+            Ok(true) => (),
+            Ok(false) => return Ok(LineEnd::EndOfInput(len)),
             Err(failed) => return Err(failed),
-        };
-        if byte == b'\n' {
-            return Ok(LineEnd::Newline(len));
         }
-        if len == MAX_LINE {
-            return Ok(LineEnd::TooLong);
-        }
-        line[len] = byte;
     }
     unreachable!()
 }

@@ -1,7 +1,7 @@
 //! Any reader and any writer of the standard library, with a count of its failures.
 ghost use Rattle.std.specs.Prelude.{◌≡◌, ◌≤◌, [], length, take, IfOk, OnOk, OnErr};
 ghost use Rattle.std.specs.Io.{ReadsAtMost};
-ghost use Rattle.std.specs.Io.KnownBytes.{Appends, ReadConsumes};
+ghost use Rattle.std.specs.Io.KnownBytes.{Appends, Keeps, ReadConsumes};
 ghost use Rattle.daemon.specs.Writing.{AppendsPrefix};
 
 use super::streams::{ByteReader, ByteWriter, Failed};
@@ -91,6 +91,20 @@ fn write_bytes<W: Write>(writer: &mut W, bytes: &[u8]) -> Result<(), Failed>
     Err(Failed)
 }
 
+/// Flushes the writer, again where it was interrupted.
+fn flush_writer<W: Write>(writer: &mut W) -> Result<(), Failed>
+    ensures { Keeps (W.contents writer.old) (W.contents writer.new) }
+{
+    'turns: for _ in 0..u64::MAX {
+        match writer.flush() {
+            Ok(()) => return Ok(()),
+            Err(error) if error.kind() == ErrorKind::Interrupted => (),
+            Err(_) => return Err(Failed),
+        }
+    }
+    Err(Failed)
+}
+
 /// A writer of the standard library. It fails where a write takes no bytes, or fails for another
 /// cause than an interruption.
 #[derive(Drop)]
@@ -127,5 +141,13 @@ impl<W: Write> ByteWriter for StdWriter<W> {
             self.failures.tick();
         }
         written
+    }
+
+    fn flush(&mut self) -> Result<(), Failed> {
+        let flushed = flush_writer(&mut self.writer);
+        if flushed.is_err() {
+            self.failures.tick();
+        }
+        flushed
     }
 }

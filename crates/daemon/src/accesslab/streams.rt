@@ -1,7 +1,7 @@
 //! What the engine reads from and writes to.
 ghost use Rattle.std.specs.Prelude.{◌≡◌, ℕ, ◌+◌, List, Option, None, OnOk, OnErr};
 ghost use Rattle.std.specs.Io.{ReadsAtMost};
-ghost use Rattle.std.specs.Io.KnownBytes.{Appends, ReadConsumes};
+ghost use Rattle.std.specs.Io.KnownBytes.{Appends, Keeps, ReadConsumes};
 ghost use Rattle.daemon.specs.Writing.{AppendsPrefix};
 
 /// A reader or a writer failed.
@@ -36,6 +36,13 @@ pub trait ByteWriter {
     fn write_all(&mut self, bytes: &[u8]) -> Result<(), Failed>
         ensures ok { OnOk result (Appends (contents self.old) (contents self.new) bytes.now) }
         ensures err { OnErr result (AppendsPrefix (contents self.old) (contents self.new) bytes.now) }
+        ensures quiet { OnOk result (failures self.new ≡ failures self.old) }
+        ensures cause { OnErr result (failures self.new ≡ failures self.old + 1) };
+
+    /// Hands on what the writer still holds. A reader of lines calls this before each read, so that a line
+    /// that was typed is answered before the next is awaited.
+    fn flush(&mut self) -> Result<(), Failed>
+        ensures kept { Keeps (contents self.old) (contents self.new) }
         ensures quiet { OnOk result (failures self.new ≡ failures self.old) }
         ensures cause { OnErr result (failures self.new ≡ failures self.old + 1) };
 }

@@ -4,7 +4,7 @@ use super::*;
 use config::Config;
 use fixtures::ONE_CIRCUIT;
 use std::alloc::{AllocError, Global};
-use std::io::{self, BufReader, ErrorKind, Read, Write};
+use std::io::{self, ErrorKind, Read, Write};
 use wire::PacketBuf;
 use world::{Event, Machine, Outcome};
 
@@ -51,6 +51,22 @@ impl<'a> Read for Pieces<'a> {
         buf[..count].copy_from_slice(front);
         self.rest = rest;
         Ok(count)
+    }
+}
+
+/// A writer that takes at most one byte at a time.
+#[derive(Drop)]
+struct OneByte {
+    inner: Vec<u8>,
+}
+
+impl Write for OneByte {
+    fn write(&mut self, buf: &[u8]) -> io::Result<usize> {
+        self.inner.write(&buf[..buf.len().min(1)])
+    }
+
+    fn flush(&mut self) -> io::Result<()> {
+        Ok(())
     }
 }
 
@@ -194,7 +210,7 @@ fn long_lines(rt: HostRuntime) -> Result<(), AllocError> {
     Ok(())
 }
 
-/// The same for a reader that gives at most `most` bytes at a time, through a buffer.
+/// The same for a reader that gives at most `most` bytes at a time, and a writer that takes one.
 fn gives_in_pieces(alloc: Global, text: &[u8], most: usize, lines: &str, status: u8) -> bool
     requires { 0 < most }
 {
@@ -202,13 +218,12 @@ fn gives_in_pieces(alloc: Global, text: &[u8], most: usize, lines: &str, status:
         return false;
     };
     let pieces = Pieces { rest: text, most };
-    let Ok(reader) = BufReader::new(alloc, pieces) else {
-        return false;
-    };
-    let mut reader = StdReader::new(reader);
-    let mut writer = StdWriter::new(Vec::new(alloc));
+    let mut reader = StdReader::new(pieces);
+    let mut writer = StdWriter::new(OneByte {
+        inner: Vec::new(alloc),
+    });
     let ended = lab(&mut Nowhere, &config, &mut reader, &mut writer);
-    ended == status && writer.into_inner().as_slice() == lines.as_bytes()
+    ended == status && writer.into_inner().inner.as_slice() == lines.as_bytes()
 }
 
 #[test]
@@ -220,6 +235,27 @@ fn pieces_make_no_difference(rt: HostRuntime) {
     assert!(rt; gives_in_pieces(alloc, text.as_bytes(), 2, lines, BAD_LINE));
     assert!(rt; gives_in_pieces(alloc, text.as_bytes(), 7, lines, BAD_LINE));
     assert!(rt; gives_in_pieces(alloc, text.as_bytes(), 8192, lines, BAD_LINE));
+}
+
+#[test]
+fn long_lines_in_pieces(rt: HostRuntime) -> Result<(), AllocError> {
+    let alloc = rt.alloc();
+    let mut text = Vec::new(alloc);
+    let mut lines = String::new(alloc);
+    for _ in 0..9 {
+        text.extend_from_slice(&long(alloc, "#", MAX_LINE - 1, b'x')?)?;
+        text.extend_from_slice(b"\ntick 1\n")?;
+        lines.push_str("ok\n")?;
+    }
+    for most in [1, 1000, 8191, 8192, 8193, 8201, 40_000] {
+        assert!(rt; gives_in_pieces(alloc, &text, most, lines.as_str(), DONE));
+    }
+    text.extend_from_slice(&long(alloc, "#", MAX_LINE, b'x')?)?;
+    lines.push_str("line 19 bad\n")?;
+    for most in [1, 1000, 8191, 8192, 8193, 8201, 40_000] {
+        assert!(rt; gives_in_pieces(alloc, &text, most, lines.as_str(), BAD_LINE));
+    }
+    Ok(())
 }
 
 /// A reader or a writer that fails after so many calls.
@@ -253,17 +289,24 @@ impl<T: Write> Write for Failing<T> {
     }
 
     fn flush(&mut self) -> io::Result<()> {
-        Ok(())
+        self.call()?;
+        self.inner.flush()
     }
 }
 
 const TICKS: &str = "tick 1\ntick 2\n";
 
-/// The status and the output where the reader and the writer fail after so many calls.
-fn cut_short(alloc: Global, reads: usize, writes: usize) -> Option<(u8, Vec<u8>)> {
+/// The status and the output where a reader that gives at most `most` bytes at a time and the writer fail
+/// after so many calls.
+fn cut_short(alloc: Global, most: usize, reads: usize, writes: usize) -> Option<(u8, Vec<u8>)>
+    requires { 0 < most }
+{
     let config = Config::read(alloc, ONE_CIRCUIT).ok()?;
     let mut reader = StdReader::new(Failing {
-        inner: TICKS.as_bytes(),
+        inner: Pieces {
+            rest: TICKS.as_bytes(),
+            most,
+        },
         calls: reads,
     });
     let mut writer = StdWriter::new(Failing {
@@ -276,16 +319,20 @@ fn cut_short(alloc: Global, reads: usize, writes: usize) -> Option<(u8, Vec<u8>)
 
 #[test]
 fn a_reader_that_fails(rt: HostRuntime) {
-    // 14 bytes, one call for each, and one that finds the end
-    for (calls, status, lines) in [
-        (0, FAILED, ""),
-        (6, FAILED, ""),
-        (7, FAILED, "ok\n"),
-        (13, FAILED, "ok\n"),
-        (14, FAILED, "ok\nok\n"),
-        (15, DONE, "ok\nok\n"),
+    for (most, calls, status, lines) in [
+        // 14 bytes, one call for each, and one that finds the end
+        (1, 0, FAILED, ""),
+        (1, 6, FAILED, ""),
+        (1, 7, FAILED, "ok\n"),
+        (1, 13, FAILED, "ok\n"),
+        (1, 14, FAILED, "ok\nok\n"),
+        (1, 15, DONE, "ok\nok\n"),
+        // all of them at once
+        (100, 0, FAILED, ""),
+        (100, 1, FAILED, "ok\nok\n"),
+        (100, 2, DONE, "ok\nok\n"),
     ] {
-        if let Some((ended, written)) = cut_short(rt.alloc(), calls, 100) {
+        if let Some((ended, written)) = cut_short(rt.alloc(), most, calls, 100) {
             assert_eq!(rt; ended, status);
             assert_eq!(rt; written.as_slice(), lines.as_bytes());
         } else {
@@ -296,14 +343,63 @@ fn a_reader_that_fails(rt: HostRuntime) {
 
 #[test]
 fn a_writer_that_fails(rt: HostRuntime) {
-    for calls in 0..8 {
-        if let Some((ended, written)) = cut_short(rt.alloc(), 100, calls) {
-            let whole = written.as_slice() == b"ok\nok\n".as_slice();
-            assert_eq!(rt; ended, if whole { DONE } else { FAILED });
-            assert!(rt; b"ok\nok\n".starts_with(&written));
+    // it is flushed before each of the two reads, and written to once for each line
+    for (calls, status, lines) in [
+        (0, FAILED, ""),
+        (1, FAILED, ""),
+        (2, FAILED, "ok\n"),
+        (3, FAILED, "ok\nok\n"),
+        (4, DONE, "ok\nok\n"),
+    ] {
+        if let Some((ended, written)) = cut_short(rt.alloc(), 100, 100, calls) {
+            assert_eq!(rt; ended, status);
+            assert_eq!(rt; written.as_slice(), lines.as_bytes());
         } else {
             assert!(rt; false);
         }
+    }
+}
+
+/// A writer that holds all bytes until it is flushed.
+#[derive(Drop)]
+struct Held {
+    flushed: Vec<u8>,
+    held: Vec<u8>,
+}
+
+impl Write for Held {
+    fn write(&mut self, buf: &[u8]) -> io::Result<usize> {
+        self.held.write(buf)
+    }
+
+    fn flush(&mut self) -> io::Result<()> {
+        self.flushed.write_all(&self.held)?;
+        self.held.clear();
+        Ok(())
+    }
+}
+
+#[test]
+fn a_line_is_answered_before_the_next_is_awaited(rt: HostRuntime) {
+    let alloc = rt.alloc();
+    let Ok(config) = Config::read(alloc, ONE_CIRCUIT) else {
+        panic!(rt; "the configuration is refused");
+    };
+    for (reads, lines) in [(6, ""), (7, "ok\n"), (13, "ok\n"), (14, "ok\nok\n")] {
+        let mut reader = StdReader::new(Failing {
+            inner: Pieces {
+                rest: TICKS.as_bytes(),
+                most: 1,
+            },
+            calls: reads,
+        });
+        let mut writer = StdWriter::new(Held {
+            flushed: Vec::new(alloc),
+            held: Vec::new(alloc),
+        });
+        let status = lab(&mut Nowhere, &config, &mut reader, &mut writer);
+        assert_eq!(rt; status, FAILED);
+        assert_eq!(rt; writer.into_inner().flushed.as_slice(), lines.as_bytes());
     }
 }
 
@@ -340,7 +436,8 @@ impl<T: Write> Write for Interrupted<T> {
     }
 
     fn flush(&mut self) -> io::Result<()> {
-        Ok(())
+        self.call()?;
+        self.inner.flush()
     }
 }
 

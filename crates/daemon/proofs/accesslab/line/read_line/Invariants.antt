@@ -1,14 +1,19 @@
-use Rattle.std.proofs.Common.{◌≡◌, ◌≤◌, ◌<◌, length, take}
-use Rattle.daemon.specs.LineEnd.{IsPart, IsCounted}
+use Rattle.std.proofs.Common.{◌≡◌, ◌+◌, ◌≤◌, ◌<◌, length}
+use Rattle.std.specs.Io.KnownBytes.{Keeps, prepend_known}
+use Rattle.daemon.specs.LineEnd.{IsCounted}
+use Rattle.daemon.specs.ReadAhead.{held}
 use Rattle.daemon.proofs.accesslab.line.read_line.Given as goal
 
--- the array has what was read
-abbrev pub invariant-bytes : goal.invariant-bytes
-invariant-bytes g l = record {
-  within : l.len ≤ 8192;
-  size : length l.line ≡ 8192;
-  part : IsPart (g.R.ByteReader.remaining l.fn.reader) (g.R.ByteReader.remaining l.reader) (take l.len l.line);
-  counted : IsCounted (g.R.ByteReader.remaining l.fn.reader) (g.R.ByteReader.remaining l.reader) l.fn.count l.count;
-  below : l.count < 18446744073709551615;
+-- the bytes that are held are the front of what was left
+abbrev pub invariant-reads : goal.invariant-reads
+invariant-reads g l = record {
+  few : l.longer ≤ 8193;
+  long : l.longer ≤ length (held l.ahead);
+  kept : Keeps (prepend_known (held l.fn.ahead) (g.R.ByteReader.remaining l.fn.reader)) (prepend_known (held l.ahead) (g.R.ByteReader.remaining l.reader));
+  written : Keeps (g.W.ByteWriter.contents l.fn.writer) (g.W.ByteWriter.contents l.writer);
+  grown : length (held l.fn.ahead) + l.ahead.count ≡ length (held l.ahead) + l.fn.ahead.count;
+  counted : IsCounted (g.R.ByteReader.remaining l.fn.reader) (g.R.ByteReader.remaining l.reader) l.fn.ahead.count l.ahead.count;
+  below : l.ahead.count < 18446744073709551615;
   quiet : g.R.ByteReader.failures l.reader ≡ g.R.ByteReader.failures l.fn.reader;
+  writer_quiet : g.W.ByteWriter.failures l.writer ≡ g.W.ByteWriter.failures l.fn.writer;
 }
