@@ -1,8 +1,8 @@
-//! The server of a configuration of one circuit, on datagrams worked out by hand.
+//! The server of one circuit and of two, on datagrams worked out by hand.
 use super::*;
 use config::Config;
-use fixtures::ONE_CIRCUIT;
-use std::alloc::Global;
+use fixtures::{ONE_CIRCUIT, TWO_CIRCUITS};
+use std::alloc::{AllocError, Global};
 use std::process::Abort;
 use types::{Addr4, Discard, Moment, Source};
 use wire::PacketBuf;
@@ -10,8 +10,15 @@ use wire::PacketBuf;
 /// Option 82 of circuit `a` with its gateway as server identifier override, and the end.
 const AGENT: &[u8] = &[82, 9, 1, 1, 97, 11, 4, 10, 0, 0, 1, 255];
 
+/// The same of circuit `a1`.
+const AGENT_A1: &[u8] = &[82, 10, 1, 2, 97, 49, 11, 4, 10, 0, 1, 1, 255];
+
 fn new_server(rt: &impl Abort, alloc: Global) -> Server {
-    let config = Config::read(alloc, ONE_CIRCUIT).expect(rt, "a configuration");
+    server_of(rt, alloc, ONE_CIRCUIT)
+}
+
+fn server_of(rt: &impl Abort, alloc: Global, text: &str) -> Server {
+    let config = Config::read(alloc, text).expect(rt, "a configuration");
     Server::open(alloc, &config).expect(rt, "a server")
 }
 
@@ -111,4 +118,57 @@ fn an_offer_expires_by_the_circuits_clock(rt: HostRuntime) {
 
     server.tick(Moment::new(160).expect(&rt, "a moment"));
     assert_eq!(rt; discover(&rt, &mut server, 2, 100), Ok(()));
+}
+
+/// Circuits `a` and `a1` behind relay `r1`, and a relay `r2` without circuits.
+#[test]
+#[rattlefmt::skip]
+fn reasons_among_two_circuits(rt: HostRuntime) -> Result<(), AllocError> {
+    let rows: [(u16, [u8; 4], &[u8], Result<(), Discard>); 9] = [
+        // port, giaddr, after the message type, what comes of it
+        (6801, [10, 0, 0, 1], AGENT,                                                 Ok(())),
+        (6801, [10, 0, 1, 1], AGENT_A1,                                              Ok(())),
+        (6801, [10, 0, 1, 1], &[82, 11, 1, 3, 97, 49, 49, 11, 4, 10, 0, 1, 1, 255],  Err(Discard::UnknownCircuit)),
+        (6802, [10, 0, 0, 1], AGENT,                                                 Err(Discard::UnknownCircuit)),
+        (6802, [10, 0, 1, 1], AGENT_A1,                                              Err(Discard::UnknownCircuit)),
+        (6801, [10, 0, 1, 1], AGENT,                                                 Err(Discard::WrongLink)),
+        (6801, [10, 0, 0, 1], AGENT_A1,                                              Err(Discard::WrongLink)),
+        (6801, [10, 0, 0, 1], &[82, 9, 1, 1, 97, 11, 4, 10, 0, 1, 1, 255],           Err(Discard::NoOverride)),
+        (6801, [10, 0, 0, 1], &[82, 12, 1, 1, 97, 1, 1, 97, 11, 4, 10, 0, 0, 1, 255], Err(Discard::Malformed)),
+    ];
+    let two = "[[relay]]\nname = 'r2'\nsource = '127.0.0.1:6802'\n[[circuit]]\nid = 'a'\n";
+    let text = TWO_CIRCUITS.replace(rt.alloc(), "[[circuit]]\nid = 'a'\n", two)?;
+    for (port, giaddr, rest, expected) in rows {
+        let mut server = server_of(&rt, rt.alloc(), text.as_str());
+        let datagram = message(1, 1, giaddr, rest);
+        assert_eq!(rt; receive(&rt, &mut server, port, &datagram, 100), expected);
+    }
+    Ok(())
+}
+
+/// A short reply on one circuit has nothing of a longer one on the other before it.
+#[test]
+fn a_short_reply_after_a_long_one(rt: HostRuntime) {
+    let mut server = server_of(&rt, rt.alloc(), TWO_CIRCUITS);
+    let now = Moment::new(100).expect(&rt, "a moment");
+    let addr = Addr4([127, 0, 0, 1]);
+    let relay = Source { addr, port: 6801 };
+    let mut out = PacketBuf::new();
+    let discover = message(1, 1, [10, 0, 0, 1], AGENT);
+    let offered = server.receive(relay, discover.as_slice(), now, &mut out);
+    assert_eq!(rt; offered, Ok(()));
+    let wanted = [
+        50, 4, 10, 0, 9, 9, 82, 10, 1, 2, 97, 49, 11, 4, 10, 0, 1, 1, 255,
+    ];
+    let request = message(3, 2, [10, 0, 1, 1], &wanted);
+    let refused = server.receive(relay, request.as_slice(), now, &mut out);
+    assert_eq!(rt; refused, Ok(()));
+    let datagram = out.as_slice();
+    assert_eq!(rt; datagram.len(), 300);
+    assert_eq!(rt; datagram.get(242), Some(&6));
+    assert_eq!(rt; datagram.get(261), Some(&255));
+    assert_eq!(rt;
+        datagram.iter().skip(262).filter(|byte| **byte != 0).count(),
+        0
+    );
 }

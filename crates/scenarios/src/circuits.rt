@@ -5,44 +5,9 @@ use crate::rows::Row;
 use daemon::accesslab::{BAD_LINE, DONE};
 use types::Kind4;
 
-/// Relay `r1` with the circuits `a` and `a1`.
-pub(crate) const TWO_CIRCUITS: &str = "[server]
-listen4 = '127.0.0.1:6767'
-listen6 = '127.0.0.1:6547'
-duid = '00030001020000000001'
-[[relay]]
-name = 'r1'
-source = '127.0.0.1:6801'
-[[circuit]]
-id = 'a'
-relay = 'r1'
-region = 0
-lease = 600
-gateway4 = '10.0.0.1'
-prefix4 = 24
-first4 = '10.0.0.10'
-count4 = 1
-dns = ['10.255.0.53']
-link6 = '20010db8000000000000000000000001'
-first6 = '20010db8000000000000000000000100'
-count6 = 1
-[[circuit]]
-id = 'a1'
-relay = 'r1'
-region = 1
-lease = 600
-gateway4 = '10.0.1.1'
-prefix4 = 24
-first4 = '10.0.1.10'
-count4 = 1
-dns = ['10.255.0.53']
-link6 = '20010db8000100000000000000000001'
-first6 = '20010db8000100000000000000000100'
-count6 = 1
-";
-
 /// Option 54 and option 50 of a client that takes the offer of 10.0.0.10, and of 10.0.1.10.
 const SELECTING: &[u8] = &[54, 4, 10, 0, 0, 1, 50, 4, 10, 0, 0, 10];
+
 const SELECTING_ON_A1: &[u8] = &[54, 4, 10, 0, 1, 1, 50, 4, 10, 0, 1, 10];
 
 #[rattlefmt::skip]

@@ -1,9 +1,9 @@
-use crate::circuits::{CIRCUITS, TWO_CIRCUITS};
+use crate::circuits::CIRCUITS;
 use crate::leases::LEASES;
 use crate::rows::{Line, ROWS, Row};
 use config::Config;
 use daemon::accesslab::{DONE, StdReader, StdWriter, run};
-use fixtures::{ONE_CIRCUIT, client_frame, nak, offer, resized, with_bytes};
+use fixtures::{ONE_CIRCUIT, TWO_CIRCUITS, client_frame, nak, offer, resized, with_bytes};
 use lossy_net::MAX_QUOTA;
 use std::alloc::{AllocError, Global};
 use std::process::Abort;
@@ -78,7 +78,12 @@ fn push(text: &mut String, alloc: Global, line: Line) -> Result<(), AllocError> 
             push_frame_on(text, alloc, circuit, &client_frame(kind, client, options))?;
         }
         Line::DiscoverOn(circuit, client) => {
-            push_frame_on(text, alloc, circuit, &client_frame(Kind4::Discover, client, &[]))?;
+            push_frame_on(
+                text,
+                alloc,
+                circuit,
+                &client_frame(Kind4::Discover, client, &[]),
+            )?;
         }
         Line::OfferOn(words, client) => {
             text.push_str(words)?;
@@ -173,11 +178,23 @@ fn push_lease(
 ) -> Result<(), AllocError> {
     let address = 9 + client % 128;
     let options = &[54, 4, 10, 0, third, 1, 50, 4, 10, 0, third, address];
-    push_frame_on(lines, alloc, circuit, &client_frame(Kind4::Discover, client, &[]))?;
+    push_frame_on(
+        lines,
+        alloc,
+        circuit,
+        &client_frame(Kind4::Discover, client, &[]),
+    )?;
     lines.push_str(&format!(in alloc; "\nup {circuit} 0 100 0\ndown {circuit} 0\n")?)?;
-    push_frame_on(lines, alloc, circuit, &client_frame(Kind4::Request, client, options))?;
+    push_frame_on(
+        lines,
+        alloc,
+        circuit,
+        &client_frame(Kind4::Request, client, options),
+    )?;
     lines.push_str(&format!(in alloc; "\nup {circuit} 0 100 0\ndown {circuit} 0\n")?)?;
-    let to = format!(in alloc; "to {circuit} unicast 0200000000{client:02x} 10.0.{third}.{address} ")?;
+    let to = format!(in alloc;
+        "to {circuit} unicast 0200000000{client:02x} 10.0.{third}.{address} "
+    )?;
     expected.push_str(&format!(in alloc; "up \ndown 300\n{to}\nup \ndown 300\n{to}\n")?)
 }
 
@@ -198,7 +215,12 @@ fn two_full_pools(rt: HostRuntime) -> Result<(), AllocError> {
     lines.push_str("up a 0 100 0\n")?;
     expected.push_str("up 255\ndrop 19\n")?;
     let renewal = client_frame(Kind4::Request, 1, &[]);
-    push_frame_on(&mut lines, alloc, "a1", &with_bytes(&renewal, 12, &[10, 0, 1, 10]))?;
+    push_frame_on(
+        &mut lines,
+        alloc,
+        "a1",
+        &with_bytes(&renewal, 12, &[10, 0, 1, 10]),
+    )?;
     lines.push_str("\nup a1 0 100 0\n")?;
     expected.push_str("up 256\ndown 300\n")?;
     let Some((written, DONE)) = output(alloc, config.as_str(), 16, lines.as_str()) else {

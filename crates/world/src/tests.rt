@@ -6,7 +6,7 @@ use config::{Config, ConfigFault};
 use fixtures::{ONE_CIRCUIT, client_frame, one_circuit_with};
 use std::alloc::{AllocError, Global};
 use std::process::Abort;
-use types::{Addr4, Circuit, Count, Dest, Discard, Kind4, Moment, Proto};
+use types::{Addr4, Circuit, Count, Dest, Discard, Kind4, Moment, Proto, RelayNo, Source};
 use wire::PacketBuf;
 
 /// A world of one circuit with a pool of two addresses, 10.0.0.10 and 10.0.0.11.
@@ -131,6 +131,64 @@ fn another_circuit_does_not_exist(rt: HostRuntime) {
         assert!(rt; out.is_empty());
     }
     assert_eq!(rt; up(&mut world, 0, 100), Outcome::SentDown(300));
+}
+
+/// A source at 127.0.0.1.
+fn at_port(port: u16) -> Source {
+    let addr = Addr4([127, 0, 0, 1]);
+    Source { addr, port }
+}
+
+#[test]
+fn strays_change_nothing(rt: HostRuntime) {
+    let unknown = Outcome::Dropped(Discard::UnknownSource);
+    let from_no_server = Outcome::Dropped(Discard::NotServer);
+    let relay = RelayNo::new(0).unwrap();
+    let other = RelayNo::new(1).unwrap();
+    let frame = discover(1);
+    let bytes = frame.as_slice();
+    let last = moment(u32::MAX);
+    let rows = [
+        (
+            Event::StrayUp(Proto::V4, at_port(9999), bytes, last),
+            unknown,
+        ),
+        (
+            Event::StrayUp(Proto::V4, at_port(6767), bytes, last),
+            unknown,
+        ),
+        (
+            Event::StrayUp(Proto::V4, at_port(6801), bytes, last),
+            Outcome::NotAStray,
+        ),
+        (
+            Event::StrayDown(relay, at_port(9999), bytes),
+            from_no_server,
+        ),
+        (
+            Event::StrayDown(relay, at_port(6801), bytes),
+            from_no_server,
+        ),
+        (
+            Event::StrayDown(relay, at_port(6767), bytes),
+            Outcome::NotAStray,
+        ),
+        (
+            Event::StrayDown(relay, at_port(6547), bytes),
+            Outcome::NotAStray,
+        ),
+        (Event::StrayDown(other, at_port(6767), bytes), Outcome::Gone),
+    ];
+    let mut world = opened(&rt, rt.alloc(), 16);
+    assert_eq!(rt; send(&mut world, 1), Outcome::SentUp(255));
+    for (event, expected) in &rows {
+        let mut out = PacketBuf::new();
+        let _ = out.push(7);
+        assert_eq!(rt; world.step(event, &mut out), *expected);
+        assert!(rt; out.is_empty());
+    }
+    assert_eq!(rt; up(&mut world, 0, 100), Outcome::SentDown(300));
+    assert_eq!(rt; step(&mut world, &Event::Down(only(), 0)), offered(1, 10));
 }
 
 #[test]

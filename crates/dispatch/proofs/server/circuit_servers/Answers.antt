@@ -20,7 +20,7 @@ circuits-preserved c =
     let empty : CircuitPart → Book = λ p. record { clock = 0; four = empty_book } in
     let there : slice_get parts k ≡ Some part = subst (λ n. part_in c.args.config.now n ≡ Some part) c.in-Some.ensures.value c.of.ensures.value in
     let next : take (k + 1) parts ≡ take k parts ++ part ∷ [] =
-        take_more parts k part (slice_get_within parts k part there) ∙ ap (λ p. take k parts ++ p ∷ []) (get_or_from_slice_get parts k part part there) in
+    take_more parts k part (slice_get_within parts k part there) ∙ ap (λ p. take k parts ++ p ∷ []) (get_or_from_slice_get parts k part part there) in
     let before = c.circuits.invariant in
     record {
       parts =

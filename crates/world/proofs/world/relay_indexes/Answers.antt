@@ -13,5 +13,5 @@ circuits-preserved c =
     let relay_of : CircuitConfig → ℕ = λ circuit. circuit.relay in
     let there : slice_get circuits k ≡ Some one = subst (λ n. slice_get circuits n ≡ Some one) c.in-Some.ensures.value c.at.ensures.value in
     let next : take (k + 1) circuits ≡ take k circuits ++ one ∷ [] =
-        take_more circuits k one (slice_get_within circuits k one there) ∙ ap (λ p. take k circuits ++ p ∷ []) (get_or_from_slice_get circuits k one one there) in
+    take_more circuits k one (slice_get_within circuits k one there) ∙ ap (λ p. take k circuits ++ p ∷ []) (get_or_from_slice_get circuits k one one there) in
     c.in_ok-push.ensures.items ∙ ap (λ xs. xs ++ one.relay ∷ []) c.circuits.invariant ∙ sym (ap (map relay_of) next ∙ map-append relay_of (take k circuits) (one ∷ []))
