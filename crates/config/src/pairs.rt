@@ -1,5 +1,5 @@
 //! Walks over the entries of a list: what is related to one entry, and which two are related.
-ghost use Rattle.std.specs.Prelude.{◌≡◌, ◌↔◌, ◌≤◌, ◌<◌, ℕ, length, slice_get, slice_index_or, Some, All, AllPairs, IsTrue, IfSome, IfNone};
+ghost use Rattle.std.specs.Prelude.{◌↔◌, ◌≤◌, ◌<◌, ℕ, length, slice_index_or, All, AllPairs, IsTrue, IfSome, IfNone};
 ghost use Rattle.config.specs.Pairs.{IsRelated, AreRelated};
 
 /// What a value may have to do with an entry of a list.

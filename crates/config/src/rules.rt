@@ -1,9 +1,7 @@
 //! The rules about a configuration's values, for any number of relays and circuits.
-ghost use Rattle.std.specs.Prelude.{◌≡◌, ◌≢◌, ℕ, ◌+◌, ◌/◌, ◌^◌, ◌≤◌, ◌<◌, ◌↔◌, List, length, slice_get, All, AllPairs, Some, IsTrue, OnOk, IfErr, IfSome, IfNone};
-ghost use Rattle.std.specs.Bool.{OnTrue, OnFalse};
-ghost use Rattle.types.specs.Addr.{number4, number6};
-ghost use Rattle.config.specs.Broken.{AreSame, AreTwo, AreTwoRelays, HasSource, IsCircuitOf, IsGatewayInPool, IsOffSubnet};
-ghost use Rattle.config.specs.Rules.{Settings, IsInPool4, IsInPool6, IsHost, IsOnSubnet, IsWithinLimits, NamesDiffer, GatewaysOutside, KeepsRules};
+ghost use Rattle.std.specs.Prelude.{◌≡◌, ◌≢◌, ◌+◌, ◌<◌, List, length, slice_get, All, AllPairs, Some, OnOk, IfErr, IfSome, IfNone};
+ghost use Rattle.config.specs.Broken.{AreSame, AreTwo, AreTwoRelays, HasSource, IsGatewayInPool, IsOffSubnet};
+ghost use Rattle.config.specs.Rules.{Settings, IsOnSubnet, IsWithinLimits, NamesDiffer, GatewaysOutside, KeepsRules};
 ghost use Rattle.config.specs.Valid.{IsLeastRule};
 
 use crate::fault::{ConfigFault, SameName};

@@ -1,4 +1,4 @@
-use Rattle.std.proofs.Common.{ℕ, below_more, get_or, subst}
+use Rattle.std.proofs.Common.{below_more, subst}
 use Rattle.std.proofs.lemmas.List.{get_or_read}
 use Rattle.config.specs.Rules.{IsOnSubnet}
 use Rattle.config.specs.declared.settings.CircuitConfig.{CircuitConfig}
