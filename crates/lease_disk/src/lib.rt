@@ -7,6 +7,7 @@ mod formatting;
 mod image;
 mod layout;
 mod model_disk;
+mod read_bank;
 mod saving;
 #[cfg(test)]
 mod tests;
