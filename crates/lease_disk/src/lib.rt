@@ -8,6 +8,7 @@ mod image;
 mod layout;
 mod model_disk;
 mod read_bank;
+mod recovering;
 mod saving;
 #[cfg(test)]
 mod tests;
@@ -19,4 +20,5 @@ pub use formatting::format;
 pub use image::Image;
 pub use layout::{FORMAT, FORMAT_AT, GATE_OPEN};
 pub use model_disk::ModelDisk;
+pub use recovering::{RecoverFault, recover};
 pub use saving::save;
