@@ -5,3 +5,4 @@ pub mod ReadBack
 pub mod FormatLemmas
 pub mod Fresh
 pub mod Reading
+pub mod Books

@@ -52,9 +52,9 @@ pub goes_on : {A : Type 0} → (read : ℕ → Option A) (n i : ℕ) (xs : List 
 goes_on read n i xs x g h e = let k : i < length xs = rw g.size h in record {
   size = length-set xs i x ∙ g.size;
   so_far = g.so_far ∙ ap (λ o. prepend (take i xs) o) (rest_of read n i h ∙ ap (λ r. cons_some r (slots_from read (i + 1) (n - (i + 1)))) (sym e))
-    ∙ prepend_cons (take i xs) x (slots_from read (i + 1) (n - (i + 1)))
-    ∙ ap (λ ys. prepend ys (slots_from read (i + 1) (n - (i + 1)))) (sym (take_more_set xs i x k))
-  }
+      ∙ prepend_cons (take i xs) x (slots_from read (i + 1) (n - (i + 1)))
+      ∙ ap (λ ys. prepend ys (slots_from read (i + 1) (n - (i + 1)))) (sym (take_more_set xs i x k));
+}
 
 pub goes_not : {A : Type 0} → (read : ℕ → Option A) (n i : ℕ) (xs : List A) → Goes read n i xs → i < n → None ≡ read i → None ≡ slots_from read 0 n
 goes_not read n i xs g h e = sym (g.so_far ∙ ap (λ o. prepend (take i xs) o) (rest_of read n i h ∙ ap (λ r. cons_some r (slots_from read (i + 1) (n - (i + 1)))) (sym e))

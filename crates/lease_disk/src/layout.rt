@@ -19,12 +19,18 @@ pub const SECOND_BANK: usize = 4096;
 
 /// In a bank: where the clock stands, where the slots begin, and their sizes.
 pub const CLOCK_AT: usize = 8;
+
 pub const FOUR_AT: usize = 32;
+
 pub const FOUR_SIZE: usize = 80;
+
 pub const SIX_AT: usize = 1312;
+
 pub const SIX_SIZE: usize = 152;
 
 /// In a slot: where the IAID, until and the key or DUID stand.
 pub const IAID_AT: usize = 4;
+
 pub const UNTIL_AT: usize = 8;
+
 pub const KEY_AT: usize = 16;

@@ -104,7 +104,11 @@ fn counting_marks(first: Head, second: Head) -> Option<Marks>
 }
 
 /// What a region holds and its marks; `None` where it is damaged.
-fn read_region<D: Disk>(region: u16, disk: &mut D, counts: [u8; 2]) -> Result<Option<(Slots, Marks)>, Fault>
+fn read_region<D: Disk>(
+    region: u16,
+    disk: &mut D,
+    counts: [u8; 2],
+) -> Result<Option<(Slots, Marks)>, Fault>
     requires { region < D.count disk.old }
     ensures slots { D.tells ≡ true → IfOk result (λ found. recovered counts (D.state disk.old region).byte ≡ option_map (λ f. f.0) found) }
     ensures marks { D.tells ≡ true → IfOk result (λ found. IfSome found (λ f. AreMarks (D.state disk.old region).byte f.1)) }
@@ -131,7 +135,11 @@ fn read_region<D: Disk>(region: u16, disk: &mut D, counts: [u8; 2]) -> Result<Op
 /// Reads a region back: its live slots at the kept clock, for pools of so many DHCPv4 and DHCPv6
 /// addresses, and the marks that a save wants. Slots past a pool's count are not read, and are free
 /// in the answer. The region may have unsynced bytes: what they read as now counts.
-pub fn recover<D: Disk>(region: u16, disk: &mut D, counts: [u8; 2]) -> Result<(Slots, Marks), RecoverFault>
+pub fn recover<D: Disk>(
+    region: u16,
+    disk: &mut D,
+    counts: [u8; 2],
+) -> Result<(Slots, Marks), RecoverFault>
     requires exists { region < D.count disk.old }
     ensures answer { D.tells ≡ true → Answers counts (D.state disk.old region) result }
     ensures state { D.tells ≡ true → D.state disk.new ≡ D.state disk.old }
