@@ -1,6 +1,6 @@
 -- What a region recovers to is a book.
 use Rattle.std.proofs.Common.{◌≡◌, ℕ, ◌+◌, ◌<◌, ◌≤◌, Bool, true, false, ◌&&◌, nat_le, nat_lt, suc, zero, List, [], ◌∷◌, length, replicate, get_or, slice_index, zero-add, ◌*◌, Option, Some, None, refl, sym, ap, ◌∙◌, subst, arith}
-use Rattle.std.specs.Prelude.{if◌then◌else◌, option_map, ◌==◌, All}
+use Rattle.std.specs.Prelude.{if◌then◌else◌, option_map, ◌==◌}
 use Rattle.std.proofs.lemmas.List.{get_or_past}
 use Rattle.std.specs.Int.{w32, from_be_bytes}
 use Rattle.types.specs.Key6.{Key6Value}
@@ -14,7 +14,7 @@ use Rattle.lease_disk.specs.Book.{IsBook, IsWithin4, IsWithin6, empty_book}
 use Rattle.lease_disk.specs.Crash.{IsFormatted}
 use Rattle.lease_disk.specs.Region.{Region}
 use Rattle.lease_disk.specs.Save.{AreMarks}
-use Rattle.lease_disk.specs.Recovered.{is_counting, body, bytes_at, from, clock_of, until_of, slot4_of, slot6_of, live4, live6, cons_some, slots_from, four_in, six_in, same_client4, same_client6, none_twice, book_with, book_of, recovered, last_clock, last_until}
+use Rattle.lease_disk.specs.Recovered.{is_format2, is_counting, body, bytes_at, from, clock_of, until_of, slot4_of, slot6_of, live4, live6, cons_some, slots_from, four_in, six_in, same_client4, same_client6, none_twice, book_with, book_of, recovered, last_clock, last_until}
 
 abbrev some_or : {A : Type 0} → A → Option A → A
 some_or d None = d
@@ -64,11 +64,15 @@ empty_of counts = rw (
 formatted_counts : (r : Region) → IsFormatted r → is_counting r.byte First ≡ true
 formatted_counts r h = rw (h.byte 0 (omega arith), h.byte 1 (omega arith), h.byte 4096 (omega arith)) refl
 
+formatted_format : (r : Region) → IsFormatted r → is_format2 r.byte ≡ false
+formatted_format r h = rw (h.byte 8192 (omega arith)) refl
+
 pub formatted_book : (counts : List ℕ) (r : Region) → IsFormatted r → recovered counts r.byte ≡ Some empty_book
-formatted_book counts r h = rw (formatted_counts r h, zero_body r h) (empty_of counts)
+formatted_book counts r h = rw (formatted_format r h, formatted_counts r h, zero_body r h) (empty_of counts)
 
 pub formatted_marks : (r : Region) → IsFormatted r → AreMarks r.byte (record { bank = First; sequence = 0; other_open = false })
 formatted_marks r h = record {
+  format = formatted_format r h;
   counting = formatted_counts r h;
   sequence = sym (h.byte 1 (omega arith));
   other_open = rw (h.byte 4096 (omega arith)) refl;
@@ -258,12 +262,13 @@ bank_book counts bank slots e =
       once6 = s.once6;
     }
 
-of_either : (P : Type 0) (a b : Bool) (x y : Option Slots) (s : Slots) → (x ≡ Some s → P) → (y ≡ Some s → P) → (if a then x else if b then y else None) ≡ Some s → P
-of_either P true b x y s f g e = f e
-of_either P false true x y s f g e = g e
-of_either P false false x y s f g e = cc
+of_either : (P : Type 0) (n a b : Bool) (x y : Option Slots) (s : Slots) → (x ≡ Some s → P) → (y ≡ Some s → P) → (if n then None else if a then x else if b then y else None) ≡ Some s → P
+of_either P true a b x y s f g e = cc
+of_either P false true b x y s f g e = f e
+of_either P false false true x y s f g e = g e
+of_either P false false false x y s f g e = cc
 
 pub recovered_book : (counts : List ℕ) (region : ℕ → ℕ) (slots : Slots) → recovered counts region ≡ Some slots → IsBook counts slots
 recovered_book counts region slots e =
-    of_either (IsBook counts slots) (is_counting region First) (is_counting region Second) (book_of counts (body region First)) (book_of counts (body region Second)) slots
+    of_either (IsBook counts slots) (is_format2 region) (is_counting region First) (is_counting region Second) (book_of counts (body region First)) (book_of counts (body region Second)) slots
     (bank_book counts (body region First) slots) (bank_book counts (body region Second) slots) e

@@ -1,5 +1,5 @@
 -- What recovering a region answers.
-use Rattle.std.specs.Prelude.{◌≡◌, ℕ, ◌+◌, true, false, List, Option, Some, None, Result, Ok, Err}
+use Rattle.std.specs.Prelude.{◌≡◌, ℕ, ◌+◌, true, false, List, Some, None, Result, Ok, Err}
 use Rattle.types.specs.declared.slots.Slots.{Slots}
 use Rattle.lease_disk.specs.declared.bank.Bank.{Bank}
 use Rattle.lease_disk.specs.declared.bank.Marks.{Marks}

@@ -9,6 +9,9 @@ pub const FORMAT_AT: usize = 8192;
 /// The format of the regions that this crate writes.
 pub const FORMAT: u8 = 1;
 
+/// The format that is not read: a region that has it counts as damaged.
+pub const FORMAT_TWO: u8 = 2;
+
 /// The number of bytes of a bank.
 pub const BANK_SIZE: usize = 4096;
 

@@ -1,14 +1,14 @@
 //! Reading back what a region holds.
-ghost use Rattle.std.specs.Prelude.{◌≡◌, ◌≤◌, ◌<◌, ◌+◌, ℕ, List, [], ◌∷◌, Option, Some, None, true, length, is_ok, slice_index, option_map, IfOk, IfSome};
+ghost use Rattle.std.specs.Prelude.{◌≡◌, ◌≤◌, ◌<◌, ◌+◌, ℕ, List, [], ◌∷◌, Option, Some, None, true, false, length, is_ok, slice_index, option_map, IfOk, IfSome};
 ghost use Rattle.lease_disk.specs.declared.bank.Bank.TheVariants.{First, Second};
-ghost use Rattle.lease_disk.specs.Recovered.{recovered, is_counting, other, body};
+ghost use Rattle.lease_disk.specs.Recovered.{recovered, is_format2, is_counting, other, body};
 ghost use Rattle.lease_disk.specs.Recover.{IsHead, Answers, recover_faults};
 ghost use Rattle.lease_disk.specs.Region.{faults_after};
 ghost use Rattle.lease_disk.specs.Save.{AreMarks};
 
 use crate::bank::{Bank, Marks, sequence_after};
 use crate::device::{Disk, Fault};
-use crate::layout::{BANK_SIZE, GATE_OPEN};
+use crate::layout::{BANK_SIZE, FORMAT_AT, FORMAT_TWO, GATE_OPEN};
 use crate::read_bank::read_bank;
 use thiserror::Error;
 use types::Slots;
@@ -29,6 +29,23 @@ pub enum RecoverFault {
 pub struct Head {
     is_open: bool,
     sequence: u8,
+}
+
+/// Reads whether a region has format 2.
+fn has_format2<D: Disk>(region: u16, disk: &mut D) -> Result<bool, Fault>
+    requires { region < D.count disk.old }
+    ensures format { D.tells ≡ true → IfOk result (λ two. two ≡ is_format2 (D.state disk.old region).byte) }
+    ensures answer { D.tells ≡ true → is_ok result ≡ (D.state disk.old region).readable }
+    ensures state { D.tells ≡ true → D.state disk.new ≡ D.state disk.old }
+    ensures fuse { D.tells ≡ true → D.fuse disk.new ≡ D.fuse disk.old }
+    ensures count { D.count disk.new ≡ D.count disk.old }
+    ensures reads { D.reads disk.new ≡ D.reads disk.old + 1 }
+    ensures writes { D.writes disk.new ≡ D.writes disk.old }
+    ensures failures { D.failures disk.new ≡ faults_after result (D.failures disk.old) }
+{
+    let mut bytes = [0; 1];
+    disk.read(region, FORMAT_AT, &mut bytes)?;
+    Ok(bytes[0] == FORMAT_TWO)
 }
 
 /// Reads a bank's gate and its sequence.
@@ -81,10 +98,10 @@ fn counts_before(own: Head, rival: Head) -> bool
     rival.sequence <= 2 && own.sequence == sequence_after(rival.sequence)
 }
 
-/// The marks of the bank that counts, by the heads of both; `None` where neither does.
+/// The marks of a region of format 1, by the heads of both banks; `None` where neither counts.
 fn counting_marks(first: Head, second: Head) -> Option<Marks>
-    ensures some { (region : ℕ → ℕ) → IsHead region First first → IsHead region Second second → IfSome result (λ marks. AreMarks region marks) }
-    ensures none { (region : ℕ → ℕ) → IsHead region First first → IsHead region Second second → result ≡ None → (counts : List ℕ) → recovered counts region ≡ None }
+    ensures some { (region : ℕ → ℕ) → is_format2 region ≡ false → IsHead region First first → IsHead region Second second → IfSome result (λ marks. AreMarks region marks) }
+    ensures none { (region : ℕ → ℕ) → is_format2 region ≡ false → IsHead region First first → IsHead region Second second → result ≡ None → (counts : List ℕ) → recovered counts region ≡ None }
 {
     if counts_before(first, second) {
         return Some(Marks {
@@ -116,10 +133,13 @@ fn read_region<D: Disk>(
     ensures state { D.tells ≡ true → D.state disk.new ≡ D.state disk.old }
     ensures fuse { D.tells ≡ true → D.fuse disk.new ≡ D.fuse disk.old }
     ensures count { D.count disk.new ≡ D.count disk.old }
-    ensures reads { D.reads disk.new ≤ D.reads disk.old + 3 }
+    ensures reads { D.reads disk.new ≤ D.reads disk.old + 4 }
     ensures writes { D.writes disk.new ≡ D.writes disk.old }
     ensures failures { D.failures disk.new ≡ faults_after result (D.failures disk.old) }
 {
+    if has_format2(region, disk)? {
+        return Ok(None);
+    }
     let first = read_head(region, disk, Bank::First)?;
     let second = read_head(region, disk, Bank::Second)?;
     let Some(marks) = counting_marks(first, second) else {
@@ -133,8 +153,8 @@ fn read_region<D: Disk>(
 }
 
 /// Reads a region back: its live slots at the kept clock, for pools of so many DHCPv4 and DHCPv6
-/// addresses, and the marks that a save wants. Slots past a pool's count are not read, and are free
-/// in the answer. The region may have unsynced bytes: what they read as now counts.
+/// addresses, and the marks that the next save wants. Slots past a pool's count are not read, and
+/// are free in the answer. Unsynced bytes count as they read now. Takes no memory.
 pub fn recover<D: Disk>(
     region: u16,
     disk: &mut D,
@@ -145,7 +165,7 @@ pub fn recover<D: Disk>(
     ensures state { D.tells ≡ true → D.state disk.new ≡ D.state disk.old }
     ensures fuse { D.tells ≡ true → D.fuse disk.new ≡ D.fuse disk.old }
     ensures count { D.count disk.new ≡ D.count disk.old }
-    ensures reads { D.reads disk.new ≤ D.reads disk.old + 3 }
+    ensures reads { D.reads disk.new ≤ D.reads disk.old + 4 }
     ensures writes { D.writes disk.new ≡ D.writes disk.old }
     ensures failures { D.failures disk.new ≡ recover_faults result (D.failures disk.old) }
 {

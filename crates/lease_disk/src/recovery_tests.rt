@@ -169,6 +169,15 @@ fn a_closed_bank_does_not_count(rt: HostRuntime) -> Result<(), Fail> {
 }
 
 #[test]
+fn a_region_of_format_two(rt: HostRuntime) -> Result<(), Fail> {
+    assert!(rt; is_damaged(rt.alloc(), &[(8192, 2)])?);
+    for other in [0, 1, 3, 255] {
+        assert!(rt; !is_damaged(rt.alloc(), &[(8192, other)])?);
+    }
+    Ok(())
+}
+
+#[test]
 fn the_last_clock(rt: HostRuntime) -> Result<(), Fail> {
     let last = [(11, 0xff), (12, 0xff), (13, 0xff), (14, 0xff), (15, 0xff)];
     if let Some(slots) = slots_with(rt.alloc(), &last, [16, 16])? {

@@ -1,4 +1,4 @@
-use Rattle.std.proofs.Common.{arith, sym, ◌∙◌, ap, Some}
+use Rattle.std.proofs.Common.{arith, ◌∙◌, ap, Some}
 use Rattle.lease_disk.proofs.Reading.{four_some, four_none}
 use Rattle.lease_disk.proofs.read_bank.four_slot.Goals as goal
 

@@ -1,4 +1,4 @@
-use Rattle.std.proofs.Common.{refl, arith, rules, sym, ◌∙◌}
+use Rattle.std.proofs.Common.{refl, arith, ◌∙◌}
 use Rattle.lease_disk.proofs.Reading.{goes_first, goes_on, goes_not, goes_all}
 use Rattle.lease_disk.proofs.read_bank.read_four.Goals as goal
 
