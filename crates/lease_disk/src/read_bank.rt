@@ -6,7 +6,10 @@ ghost use Rattle.lease_disk.specs.Recovered.{bytes_at, clock_of, slot4_of, slot6
 
 use crate::layout::{CLOCK_AT, FOUR_AT, FOUR_SIZE, IAID_AT, KEY_AT, SIX_AT, SIX_SIZE, UNTIL_AT};
 use byteorder::{BigEndian, ByteOrder};
-use types::{Key4, Key6, LAST_MOMENT, Moment, Slot4, Slot6, Slots};
+use types::{Key4, Key6, LAST_MOMENT, MAX_LEASE, Moment, Slot4, Slot6, Slots};
+
+/// The last moment until which a lease or a bar can be: the longest lease after the last clock.
+const LAST_UNTIL: u64 = LAST_MOMENT + MAX_LEASE as u64;
 
 fn number8(bytes: &[u8], at: usize) -> u64
     requires { at + 8 ≤ length bytes.now }
@@ -32,7 +35,7 @@ fn read_slot4(slot: &[u8]) -> Option<Slot4>
         return Some(Slot4::Free);
     }
     let until = number8(slot, UNTIL_AT);
-    if until > LAST_MOMENT + 604800 {
+    if until > LAST_UNTIL {
         return None;
     }
     match slot[0] {
@@ -59,7 +62,7 @@ fn read_slot6(slot: &[u8]) -> Option<Slot6>
         return Some(Slot6::Free);
     }
     let until = number8(slot, UNTIL_AT);
-    if until > LAST_MOMENT + 604800 {
+    if until > LAST_UNTIL {
         return None;
     }
     match slot[0] {
