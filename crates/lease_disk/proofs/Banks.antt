@@ -3,13 +3,14 @@ use Rattle.std.proofs.Common.{◌≡◌, ℕ, ◌+◌, ◌<◌, ◌≤◌, ◌%�
 use Rattle.std.specs.Prelude.{if◌then◌else◌, ◌==◌}
 use Rattle.lease_disk.specs.declared.bank.Bank.{Bank}
 use Rattle.lease_disk.specs.declared.bank.Bank.TheVariants.{First, Second}
-use Rattle.lease_disk.specs.Layout.{gate_open, gate_at, bank_at}
-use Rattle.lease_disk.specs.Recovered.{other, is_open, sequence, is_valid, next, is_counting, body, book_of, recovered}
+use Rattle.lease_disk.specs.Layout.{gate_open, gate_at, bank_at, format_at}
+use Rattle.lease_disk.specs.Recovered.{other, is_format2, is_open, sequence, is_valid, next, is_counting, body, book_of, recovered}
 use Rattle.lease_disk.specs.Region.{is_within}
 
--- two regions have the same bytes in a bank
+-- two regions have one format and the same bytes in a bank
 pub record SameIn (bank : Bank) (f g : ℕ → ℕ) : Type 0 where
   pub each : (i : ℕ) → i < 4096 → g (bank_at bank + i) ≡ f (bank_at bank + i)
+  pub format : g format_at ≡ f format_at
 
 pub is_below : (at n i : ℕ) → i < at → is_within at n i ≡ false
 is_below at n i h = grind arith
@@ -23,6 +24,9 @@ is_inside at n i h k = grind arith
 pub same_gate : (bank : Bank) (f g : ℕ → ℕ) → SameIn bank f g → g (gate_at bank) ≡ f (gate_at bank)
 same_gate First f g s = s.each 0 (omega arith)
 same_gate Second f g s = s.each 0 (omega arith)
+
+pub same_format : (bank : Bank) (f g : ℕ → ℕ) → SameIn bank f g → is_format2 g ≡ is_format2 f
+same_format bank f g s = λ i. s.format i == 2
 
 pub same_sequence : (bank : Bank) (f g : ℕ → ℕ) → SameIn bank f g → sequence g bank ≡ sequence f bank
 same_sequence bank f g s = s.each 1 (omega arith)
@@ -61,9 +65,9 @@ false_of true h = absurd (h refl)
 false_of false h = refl
 
 -- the bank that counts decides
-pub recovered_by : (counts : List ℕ) (f : ℕ → ℕ) (bank : Bank) → is_counting f bank ≡ true → recovered counts f ≡ book_of counts (body f bank)
-recovered_by counts f First p = rw p
-recovered_by counts f Second p = rw (false_of (is_counting f First) (λ q. not_both f First q p), p)
+pub recovered_by : (counts : List ℕ) (f : ℕ → ℕ) (bank : Bank) → is_format2 f ≡ false → is_counting f bank ≡ true → recovered counts f ≡ book_of counts (body f bank)
+recovered_by counts f First n p = rw (n, p)
+recovered_by counts f Second n p = rw (n, false_of (is_counting f First) (λ q. not_both f First q p), p)
 
 counting_valid : (v w : Bool) → (v && w) ≡ true → (v && true) ≡ true
 counting_valid true w h = refl
@@ -75,9 +79,9 @@ while_closed f g bank s p closed =
     rw (same_valid bank f g s, closed) (counting_valid (is_valid f bank) _ p)
 
 -- what the bank held stays
-pub same_book : (counts : List ℕ) (f g : ℕ → ℕ) (bank : Bank) → SameIn bank f g → is_counting f bank ≡ true → is_counting g bank ≡ true → recovered counts g ≡ recovered counts f
-same_book counts f g bank s p q =
-    recovered_by counts g bank q ∙ ap (λ b. book_of counts b) (same_body bank f g s) ∙ sym (recovered_by counts f bank p)
+pub same_book : (counts : List ℕ) (f g : ℕ → ℕ) (bank : Bank) → SameIn bank f g → is_format2 f ≡ false → is_counting f bank ≡ true → is_counting g bank ≡ true → recovered counts g ≡ recovered counts f
+same_book counts f g bank s n p q =
+    recovered_by counts g bank (same_format bank f g s ∙ n) q ∙ ap (λ b. book_of counts b) (same_body bank f g s) ∙ sym (recovered_by counts f bank n p)
 
 -- two regions that are the same but for one gate, which was open
 by_gate : (o p q : Bool) (a b : ℕ) → true ≡ q
@@ -92,8 +96,8 @@ pub record SameButGate (bank : Bank) (n : ℕ) (f g : ℕ → ℕ) : Type 0 wher
   pub each : (i : ℕ) → is_within (gate_at bank) n i ≡ false → g i ≡ f i
 
 pub beside_gate : (bank : Bank) (n : ℕ) (f g : ℕ → ℕ) → n ≤ 1 → SameButGate (other bank) n f g → SameIn bank f g
-beside_gate First n f g h s = record { each = λ i k. s.each (0 + i) (is_below 4096 n (0 + i) (omega arith)) }
-beside_gate Second n f g h s = record { each = λ i k. s.each (4096 + i) (is_above 0 n (4096 + i) (omega arith)) }
+beside_gate First n f g h s = record { each = λ i k. s.each (0 + i) (is_below 4096 n (0 + i) (omega arith)); format = s.each 8192 (is_above 4096 n 8192 (omega arith)) }
+beside_gate Second n f g h s = record { each = λ i k. s.each (4096 + i) (is_above 0 n (4096 + i) (omega arith)); format = s.each 8192 (is_above 0 n 8192 (omega arith)) }
 
 pub behind_gate : (bank : Bank) (n : ℕ) (f g : ℕ → ℕ) → n ≤ 1 → SameButGate bank n f g → sequence g bank ≡ sequence f bank
 behind_gate First n f g h s = s.each 1 (is_above 0 n 1 (omega arith))

@@ -4,3 +4,5 @@ pub mod Exits
 pub mod ReadBack
 pub mod FormatLemmas
 pub mod Fresh
+pub mod Reading
+pub mod Books

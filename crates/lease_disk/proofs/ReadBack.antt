@@ -159,7 +159,7 @@ assoc_four a b c d = simp append_assoc
 assoc_six : (a b c d : List ℕ) → ((a ++ b) ++ c) ++ d ≡ (a ++ b) ++ (c ++ d)
 assoc_six a b c d = append_assoc (a ++ b) c d
 
-book_of_slots : (clock : ℕ) (four : List Slot4) (six : List Slot6) → clock ≤ last_clock → none_twice same_client4 four ≡ true → none_twice same_client6 six ≡ true
+pub book_of_slots : (clock : ℕ) (four : List Slot4) (six : List Slot6) → clock ≤ last_clock → none_twice same_client4 four ≡ true → none_twice same_client6 six ≡ true
     → book_with clock (Some four) (Some six) ≡ Some (record { four = four; six = six; clock = clock })
 book_of_slots clock four six h p q = rw (at_least clock last_clock h, p, q) refl
 

@@ -7,10 +7,10 @@ use Rattle.lease_disk.specs.declared.bank.Bank.{Bank}
 use Rattle.lease_disk.specs.declared.bank.Bank.TheVariants.{First, Second}
 use Rattle.lease_disk.specs.declared.bank.Marks.{Marks}
 use Rattle.lease_disk.specs.Layout.{gate_open, gate_at, bank_at}
-use Rattle.lease_disk.specs.Recovered.{other, is_open, sequence, next, is_counting, body, book_of, recovered}
+use Rattle.lease_disk.specs.Recovered.{other, is_format2, is_open, sequence, next, is_counting, body, book_of, recovered}
 use Rattle.lease_disk.specs.Region.{Region, is_within, written, synced, effective, IsCrash, IsClean, IsTorn}
 use Rattle.lease_disk.specs.Save.{AreMarks, IsLeft}
-use Rattle.lease_disk.proofs.Banks.{SameIn, SameButGate, is_below, is_above, is_inside, same_gate, same_sequence, same_book, other_other, recovered_by, while_closed, while_closing, beside_gate, behind_gate, same_open}
+use Rattle.lease_disk.proofs.Banks.{SameIn, SameButGate, is_below, is_above, is_inside, same_gate, same_format, same_sequence, same_book, other_other, recovered_by, while_closed, while_closing, beside_gate, behind_gate, same_open}
 
 -- which call failed
 
@@ -33,15 +33,15 @@ outside at n old new f clean torn crash i h =
     crash.same i u ∙ torn.byte i h
 
 pub same_trans : (bank : Bank) (f g h : ℕ → ℕ) → SameIn bank f g → SameIn bank g h → SameIn bank f h
-same_trans bank f g h s t = record { each = λ i k. t.each i k ∙ s.each i k }
+same_trans bank f g h s t = record { each = λ i k. t.each i k ∙ s.each i k; format = t.format ∙ s.format }
 
 -- what is outside a body
 pub record SameButBody (bank : Bank) (f g : ℕ → ℕ) : Type 0 where
   pub each : (i : ℕ) → is_within (bank_at bank + 1) 4095 i ≡ false → g i ≡ f i
 
 pub beside_body : (bank : Bank) (f g : ℕ → ℕ) → SameButBody (other bank) f g → SameIn bank f g
-beside_body First f g s = record { each = λ i k. s.each (0 + i) (is_below 4097 4095 (0 + i) (omega arith)) }
-beside_body Second f g s = record { each = λ i k. s.each (4096 + i) (is_above 1 4095 (4096 + i) (omega arith)) }
+beside_body First f g s = record { each = λ i k. s.each (0 + i) (is_below 4097 4095 (0 + i) (omega arith)); format = s.each 8192 (is_above 4097 4095 8192 (omega arith)) }
+beside_body Second f g s = record { each = λ i k. s.each (4096 + i) (is_above 1 4095 (4096 + i) (omega arith)); format = s.each 8192 (is_above 1 4095 8192 (omega arith)) }
 
 pub gate_stays : (bank : Bank) (f g : ℕ → ℕ) → SameButBody bank f g → is_open g bank ≡ is_open f bank
 gate_stays First f g s = λ i. s.each 0 (is_below 1 4095 0 (omega arith)) i == gate_open
@@ -116,9 +116,9 @@ still_filled bank whole f g h s t = record {
 }
 
 -- with the other bank written, its gate decides
-by_open : (counts : List ℕ) (bank : Bank) (whole f g : ℕ → ℕ) (o : Bool) → is_open g (other bank) ≡ o → is_counting f bank ≡ true → IsFilled bank whole f g → recovered counts g ≡ (if o then book_of counts whole else recovered counts f)
-by_open counts bank whole f g true e p s = recovered_by counts g (other bank) (filled_counts bank whole f g p s e) ∙ ap (λ b. book_of counts b) s.body
-by_open counts bank whole f g false e p s = same_book counts f g bank s.same p (while_closed f g bank s.same p e)
+by_open : (counts : List ℕ) (bank : Bank) (whole f g : ℕ → ℕ) (o : Bool) → is_open g (other bank) ≡ o → is_format2 f ≡ false → is_counting f bank ≡ true → IsFilled bank whole f g → recovered counts g ≡ (if o then book_of counts whole else recovered counts f)
+by_open counts bank whole f g true e n p s = recovered_by counts g (other bank) (same_format bank f g s.same ∙ n) (filled_counts bank whole f g p s e) ∙ ap (λ b. book_of counts b) s.body
+by_open counts bank whole f g false e n p s = same_book counts f g bank s.same n p (while_closed f g bank s.same p e)
 
 is_positive : (j : ℕ) → nat_lt 0 (suc j) ≡ true
 is_positive j = grind arith
@@ -178,7 +178,7 @@ pub left_closing : (k : ℕ) (counts : List ℕ) (after : Option Slots) (marks :
 left_closing k counts after marks old new m clean torn e = record {
   crash = λ f crash.
       let s : SameButGate (other marks.bank) (if marks.other_open then 1 else 0) old.byte f = record { each = outside _ _ old new f clean torn crash } in
-      rw e (same_book counts old.byte f marks.bank (beside_closing marks.bank marks.other_open old.byte f s) m.counting
+      rw e (same_book counts old.byte f marks.bank (beside_closing marks.bank marks.other_open old.byte f s) m.format m.counting
       (while_closing old.byte f marks.bank marks.other_open m.other_open s m.counting));
   doubt = λ h. absurd (not_late k e h);
 }
@@ -190,7 +190,7 @@ left_writing k counts after marks first old new m s clean torn e = record {
   crash = λ f crash.
       let t : SameButBody (other marks.bank) old.byte f = record { each = outside _ _ old new f clean torn crash } in
       let same : SameIn marks.bank first.byte f = same_trans marks.bank first.byte old.byte f s.same (beside_body marks.bank old.byte f t) in
-      rw e (same_book counts first.byte f marks.bank same m.counting
+      rw e (same_book counts first.byte f marks.bank same m.format m.counting
       (while_closed first.byte f marks.bank same m.counting (gate_stays (other marks.bank) old.byte f t ∙ s.shut)));
   doubt = λ h. absurd (not_late k e h);
 }
@@ -202,7 +202,7 @@ pub left_opening : (k : ℕ) (counts : List ℕ) (after : Option Slots) (marks :
 left_opening k counts after marks whole first old new m s clean book torn e = record {
   crash = λ f crash.
       let t : SameButGate (other marks.bank) 1 old.byte f = record { each = outside _ _ old new f clean torn crash } in
-      rw (e, ← book) (by_open counts marks.bank whole first.byte f (is_open f (other marks.bank)) refl m.counting (still_filled marks.bank whole first.byte old.byte f s t));
+      rw (e, ← book) (by_open counts marks.bank whole first.byte f (is_open f (other marks.bank)) refl m.format m.counting (still_filled marks.bank whole first.byte old.byte f s t));
   doubt = λ h. torn.unsynced (gate_at (other marks.bank)) ∙ rw (is_inside (gate_at (other marks.bank)) 1 (gate_at (other marks.bank)) (omega arith) (omega arith)) refl;
 }
 
@@ -210,13 +210,14 @@ pub saved_book : (counts : List ℕ) (after : Option Slots) (marks : Marks) (who
     → book_of counts whole ≡ after
     → recovered counts (written (gate_at (other marks.bank)) (gate_open ∷ []) old).byte ≡ after
 saved_book counts after marks whole first old m s book =
-    by_open counts marks.bank whole first.byte _ true (opened_to (other marks.bank) old) m.counting (still_filled marks.bank whole first.byte old.byte _ s (opens (other marks.bank) old)) ∙ book
+    by_open counts marks.bank whole first.byte _ true (opened_to (other marks.bank) old) m.format m.counting (still_filled marks.bank whole first.byte old.byte _ s (opens (other marks.bank) old)) ∙ book
 
 pub saved_marks : (marks : Marks) (whole : ℕ → ℕ) (first old : Region) → AreMarks first.byte marks → IsFilled marks.bank whole first.byte old.byte
     → AreMarks (written (gate_at (other marks.bank)) (gate_open ∷ []) old).byte (record { bank = other marks.bank; sequence = next marks.sequence; other_open = true })
 saved_marks marks whole first old m s =
     let t = still_filled marks.bank whole first.byte old.byte _ s (opens (other marks.bank) old) in
     record {
+      format = same_format marks.bank first.byte _ t.same ∙ m.format;
       counting = filled_counts marks.bank whole first.byte _ m.counting t (opened_to (other marks.bank) old);
       sequence = ap next m.sequence ∙ sym t.sequence;
       other_open = rw (other_other marks.bank) (sym (still_open marks.bank first.byte _ t.same m.counting));

@@ -32,6 +32,10 @@ pub record IsBook (counts : List ℕ) (slots : Slots) : Type 0 where
   pub once4 : none_twice same_client4 slots.four ≡ true
   pub once6 : none_twice same_client6 slots.six ≡ true
 
+-- no client has anything
+abbrev pub empty_book : Slots
+empty_book = record { four = replicate 16 S4.Free; six = replicate 16 S6.Free; clock = 0 }
+
 abbrev pub slot4_bytes : Slot4 → List ℕ
 slot4_bytes S4.Free = replicate 80 0
 slot4_bytes (S4.Bound key until) = (1 ∷ length key ∷ replicate 6 0) ++ to_be_bytes w64 until ++ (key ++ replicate (64 - length key) 0)

@@ -3,6 +3,7 @@ pub mod Crash
 pub mod Keys
 pub mod Layout
 pub mod Model
+pub mod Recover
 pub mod Recovered
 pub mod Region
 pub mod Save

@@ -1,5 +1,5 @@
--- What the bytes of a region of format 1 mean: the slots that a book begins with, or None where the
--- region is damaged.
+-- What the bytes of a region mean: the slots that a book begins with, or None where the region is
+-- damaged. One of format 2 counts as damaged: only format 1 is read.
 use Rattle.std.specs.Prelude.{ℕ, ◌+◌, ◌%◌, ◌==◌, Bool, true, false, not, ◌&&◌, ◌||◌, nat_le, nat_lt, suc, zero, if◌then◌else◌, List, [], ◌∷◌, slice_index, Option, Some, None, option_map}
 use Rattle.std.specs.Int.{w32, w64, from_be_bytes}
 use Rattle.std.specs.List.{list_any}
@@ -12,9 +12,13 @@ use Rattle.types.specs.declared.slots.Slot6.TheVariants as S6
 use Rattle.types.specs.declared.slots.Slots.{Slots}
 use Rattle.lease_disk.specs.declared.bank.Bank.{Bank}
 use Rattle.lease_disk.specs.declared.bank.Bank.TheVariants.{First, Second}
-use Rattle.lease_disk.specs.Layout.{gate_open, gate_at, bank_at, bank_size, sequence_at, clock_at, four_at, six_at, state_at, length_at, iaid_at, until_at, key_at}
+use Rattle.lease_disk.specs.Layout.{gate_open, format_at, gate_at, bank_at, bank_size, sequence_at, clock_at, four_at, six_at, state_at, length_at, iaid_at, until_at, key_at}
 
 -- Which bank counts
+
+-- the region has format 2, and its banks hold no book
+abbrev pub is_format2 : (ℕ → ℕ) → Bool
+is_format2 region = region format_at == 2
 
 abbrev pub other : Bank → Bank
 other First = Second
@@ -152,6 +156,7 @@ book_of counts bank =
 
 abbrev pub recovered : List ℕ → (ℕ → ℕ) → Option Slots
 recovered counts region =
-    if is_counting region First then book_of counts (body region First)
+    if is_format2 region then None
+    else if is_counting region First then book_of counts (body region First)
     else if is_counting region Second then book_of counts (body region Second)
     else None

@@ -1,5 +1,5 @@
 //! The two banks of a region of format 1, and which of them counts.
-ghost use Rattle.std.specs.Prelude.{◌≡◌, ◌%◌, ◌+◌};
+ghost use Rattle.std.specs.Prelude.{◌≡◌, ◌≤◌, ◌%◌, ◌+◌};
 ghost use Rattle.lease_disk.specs.Layout.{bank_at};
 ghost use Rattle.lease_disk.specs.Recovered.{other, next};
 
@@ -42,4 +42,15 @@ pub struct Marks {
     pub sequence: u8,
     /// Whether the other bank's gate reads open.
     pub other_open: bool,
+}
+
+/// The sequence after this one: 0, 1, 2, 0, and so on.
+pub fn sequence_after(sequence: u8) -> u8
+    ensures { sequence ≤ 2 → result ≡ next sequence }
+{
+    match sequence {
+        0 => 1,
+        1 => 2,
+        _ => 0,
+    }
 }

@@ -5,8 +5,13 @@ mod bank;
 mod device;
 mod formatting;
 mod image;
+mod laws;
 mod layout;
 mod model_disk;
+mod read_bank;
+mod recovering;
+#[cfg(test)]
+mod recovery_tests;
 mod saving;
 #[cfg(test)]
 mod tests;
@@ -16,6 +21,8 @@ pub use bank::{Bank, Marks};
 pub use device::{Disk, Fault, REGION};
 pub use formatting::format;
 pub use image::Image;
+pub use laws::{formats_an_empty_book, recovers_a_book};
 pub use layout::{FORMAT, FORMAT_AT, GATE_OPEN};
 pub use model_disk::ModelDisk;
+pub use recovering::{RecoverFault, recover};
 pub use saving::save;

@@ -2,11 +2,11 @@
 ghost use Rattle.std.specs.Prelude.{◌≡◌, ◌≢◌, ℕ, true, ◌+◌, ◌-◌, ◌==◌, ◌<◌, ◌≤◌, if◌then◌else◌, List, [], ◌∷◌, Some, length, is_ok, OnOk, OnErr};
 ghost use Rattle.lease_disk.specs.Book.{IsBook};
 ghost use Rattle.lease_disk.specs.Layout.{gate_open, gate_at, bank_at};
-ghost use Rattle.lease_disk.specs.Recovered.{recovered, other, next};
+ghost use Rattle.lease_disk.specs.Recovered.{recovered, other};
 ghost use Rattle.lease_disk.specs.Region.{IsClean, IsTorn, written, synced, effective, faults_after};
 ghost use Rattle.lease_disk.specs.Save.{AreMarks, IsSaved, IsLeft};
 
-use crate::bank::{Bank, Marks};
+use crate::bank::{Bank, Marks, sequence_after};
 use crate::device::{Disk, Fault};
 use crate::layout::GATE_OPEN;
 use crate::write_bank::write_bank;
@@ -67,17 +67,6 @@ fn open_gate<D: Disk>(region: u16, disk: &mut D, bank: Bank) -> Result<(), Fault
 {
     disk.write_at(region, bank.at(), &[GATE_OPEN])?;
     disk.sync(region)
-}
-
-/// The sequence after this one: 0, 1, 2, 0, and so on.
-fn sequence_after(sequence: u8) -> u8
-    ensures { sequence ≤ 2 → result ≡ next sequence }
-{
-    match sequence {
-        0 => 1,
-        1 => 2,
-        _ => 0,
-    }
 }
 
 /// Saves the slots of a circuit in its region, by six calls of the device. After an error the region

@@ -9,7 +9,7 @@ use std::test::Fail;
 use types::{Key4, Key6, Moment, Slot4, Slot6, Slots};
 
 /// One DHCPv4 client bound until 701 at clock 101, as after its first DHCPACK.
-fn first_lease() -> Slots {
+pub fn first_lease() -> Slots {
     let mut slots = Slots {
         four: [Slot4::Free; 16],
         six: [Slot6::Free; 16],
@@ -29,7 +29,7 @@ fn has(bytes: &[u8], at: usize, expected: &[u8]) -> bool {
 }
 
 /// A device of one formatted region, and its marks.
-fn formatted_disk(alloc: Global) -> Result<(ModelDisk, Marks), AllocError>
+pub fn formatted_disk(alloc: Global) -> Result<(ModelDisk, Marks), AllocError>
     ensures count { IfOk result (λ r. length r.0.regions ≡ 1) }
     ensures clean { IfOk result (λ r. IsClean (state_of r.0 0)) }
     ensures marks { IfOk result (λ r. AreMarks (state_of r.0 0).byte r.1) }

@@ -6,4 +6,4 @@ pub returns-clause-clean : goal.returns-clause-clean
 returns-clause-clean c = fresh_clean _ (c.in_ok-disk.ensures.formatted 0 (lit< tt))
 
 pub returns-clause-marks : goal.returns-clause-marks
-returns-clause-marks c = fresh_marks _ _ (c.in_ok-disk.ensures.formatted 0 (lit< tt)) (record { counting = refl; sequence = refl; other_open = refl })
+returns-clause-marks c = fresh_marks _ _ (c.in_ok-disk.ensures.formatted 0 (lit< tt)) (record { format = refl; counting = refl; sequence = refl; other_open = refl })
