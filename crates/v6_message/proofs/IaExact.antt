@@ -1,9 +1,8 @@
 -- An IA_NA that was written reads back as the same, and so does an address.
-use Rattle.std.proofs.Common.{◌≡◌, ℕ, true, List, ◌++◌, length, take, drop, Option, Some, refl, sym, ap, ◌∙◌, arith}
+use Rattle.std.proofs.Common.{◌≡◌, ℕ, List, ◌++◌, take, drop, Option, Some, refl, sym, ap, ◌∙◌, arith}
 use Rattle.std.specs.Int.{w32, from_be_bytes, to_be_bytes}
 use Rattle.std.proofs.lemmas.List.{take_at, drop_at, drop-drop}
 use Rattle.std.proofs.lemmas.Nat.{from_be_bytes-to_be_bytes_4}
-use Rattle.v6_options.specs.Spelling.{spelling, Spells}
 use Rattle.v6_message.specs.Ia.{AddressValue, IaValue, IsAddressValue, IsIaValue, address_at, address_bytes, ia_bytes, ia_of}
 use Rattle.v6_message.specs.Layout.{IA_OPTIONS}
 use Rattle.v6_message.specs.Lists.{IsIa}

@@ -1,5 +1,5 @@
 -- An IA_NA (RFC 8415, section 21.4): its fields as values, its bytes, and reading them.
-use Rattle.std.specs.Prelude.{◌≡◌, ℕ, ◌<◌, ◌≤◌, ◌^◌, ◌==◌, nat_le, Bool, true, List, [], ◌∷◌, ◌++◌, length, drop, Option, None, Some, if◌then◌else◌}
+use Rattle.std.specs.Prelude.{◌≡◌, ℕ, ◌<◌, ◌≤◌, ◌^◌, ◌==◌, nat_le, true, List, [], ◌∷◌, ◌++◌, length, drop, Option, None, Some, if◌then◌else◌}
 use Rattle.std.specs.Int.{w16, w32, from_be_bytes, to_be_bytes}
 use Rattle.v6_options.specs.Codes.{IA_ADDRESS, STATUS_CODE}
 use Rattle.v6_options.specs.Reading.{listed}
