@@ -14,9 +14,9 @@ use Rattle.v6_options.proofs.Fronts.{AreSmall}
 use Rattle.v6_options.proofs.Fronts as bytes_of
 use Rattle.v6_message.specs.declared.scan.Sender.TheVariants.{Client}
 use Rattle.v6_message.specs.Layout.{IA_OPTIONS, IA_ADDRESS_OPTIONS}
-use Rattle.v6_message.specs.Lists.{AreLong, IsIa}
-use Rattle.v6_message.specs.Reading.{is_long, are_long, is_ia}
-use Rattle.v6_message.proofs.Fronts.{AreDecided}
+use Rattle.v6_message.specs.Lists.{AreLong, IsIa, IsFormed, AreFormed}
+use Rattle.v6_message.specs.Reading.{is_long, are_long, is_ia, is_formed}
+use Rattle.v6_message.proofs.Fronts.{AreDecided, AreTrue}
 use Rattle.v6_message.proofs.Lists.{listed_spells, listed_of}
 
 -- A test of the options with one code.
@@ -33,7 +33,7 @@ both false b d k = (λ h. absurd cc, λ p. d.1 p.0)
 long : (code : ℕ) (value : List ℕ) → Decides (is_long code value) ((code ≡ IA_ADDRESS) → IA_ADDRESS_OPTIONS ≤ length value)
 long code value = implied code IA_ADDRESS (leb IA_ADDRESS_OPTIONS (length value)) (IA_ADDRESS_OPTIONS ≤ length value) (leb-true IA_ADDRESS_OPTIONS (length value), le-leb IA_ADDRESS_OPTIONS (length value))
 
-longs : (list : List (ℕ × List ℕ)) → Decides (are_long list) (AreLong list)
+pub longs : (list : List (ℕ × List ℕ)) → Decides (are_long list) (AreLong list)
 longs [] = (λ h. tt, λ p. refl)
 longs (o ∷ os) = both (is_long o.0 o.1) (are_long os) (long o.0 o.1) (longs os)
 
@@ -60,11 +60,23 @@ ia_from value small true false e g h = record {
   addresses = (longs (listed (drop IA_OPTIONS value))).0 h;
 }
 
+pub ia_true : (value : List ℕ) → IsIa value → is_ia value ≡ true
+ia_true value p =
+    rw (le-leb IA_OPTIONS (length value) p.long, uncut_spells (drop IA_OPTIONS value) p.list p.spelled, listed_spells (drop IA_OPTIONS value) p.list p.spelled) ((longs p.list).1 p.addresses)
+
 pub ia : (value : List ℕ) → AreSmall value → Decides (is_ia value) (IsIa value)
-ia value small = (
-  λ h. ia_from value small (leb IA_OPTIONS (length value)) (cut_from 0 (drop IA_OPTIONS value)) refl refl h,
-  λ p. rw (le-leb IA_OPTIONS (length value) p.long, uncut_spells (drop IA_OPTIONS value) p.list p.spelled, listed_spells (drop IA_OPTIONS value) p.list p.spelled) ((longs p.list).1 p.addresses),
-)
+ia value small = (λ h. ia_from value small (leb IA_OPTIONS (length value)) (cut_from 0 (drop IA_OPTIONS value)) refl refl h, ia_true value)
+
+-- What is formed passes its test, whatever numbers stand for its bytes.
+formed_true : (code : ℕ) (value : List ℕ) → IsFormed Client code value → is_formed Client code value ≡ true
+formed_true code value p = by (eqb code IA_NA) refl where
+  by : (b : Bool) → eqb code IA_NA ≡ b → cond b (is_ia value) true ≡ true
+  by true e = ia_true value (p (eqb-true code IA_NA e))
+  by false e = refl
+
+pub all_true : (list : List (ℕ × List ℕ)) → AreFormed Client list → AreTrue Client list
+all_true [] f = tt
+all_true (o ∷ os) f = (formed_true o.0 o.1 f.0, all_true os f.1)
 
 decided : (list : List (ℕ × List ℕ)) (rest : List ℕ) → AreSmall (spelling list ++ rest) → AreDecided Client list
 decided [] rest small = tt

@@ -172,3 +172,19 @@ longest s a b true [] d = (Some Cut, record { front = []; back = []; whole = ref
 longest s a b false [] d = (None, record { front = []; back = []; whole = refl; formed = tt; first = light a; second = light b; ends = (refl, refl) })
 longest s a b cut (o ∷ os) d =
     step s a b cut o os (is_formed s o.0 o.1) (is_again s a b o.0) refl refl d.0 (longest s (a || eqb o.0 (first_code s)) (b || eqb o.0 (second_code s)) cut os d.1)
+
+-- ---- lists whose options pass their test
+
+abbrev pub AreTrue : Sender → List (ℕ × List ℕ) → Type 0
+AreTrue s [] = Unit {0}
+AreTrue s (o ∷ os) = (is_formed s o.0 o.1 ≡ true) × AreTrue s os
+
+pub none_from : (s : Sender) (a b : Bool) (list : List (ℕ × List ℕ)) → AreTrue s list → weight a + count (first_code s) list ≤ 1 → weight b + count (second_code s) list ≤ 1 → fault_of s a b false list ≡ None
+none_from s a b [] t x y = refl
+none_from s a b (o ∷ os) t x y =
+    let n = once a (eqb o.0 (first_code s)) (count (first_code s) os) x in
+    let m = once b (eqb o.0 (second_code s)) (count (second_code s) os) y in
+    rw (t.0, n, m)
+    (none_from s (a || eqb o.0 (first_code s)) (b || eqb o.0 (second_code s)) os t.1
+    (omega (arith, x, moved a (eqb o.0 (first_code s)) (count (first_code s) os) n))
+    (omega (arith, y, moved b (eqb o.0 (second_code s)) (count (second_code s) os) m)))

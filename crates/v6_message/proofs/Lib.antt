@@ -1,6 +1,7 @@
 pub mod Counts
 pub mod Decided
 pub mod Fronts
+pub mod IaExact
 pub mod Lists
 pub mod MessageExact
 pub mod RelayExact

@@ -12,7 +12,7 @@ use Rattle.v6_message.specs.declared.scan.ListFault.{ListFault}
 use Rattle.v6_message.specs.declared.scan.ListFault.TheVariants.{Cut, Twice}
 use Rattle.v6_message.specs.Lists.{count, first_code, second_code, AreAllowed, BeginsWith, IsFormed, FailsList}
 use Rattle.v6_message.specs.Reading.{is_formed, is_again, fault_of, first_fault}
-use Rattle.v6_message.proofs.Fronts.{AreDecided, Longest, longest, fault_front}
+use Rattle.v6_message.proofs.Fronts.{AreDecided, AreTrue, Longest, longest, fault_front, none_from}
 
 abbrev none : Option ListFault
 none = None
@@ -66,6 +66,14 @@ spells_none s bytes list p h d =
     let same : listed bytes ≡ list ++ [] = ap listed all ∙ listed_front list [] p.options ∙ ap (λ (t : List (ℕ × List ℕ)). list ++ t) listed_nothing in
     let d' : AreDecided s (list ++ []) = rw (append-nil list) d in
     rw (cut, same) (fault_front s false false false None list [] d' h.formed (omega (arith, h.first)) (omega (arith, h.second)) (refl, refl))
+
+-- The same of options that pass their test.
+pub allowed_none : (s : Sender) (bytes : List ℕ) (list : List (ℕ × List ℕ)) → Spells bytes list → AreAllowed s list → AreTrue s list → first_fault s bytes ≡ none
+allowed_none s bytes list p h t =
+    let all : bytes ≡ spelling list ++ [] = p.whole ∙ sym (append-nil (spelling list)) in
+    let cut : cut_from 0 bytes ≡ false = ap (cut_from 0) all ∙ cut_front list [] p.options ∙ cut_nothing in
+    let same : listed bytes ≡ list = ap listed all ∙ listed_front list [] p.options ∙ ap (λ (t : List (ℕ × List ℕ)). list ++ t) listed_nothing ∙ append-nil list in
+    rw (cut, same) (none_from s false false list t (omega (arith, h.first)) (omega (arith, h.second)))
 
 pub listed_spells : (bytes : List ℕ) (list : List (ℕ × List ℕ)) → Spells bytes list → listed bytes ≡ list
 listed_spells bytes list p =

@@ -6,3 +6,4 @@ pub mod MessageReading
 pub mod Reading
 pub mod Relay
 pub mod RelayReading
+pub mod Written

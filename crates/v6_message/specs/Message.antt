@@ -25,13 +25,22 @@ pub record HasIa (list inside : List (ℕ × List ℕ)) : Type 0 where
   pub found : look_up IA_NA list ≡ Some value
   pub spelled : Spells (drop IA_OPTIONS value) inside
 
--- Bytes spell a message if they are its bytes, and its options are allowed, with exactly one IA_NA and
--- at most 4 addresses in it.
+-- An IA_NA among these options has at most so many addresses.
+abbrev pub HasAtMost : ℕ → List (ℕ × List ℕ) → Type 0
+HasAtMost most list = (value : List ℕ) (inside : List (ℕ × List ℕ)) → look_up IA_NA list ≡ Some value → Spells (drop IA_OPTIONS value) inside → count IA_ADDRESS inside ≤ most
+
+-- Bytes spell a message if they are its bytes, and its options are allowed, with at most one IA_NA and
+-- at most 5 addresses in it: those that a client lists, and the one that it gets.
 pub record SpellsMessage (bytes : List ℕ) (m : MessageValue) : Type 0 where
   pub whole : bytes ≡ message_bytes m
   pub id : length m.transaction_id ≡ 3
   pub options : AreOptions m.options
   pub allowed : AreAllowed Client m.options
+  pub one : count IA_NA m.options ≤ 1
+  pub few : HasAtMost 5 m.options
+
+-- The limits for reading: exactly one IA_NA, and at most 4 addresses in it.
+pub record IsReadable (m : MessageValue) : Type 0 where
   pub inside : List (ℕ × List ℕ)
   pub ia : HasIa m.options inside
   pub few : count IA_ADDRESS inside ≤ 4

@@ -1,5 +1,5 @@
 -- Reading a client's or server's message.
-use Rattle.std.specs.Prelude.{ℕ, nat_le, List, length, drop, slice_index, Option, Some, None, Result, Ok, Err, if◌then◌else◌}
+use Rattle.std.specs.Prelude.{◌≡◌, ℕ, ◌≤◌, nat_le, List, length, drop, slice_index, Option, Some, None, Result, Ok, Err, if◌then◌else◌}
 use Rattle.v6_options.specs.Codes.{IA_NA, IA_ADDRESS}
 use Rattle.v6_options.specs.Spelling.{look_up}
 use Rattle.v6_options.specs.Reading.{listed}
@@ -11,7 +11,8 @@ use Rattle.v6_message.specs.declared.scan.ListFault.TheVariants as list
 use Rattle.v6_message.specs.Layout.{MESSAGE_OPTIONS, IA_OPTIONS, part}
 use Rattle.v6_message.specs.Lists.{count}
 use Rattle.v6_message.specs.Reading.{first_fault}
-use Rattle.v6_message.specs.Message.{MessageValue}
+use Rattle.v6_message.specs.Message.{MessageValue, SpellsMessage, IsReadable}
+use Rattle.v6_message.specs.Ia.{IaValue, ia_in}
 
 -- The fields at their offsets.
 abbrev pub message_at : List ℕ → List (ℕ × List ℕ) → MessageValue
@@ -32,3 +33,11 @@ message_or (Some list.Twice) bytes = Err Twice
 -- The result of reading.
 abbrev pub message_of : List ℕ → Result MessageValue MessageFault
 message_of bytes = if nat_le MESSAGE_OPTIONS (length bytes) then message_or (first_fault Client (drop MESSAGE_OPTIONS bytes)) bytes else Err Short
+
+-- What is known of a message that was read, by its bytes, its options and its IA_NA.
+pub record IsRead (bytes : List ℕ) (options : List (ℕ × List ℕ)) (ia : IaValue) : Type 0 where
+  pub long : MESSAGE_OPTIONS ≤ length bytes
+  pub spelled : SpellsMessage bytes (message_at bytes options)
+  pub limits : IsReadable (message_at bytes options)
+  pub found : ia_in (look_up IA_NA options) ≡ Some ia
+  pub few : count IA_ADDRESS ia.options ≤ 4

@@ -2,21 +2,20 @@
 ghost use Rattle.std.specs.Prelude.{◌≡◌, nat_le, drop};
 ghost use Rattle.v6_options.specs.Codes.{IA_ADDRESS};
 ghost use Rattle.v6_options.specs.Reading.{listed};
-ghost use Rattle.v6_message.specs.Ia.{ia_of};
+ghost use Rattle.v6_message.specs.Ia.{addresses_in, ia_of, status_in};
 ghost use Rattle.v6_message.specs.Layout.{IA_OPTIONS};
-ghost use Rattle.v6_message.specs.Lists.{count};
+ghost use Rattle.v6_message.specs.Lists.{count, AreLong};
 ghost use Rattle.v6_message.specs.Reading.{are_long, is_ia};
 
 use crate::count::has_at_most;
+use crate::ia_address::{Addresses, IA_ADDRESS_OPTIONS};
 use crate::parts::array_at;
+use crate::status::status_of;
 use std::marker::Model;
 use v6_options::{Options, code};
 
 /// The bytes of IAID, T1 and T2. The options follow them.
 const IA_OPTIONS: usize = 12;
-
-/// The bytes of an address and its two lifetimes. Options follow them.
-const IA_ADDRESS_OPTIONS: usize = 24;
 
 /// The most addresses that a client may list.
 const MAX_ADDRESSES: u8 = 4;
@@ -29,14 +28,13 @@ pub struct Ia6<'a> {
 }
 
 impl<'a> Model for Ia6<'a> {
-    ghost use Rattle.std.specs.Prelude.{◌≤◌, length};
-    ghost use Rattle.v6_message.specs.Ia.{IaValue, ia_at};
+    ghost use Rattle.v6_message.specs.Ia.{IaValue, IsReadIa, ia_at};
 
     ghost Value = { IaValue };
 
     ghost view = { λ ia. ia_at ia.value.now ia.options };
 
-    ghost invariant = { λ ia. 12 ≤ length ia.value.now };
+    ghost invariant = { λ ia. IsReadIa ia.value.now ia.options };
 }
 
 impl<'a> Ia6<'a> {
@@ -82,6 +80,21 @@ impl<'a> Ia6<'a> {
     {
         &self.options
     }
+
+    /// Its addresses, in order.
+    pub fn addresses(&self) -> Addresses<'a>
+        ensures value { result ≡ addresses_in self.now.options }
+        ensures long { AreLong self.now.options }
+    {
+        Addresses::new(&self.options)
+    }
+
+    /// The code of option 13, a status; `None` where there is no such option, or it has fewer than 2 bytes.
+    pub fn status(&self) -> Option<u16>
+        ensures { result ≡ status_in self.now.options }
+    {
+        status_of(&self.options)
+    }
 }
 
 /// Whether the value of an IA_NA has its three numbers and whole options, each address with its two
@@ -107,7 +120,7 @@ fn are_long(options: &Options<'_>) -> bool
     ensures { result ≡ are_long options.now }
 {
     'row: for (code, value) in options.iter() {
-        if code == code::IA_ADDRESS && value.len() < IA_ADDRESS_OPTIONS {
+        if code == code::IA_ADDRESS && value.len() < usize::from(IA_ADDRESS_OPTIONS) {
             return false;
         }
     }

@@ -1,16 +1,19 @@
 //! Messages of clients and servers (RFC 8415, section 8).
-ghost use Rattle.std.specs.Prelude.{◌≡◌, ◌≤◌, ◌+◌, ◌↔◌, ℕ, [], ◌++◌, length, Ok, Err, IsOk, OnOk, OnErr, option_map};
-ghost use Rattle.v6_options.specs.Codes.{CLIENT_ID, SERVER_ID, IA_NA};
-ghost use Rattle.v6_options.specs.Spelling.{look_up};
-ghost use Rattle.v6_message.specs.Ia.{ia_in};
-ghost use Rattle.v6_message.specs.Message.{MessageValue, SpellsMessage, FailsMessage, message_bytes};
+ghost use Rattle.std.specs.Prelude.{◌≡◌, ◌≤◌, ◌<◌, ◌+◌, ◌^◌, ◌↔◌, ℕ, [], ◌∷◌, ◌++◌, length, Some, Ok, Err, IsOk, OnOk, OnErr, IfSome, option_map};
+ghost use Rattle.v6_options.specs.Codes.{CLIENT_ID, SERVER_ID, IA_NA, IA_ADDRESS};
+ghost use Rattle.v6_options.specs.Spelling.{look_up, spelling};
+ghost use Rattle.v6_message.specs.Ia.{ia_in, status_in};
+ghost use Rattle.v6_message.specs.Lists.{count};
+ghost use Rattle.v6_message.specs.Message.{MessageValue, SpellsMessage, IsReadable, FailsMessage, message_bytes};
 ghost use Rattle.v6_message.specs.MessageReading.{message_of};
 
 use crate::count::has_at_most;
 use crate::fault::MessageFault;
 use crate::ia::{Ia6, has_few_addresses};
+use crate::message_header::MessageHeader;
 use crate::parts::array_at;
 use crate::scan::{ListFault, Sender, fault_in};
+use crate::status::status_of;
 use std::marker::Model;
 use v6_options::{Options, code};
 use wire::{Full, PacketBuf};
@@ -24,25 +27,25 @@ const HEADER: usize = 4;
 pub struct Message6<'a> {
     bytes: &'a [u8],
     options: Options<'a>,
+    ia: Ia6<'a>,
 }
 
 impl<'a> Model for Message6<'a> {
-    ghost use Rattle.std.specs.Prelude.{◌≤◌, length};
     ghost use Rattle.v6_message.specs.Message.{MessageValue};
-    ghost use Rattle.v6_message.specs.MessageReading.{message_at};
+    ghost use Rattle.v6_message.specs.MessageReading.{IsRead, message_at};
 
     ghost Value = { MessageValue };
 
     ghost view = { λ m. message_at m.bytes.now m.options };
 
-    ghost invariant = { λ m. 4 ≤ length m.bytes.now };
+    ghost invariant = { λ m. IsRead m.bytes.now m.options m.ia };
 }
 
 impl<'a> Message6<'a> {
-    /// The message that these bytes spell, all of them.
+    /// The message that these bytes spell, all of them, with exactly one IA_NA and at most 4 addresses in it.
     pub fn read(bytes: &'a [u8]) -> Result<Message6<'a>, MessageFault>
         ensures exact { result ≡ message_of bytes.now }
-        ensures spelled { (m : MessageValue) → result ≡ Ok m ↔ SpellsMessage bytes.now m }
+        ensures spelled { (m : MessageValue) → result ≡ Ok m ↔ (SpellsMessage bytes.now m × IsReadable m) }
         ensures fails { (fault : MessageFault) → result ≡ Err fault ↔ FailsMessage fault bytes.now }
     {
         message_in(bytes)
@@ -69,25 +72,44 @@ impl<'a> Message6<'a> {
 
     /// Option 1, the client's DUID. Its length is not tested.
     pub fn client_id(&self) -> Option<&'a [u8]>
-        ensures { option_map (λ value. value.now) result ≡ look_up CLIENT_ID self.now.options }
+        ensures value { option_map (λ value. value.now) result ≡ look_up CLIENT_ID self.now.options }
+        ensures fits { IfSome result (λ value. length value.now < 2 ^ 16) }
     {
         self.options.get(code::CLIENT_ID)
     }
 
     /// Option 2, the DUID of the server that the message names. Its length is not tested.
     pub fn server_id(&self) -> Option<&'a [u8]>
-        ensures { option_map (λ value. value.now) result ≡ look_up SERVER_ID self.now.options }
+        ensures value { option_map (λ value. value.now) result ≡ look_up SERVER_ID self.now.options }
+        ensures fits { IfSome result (λ value. length value.now < 2 ^ 16) }
     {
         self.options.get(code::SERVER_ID)
     }
 
     /// Option 3, the IA_NA.
-    pub fn ia(&self) -> Option<Ia6<'a>>
-        ensures { result ≡ ia_in (look_up IA_NA self.now.options) }
+    pub fn ia(&self) -> &Ia6<'a>
+        ensures value { ia_in (look_up IA_NA self.now.options) ≡ Some result.now }
+        ensures one { count IA_NA self.now.options ≡ 1 }
+        ensures few { count IA_ADDRESS result.now.options ≤ 4 }
     {
-        match self.options.get(code::IA_NA) {
-            None => None,
-            Some(value) => Ia6::read(value),
+        &self.ia
+    }
+
+    /// The code of option 13, a status; `None` where there is no such option, or it has fewer than 2 bytes.
+    pub fn status(&self) -> Option<u16>
+        ensures { result ≡ status_in self.now.options }
+    {
+        status_of(&self.options)
+    }
+
+    /// The fields before the options, as values.
+    pub fn header(&self) -> MessageHeader
+        ensures kind { result.kind ≡ self.now.kind }
+        ensures id { result.transaction_id ≡ self.now.transaction_id }
+    {
+        MessageHeader {
+            kind: self.kind(),
+            transaction_id: self.transaction_id(),
         }
     }
 
@@ -96,13 +118,25 @@ impl<'a> Message6<'a> {
         ensures full { IsOk result ↔ (length out.old + length (message_bytes self.now) ≤ 1280) }
         ensures ok { OnOk result (out.new ≡ out.old ++ message_bytes self.now) }
         ensures err { OnErr result (out.new ≡ []) }
+        ensures spelled { SpellsMessage (message_bytes self.now) self.now }
+        ensures again { message_of (message_bytes self.now) ≡ Ok self.now }
     {
-        if out.push(self.kind()).is_err() || out.extend(&self.transaction_id()).is_err() {
-            out.clear();
-            return Err(Full);
-        }
-        self.options.write(out)
+        put_message(&self.header(), &self.options, out)
     }
+}
+
+/// Appends a header and options. Where they do not fit, `out` is left empty.
+fn put_message(
+    header: &MessageHeader,
+    options: &Options<'_>,
+    out: &mut PacketBuf,
+) -> Result<(), Full>
+    ensures full { IsOk result ↔ (length out.old + length (header.now.kind ∷ header.now.transaction_id ++ spelling options.now) ≤ 1280) }
+    ensures ok { OnOk result (out.new ≡ out.old ++ (header.now.kind ∷ header.now.transaction_id ++ spelling options.now)) }
+    ensures err { OnErr result (out.new ≡ []) }
+{
+    header.write(out)?;
+    options.write(out)
 }
 
 fn message_in(bytes: &[u8]) -> Result<Message6<'_>, MessageFault>
@@ -129,5 +163,8 @@ fn message_in(bytes: &[u8]) -> Result<Message6<'_>, MessageFault>
     if !has_few_addresses(value) {
         return Err(MessageFault::AddrCount);
     }
-    Ok(Message6 { bytes, options })
+    let Some(ia) = Ia6::read(value) else {
+        unreachable!();
+    };
+    Ok(Message6 { bytes, options, ia })
 }

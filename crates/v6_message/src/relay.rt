@@ -1,5 +1,5 @@
 //! Relay messages (RFC 8415, section 9).
-ghost use Rattle.std.specs.Prelude.{◌≡◌, ◌≤◌, ◌+◌, ◌↔◌, [], ◌++◌, length, Ok, Err, IsOk, OnOk, OnErr, option_map};
+ghost use Rattle.std.specs.Prelude.{◌≡◌, ◌≤◌, ◌<◌, ◌+◌, ◌^◌, ◌↔◌, [], ◌++◌, length, Ok, Err, IsOk, OnOk, OnErr, IfSome, option_map};
 ghost use Rattle.v6_options.specs.Codes.{RELAY_MESSAGE, INTERFACE_ID};
 ghost use Rattle.v6_options.specs.Spelling.{look_up};
 ghost use Rattle.v6_message.specs.Relay.{RelayValue, SpellsRelay, FailsRelay, relay_bytes};
@@ -97,14 +97,16 @@ impl<'a> Relay6<'a> {
 
     /// Option 18, by which a relay knows its client's link.
     pub fn interface_id(&self) -> Option<&'a [u8]>
-        ensures { option_map (λ value. value.now) result ≡ look_up INTERFACE_ID self.now.options }
+        ensures value { option_map (λ value. value.now) result ≡ look_up INTERFACE_ID self.now.options }
+        ensures fits { IfSome result (λ value. length value.now < 2 ^ 16) }
     {
         self.options.get(code::INTERFACE_ID)
     }
 
     /// Option 9, the message inside, whose bytes another reader takes.
     pub fn relay_message(&self) -> Option<&'a [u8]>
-        ensures { option_map (λ value. value.now) result ≡ look_up RELAY_MESSAGE self.now.options }
+        ensures value { option_map (λ value. value.now) result ≡ look_up RELAY_MESSAGE self.now.options }
+        ensures fits { IfSome result (λ value. length value.now < 2 ^ 16) }
     {
         self.options.get(code::RELAY_MESSAGE)
     }

@@ -319,13 +319,216 @@ fn a_reply_in_a_relay_message(rt: HostRuntime) {
         Some([0, 3, 0, 1, 2, 0, 0, 0, 0, 1].as_slice())
     );
     assert_eq!(rt; message.options().get(code::IA_NA), Some(&REPLY[36..]));
-    let Some(ia) = message.ia() else {
-        return assert!(rt; false);
-    };
+    let ia = message.ia();
     assert_eq!(rt; ia.iaid(), 1);
     assert_eq!(rt; ia.t1(), 300);
     assert_eq!(rt; ia.t2(), 480);
     assert_eq!(rt; ia.options().get(code::IA_ADDRESS), Some(&REPLY[52..]));
+    let mut addresses = ia.addresses();
+    assert_eq!(rt; addresses.next(), Some(lease(600)));
+    assert_eq!(rt; addresses.next(), None);
+    assert_eq!(rt; addresses.next(), None);
+}
+
+/// The address 2001:db8::100 with these lifetimes.
+fn lease(lifetime: u32) -> IaAddress {
+    IaAddress {
+        address: Addr6([0x20, 1, 0xd, 0xb8, 0, 0, 0, 0, 0, 0, 0, 0, 0, 0, 1, 0]),
+        preferred_lifetime: lifetime,
+        valid_lifetime: lifetime,
+    }
+}
+
+/// The server's DUID.
+const SERVER: [u8; 10] = [0, 3, 0, 1, 2, 0, 0, 0, 0, 1];
+
+/// An Advertise to this Solicit, as a server writes it.
+fn advertise(request: &Message6<'_>, out: &mut PacketBuf) -> Result<(), Full> {
+    let header = MessageHeader {
+        kind: 2,
+        transaction_id: request.transaction_id(),
+    };
+    header.write(out)?;
+    if let Some(client_id) = request.client_id() {
+        v6_options::put(code::CLIENT_ID, client_id, out)?;
+    }
+    v6_options::put(code::SERVER_ID, &SERVER, out)?;
+    let mut addresses = PacketBuf::new();
+    lease(600).write(&mut addresses)?;
+    put_ia(request, (300, 480), &addresses, out)
+}
+
+/// An IA_NA with the IAID of the request, T1 and T2, and these options.
+fn put_ia(
+    request: &Message6<'_>,
+    (t1, t2): (u32, u32),
+    options: &PacketBuf,
+    out: &mut PacketBuf,
+) -> Result<(), Full> {
+    let ia = IaHeader {
+        iaid: request.ia().iaid(),
+        t1,
+        t2,
+    };
+    ia.write(options.as_slice(), out)
+}
+
+/// A Relay-reply to this Relay-forward around a message, as a server writes it.
+fn relay_reply(request: &Relay6<'_>, message: &PacketBuf, out: &mut PacketBuf) -> Result<(), Full> {
+    let mut header = request.header();
+    header.kind = RELAY_REPLY;
+    header.write(out)?;
+    if let Some(interface_id) = request.interface_id() {
+        v6_options::put(code::INTERFACE_ID, interface_id, out)?;
+    }
+    v6_options::put(code::RELAY_MESSAGE, message.as_slice(), out)
+}
+
+/// The Relay-reply around that reply.
+const RELAY_REPLY_BYTES: [u8; 119] = [
+    13, 0, 0x20, 1, 0xd, 0xb8, 0, 0, 0, 0, 0, 0, 0, 0, 0, 0, 0, 1, 0xfe, 0x80, 0, 0, 0, 0, 0, 0, 0,
+    0, 0, 0, 0, 0, 0, 2, 0, 18, 0, 1, b'a', 0, 9, 0, 76, 2, 0, 0, 7, 0, 1, 0, 10, 0, 3, 0, 1, 2, 0,
+    0, 0, 0, 2, 0, 2, 0, 10, 0, 3, 0, 1, 2, 0, 0, 0, 0, 1, 0, 3, 0, 40, 0, 0, 0, 1, 0, 0, 1, 0x2c,
+    0, 0, 1, 0xe0, 0, 5, 0, 24, 0x20, 1, 0xd, 0xb8, 0, 0, 0, 0, 0, 0, 0, 0, 0, 0, 1, 0, 0, 0, 2,
+    0x58, 0, 0, 2, 0x58,
+];
+
+#[test]
+fn a_reply_by_public_calls(rt: HostRuntime) {
+    let mut forwarded = PacketBuf::new();
+    assert_eq!(rt; forward(0, &SOLICIT, &mut forwarded), Ok(()));
+    let Ok(relay) = Relay6::read(forwarded.as_slice()) else {
+        return assert!(rt; false);
+    };
+    let Ok(request) = Message6::read(&SOLICIT) else {
+        return assert!(rt; false);
+    };
+    let mut out = PacketBuf::new();
+    assert_eq!(rt; advertise(&request, &mut out), Ok(()));
+    assert_eq!(rt; out.as_slice(), REPLY.as_slice());
+    let mut datagram = PacketBuf::new();
+    assert_eq!(rt; relay_reply(&relay, &out, &mut datagram), Ok(()));
+    assert_eq!(rt; datagram.as_slice(), RELAY_REPLY_BYTES.as_slice());
+}
+
+/// A message of type 1 with status 4, whose IA_NA has IAID 1, no address, and status 2.
+const WITH_STATUSES: [u8; 32] = [
+    1, 0, 0, 7, 0, 13, 0, 2, 0, 4, 0, 3, 0, 18, 0, 0, 0, 1, 0, 0, 0, 0, 0, 0, 0, 0, 0, 13, 0, 2, 0,
+    2,
+];
+
+#[test]
+fn statuses(rt: HostRuntime) {
+    let Ok(request) = Message6::read(&SOLICIT) else {
+        return assert!(rt; false);
+    };
+    assert_eq!(rt; request.status(), None);
+    assert_eq!(rt; request.ia().status(), None);
+    let (mut out, mut inside) = (PacketBuf::new(), PacketBuf::new());
+    assert_eq!(rt; request.header().write(&mut out), Ok(()));
+    assert_eq!(rt;
+        v6_options::put(code::STATUS_CODE, &[0, 4], &mut out),
+        Ok(())
+    );
+    assert_eq!(rt;
+        v6_options::put(code::STATUS_CODE, &[0, 2], &mut inside),
+        Ok(())
+    );
+    assert_eq!(rt; put_ia(&request, (0, 0), &inside, &mut out), Ok(()));
+    assert_eq!(rt; out.as_slice(), WITH_STATUSES.as_slice());
+    let Ok(message) = Message6::read(out.as_slice()) else {
+        return assert!(rt; false);
+    };
+    assert_eq!(rt; message.status(), Some(4));
+    assert_eq!(rt; message.ia().status(), Some(2));
+    assert_eq!(rt; message.ia().addresses().next(), None);
+}
+
+#[test]
+fn a_status_of_one_byte_is_none(rt: HostRuntime) {
+    let mut out = PacketBuf::new();
+    for (value, want) in [
+        ([0, 3].as_slice(), Some(3)),
+        (&[3], None),
+        (&[], None),
+        (&[0, 2, b'!'], Some(2)),
+    ] {
+        out.clear();
+        assert_eq!(rt; out.extend(&SOLICIT), Ok(()));
+        assert_eq!(rt; v6_options::put(code::STATUS_CODE, value, &mut out), Ok(()));
+        let Ok(message) = Message6::read(out.as_slice()) else {
+            return assert!(rt; false);
+        };
+        assert_eq!(rt; message.status(), want, "{value:?}");
+    }
+}
+
+#[test]
+fn listed_addresses_in_order(rt: HostRuntime) {
+    let Ok(request) = Message6::read(&SOLICIT) else {
+        return assert!(rt; false);
+    };
+    let (mut out, mut inside) = (PacketBuf::new(), PacketBuf::new());
+    for lifetime in [0, 0x01020304, 7] {
+        assert_eq!(rt; lease(lifetime).write(&mut inside), Ok(()));
+        assert_eq!(rt;
+            v6_options::put(code::CLIENT_ID, &[7; 24], &mut inside),
+            Ok(())
+        );
+    }
+    assert_eq!(rt; request.header().write(&mut out), Ok(()));
+    assert_eq!(rt; put_ia(&request, (0, 0), &inside, &mut out), Ok(()));
+    let Ok(message) = Message6::read(out.as_slice()) else {
+        return assert!(rt; false);
+    };
+    let mut addresses = message.ia().addresses();
+    for lifetime in [0, 0x01020304, 7] {
+        assert_eq!(rt; addresses.next(), Some(lease(lifetime)));
+    }
+    assert_eq!(rt; addresses.next(), None);
+}
+
+#[test]
+fn types_are_not_tested(rt: HostRuntime) {
+    let mut out = PacketBuf::new();
+    for kind in [0, 2, 7, 12, 13, 255] {
+        out.clear();
+        assert_eq!(rt; out.push(kind), Ok(()));
+        assert_eq!(rt; out.extend(&SOLICIT[1..]), Ok(()));
+        assert_eq!(rt; message_fault(out.as_slice()), None, "{kind}");
+        out.clear();
+        assert_eq!(rt; out.push(kind), Ok(()));
+        assert_eq!(rt; out.extend(&FORWARD[1..]), Ok(()));
+        assert_eq!(rt; fault(out.as_slice()), None, "{kind}");
+    }
+}
+
+#[test]
+fn a_write_that_does_not_fit_leaves_nothing(rt: HostRuntime) {
+    let mut out = PacketBuf::new();
+    let header = MessageHeader {
+        kind: 1,
+        transaction_id: [0, 0, 7],
+    };
+    let ia = IaHeader {
+        iaid: 1,
+        t1: 0,
+        t2: 0,
+    };
+    for (room, fits) in [(0, true), (1, false)] {
+        out.clear();
+        assert_eq!(rt; out.pad_to(1276 + room), Ok(()));
+        assert_eq!(rt; header.write(&mut out).is_ok(), fits);
+        assert_eq!(rt; out.is_empty(), !fits);
+        out.clear();
+        assert_eq!(rt; out.pad_to(1252 + room), Ok(()));
+        assert_eq!(rt; lease(1).write(&mut out).is_ok(), fits);
+        assert_eq!(rt; out.is_empty(), !fits);
+        out.clear();
+        assert_eq!(rt; out.pad_to(1262 + room), Ok(()));
+        assert_eq!(rt; ia.write(&[0, 8], &mut out).is_ok(), fits);
+        assert_eq!(rt; out.is_empty(), !fits);
+    }
 }
 
 #[test]
