@@ -5,6 +5,7 @@ use config::Config;
 use fixtures::ONE_CIRCUIT;
 use std::alloc::{AllocError, Global};
 use std::io::{self, ErrorKind, Read, Write};
+use types::Discard;
 use wire::PacketBuf;
 use world::{Event, Machine, Outcome};
 
