@@ -139,54 +139,36 @@ fn at_port(port: u16) -> Source {
     Source { addr, port }
 }
 
+/// An event after which the output buffer is empty.
+fn quiet_step(rt: &impl Abort, world: &mut World, event: &Event<'_>) -> Outcome {
+    let mut out = PacketBuf::new();
+    let _ = out.push(7);
+    let outcome = world.step(event, &mut out);
+    assert!(rt; out.is_empty());
+    outcome
+}
+
 #[test]
 fn strays_change_nothing(rt: HostRuntime) {
-    let unknown = Outcome::Dropped(Discard::UnknownSource);
-    let from_no_server = Outcome::Dropped(Discard::NotServer);
-    let relay = RelayNo::new(0).unwrap();
-    let other = RelayNo::new(1).unwrap();
+    let mut world = opened(&rt, rt.alloc(), 16);
+    assert_eq!(rt; send(&mut world, 1), Outcome::SentUp(255));
     let frame = discover(1);
     let bytes = frame.as_slice();
     let last = moment(u32::MAX);
-    let rows = [
-        (
-            Event::StrayUp(Proto::V4, at_port(9999), bytes, last),
-            unknown,
-        ),
-        (
-            Event::StrayUp(Proto::V4, at_port(6767), bytes, last),
-            unknown,
-        ),
-        (
-            Event::StrayUp(Proto::V4, at_port(6801), bytes, last),
-            Outcome::NotAStray,
-        ),
-        (
-            Event::StrayDown(relay, at_port(9999), bytes),
-            from_no_server,
-        ),
-        (
-            Event::StrayDown(relay, at_port(6801), bytes),
-            from_no_server,
-        ),
-        (
-            Event::StrayDown(relay, at_port(6767), bytes),
-            Outcome::NotAStray,
-        ),
-        (
-            Event::StrayDown(relay, at_port(6547), bytes),
-            Outcome::NotAStray,
-        ),
-        (Event::StrayDown(other, at_port(6767), bytes), Outcome::Gone),
-    ];
-    let mut world = opened(&rt, rt.alloc(), 16);
-    assert_eq!(rt; send(&mut world, 1), Outcome::SentUp(255));
-    for (event, expected) in &rows {
-        let mut out = PacketBuf::new();
-        let _ = out.push(7);
-        assert_eq!(rt; world.step(event, &mut out), *expected);
-        assert!(rt; out.is_empty());
+    for (port, known) in [(9999, false), (6767, false), (6801, true)] {
+        let event = Event::StrayUp(Proto::V4, at_port(port), bytes, last);
+        let outcome = quiet_step(&rt, &mut world, &event);
+        assert_eq!(rt; outcome == Outcome::Dropped(Discard::UnknownSource), !known);
+        assert_eq!(rt; outcome == Outcome::NotAStray, known);
     }
+    for (port, known) in [(9999, false), (6801, false), (6767, true), (6547, true)] {
+        let event = Event::StrayDown(RelayNo::new(0).unwrap(), at_port(port), bytes);
+        let outcome = quiet_step(&rt, &mut world, &event);
+        assert_eq!(rt; outcome == Outcome::Dropped(Discard::NotServer), !known);
+        assert_eq!(rt; outcome == Outcome::NotAStray, known);
+    }
+    let event = Event::StrayDown(RelayNo::new(1).unwrap(), at_port(6767), bytes);
+    assert_eq!(rt; quiet_step(&rt, &mut world, &event), Outcome::Gone);
     assert_eq!(rt; up(&mut world, 0, 100), Outcome::SentDown(300));
     assert_eq!(rt; step(&mut world, &Event::Down(only(), 0)), offered(1, 10));
 }
