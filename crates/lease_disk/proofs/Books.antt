@@ -9,12 +9,13 @@ use Rattle.types.specs.declared.slot4.Slot4.TheVariants as S4
 use Rattle.types.specs.declared.slots.Slot6.{Slot6}
 use Rattle.types.specs.declared.slots.Slot6.TheVariants as S6
 use Rattle.types.specs.declared.slots.Slots.{Slots}
+use Rattle.types.specs.Slots.{IsWithin4, IsWithin6, live4, live6, same_client4, same_client6, none_twice, last_until}
 use Rattle.lease_disk.specs.declared.bank.Bank.TheVariants.{First, Second}
-use Rattle.lease_disk.specs.Book.{IsBook, IsWithin4, IsWithin6, empty_book}
+use Rattle.lease_disk.specs.Book.{IsBook, empty_book}
 use Rattle.lease_disk.specs.Crash.{IsFormatted}
 use Rattle.lease_disk.specs.Region.{Region}
 use Rattle.lease_disk.specs.Save.{AreMarks}
-use Rattle.lease_disk.specs.Recovered.{is_format2, is_counting, body, bytes_at, from, clock_of, until_of, slot4_of, slot6_of, live4, live6, cons_some, slots_from, four_in, six_in, same_client4, same_client6, none_twice, book_with, book_of, recovered, last_clock, last_until}
+use Rattle.lease_disk.specs.Recovered.{is_format2, is_counting, body, bytes_at, from, clock_of, until_of, slot4_of, slot6_of, cons_some, slots_from, four_in, six_in, book_with, book_of, recovered, last_clock}
 
 abbrev some_or : {A : Type 0} → A → Option A → A
 some_or d None = d
@@ -247,7 +248,7 @@ has_slots clock (Some four) (Some six) slots e =
 has_slots clock None six slots e = cc
 has_slots clock (Some four) None slots e = cc
 
-bank_book : (counts : List ℕ) (bank : ℕ → ℕ) (slots : Slots) → book_of counts bank ≡ Some slots → IsBook counts slots
+pub bank_book : (counts : List ℕ) (bank : ℕ → ℕ) (slots : Slots) → book_of counts bank ≡ Some slots → IsBook counts slots
 unfolding book_of
 bank_book counts bank slots e =
     let s = has_slots (clock_of bank) (slots_from (four_in (slice_index counts 0) bank) 0 16) (slots_from (six_in (slice_index counts 1) bank) 0 16) slots e in

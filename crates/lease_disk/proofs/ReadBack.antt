@@ -12,9 +12,10 @@ use Rattle.types.specs.declared.slot4.Slot4.TheVariants as S4
 use Rattle.types.specs.declared.slots.Slot6.{Slot6}
 use Rattle.types.specs.declared.slots.Slot6.TheVariants as S6
 use Rattle.types.specs.declared.slots.Slots.{Slots}
-use Rattle.lease_disk.specs.Book.{IsBook, IsWithin4, IsWithin6, slot4_bytes, slot6_bytes, bank_bytes}
+use Rattle.types.specs.Slots.{IsWithin4, IsWithin6, live4, live6, none_twice, same_client4, same_client6, last_until}
+use Rattle.lease_disk.specs.Book.{IsBook, slot4_bytes, slot6_bytes, bank_bytes}
 use Rattle.lease_disk.specs.Keys.{HasKey4, HasKey6}
-use Rattle.lease_disk.specs.Recovered.{bytes_at, from, clock_of, slot4_of, slot6_of, live4, live6, slots_from, four_in, six_in, none_twice, same_client4, same_client6, book_with, book_of, last_clock, last_until}
+use Rattle.lease_disk.specs.Recovered.{bytes_at, from, clock_of, slot4_of, slot6_of, slots_from, four_in, six_in, book_with, book_of, last_clock}
 
 -- bytes one after the other
 bytes_read : (f : ℕ → ℕ) (at : ℕ) (xs : List ℕ) → ((j : ℕ) → j < length xs → f (at + j) ≡ get_or xs j 0) → bytes_at f at (length xs) ≡ xs

@@ -5,8 +5,9 @@ use Rattle.std.specs.List.{list_any}
 use Rattle.types.specs.declared.slot4.Slot4.{Slot4}
 use Rattle.types.specs.declared.slots.Slot6.{Slot6}
 use Rattle.std.proofs.lemmas.List.{append-nil, length-drop, length-set, get_or-drop, take_more_set, take_all}
+use Rattle.types.specs.Slots.{same_client4, same_client6, live4, live6, none_twice}
 use Rattle.lease_disk.proofs.ReadBack.{book_of_slots}
-use Rattle.lease_disk.specs.Recovered.{same_client4, same_client6, book_of, book_with, bytes_at, from, clock_of, slot4_of, slot6_of, live4, live6, four_in, six_in, cons_some, slots_from, none_twice}
+use Rattle.lease_disk.specs.Recovered.{book_of, book_with, bytes_at, from, clock_of, slot4_of, slot6_of, four_in, six_in, cons_some, slots_from}
 
 pub bytes_at_slice : (xs : List ℕ) (at n : ℕ) → at + n ≤ length xs → bytes_at (slice_index xs) at n ≡ take n (drop at xs)
 bytes_at_slice xs at zero h = refl

@@ -7,18 +7,7 @@ use Rattle.types.specs.declared.slot4.Slot4.TheVariants as S4
 use Rattle.types.specs.declared.slots.Slot6.{Slot6}
 use Rattle.types.specs.declared.slots.Slot6.TheVariants as S6
 use Rattle.types.specs.declared.slots.Slots.{Slots}
-use Rattle.lease_disk.specs.Recovered.{last_until, live4, live6, none_twice, same_client4, same_client6}
-
--- no until past its limit
-abbrev pub IsWithin4 : Slot4 → Type 0
-IsWithin4 S4.Free = Unit {0}
-IsWithin4 (S4.Bound key until) = until ≤ last_until
-IsWithin4 (S4.Barred until) = until ≤ last_until
-
-abbrev pub IsWithin6 : Slot6 → Type 0
-IsWithin6 S6.Free = Unit {0}
-IsWithin6 (S6.Bound key until) = until ≤ last_until
-IsWithin6 (S6.Barred until) = until ≤ last_until
+use Rattle.types.specs.Slots.{IsWithin4, IsWithin6, live4, live6, none_twice, same_client4, same_client6}
 
 -- the slots of a book for pools of so many addresses: a slot past the pool is free, what is not free
 -- is live, and no client has two

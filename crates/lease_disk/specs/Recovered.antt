@@ -1,15 +1,13 @@
 -- What the bytes of a region mean: the slots that a book begins with, or None where the region is
 -- damaged. One of format 2 counts as damaged: only format 1 is read.
-use Rattle.std.specs.Prelude.{ℕ, ◌+◌, ◌%◌, ◌==◌, Bool, true, false, not, ◌&&◌, ◌||◌, nat_le, nat_lt, suc, zero, if◌then◌else◌, List, [], ◌∷◌, slice_index, Option, Some, None, option_map}
+use Rattle.std.specs.Prelude.{ℕ, ◌+◌, ◌%◌, ◌==◌, Bool, not, ◌&&◌, ◌||◌, nat_le, nat_lt, suc, zero, if◌then◌else◌, List, [], ◌∷◌, slice_index, Option, Some, None, option_map}
 use Rattle.std.specs.Int.{w32, w64, from_be_bytes}
-use Rattle.std.specs.List.{list_any}
-use Rattle.std.specs.Str.{bytes_eq}
-use Rattle.types.specs.Key6.{same_key6}
 use Rattle.types.specs.declared.slot4.Slot4.{Slot4}
 use Rattle.types.specs.declared.slot4.Slot4.TheVariants as S4
 use Rattle.types.specs.declared.slots.Slot6.{Slot6}
 use Rattle.types.specs.declared.slots.Slot6.TheVariants as S6
 use Rattle.types.specs.declared.slots.Slots.{Slots}
+use Rattle.types.specs.Slots.{last_until, live4, live6, none_twice, same_client4, same_client6}
 use Rattle.lease_disk.specs.declared.bank.Bank.{Bank}
 use Rattle.lease_disk.specs.declared.bank.Bank.TheVariants.{First, Second}
 use Rattle.lease_disk.specs.Layout.{gate_open, format_at, gate_at, bank_at, bank_size, sequence_at, clock_at, four_at, six_at, state_at, length_at, iaid_at, until_at, key_at}
@@ -65,12 +63,9 @@ clock_of bank = from_be_bytes w64 (bytes_at bank clock_at 8)
 abbrev pub until_of : (ℕ → ℕ) → ℕ
 until_of slot = from_be_bytes w64 (bytes_at slot until_at 8)
 
--- 2^40 - 1, and the longest lease after it
+-- 2^40 - 1
 abbrev pub last_clock : ℕ
 last_clock = 1099511627775
-
-abbrev pub last_until : ℕ
-last_until = 1099511627775 + 604800
 
 -- 0 free, 1 bound, 2 barred; None where the state is above 2, until is past its limit, or the key
 -- of a bound slot has not 2 to 64 bytes
@@ -97,17 +92,6 @@ slot6_of slot =
     else if slot state_at == 2 then Some (S6.Barred (until_of slot))
     else None
 
--- a slot at this clock: free where it is no longer live
-abbrev pub live4 : ℕ → Slot4 → Slot4
-live4 clock S4.Free = S4.Free
-live4 clock (S4.Bound key until) = if nat_lt clock until then S4.Bound key until else S4.Free
-live4 clock (S4.Barred until) = if nat_lt clock until then S4.Barred until else S4.Free
-
-abbrev pub live6 : ℕ → Slot6 → Slot6
-live6 clock S6.Free = S6.Free
-live6 clock (S6.Bound key until) = if nat_lt clock until then S6.Bound key until else S6.Free
-live6 clock (S6.Barred until) = if nat_lt clock until then S6.Barred until else S6.Free
-
 abbrev pub cons_some : {A : Type 0} → Option A → Option (List A) → Option (List A)
 cons_some (Some x) (Some xs) = Some (x ∷ xs)
 cons_some _ _ = None
@@ -123,19 +107,6 @@ four_in count bank i = if nat_lt i count then option_map (live4 (clock_of bank))
 
 abbrev pub six_in : ℕ → (ℕ → ℕ) → ℕ → Option Slot6
 six_in count bank i = if nat_lt i count then option_map (live6 (clock_of bank)) (slot6_of (from (six_at i) bank)) else Some S6.Free
-
-abbrev pub same_client4 : Slot4 → Slot4 → Bool
-same_client4 (S4.Bound a _) (S4.Bound b _) = bytes_eq a b
-same_client4 _ _ = false
-
-abbrev pub same_client6 : Slot6 → Slot6 → Bool
-same_client6 (S6.Bound a _) (S6.Bound b _) = same_key6 a b
-same_client6 _ _ = false
-
--- no two of them are alike
-abbrev pub none_twice : {A : Type 0} → (A → A → Bool) → List A → Bool
-none_twice alike [] = true
-none_twice alike (x ∷ xs) = not (list_any (alike x) xs) && none_twice alike xs
 
 -- the clock within its limit, and no client with two live leases of one protocol
 abbrev pub book_with : ℕ → Option (List Slot4) → Option (List Slot6) → Option Slots

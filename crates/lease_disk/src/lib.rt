@@ -3,6 +3,9 @@
 
 mod bank;
 mod device;
+mod file_disk;
+#[cfg(test)]
+mod file_tests;
 mod formatting;
 mod image;
 mod laws;
@@ -19,6 +22,7 @@ mod write_bank;
 
 pub use bank::{Bank, Marks};
 pub use device::{Disk, Fault, REGION};
+pub use file_disk::{FileDisk, FileFault};
 pub use formatting::format;
 pub use image::Image;
 pub use laws::{formats_an_empty_book, recovers_a_book};

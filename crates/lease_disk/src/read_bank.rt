@@ -2,7 +2,8 @@
 ghost use Rattle.std.specs.Prelude.{◌≡◌, ◌≤◌, ◌+◌, ◌<◌, ℕ, length, slice_index, Some, None};
 ghost use Rattle.std.specs.Int.{w32, w64, from_be_bytes};
 ghost use Rattle.std.specs.List.{list_any};
-ghost use Rattle.lease_disk.specs.Recovered.{bytes_at, clock_of, slot4_of, slot6_of, live4, live6, four_in, six_in, slots_from, none_twice, same_client4, same_client6, book_of};
+ghost use Rattle.types.specs.Slots.{live4, live6, none_twice, same_client4, same_client6};
+ghost use Rattle.lease_disk.specs.Recovered.{bytes_at, clock_of, slot4_of, slot6_of, four_in, six_in, slots_from, book_of};
 
 use crate::layout::{CLOCK_AT, FOUR_AT, FOUR_SIZE, IAID_AT, KEY_AT, SIX_AT, SIX_SIZE, UNTIL_AT};
 use byteorder::{BigEndian, ByteOrder};

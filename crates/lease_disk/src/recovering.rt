@@ -1,6 +1,7 @@
 //! Reading back what a region holds.
 ghost use Rattle.std.specs.Prelude.{◌≡◌, ◌≤◌, ◌<◌, ◌+◌, ℕ, List, [], ◌∷◌, Option, Some, None, true, false, length, is_ok, slice_index, option_map, IfOk, IfSome};
 ghost use Rattle.lease_disk.specs.declared.bank.Bank.TheVariants.{First, Second};
+ghost use Rattle.lease_disk.specs.Book.{IsBook};
 ghost use Rattle.lease_disk.specs.Recovered.{recovered, is_format2, is_counting, other, body};
 ghost use Rattle.lease_disk.specs.Recover.{IsHead, Answers, recover_faults};
 ghost use Rattle.lease_disk.specs.Region.{faults_after};
@@ -129,6 +130,7 @@ fn read_region<D: Disk>(
     requires { region < D.count disk.old }
     ensures slots { D.tells ≡ true → IfOk result (λ found. recovered counts (D.state disk.old region).byte ≡ option_map (λ f. f.0) found) }
     ensures marks { D.tells ≡ true → IfOk result (λ found. IfSome found (λ f. AreMarks (D.state disk.old region).byte f.1)) }
+    ensures book { IfOk result (λ found. IfSome found (λ f. IsBook counts f.0)) }
     ensures answer { D.tells ≡ true → is_ok result ≡ (D.state disk.old region).readable }
     ensures state { D.tells ≡ true → D.state disk.new ≡ D.state disk.old }
     ensures fuse { D.tells ≡ true → D.fuse disk.new ≡ D.fuse disk.old }
@@ -162,6 +164,7 @@ pub fn recover<D: Disk>(
 ) -> Result<(Slots, Marks), RecoverFault>
     requires exists { region < D.count disk.old }
     ensures answer { D.tells ≡ true → Answers counts (D.state disk.old region) result }
+    ensures book { IfOk result (λ found. IsBook counts found.0) }
     ensures state { D.tells ≡ true → D.state disk.new ≡ D.state disk.old }
     ensures fuse { D.tells ≡ true → D.fuse disk.new ≡ D.fuse disk.old }
     ensures count { D.count disk.new ≡ D.count disk.old }

@@ -64,11 +64,11 @@ fn slots_with(
     }
 }
 
-fn are_same(a: &Slots, b: &Slots) -> bool {
+pub fn are_same(a: &Slots, b: &Slots) -> bool {
     a.four == b.four && a.six == b.six && a.clock == b.clock
 }
 
-fn empty() -> Slots {
+pub fn empty() -> Slots {
     Slots {
         four: [Slot4::Free; 16],
         six: [Slot6::Free; 16],

@@ -1,5 +1,5 @@
 use Rattle.std.proofs.Common.{◌≡◌, drop}
-use Rattle.lease_disk.specs.Recovered.{none_twice, same_client4}
+use Rattle.types.specs.Slots.{none_twice, same_client4}
 use Rattle.lease_disk.proofs.read_bank.no_client_twice4.Given as goal
 
 abbrev pub invariant-loop-i : goal.invariant-loop-i

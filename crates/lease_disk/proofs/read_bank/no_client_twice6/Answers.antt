@@ -1,6 +1,6 @@
 use Rattle.std.proofs.Common.{arith}
+use Rattle.types.specs.Slots.{same_client6}
 use Rattle.lease_disk.proofs.Reading.{no_twin_behind, twin_behind}
-use Rattle.lease_disk.specs.Recovered.{same_client6}
 use Rattle.lease_disk.proofs.read_bank.no_client_twice6.Goals as goal
 
 pub loop-i-preserved : goal.loop-i-preserved

@@ -1,0 +1,17 @@
+-- A device over a file: how many regions it has and how it was called. What it holds is not told.
+use Rattle.std.specs.Prelude.{ℕ, false}
+use Rattle.lease_disk.specs.Region.{Region}
+
+pub record FileDiskValue : Type 0 where
+  pub regions : ℕ
+  pub reads : ℕ
+  pub writes : ℕ
+  pub failures : ℕ
+
+-- a device of so many regions that was not called yet
+abbrev pub uncalled : ℕ → FileDiskValue
+uncalled regions = record { regions = regions; reads = 0; writes = 0; failures = 0 }
+
+-- stands for a region of which nothing is told
+abbrev pub untold : Region
+untold = record { byte = λ i. 0; unsynced = λ i. false; readable = false }

@@ -1,0 +1,206 @@
+//! A device over a file.
+ghost use Rattle.std.specs.Path.{path_parent};
+ghost use Rattle.std.specs.Prelude.{◌≡◌, ◌≢◌, ℕ, List, [], Some, codes, ◌≤◌, ◌+◌, ◌*◌, ◌/◌, ◌↔◌, min, is_ok};
+ghost use Rattle.std.specs.IoError.{error_kind};
+ghost use Rattle.lease_disk.specs.Region.{faults_after};
+
+use crate::device::{Disk, Fault, REGION};
+use std::fs::{File, OpenOptions};
+use std::io;
+use std::io::ErrorKind;
+use std::marker::Model;
+use std::os::unix::fs::FileExt;
+use std::path::Path;
+use std::rt::Files;
+use thiserror::Error;
+use types::Count;
+
+/// The greatest number of regions that a file has as a device.
+const MAX_REGIONS: u16 = 1024;
+
+/// Why a file does not serve as a device.
+#[derive(Clone, Copy, Debug, PartialEq, Eq, Error)]
+pub enum FileFault {
+    #[error("the file cannot be opened, made or lengthened")]
+    File,
+    #[error("out of memory")]
+    Memory,
+}
+
+/// What an error of the system says of the file.
+fn fault_of(error: io::Error) -> FileFault
+    ensures { (result ≡ FileFault.Memory) ↔ (error_kind error ≡ ErrorKind.OutOfMemory) }
+{
+    match error.kind() {
+        ErrorKind::OutOfMemory => FileFault::Memory,
+        _ => FileFault::File,
+    }
+}
+
+/// A device over a file, whose region r is the 32768 bytes from byte 32768 r on. A sync syncs the
+/// whole file.
+///
+/// Contracts promise counts alone: how many regions there are, how many calls were made and how many
+/// of them failed. No contract can know what a file holds, so this device does not tell: that a read
+/// gives what was written, and that what was synced outlives a crash, rests on the system.
+#[derive(Drop)]
+pub struct FileDisk {
+    file: File,
+    regions: u16,
+    reads: Count,
+    writes: Count,
+    failures: Count,
+}
+
+impl Model for FileDisk {
+    ghost use Rattle.lease_disk.specs.FileDisk.{FileDiskValue};
+
+    ghost Value = { FileDiskValue };
+
+    ghost view = { λ d. record { regions = d.regions; reads = d.reads.count; writes = d.writes.count; failures = d.failures.count } };
+}
+
+/// How many whole regions a file of so many bytes has, and at most 1024.
+fn whole_regions(length: u64) -> u16
+    ensures { result ≡ min (length / 32768) 1024 }
+{
+    (length / REGION as u64).min(u64::from(MAX_REGIONS)) as u16
+}
+
+/// Where in the file a region's byte is, by its offset in the region.
+fn position(region: u16, at: usize) -> u64
+    requires { at ≤ 32768 }
+    ensures { result ≡ 32768 * region + at }
+{
+    u64::from(region) * REGION as u64 + at as u64
+}
+
+/// The folder of the file with this path.
+fn folder_of(path: &str) -> &str
+    ensures named { (folder : List ℕ) → path_parent path.now ≡ Some folder → folder ≢ [] → result.now ≡ folder }
+    ensures here { path_parent path.now ≡ Some [] → result.now ≡ codes "." }
+{
+    match Path::new(path).parent() {
+        Some(folder) if !folder.as_str().is_empty() => folder.as_str(),
+        _ => ".",
+    }
+}
+
+/// Gives a file a greater length. The file, which may be new in its folder, and its length outlive a
+/// crash.
+fn lengthen<R: Files<File = File>>(rt: &R, path: &str, file: &File, length: u64) -> io::Result<()> {
+    file.set_len(length)?;
+    file.sync_all()?;
+    File::open(rt, folder_of(path))?.sync_all()
+}
+
+/// The answer to a call of the system, and one failure more where it is an error.
+fn counted(answer: io::Result<()>, failures: &mut Count) -> Result<(), Fault>
+    ensures answer { is_ok result ≡ is_ok answer }
+    ensures failures { failures.new.count ≡ faults_after result failures.old.count }
+{
+    match answer {
+        Ok(()) => Ok(()),
+        Err(_) => {
+            failures.tick();
+            Err(Fault)
+        }
+    }
+}
+
+impl FileDisk {
+    ghost use Rattle.std.specs.Prelude.{◌≡◌, ◌≤◌, ◌/◌, min, IfOk};
+    ghost use Rattle.lease_disk.specs.FileDisk.{uncalled};
+
+    /// Opens a file as a device of at least so many regions, of which it has at most 1024. Makes the
+    /// file where there is none, and lengthens a shorter one. The regions that it adds hold zeros: it
+    /// formats none.
+    pub fn create<R: Files<File = File>>(
+        rt: &R,
+        path: &str,
+        regions: u16,
+    ) -> Result<FileDisk, FileFault>
+        ensures least { IfOk result (λ disk. min regions 1024 ≤ disk.regions) }
+        ensures most { IfOk result (λ disk. disk.regions ≤ 1024) }
+        ensures new { IfOk result (λ disk. disk ≡ uncalled disk.regions) }
+    {
+        let mut how = OpenOptions::new();
+        how.read(true).write(true).create(true);
+        FileDisk::opened(rt, path, &how, position(regions, 0)).map_err(fault_of)
+    }
+
+    /// Opens a file as a device of as many regions as are whole in it, at most 1024.
+    pub fn open<R: Files<File = File>>(rt: &R, path: &str) -> Result<FileDisk, FileFault>
+        ensures most { IfOk result (λ disk. disk.regions ≤ 1024) }
+        ensures new { IfOk result (λ disk. disk ≡ uncalled disk.regions) }
+    {
+        let mut how = OpenOptions::new();
+        how.read(true).write(true);
+        FileDisk::opened(rt, path, &how, 0).map_err(fault_of)
+    }
+
+    /// Opens a file as a device, and lengthens it where it has fewer bytes than these.
+    fn opened<R: Files<File = File>>(
+        rt: &R,
+        path: &str,
+        how: &OpenOptions,
+        bytes: u64,
+    ) -> io::Result<FileDisk>
+        ensures least { IfOk result (λ disk. min (bytes / 32768) 1024 ≤ disk.regions) }
+        ensures most { IfOk result (λ disk. disk.regions ≤ 1024) }
+        ensures new { IfOk result (λ disk. disk ≡ uncalled disk.regions) }
+    {
+        let file = how.open(rt, path)?;
+        let length = file.metadata()?.len();
+        if length < bytes {
+            lengthen(rt, path, &file, bytes)?;
+        }
+        Ok(FileDisk {
+            file,
+            regions: whole_regions(length.max(bytes)),
+            reads: Count::new(),
+            writes: Count::new(),
+            failures: Count::new(),
+        })
+    }
+}
+
+impl Disk for FileDisk {
+    ghost use Rattle.std.specs.Prelude.{false};
+    ghost use Rattle.lease_disk.specs.FileDisk.{untold};
+
+    ghost tells = { false };
+
+    ghost state = { λ d region. untold };
+
+    ghost fuse = { λ d region. 0 };
+
+    ghost count = { λ d. d.regions };
+
+    ghost reads = { λ d. d.reads };
+
+    ghost writes = { λ d. d.writes };
+
+    ghost failures = { λ d. d.failures };
+
+    fn regions(&self) -> u16 {
+        self.regions
+    }
+
+    fn read(&mut self, region: u16, at: usize, out: &mut [u8]) -> Result<(), Fault> {
+        self.reads.tick();
+        let answer = self.file.read_exact_at(out, position(region, at));
+        counted(answer, &mut self.failures)
+    }
+
+    fn write_at(&mut self, region: u16, at: usize, bytes: &[u8]) -> Result<(), Fault> {
+        self.writes.tick();
+        let answer = self.file.write_all_at(bytes, position(region, at));
+        counted(answer, &mut self.failures)
+    }
+
+    fn sync(&mut self, _region: u16) -> Result<(), Fault> {
+        self.writes.tick();
+        counted(self.file.sync_data(), &mut self.failures)
+    }
+}
