@@ -43,6 +43,15 @@ no_err s bytes fault h e = apart (rw (uncut s bytes h) at e) where
   apart : err fault ≡ Ok (listed bytes) → ⊥
   apart e = absurd cc
 
+abbrev pub right : List (ℕ × List ℕ) → Result (List (ℕ × List ℕ)) OptFault
+right options = Ok options
+
+-- Options that were read without a fault are the list.
+pub options_are : (s : Sender) (bytes : List ℕ) (options : List (ℕ × List ℕ)) → first_fault s bytes ≡ none → right options ≡ options_of bytes → options ≡ listed bytes
+options_are s bytes options h e = by (rw (uncut s bytes h) at e) where
+  by : right options ≡ right (listed bytes) → options ≡ listed bytes
+  by e = cc
+
 -- ---- lists, concatenated
 
 spelling-append : (a b : List (ℕ × List ℕ)) → spelling (a ++ b) ≡ spelling a ++ spelling b

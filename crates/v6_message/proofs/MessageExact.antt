@@ -5,7 +5,6 @@ use Rattle.std.proofs.lemmas.Bool.{le-leb, lt-leb, leb-true, leb-false, eqb-true
 use Rattle.std.proofs.lemmas.List.{take_at, drop_at, take-append-drop, length-append, length-take-le, length-drop}
 use Rattle.v6_options.specs.Codes.{IA_NA, IA_ADDRESS}
 use Rattle.v6_options.specs.Spelling.{spelling, look_up, Spells}
-use Rattle.v6_options.specs.declared.fault.OptFault.{OptFault}
 use Rattle.v6_options.specs.Reading.{listed, cut_from, options_of}
 use Rattle.v6_options.proofs.Fronts.{AreSmall}
 use Rattle.v6_message.specs.declared.fault.MessageFault.{MessageFault}
@@ -22,7 +21,7 @@ use Rattle.v6_message.specs.Ia.{IaValue, ia_at, ia_of as read_ia, ia_in}
 use Rattle.v6_message.specs.MessageReading.{IsRead, message_at, with_ia, counted, message_or, message_of}
 use Rattle.v6_message.proofs.Counts.{none_found, some_found}
 use Rattle.v6_message.proofs.Decided.{all_decided, all_true, small_drop}
-use Rattle.v6_message.proofs.Lists.{Is, uncut, allowed_none, fails_some, listed_spells, first_fault_is}
+use Rattle.v6_message.proofs.Lists.{Is, right, options_are, allowed_none, fails_some, listed_spells, first_fault_is}
 
 -- ---- the header
 
@@ -205,17 +204,9 @@ ia_formed a b cut (o ∷ os) value h found =
 
 -- ---- what is known of a message that was read
 
-abbrev right : List (ℕ × List ℕ) → Result (List (ℕ × List ℕ)) OptFault
-right options = Ok options
-
-options_are : (tail : List ℕ) (options : List (ℕ × List ℕ)) → first_fault Client tail ≡ none → right options ≡ options_of tail → options ≡ listed tail
-options_are tail options h e = by (rw (uncut Client tail h) at e) where
-  by : right options ≡ right (listed tail) → options ≡ listed tail
-  by e = cc
-
 formed_in : (tail : List ℕ) (options : List (ℕ × List ℕ)) (value : List ℕ) → first_fault Client tail ≡ none → right options ≡ options_of tail → look_up IA_NA options ≡ Some value → is_ia value ≡ true
 formed_in tail options value h e found =
-    ia_formed false false (cut_from 0 tail) (listed tail) value h (ap (look_up IA_NA) (sym (options_are tail options h e)) ∙ found)
+    ia_formed false false (cut_from 0 tail) (listed tail) value h (ap (look_up IA_NA) (sym (options_are Client tail options h e)) ∙ found)
 
 pub never_none : (tail : List ℕ) (options : List (ℕ × List ℕ)) (value : List ℕ) → first_fault Client tail ≡ none → right options ≡ options_of tail → look_up IA_NA options ≡ Some value → None ≡ read_ia value → ⊥
 never_none tail options value h e found n = by (rw (formed_in tail options value h e found) at n) where
@@ -234,7 +225,7 @@ known_at bytes options value ia small long h e one found few i = record {
 }
   where
     all : message_of bytes ≡ ok (message_at bytes options)
-    all = rw (le-leb 4 (length bytes) long, h, ← options_are (drop 4 bytes) options h e, one, found, few) refl
+    all = rw (le-leb 4 (length bytes) long, h, ← options_are Client (drop 4 bytes) options h e, one, found, few) refl
 
     is : SpellsMessage bytes (message_at bytes options) × IsReadable (message_at bytes options)
     is = rw all at (read_is bytes small)
@@ -251,4 +242,4 @@ pub known : (bytes tail : List ℕ) (options : List (ℕ × List ℕ)) (value : 
     → right options ≡ options_of tail → leb (count IA_NA (listed tail)) 1 ≡ true → look_up IA_NA options ≡ Some value → leb (count IA_ADDRESS (listed (drop IA_OPTIONS value))) 4 ≡ true
     → Some ia ≡ read_ia value → IsRead bytes options ia
 known bytes tail options value ia small long behind h e one found few i =
-    known_at bytes options value ia small long (rw behind at h) (rw behind at e) (rw (options_are tail options h e) one) found few i
+    known_at bytes options value ia small long (rw behind at h) (rw behind at e) (rw (options_are Client tail options h e) one) found few i

@@ -5,7 +5,7 @@ use Rattle.std.specs.Prelude.{◌↔◌}
 use Rattle.std.proofs.lemmas.Bool.{le-leb, lt-leb, leb-true, leb-false}
 use Rattle.std.proofs.lemmas.List.{take_at, drop_at, take-append-drop, drop-drop, length-append, length-take-le, length-drop, get_or-drop}
 use Rattle.v6_options.specs.Spelling.{spelling, Spells}
-use Rattle.v6_options.specs.Reading.{listed}
+use Rattle.v6_options.specs.Reading.{listed, options_of}
 use Rattle.v6_options.proofs.Results.{one_ok, one_err, ok_or_err}
 use Rattle.v6_message.specs.declared.fault.RelayFault.{RelayFault}
 use Rattle.v6_message.specs.declared.fault.RelayFault.TheVariants.{Short, Cut, Twice}
@@ -14,10 +14,10 @@ use Rattle.v6_message.specs.declared.scan.ListFault.{ListFault}
 use Rattle.v6_message.specs.declared.scan.ListFault.TheVariants as list_faults
 use Rattle.v6_message.specs.Layout.{part}
 use Rattle.v6_message.specs.Reading.{first_fault}
-use Rattle.v6_message.specs.Relay.{RelayValue, SpellsRelay, FailsRelay, relay_header}
-use Rattle.v6_message.specs.RelayReading.{relay_at, relay_or, relay_of}
+use Rattle.v6_message.specs.Relay.{RelayValue, SpellsRelay, FailsRelay, relay_header, relay_bytes}
+use Rattle.v6_message.specs.RelayReading.{IsRead, relay_at, relay_or, relay_of}
 use Rattle.v6_message.proofs.Fronts.{AreDecided}
-use Rattle.v6_message.proofs.Lists.{Is, spells_none, fails_some, listed_spells, first_fault_is}
+use Rattle.v6_message.proofs.Lists.{Is, right, options_are, spells_none, fails_some, listed_spells, first_fault_is}
 
 -- A relay's options are all formed.
 decided : (list : List (ℕ × List ℕ)) → AreDecided Relay list
@@ -112,6 +112,28 @@ pub read_fails : (bytes : List ℕ) (fault : RelayFault) → FailsRelay fault by
 read_fails bytes Short f = rw (lt-leb 34 (length bytes) f) refl
 read_fails bytes Cut f = rw (le-leb 34 (length bytes) f.0, fails_some Relay (drop 34 bytes) list_faults.Cut (decided (listed (drop 34 bytes))) f.1) refl
 read_fails bytes Twice f = rw (le-leb 34 (length bytes) f.0, fails_some Relay (drop 34 bytes) list_faults.Twice (decided (listed (drop 34 bytes))) f.1) refl
+
+-- ---- what is known of a relay message that was read
+
+abbrev none : Option ListFault
+none = None
+
+known_at : (bytes : List ℕ) (options : List (ℕ × List ℕ)) → ((i : ℕ) → get_or bytes i 0 < 256) → 34 ≤ length bytes → first_fault Relay (drop 34 bytes) ≡ none
+    → right options ≡ options_of (drop 34 bytes) → IsRead bytes options
+known_at bytes options small long h e = record { long = long; spelled = rw all at (read_is bytes small) } where
+  all : relay_of bytes ≡ ok (relay_at bytes options)
+  all = rw (le-leb 34 (length bytes) long, h, ← options_are Relay (drop 34 bytes) options h e) refl
+
+pub known : (bytes tail : List ℕ) (options : List (ℕ × List ℕ)) → ((i : ℕ) → get_or bytes i 0 < 256) → 34 ≤ length bytes → tail ≡ drop 34 bytes → first_fault Relay tail ≡ none
+    → right options ≡ options_of tail → IsRead bytes options
+known bytes tail options small long behind h e = known_at bytes options small long (rw behind at h) (rw behind at e)
+
+-- What was read spells itself once more, and reads back as the same.
+pub written : (bytes : List ℕ) (m : RelayValue) → SpellsRelay bytes m → SpellsRelay (relay_bytes m) m
+written bytes m s = record { whole = refl; link = s.link; peer = s.peer; options = s.options; allowed = s.allowed }
+
+pub read_again : (bytes : List ℕ) (m : RelayValue) → SpellsRelay bytes m → relay_of (relay_bytes m) ≡ ok m
+read_again bytes m s = read_spells (relay_bytes m) m (written bytes m s)
 
 -- ---- both ways
 

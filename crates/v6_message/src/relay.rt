@@ -26,15 +26,14 @@ pub struct Relay6<'a> {
 }
 
 impl<'a> Model for Relay6<'a> {
-    ghost use Rattle.std.specs.Prelude.{◌≤◌, length};
     ghost use Rattle.v6_message.specs.Relay.{RelayValue};
-    ghost use Rattle.v6_message.specs.RelayReading.{relay_at};
+    ghost use Rattle.v6_message.specs.RelayReading.{IsRead, relay_at};
 
     ghost Value = { RelayValue };
 
     ghost view = { λ m. relay_at m.bytes.now m.options };
 
-    ghost invariant = { λ m. 34 ≤ length m.bytes.now };
+    ghost invariant = { λ m. IsRead m.bytes.now m.options };
 }
 
 impl<'a> Relay6<'a> {
@@ -116,9 +115,12 @@ impl<'a> Relay6<'a> {
         ensures full { IsOk result ↔ (length out.old + length (relay_bytes self.now) ≤ 1280) }
         ensures ok { OnOk result (out.new ≡ out.old ++ relay_bytes self.now) }
         ensures err { OnErr result (out.new ≡ []) }
+        ensures spelled { SpellsRelay (relay_bytes self.now) self.now }
+        ensures again { relay_of (relay_bytes self.now) ≡ Ok self.now }
     {
+        let options = &self.options;
         self.header().write(out)?;
-        self.options.write(out)
+        options.write(out)
     }
 }
 
