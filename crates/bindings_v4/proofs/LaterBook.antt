@@ -19,7 +19,7 @@ nothing_named address (TheBinding client) h = let none : None ≡ Some address =
 nothing_named address (TheOffer client) h = let none : None ≡ Some address = sym (ap address_of (no_lease client)) ∙ h in absurd cc
 nothing_named address TheBar h = absurd (not_true (sym (ap is_some (get-empty nat_cmp address)) ∙ h))
 
-if_none : {A : Type 0} (P : A → Type 0) (o : Option A) → o ≡ None → IfSome o P
+pub if_none : {A : Type 0} (P : A → Type 0) (o : Option A) → o ≡ None → IfSome o P
 if_none P o is = subst (λ v. IfSome v P) (sym is) tt
 
 pub empty_is_a_book : (clock : ℕ) → IsBook4 clock empty_book

@@ -42,7 +42,7 @@ apart_is q k other = by (bytes_eq q k) refl where
 
 -- ---- no decision changes another client's entries
 
-kept_apart : (k q : List ℕ) → bytes_eq q k ≡ false → (c : Change) (b : Book4) → (get (with_change k c b).bindings q ≡ get b.bindings q) × (get (with_change k c b).offers q ≡ get b.offers q)
+pub kept_apart : (k q : List ℕ) → bytes_eq q k ≡ false → (c : Change) (b : Book4) → (get (with_change k c b).bindings q ≡ get b.bindings q) × (get (with_change k c b).offers q ≡ get b.offers q)
 kept_apart k q apart Unchanged b = (refl, refl)
 kept_apart k q apart (Offers a u) b = (refl, get_insert b.offers k (at a u) q ∙ ap (λ r. cond r (Some (at a u)) (get b.offers q)) apart)
 kept_apart k q apart (Withdraws a) b = (refl, get_remove b.offers k q ∙ ap (λ r. cond r None (get b.offers q)) apart)
@@ -82,7 +82,7 @@ renewed_row pool t found m address kind server wanted ciaddr inside bound =
     ∙ ap (λ o. known_address_row (t + pool.lease) true o address) bound
     ∙ ap (λ r. cond r (grants address (t + pool.lease)) (replies reply.Nak Unchanged)) (eq-eqb address address refl)
 
-bound_after : (k : List ℕ) (a u : ℕ) (b : Book4) → get (with_change k (Binds a u) b).bindings k ≡ Some (at a u)
+pub bound_after : (k : List ℕ) (a u : ℕ) (b : Book4) → get (with_change k (Binds a u) b).bindings k ≡ Some (at a u)
 bound_after k a u b = get_insert b.bindings k (at a u) k ∙ ap (λ r. cond r (Some (at a u)) (get b.bindings k)) (itself k)
 
 pub renewed : (pool : PoolValue) (t : ℕ) (m : Request4) → RenewsInTime pool t m

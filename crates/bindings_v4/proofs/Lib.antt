@@ -1,9 +1,13 @@
 pub mod ShownLemmas
+pub mod KeptLemmas
 pub mod FreeLemmas
 pub mod WriteLemmas
+pub mod LimitLemmas
 pub mod RowLemmas
 pub mod TableLemmas
 pub mod LawLemmas
 pub mod ShownBook
 pub mod LaterBook
 pub mod ReplyLemmas
+pub mod KeptBook
+pub mod LeaseLemmas

@@ -1,28 +1,26 @@
 -- A row of the table is what its decision makes of the slots.
-use Rattle.std.proofs.Common.{◌≡◌, ℕ, zero, suc, ◌+◌, ◌-◌, ◌<◌, Bool, true, false, not, cond, List, length, replicate, get_or, refl, sym, ap, subst, ◌∙◌, arith}
+use Rattle.std.proofs.Common.{◌≡◌, ℕ, ◌+◌, ◌-◌, ◌<◌, Bool, true, false, not, cond, List, length, get_or, refl, sym, ap, subst, ◌∙◌, arith}
 use borrow.Author.Tests.{ltb-true}
 use Rattle.std.specs.Prelude.{Option, Some, None, nat_lt, ◌==◌, is_some, option_map}
 use Rattle.std.specs.List.{position}
-use Rattle.std.specs.FinMap.{empty}
 use Rattle.std.proofs.lemmas.Bool.Decides.{nat_tests}
-use Rattle.std.proofs.lemmas.List.{length-replicate}
 use Rattle.std.proofs.lemmas.List.Quantifiers.{position-Some}
 use Rattle.types.specs.Addr.{number4}
 use Rattle.types.specs.declared.kind4.Kind4.{Kind4}
 use Rattle.types.specs.declared.kind4.Kind4.TheVariants.{Discover, Offer, Request, Decline, Ack, Nak, Release, Inform}
-use Rattle.types.specs.Pool4.{IsPool4, PoolValue}
+use Rattle.types.specs.Pool4.{PoolValue}
 use Rattle.types.specs.declared.request4.Reply4.TheVariants as reply
 use Rattle.types.specs.declared.request4.Request4.{Request4}
 use Rattle.bindings_v4.specs.declared.decision4.Decision4.{Decision4}
 use Rattle.bindings_v4.specs.declared.holder4.Holder4.{Holder4}
 use Rattle.bindings_v4.specs.declared.holder4.Holder4.TheVariants.{Bound, Offered, Barred}
-use Rattle.bindings_v4.specs.Book4.{Lease, empty_book, is_live, in_pool, address_of, or_else}
+use Rattle.bindings_v4.specs.Book4.{Lease, is_live, in_pool, address_of, or_else}
 use Rattle.bindings_v4.specs.Lookup4.{until_of, is_vacant, is_bound_to, is_offered_to, wanted_slot, picked_slot, keep_of, decision_of}
-use Rattle.bindings_v4.specs.Slots4.{PoolSlots, bound_to, offered_to, barred_until, with_lease, leases, bars_of, book_of_slots, book_of, is_clients, AreDistinct, AreSlots, with_slot, with_decision}
+use Rattle.bindings_v4.specs.Slots4.{PoolSlots, bound_to, offered_to, barred_until, book_of_slots, book_of, is_clients, AreSlots, with_slot, with_decision}
 use Rattle.bindings_v4.specs.declared.server4.Server4.{Server4}
 use Rattle.bindings_v4.specs.declared.server4.Server4.TheVariants.{Anybody, This, Another}
 use Rattle.bindings_v4.specs.Table4.{Change, Unchanged, Offers, Withdraws, Binds, Bars, Frees, with_change, is_kept, Row, replies, grants, discover_row, other_server_row, selecting_row, known_address_row, no_server_row, decline_row, release_row, inform_row, where_is, where_specified, server_of, Lookup, lookup_in, row_of, answer4}
-use Rattle.bindings_v4.proofs.ShownLemmas.{Slots, Lessee, IsSort, not_true, live, live_slots, bound_sort, offered_sort, shown}
+use Rattle.bindings_v4.proofs.ShownLemmas.{Slots, not_true, live, live_slots, bound_sort, offered_sort, shown}
 use Rattle.bindings_v4.proofs.FreeLemmas.{from, bound_test, offered_test, pick_is, bound_is, offered_is, binding_is}
 use Rattle.bindings_v4.proofs.WriteLemmas.{one_client, clients_no_bar, are_with_slot, IsOpen, leases_kept, leases_with, leases_gone, leases_without, leases_same, bars_kept, bars_same, bars_with}
 
@@ -360,33 +358,3 @@ module _ (v : PoolSlots) (t : ℕ) (m : Request4) (are : AreSlots v.pool v.slots
   pub book_is : (d : Decision4) → d ≡ decision_of (number4 v.pool.first) t m.key (row v.pool found) → book_of t (with_decision d v) ≡ (answer4 v.pool t (book_of t v) m).book
   unfolding answer4
   book_is d e = ap (λ (x : Decision4). book_of t (with_decision x v)) e ∙ row_book
-
--- ---- an empty book
-
-vacant_distinct : (n : ℕ) → AreDistinct (replicate n None)
-vacant_distinct zero = tt
-vacant_distinct (suc n) = (λ q e. absurd (not_true e), vacant_distinct n)
-
-pub vacant_are : (pool : PoolValue) (ss : Slots) → IsPool4 pool.first pool.count pool.lease → ss ≡ replicate pool.count None → AreSlots pool ss
-vacant_are pool ss limits e =
-    subst (λ xs. AreSlots pool xs) (sym e) (record { limits = limits; size = length-replicate pool.count None; distinct = vacant_distinct pool.count })
-
-vacant_leases : (f : Option Holder4 → Lessee) → IsSort f → (t a n : ℕ) → leases f a (live_slots t (replicate n None)) ≡ empty
-vacant_leases f sort t a zero = refl
-vacant_leases f sort t a (suc n) = ap (λ l. with_lease a l (leases f (a + 1) (live_slots t (replicate n None)))) sort.none ∙ vacant_leases f sort t (a + 1) n
-
-vacant_bars : (t a n : ℕ) → bars_of a (live_slots t (replicate n None)) ≡ empty
-vacant_bars t a zero = refl
-vacant_bars t a (suc n) = vacant_bars t (a + 1) n
-
-pub vacant_book : (t : ℕ) (pool : PoolValue) (ss : Slots) → ss ≡ replicate pool.count None → book_of t (record { pool = pool; slots = ss }) ≡ empty_book
-vacant_book t pool ss e =
-    let a = number4 pool.first in
-    let n = pool.count in
-    ap (λ xs. book_of t (record { pool = pool; slots = xs })) e
-    ∙ shown a t (replicate n None) (vacant_distinct n)
-    ∙ (λ i. record {
-      bindings = vacant_leases bound_to bound_sort t a n i;
-      offers = vacant_leases offered_to offered_sort t a n i;
-      bars = vacant_bars t a n i;
-    })

@@ -9,7 +9,7 @@ use Rattle.bindings_v4.specs.declared.holder4.Holder4.{Holder4}
 use Rattle.bindings_v4.specs.declared.holder4.Holder4.TheVariants.{Bound, Offered, Barred}
 use Rattle.bindings_v4.specs.Book4.{Lease, Book4, is_live, passes, address_of, book4_at}
 use Rattle.bindings_v4.specs.IsBook4.{Entry, TheBinding, TheOffer, TheBar, Names, IsBook4}
-use Rattle.bindings_v4.specs.Slots4.{PoolSlots, bound_to, offered_to, barred_until, bars_of, leases, book_of_slots, book_of, AreDistinct, AreSlots}
+use Rattle.bindings_v4.specs.Slots4.{PoolSlots, bound_to, offered_to, barred_until, bars_of, leases, book_of_slots, book_of, AreDistinct}
 use Rattle.bindings_v4.proofs.ShownLemmas.{Slots, Lessee, at, not_true, same_is, live_slots, distinct_live, hits, bound_sort, offered_sort, hit, got, get-leases, keep, get-live_clients, get-live_bars, bars_below, bars_at, split, shown}
 use Rattle.bindings_v4.proofs.WriteLemmas.{other_sort}
 
@@ -113,18 +113,18 @@ live_barred t (Some u) = by (is_live t u) refl where
   by true is = ltb-true t u is
   by false is = tt
 
-pub slots_show_a_book : (t : ℕ) (v : PoolSlots) → AreSlots v.pool v.slots → IsBook4 t (book_of t v)
+pub slots_show_a_book : (t : ℕ) (v : PoolSlots) → AreDistinct v.slots → IsBook4 t (book_of t v)
 unfolding book4_at
-slots_show_a_book t v are =
+slots_show_a_book t v distinct =
     let a = number4 v.pool.first in
     let b = book_of_slots a v.slots in
     let ls = live_slots t v.slots in
-    let e : book_of t v ≡ book_of_slots a ls = shown a t v.slots are.distinct in
+    let e : book_of t v ≡ book_of_slots a ls = shown a t v.slots distinct in
     record {
       bindings = λ q. subst (λ o. IfSome o (λ (lease : Lease). t < lease.until)) (sym (get-live_clients t b.bindings q)) (live_kept t (get b.bindings q));
       offers = λ q. subst (λ o. IfSome o (λ (lease : Lease). t < lease.until)) (sym (get-live_clients t b.offers q)) (live_kept t (get b.offers q));
       bars = λ x. subst (λ o. IfSome o (λ until. t < until)) (sym (get-live_bars t b.bars x)) (live_barred t (get b.bars x));
       once = λ n x y f g. named_once a ls n x y (subst (λ c. Names c n x) e f) (subst (λ c. Names c n y) e g);
       apart = λ q.
-          subst (λ (c : Book4). IfSome (get c.bindings q) (λ (lease : Lease). get c.offers q ≡ None)) (sym e) (apart_slots a ls (distinct_live t v.slots are.distinct) q);
+          subst (λ (c : Book4). IfSome (get c.bindings q) (λ (lease : Lease). get c.offers q ≡ None)) (sym e) (apart_slots a ls (distinct_live t v.slots distinct) q);
     }

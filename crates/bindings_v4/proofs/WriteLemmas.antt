@@ -357,9 +357,15 @@ are_with_kept pool (Some kept) ss are = are_with_slot pool kept.slot (holder_of 
 same_refill : (n : ℕ) (xs ys : Slots) → n ≡ length ys → refill n xs ys ≡ ys
 same_refill n xs ys e = ap (λ m. take m (ys ++ drop (length ys) xs)) e ∙ take-append_seam ys (drop (length ys) xs)
 
+pub written_whole : (pool : PoolValue) (change : Option OfferChange) (keep : Option KeptSlot) (ss new : Slots) → AreSlots pool ss → new ≡ with_kept keep (with_offer change ss)
+    → refill (length ss) ss new ≡ new
+written_whole pool change keep ss new are e =
+    let after = are_with_kept pool keep (with_offer change ss) (are_with_offer pool change ss are) in
+    let now : AreSlots pool new = subst (λ xs. AreSlots pool xs) (sym e) after in
+    same_refill (length ss) ss new (are.size ∙ sym now.size)
+
 pub are_committed : (pool : PoolValue) (change : Option OfferChange) (keep : Option KeptSlot) (ss new : Slots) → AreSlots pool ss → new ≡ with_kept keep (with_offer change ss)
     → AreSlots pool (refill (length ss) ss new)
 are_committed pool change keep ss new are e =
     let after = are_with_kept pool keep (with_offer change ss) (are_with_offer pool change ss are) in
-    let now : AreSlots pool new = subst (λ xs. AreSlots pool xs) (sym e) after in
-    subst (λ xs. AreSlots pool xs) (sym (same_refill (length ss) ss new (are.size ∙ sym now.size))) now
+    subst (λ xs. AreSlots pool xs) (sym (written_whole pool change keep ss new are e ∙ e)) after

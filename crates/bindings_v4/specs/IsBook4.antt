@@ -1,14 +1,14 @@
 -- What makes maps a book at a clock, and what is true of every decision.
-use Rattle.std.specs.Prelude.{◌≡◌, ℕ, ◌+◌, ◌<◌, ◌⊎◌, true, false, List, Some, None, Ok, IfSome}
+use Rattle.std.specs.Prelude.{◌≡◌, ℕ, ◌+◌, ◌<◌, ◌⊎◌, true, false, List, Some, None, Ok, IfSome, option_map}
 use Rattle.std.specs.FinMap.{get, contains_key}
-use Rattle.types.specs.Addr.{addr4}
+use Rattle.types.specs.Addr.{number4, addr4}
 use Rattle.types.specs.declared.addr.Addr4.{Addr4}
-use Rattle.types.specs.declared.kind4.Kind4.TheVariants.{Request}
+use Rattle.types.specs.declared.kind4.Kind4.TheVariants.{Request, Decline, Release}
 use Rattle.types.specs.Pool4.{PoolValue}
 use Rattle.types.specs.declared.request4.Reply4.TheVariants as reply
 use Rattle.types.specs.declared.request4.Request4.{Request4}
 use Rattle.bindings_v4.specs.declared.server4.Server4.TheVariants.{Anybody}
-use Rattle.bindings_v4.specs.Book4.{Book4, address_of, in_pool}
+use Rattle.bindings_v4.specs.Book4.{Lease, Book4, address_of, in_pool}
 use Rattle.bindings_v4.specs.Table4.{where_specified, server_of, answer4}
 
 -- What an entry of a book is: a client's binding, a client's offer, or a bar.
@@ -65,3 +65,18 @@ RenewsInTime pool t m =
     → in_pool pool address ≡ true → address_of (get b.bindings m.key) ≡ Some address
     → ((answer4 pool t b m).answer ≡ Ok (reply.Ack (addr4 address)))
     × (get (answer4 pool t b m).book.bindings m.key ≡ Some (record { address = address; until = t + pool.lease }))
+
+-- The decision ends the client's lease of this address: the client declined or released it.
+abbrev pub EndsLease : PoolValue → ℕ → Book4 → Request4 → List ℕ → ℕ → Type 0
+EndsLease pool t b m client address =
+    (m.key ≡ client) × ((answer4 pool t b m).is_kept ≡ true)
+    × (((m.kind ≡ Decline) × (option_map number4 m.wanted ≡ Some address)) ⊎ ((m.kind ≡ Release) × (number4 m.ciaddr ≡ address)))
+
+-- A client keeps its address, until the end that its lease had or for a lease from now on, unless it ends
+-- the lease itself.
+abbrev pub KeepsItsLease : PoolValue → ℕ → Request4 → Type 0
+KeepsItsLease pool t m =
+    (b : Book4) (client : List ℕ) (lease : Lease) → IsBook4 t b → get b.bindings client ≡ Some lease
+    → ((until : ℕ) × ((until ≡ lease.until) ⊎ (until ≡ t + pool.lease))
+    × (get (answer4 pool t b m).book.bindings client ≡ Some (record { address = lease.address; until = until })))
+    ⊎ EndsLease pool t b m client lease.address

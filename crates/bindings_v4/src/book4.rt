@@ -1,7 +1,9 @@
 //! The book of one circuit's DHCPv4 leases.
-ghost use Rattle.std.specs.Prelude.{◌≡◌, ◌+◌, ◌<◌, ◌≤◌, ℕ, is_some, option_map, IfSome, replicate};
+ghost use Rattle.std.specs.Prelude.{◌≡◌, ◌+◌, ◌<◌, ◌≤◌, ℕ, true, is_some, option_map, map, slice_index_or, IfSome, All};
 ghost use Rattle.types.specs.Addr.{number4};
-ghost use Rattle.bindings_v4.specs.Book4.{empty_book};
+ghost use Rattle.types.specs.Slots.{IsWithin4, live4, none_twice, same_client4};
+ghost use Rattle.types.specs.declared.slot4.Slot4.TheVariants.{Free};
+ghost use Rattle.bindings_v4.specs.Kept4.{AreWithin, EndsBy, book4_in, kept_book, kept_slots};
 ghost use Rattle.bindings_v4.specs.Lookup4.{IsAt, IsLookup, lookup_of};
 ghost use Rattle.bindings_v4.specs.Slots4.{AreSlots, book_of, with_decision};
 ghost use Rattle.bindings_v4.specs.Table4.{answer4, lookup_in};
@@ -9,12 +11,13 @@ ghost use Rattle.bindings_v4.specs.Table4.{answer4, lookup_in};
 use crate::case4::{Case4, SlotAddress};
 use crate::decision4::Decision4;
 use crate::holder4::Holder4;
+use crate::kept::{kept_slots, live_holders};
 use crate::lookup::{bound_slot, offered_slot, picked_slot};
 use crate::table4::{Lookup4, decision_for};
 use crate::write::{write_kept, write_offer};
 use arrayvec::ArrayVec;
 use std::marker::Model;
-use types::{MAX_POOL, Moment, Pool4, Request4};
+use types::{MAX_POOL, Moment, Pool4, Request4, Slots};
 
 /// The leases of one circuit's pool, by slot. It has no clock: what has expired counts no longer, and
 /// stays until its slot or its client gets something new.
@@ -36,28 +39,34 @@ impl Model for Book4 {
     ghost invariant = { λ b. AreSlots b.pool b.slots.items };
 }
 
-/// This many vacant slots.
-fn vacant_slots(count: u8) -> ArrayVec<Option<Holder4>, MAX_POOL>
-    requires { count ≤ 16 }
-    ensures { result.items ≡ replicate count None }
-{
-    let mut slots = ArrayVec::new();
-    for _ in 0..count {
-        slots.push(None);
-    }
-    slots
-}
-
 impl Book4 {
-    /// A book without leases.
-    pub fn new(pool: Pool4) -> Book4
+    /// The book that the slots of a region mean, without what has expired by their clock.
+    pub fn new(pool: Pool4, slots: &Slots) -> Book4
+        requires past { (i : ℕ) → pool.count ≤ i → slice_index_or slots.now.four i Free ≡ Free }
+        requires once { none_twice same_client4 (map (live4 slots.now.clock) slots.now.four) ≡ true }
         ensures pool { result.pool ≡ pool }
-        ensures empty { (clock : ℕ) → book_of clock result ≡ empty_book }
+        ensures book { book_of slots.now.clock result ≡ book4_in pool slots.now }
+        ensures within { All IsWithin4 slots.now.four → AreWithin result.slots }
     {
         Book4 {
             pool,
-            slots: vacant_slots(pool.count()),
+            slots: live_holders(&slots.four, pool.count(), slots.clock.seconds()),
         }
+    }
+
+    /// Writes what has to be kept of the book at the slots' clock: live bindings and bars. Offers are
+    /// in memory only.
+    pub fn put(&self, slots: &mut Slots)
+        ensures four { slots.new.four ≡ kept_slots slots.old.clock self.now.slots }
+        ensures six { slots.new.six ≡ slots.old.six }
+        ensures clock { slots.new.clock ≡ slots.old.clock }
+        ensures book { book4_in self.now.pool slots.new ≡ kept_book (book_of slots.old.clock self.now) }
+        ensures past { (i : ℕ) → self.now.pool.count ≤ i → slice_index_or slots.new.four i Free ≡ Free }
+        ensures live { All (λ slot. live4 slots.old.clock slot ≡ slot) slots.new.four }
+        ensures once { none_twice same_client4 slots.new.four ≡ true }
+        ensures within { AreWithin self.now.slots → All IsWithin4 slots.new.four }
+    {
+        slots.four = kept_slots(self.slots(), slots.clock.seconds());
     }
 
     /// What a client's message calls for at this clock. Nothing is changed.
@@ -66,6 +75,7 @@ impl Book4 {
         ensures keep { is_some result.keep ≡ (answer4 self.now.pool clock (book_of clock self.now) request.now).is_kept }
         ensures answer { result.answer ≡ (answer4 self.now.pool clock (book_of clock self.now) request.now).answer }
         ensures book { book_of clock (with_decision result self.now) ≡ (answer4 self.now.pool clock (book_of clock self.now) request.now).book }
+        ensures within { IfSome result.keep (λ kept. EndsBy (clock + 604800) kept.content) }
     {
         let found = self.look_up(request, clock);
         let case = Case4 {
@@ -80,6 +90,7 @@ impl Book4 {
     pub fn commit(&mut self, decision: &Decision4)
         ensures slots { self.new ≡ with_decision decision.now self.old }
         ensures pool { self.new.pool ≡ self.old.pool }
+        ensures within { AreWithin self.old.slots → IfSome decision.now.keep (λ kept. IsWithin4 kept.content) → AreWithin self.new.slots }
     {
         let slots = self.slots.as_mut_slice();
         write_offer(slots, decision.offer);

@@ -1,6 +1,10 @@
+ghost use Rattle.std.specs.Prelude.{◌≡◌, ◌≤◌, ℕ, true, map, replicate, slice_index_or};
+ghost use Rattle.types.specs.Slots.{live4, none_twice, same_client4};
+ghost use Rattle.types.specs.declared.slot4.Slot4.TheVariants.{Free};
+
 use super::*;
 use std::process::Abort;
-use types::{Addr4, Discard, Key4, Kind4, Moment, Pool4, Reply4, Request4, Slot4};
+use types::{Addr4, Discard, Key4, Kind4, Moment, Pool4, Reply4, Request4, Slot4, Slot6, Slots};
 
 const GATEWAY: Option<u8> = Some(1);
 
@@ -48,9 +52,27 @@ fn discover(n: u8) -> Request4 {
     message(n, Kind4::Discover, None, None, 0)
 }
 
+/// A pool of `count` addresses from 10.0.0.10 on, leased for 600 seconds.
+fn pool(rt: &impl Abort, count: u8) -> Pool4
+    ensures { result.count ≡ count }
+{
+    Pool4::new(address(10), count, address(1), 600).expect(rt, "a pool")
+}
+
+/// Slots that hold nothing.
+fn free_slots() -> Slots
+    ensures four { result.four ≡ replicate 16 Free }
+{
+    Slots {
+        four: [Slot4::Free; 16],
+        six: [Slot6::Free; 16],
+        clock: Moment::first(),
+    }
+}
+
 /// A book without leases, of `count` addresses from 10.0.0.10 on.
 fn book(rt: &impl Abort, count: u8) -> Book4 {
-    Book4::new(Pool4::new(address(10), count, address(1), 600).expect(rt, "a pool"))
+    Book4::new(pool(rt, count), &free_slots())
 }
 
 /// What the book answers this message; the decision is committed.
@@ -224,4 +246,59 @@ fn decisions(rt: HostRuntime) {
         assert_eq!(rt; book.decide(&request, clock), decision, "{request:?}");
         book.commit(&decision);
     }
+}
+
+/// Slots at 100: a lease of client 1 that has ended, another one until 700, and a bar until 3700.
+fn slots_at_100() -> Slots
+    ensures past { (i : ℕ) → 3 ≤ i → slice_index_or result.four i Free ≡ Free }
+    ensures once { none_twice same_client4 (map (live4 result.clock) result.four) ≡ true }
+{
+    let mut four = [Slot4::Free; 16];
+    four[0] = Slot4::Bound(discover(1).key, 100);
+    four[1] = Slot4::Bound(discover(1).key, 700);
+    four[2] = Slot4::Barred(3700);
+    Slots {
+        four,
+        six: [Slot6::Free; 16],
+        clock: Moment::new(100).unwrap(),
+    }
+}
+
+#[test]
+fn begins_from_slots(rt: HostRuntime) {
+    let mut book = Book4::new(pool(&rt, 3), &slots_at_100());
+    assert_eq!(rt; answer(&rt, &mut book, &discover(1), 100), offer(11));
+    assert_eq!(rt; answer(&rt, &mut book, &discover(2), 100), offer(10));
+    assert_eq!(rt; answer(&rt, &mut book, &discover(3), 100), NO_ADDRESS);
+    // the bar ends before client 2 has asked for its offer again
+    assert_eq!(rt; answer(&rt, &mut book, &discover(3), 3700), offer(10));
+    assert_eq!(rt; answer(&rt, &mut book, &discover(4), 3700), offer(11));
+    assert_eq!(rt; answer(&rt, &mut book, &discover(5), 3700), offer(12));
+}
+
+#[test]
+fn puts_what_is_kept(rt: HostRuntime) {
+    let mut slots = slots_at_100();
+    slots.six[3] = Slot6::Barred(800);
+    let mut book = Book4::new(pool(&rt, 3), &slots);
+    let mut expected = [Slot4::Free; 16];
+    expected[1] = Slot4::Bound(discover(1).key, 700);
+    expected[2] = Slot4::Barred(3700);
+    book.put(&mut slots);
+    assert_eq!(rt; slots.four, expected);
+    // a book that begins from them writes the same
+    let again = Book4::new(pool(&rt, 3), &slots);
+    again.put(&mut slots);
+    assert_eq!(rt; slots.four, expected);
+    // an offer is in memory only
+    assert_eq!(rt; answer(&rt, &mut book, &discover(2), 100), offer(10));
+    book.put(&mut slots);
+    assert_eq!(rt; slots.four, expected);
+    assert_eq!(rt; slots.six[3], Slot6::Barred(800));
+    assert_eq!(rt; slots.clock, Moment::new(100).unwrap());
+    // what has expired is not written
+    slots.clock = Moment::new(700).unwrap();
+    book.put(&mut slots);
+    expected[1] = Slot4::Free;
+    assert_eq!(rt; slots.four, expected);
 }
