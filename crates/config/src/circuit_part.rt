@@ -1,5 +1,5 @@
 //! One circuit's part of a configuration, as its relay and its server keep it.
-ghost use Rattle.std.specs.Prelude.{◌≡◌, ◌<◌, length, false, take, Some, IfOk};
+ghost use Rattle.std.specs.Prelude.{◌≡◌, ◌<◌, [], ◌∷◌, length, false, take, Some, IfOk};
 ghost use Rattle.types.specs.Addr.{is_unspecified};
 ghost use Rattle.types.specs.Pool4.{IsPool4};
 ghost use Rattle.config.specs.CircuitPart.{IsPart, part_in, parts_of, pool4_of};
@@ -99,6 +99,20 @@ impl CircuitPart {
         ensures given { is_unspecified result.0 ≡ false }
     {
         self.circuit.gateway4
+    }
+
+    /// The number of the circuit's region on the device.
+    pub fn region(&self) -> u16
+        ensures { result ≡ self.now.region }
+    {
+        self.circuit.region
+    }
+
+    /// How many addresses the DHCPv4 and the DHCPv6 pool have.
+    pub fn counts(&self) -> [u8; 2]
+        ensures { result ≡ self.now.count4 ∷ self.now.count6 ∷ [] }
+    {
+        [self.circuit.count4, self.circuit.count6]
     }
 
     /// The length of the gateway's prefix in bits.
