@@ -1,31 +1,30 @@
--- A datagram of the one circuit is served as the circuit's.
-use Rattle.std.proofs.Common.{◌≡◌, ℕ, List, [], ◌∷◌, Ok, sym, ap, ◌∙◌}
-use Rattle.std.specs.Prelude.{Some, slice_get}
+-- A datagram of a circuit is that circuit's to answer, and changes its leases alone.
+use Rattle.std.proofs.Common.{◌≡◌, ℕ, Bool, List, Ok, Err, refl, sym, ap, ◌∙◌}
+use Rattle.std.specs.Prelude.{Option, Some, slice_get, slice_set}
 use Rattle.types.specs.declared.addr.Source.{Source}
-use Rattle.v4_message.specs.Reading.{message_of}
-use Rattle.v4_message.specs.Spelling.{MessageValue}
+use Rattle.types.specs.declared.discard.Discard.{Discard}
 use Rattle.config.specs.CircuitPart.{CircuitPart}
 use Rattle.dispatch.specs.Addressee.{addressee}
-use Rattle.dispatch.specs.Received.{received, with_served, circuit_served, addressee_served, received_alone, only_served}
-use Rattle.dispatch.specs.Server.{Book, book_at, message_served, served}
+use Rattle.dispatch.specs.Leases.{Leases, leases_with, addressee_leases, received_leases, after_datagram}
+use Rattle.dispatch.specs.Received.{received, received_fails, with_answered, answered, circuit_answered, addressee_answered, circuit_fails, addressee_fails}
+use Rattle.dispatch.specs.Server.{Book}
 
-served_is : (part : CircuitPart) (now : ℕ) (datagram : List ℕ) (b : Book) → served part now datagram b ≡ message_served part (book_at now b) (message_of datagram)
-unfolding served
-served_is part now datagram b = λ i. message_served part (book_at now b) (message_of datagram)
+module _ (relays : List Source) (parts : List CircuitPart) (now : ℕ) (source : Source) (datagram : List ℕ) (c : ℕ) (part : CircuitPart)
+    (found : addressee relays parts source datagram ≡ Ok c) (there : slice_get parts c ≡ Some part) where
+  pub received_at : (fails : Bool) (books : List (Option Book)) (book : Option Book) → slice_get books c ≡ Some book
+      → received relays parts now source datagram fails books ≡ with_answered c books (answered part now datagram fails book)
+  received_at fails books book its =
+      ap (addressee_answered parts now datagram fails books) found
+      ∙ (λ i. circuit_answered c now datagram fails books (there i) (its i))
 
-pub received_message : (part : CircuitPart) (now : ℕ) (source : Source) (relays : List Source) (circuits : List CircuitPart) (datagram : List ℕ) (b : Book) (m : MessageValue) (c : ℕ)
-    → relays ≡ part.relay ∷ [] → circuits ≡ part ∷ [] → addressee relays circuits source datagram ≡ Ok c → message_of datagram ≡ Ok m
-    → received_alone part now source datagram b ≡ message_served part (book_at now b) (Ok m)
-received_message part now source relays circuits datagram b m c one_relay one_circuit found read =
-    ap (only_served part now datagram b) ((λ i. addressee (sym one_relay i) (sym one_circuit i) source datagram) ∙ found)
-    ∙ served_is part now datagram b
-    ∙ ap (message_served part (book_at now b)) read
+  pub fails_at : (faults : ℕ → ℕ) (books : List (Option Book)) (book : Option Book) → slice_get books c ≡ Some book
+      → received_fails relays parts now source datagram faults books ≡ circuit_fails now datagram faults (Some part) (Some book)
+  fails_at faults books book its =
+      ap (addressee_fails parts now datagram faults books) found
+      ∙ (λ i. circuit_fails now datagram faults (there i) (its i))
 
--- A datagram of a circuit is served by that circuit's server, at its part and book.
-pub received_at : (relays : List Source) (parts : List CircuitPart) (now : ℕ) (source : Source) (datagram : List ℕ) (books : List Book) (c : ℕ) (part : CircuitPart) (b : Book) (m : MessageValue)
-    → addressee relays parts source datagram ≡ Ok c → slice_get parts c ≡ Some part → slice_get books c ≡ Some b → message_of datagram ≡ Ok m
-    → received relays parts now source datagram books ≡ with_served c books (message_served part (book_at now b) (Ok m))
-received_at relays parts now source datagram books c part b m found there its read =
-    ap (addressee_served parts now datagram books) found
-    ∙ (λ i. circuit_served c now datagram books (there i) (its i))
-    ∙ ap (with_served c books) (served_is part now datagram b ∙ ap (message_served part (book_at now b)) read)
+  pub leases_at : (faults : ℕ → ℕ) (all : List Leases) (l : Leases) → slice_get all c ≡ Some l
+      → received_leases relays parts now source datagram faults all ≡ slice_set all c (after_datagram part now datagram (faults part.region) l)
+  leases_at faults all l its =
+      ap (addressee_leases parts now datagram faults all) found
+      ∙ (λ i. leases_with c now datagram faults all (there i) (its i))

@@ -1,8 +1,14 @@
 -- Lists of circuits' servers.
-use Rattle.std.proofs.Common.{◌≡◌, ℕ, zero, suc, ◌+◌, ◌<◌, Bool, not, cond, List, [], ◌∷◌, ◌++◌, map, length, take, drop, get_or, set, refl, sym, ap, ◌∙◌, arith, append_assoc}
+use Rattle.std.proofs.Common.{◌≡◌, ℕ, zero, suc, ◌+◌, ◌<◌, Bool, not, cond, List, [], ◌∷◌, ◌++◌, map, length, take, drop, get_or, set, refl, sym, ap, subst, ◌∙◌, arith, append_assoc}
 use Rattle.std.specs.List.{All, position, position_or_len}
+use Rattle.std.specs.Prelude.{Some, slice_get}
+use Rattle.std.proofs.lemmas.List.Elements.{All-nil, All-cons, All-head, All-tail}
+use Rattle.config.specs.CircuitPart.{CircuitPart}
+use Rattle.lease_disk.specs.Region.{Region}
+use Rattle.dispatch.specs.Leases.{found_leases}
+use Rattle.dispatch.specs.ServerValue.{CircuitServerValue, leases_of, part_of}
 use Rattle.std.proofs.lemmas.List.{length-map, length-take-le, map-append, map-set, get_or-map, take_more}
-use Rattle.std.proofs.Math.Seq.{drop-cons, get_or-append_seam, set-append_seam, map-set_same}
+use Rattle.std.proofs.Math.Seq.{take-append_seam, drop-cons, get_or-append_seam, set-append_seam, map-set_same}
 
 first_of_map : {A B : Type 0} (p : B → Bool) (f : A → B) (xs : List A) → position_or_len p (map f xs) ≡ position_or_len (λ x. p (f x)) xs
 first_of_map p f [] = refl
@@ -52,3 +58,41 @@ same_seen f xs i x y same = map-set_same f xs i y x same
 pub all_one : {X : Type 0} (P : X → Type 0) (x : X) → P x → All P (x ∷ [])
 all_one P x h zero d inside = h
 all_one P x h (suc k) d inside = absurd (omega (arith, inside))
+
+-- ---- one element changes, and what is seen of the others stays
+
+same_all : {A B : Type 0} (f g : A → B) (xs : List A) → ((k : ℕ) (x : A) → slice_get xs k ≡ Some x → g x ≡ f x) → map g xs ≡ map f xs
+same_all f g [] h = refl
+same_all f g (x ∷ xs) h = λ i. h 0 x refl i ∷ same_all f g xs (λ k y e. h (suc k) y e) i
+
+pub one_moved : {A B : Type 0} (f g : A → B) (xs : List A) (c : ℕ) (y : A) → ((k : ℕ) (x : A) → slice_get xs k ≡ Some x → (k ≡ c → ⊥) → g x ≡ f x)
+    → map g (set xs c y) ≡ set (map f xs) c (g y)
+one_moved f g [] c y h = refl
+one_moved f g (x ∷ xs) zero y h = ap (λ ys. g y ∷ ys) (same_all f g xs (λ k z e. h (suc k) z e (λ same. absurd (omega (arith, same)))))
+one_moved f g (x ∷ xs) (suc c) y h =
+    λ i. h 0 x refl (λ same. absurd (omega (arith, same))) i ∷ one_moved f g xs c y (λ k z e apart. h (suc k) z e (λ same. apart (omega (arith, same)))) i
+
+all_kept : {A : Type 0} (P Q : A → Type 0) (xs : List A) → All P xs → ((k : ℕ) (x : A) → slice_get xs k ≡ Some x → P x → Q x) → All Q xs
+all_kept P Q [] all h = All-nil Q
+all_kept P Q (x ∷ xs) all h = All-cons Q x xs (h 0 x refl (All-head P x xs all)) (all_kept P Q xs (All-tail P x xs all) (λ k z e. h (suc k) z e))
+
+pub all_moved : {A : Type 0} (P Q : A → Type 0) (xs : List A) (c : ℕ) (y : A) → Q y → All P xs → ((k : ℕ) (x : A) → slice_get xs k ≡ Some x → (k ≡ c → ⊥) → P x → Q x) → All Q (set xs c y)
+all_moved P Q [] c y q all h = All-nil Q
+all_moved P Q (x ∷ xs) zero y q all h = All-cons Q y xs q (all_kept P Q xs (All-tail P x xs all) (λ k z e. h (suc k) z e (λ same. absurd (omega (arith, same)))))
+all_moved P Q (x ∷ xs) (suc c) y q all h =
+    All-cons Q x (set xs c y) (h 0 x refl (λ same. absurd (omega (arith, same))) (All-head P x xs all))
+    (all_moved P Q xs c y q (All-tail P x xs all) (λ k z e apart. h (suc k) z e (λ same. apart (omega (arith, same)))))
+
+-- what holds of each part holds of a circuit's
+pub at_part : (P : CircuitPart → Type 0) (xs : List CircuitServerValue) (i : ℕ) (x : CircuitServerValue) → i < length xs → All P (map part_of xs) → P (get_or xs i x).part
+at_part P xs i x within all = subst P (get_or-map part_of xs i x (part_of x) within) (all i (part_of x) (subst (λ n. i < n) (sym (length-map xs part_of)) within))
+
+-- circuits that all begin with what their regions hold
+pub all_found : (regions : ℕ → Region) (xs : List CircuitServerValue) → All (λ s. leases_of regions s ≡ found_leases regions s.part) xs
+    → map (leases_of regions) xs ≡ map (found_leases regions) (map part_of xs)
+all_found regions [] all = refl
+all_found regions (x ∷ xs) all = λ i. All-head (λ s. leases_of regions s ≡ found_leases regions s.part) x xs all i ∷ all_found regions xs (All-tail (λ s. leases_of regions s ≡ found_leases regions s.part) x xs all) i
+
+-- a slice of a whole vector that was written through
+pub written_through : {A : Type 0} (len : ℕ) (new rest : List A) → len ≡ length new → take len (new ++ rest) ≡ new
+written_through len new rest is = subst (λ n. take n (new ++ rest) ≡ new) (sym is) (take-append_seam new rest)

@@ -1,4 +1,5 @@
 pub mod Addressee
+pub mod Leases
 pub mod Received
 pub mod Request
 pub mod Server

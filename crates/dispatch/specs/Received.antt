@@ -1,44 +1,76 @@
 -- What the server makes of any datagram.
-use Rattle.std.specs.Prelude.{◌≡◌, ℕ, List, [], ◌∷◌, Option, Some, None, slice_get, slice_set, Result, Ok, Err}
+use Rattle.std.specs.Prelude.{◌≡◌, ℕ, ◌==◌, ◌&&◌, Bool, not, false, List, [], Option, Some, None, slice_get, slice_set, Result, Ok, Err, if◌then◌else◌}
 use Rattle.types.specs.declared.addr.Source.{Source}
 use Rattle.types.specs.declared.discard.Discard.{Discard}
-use Rattle.types.specs.declared.discard.Discard.TheVariants.{UnknownCircuit}
+use Rattle.types.specs.declared.discard.Discard.TheVariants.{UnknownCircuit, CircuitClosed, DiskFault}
+use Rattle.lease_disk.specs.Region.{effective}
 use Rattle.config.specs.CircuitPart.{CircuitPart}
 use Rattle.dispatch.specs.Addressee.{addressee}
-use Rattle.dispatch.specs.Server.{Book, Served, drop, served}
+use Rattle.dispatch.specs.Server.{Book, Served, served}
 
--- The reply's datagram, or why there is none; and the books of all circuits after it.
+-- ---- one circuit
+
+-- The reply's datagram, or why there is none; and the book after it, None where the circuit is closed.
+pub record Answered : Type 0 where
+  pub answer : Result (List ℕ) Discard
+  pub book : Option Book
+
+-- A reply leaves after the save, and a save that fails closes the circuit.
+abbrev pub after_save : Bool → Served → Answered
+after_save fails done =
+    if done.is_kept && fails then record { answer = Err DiskFault; book = None }
+    else record { answer = done.answer; book = Some done.book }
+
+-- A datagram of a circuit, where its save fails or does not. A closed circuit answers nothing.
+abbrev pub answered : CircuitPart → ℕ → List ℕ → Bool → Option Book → Answered
+answered part now datagram fails None = record { answer = Err CircuitClosed; book = None }
+answered part now datagram fails (Some b) = after_save fails (served part now datagram b)
+
+-- ---- all circuits
+
 pub record Received : Type 0 where
   pub answer : Result (List ℕ) Discard
-  pub books : List Book
+  pub books : List (Option Book)
 
-abbrev pub drop_all : Discard → List Book → Received
+abbrev pub drop_all : Discard → List (Option Book) → Received
 drop_all why books = record { answer = Err why; books = books }
 
 -- Circuit c's server serves it, and every other circuit's book stays.
-abbrev pub with_served : ℕ → List Book → Served → Received
-with_served c books done = record { answer = done.answer; books = slice_set books c done.book }
+abbrev pub with_answered : ℕ → List (Option Book) → Answered → Received
+with_answered c books done = record { answer = done.answer; books = slice_set books c done.book }
 
-abbrev pub circuit_served : ℕ → ℕ → List ℕ → List Book → Option CircuitPart → Option Book → Received
-circuit_served c now datagram books (Some part) (Some b) = with_served c books (served part now datagram b)
-circuit_served c now datagram books (Some part) None = drop_all UnknownCircuit books
-circuit_served c now datagram books None b = drop_all UnknownCircuit books
+abbrev pub circuit_answered : ℕ → ℕ → List ℕ → Bool → List (Option Book) → Option CircuitPart → Option (Option Book) → Received
+circuit_answered c now datagram fails books (Some part) (Some book) = with_answered c books (answered part now datagram fails book)
+circuit_answered c now datagram fails books (Some part) None = drop_all UnknownCircuit books
+circuit_answered c now datagram fails books None book = drop_all UnknownCircuit books
 
 -- What is of no circuit changes nothing.
-abbrev pub addressee_served : List CircuitPart → ℕ → List ℕ → List Book → Result ℕ Discard → Received
-addressee_served parts now datagram books (Err why) = drop_all why books
-addressee_served parts now datagram books (Ok c) = circuit_served c now datagram books (slice_get parts c) (slice_get books c)
+abbrev pub addressee_answered : List CircuitPart → ℕ → List ℕ → Bool → List (Option Book) → Result ℕ Discard → Received
+addressee_answered parts now datagram fails books (Err why) = drop_all why books
+addressee_answered parts now datagram fails books (Ok c) = circuit_answered c now datagram fails books (slice_get parts c) (slice_get books c)
 
-abbrev pub received : List Source → List CircuitPart → ℕ → Source → List ℕ → List Book → Received
-received relays parts now source datagram books = addressee_served parts now datagram books (addressee relays parts source datagram)
+abbrev pub received : List Source → List CircuitPart → ℕ → Source → List ℕ → Bool → List (Option Book) → Received
+received relays parts now source datagram fails books = addressee_answered parts now datagram fails books (addressee relays parts source datagram)
 
--- The same where there is one circuit.
-abbrev pub only_served : CircuitPart → ℕ → List ℕ → Book → Result ℕ Discard → Served
-only_served part now datagram b (Err why) = drop why b
-only_served part now datagram b (Ok c) = served part now datagram b
+-- ---- whether the save fails
 
-abbrev pub received_alone : CircuitPart → ℕ → Source → List ℕ → Book → Served
-received_alone part now source datagram b = only_served part now datagram b (addressee (part.relay ∷ []) (part ∷ []) source datagram)
+abbrev pub save_fails : ℕ → Served → Bool
+save_fails fault done = done.is_kept && not (effective 6 fault == 0)
+
+abbrev pub circuit_fails : ℕ → List ℕ → (ℕ → ℕ) → Option CircuitPart → Option (Option Book) → Bool
+circuit_fails now datagram faults (Some part) (Some (Some b)) = save_fails (faults part.region) (served part now datagram b)
+circuit_fails now datagram faults (Some part) (Some None) = false
+circuit_fails now datagram faults (Some part) None = false
+circuit_fails now datagram faults None book = false
+
+abbrev pub addressee_fails : List CircuitPart → ℕ → List ℕ → (ℕ → ℕ) → List (Option Book) → Result ℕ Discard → Bool
+addressee_fails parts now datagram faults books (Err why) = false
+addressee_fails parts now datagram faults books (Ok c) = circuit_fails now datagram faults (slice_get parts c) (slice_get books c)
+
+-- Whether a datagram's save fails, where `faults` says for each region which of the device's next calls
+-- fails.
+abbrev pub received_fails : List Source → List CircuitPart → ℕ → Source → List ℕ → (ℕ → ℕ) → List (Option Book) → Bool
+received_fails relays parts now source datagram faults books = addressee_fails parts now datagram faults books (addressee relays parts source datagram)
 
 -- A result with what `out` then holds is this answer.
 abbrev pub IsAnswer : Result (List ℕ) Discard → Result (Unit {0}) Discard → List ℕ → Type 0

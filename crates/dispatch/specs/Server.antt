@@ -1,5 +1,5 @@
 -- One circuit's server: its book, and what it makes of a DHCPv4 datagram of the circuit.
-use Rattle.std.specs.Prelude.{ℕ, max, List, Result, Ok, Err}
+use Rattle.std.specs.Prelude.{ℕ, Bool, false, max, List, Result, Ok, Err}
 use Rattle.types.specs.declared.discard.Discard.{Discard}
 use Rattle.types.specs.declared.discard.Discard.TheVariants as reason
 use Rattle.types.specs.declared.request4.Request4.{Request4}
@@ -9,6 +9,7 @@ use Rattle.v4_message.specs.Reading.{message_of}
 use Rattle.v4_message.specs.Spelling.{MessageValue}
 use Rattle.config.specs.CircuitPart.{CircuitPart, pool4_of}
 use Rattle.bindings_v4.specs.Book4.{Book4, book4_at}
+use Rattle.bindings_v4.specs.Kept4 as kept4
 use Rattle.bindings_v4.specs.IsBook4.{IsBook4}
 use Rattle.bindings_v4.specs.Table4.{Decision, answer4}
 use Rattle.replies.specs.Reply4.{reply4_bytes}
@@ -28,13 +29,19 @@ IsBook b = IsBook4 b.clock b.four
 abbrev pub book_at : ℕ → Book → Book
 book_at now b = record { clock = max b.clock now; four = book4_at (max b.clock now) b.four }
 
--- The reply's datagram, or why there is none; and the book after it.
+-- What the disk keeps of a book: all but its offers.
+abbrev pub kept_book : Book → Book
+kept_book b = record b { four = kept4.kept_book b.four }
+
+-- The reply's datagram, or why there is none; the book after it; and whether it has to be saved before
+-- the reply leaves.
 pub record Served : Type 0 where
   pub answer : Result (List ℕ) Discard
   pub book : Book
+  pub is_kept : Bool
 
 abbrev pub drop : Discard → Book → Served
-drop why b = record { answer = Err why; book = b }
+drop why b = record { answer = Err why; book = b; is_kept = false }
 
 abbrev pub reply_to : CircuitPart → MessageValue → Result Reply4 Discard → Result (List ℕ) Discard
 reply_to part m (Err why) = Err why
@@ -42,7 +49,7 @@ reply_to part m (Ok reply) = Ok (reply4_bytes part m reply)
 
 abbrev pub decision_served : CircuitPart → MessageValue → ℕ → Decision → Served
 decision_served part m clock decision =
-    record { answer = reply_to part m decision.answer; book = record { clock = clock; four = decision.book } }
+    record { answer = reply_to part m decision.answer; book = record { clock = clock; four = decision.book }; is_kept = decision.is_kept }
 
 abbrev pub request_served : CircuitPart → MessageValue → Book → Result Request4 Discard → Served
 request_served part m b (Err why) = drop why b

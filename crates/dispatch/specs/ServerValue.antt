@@ -1,32 +1,68 @@
 -- What shows of the server in the code.
-use Rattle.std.specs.Prelude.{ℕ, List, map}
+use Rattle.std.specs.Prelude.{◌≡◌, ℕ, List, map, Option, Some, None, option_map, All, slice_get}
 use Rattle.types.specs.declared.addr.Source.{Source}
 use Rattle.config.specs.CircuitPart.{CircuitPart}
+use Rattle.lease_disk.specs.declared.bank.Marks.{Marks}
+use Rattle.lease_disk.specs.Region.{Region, IsClean}
+use Rattle.lease_disk.specs.Save.{AreMarks}
 use Rattle.bindings_v4.specs.Slots4.{PoolSlots}
 use Rattle.bindings_v4.specs.Slots4 as slots
+use Rattle.dispatch.specs.Leases.{Leases, restarts_of}
 use Rattle.dispatch.specs.Server.{Book}
 
--- of one circuit: its part of the configuration, its clock, and what the slots of its pool hold
-pub record CircuitServerValue : Type 0 where
-  pub part : CircuitPart
+-- of an open circuit: its clock, what the slots of its pool hold, and what the next save has to know
+pub record OpenCircuitValue : Type 0 where
   pub clock : ℕ
   pub slots : PoolSlots
+  pub marks : Marks
+
+-- of one circuit: its part of the configuration, and what it has while it is open
+pub record CircuitServerValue : Type 0 where
+  pub part : CircuitPart
+  pub state : Option OpenCircuitValue
 
 -- its book, by what the slots of its pool hold
-abbrev pub book_of : CircuitServerValue → Book
-book_of s = record { clock = s.clock; four = slots.book_of s.clock s.slots }
+abbrev pub open_book : OpenCircuitValue → Book
+open_book o = record { clock = o.clock; four = slots.book_of o.clock o.slots }
+
+abbrev pub book_of : CircuitServerValue → Option Book
+book_of s = option_map open_book s.state
 
 abbrev pub part_of : CircuitServerValue → CircuitPart
 part_of s = s.part
+
+-- its leases, by its book and its region
+abbrev pub leases_of : (ℕ → Region) → CircuitServerValue → Leases
+leases_of regions s = record { book = book_of s; restarts = restarts_of s.part (regions s.part.region) }
+
+-- an open circuit's region can be saved to
+abbrev pub IsReadyFor : Region → Option OpenCircuitValue → Type 0
+IsReadyFor region None = Unit {0}
+IsReadyFor region (Some o) = IsClean region × AreMarks region.byte o.marks
+
+abbrev pub IsReady : (ℕ → Region) → CircuitServerValue → Type 0
+IsReady regions s = IsReadyFor (regions s.part.region) s.state
 
 -- of all circuits, and where each relay's datagrams come from
 pub record ServerValue : Type 0 where
   pub relays : List Source
   pub circuits : List CircuitServerValue
 
--- each circuit's part of the configuration, and its book
+-- each circuit's part of the configuration, its book, and its leases
 abbrev pub parts_in : ServerValue → List CircuitPart
 parts_in s = map part_of s.circuits
 
-abbrev pub books_in : ServerValue → List Book
+abbrev pub books_in : ServerValue → List (Option Book)
 books_in s = map book_of s.circuits
+
+abbrev pub leases_in : (ℕ → Region) → ServerValue → List Leases
+leases_in regions s = map (leases_of regions) s.circuits
+
+-- every open circuit's region can be saved to
+abbrev pub AreReady : (ℕ → Region) → ServerValue → Type 0
+AreReady regions s = All (IsReady regions) s.circuits
+
+-- no two circuits have one region
+abbrev pub RegionsDiffer : List CircuitPart → Type 0
+RegionsDiffer parts =
+    (c d : ℕ) (one other : CircuitPart) → slice_get parts c ≡ Some one → slice_get parts d ≡ Some other → one.region ≡ other.region → c ≡ d

@@ -1,120 +1,126 @@
-//! The server of one circuit: its clock, its book, and what it makes of a message.
-ghost use Rattle.std.specs.Prelude.{◌≡◌, [], Ok};
-ghost use Rattle.bindings_v4.specs.Book4.{empty_book};
-ghost use Rattle.dispatch.specs.Server.{book_at, message_served};
-ghost use Rattle.dispatch.specs.Received.{IsAnswer, received_alone};
-ghost use Rattle.dispatch.specs.ServerValue.{book_of};
+//! The server of one circuit: what it has while it is open, and what it makes of a message.
+ghost use Rattle.std.specs.Prelude.{◌≡◌, ◌≢◌, ◌<◌, ℕ, [], List, Ok, Some, true, nat_lt, IfSome};
+ghost use Rattle.v4_message.specs.Reading.{message_of};
+ghost use Rattle.config.specs.CircuitPart.{pool4_of};
+ghost use Rattle.dispatch.specs.Leases.{after_datagram, after_tick, found_book};
+ghost use Rattle.dispatch.specs.Received.{IsAnswer, answered, circuit_fails};
+ghost use Rattle.dispatch.specs.ServerValue.{IsReady, book_of, leases_of};
+ghost use Rattle.lease_disk.specs.Region.{IsClean, Region};
 
-use crate::addressee::addressee;
+use crate::open_circuit::OpenCircuit;
 use crate::request::request_in;
-use bindings_v4::{Book4, expires_by_the_clock};
 use config::CircuitPart;
+use lease_disk::Disk;
 use replies::write4;
 use std::marker::Model;
-use std::slice;
-use types::{Discard, Moment, Source};
+use types::{Discard, Moment};
 use v4_message::Message;
 use wire::PacketBuf;
 
 /// The server of one circuit. It holds all that it needs of the configuration, and none of its calls
 /// allocates.
 #[derive(Drop)]
-pub struct CircuitServer {
+pub(crate) struct CircuitServer {
     part: CircuitPart,
-    clock: Moment,
-    book: Book4,
+    state: Option<OpenCircuit>,
 }
 
 impl Model for CircuitServer {
-    ghost use Rattle.std.specs.Prelude.{◌≡◌};
+    ghost use Rattle.std.specs.Prelude.{◌≡◌, IfSome};
     ghost use Rattle.config.specs.CircuitPart.{pool4_of};
     ghost use Rattle.dispatch.specs.ServerValue.{CircuitServerValue};
 
     ghost Value = { CircuitServerValue };
 
-    ghost view = { λ s. record { part = s.part; clock = s.clock; slots = s.book } };
+    ghost view = { λ s. record { part = s.part; state = s.state } };
 
-    ghost invariant = { λ s. s.book.pool ≡ pool4_of s.part };
+    ghost invariant = { λ s. IfSome s.state (λ o. o.slots.pool ≡ pool4_of s.part) };
 }
 
 impl CircuitServer {
-    /// The server of this circuit at the clock 0, without leases.
-    pub fn new(part: CircuitPart) -> CircuitServer
-        ensures part { result.part ≡ part }
-        ensures book { book_of result ≡ record { clock = 0; four = empty_book } }
+    /// The server of this circuit, which is closed until its region is recovered.
+    pub(crate) fn closed(part: CircuitPart) -> CircuitServer
+        ensures { result.part ≡ part }
     {
-        let book = Book4::new(part.pool4());
-        CircuitServer {
-            part,
-            clock: Moment::first(),
-            book,
-        }
+        CircuitServer { part, state: None }
     }
 
     /// The circuit's part of the configuration.
-    pub fn part(&self) -> &CircuitPart
+    pub(crate) fn part(&self) -> &CircuitPart
         ensures { result.now ≡ self.now.part }
     {
         &self.part
     }
 
-    /// Takes a datagram from this source at this moment. At `Ok` the reply's datagram is in `out`, which
-    /// is empty otherwise.
-    pub fn receive(
-        &mut self,
-        source: Source,
-        datagram: &[u8],
-        now: Moment,
-        out: &mut PacketBuf,
-    ) -> Result<(), Discard>
+    /// Begins with what the circuit's region holds. The circuit is closed where the region cannot be
+    /// read or is damaged.
+    pub(crate) fn restart<D: Disk>(&mut self, disk: &mut D)
+        requires { self.old.part.region < D.count disk.old }
         ensures part { self.new.part ≡ self.old.part }
-        ensures answer { IsAnswer (received_alone self.old.part now source datagram.now (book_of self.old)).answer result out.new }
-        ensures book { book_of self.new ≡ (received_alone self.old.part now source datagram.now (book_of self.old)).book }
+        ensures book { D.tells ≡ true → book_of self.new ≡ found_book self.old.part (D.state disk.old self.old.part.region) }
+        ensures ready { D.tells ≡ true → ((D.state disk.old self.old.part.region).readable ≡ true → IsClean (D.state disk.old self.old.part.region)) → IsReady (D.state disk.old) self.new }
+        ensures state { D.tells ≡ true → D.state disk.new ≡ D.state disk.old }
+        ensures fuse { D.tells ≡ true → D.fuse disk.new ≡ D.fuse disk.old }
+        ensures count { D.count disk.new ≡ D.count disk.old }
+        ensures writes { D.writes disk.new ≡ D.writes disk.old }
     {
-        out.clear();
-        let relay = self.part.relay();
-        let only = slice::from_ref(&*self);
-        let message = match addressee(slice::from_ref(&relay), only, source, datagram) {
-            Ok((_, message)) => message,
-            Err(why) => return Err(why),
-        };
-        self.tick(now);
-        self.answer(&message, out)
+        self.state = OpenCircuit::recover(&self.part, disk);
     }
 
-    /// Answers a message of the circuit at the clock.
-    pub(crate) fn answer(
+    /// Answers a message of the circuit at this moment. A save that fails closes the circuit.
+    pub(crate) fn answer<D: Disk>(
         &mut self,
         message: &Message<'_>,
+        now: Moment,
+        disk: &mut D,
         out: &mut PacketBuf,
     ) -> Result<(), Discard>
-        requires { out.old ≡ [] }
+        requires empty { out.old ≡ [] }
+        requires exists { self.old.part.region < D.count disk.old }
+        requires ready { D.tells ≡ true → IsReady (D.state disk.old) self.old }
         ensures part { self.new.part ≡ self.old.part }
-        ensures answer { IsAnswer (message_served self.old.part (book_of self.old) (Ok message.now)).answer result out.new }
-        ensures book { book_of self.new ≡ (message_served self.old.part (book_of self.old) (Ok message.now)).book }
+        ensures answer { (datagram : List ℕ) → message_of datagram ≡ Ok message.now
+            → IsAnswer (answered self.old.part now datagram (nat_lt (D.failures disk.old) (D.failures disk.new)) (book_of self.old)).answer result out.new }
+        ensures book { (datagram : List ℕ) → message_of datagram ≡ Ok message.now
+            → book_of self.new ≡ (answered self.old.part now datagram (nat_lt (D.failures disk.old) (D.failures disk.new)) (book_of self.old)).book }
+        ensures fails { D.tells ≡ true → (datagram : List ℕ) → message_of datagram ≡ Ok message.now
+            → nat_lt (D.failures disk.old) (D.failures disk.new) ≡ circuit_fails now datagram (D.fuse disk.old) (Some self.old.part) (Some (book_of self.old)) }
+        ensures leases { D.tells ≡ true → (datagram : List ℕ) → message_of datagram ≡ Ok message.now
+            → leases_of (D.state disk.new) self.new ≡ after_datagram self.old.part now datagram (D.fuse disk.old self.old.part.region) (leases_of (D.state disk.old) self.old) }
+        ensures ready { D.tells ≡ true → IsReady (D.state disk.new) self.new }
+        ensures others { D.tells ≡ true → (q : ℕ) → q ≢ self.old.part.region → D.state disk.new q ≡ D.state disk.old q }
+        ensures count { D.count disk.new ≡ D.count disk.old }
+        ensures reads { D.reads disk.new ≡ D.reads disk.old }
     {
+        let Some(circuit) = &mut self.state else {
+            return Err(Discard::CircuitClosed);
+        };
+        circuit.tick(now);
         let request = match request_in(message) {
             Ok(request) => request,
             Err(why) => return Err(why),
         };
-        let decision = self.book.decide(&request, self.clock);
-        self.book.commit(&decision);
-        match decision.answer {
-            Ok(reply) => {
+        match circuit.serve(&self.part, &request, disk) {
+            Ok(Ok(reply)) => {
                 write4(&self.part, message, reply, out);
                 Ok(())
             }
-            Err(why) => Err(why),
+            Ok(Err(why)) => Err(why),
+            Err(_) => {
+                self.state = None;
+                Err(Discard::DiskFault)
+            }
         }
     }
 
-    /// Moves the clock to this moment, if it is a later one.
-    pub fn tick(&mut self, now: Moment)
+    /// Moves the clock of an open circuit to this moment, where it is a later one.
+    pub(crate) fn tick(&mut self, now: Moment)
         ensures part { self.new.part ≡ self.old.part }
-        ensures book { book_of self.new ≡ book_at now (book_of self.old) }
+        ensures leases { (regions : ℕ → Region) → leases_of regions self.new ≡ after_tick now (leases_of regions self.old) }
+        ensures ready { (regions : ℕ → Region) → IsReady regions self.old → IsReady regions self.new }
     {
-        let later = self.clock.later(now);
-        expires_by_the_clock(&self.book, self.clock, later);
-        self.clock = later;
+        if let Some(circuit) = &mut self.state {
+            circuit.tick(now);
+        }
     }
 }

@@ -4,11 +4,11 @@
 mod addressee;
 mod circuit_server;
 mod laws;
+mod open_circuit;
 mod request;
 mod server;
 #[cfg(test)]
 mod tests;
 
-pub use circuit_server::CircuitServer;
 pub use laws::leaves_a_book;
-pub use server::Server;
+pub use server::{OpenFault, Server};

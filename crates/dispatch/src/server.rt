@@ -1,21 +1,36 @@
-//! The server of all circuits.
-ghost use Rattle.std.specs.Prelude.{◌≡◌, ◌<◌, [], length, map, slice_get, All, Some, IfOk};
-ghost use Rattle.bindings_v4.specs.Book4.{empty_book};
+//! The server of all circuits, over a device that keeps their leases.
+ghost use Rattle.std.specs.Prelude.{◌≡◌, ◌<◌, ◌+◌, [], ℕ, length, map, slice_get, All, Some, true, false, nat_lt, IfOk, IfErr};
 ghost use Rattle.config.specs.CircuitPart.{IsPart, parts_of};
-ghost use Rattle.dispatch.specs.Server.{book_at};
-ghost use Rattle.dispatch.specs.Received.{IsAnswer, received};
-ghost use Rattle.dispatch.specs.ServerValue.{book_of, books_in, part_of, parts_in};
+ghost use Rattle.dispatch.specs.Leases.{AreSynced, HasRegions, after_tick, found_leases, received_leases};
+ghost use Rattle.dispatch.specs.Received.{IsAnswer, received, received_fails};
+ghost use Rattle.dispatch.specs.ServerValue.{AreReady, IsReady, RegionsDiffer, books_in, leases_in, leases_of, part_of, parts_in};
+ghost use Rattle.dispatch.specs.declared.server.OpenFault.TheVariants as fault;
+ghost use Rattle.lease_disk.specs.Region.{Region};
 
 use crate::addressee::addressee;
 use crate::circuit_server::CircuitServer;
 use config::{CircuitPart, Config};
+use lease_disk::Disk;
 use std::alloc::{AllocError, Global};
 use std::marker::Model;
+use thiserror::Error;
 use types::{Circuit, Discard, Moment, RelayNo, Source};
 use wire::PacketBuf;
 
+/// Why a server was not opened.
+#[derive(Clone, Copy, Debug, PartialEq, Eq, Error)]
+pub enum OpenFault {
+    /// A request for memory was refused.
+    #[error("out of memory")]
+    Memory,
+    /// The device lacks the region of a circuit.
+    #[error("the disk has fewer regions than the circuits need")]
+    DiskTooSmall,
+}
+
 /// The server of all circuits of a configuration. It holds all that it needs of it, and no call but
-/// `open` takes memory.
+/// `open` takes memory. Each of its calls has to be over the device that it was opened over, which
+/// nobody else writes to meanwhile.
 #[derive(Drop)]
 pub struct Server {
     relays: Vec<Source>,
@@ -23,11 +38,14 @@ pub struct Server {
 }
 
 impl Model for Server {
-    ghost use Rattle.dispatch.specs.ServerValue.{ServerValue};
+    ghost use Rattle.std.specs.Prelude.{map};
+    ghost use Rattle.dispatch.specs.ServerValue.{RegionsDiffer, ServerValue, part_of};
 
     ghost Value = { ServerValue };
 
     ghost view = { λ s. record { relays = s.relays.items; circuits = s.circuits.items } };
+
+    ghost invariant = { λ s. RegionsDiffer (map part_of s.circuits.items) };
 }
 
 /// Where the datagrams of each relay come from, in the order of the configuration.
@@ -44,44 +62,99 @@ fn relay_sources(alloc: Global, config: &Config) -> Result<Vec<Source>, AllocErr
     Ok(sources)
 }
 
-/// A server for each circuit, in the order of the configuration.
+/// A server for each circuit, in the order of the configuration. Each is closed.
 fn circuit_servers(alloc: Global, config: &Config) -> Result<Vec<CircuitServer>, AllocError>
     ensures parts { IfOk result (λ circuits. map part_of circuits.items ≡ parts_of config.now) }
-    ensures books { IfOk result (λ circuits. map book_of circuits.items ≡ map (λ part. record { clock = 0; four = empty_book }) (parts_of config.now)) }
     ensures sound { IfOk result (λ circuits. All IsPart (parts_of config.now)) }
+    ensures differ { IfOk result (λ circuits. RegionsDiffer (parts_of config.now)) }
 {
     let mut circuits = Vec::with_capacity(alloc, config.circuit_count())?;
     'circuits: for index in 0..config.circuit_count() {
         let Some(circuit) = Circuit::new(index) else {
             unreachable!()
         };
-        circuits.push(CircuitServer::new(CircuitPart::of(config, circuit)))?;
+        circuits.push(CircuitServer::closed(CircuitPart::of(config, circuit)))?;
     }
     Ok(circuits)
+}
+
+/// Whether the device has the region of each circuit.
+fn has_regions(circuits: &[CircuitServer], count: u16) -> bool
+    ensures yes { result ≡ true → HasRegions (map part_of circuits.now) count }
+    ensures no { result ≡ false → ¬ HasRegions (map part_of circuits.now) count }
+{
+    'circuits: for circuit in circuits {
+        if circuit.part().region() >= count {
+            return false;
+        }
+    }
+    true
 }
 
 /// Moves the clock of each to this moment, where it is a later one.
 fn tick_all(circuits: &mut [CircuitServer], now: Moment)
     ensures parts { map part_of circuits.new ≡ map part_of circuits.old }
-    ensures books { map book_of circuits.new ≡ map (book_at now) (map book_of circuits.old) }
+    ensures leases { (regions : ℕ → Region) → map (leases_of regions) circuits.new ≡ map (after_tick now) (map (leases_of regions) circuits.old) }
+    ensures ready { (regions : ℕ → Region) → All (IsReady regions) circuits.old → All (IsReady regions) circuits.new }
 {
     'circuits: for index in 0..circuits.len() {
         circuits[index].tick(now);
     }
 }
 
+/// Begins each with what its region holds.
+fn restart_all<D: Disk>(circuits: &mut [CircuitServer], disk: &mut D)
+    requires { HasRegions (map part_of circuits.old) (D.count disk.old) }
+    ensures parts { map part_of circuits.new ≡ map part_of circuits.old }
+    ensures leases { D.tells ≡ true → map (leases_of (D.state disk.new)) circuits.new ≡ map (found_leases (D.state disk.old)) (map part_of circuits.old) }
+    ensures ready { D.tells ≡ true → AreSynced (map part_of circuits.old) (D.state disk.old) → All (IsReady (D.state disk.new)) circuits.new }
+    ensures state { D.tells ≡ true → D.state disk.new ≡ D.state disk.old }
+    ensures fuse { D.tells ≡ true → D.fuse disk.new ≡ D.fuse disk.old }
+    ensures count { D.count disk.new ≡ D.count disk.old }
+    ensures writes { D.writes disk.new ≡ D.writes disk.old }
+{
+    'circuits: for index in 0..circuits.len() {
+        circuits[index].restart(disk);
+    }
+}
+
 impl Server {
-    /// The server of a configuration: each circuit at the clock 0, without leases. All memory that it
-    /// needs is taken here.
-    pub fn open(alloc: Global, config: &Config) -> Result<Server, AllocError>
+    /// The server of a configuration over a device. Each circuit begins with the leases and the clock
+    /// that its region holds; one whose region cannot be read or is damaged is closed, alone. All
+    /// memory is taken before the device is first called.
+    pub fn open<D: Disk>(alloc: Global, config: &Config, disk: &mut D) -> Result<Server, OpenFault>
+        requires synced { D.tells ≡ true → AreSynced (parts_of config.now) (D.state disk.old) }
         ensures relays { IfOk result (λ server. server.relays ≡ map (λ relay. relay.source) config.now.relays) }
         ensures parts { IfOk result (λ server. parts_in server ≡ parts_of config.now) }
-        ensures books { IfOk result (λ server. books_in server ≡ map (λ part. record { clock = 0; four = empty_book }) (parts_of config.now)) }
         ensures sound { IfOk result (λ server. All IsPart (parts_of config.now)) }
+        ensures differ { IfOk result (λ server. RegionsDiffer (parts_of config.now)) }
+        ensures leases { D.tells ≡ true → IfOk result (λ server. leases_in (D.state disk.new) server ≡ map (found_leases (D.state disk.old)) (parts_of config.now)) }
+        ensures ready { D.tells ≡ true → IfOk result (λ server. AreReady (D.state disk.new) server) }
+        ensures large { IfOk result (λ server. HasRegions (parts_of config.now) (D.count disk.new)) }
+        ensures small { IfErr result (λ why. why ≡ fault.DiskTooSmall → ¬ HasRegions (parts_of config.now) (D.count disk.old)) }
+        ensures state { D.tells ≡ true → D.state disk.new ≡ D.state disk.old }
+        ensures fuse { D.tells ≡ true → D.fuse disk.new ≡ D.fuse disk.old }
+        ensures count { D.count disk.new ≡ D.count disk.old }
+        ensures writes { D.writes disk.new ≡ D.writes disk.old }
     {
-        let relays = relay_sources(alloc, config)?;
-        let circuits = circuit_servers(alloc, config)?;
+        let Ok(relays) = relay_sources(alloc, config) else {
+            return Err(OpenFault::Memory);
+        };
+        let Ok(mut circuits) = circuit_servers(alloc, config) else {
+            return Err(OpenFault::Memory);
+        };
+        if !has_regions(&circuits, disk.regions()) {
+            return Err(OpenFault::DiskTooSmall);
+        }
+        restart_all(&mut circuits, disk);
         Ok(Server { relays, circuits })
+    }
+
+    /// How many circuits there are.
+    pub fn circuit_count(&self) -> usize
+        ensures { result ≡ length self.now.circuits }
+    {
+        self.circuits.len()
     }
 
     /// A circuit's part of the configuration.
@@ -92,36 +165,65 @@ impl Server {
         self.circuits[circuit.index()].part()
     }
 
-    /// Takes a datagram from this source at this moment, for the circuit that it is of. At `Ok` the
-    /// reply's datagram is in `out`, which is empty otherwise.
-    pub fn receive(
+    /// Takes a datagram from this source at this moment, for the circuit that it is of. What the answer
+    /// changes but offers is saved before it leaves; where the save fails the circuit is closed, alone,
+    /// until a restart. At `Ok` the reply's datagram is in `out`, which is empty otherwise.
+    pub fn receive<D: Disk>(
         &mut self,
         source: Source,
         datagram: &[u8],
         now: Moment,
+        disk: &mut D,
         out: &mut PacketBuf,
     ) -> Result<(), Discard>
+        requires regions { HasRegions (parts_in self.old) (D.count disk.old) }
+        requires ready { D.tells ≡ true → AreReady (D.state disk.old) self.old }
         ensures relays { self.new.relays ≡ self.old.relays }
         ensures parts { parts_in self.new ≡ parts_in self.old }
-        ensures answer { IsAnswer (received self.old.relays (parts_in self.old) now source datagram.now (books_in self.old)).answer result out.new }
-        ensures books { books_in self.new ≡ (received self.old.relays (parts_in self.old) now source datagram.now (books_in self.old)).books }
+
+        // Over every device: the save fails where the device counts a failure.
+        ensures answer { IsAnswer (received self.old.relays (parts_in self.old) now source datagram.now (nat_lt (D.failures disk.old) (D.failures disk.new)) (books_in self.old)).answer result out.new }
+        ensures books { books_in self.new ≡ (received self.old.relays (parts_in self.old) now source datagram.now (nat_lt (D.failures disk.old) (D.failures disk.new)) (books_in self.old)).books }
+
+        // Over a device that tells its bytes: when the save fails, and what restarts then find.
+        ensures fails { D.tells ≡ true → nat_lt (D.failures disk.old) (D.failures disk.new) ≡ received_fails self.old.relays (parts_in self.old) now source datagram.now (D.fuse disk.old) (books_in self.old) }
+        ensures leases { D.tells ≡ true → leases_in (D.state disk.new) self.new ≡ received_leases self.old.relays (parts_in self.old) now source datagram.now (D.fuse disk.old) (leases_in (D.state disk.old) self.old) }
+        ensures ready { D.tells ≡ true → AreReady (D.state disk.new) self.new }
+        ensures count { D.count disk.new ≡ D.count disk.old }
+        ensures reads { D.reads disk.new ≡ D.reads disk.old }
     {
         out.clear();
         let (index, message) = match addressee(&self.relays, &self.circuits, source, datagram) {
             Ok(found) => found,
             Err(why) => return Err(why),
         };
-        let circuit = &mut self.circuits[index];
-        circuit.tick(now);
-        circuit.answer(&message, out)
+        self.circuits[index].answer(&message, now, disk, out)
     }
 
-    /// Moves every circuit's clock to this moment, where it is a later one.
+    /// Moves the clock of every open circuit to this moment, where it is a later one.
     pub fn tick(&mut self, now: Moment)
         ensures relays { self.new.relays ≡ self.old.relays }
         ensures parts { parts_in self.new ≡ parts_in self.old }
-        ensures books { books_in self.new ≡ map (book_at now) (books_in self.old) }
+        ensures leases { (regions : ℕ → Region) → leases_in regions self.new ≡ map (after_tick now) (leases_in regions self.old) }
+        ensures ready { (regions : ℕ → Region) → AreReady regions self.old → AreReady regions self.new }
     {
         tick_all(&mut self.circuits, now);
+    }
+
+    /// Begins each circuit anew with what its region holds, without offers. One whose region cannot be
+    /// read or is damaged is closed, alone.
+    pub fn restart<D: Disk>(&mut self, disk: &mut D)
+        requires regions { HasRegions (parts_in self.old) (D.count disk.old) }
+        requires synced { D.tells ≡ true → AreSynced (parts_in self.old) (D.state disk.old) }
+        ensures relays { self.new.relays ≡ self.old.relays }
+        ensures parts { parts_in self.new ≡ parts_in self.old }
+        ensures leases { D.tells ≡ true → leases_in (D.state disk.new) self.new ≡ map (found_leases (D.state disk.old)) (parts_in self.old) }
+        ensures ready { D.tells ≡ true → AreReady (D.state disk.new) self.new }
+        ensures state { D.tells ≡ true → D.state disk.new ≡ D.state disk.old }
+        ensures fuse { D.tells ≡ true → D.fuse disk.new ≡ D.fuse disk.old }
+        ensures count { D.count disk.new ≡ D.count disk.old }
+        ensures writes { D.writes disk.new ≡ D.writes disk.old }
+    {
+        restart_all(&mut self.circuits, disk);
     }
 }

@@ -26,3 +26,6 @@ returns-clause-answered c part now datagram b sound book = by_message (message_o
   by_message : (message : Result MessageValue MessageFault) → IsBook (message_served part (book_at now b) message).book
   by_message (Err fault) = before
   by_message (Ok m) = by_request m (request_in m)
+
+pub returns-clause-kept : goal.returns-clause-kept
+returns-clause-kept c b book = c.begins_a_book.ensures.kept b.clock b.four book

@@ -3,10 +3,9 @@ use Rattle.std.specs.Prelude.{Some, slice_get, All}
 use Rattle.std.proofs.lemmas.List.{map-append, take_more}
 use Rattle.std.proofs.lemmas.List.Elements.{All-append}
 use Rattle.std.proofs.lemmas.Option.{slice_get_within, get_or_from_slice_get}
-use Rattle.bindings_v4.specs.Book4.{empty_book}
 use Rattle.config.specs.CircuitPart.{CircuitPart, IsPart, part_in, parts_of}
-use Rattle.dispatch.specs.Server.{Book}
-use Rattle.dispatch.specs.ServerValue.{CircuitServerValue, book_of, part_of}
+use Rattle.dispatch.specs.ServerValue.{CircuitServerValue, part_of}
+use Rattle.dispatch.proofs.IndexLemmas.{regions_differ}
 use Rattle.dispatch.proofs.ServerLemmas.{all_one}
 use Rattle.dispatch.proofs.server.circuit_servers.Goals as goal
 
@@ -16,8 +15,7 @@ circuits-preserved c =
     let parts : List CircuitPart = parts_of c.args.config.now in
     let part : CircuitPart = c.of.result in
     let old : List CircuitServerValue = c.circuits.circuits.items in
-    let new : CircuitServerValue = c.new-in-circuits.result in
-    let empty : CircuitPart → Book = λ p. record { clock = 0; four = empty_book } in
+    let new : CircuitServerValue = c.closed.result in
     let there : slice_get parts k ≡ Some part = subst (λ n. part_in c.args.config.now n ≡ Some part) c.in-Some.ensures.value c.of.ensures.value in
     let next : take (k + 1) parts ≡ take k parts ++ part ∷ [] =
     take_more parts k part (slice_get_within parts k part there) ∙ ap (λ p. take k parts ++ p ∷ []) (get_or_from_slice_get parts k part part there) in
@@ -25,9 +23,9 @@ circuits-preserved c =
     record {
       parts =
           ap (map part_of) c.in_ok-push.ensures.items ∙ map-append part_of old (new ∷ [])
-          ∙ (λ i. before.parts i ++ (c.new-in-circuits.ensures.part i) ∷ []) ∙ sym next;
-      books =
-          ap (map book_of) c.in_ok-push.ensures.items ∙ map-append book_of old (new ∷ [])
-          ∙ (λ i. before.books i ++ (c.new-in-circuits.ensures.book i) ∷ []) ∙ sym (ap (map empty) next ∙ map-append empty (take k parts) (part ∷ []));
+          ∙ (λ i. before.parts i ++ (c.closed.ensures i) ∷ []) ∙ sym next;
       sound = subst (All IsPart) (sym next) (All-append IsPart (take k parts) (part ∷ []) before.sound (all_one IsPart part c.of.ensures.sound));
     }
+
+pub returns-clause-differ : goal.returns-clause-differ
+returns-clause-differ c = regions_differ c.args.config.now c.circuit_count.ensures.sound

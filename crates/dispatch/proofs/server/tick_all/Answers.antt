@@ -1,7 +1,8 @@
 use Rattle.std.proofs.Common.{map, length, ◌<◌, sym, ◌∙◌, arith}
 use Rattle.std.proofs.lemmas.List.{length-map, length-set}
-use Rattle.dispatch.specs.Server.{book_at}
-use Rattle.dispatch.specs.ServerValue.{book_of, part_of}
+use Rattle.std.proofs.lemmas.List.Elements.{All-set}
+use Rattle.dispatch.specs.Leases.{after_tick}
+use Rattle.dispatch.specs.ServerValue.{IsReady, leases_of, part_of}
 use Rattle.dispatch.proofs.ServerLemmas.{one_changed, same_seen}
 use Rattle.dispatch.proofs.server.tick_all.Goals as goal
 
@@ -15,6 +16,8 @@ circuits-preserved c =
     let within : i < length xs = omega (arith, c.circuits-test.true, loop.size) in
     record {
       parts = same_seen part_of xs i old new c.tick.ensures.part ∙ loop.parts;
-      books = one_changed book_of (book_at c.args.now) (map book_of c.args.circuits.now) xs i old new within (loop.size ∙ sym (length-map c.args.circuits.now book_of)) c.tick.ensures.book loop.books;
+      leases = λ regions. one_changed (leases_of regions) (after_tick c.args.now) (map (leases_of regions) c.args.circuits.now) xs i old new within
+          (loop.size ∙ sym (length-map c.args.circuits.now (leases_of regions))) (c.tick.ensures.leases regions) (loop.leases regions);
+      ready = λ regions all. All-set (IsReady regions) xs i new (c.tick.ensures.ready regions (loop.ready regions all i old within)) (loop.ready regions all);
       size = length-set xs i new ∙ loop.size;
     }

@@ -1,0 +1,89 @@
+-- What restarts find after a save, and that what is saved is a book.
+use Rattle.std.proofs.Common.{◌≡◌, ℕ, zero, suc, arith, ◌≤◌, ◌==◌, ◌&&◌, ◌||◌, nat_le, eqb, Bool, true, false, cond, List, [], ◌∷◌, length, replicate, map, All, refl, sym, ap, subst, ◌∙◌, Ok, Err, Result, is_ok, OnOk, OnErr}
+use Rattle.std.specs.Prelude.{Option, Some, None, option_map, slice_index, slice_index_or, if◌then◌else◌}
+use Rattle.std.proofs.lemmas.Bool.{eqb-true, leb-true}
+use Rattle.std.proofs.lemmas.List.Elements.{All-replicate}
+use Rattle.types.specs.declared.slot4.Slot4.{Slot4}
+use Rattle.types.specs.declared.slot4.Slot4.TheVariants as S4
+use Rattle.types.specs.declared.slots.Slot6.TheVariants as S6
+use Rattle.types.specs.declared.slots.Slots.{Slots}
+use Rattle.types.specs.Slots.{live4, live6, none_twice, same_client4, same_client6, IsWithin4, IsWithin6}
+use Rattle.config.specs.CircuitPart.{CircuitPart}
+use Rattle.lease_disk.specs.Book.{IsBook}
+use Rattle.lease_disk.specs.Layout.{gate_at}
+use Rattle.lease_disk.specs.Recovered.{recovered, is_open}
+use Rattle.lease_disk.specs.Region.{Region, IsClean, IsCrash, image, effective}
+use Rattle.lease_disk.specs.Save.{IsSaved, IsLeft}
+use Rattle.lease_disk.specs.declared.bank.Bank.{Bank}
+use Rattle.lease_disk.specs.declared.device.Fault.{Fault}
+use Rattle.dispatch.specs.Leases.{book_in, counts_of, recovered_book, restarts_of, restarts_after}
+use Rattle.dispatch.specs.Server.{Book, kept_book}
+
+-- nothing is unsynced, so that a crash leaves what is read
+pub image_clean : (byte : ℕ) (r : Region) → IsClean r → image byte r ≡ r.byte
+image_clean byte r clean = λ j. λ i. (ap (λ u. cond u byte (r.byte i)) (clean.each i)) j
+
+module _ (part : CircuitPart) (b : Book) (slots : Slots) (old new : Region) (means : book_in part slots ≡ kept_book b) where
+  after_ok : IsSaved (counts_of part) slots new → restarts_of part new ≡ restarts_after 0 b (restarts_of part old)
+  after_ok saved = λ j. λ byte.
+      (ap (recovered_book part) (image_clean byte new saved.clean) ∙ ap (option_map (book_in part)) saved.kept ∙ ap Some means) j
+
+  module _ (fuse : ℕ) (gate : Bank) (clean : IsClean old) (left : IsLeft fuse gate (recovered (counts_of part) old.byte) (Some slots) (counts_of part) new) where
+    crash : (byte : ℕ) → IsCrash new (image byte new)
+    crash byte = record { same = λ i synced. ap (λ u. cond u byte (new.byte i)) synced }
+
+    by_gate : (byte : ℕ) (late : Bool) → nat_le 5 fuse ≡ late → (late && is_open (image byte new) gate) ≡ (late && byte == 165)
+    by_gate byte false is = refl
+    by_gate byte true is = ap (λ u. cond u byte (new.byte (gate_at gate)) == 165) (left.doubt (leb-true 5 fuse is))
+
+    either : (byte : ℕ) (there : Bool)
+        → option_map (book_in part) (if there then Some slots else recovered (counts_of part) old.byte) ≡ (if there then Some (kept_book b) else restarts_of part old byte)
+    either byte true = ap Some means
+    either byte false = ap (recovered_book part) (sym (image_clean byte old clean))
+
+    left_at : (byte : ℕ) → restarts_of part new byte ≡ (if nat_le 5 fuse && byte == 165 then Some (kept_book b) else restarts_of part old byte)
+    left_at byte =
+        ap (option_map (book_in part)) (left.crash (image byte new) (crash byte) ∙ ap (λ x. if x then Some slots else recovered (counts_of part) old.byte) (by_gate byte (nat_le 5 fuse) refl))
+        ∙ either byte (nat_le 5 fuse && byte == 165)
+
+    after_err : (few : Bool) → nat_le fuse 6 ≡ few → ((if few then fuse else 0) == 0) ≡ false
+        → restarts_of part new ≡ restarts_after (if few then fuse else 0) b (restarts_of part old)
+    after_err false is fails = absurd cc
+    after_err true is fails = λ j. λ byte.
+        (left_at byte ∙ sym (ap (λ zero. if zero || (nat_le 5 fuse && byte == 165) then Some (kept_book b) else restarts_of part old byte) fails)) j
+
+  pub after_save : (fuse : ℕ) (gate : Bank) (result : Result (Unit {0}) Fault) → IsClean old
+      → is_ok result ≡ (effective 6 fuse == 0) → OnOk result (IsSaved (counts_of part) slots new)
+      → OnErr result (IsLeft fuse gate (recovered (counts_of part) old.byte) (Some slots) (counts_of part) new)
+      → restarts_of part new ≡ restarts_after (effective 6 fuse) b (restarts_of part old)
+  after_save fuse gate (Ok done) clean answer saved left =
+      subst (λ n. restarts_of part new ≡ restarts_after n b (restarts_of part old)) (sym (eqb-true (effective 6 fuse) 0 (sym answer))) (after_ok saved)
+  after_save fuse gate (Err fault) clean answer saved left = after_err fuse gate clean left (nat_le fuse 6) refl (sym answer)
+
+-- ---- what is saved
+
+none_past : (n i : ℕ) → slice_index_or (replicate n S6.Free) i S6.Free ≡ S6.Free
+none_past zero i = refl
+none_past (suc n) zero = refl
+none_past (suc n) (suc i) = none_past n i
+
+-- A book of DHCPv4 leases alone.
+pub is_book : (counts : List ℕ) (slots : Slots) → slots.six ≡ replicate 16 S6.Free
+    → ((i : ℕ) → slice_index counts 0 ≤ i → slice_index_or slots.four i S4.Free ≡ S4.Free)
+    → All (λ slot. live4 slots.clock slot ≡ slot) slots.four → All IsWithin4 slots.four → none_twice same_client4 slots.four ≡ true
+    → IsBook counts slots
+is_book counts slots free past live within once = record {
+  past4 = past;
+  past6 = λ i h. ap (λ six. slice_index_or six i S6.Free) free ∙ none_past 16 i;
+  live4 = live;
+  live6 = subst (All (λ slot. live6 slots.clock slot ≡ slot)) (sym free) (All-replicate (λ slot. live6 slots.clock slot ≡ slot) 16 S6.Free refl);
+  within4 = within;
+  within6 = subst (All IsWithin6) (sym free) (All-replicate IsWithin6 16 S6.Free tt);
+  once4 = once;
+  once6 = ap (λ six. none_twice same_client6 six) free;
+}
+
+-- slots that are all live are what is left of them at their clock
+pub all_live : (clock : ℕ) (four : List Slot4) → All (λ slot. live4 clock slot ≡ slot) four → map (live4 clock) four ≡ four
+all_live clock [] live = refl
+all_live clock (x ∷ xs) live = λ i. live 0 x (omega arith) i ∷ all_live clock xs (λ k d h. live (suc k) d (omega (arith, h))) i
