@@ -1,12 +1,12 @@
 -- Steps of a world, from what happens to the states of its circuits.
-use Rattle.std.proofs.Common.{◌≡◌, ℕ, ◌≤◌, Bool, true, false, cond, eqb, List, [], length, refl, sym, ap, subst, subst₂, ◌∙◌, arith, eq-eqb, ne_eqb}
+use Rattle.std.proofs.Common.{◌≡◌, ℕ, ◌≤◌, Bool, true, false, cond, eqb, List, [], length, refl, sym, ap, subst, ◌∙◌, arith, eq-eqb, ne_eqb}
 use Rattle.std.specs.Prelude.{Option, Some, None, slice_get}
 use Rattle.std.proofs.lemmas.Bool.{eqb-true}
 use Rattle.std.proofs.lemmas.Option.{slice_get_within}
-use Rattle.world.specs.Alone.{Setup, Alone, alone_step}
-use Rattle.world.specs.Seen.{Seen, Tick, seen_of, named_by}
-use Rattle.world.specs.Headline.{CircuitState, Represents, frames_to, frame_of, IsOutcome, Answers, after_seen, Steps}
-use Rattle.world.specs.StepsAs.{StepsAs, machine_of}
+use Rattle.world.specs.Alone.{Setup, Alone, Effect, alone_step}
+use Rattle.world.specs.Seen.{Seen, Tick, seen_of, named_by, is_restart}
+use Rattle.world.specs.Headline.{CircuitState, Shows, Represents, frames_to, frame_of, IsOutcome, Answers, after_seen, Steps}
+use Rattle.world.specs.StepsAs.{StepsAs, AllMove}
 use Rattle.world.specs.Stray.{is_stray}
 use Rattle.world.proofs.Runs.{away_from}
 use Rattle.world.specs.declared.event.Event.{Event}
@@ -19,41 +19,25 @@ use Rattle.world.specs.declared.outcome.Outcome.TheVariants as outcome
 the_same : (p q : CircuitState) → Some p ≡ Some q → p ≡ q
 the_same p q h = cc
 
--- Whoever is represented by this state is its machine.
-module _ (c : ℕ) (states : List CircuitState) (p : CircuitState) (there : slice_get states c ≡ Some p) (setup : Setup) (a : Alone) (here : Represents c states setup a) where
-  is_state : p ≡ here.state
-  is_state = the_same p here.state (sym there ∙ here.there)
-
-  its_setup : p.setup ≡ setup
-  its_setup = ap (λ q. q.setup) is_state ∙ here.setup_is
-
-  its_machine : machine_of p ≡ a
-  its_machine = ap machine_of is_state ∙ λ i. record { up = here.up i; down = here.down i; book = here.book i }
-
 -- A state that moved by its machine's step represents the machine after it, and the outcome is the machine's.
 module _ (c : ℕ) (s : Seen) (old new : List CircuitState) (p q : CircuitState) (o : Outcome) (out : List ℕ)
     (was : slice_get old c ≡ Some p) (is : slice_get new c ≡ Some q) (steps : StepsAs c s p q o out) (setup : Setup) (a : Alone) (here : Represents c old setup a) where
-  next_is : machine_of q ≡ (alone_step setup s a).next
-  next_is = steps.next ∙ λ i. (alone_step (its_setup c old p was setup a here i) s (its_machine c old p was setup a here i)).next
+  shown : Shows p setup a
+  shown =
+      let P : CircuitState → Type 0 = λ state. Shows state setup a in
+      subst P (sym (the_same p here.state (sym was ∙ here.there))) here.shows
 
   represents_next : Represents c new setup (alone_step setup s a).next
-  represents_next = record {
-    state = q;
-    there = is;
-    setup_is = steps.setup ∙ its_setup c old p was setup a here;
-    up = ap (λ m. m.up) next_is;
-    down = ap (λ m. m.down) next_is;
-    book = ap (λ m. m.book) next_is;
-  }
+  represents_next = record { state = q; there = is; shows = steps.next setup a shown }
 
   has_outcome : IsOutcome c (alone_step setup s a).effect o out
   has_outcome =
-      let P : Setup → Alone → Type 0 = λ u b. IsOutcome c (alone_step u s b).effect o out in
-      subst₂ P (its_setup c old p was setup a here) (its_machine c old p was setup a here) steps.outcome
+      let P : Effect → Type 0 = λ f. IsOutcome c f o out in
+      subst P (sym (steps.effect_is setup a shown)) steps.outcome
 
 -- A state that stayed represents what it did.
 still_represents : (c : ℕ) (old new : List CircuitState) → slice_get new c ≡ slice_get old c → (setup : Setup) (a : Alone) → Represents c old setup a → Represents c new setup a
-still_represents c old new same setup a here = record { state = here.state; there = same ∙ here.there; setup_is = here.setup_is; up = here.up; down = here.down; book = here.book }
+still_represents c old new same setup a here = record { state = here.state; there = same ∙ here.there; shows = here.shows }
 
 -- ---- strays
 
@@ -62,6 +46,7 @@ stray_unseen (event.Frame circuit proto bytes) stray c = absurd cc
 stray_unseen (event.Up circuit j now fault) stray c = absurd cc
 stray_unseen (event.Down circuit j) stray c = absurd cc
 stray_unseen (event.Tick now) stray c = absurd cc
+stray_unseen (event.Restart images) stray c = absurd cc
 stray_unseen (event.StrayUp proto source bytes now) stray c = refl
 stray_unseen (event.StrayDown relay source bytes) stray c = refl
 
@@ -70,8 +55,27 @@ stray_unnamed (event.Frame circuit proto bytes) stray = absurd cc
 stray_unnamed (event.Up circuit j now fault) stray = absurd cc
 stray_unnamed (event.Down circuit j) stray = absurd cc
 stray_unnamed (event.Tick now) stray = absurd cc
+stray_unnamed (event.Restart images) stray = absurd cc
 stray_unnamed (event.StrayUp proto source bytes now) stray = refl
 stray_unnamed (event.StrayDown relay source bytes) stray = refl
+
+restart_unnamed : (e : Event) → is_restart e ≡ true → named_by e ≡ None
+restart_unnamed (event.Frame circuit proto bytes) restart = absurd cc
+restart_unnamed (event.Up circuit j now fault) restart = absurd cc
+restart_unnamed (event.Down circuit j) restart = absurd cc
+restart_unnamed (event.Tick now) restart = absurd cc
+restart_unnamed (event.Restart images) restart = refl
+restart_unnamed (event.StrayUp proto source bytes now) restart = absurd cc
+restart_unnamed (event.StrayDown relay source bytes) restart = absurd cc
+
+no_restart : (e : Event) → is_stray e ≡ true → is_restart e ≡ true → ⊥
+no_restart (event.Frame circuit proto bytes) stray restart = absurd cc
+no_restart (event.Up circuit j now fault) stray restart = absurd cc
+no_restart (event.Down circuit j) stray restart = absurd cc
+no_restart (event.Tick now) stray restart = absurd cc
+no_restart (event.Restart images) stray restart = absurd cc
+no_restart (event.StrayUp proto source bytes now) stray restart = absurd cc
+no_restart (event.StrayDown relay source bytes) stray restart = absurd cc
 
 -- a stray changes nothing, and nothing leaves with it
 pub stray_steps : (e : Event) (old new : List CircuitState) (o : Outcome) (out : List ℕ) → is_stray e ≡ true → frame_of o out ≡ [] → out ≡ [] → new ≡ old → Steps e old new o out
@@ -84,8 +88,10 @@ stray_steps e old new o out stray nothing empty same = record {
       let Q : Option Seen → Type 0 = λ v. Answers c setup v a o out in
       subst Q (sym (stray_unseen e stray c)) (ap (frames_to c) nothing);
   others = λ c blind. ap (λ states. slice_get states c) same;
+  away = λ c blind. ap (frames_to c) nothing;
   gone = λ c name far. let h : None ≡ Some c = sym (stray_unnamed e stray) ∙ name in absurd cc;
   ticked = λ now tick. let h : Some (Tick now) ≡ None = sym (ap (seen_of 0) tick) ∙ stray_unseen e stray 0 in absurd cc;
+  restarted = λ restart. absurd (no_restart e stray restart);
   stray = λ is. (nothing, empty, same);
 }
 
@@ -103,6 +109,9 @@ module _ (e : Event) (k : ℕ) (s : Seen) (sees : IsSeenBy e k s) (named : named
 
   no_tick : (now : ℕ) → e ≡ event.Tick now → ⊥
   no_tick now tick = let h : Some k ≡ None = sym named ∙ ap named_by tick in absurd cc
+
+  names_no_restart : is_restart e ≡ true → ⊥
+  names_no_restart restart = let h : Some k ≡ None = sym named ∙ restart_unnamed e restart in absurd cc
 
   -- what a circuit sees is no stray
   no_stray : is_stray e ≡ true → ⊥
@@ -130,8 +139,10 @@ module _ (e : Event) (k : ℕ) (s : Seen) (sees : IsSeenBy e k s) (named : named
       each = λ c setup a here. each c setup a (eqb k c) refl here;
       answers = λ c setup a here. answers c setup a (eqb k c) refl here;
       others = λ c blind. others c (sees_not c blind (eqb k c) refl);
+      away = λ c blind. away_from k c steps.effect o out steps.outcome (sees_not c blind (eqb k c) refl);
       gone = λ c name far. absurd (too_far c (names_it c name) far);
       ticked = λ now tick. absurd (no_tick now tick);
+      restarted = λ restart. absurd (names_no_restart restart);
       stray = λ is. absurd (no_stray is);
     }
       where
@@ -145,7 +156,7 @@ module _ (e : Event) (k : ℕ) (s : Seen) (sees : IsSeenBy e k s) (named : named
         answers : (c : ℕ) (setup : Setup) (a : Alone) (b : Bool) → eqb k c ≡ b → Represents c old setup a → Answers c setup (seen_of c e) a o out
         answers c setup a false other here =
             let Q : Option Seen → Type 0 = λ v. Answers c setup v a o out in
-            subst Q (sym (unseen c other)) (away_from k c (alone_step p.setup s (machine_of p)).effect o out steps.outcome other)
+            subst Q (sym (unseen c other)) (away_from k c steps.effect o out steps.outcome other)
         answers c setup a true same here =
             let P : ℕ → Type 0 = λ n. Represents n old setup a → Answers n setup (seen_of n e) a o out in
             let Q : Option Seen → Type 0 = λ v. Answers k setup v a o out in
@@ -163,31 +174,34 @@ module _ (e : Event) (k : ℕ) (s : Seen) (sees : IsSeenBy e k s) (named : named
         let Q : Option Seen → Type 0 = λ v. Answers c setup v a o out in
         subst Q (sym (unseen c (apart c setup a here))) (ap (λ v. frames_to c (frame_of v out)) gone);
     others = λ c blind. refl;
+    away = λ c blind. ap (λ v. frames_to c (frame_of v out)) gone;
     gone = λ c name far. (gone, empty, refl);
     ticked = λ now tick. absurd (no_tick now tick);
+    restarted = λ restart. absurd (names_no_restart restart);
     stray = λ is. absurd (no_stray is);
   }
     where
       apart : (c : ℕ) (setup : Setup) (a : Alone) → Represents c states setup a → eqb k c ≡ false
       apart c setup a here = ne_eqb k c (λ same. omega (arith, same, past, slice_get_within states c here.state here.there))
 
--- ---- a tick, which moves every state
+-- ---- an event that every circuit sees, and that moves every state
 
-pub tick_steps : (e : Event) (now : ℕ) (old new : List CircuitState) (o : Outcome) (out : List ℕ) → e ≡ event.Tick now → length new ≡ length old
-    → ((c : ℕ) (p : CircuitState) → slice_get old c ≡ Some p → (q : CircuitState) × (slice_get new c ≡ Some q) × StepsAs c (Tick now) p q o out)
-    → o ≡ outcome.Done → out ≡ [] → Steps e old new o out
-tick_steps e now old new o out tick count moves done empty = record {
-  count = count;
+pub all_steps : (e : Event) (s : ℕ → Seen) (old new : List CircuitState) (o : Outcome) (out : List ℕ) → ((c : ℕ) → seen_of c e ≡ Some (s c)) → named_by e ≡ None
+    → AllMove s old new o out → o ≡ outcome.Done → out ≡ [] → Steps e old new o out
+all_steps e s old new o out sees unnamed moves done empty = record {
+  count = moves.count;
   each = λ c setup a here.
-      let m = moves c here.state here.there in
+      let m = moves.each c here.state here.there in
       let Q : Option Seen → Type 0 = λ v. Represents c new setup (after_seen setup v a) in
-      subst Q (sym (ap (seen_of c) tick)) (represents_next c (Tick now) old new here.state m.0 o out here.there m.1 m.2 setup a here);
+      subst Q (sym (sees c)) (represents_next c (s c) old new here.state m.0 o out here.there m.1 m.2 setup a here);
   answers = λ c setup a here.
-      let m = moves c here.state here.there in
+      let m = moves.each c here.state here.there in
       let Q : Option Seen → Type 0 = λ v. Answers c setup v a o out in
-      subst Q (sym (ap (seen_of c) tick)) (has_outcome c (Tick now) old new here.state m.0 o out here.there m.1 m.2 setup a here);
-  others = λ c blind. let h : Some (Tick now) ≡ None = sym (ap (seen_of c) tick) ∙ blind in absurd cc;
-  gone = λ c name far. let h : None ≡ Some c = sym (ap named_by tick) ∙ name in absurd cc;
+      subst Q (sym (sees c)) (has_outcome c (s c) old new here.state m.0 o out here.there m.1 m.2 setup a here);
+  others = λ c blind. let h : Some (s c) ≡ None = sym (sees c) ∙ blind in absurd cc;
+  away = λ c blind. let h : Some (s c) ≡ None = sym (sees c) ∙ blind in absurd cc;
+  gone = λ c name far. let h : None ≡ Some c = sym unnamed ∙ name in absurd cc;
   ticked = λ moment is. (done, empty);
-  stray = λ is. let h : Some (Tick now) ≡ None = sym (ap (seen_of 0) tick) ∙ stray_unseen e is 0 in absurd cc;
+  restarted = λ is. (done, empty);
+  stray = λ is. let h : Some (s 0) ≡ None = sym (sees 0) ∙ stray_unseen e is 0 in absurd cc;
 }

@@ -1,18 +1,17 @@
 -- One more event at the end of a run.
-use Rattle.std.proofs.Common.{◌≡◌, ℕ, ◌+◌, ◌<◌, ◌≤◌, ◌⊎◌, inl, inr, Bool, true, false, cond, eqb, ltb, List, [], ◌∷◌, ◌++◌, length, take, get_or, refl, sym, ap, subst, ◌∙◌, arith, append_assoc, length-append, append-nil, eq-eqb, ne_eqb, ltb-false}
+use Rattle.std.proofs.Common.{◌≡◌, ℕ, ◌+◌, ◌<◌, ◌≤◌, Bool, true, false, cond, eqb, ltb, List, [], ◌∷◌, ◌++◌, length, take, get_or, refl, sym, ap, subst, ◌∙◌, arith, append_assoc, length-append, append-nil, eq-eqb, ltb-false}
 use borrow.Author.Tests.{ltb-true}
-use Rattle.std.specs.Prelude.{Option, Some, None, slice_get}
+use Rattle.std.specs.Prelude.{Option, Some, None}
 use Rattle.std.specs.List.{cons_option}
 use Rattle.std.proofs.lemmas.List.{take_more, take_all, take-append-le}
 use Rattle.std.proofs.lemmas.List.Elements.{filter_map-append}
-use Rattle.std.proofs.lemmas.Option.{slice_get_cases}
+use Rattle.std.proofs.lemmas.Bool.{eqb-true}
 use Rattle.std.proofs.Math.Seq.{take-nil}
 use Rattle.relay.specs.SentFrame.{SentFrame}
 use Rattle.relay.specs.Relays.{CircuitFrame}
 use Rattle.world.specs.Alone.{Setup, Alone, Effect, Dropped, Gone, SentUp, SentDown, Framed, Done, alone_step, sent_frame, after_all, frames}
-use Rattle.world.specs.Seen.{Seen, Frame, Up, Down, seen_of, seen_by, named_by}
+use Rattle.world.specs.Seen.{Seen, Frame, Up, Down, seen_of, seen_by, named_by, is_restart}
 use Rattle.world.specs.Headline.{CircuitState, Represents, towards, frames_to, frame_of, IsOutcome, Answers, after_seen, Steps, Reaches, AreFrames, BeginsWith, Emits, EmitsAt}
-use Rattle.world.specs.StepsAs.{machine_of}
 use Rattle.world.specs.Stray.{is_stray}
 use Rattle.world.specs.declared.event.Event.{Event}
 use Rattle.world.specs.declared.event.Event.TheVariants as event
@@ -107,6 +106,7 @@ its_answer k (event.Frame circuit proto bytes) setup b o out named h = seen_answ
 its_answer k (event.Up circuit j now fault) setup b o out named h = seen_answer k circuit (Up j now fault) setup b o out (same_name named) h
 its_answer k (event.Down circuit j) setup b o out named h = seen_answer k circuit (Down j) setup b o out (same_name named) h
 its_answer k (event.Tick now) setup b o out named h = absurd cc
+its_answer k (event.Restart images) setup b o out named h = absurd cc
 its_answer k (event.StrayUp proto source bytes now) setup b o out named h = absurd cc
 its_answer k (event.StrayDown relay source bytes) setup b o out named h = absurd cc
 
@@ -121,34 +121,23 @@ away_from k c (SentUp len) o out h other = ap (λ v. frames_to c (frame_of v out
 away_from k c (SentDown len) o out h other = ap (λ v. frames_to c (frame_of v out)) h.0
 away_from k c Done o out h other = ap (λ v. frames_to c (frame_of v out)) h.0
 
--- every state represents the machine that it shows
-state_represents : (states : List CircuitState) (k : ℕ) (state : CircuitState) → slice_get states k ≡ Some state → Represents k states state.setup (machine_of state)
-state_represents states k state there = record { state = state; there = there; setup_is = refl; up = refl; down = refl; book = refl }
-
 -- no frame leaves towards a circuit past the end
 past_step : (e : Event) (old new : List CircuitState) (o : Outcome) (out : List ℕ) → Steps e old new o out → (c : ℕ) → length old ≤ c → frames_to c (frame_of o out) ≡ []
 past_step e old new o out steps c past = by_name e refl where
   silent : (v : Outcome) → o ≡ v → frame_of v out ≡ [] → frames_to c (frame_of o out) ≡ []
   silent v is none = ap (λ w. frames_to c (frame_of w out)) is ∙ ap (frames_to c) none
 
-  apart : (k : ℕ) → k < length old → k ≡ c → ⊥
-  apart k there same = omega (arith, there, past, same)
-
-  by_state : (k : ℕ) → named_by e ≡ Some k → ((state : CircuitState) × (k < length old) × (slice_get old k ≡ Some state) × (get_or old k state ≡ state)) ⊎ ((length old ≤ k) × (slice_get old k ≡ None))
-      → frames_to c (frame_of o out) ≡ []
-  by_state k named (inl (state, within, there, read)) =
-      let answer = its_answer k e state.setup (machine_of state) o out named (steps.answers k state.setup (machine_of state) (state_represents old k state there)) in
-      away_from k c answer.0 o out answer.1 (ne_eqb k c (apart k within))
-  by_state k named (inr (far, none)) = silent outcome.Gone (steps.gone k named far).0 refl
-
-  at_name : (k : ℕ) → named_by e ≡ Some k → frames_to c (frame_of o out) ≡ []
-  at_name k named = by_state k named (slice_get_cases old k).1
+  -- the event names c itself, which doesn't exist, or another circuit
+  at_name : (k : ℕ) → named_by e ≡ Some k → (b : Bool) → eqb k c ≡ b → (eqb k c ≡ false → seen_of c e ≡ None) → frames_to c (frame_of o out) ≡ []
+  at_name k named true same blind = silent outcome.Gone (steps.gone k named (subst (λ n. length old ≤ n) (sym (eqb-true k c same)) past)).0 refl
+  at_name k named false other blind = steps.away c (blind other)
 
   by_name : (v : Event) → e ≡ v → frames_to c (frame_of o out) ≡ []
-  by_name (event.Frame circuit proto bytes) is = at_name circuit (ap named_by is)
-  by_name (event.Up circuit j now fault) is = at_name circuit (ap named_by is)
-  by_name (event.Down circuit j) is = at_name circuit (ap named_by is)
+  by_name (event.Frame circuit proto bytes) is = at_name circuit (ap named_by is) (eqb circuit c) refl (λ other. ap (seen_of c) is ∙ rw other refl)
+  by_name (event.Up circuit j now fault) is = at_name circuit (ap named_by is) (eqb circuit c) refl (λ other. ap (seen_of c) is ∙ rw other refl)
+  by_name (event.Down circuit j) is = at_name circuit (ap named_by is) (eqb circuit c) refl (λ other. ap (seen_of c) is ∙ rw other refl)
   by_name (event.Tick now) is = silent outcome.Done (steps.ticked now is).0 refl
+  by_name (event.Restart images) is = silent outcome.Done (steps.restarted (ap is_restart is)).0 refl
   by_name (event.StrayUp proto source bytes now) is = ap (frames_to c) (steps.stray (ap is_stray is)).0
   by_name (event.StrayDown relay source bytes) is = ap (frames_to c) (steps.stray (ap is_stray is)).0
 
@@ -254,6 +243,7 @@ module _ (events : List Event) (n : ℕ) (e : Event) (there : n < length events)
     by_event (event.Up circuit j moment fault) is = counted start now new o out reaches steps circuit (ap named_by is) one (ltb circuit (length start)) refl
     by_event (event.Down circuit j) is = counted start now new o out reaches steps circuit (ap named_by is) one (ltb circuit (length start)) refl
     by_event (event.Tick moment) is = absurd (none_is_one (ap (λ v. length (frame_of v out)) (steps.ticked moment is).0) one)
+    by_event (event.Restart images) is = absurd (none_is_one (ap (λ v. length (frame_of v out)) (steps.restarted (ap is_restart is)).0) one)
     by_event (event.StrayUp proto source bytes moment) is = absurd (none_is_one (ap length (steps.stray (ap is_stray is)).0) one)
     by_event (event.StrayDown relay source bytes) is = absurd (none_is_one (ap length (steps.stray (ap is_stray is)).0) one)
 

@@ -1,20 +1,20 @@
 -- The states of a world that was just opened represent their circuits' machines at the start.
 use Rattle.std.proofs.Common.{◌≡◌, ◌≢◌, ℕ, zero, suc, ◌<◌, List, [], ◌∷◌, length, map, refl, sym, ap, subst, ◌∙◌, arith}
-use Rattle.std.specs.Prelude.{Some, All, AllPairs, slice_get, option_map, true}
+use Rattle.std.specs.Prelude.{Some, None, All, AllPairs, ◌≤◌, if◌then◌else◌, slice_get, option_map, true}
 use Rattle.std.specs.List.{list_any}
 use Rattle.std.proofs.lemmas.Option.{slice_get-map, slice_get_within, get_or_from_slice_get}
 use Rattle.std.proofs.lemmas.List.{length-map}
-use Rattle.std.proofs.lemmas.List.Elements.{All-get_or}
 use Rattle.std.proofs.lemmas.List.Folds.{list_any_at}
 use Rattle.types.specs.Addr.{same_source}
 use Rattle.types.specs.declared.addr.Source.{Source}
-use Rattle.bindings_v4.specs.Book4.{empty_book}
 use Rattle.config.specs.CircuitPart.{CircuitPart, IsPart, part_of, source_at, part_in, parts_of}
 use Rattle.config.specs.Rules.{Settings, IsSound, IsWithinLimits}
 use Rattle.config.specs.declared.settings.CircuitConfig.{CircuitConfig}
 use Rattle.config.specs.declared.settings.RelayConfig.{RelayConfig}
-use Rattle.dispatch.specs.Server.{Book}
-use Rattle.dispatch.specs.ServerValue.{books_in, parts_in}
+use Rattle.dispatch.specs.Leases.{AreSynced, HasRegions, found_leases, recovered_book}
+use Rattle.dispatch.specs.ServerValue.{AreReady, RegionsDiffer, parts_in}
+use Rattle.lease_disk.specs.Model as disk
+use Rattle.lease_disk.specs.Region.{IsClean, Region}
 use Rattle.lossy_net.specs.Net.{datagrams}
 use Rattle.lossy_net.specs.declared.dir.Dir.{Dir}
 use Rattle.lossy_net.specs.declared.dir.Dir.TheVariants as dir
@@ -25,13 +25,11 @@ use Rattle.world.specs.Headline.{Represents}
 use Rattle.world.specs.Start.{Starts}
 use Rattle.world.specs.StepsAs.{Each, IsFor, Returns, IsWorldOf, IsWorld}
 use Rattle.world.specs.World.{WorldValue, state_of, states}
-use Rattle.world.proofs.StateLemmas.{some_is, state_at}
-use Rattle.world.proofs.WorldLemmas.{states_count}
+use Rattle.world.proofs.ShownLemmas.{clean_image, holds_start}
+use Rattle.world.proofs.StateLemmas.{leases_now, some_is, state_at}
+use Rattle.world.proofs.WorldLemmas.{all_at, states_count}
 
 -- ---- lists
-
-all_at : {A : Type 0} (P : A → Type 0) (xs : List A) (n : ℕ) (x : A) → All P xs → slice_get xs n ≡ Some x → P x
-all_at P xs n x all at = subst P (get_or_from_slice_get xs n x x at) (All-get_or P xs n x (slice_get_within xs n x at) all)
 
 -- what is at an index of a mapped list comes from there
 of_map : {A B : Type 0} (f : A → B) (xs : List A) (n : ℕ) (y : B) → slice_get (map f xs) n ≡ Some y → (x : A) × (slice_get xs n ≡ Some x) × (y ≡ f x)
@@ -69,7 +67,8 @@ known_source sources n source at =
 module _ (settings : Settings) (quota : ℕ) (w : WorldValue) (sound : IsSound settings) (are_parts : All IsPart (parts_of settings)) (topology : w.relays.topology ≡ topology_of settings)
     (behind : w.behind ≡ map (λ (circuit : CircuitConfig). circuit.relay) settings.circuits)
     (sources : w.server.relays ≡ map (λ (relay : RelayConfig). relay.source) settings.relays) (parts : parts_in w.server ≡ parts_of settings)
-    (books : books_in w.server ≡ map (λ (part : CircuitPart). record { clock = 0; four = empty_book }) (parts_of settings))
+    (regions : ℕ → Region) (leases : leases_now w ≡ map (found_leases regions) (parts_of settings)) (synced : AreSynced (parts_of settings) regions)
+    (large : HasRegions (parts_of settings) (length w.disk.regions)) (differ : RegionsDiffer (parts_of settings)) (ready : AreReady (disk.state_of w.disk) w.server)
     (count : length w.net.circuits ≡ length settings.circuits) (empty : (c : ℕ) (way : Dir) → datagrams w.net c way ≡ []) where
   abbrev t : Topology
   t = topology_of settings
@@ -94,11 +93,15 @@ module _ (settings : Settings) (quota : ℕ) (w : WorldValue) (sound : IsSound s
     parts = parts;
     sources = sources;
     count = count ∙ sym (length-map settings.circuits values);
+    few = subst (λ n. n ≤ 1024) (sym (length-map settings.circuits values)) sound.circuits;
     each = λ c part at. all_at IsPart (parts_of settings) c part are_parts at;
     listen4 = λ c part at. ap (λ (p : CircuitPart). p.listen4) (its c part at).2;
     known = λ c part at. let relay = its_relay c part at in known_source t.relays relay.0 part.relay relay.2;
     behind = its_relay;
     ids = λ c part at d other there same. ids c part at d other there same;
+    regions = large;
+    differ = differ;
+    ready = ready;
     addressed = λ c part at. subst (Each (IsFor t c part)) (sym (empty c dir.Up)) tt;
     returned = λ c part at. subst (Each (Returns t c part)) (sym (empty c dir.Down)) tt;
   })
@@ -110,19 +113,26 @@ module _ (settings : Settings) (quota : ℕ) (w : WorldValue) (sound : IsSound s
           same_index (λ (x : CircuitConfig). x.id) settings.circuits sound.rules.names.ids c d one.0 two.0 one.1 two.1
           (ap (λ (p : CircuitPart). p.id) (sym two.2) ∙ same ∙ ap (λ (p : CircuitPart). p.id) one.2)
 
-  pub starts : w.net.quota ≡ quota → Starts settings quota (states w)
-  starts quotas = record { count = states_count w opens ∙ count; each = λ c part there. at c part there } where
-    first : Book
-    first = record { clock = 0; four = empty_book }
-
-    at : (c : ℕ) (part : CircuitPart) → part_in settings c ≡ Some part → Represents c (states w) (record { part = part; quota = quota }) start
-    at c part there = record {
-      state = state_of w c part first;
-      there =
-          state_at (state_of w) (parts_in w.server) (books_in w.server) c part first (ap (λ xs. slice_get xs c) parts ∙ there)
-          (ap (λ xs. slice_get xs c) books ∙ slice_get-map (λ (p : CircuitPart). first) (parts_of settings) c ∙ ap (option_map (λ (p : CircuitPart). first)) there);
-      setup_is = λ i. record { part = part; quota = quotas i };
-      up = empty c dir.Up;
-      down = empty c dir.Down;
-      book = refl;
-    }
+  pub starts : w.net.quota ≡ quota → Starts settings quota regions (states w)
+  starts quotas = record { count = states_count w opens ∙ count; each = λ c part there readable. at c part there readable } where
+    at : (c : ℕ) (part : CircuitPart) → part_in settings c ≡ Some part → (regions part.region).readable ≡ true
+        → Represents c (states w) (record { part = part; quota = quota }) (start (recovered_book part (regions part.region).byte))
+    at c part there readable =
+        let found = found_leases regions part in
+        let kept = recovered_book part (regions part.region).byte in
+        let clean = all_at (λ (p : CircuitPart). (regions p.region).readable ≡ true → IsClean (regions p.region)) (parts_of settings) c part synced there readable in
+        let begins = holds_start found kept (ap (λ r. if r then kept else None) readable) (λ byte. ap (recovered_book part) (clean_image (regions part.region) clean byte)) in
+        record {
+          state = state_of w c part found;
+          there =
+              state_at (state_of w) (parts_in w.server) (leases_now w) c part found (ap (λ xs. slice_get xs c) parts ∙ there)
+              (ap (λ xs. slice_get xs c) leases ∙ slice_get-map (found_leases regions) (parts_of settings) c ∙ ap (option_map (found_leases regions)) there);
+          shows = record {
+            setup_is = λ i. record { part = part; quota = quotas i };
+            up = empty c dir.Up;
+            down = empty c dir.Down;
+            book = begins.book;
+            restarts = begins.restarts;
+            sure = begins.sure;
+          };
+        }

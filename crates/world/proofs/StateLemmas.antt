@@ -1,13 +1,14 @@
--- The states of a world, by parts and books.
+-- The states of a world, by parts and leases.
 use Rattle.std.proofs.Common.{◌≡◌, ℕ, zero, suc, ◌<◌, false, eqb, List, [], ◌∷◌, length, set, refl, sym, ap, ◌∙◌, arith}
 use Rattle.std.specs.Prelude.{Some, slice_get}
 use Rattle.config.specs.CircuitPart.{CircuitPart}
-use Rattle.dispatch.specs.Server.{Book}
-use Rattle.dispatch.specs.ServerValue.{books_in, parts_in}
+use Rattle.dispatch.specs.Leases.{Leases}
+use Rattle.dispatch.specs.ServerValue.{leases_in, parts_in}
 use Rattle.world.specs.Headline.{CircuitState}
 use Rattle.world.specs.Seen.{Seen}
 use Rattle.world.specs.StepsAs.{StepsAs, Moves}
 use Rattle.world.specs.World.{WorldValue, each_state, state_of, states}
+use Rattle.lease_disk.specs.Model as disk
 use Rattle.world.specs.declared.outcome.Outcome.{Outcome}
 
 -- ---- lists
@@ -36,65 +37,69 @@ is_there (x ∷ xs) (suc k) h = is_there xs k (omega (arith, h))
 
 -- ---- states
 
-pub state_at : (f : ℕ → CircuitPart → Book → CircuitState) (parts : List CircuitPart) (books : List Book) (k : ℕ) (p : CircuitPart) (b : Book)
-    → slice_get parts k ≡ Some p → slice_get books k ≡ Some b → slice_get (each_state f parts books) k ≡ Some (f k p b)
-state_at f [] books k p b there its = absurd cc
+pub state_at : (f : ℕ → CircuitPart → Leases → CircuitState) (parts : List CircuitPart) (all : List Leases) (k : ℕ) (p : CircuitPart) (b : Leases)
+    → slice_get parts k ≡ Some p → slice_get all k ≡ Some b → slice_get (each_state f parts all) k ≡ Some (f k p b)
+state_at f [] all k p b there its = absurd cc
 state_at f (x ∷ parts) [] k p b there its = absurd cc
-state_at f (x ∷ parts) (y ∷ books) zero p b there its = λ i. Some (f 0 (some_is x p there i) (some_is y b its i))
-state_at f (x ∷ parts) (y ∷ books) (suc k) p b there its = state_at (λ c. f (suc c)) parts books k p b there its
+state_at f (x ∷ parts) (y ∷ all) zero p b there its = λ i. Some (f 0 (some_is x p there i) (some_is y b its i))
+state_at f (x ∷ parts) (y ∷ all) (suc k) p b there its = state_at (λ c. f (suc c)) parts all k p b there its
 
-pub record IsState (f : ℕ → CircuitPart → Book → CircuitState) (parts : List CircuitPart) (books : List Book) (k : ℕ) (s : CircuitState) : Type 0 where
+pub record IsState (f : ℕ → CircuitPart → Leases → CircuitState) (parts : List CircuitPart) (all : List Leases) (k : ℕ) (s : CircuitState) : Type 0 where
   pub part : CircuitPart
-  pub book : Book
+  pub leases : Leases
   pub there : slice_get parts k ≡ Some part
-  pub its : slice_get books k ≡ Some book
-  pub is : s ≡ f k part book
+  pub its : slice_get all k ≡ Some leases
+  pub is : s ≡ f k part leases
 
-pub is_state : (f : ℕ → CircuitPart → Book → CircuitState) (parts : List CircuitPart) (books : List Book) (k : ℕ) (s : CircuitState) → slice_get (each_state f parts books) k ≡ Some s → IsState f parts books k s
-is_state f [] books k s at = absurd cc
+pub is_state : (f : ℕ → CircuitPart → Leases → CircuitState) (parts : List CircuitPart) (all : List Leases) (k : ℕ) (s : CircuitState) → slice_get (each_state f parts all) k ≡ Some s → IsState f parts all k s
+is_state f [] all k s at = absurd cc
 is_state f (x ∷ parts) [] k s at = absurd cc
-is_state f (x ∷ parts) (y ∷ books) zero s at = record { part = x; book = y; there = refl; its = refl; is = sym (some_is (f 0 x y) s at) }
-is_state f (x ∷ parts) (y ∷ books) (suc k) s at =
-    let r = is_state (λ c. f (suc c)) parts books k s at in
-    record { part = r.part; book = r.book; there = r.there; its = r.its; is = r.is }
+is_state f (x ∷ parts) (y ∷ all) zero s at = record { part = x; leases = y; there = refl; its = refl; is = sym (some_is (f 0 x y) s at) }
+is_state f (x ∷ parts) (y ∷ all) (suc k) s at =
+    let r = is_state (λ c. f (suc c)) parts all k s at in
+    record { part = r.part; leases = r.leases; there = r.there; its = r.its; is = r.is }
 
-pub state_count : (f : ℕ → CircuitPart → Book → CircuitState) (parts : List CircuitPart) (books : List Book) → length books ≡ length parts → length (each_state f parts books) ≡ length parts
-state_count f [] books same = refl
+pub state_count : (f : ℕ → CircuitPart → Leases → CircuitState) (parts : List CircuitPart) (all : List Leases) → length all ≡ length parts → length (each_state f parts all) ≡ length parts
+state_count f [] all same = refl
 state_count f (x ∷ parts) [] same = absurd (omega (arith, same))
-state_count f (x ∷ parts) (y ∷ books) same = ap suc (state_count (λ c. f (suc c)) parts books (omega (arith, same)))
+state_count f (x ∷ parts) (y ∷ all) same = ap suc (state_count (λ c. f (suc c)) parts all (omega (arith, same)))
 
-pub same_state : (f g : ℕ → CircuitPart → Book → CircuitState) (parts : List CircuitPart) (books changed : List Book) (k : ℕ) → length changed ≡ length books
-    → slice_get changed k ≡ slice_get books k → ((p : CircuitPart) (b : Book) → g k p b ≡ f k p b)
-    → slice_get (each_state g parts changed) k ≡ slice_get (each_state f parts books) k
-same_state f g [] books changed k size same alike = refl
+pub same_state : (f g : ℕ → CircuitPart → Leases → CircuitState) (parts : List CircuitPart) (all changed : List Leases) (k : ℕ) → length changed ≡ length all
+    → slice_get changed k ≡ slice_get all k → ((p : CircuitPart) (b : Leases) → g k p b ≡ f k p b)
+    → slice_get (each_state g parts changed) k ≡ slice_get (each_state f parts all) k
+same_state f g [] all changed k size same alike = refl
 same_state f g (x ∷ parts) [] [] k size same alike = refl
 same_state f g (x ∷ parts) [] (z ∷ changed) k size same alike = absurd (omega (arith, size))
-same_state f g (x ∷ parts) (y ∷ books) [] k size same alike = absurd (omega (arith, size))
-same_state f g (x ∷ parts) (y ∷ books) (z ∷ changed) zero size same alike = ap Some (ap (g 0 x) (some_is z y same) ∙ alike x y)
-same_state f g (x ∷ parts) (y ∷ books) (z ∷ changed) (suc k) size same alike =
-    same_state (λ c. f (suc c)) (λ c. g (suc c)) parts books changed k (omega (arith, size)) same alike
+same_state f g (x ∷ parts) (y ∷ all) [] k size same alike = absurd (omega (arith, size))
+same_state f g (x ∷ parts) (y ∷ all) (z ∷ changed) zero size same alike = ap Some (ap (g 0 x) (some_is z y same) ∙ alike x y)
+same_state f g (x ∷ parts) (y ∷ all) (z ∷ changed) (suc k) size same alike =
+    same_state (λ c. f (suc c)) (λ c. g (suc c)) parts all changed k (omega (arith, size)) same alike
 
 -- ---- a circuit's step
 
--- Only circuit k's book, queues and counter may differ.
-pub moves : (k : ℕ) (s : Seen) (w new : WorldValue) (p : CircuitPart) (b after : Book) (o : Outcome) (out : List ℕ)
-    → parts_in new.server ≡ parts_in w.server → length (books_in w.server) ≡ length (parts_in w.server) → length (books_in new.server) ≡ length (books_in w.server)
-    → slice_get (parts_in w.server) k ≡ Some p → slice_get (books_in w.server) k ≡ Some b → slice_get (books_in new.server) k ≡ Some after
-    → ((c : ℕ) → eqb k c ≡ false → slice_get (books_in new.server) c ≡ slice_get (books_in w.server) c)
-    → ((c : ℕ) → eqb k c ≡ false → (p : CircuitPart) (b : Book) → state_of new c p b ≡ state_of w c p b)
-    → StepsAs k s (state_of w k p b) (state_of new k p after) o out → Moves k s (states w) (states new) o out
-moves k s w new p b after o out parts whole size there its now books alike steps =
-    let with_parts : List CircuitPart → List CircuitState = λ ps. each_state (state_of new) ps (books_in new.server) in
+-- the leases of all circuits
+abbrev pub leases_now : WorldValue → List Leases
+leases_now w = leases_in (disk.state_of w.disk) w.server
+
+-- Only circuit k's leases, queues and counter may differ.
+pub moves : (k : ℕ) (s : Seen) (w new : WorldValue) (p : CircuitPart) (l after : Leases) (o : Outcome) (out : List ℕ)
+    → parts_in new.server ≡ parts_in w.server → length (leases_now w) ≡ length (parts_in w.server) → length (leases_now new) ≡ length (leases_now w)
+    → slice_get (parts_in w.server) k ≡ Some p → slice_get (leases_now w) k ≡ Some l → slice_get (leases_now new) k ≡ Some after
+    → ((c : ℕ) → eqb k c ≡ false → slice_get (leases_now new) c ≡ slice_get (leases_now w) c)
+    → ((c : ℕ) → eqb k c ≡ false → (p : CircuitPart) (l : Leases) → state_of new c p l ≡ state_of w c p l)
+    → StepsAs k s (state_of w k p l) (state_of new k p after) o out → Moves k s (states w) (states new) o out
+moves k s w new p l after o out parts whole size there its now same alike steps =
+    let with_parts : List CircuitPart → List CircuitState = λ ps. each_state (state_of new) ps (leases_now new) in
     record {
       count =
-          ap (λ ps. length (with_parts ps)) parts ∙ state_count (state_of new) (parts_in w.server) (books_in new.server) (size ∙ whole)
-          ∙ sym (state_count (state_of w) (parts_in w.server) (books_in w.server) whole);
-      before = state_of w k p b;
+          ap (λ ps. length (with_parts ps)) parts ∙ state_count (state_of new) (parts_in w.server) (leases_now new) (size ∙ whole)
+          ∙ sym (state_count (state_of w) (parts_in w.server) (leases_now w) whole);
+      before = state_of w k p l;
       after = state_of new k p after;
-      was = state_at (state_of w) (parts_in w.server) (books_in w.server) k p b there its;
-      is = ap (λ ps. slice_get (with_parts ps) k) parts ∙ state_at (state_of new) (parts_in w.server) (books_in new.server) k p after there now;
+      was = state_at (state_of w) (parts_in w.server) (leases_now w) k p l there its;
+      is = ap (λ ps. slice_get (with_parts ps) k) parts ∙ state_at (state_of new) (parts_in w.server) (leases_now new) k p after there now;
       steps = steps;
       others = λ c other.
           ap (λ ps. slice_get (with_parts ps) c) parts
-          ∙ same_state (state_of w) (state_of new) (parts_in w.server) (books_in w.server) (books_in new.server) c size (books c other) (alike c other);
+          ∙ same_state (state_of w) (state_of new) (parts_in w.server) (leases_now w) (leases_now new) c size (same c other) (alike c other);
     }

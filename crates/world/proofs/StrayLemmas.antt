@@ -1,6 +1,6 @@
 -- What server and relay make of strays.
-use Rattle.std.proofs.Common.{◌≡◌, ℕ, Bool, true, false, List, refl, sym, ap, ◌∙◌}
-use Rattle.std.specs.Prelude.{◌||◌, Result, Ok, Err}
+use Rattle.std.proofs.Common.{◌≡◌, ℕ, Bool, true, false, List, refl, sym, ◌∙◌}
+use Rattle.std.specs.Prelude.{◌||◌, Option, Result, Ok, Err}
 use Rattle.std.specs.List.{list_any}
 use Rattle.types.specs.Addr.{same_source}
 use Rattle.types.specs.declared.addr.Source.{Source}
@@ -8,6 +8,7 @@ use Rattle.types.specs.declared.discard.Discard.{Discard}
 use Rattle.types.specs.declared.discard.Discard.TheVariants.{UnknownSource, NotServer}
 use Rattle.config.specs.CircuitPart.{CircuitPart}
 use Rattle.dispatch.specs.Addressee.{addressee}
+use Rattle.dispatch.specs.Leases.{Leases, received_leases}
 use Rattle.dispatch.specs.Received.{IsAnswer, Received, drop_all, received}
 use Rattle.dispatch.specs.Server.{Book}
 use Rattle.relay.specs.Relays.{CircuitFrame, Topology, is_server, relayed_down_in}
@@ -17,10 +18,16 @@ either_false true b h = absurd cc
 either_false false b h = (refl, h)
 
 -- the server drops what no relay sent, and every book stays
-pub stray_received : (relays : List Source) (parts : List CircuitPart) (now : ℕ) (source : Source) (datagram : List ℕ) (books : List Book)
-    → list_any (same_source source) relays ≡ false → received relays parts now source datagram books ≡ drop_all UnknownSource books
+pub stray_received : (relays : List Source) (parts : List CircuitPart) (now : ℕ) (source : Source) (datagram : List ℕ) (fails : Bool) (books : List (Option Book))
+    → list_any (same_source source) relays ≡ false → received relays parts now source datagram fails books ≡ drop_all UnknownSource books
 unfolding addressee
-stray_received relays parts now source datagram books h = rw h refl
+stray_received relays parts now source datagram fails books h = rw h refl
+
+-- and so do all leases
+pub stray_leases : (relays : List Source) (parts : List CircuitPart) (now : ℕ) (source : Source) (datagram : List ℕ) (faults : ℕ → ℕ) (all : List Leases)
+    → list_any (same_source source) relays ≡ false → received_leases relays parts now source datagram faults all ≡ all
+unfolding addressee
+stray_leases relays parts now source datagram faults all h = rw h refl
 
 -- a relay drops what the server did not send
 pub stray_relayed : (t : Topology) (relay : ℕ) (source : Source) (datagram : List ℕ) → is_server t source ≡ false → relayed_down_in t relay source datagram ≡ Err NotServer
@@ -30,7 +37,7 @@ stray_relayed t relay source datagram h =
     rw (apart.0, apart.1) refl
 
 -- so the answer is a refusal, and the reason is this one
-pub refusal_is : (answer : Received) (why : Discard) (books : List Book) (result : Result (Unit {0}) Discard) (out : List ℕ) → answer ≡ drop_all why books → IsAnswer answer.answer result out → result ≡ Err why
+pub refusal_is : (answer : Received) (why : Discard) (books : List (Option Book)) (result : Result (Unit {0}) Discard) (out : List ℕ) → answer ≡ drop_all why books → IsAnswer answer.answer result out → result ≡ Err why
 refusal_is answer why books result out h is = (rw h at is).0
 
 pub no_ok : (result : Result (Unit {0}) Discard) (u : Unit {0}) (why : Discard) → result ≡ Ok u → result ≡ Err why → ⊥

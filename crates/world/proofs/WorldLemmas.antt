@@ -1,9 +1,10 @@
 -- What an event does to the state of its circuit, as the circuit's machine's step.
 use Rattle.std.proofs.Common.{◌≡◌, ◌≢◌, ℕ, zero, suc, ◌<◌, Bool, true, false, eqb, List, [], ◌∷◌, length, map, take, get_or, set, refl, sym, ap, subst, ◌∙◌, arith}
-use Rattle.std.specs.Prelude.{Option, Some, None, Result, Ok, Err, option_map, slice_get, slice_index}
+use Rattle.std.specs.Prelude.{All, Option, Some, None, Result, Ok, Err, option_map, slice_get, slice_index}
 use Rattle.std.proofs.lemmas.Option.{slice_get-map, slice_get_within, get_or_from_slice_get}
 use Rattle.std.proofs.lemmas.Bool.{eqb-true, eqb-false}
 use Rattle.std.proofs.lemmas.List.{length-map, length-set, get_or-set_other}
+use Rattle.std.proofs.lemmas.List.Elements.{All-get_or}
 use Rattle.types.specs.declared.addr.Source.{Source}
 use Rattle.types.specs.declared.dest.Dest.{Dest}
 use Rattle.types.specs.declared.dest.Proto.{Proto}
@@ -11,20 +12,29 @@ use Rattle.types.specs.declared.dest.Proto.TheVariants.{V4}
 use Rattle.types.specs.declared.discard.Discard.{Discard}
 use Rattle.config.specs.CircuitPart.{CircuitPart}
 use Rattle.dispatch.specs.Addressee.{addressee}
-use Rattle.dispatch.specs.Received.{IsAnswer, Received, received, with_served, circuit_served, addressee_served}
-use Rattle.dispatch.specs.Server.{Book, Served, book_at, served}
-use Rattle.dispatch.specs.ServerValue.{ServerValue, book_of, part_of, books_in, parts_in}
+use Rattle.dispatch.specs.Leases.{AreSynced, HasRegions, Leases, addressee_leases, after_datagram, after_restart, after_tick, found_leases, leases_with, received_leases, restarts_of}
+use Rattle.dispatch.specs.Received.{IsAnswer, Received, addressee_answered, addressee_fails, answered, circuit_answered, circuit_fails, received, received_fails, with_answered}
+use Rattle.dispatch.specs.Server.{Book, book_at}
+use Rattle.dispatch.specs.ServerValue.{AreReady, CircuitServerValue, book_of, books_in, leases_in, leases_of, part_of, parts_in}
+use Rattle.lease_disk.specs.Crash.{crashed}
+use Rattle.lease_disk.specs.Model.{ModelDiskValue, SameBut}
+use Rattle.lease_disk.specs.Model as disk
+use Rattle.lease_disk.specs.Region.{IsClean, Region}
+use Rattle.lease_disk.specs.declared.image.Image.{Image}
+use Rattle.lease_disk.specs.declared.image.Image.TheVariants.{Byte, Unreadable}
 use Rattle.lossy_net.specs.Net.{Datagram, NetValue, datagrams}
 use Rattle.lossy_net.specs.declared.dir.Dir.{Dir}
 use Rattle.lossy_net.specs.declared.dir.Dir.TheVariants as dir
 use Rattle.relay.specs.SentFrame.{SentFrame}
 use Rattle.relay.specs.Relays.{CircuitFrame, for_circuit, one_more, relayed_up, relayed_down}
-use Rattle.world.specs.Alone.{Setup, Alone, Step, Done, alone_step, frame_step, up_step, answer_step, down_step, reply_step}
-use Rattle.world.specs.Headline.{CircuitState, IsOutcome}
-use Rattle.world.specs.Seen.{Seen, Frame, Up, Down, Tick}
-use Rattle.world.specs.StepsAs.{StepsAs, Each, IsFor, Returns, IsWorldOf, IsWorld, AllMove, machine_of}
+use Rattle.world.specs.Alone.{Setup, Alone, Effect, Step, Dropped, Gone, SentUp, SentDown, Framed, Done, alone_step, frame_step, up_step, answer_step, down_step, reply_step}
+use Rattle.world.specs.Alone as alone
+use Rattle.world.specs.Headline.{CircuitState, IsOutcome, Shows}
+use Rattle.world.specs.Seen.{Seen, Frame, Up, Down, Tick, Restart}
+use Rattle.world.specs.StepsAs.{StepsAs, Each, IsFor, Returns, IsWorldOf, IsWorld, AllMove}
 use Rattle.world.specs.World.{WorldValue, each_state, state_of, states}
-use Rattle.world.proofs.StateLemmas.{some_is, is_there, is_state, state_at, state_count, get_set, get_set_other}
+use Rattle.world.proofs.ShownLemmas.{Holds, after_up, down_stays, found_crashed, holds, holds_datagram, holds_restart, holds_tick, its_answer, its_fails, restart_downs, restart_ups, up_stays, up_step_is}
+use Rattle.world.proofs.StateLemmas.{some_is, is_there, is_state, leases_now, state_at, state_count, get_set, get_set_other}
 use Rattle.world.specs.declared.outcome.Outcome.{Outcome}
 use Rattle.world.specs.declared.outcome.Outcome.TheVariants as outcome
 
@@ -49,11 +59,29 @@ each_same P old new same all = subst (Each P) (sym same) all
 
 -- ---- a step that is known
 
-steps_by : (k : ℕ) (s : Seen) (p q : CircuitState) (o : Outcome) (out : List ℕ) (step : Step) → alone_step p.setup s (machine_of p) ≡ step → q.setup ≡ p.setup
-    → machine_of q ≡ step.next → IsOutcome k step.effect o out → StepsAs k s p q o out
-steps_by k s p q o out step is setup next outcome =
-    let P : Step → Type 0 = λ st. IsOutcome k st.effect o out in
-    record { setup = setup; next = next ∙ ap (λ st. st.next) (sym is); outcome = subst P (sym is) outcome }
+record MachineSteps (setup : Setup) (s : Seen) (a : Alone) (effect : Effect) (q : CircuitState) : Type 0 where
+  effect_is : (alone_step setup s a).effect ≡ effect
+  next : Shows q setup (alone_step setup s a).next
+
+known_step : (setup : Setup) (s : Seen) (a : Alone) (effect : Effect) (q : CircuitState) (step : Step) → alone_step setup s a ≡ step → step.effect ≡ effect → Shows q setup step.next
+    → MachineSteps setup s a effect q
+known_step setup s a effect q step is effect_is shows =
+    let P : Step → Type 0 = λ st. Shows q setup st.next in
+    record { effect_is = ap (λ st. st.effect) is ∙ effect_is; next = subst P (sym is) shows }
+
+steps_by : (k : ℕ) (s : Seen) (p q : CircuitState) (o : Outcome) (out : List ℕ) (effect : Effect) → IsOutcome k effect o out
+    → ((a : Alone) → Shows p p.setup a → MachineSteps p.setup s a effect q) → StepsAs k s p q o out
+steps_by k s p q o out effect outcome each =
+    record { effect = effect; outcome = outcome; effect_is = λ setup a shown. (full setup a shown).effect_is; next = λ setup a shown. (full setup a shown).next }
+  where
+    full : (setup : Setup) (a : Alone) → Shows p setup a → MachineSteps setup s a effect q
+    full setup a shown =
+        let P : Setup → Type 0 = λ u. Shows p u a → MachineSteps u s a effect q in
+        subst P shown.setup_is (each a) shown
+
+shows_as : (q : CircuitState) (setup : Setup) (a : Alone) (ups downs : List Datagram) → q.setup ≡ setup → q.up ≡ ups → q.down ≡ downs → Holds q.leases a
+    → Shows q setup (record a { up = ups; down = downs })
+shows_as q setup a ups downs set up down h = record { setup_is = set; up = up; down = down; book = h.book; restarts = h.restarts; sure = h.sure }
 
 -- ---- a frame at the relay
 
@@ -62,35 +90,42 @@ frame_is : (setup : Setup) (a : Alone) (proto : Proto) (frame : List ℕ) (r : R
 unfolding alone_step
 frame_is setup a proto frame r is = ap (frame_step setup a proto) is
 
-pub frame_sent : (k : ℕ) (w new : WorldValue) (p : CircuitPart) (b : Book) (proto : Proto) (frame bytes : List ℕ) (len : ℕ) (out : List ℕ)
+pub frame_sent : (k : ℕ) (w new : WorldValue) (p : CircuitPart) (l : Leases) (proto : Proto) (frame bytes : List ℕ) (len : ℕ) (out : List ℕ)
     → relayed_up p proto frame ≡ Ok bytes → new.net.quota ≡ w.net.quota
     → datagrams new.net k dir.Up ≡ take w.net.quota (record { proto = proto; bytes = bytes } ∷ datagrams w.net k dir.Up)
     → datagrams new.net k dir.Down ≡ datagrams w.net k dir.Down → len ≡ length bytes → out ≡ []
-    → StepsAs k (Frame proto frame) (state_of w k p b) (state_of new k p b) (outcome.SentUp len) out
-frame_sent k w new p b proto frame bytes len out sent quota kept others size empty =
-    let was = state_of w k p b in
-    steps_by k (Frame proto frame) was (state_of new k p b) (outcome.SentUp len) out _ (frame_is was.setup (machine_of was) proto frame (Ok bytes) sent)
-    (λ i. record { part = p; quota = quota i }) (λ i. record { up = kept i; down = others i; book = b }) (ap outcome.SentUp size, empty)
+    → StepsAs k (Frame proto frame) (state_of w k p l) (state_of new k p l) (outcome.SentUp len) out
+frame_sent k w new p l proto frame bytes len out sent quota kept others size empty =
+    let was = state_of w k p l in
+    let is = state_of new k p l in
+    let newest : List Datagram → List Datagram = λ ds. take w.net.quota (record { proto = proto; bytes = bytes } ∷ ds) in
+    steps_by k (Frame proto frame) was is (outcome.SentUp len) out (SentUp len) (refl, empty) (λ a shown.
+    known_step was.setup (Frame proto frame) a (SentUp len) is _ (frame_is was.setup a proto frame (Ok bytes) sent) (ap SentUp (sym size))
+    (shows_as is was.setup a (newest a.up) a.down (λ i. record { part = p; quota = quota i }) (kept ∙ ap newest shown.up) (others ∙ shown.down) (holds was was.setup a shown)))
 
-pub frame_dropped : (k : ℕ) (w new : WorldValue) (p : CircuitPart) (b : Book) (proto : Proto) (frame : List ℕ) (why : Discard) (out : List ℕ)
+pub frame_dropped : (k : ℕ) (w new : WorldValue) (p : CircuitPart) (l : Leases) (proto : Proto) (frame : List ℕ) (why : Discard) (out : List ℕ)
     → relayed_up p proto frame ≡ Err why → new.net ≡ w.net → out ≡ []
-    → StepsAs k (Frame proto frame) (state_of w k p b) (state_of new k p b) (outcome.Dropped why) out
-frame_dropped k w new p b proto frame why out dropped net empty =
-    let was = state_of w k p b in
-    steps_by k (Frame proto frame) was (state_of new k p b) (outcome.Dropped why) out _ (frame_is was.setup (machine_of was) proto frame (Err why) dropped)
-    (λ i. record { part = p; quota = (net i).quota }) (λ i. record { up = datagrams (net i) k dir.Up; down = datagrams (net i) k dir.Down; book = b }) (refl, empty)
+    → StepsAs k (Frame proto frame) (state_of w k p l) (state_of new k p l) (outcome.Dropped why) out
+frame_dropped k w new p l proto frame why out dropped net empty =
+    let was = state_of w k p l in
+    let is = state_of new k p l in
+    steps_by k (Frame proto frame) was is (outcome.Dropped why) out (Dropped why) (refl, empty) (λ a shown.
+    known_step was.setup (Frame proto frame) a (Dropped why) is _ (frame_is was.setup a proto frame (Err why) dropped) refl
+    (shows_as is was.setup a a.up a.down (λ i. record { part = p; quota = (net i).quota }) (ap (λ n. datagrams n k dir.Up) net ∙ shown.up)
+    (ap (λ n. datagrams n k dir.Down) net ∙ shown.down) (holds was was.setup a shown)))
 
 -- ---- a datagram at the server
 
-up_is : (setup : Setup) (a : Alone) (j now fault : ℕ) (d : Option Datagram) → slice_get a.up j ≡ d → alone_step setup (Up j now fault) a ≡ up_step setup now a d
+up_is : (setup : Setup) (a : Alone) (j now fault : ℕ) (d : Option Datagram) → slice_get a.up j ≡ d → alone_step setup (Up j now fault) a ≡ up_step setup now fault a d
 unfolding alone_step
-up_is setup a j now fault d is = ap (up_step setup now a) is
+up_is setup a j now fault d is = ap (up_step setup now fault a) is
 
-pub up_gone : (k : ℕ) (w : WorldValue) (p : CircuitPart) (b : Book) (j now fault : ℕ) (out : List ℕ) → slice_get (datagrams w.net k dir.Up) j ≡ None → out ≡ []
-    → StepsAs k (Up j now fault) (state_of w k p b) (state_of w k p b) outcome.Gone out
-up_gone k w p b j now fault out none empty =
-    let was = state_of w k p b in
-    steps_by k (Up j now fault) was was outcome.Gone out _ (up_is was.setup (machine_of was) j now fault None none) refl refl (refl, empty)
+pub up_gone : (k : ℕ) (w : WorldValue) (p : CircuitPart) (l : Leases) (j now fault : ℕ) (out : List ℕ) → slice_get (datagrams w.net k dir.Up) j ≡ None → out ≡ []
+    → StepsAs k (Up j now fault) (state_of w k p l) (state_of w k p l) outcome.Gone out
+up_gone k w p l j now fault out none empty =
+    let was = state_of w k p l in
+    steps_by k (Up j now fault) was was outcome.Gone out Gone (refl, empty) (λ a shown.
+    known_step was.setup (Up j now fault) a Gone was _ (up_is was.setup a j now fault None (ap (λ ds. slice_get ds j) (sym shown.up) ∙ none)) refl shown)
 
 pub is_reply : (r : Result (List ℕ) Discard) (out : List ℕ) → IsAnswer r (Ok tt) out → r ≡ Ok out
 is_reply (Ok bytes) out h = ap Ok (sym h.1)
@@ -100,38 +135,55 @@ is_drop : (r : Result (List ℕ) Discard) (why : Discard) (out : List ℕ) → I
 is_drop (Ok bytes) why out h = let e : Err why ≡ Ok tt = h.0 in absurd cc
 is_drop (Err other) why out h = let same : why ≡ other = let e : Err why ≡ Err other = h.0 in cc in (ap Err (sym same), h.1)
 
-module _ (k : ℕ) (w new : WorldValue) (p : CircuitPart) (b : Book) (j now fault : ℕ) (d : Datagram) (result : Result (Unit {0}) Discard) (reply : List ℕ)
-    (there : slice_get (datagrams w.net k dir.Up) j ≡ Some d) (answer : IsAnswer (served p now d.bytes b).answer result reply)
+module _ (k : ℕ) (w new : WorldValue) (p : CircuitPart) (l : Leases) (j now fault : ℕ) (d : Datagram) (result : Result (Unit {0}) Discard) (reply : List ℕ)
+    (there : slice_get (datagrams w.net k dir.Up) j ≡ Some d) (answer : IsAnswer (its_answer p now d.bytes fault l.book) result reply)
     (quota : new.net.quota ≡ w.net.quota) (ups : datagrams new.net k dir.Up ≡ datagrams w.net k dir.Up) where
-  abbrev done : Served
-  done = served p now d.bytes b
+  abbrev was : CircuitState
+  was = state_of w k p l
 
-  its_step : alone_step (state_of w k p b).setup (Up j now fault) (machine_of (state_of w k p b)) ≡ answer_step (state_of w k p b).setup (machine_of (state_of w k p b)) d.proto done.book done.answer
-  its_step = up_is (state_of w k p b).setup (machine_of (state_of w k p b)) j now fault (Some d) there
+  abbrev is : CircuitState
+  is = state_of new k p (after_datagram p now d.bytes fault l)
 
-  pub reply_is : result ≡ Ok tt → done.answer ≡ Ok reply
+  abbrev next : Alone → Alone
+  next a = after_up p now d.bytes fault a a.book
+
+  -- the machine's step, where the answer is known
+  its_step : (r : Result (List ℕ) Discard) → its_answer p now d.bytes fault l.book ≡ r → (a : Alone) → Shows was was.setup a
+      → alone_step was.setup (Up j now fault) a ≡ answer_step was.setup (next a) d.proto r
+  its_step r is_r a shown =
+      up_step_is was.setup a j now fault d (ap (λ ds. slice_get ds j) (sym shown.up) ∙ there)
+      ∙ ap (answer_step was.setup (next a) d.proto) (ap (its_answer p now d.bytes fault) (sym shown.book) ∙ is_r)
+
+  its_leases : (a : Alone) → Shows was was.setup a → Holds is.leases (next a)
+  its_leases a shown = holds_datagram p now d.bytes fault l a (holds was was.setup a shown)
+
+  its_ups : (a : Alone) → Shows was was.setup a → is.up ≡ (next a).up
+  its_ups a shown = ups ∙ shown.up ∙ sym (up_stays p now d.bytes fault a a.book)
+
+  pub reply_is : result ≡ Ok tt → its_answer p now d.bytes fault l.book ≡ Ok reply
   reply_is ok =
-      let P : Result (Unit {0}) Discard → Type 0 = λ r. IsAnswer done.answer r reply in
-      is_reply done.answer reply (subst P ok answer)
+      let P : Result (Unit {0}) Discard → Type 0 = λ r. IsAnswer (its_answer p now d.bytes fault l.book) r reply in
+      is_reply (its_answer p now d.bytes fault l.book) reply (subst P ok answer)
 
   pub up_sent : (len : ℕ) (out : List ℕ) → result ≡ Ok tt
       → datagrams new.net k dir.Down ≡ take w.net.quota (record { proto = d.proto; bytes = reply } ∷ datagrams w.net k dir.Down) → len ≡ length reply → out ≡ []
-      → StepsAs k (Up j now fault) (state_of w k p b) (state_of new k p done.book) (outcome.SentDown len) out
+      → StepsAs k (Up j now fault) was is (outcome.SentDown len) out
   up_sent len out ok kept size empty =
-      steps_by k (Up j now fault) (state_of w k p b) (state_of new k p done.book) (outcome.SentDown len) out _
-      (its_step ∙ ap (answer_step (state_of w k p b).setup (machine_of (state_of w k p b)) d.proto done.book) (reply_is ok))
-      (λ i. record { part = p; quota = quota i })
-      (λ i. record { up = ups i; down = kept i; book = done.book }) (ap outcome.SentDown size, empty)
+      let newest : List Datagram → List Datagram = λ ds. take w.net.quota (record { proto = d.proto; bytes = reply } ∷ ds) in
+      steps_by k (Up j now fault) was is (outcome.SentDown len) out (SentDown len) (refl, empty) (λ a shown.
+      known_step was.setup (Up j now fault) a (SentDown len) is _ (its_step (Ok reply) (reply_is ok) a shown) (ap SentDown (sym size))
+      (shows_as is was.setup (next a) (next a).up (newest (next a).down) (λ i. record { part = p; quota = quota i }) (its_ups a shown)
+      (kept ∙ ap newest (shown.down ∙ sym (down_stays p now d.bytes fault a a.book))) (its_leases a shown)))
 
   pub up_dropped : (why : Discard) → result ≡ Err why → datagrams new.net k dir.Down ≡ datagrams w.net k dir.Down
-      → StepsAs k (Up j now fault) (state_of w k p b) (state_of new k p done.book) (outcome.Dropped why) reply
+      → StepsAs k (Up j now fault) was is (outcome.Dropped why) reply
   up_dropped why err downs =
-      let P : Result (Unit {0}) Discard → Type 0 = λ r. IsAnswer done.answer r reply in
-      let dropped = is_drop done.answer why reply (subst P err answer) in
-      steps_by k (Up j now fault) (state_of w k p b) (state_of new k p done.book) (outcome.Dropped why) reply _
-      (its_step ∙ ap (answer_step (state_of w k p b).setup (machine_of (state_of w k p b)) d.proto done.book) dropped.0)
-      (λ i. record { part = p; quota = quota i })
-      (λ i. record { up = ups i; down = downs i; book = done.book }) (refl, dropped.1)
+      let P : Result (Unit {0}) Discard → Type 0 = λ r. IsAnswer (its_answer p now d.bytes fault l.book) r reply in
+      let dropped = is_drop (its_answer p now d.bytes fault l.book) why reply (subst P err answer) in
+      steps_by k (Up j now fault) was is (outcome.Dropped why) reply (Dropped why) (refl, dropped.1) (λ a shown.
+      known_step was.setup (Up j now fault) a (Dropped why) is _ (its_step (Err why) dropped.0 a shown) refl
+      (shows_as is was.setup (next a) (next a).up (next a).down (λ i. record { part = p; quota = quota i }) (its_ups a shown)
+      (downs ∙ shown.down ∙ sym (down_stays p now d.bytes fault a a.book)) (its_leases a shown)))
 
 -- ---- a datagram at the relay
 
@@ -139,11 +191,12 @@ down_is : (setup : Setup) (a : Alone) (j : ℕ) (d : Option Datagram) → slice_
 unfolding alone_step
 down_is setup a j d is = ap (down_step setup a) is
 
-pub down_gone : (k : ℕ) (w : WorldValue) (p : CircuitPart) (b : Book) (j : ℕ) (out : List ℕ) → slice_get (datagrams w.net k dir.Down) j ≡ None → out ≡ []
-    → StepsAs k (Down j) (state_of w k p b) (state_of w k p b) outcome.Gone out
-down_gone k w p b j out none empty =
-    let was = state_of w k p b in
-    steps_by k (Down j) was was outcome.Gone out _ (down_is was.setup (machine_of was) j None none) refl refl (refl, empty)
+pub down_gone : (k : ℕ) (w : WorldValue) (p : CircuitPart) (l : Leases) (j : ℕ) (out : List ℕ) → slice_get (datagrams w.net k dir.Down) j ≡ None → out ≡ []
+    → StepsAs k (Down j) (state_of w k p l) (state_of w k p l) outcome.Gone out
+down_gone k w p l j out none empty =
+    let was = state_of w k p l in
+    steps_by k (Down j) was was outcome.Gone out Gone (refl, empty) (λ a shown.
+    known_step was.setup (Down j) a Gone was _ (down_is was.setup a j None (ap (λ ds. slice_get ds j) (sym shown.down) ∙ none)) refl shown)
 
 for_ok : (k : ℕ) (r : Result SentFrame Discard) (sent : CircuitFrame) → for_circuit k r ≡ Ok sent → (sent.circuit ≡ k) × (r ≡ Ok sent.frame)
 for_ok k (Ok frame) sent h =
@@ -155,63 +208,99 @@ for_err : (k : ℕ) (r : Result SentFrame Discard) (why : Discard) → for_circu
 for_err k (Ok frame) why h = absurd cc
 for_err k (Err other) why h = let same : other ≡ why = cc in ap Err same
 
-module _ (k : ℕ) (w : WorldValue) (p : CircuitPart) (b : Book) (j : ℕ) (d : Datagram) (there : slice_get (datagrams w.net k dir.Down) j ≡ Some d) where
+module _ (k : ℕ) (w : WorldValue) (p : CircuitPart) (l : Leases) (j : ℕ) (d : Datagram) (there : slice_get (datagrams w.net k dir.Down) j ≡ Some d) where
   pub down_framed : (found : ℕ) (dest : Dest) (out : List ℕ) → for_circuit k (relayed_down p d.proto d.bytes) ≡ Ok (record { circuit = found; frame = record { dest = dest; bytes = out } })
-      → StepsAs k (Down j) (state_of w k p b) (state_of w k p b) (outcome.Framed found dest) out
+      → StepsAs k (Down j) (state_of w k p l) (state_of w k p l) (outcome.Framed found dest) out
   down_framed found dest out result =
-      let was = state_of w k p b in
-      let frame = for_ok k (relayed_down p d.proto d.bytes) (record { circuit = found; frame = record { dest = dest; bytes = out } }) result in
-      steps_by k (Down j) was was (outcome.Framed found dest) out _ (down_is was.setup (machine_of was) j (Some d) there ∙ ap (reply_step (machine_of was)) frame.1) refl refl
-      (ap (λ c. outcome.Framed c dest) frame.0, refl)
+      let was = state_of w k p l in
+      let sent : SentFrame = record { dest = dest; bytes = out } in
+      let frame = for_ok k (relayed_down p d.proto d.bytes) (record { circuit = found; frame = sent }) result in
+      steps_by k (Down j) was was (outcome.Framed found dest) out (Framed sent) (ap (λ c. outcome.Framed c dest) frame.0, refl) (λ a shown.
+      known_step was.setup (Down j) a (Framed sent) was _
+      (down_is was.setup a j (Some d) (ap (λ ds. slice_get ds j) (sym shown.down) ∙ there) ∙ ap (reply_step a) frame.1) refl shown)
 
   pub down_dropped : (why : Discard) (out : List ℕ) → for_circuit k (relayed_down p d.proto d.bytes) ≡ Err why → out ≡ []
-      → StepsAs k (Down j) (state_of w k p b) (state_of w k p b) (outcome.Dropped why) out
+      → StepsAs k (Down j) (state_of w k p l) (state_of w k p l) (outcome.Dropped why) out
   down_dropped why out result empty =
-      let was = state_of w k p b in
+      let was = state_of w k p l in
       let dropped = for_err k (relayed_down p d.proto d.bytes) why result in
-      steps_by k (Down j) was was (outcome.Dropped why) out _ (down_is was.setup (machine_of was) j (Some d) there ∙ ap (reply_step (machine_of was)) dropped) refl refl (refl, empty)
+      steps_by k (Down j) was was (outcome.Dropped why) out (Dropped why) (refl, empty) (λ a shown.
+      known_step was.setup (Down j) a (Dropped why) was _
+      (down_is was.setup a j (Some d) (ap (λ ds. slice_get ds j) (sym shown.down) ∙ there) ∙ ap (reply_step a) dropped) refl shown)
 
 -- ---- a moment
 
-tick_is : (setup : Setup) (a : Alone) (now : ℕ) → alone_step setup (Tick now) a ≡ record { effect = Done; next = record a { book = book_at now a.book } }
+tick_is : (setup : Setup) (a : Alone) (now : ℕ) → alone_step setup (Tick now) a ≡ record { effect = Done; next = record a { book = option_map (book_at now) a.book } }
 unfolding alone_step
 tick_is setup a now = refl
 
-pub tick_done : (k : ℕ) (w new : WorldValue) (p : CircuitPart) (b : Book) (now : ℕ) (out : List ℕ) → new.net ≡ w.net → out ≡ []
-    → StepsAs k (Tick now) (state_of w k p b) (state_of new k p (book_at now b)) outcome.Done out
-tick_done k w new p b now out net empty =
-    let was = state_of w k p b in
-    steps_by k (Tick now) was (state_of new k p (book_at now b)) outcome.Done out _ (tick_is was.setup (machine_of was) now) (λ i. record { part = p; quota = (net i).quota })
-    (λ i. record { up = datagrams (net i) k dir.Up; down = datagrams (net i) k dir.Down; book = book_at now b }) (refl, empty)
+pub tick_done : (k : ℕ) (w new : WorldValue) (p : CircuitPart) (l : Leases) (now : ℕ) (out : List ℕ) → new.net ≡ w.net → out ≡ []
+    → StepsAs k (Tick now) (state_of w k p l) (state_of new k p (after_tick now l)) outcome.Done out
+tick_done k w new p l now out net empty =
+    let was = state_of w k p l in
+    let is = state_of new k p (after_tick now l) in
+    steps_by k (Tick now) was is outcome.Done out Done (refl, empty) (λ a shown.
+    known_step was.setup (Tick now) a Done is _ (tick_is was.setup a now) refl
+    (shows_as is was.setup (record a { book = option_map (book_at now) a.book }) a.up a.down (λ i. record { part = p; quota = (net i).quota })
+    (ap (λ n. datagrams n k dir.Up) net ∙ shown.up) (ap (λ n. datagrams n k dir.Down) net ∙ shown.down) (holds_tick now l a (holds was was.setup a shown))))
 
--- ---- what the server made of circuit k's datagram
+-- ---- a restart
 
-pub received_is : (relays : List Source) (parts : List CircuitPart) (now : ℕ) (p : CircuitPart) (datagram : List ℕ) (books : List Book) (k : ℕ) (b : Book)
-    → addressee relays parts p.relay datagram ≡ Ok k → slice_get parts k ≡ Some p → slice_get books k ≡ Some b
-    → received relays parts now p.relay datagram books ≡ with_served k books (served p now datagram b)
-received_is relays parts now p datagram books k b found there its =
-    ap (addressee_served parts now datagram books) found ∙ λ i. circuit_served k now datagram books (there i) (its i)
+restart_is : (setup : Setup) (a : Alone) (image : Image) → alone_step setup (Restart image) a ≡ record { effect = Done; next = alone.after_restart image a }
+unfolding alone_step
+restart_is setup a image = refl
+
+pub restart_done : (k : ℕ) (w new : WorldValue) (p : CircuitPart) (l : Leases) (image : Image) (out : List ℕ) → new.net ≡ w.net → out ≡ []
+    → StepsAs k (Restart image) (state_of w k p l) (state_of new k p (after_restart image l)) outcome.Done out
+restart_done k w new p l image out net empty =
+    let was = state_of w k p l in
+    let is = state_of new k p (after_restart image l) in
+    steps_by k (Restart image) was is outcome.Done out Done (refl, empty) (λ a shown.
+    let next = alone.after_restart image a in
+    known_step was.setup (Restart image) a Done is _ (restart_is was.setup a image) refl
+    (shows_as is was.setup next next.up next.down (λ i. record { part = p; quota = (net i).quota })
+    (ap (λ n. datagrams n k dir.Up) net ∙ shown.up ∙ sym (restart_ups image a)) (ap (λ n. datagrams n k dir.Down) net ∙ shown.down ∙ sym (restart_downs image a))
+    (holds_restart image l a (holds was was.setup a shown))))
 
 -- ---- one circuit of a world
 
+-- its part of the configuration, its book and its leases
 pub record TheCircuit (w : WorldValue) (k : ℕ) : Type 0 where
   pub part : CircuitPart
-  pub book : Book
+  pub leases : Leases
   pub there : slice_get w.relays.topology.circuits k ≡ Some part
   pub served : slice_get (parts_in w.server) k ≡ Some part
-  pub its : slice_get (books_in w.server) k ≡ Some book
+  pub its : slice_get (leases_now w) k ≡ Some leases
+  pub book : slice_get (books_in w.server) k ≡ Some leases.book
 
-pub whole : (w : WorldValue) → length (books_in w.server) ≡ length (parts_in w.server)
-whole w = length-map w.server.circuits book_of ∙ sym (length-map w.server.circuits part_of)
+pub whole : (w : WorldValue) → length (leases_now w) ≡ length (parts_in w.server)
+whole w = length-map w.server.circuits (leases_of (disk.state_of w.disk)) ∙ sym (length-map w.server.circuits part_of)
 
 pub states_count : (w : WorldValue) → IsWorld w → length (states w) ≡ length w.net.circuits
-states_count w is = state_count (state_of w) (parts_in w.server) (books_in w.server) (whole w) ∙ ap length is.parts ∙ sym is.count
+states_count w is = state_count (state_of w) (parts_in w.server) (leases_now w) (whole w) ∙ ap length is.parts ∙ sym is.count
 
 pub the_circuit : (w : WorldValue) → IsWorld w → (k : ℕ) → k < length w.net.circuits → TheCircuit w k
 the_circuit w is k within =
-    let there = is_there w.relays.topology.circuits k (omega (arith, within, is.count)) in
-    let its = is_there (books_in w.server) k (omega (arith, within, is.count, whole w, ap length is.parts)) in
-    record { part = there.0; book = its.0; there = there.1; served = ap (λ xs. slice_get xs k) is.parts ∙ there.1; its = its.1 }
+    let size : length (parts_in w.server) ≡ length w.server.circuits = length-map w.server.circuits part_of in
+    let one = is_there w.server.circuits k (omega (arith, within, is.count, size, ap length is.parts)) in
+    let served : slice_get (parts_in w.server) k ≡ Some (part_of one.0) = slice_get-map part_of w.server.circuits k ∙ ap (option_map part_of) one.1 in
+    let leases = leases_of (disk.state_of w.disk) in
+    record {
+      part = part_of one.0;
+      leases = leases one.0;
+      there = ap (λ xs. slice_get xs k) (sym is.parts) ∙ served;
+      served = served;
+      its = slice_get-map leases w.server.circuits k ∙ ap (option_map leases) one.1;
+      book = slice_get-map book_of w.server.circuits k ∙ ap (option_map book_of) one.1;
+    }
+
+-- what a restart finds is in the circuit's region
+pub restarts_at : (regions : ℕ → Region) (circuits : List CircuitServerValue) (c : ℕ) (part : CircuitPart) (l : Leases) → slice_get (map part_of circuits) c ≡ Some part
+    → slice_get (map (leases_of regions) circuits) c ≡ Some l → l.restarts ≡ restarts_of part (regions part.region)
+restarts_at regions [] c part l there its = absurd cc
+restarts_at regions (x ∷ xs) zero part l there its =
+    ap (λ (m : Leases). m.restarts) (sym (some_is (leases_of regions x) l its)) ∙ ap (λ p. restarts_of p (regions p.region)) (some_is (part_of x) part there)
+restarts_at regions (x ∷ xs) (suc c) part l there its = restarts_at regions xs c part l there its
 
 -- ---- what the network keeps of every circuit
 
@@ -241,30 +330,41 @@ other_way k way old new own others c = by (eqb k c) refl where
 -- ---- what the world keeps
 
 pub still_world : (w new : WorldValue) → IsWorld w → new.relays.topology ≡ w.relays.topology → new.behind ≡ w.behind → parts_in new.server ≡ parts_in w.server → new.server.relays ≡ w.server.relays
-    → length new.net.circuits ≡ length w.net.circuits
+    → length new.net.circuits ≡ length w.net.circuits → length new.disk.regions ≡ length w.disk.regions → AreReady (disk.state_of new.disk) new.server
     → ((c : ℕ) (part : CircuitPart) → slice_get w.relays.topology.circuits c ≡ Some part → Each (IsFor w.relays.topology c part) (datagrams new.net c dir.Up))
     → ((c : ℕ) (part : CircuitPart) → slice_get w.relays.topology.circuits c ≡ Some part → Each (Returns w.relays.topology c part) (datagrams new.net c dir.Down))
     → IsWorld new
-still_world w new is topology behind parts sources count addressed returned =
+still_world w new is topology behind parts sources count regions ready addressed returned =
     subst (λ t. IsWorldOf t new) (sym topology) (record {
       parts = parts ∙ is.parts;
       sources = sources ∙ is.sources;
       count = count ∙ is.count;
+      few = is.few;
       each = is.each;
       listen4 = is.listen4;
       known = is.known;
       behind = λ c part there. let r = is.behind c part there in (r.0, ap (λ xs. slice_get xs c) behind ∙ r.1, r.2);
       ids = is.ids;
+      regions = subst (HasRegions w.relays.topology.circuits) (sym regions) is.regions;
+      differ = is.differ;
+      ready = ready;
       addressed = addressed;
       returned = returned;
     })
 
+-- the server's circuits have their regions
+pub has_regions : (w : WorldValue) → IsWorld w → HasRegions (parts_in w.server) (length w.disk.regions)
+has_regions w is = subst (λ parts. HasRegions parts (length w.disk.regions)) (sym is.parts) is.regions
+
+pub all_at : {A : Type 0} (P : A → Type 0) (xs : List A) (n : ℕ) (x : A) → All P xs → slice_get xs n ≡ Some x → P x
+all_at P xs n x all at = subst P (get_or_from_slice_get xs n x x at) (All-get_or P xs n x (slice_get_within xs n x at) all)
+
 -- ---- a state that another circuit's event leaves
 
-pub same_circuit : (w new : WorldValue) (c : ℕ) (p : CircuitPart) (b : Book) → new.net.quota ≡ w.net.quota → datagrams new.net c dir.Up ≡ datagrams w.net c dir.Up
-    → datagrams new.net c dir.Down ≡ datagrams w.net c dir.Down → slice_index new.relays.discarded c ≡ slice_index w.relays.discarded c → state_of new c p b ≡ state_of w c p b
-same_circuit w new c p b quota ups downs counts =
-    λ i. record { setup = record { part = p; quota = quota i }; up = ups i; down = downs i; discarded = counts i; book = b }
+pub same_circuit : (w new : WorldValue) (c : ℕ) (p : CircuitPart) (l : Leases) → new.net.quota ≡ w.net.quota → datagrams new.net c dir.Up ≡ datagrams w.net c dir.Up
+    → datagrams new.net c dir.Down ≡ datagrams w.net c dir.Down → slice_index new.relays.discarded c ≡ slice_index w.relays.discarded c → state_of new c p l ≡ state_of w c p l
+same_circuit w new c p l quota ups downs counts =
+    λ i. record { setup = record { part = p; quota = quota i }; up = ups i; down = downs i; discarded = counts i; leases = l }
 
 -- only circuit k's counter is counted up
 pub other_count : (k c : ℕ) (counts : List ℕ) → eqb k c ≡ false → slice_index (one_more k counts) c ≡ slice_index counts c
@@ -273,66 +373,139 @@ other_count k c counts other = get_or-set_other counts k c _ 0 (λ same. eqb-fal
 pub apart : (k c : ℕ) → eqb k c ≡ false → c ≢ k
 apart k c other same = eqb-false k c other (sym same)
 
--- ---- every circuit's state after a tick
+-- ---- an event that moves every circuit's state
 
-pub all_tick : (w new : WorldValue) (now : ℕ) (out : List ℕ) → new.net ≡ w.net → out ≡ []
-    → parts_in new.server ≡ parts_in w.server → books_in new.server ≡ map (book_at now) (books_in w.server)
-    → AllMove (Tick now) (states w) (states new) outcome.Done out
-all_tick w new now out net empty parts books = record { count = count; each = λ c s at. each c s at } where
-  with_parts : List CircuitPart → List Book → List CircuitState
-  with_parts ps bs = each_state (state_of new) ps bs
-
-  size : length (books_in new.server) ≡ length (parts_in w.server)
-  size = ap length books ∙ length-map (books_in w.server) (book_at now) ∙ whole w
+all_move : (w new : WorldValue) (s : ℕ → Seen) (after : ℕ → Leases → Leases) (out : List ℕ) → parts_in new.server ≡ parts_in w.server → length (leases_now new) ≡ length (parts_in w.server)
+    → ((c : ℕ) (part : CircuitPart) (l : Leases) → slice_get (parts_in w.server) c ≡ Some part → slice_get (leases_now w) c ≡ Some l → slice_get (leases_now new) c ≡ Some (after c l))
+    → ((c : ℕ) (part : CircuitPart) (l : Leases) → StepsAs c (s c) (state_of w c part l) (state_of new c part (after c l)) outcome.Done out)
+    → AllMove s (states w) (states new) outcome.Done out
+all_move w new s after out parts size now steps = record { count = count; each = λ c p at. each c p at } where
+  with_parts : List CircuitPart → List CircuitState
+  with_parts ps = each_state (state_of new) ps (leases_now new)
 
   count : length (states new) ≡ length (states w)
   count =
-      ap (λ ps. length (with_parts ps (books_in new.server))) parts ∙ state_count (state_of new) (parts_in w.server) (books_in new.server) size
-      ∙ sym (state_count (state_of w) (parts_in w.server) (books_in w.server) (whole w))
+      ap (λ ps. length (each_state (state_of new) ps (leases_now new))) parts ∙ state_count (state_of new) (parts_in w.server) (leases_now new) size
+      ∙ sym (state_count (state_of w) (parts_in w.server) (leases_now w) (whole w))
 
-  each : (c : ℕ) (s : CircuitState) → slice_get (states w) c ≡ Some s → (q : CircuitState) × (slice_get (states new) c ≡ Some q) × StepsAs c (Tick now) s q outcome.Done out
-  each c s at =
-      let is = is_state (state_of w) (parts_in w.server) (books_in w.server) c s at in
-      let after = book_at now is.book in
-      let its : slice_get (books_in new.server) c ≡ Some after = ap (λ bs. slice_get bs c) books ∙ slice_get-map (book_at now) (books_in w.server) c ∙ ap (option_map (book_at now)) is.its in
-      let P : CircuitState → Type 0 = λ p. StepsAs c (Tick now) p (state_of new c is.part after) outcome.Done out in (
-        state_of new c is.part after,
-        ap (λ ps. slice_get (with_parts ps (books_in new.server)) c) parts ∙ state_at (state_of new) (parts_in w.server) (books_in new.server) c is.part after is.there its,
-        subst P (sym is.is) (tick_done c w new is.part is.book now out net empty),
+  each : (c : ℕ) (p : CircuitState) → slice_get (states w) c ≡ Some p → (q : CircuitState) × (slice_get (states new) c ≡ Some q) × StepsAs c (s c) p q outcome.Done out
+  each c p at =
+      let is = is_state (state_of w) (parts_in w.server) (leases_now w) c p at in
+      let next = after c is.leases in
+      let P : CircuitState → Type 0 = λ old. StepsAs c (s c) old (state_of new c is.part next) outcome.Done out in (
+        state_of new c is.part next,
+        ap (λ ps. slice_get (each_state (state_of new) ps (leases_now new)) c) parts
+            ∙ state_at (state_of new) (parts_in w.server) (leases_now new) c is.part next is.there (now c is.part is.leases is.there is.its),
+        subst P (sym is.is) (steps c is.part is.leases),
       )
+
+pub all_tick : (w new : WorldValue) (now : ℕ) (out : List ℕ) → new.net ≡ w.net → out ≡ []
+    → parts_in new.server ≡ parts_in w.server → leases_now new ≡ map (after_tick now) (leases_now w)
+    → AllMove (λ c. Tick now) (states w) (states new) outcome.Done out
+all_tick w new now out net empty parts leases =
+    all_move w new (λ c. Tick now) (λ c. after_tick now) out parts (ap length leases ∙ length-map (leases_now w) (after_tick now) ∙ whole w)
+    (λ c part l there its. ap (λ ls. slice_get ls c) leases ∙ slice_get-map (after_tick now) (leases_now w) c ∙ ap (option_map (after_tick now)) its)
+    (λ c part l. tick_done c w new part l now out net empty)
+
+-- A restart, where each circuit's region is as its image says.
+pub all_restart : (w new : WorldValue) (images : ℕ → Image) (regions : ℕ → Region) (out : List ℕ) → new.net ≡ w.net → out ≡ []
+    → parts_in new.server ≡ parts_in w.server → leases_now new ≡ map (found_leases regions) (parts_in w.server)
+    → ((c : ℕ) (part : CircuitPart) → slice_get (parts_in w.server) c ≡ Some part → regions part.region ≡ crashed (images c) (disk.state_of w.disk part.region))
+    → AllMove (λ c. Restart (images c)) (states w) (states new) outcome.Done out
+all_restart w new images regions out net empty parts leases crash =
+    all_move w new (λ c. Restart (images c)) (λ c. after_restart (images c)) out parts (ap length leases ∙ length-map (parts_in w.server) (found_leases regions))
+    (λ c part l there its.
+    let found = found_crashed part (images c) (disk.state_of w.disk) regions l.book (crash c part there) in
+    let restarts = restarts_at (disk.state_of w.disk) w.server.circuits c part l there its in
+    ap (λ ls. slice_get ls c) leases ∙ slice_get-map (found_leases regions) (parts_in w.server) c ∙ ap (option_map (found_leases regions)) there
+    ∙ ap Some (found ∙ ap (after_restart (images c)) (λ i. record { book = l.book; restarts = sym restarts i })))
+    (λ c part l. restart_done c w new part l (images c) out net empty)
+
+-- of a region that can be read after a crash no byte is unsynced
+crashed_clean : (i : Image) (r : Region) → (crashed i r).readable ≡ true → IsClean (crashed i r)
+crashed_clean (Byte byte) r readable = record { each = λ i. refl }
+crashed_clean Unreadable r readable = absurd cc
+
+pub are_synced : (parts : List CircuitPart) (images : ℕ → Image) (old new : ℕ → Region)
+    → ((c : ℕ) (part : CircuitPart) → slice_get parts c ≡ Some part → new part.region ≡ crashed (images c) (old part.region)) → AreSynced parts new
+are_synced parts images old new crash = λ k default within.
+    let one = is_there parts k within in
+    let P : CircuitPart → Type 0 = λ part. (new part.region).readable ≡ true → IsClean (new part.region) in
+    let Q : Region → Type 0 = λ r. r.readable ≡ true → IsClean r in
+    subst P (sym (get_or_from_slice_get parts k one.0 default one.1)) (subst Q (sym (crash k one.0 one.1)) (crashed_clean (images k) (old one.0.region)))
 
 -- ---- what the server made of a datagram that the network kept
 
-pub record IsServed (w : WorldValue) (k : ℕ) (part : CircuitPart) (b : Book) (now : ℕ) (d : Datagram) (result : Result (Unit {0}) Discard) (reply : List ℕ) (after : ServerValue) : Type 0 where
-  pub found : addressee w.relays.topology.relays w.relays.topology.circuits part.relay d.bytes ≡ Ok k
-  pub answer : IsAnswer (served part now d.bytes b).answer result reply
-  pub book : slice_get (books_in after) k ≡ Some (served part now d.bytes b).book
-  pub others : (c : ℕ) → eqb k c ≡ false → slice_get (books_in after) c ≡ slice_get (books_in w.server) c
-  pub size : length (books_in after) ≡ length (books_in w.server)
+circuit_fails_is : (part : CircuitPart) (now : ℕ) (bytes : List ℕ) (faults : ℕ → ℕ) (book : Option Book)
+    → circuit_fails now bytes faults (Some part) (Some book) ≡ its_fails part now bytes (faults part.region) book
+circuit_fails_is part now bytes faults None = refl
+circuit_fails_is part now bytes faults (Some b) = refl
 
-pub is_served : (w : WorldValue) → IsWorld w → (k : ℕ) (the : TheCircuit w k) (j : ℕ) (d : Datagram) (now : ℕ) (source : Source) (given : CircuitPart)
+-- the parts, the books and the leases at circuit k
+module _ (relays : List Source) (parts : List CircuitPart) (now : ℕ) (p : CircuitPart) (bytes : List ℕ) (books : List (Option Book)) (all : List Leases) (faults : ℕ → ℕ) (k : ℕ) (l : Leases)
+    (found : addressee relays parts p.relay bytes ≡ Ok k) (there : slice_get parts k ≡ Some p) (book : slice_get books k ≡ Some l.book) (its : slice_get all k ≡ Some l) where
+  fails_is_its : received_fails relays parts now p.relay bytes faults books ≡ its_fails p now bytes (faults p.region) l.book
+  fails_is_its = ap (addressee_fails parts now bytes faults books) found ∙ (λ i. circuit_fails now bytes faults (there i) (book i)) ∙ circuit_fails_is p now bytes faults l.book
+
+  received_is : (fails : Bool) → received relays parts now p.relay bytes fails books ≡ with_answered k books (answered p now bytes fails l.book)
+  received_is fails = ap (addressee_answered parts now bytes fails books) found ∙ λ i. circuit_answered k now bytes fails books (there i) (book i)
+
+  leases_are : received_leases relays parts now p.relay bytes faults all ≡ set all k (after_datagram p now bytes (faults p.region) l)
+  leases_are = ap (addressee_leases parts now bytes faults all) found ∙ λ i. leases_with k now bytes faults all (there i) (its i)
+
+pub record IsServed (w : WorldValue) (k : ℕ) (part : CircuitPart) (l : Leases) (now fault : ℕ) (d : Datagram) (result : Result (Unit {0}) Discard) (reply : List ℕ) (after : List Leases) : Type 0 where
+  pub found : addressee w.relays.topology.relays w.relays.topology.circuits part.relay d.bytes ≡ Ok k
+  pub answer : IsAnswer (its_answer part now d.bytes fault l.book) result reply
+  pub leases : slice_get after k ≡ Some (after_datagram part now d.bytes fault l)
+  pub others : (c : ℕ) → eqb k c ≡ false → slice_get after c ≡ slice_get (leases_now w) c
+  pub size : length after ≡ length (leases_now w)
+
+pub is_served : (w : WorldValue) → IsWorld w → (k : ℕ) (the : TheCircuit w k) (j : ℕ) (d : Datagram) (now fault : ℕ) (source : Source) (given : CircuitPart)
     → slice_get (datagrams w.net k dir.Up) j ≡ Some d → slice_get (parts_in w.server) k ≡ Some given → source ≡ given.relay
-    → (result : Result (Unit {0}) Discard) (reply : List ℕ) (after : ServerValue)
-    → IsAnswer (received w.server.relays (parts_in w.server) now source d.bytes (books_in w.server)).answer result reply
-    → books_in after ≡ (received w.server.relays (parts_in w.server) now source d.bytes (books_in w.server)).books
-    → IsServed w k the.part the.book now d result reply after
-is_served w is k the j d now source given kept at from result reply after answer books =
+    → (regions : ℕ → Region) (faults : ℕ → ℕ) → regions ≡ disk.state_of w.disk → faults given.region ≡ fault
+    → (result : Result (Unit {0}) Discard) (reply : List ℕ) (fails : Bool) (after : List Leases)
+    → fails ≡ received_fails w.server.relays (parts_in w.server) now source d.bytes faults (books_in w.server)
+    → IsAnswer (received w.server.relays (parts_in w.server) now source d.bytes fails (books_in w.server)).answer result reply
+    → after ≡ received_leases w.server.relays (parts_in w.server) now source d.bytes faults (leases_in regions w.server)
+    → IsServed w k the.part the.leases now fault d result reply after
+is_served w is k the j d now fault source given kept at from regions faults same_regions fuse result reply fails after failing answer leases =
     let same : given ≡ the.part = some_is given the.part (sym at ∙ the.served) in
     let comes : source ≡ the.part.relay = from ∙ ap (λ p. p.relay) same in
+    let at_region : faults the.part.region ≡ fault = ap (λ (p : CircuitPart). faults p.region) (sym same) ∙ fuse in
     let found = each_at (IsFor w.relays.topology k the.part) (datagrams w.net k dir.Up) j d (is.addressed k the.part the.there) kept in
     let here = (λ i. addressee (is.sources i) (is.parts i) the.part.relay d.bytes) ∙ found in
-    let all = ap (λ s. received w.server.relays (parts_in w.server) now s d.bytes (books_in w.server)) comes
-    ∙ received_is w.server.relays (parts_in w.server) now the.part d.bytes (books_in w.server) k the.book here the.served the.its in
-    let done = served the.part now d.bytes the.book in
-    let written : books_in after ≡ set (books_in w.server) k done.book = books ∙ ap (λ r. r.books) all in
+    let relays = w.server.relays in
+    let parts = parts_in w.server in
+    let books = books_in w.server in
+    let all = leases_now w in
+    let its_fault : fails ≡ its_fails the.part now d.bytes fault the.leases.book =
+    failing ∙ ap (λ s. received_fails relays parts now s d.bytes faults books) comes
+    ∙ fails_is_its relays parts now the.part d.bytes books all faults k the.leases here the.served the.book the.its
+    ∙ ap (λ f. its_fails the.part now d.bytes f the.leases.book) at_region in
+    let answers = ap (λ s. received relays parts now s d.bytes fails books) comes
+    ∙ received_is relays parts now the.part d.bytes books all faults k the.leases here the.served the.book the.its fails
+    ∙ ap (λ f. with_answered k books (answered the.part now d.bytes f the.leases.book)) its_fault in
+    let done = after_datagram the.part now d.bytes fault the.leases in
+    let written : after ≡ set all k done =
+    leases ∙ (λ i. received_leases relays parts now (comes i) d.bytes faults (leases_in (same_regions i) w.server))
+    ∙ leases_are relays parts now the.part d.bytes books all faults k the.leases here the.served the.book the.its
+    ∙ ap (λ f. set all k (after_datagram the.part now d.bytes f the.leases)) at_region in
     let P : Received → Type 0 = λ r. IsAnswer r.answer result reply in
     record {
       found = found;
-      answer = subst P all answer;
-      book = ap (λ bs. slice_get bs k) written ∙ get_set (books_in w.server) k done.book (slice_get_within (books_in w.server) k the.book the.its);
-      others = λ c other. ap (λ bs. slice_get bs c) written ∙ get_set_other (books_in w.server) k c done.book (eqb-false k c other);
-      size = ap length written ∙ length-set (books_in w.server) k done.book;
+      answer = subst P answers answer;
+      leases = ap (λ ls. slice_get ls k) written ∙ get_set all k done (slice_get_within all k the.leases the.its);
+      others = λ c other. ap (λ ls. slice_get ls c) written ∙ get_set_other all k c done (eqb-false k c other);
+      size = ap length written ∙ length-set all k done;
     }
+
+-- ---- a device of which only the fuse of a region was set
+
+pub state_stays : (region : ℕ) (old new : ModelDiskValue) → disk.state_of new region ≡ disk.state_of old region → SameBut region old new → disk.state_of new ≡ disk.state_of old
+state_stays region old new own others = λ i q. each q (eqb q region) refl i where
+  each : (q : ℕ) (b : Bool) → eqb q region ≡ b → disk.state_of new q ≡ disk.state_of old q
+  each q true same = let P : ℕ → Type 0 = λ n. disk.state_of new n ≡ disk.state_of old n in subst P (sym (eqb-true q region same)) own
+  each q false other = ap disk.region_of (others.others q (eqb-false q region other))
 
 only_v4 : (proto : Proto) → V4 ≡ proto
 only_v4 V4 = refl

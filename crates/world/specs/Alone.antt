@@ -1,14 +1,16 @@
 -- The machine of one circuit that has relay, network and server for itself.
-use Rattle.std.specs.Prelude.{ℕ, List, [], ◌∷◌, ◌++◌, length, take, slice_get, Option, Some, None, Result, Ok, Err}
+use Rattle.std.specs.Prelude.{ℕ, ◌==◌, ◌&&◌, nat_le, Bool, not, List, [], ◌∷◌, ◌++◌, length, take, slice_get, Option, Some, None, option_map, Result, Ok, Err, if◌then◌else◌}
 use Rattle.types.specs.declared.dest.Proto.{Proto}
 use Rattle.types.specs.declared.discard.Discard.{Discard}
-use Rattle.bindings_v4.specs.Book4.{empty_book}
+use Rattle.types.specs.declared.discard.Discard.TheVariants.{CircuitClosed, DiskFault}
 use Rattle.config.specs.CircuitPart.{CircuitPart}
-use Rattle.dispatch.specs.Server.{Book, book_at, served}
+use Rattle.dispatch.specs.Server.{Book, Served, book_at, kept_book, served}
+use Rattle.lease_disk.specs.declared.image.Image.{Image}
+use Rattle.lease_disk.specs.declared.image.Image.TheVariants.{Byte, Unreadable}
 use Rattle.lossy_net.specs.Net.{Datagram}
 use Rattle.relay.specs.SentFrame.{SentFrame}
 use Rattle.relay.specs.Relays.{relayed_up, relayed_down}
-use Rattle.world.specs.Seen.{Seen, Frame, Up, Down, Tick}
+use Rattle.world.specs.Seen.{Seen, Frame, Up, Down, Tick, Restart}
 
 -- What the machine knows: the circuit's part of the configuration, and how many datagrams the network
 -- keeps in each direction.
@@ -20,12 +22,17 @@ pub record Alone : Type 0 where
   -- what the network keeps, newest first: towards the server, and towards the relay
   pub up : List Datagram
   pub down : List Datagram
-  -- the server's book
-  pub book : Book
+  -- the server's book; None where the circuit is closed
+  pub book : Option Book
+  -- the book that was last saved; None where the region is damaged
+  pub kept : Option Book
+  -- the book of a failed save that a restart may find all the same; None where there is none
+  pub doubt : Option Book
 
--- At the start nothing was sent, and the book is empty at the clock 0.
-abbrev pub start : Alone
-start = record { up = []; down = []; book = record { clock = 0; four = empty_book } }
+-- At the start nothing was sent. The circuit is open with the book that its region holds, or closed where
+-- the region is damaged.
+abbrev pub start : Option Book → Alone
+start kept = record { up = []; down = []; book = kept; kept = kept; doubt = None }
 
 -- What an event does.
 pub data Effect : Type 0 where
@@ -53,17 +60,33 @@ frame_step setup a proto (Err why) = record { effect = Dropped why; next = a }
 frame_step setup a proto (Ok bytes) = record { effect = SentUp (length bytes); next = record a { up = with_newest setup.quota proto bytes a.up } }
 
 -- what the server answers to a datagram
-abbrev pub answer_step : Setup → Alone → Proto → Book → Result (List ℕ) Discard → Step
-answer_step setup a proto book (Err why) = record { effect = Dropped why; next = record a { book = book } }
-answer_step setup a proto book (Ok bytes) =
-    record { effect = SentDown (length bytes); next = record a { down = with_newest setup.quota proto bytes a.down; book = book } }
+abbrev pub answer_step : Setup → Alone → Proto → Result (List ℕ) Discard → Step
+answer_step setup a proto (Err why) = record { effect = Dropped why; next = a }
+answer_step setup a proto (Ok bytes) = record { effect = SentDown (length bytes); next = record a { down = with_newest setup.quota proto bytes a.down } }
+
+-- The call of the device that fails in a save, from 1 to 6. Any other number is none.
+abbrev pub is_fault : ℕ → Bool
+is_fault fault = nat_le 1 fault && nat_le fault 6
+
+-- What changes more than offers is saved before the reply leaves. A save that fails closes the circuit;
+-- where its fifth or sixth call failed, the new book is in doubt.
+abbrev pub served_step : Setup → ℕ → Alone → Proto → Served → Step
+served_step setup fault a proto done =
+    if not done.is_kept then answer_step setup (record a { book = Some done.book }) proto done.answer
+    else if is_fault fault then record {
+      effect = Dropped DiskFault;
+      next = record a { book = None; doubt = if nat_le 5 fault then Some (kept_book done.book) else a.doubt };
+    }
+    else answer_step setup (record a { book = Some done.book; kept = Some (kept_book done.book) }) proto done.answer
 
 -- a datagram at the server
-abbrev pub up_step : Setup → ℕ → Alone → Option Datagram → Step
-up_step setup now a None = record { effect = Gone; next = a }
-up_step setup now a (Some d) =
-    let answered = served setup.part now d.bytes a.book in
-    answer_step setup a d.proto answered.book answered.answer
+abbrev pub book_step : Setup → ℕ → ℕ → Alone → Datagram → Option Book → Step
+book_step setup now fault a d None = record { effect = Dropped CircuitClosed; next = a }
+book_step setup now fault a d (Some b) = served_step setup fault a d.proto (served setup.part now d.bytes b)
+
+abbrev pub up_step : Setup → ℕ → ℕ → Alone → Option Datagram → Step
+up_step setup now fault a None = record { effect = Gone; next = a }
+up_step setup now fault a (Some d) = book_step setup now fault a d a.book
 
 -- a datagram at the relay
 abbrev pub reply_step : Alone → Result SentFrame Discard → Step
@@ -74,12 +97,27 @@ abbrev pub down_step : Setup → Alone → Option Datagram → Step
 down_step setup a None = record { effect = Gone; next = a }
 down_step setup a (Some d) = reply_step a (relayed_down setup.part d.proto d.bytes)
 
--- One event. A fault of the disk has no effect while nothing is saved.
+abbrev pub or_kept : Option Book → Option Book → Option Book
+or_kept None kept = kept
+or_kept (Some doubt) kept = Some doubt
+
+-- What a restart finds where each unsynced byte became this one: the book in doubt where its gate then
+-- reads open, which is 0xA5, and else the kept one.
+abbrev pub found : ℕ → Alone → Option Book
+found byte a = if byte == 0xa5 then or_kept a.doubt a.kept else a.kept
+
+-- A region that cannot be read closes the circuit, and what was in doubt stays so.
+abbrev pub after_restart : Image → Alone → Alone
+after_restart (Byte byte) a = record a { book = found byte a; kept = found byte a; doubt = None }
+after_restart Unreadable a = record a { book = None }
+
+-- One event.
 unfoldable pub alone_step : Setup → Seen → Alone → Step
 alone_step setup (Frame proto frame) a = frame_step setup a proto (relayed_up setup.part proto frame)
-alone_step setup (Up j now fault) a = up_step setup now a (slice_get a.up j)
+alone_step setup (Up j now fault) a = up_step setup now fault a (slice_get a.up j)
 alone_step setup (Down j) a = down_step setup a (slice_get a.down j)
-alone_step setup (Tick now) a = record { effect = Done; next = record a { book = book_at now a.book } }
+alone_step setup (Tick now) a = record { effect = Done; next = record a { book = option_map (book_at now) a.book } }
+alone_step setup (Restart image) a = record { effect = Done; next = after_restart image a }
 
 -- the frame that leaves with an effect, if one does
 abbrev pub sent_frame : Effect → List SentFrame

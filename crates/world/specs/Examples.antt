@@ -1,5 +1,5 @@
 -- Worked examples: a circuit, frames of its clients, and what the definitions make of them.
-use Rattle.std.specs.Prelude.{ℕ, ◌+◌, List, [], ◌∷◌, ◌++◌, length, replicate}
+use Rattle.std.specs.Prelude.{ℕ, ◌+◌, List, [], ◌∷◌, ◌++◌, length, replicate, Some, None}
 use Rattle.std.specs.FinMap.{empty, insert}
 use Rattle.types.specs.declared.addr.Addr4.{Addr4}
 use Rattle.types.specs.declared.addr.Source.{Source}
@@ -10,7 +10,7 @@ use Rattle.config.specs.CircuitPart.{CircuitPart}
 use Rattle.dispatch.specs.Server.{Book}
 use Rattle.lossy_net.specs.Net.{Datagram}
 use Rattle.relay.specs.SentFrame.{SentFrame}
-use Rattle.world.specs.Alone.{Alone, Setup}
+use Rattle.world.specs.Alone.{Alone, Setup, start}
 
 abbrev pub ipv4 : ℕ → ℕ → ℕ → ℕ → Addr4
 ipv4 a b c d = record { 0 = a ∷ b ∷ c ∷ d ∷ [] }
@@ -84,16 +84,27 @@ relayed_discover id x n options = relayed_message 1 id x n options
 abbrev pub discover_up : ℕ → List ℕ → List ℕ
 discover_up n options = relayed_discover (97 ∷ []) 0 n options
 
--- The frame with the offer of 10.0.x.10 from 10.0.x.1 to client 1: 300 bytes.
-abbrev pub offer : ℕ → SentFrame
-offer x = record {
+-- The frame with a reply of this type that gives client 1 the address 10.0.x.10 from 10.0.x.1: 300 bytes.
+abbrev pub reply : ℕ → ℕ → SentFrame
+reply kind x = record {
   dest = Unicast (2 ∷ 0 ∷ 0 ∷ 0 ∷ 0 ∷ 1 ∷ []) (ipv4 10 0 x 10);
   bytes =
       (2 ∷ 1 ∷ 6 ∷ 0 ∷ 0 ∷ 0 ∷ 0 ∷ 1 ∷ []) ++ (replicate 8 0 ++ ((10 ∷ 0 ∷ x ∷ 10 ∷ 0 ∷ 0 ∷ 0 ∷ 0 ∷ 10 ∷ 0 ∷ x ∷ 1 ∷ []) ++ ((2 ∷ 0 ∷ 0 ∷ 0 ∷ 0 ∷ 1 ∷ []) ++ (replicate 202 0
       ++ ((99 ∷ 130 ∷ 83 ∷ 99 ∷ []) ++ (
-      (53 ∷ 1 ∷ 2 ∷ []) ++ ((54 ∷ 4 ∷ 10 ∷ 0 ∷ x ∷ 1 ∷ []) ++ ((51 ∷ 4 ∷ 0 ∷ 0 ∷ 2 ∷ 88 ∷ []) ++ ((58 ∷ 4 ∷ 0 ∷ 0 ∷ 1 ∷ 44 ∷ []) ++ ((59 ∷ 4 ∷ 0 ∷ 0 ∷ 2 ∷ 13 ∷ [])
+      (53 ∷ 1 ∷ kind ∷ []) ++ ((54 ∷ 4 ∷ 10 ∷ 0 ∷ x ∷ 1 ∷ []) ++ ((51 ∷ 4 ∷ 0 ∷ 0 ∷ 2 ∷ 88 ∷ []) ++ ((58 ∷ 4 ∷ 0 ∷ 0 ∷ 1 ∷ 44 ∷ []) ++ ((59 ∷ 4 ∷ 0 ∷ 0 ∷ 2 ∷ 13 ∷ [])
       ++ ((1 ∷ 4 ∷ 255 ∷ 255 ∷ 255 ∷ 0 ∷ []) ++ ((3 ∷ 4 ∷ 10 ∷ 0 ∷ x ∷ 1 ∷ []) ++ ((6 ∷ 4 ∷ 10 ∷ 255 ∷ 0 ∷ 53 ∷ []) ++ (255 ∷ [] ++ replicate 14 0))))))))))))));
 }
+
+-- its DHCPOFFER (2) and its DHCPACK (5)
+abbrev pub offer : ℕ → SentFrame
+offer x = reply 2 x
+
+abbrev pub ack : ℕ → SentFrame
+ack x = reply 5 x
+
+-- client 1's DHCPREQUEST (3) of 10.0.0.10 from 10.0.0.1, from circuit `a`
+abbrev pub request_up : List ℕ
+request_up = relayed_message 3 (97 ∷ []) 0 1 (54 ∷ 4 ∷ 10 ∷ 0 ∷ 0 ∷ 1 ∷ 50 ∷ 4 ∷ 10 ∷ 0 ∷ 0 ∷ 10 ∷ [])
 
 -- client n's key: Ethernet and its address
 abbrev pub client : ℕ → List ℕ
@@ -114,6 +125,32 @@ lease_until moment = record { address = 167772170; until = moment }
 abbrev pub datagram : List ℕ → Datagram
 datagram bytes = record { proto = V4; bytes = bytes }
 
--- one datagram towards the server, and a book of offers
+-- the book of a new region
+abbrev pub no_leases : Book
+no_leases = offers_at 0 empty
+
+-- a circuit with a new region, where nothing was sent
+abbrev pub begun : Alone
+begun = start (Some no_leases)
+
+-- one datagram towards the server, a book of offers, and nothing saved so far
 abbrev pub with_up : List ℕ → ℕ → Clients → Alone
-with_up bytes clock offers = record { up = datagram bytes ∷ []; down = []; book = offers_at clock offers }
+with_up bytes clock offers = record {
+  up = datagram bytes ∷ [];
+  down = [];
+  book = Some (offers_at clock offers);
+  kept = Some no_leases;
+  doubt = None;
+}
+
+-- client 1 asks at 100 for what it is offered until 160
+abbrev pub asked : Alone
+asked = with_up request_up 100 (one_offer (client 1) (lease_until 160))
+
+-- client 1 got 10.0.0.10 at 110, for ten minutes, and no offer is left
+abbrev pub leased : Book
+leased = record { clock = 110; four = record { bindings = one_offer (client 1) (lease_until 710); offers = empty; bars = empty } }
+
+-- the same client asks where a save of its lease failed
+abbrev pub closed : Alone
+closed = record asked { book = None; doubt = Some leased }

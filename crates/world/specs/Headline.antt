@@ -2,6 +2,7 @@
 -- what a step and a run of the world do, and which frames leave towards a circuit.
 use Rattle.std.specs.Prelude.{◌≡◌, ℕ, ◌+◌, ◌<◌, ◌≤◌, List, [], ◌∷◌, ◌++◌, length, take, slice_get, Option, Some, None, true, ◌==◌, if◌then◌else◌}
 use Rattle.std.specs.List.{filter_map}
+use Rattle.dispatch.specs.Leases.{Leases}
 use Rattle.dispatch.specs.Server.{Book}
 use Rattle.lossy_net.specs.Net.{Datagram}
 use Rattle.relay.specs.SentFrame.{SentFrame}
@@ -10,27 +11,35 @@ use Rattle.world.specs.declared.event.Event.{Event}
 use Rattle.world.specs.declared.event.Event.TheVariants as event
 use Rattle.world.specs.declared.outcome.Outcome.{Outcome}
 use Rattle.world.specs.declared.outcome.Outcome.TheVariants as outcome
-use Rattle.world.specs.Alone.{Setup, Alone, Effect, Dropped, Gone, SentUp, SentDown, Framed, Done, alone_step, after_all, frames}
-use Rattle.world.specs.Seen.{Seen, seen_of, seen_by, named_by}
+use Rattle.world.specs.Alone.{Setup, Alone, Effect, Dropped, Gone, SentUp, SentDown, Framed, Done, alone_step, after_all, found, frames}
+use Rattle.world.specs.Seen.{Seen, seen_of, seen_by, named_by, is_restart}
 use Rattle.world.specs.Stray.{is_stray}
 
 -- All that the world has of one circuit: its part of the configuration and the quota, what the network
--- keeps of it, how many of its frames the relay discarded, and its server's book.
+-- keeps of it, how many of its frames the relay discarded, and what its server and its region hold.
 pub record CircuitState : Type 0 where
   pub setup : Setup
   pub up : List Datagram
   pub down : List Datagram
   pub discarded : ℕ
-  pub book : Book
+  pub leases : Leases
+
+-- A circuit's state shows this machine, set up like this.
+pub record Shows (state : CircuitState) (setup : Setup) (a : Alone) : Type 0 where
+  pub setup_is : state.setup ≡ setup
+  pub up : state.up ≡ a.up
+  pub down : state.down ≡ a.down
+  pub book : state.leases.book ≡ a.book
+  -- whatever each unsynced byte becomes, a restart finds in the region what the machine finds
+  pub restarts : (byte : ℕ) → state.leases.restarts byte ≡ found byte a
+  -- an open circuit has no book in doubt
+  pub sure : (b : Book) → a.book ≡ Some b → a.doubt ≡ None
 
 -- The state of circuit c represents this machine, set up like this.
 pub record Represents (c : ℕ) (states : List CircuitState) (setup : Setup) (a : Alone) : Type 0 where
   pub state : CircuitState
   pub there : slice_get states c ≡ Some state
-  pub setup_is : state.setup ≡ setup
-  pub up : state.up ≡ a.up
-  pub down : state.down ≡ a.down
-  pub book : state.book ≡ a.book
+  pub shows : Shows state setup a
 
 -- the frames of circuit c among all that left, in order
 abbrev pub towards : ℕ → CircuitFrame → Option SentFrame
@@ -76,10 +85,14 @@ pub record Steps (e : Event) (old new : List CircuitState) (o : Outcome) (out : 
   pub answers : (c : ℕ) (setup : Setup) (a : Alone) → Represents c old setup a → Answers c setup (seen_of c e) a o out
   -- what a circuit doesn't see leaves its state as it was
   pub others : (c : ℕ) → seen_of c e ≡ None → slice_get new c ≡ slice_get old c
+  -- and no frame leaves towards it
+  pub away : (c : ℕ) → seen_of c e ≡ None → frames_to c (frame_of o out) ≡ []
   -- an event of a circuit that doesn't exist is gone, and nothing changes
   pub gone : (c : ℕ) → named_by e ≡ Some c → length old ≤ c → (o ≡ outcome.Gone) × (out ≡ []) × (new ≡ old)
   -- a tick is done
   pub ticked : (now : ℕ) → e ≡ event.Tick now → (o ≡ outcome.Done) × (out ≡ [])
+  -- and so is a restart, which names no circuit either
+  pub restarted : is_restart e ≡ true → (o ≡ outcome.Done) × (out ≡ [])
   -- a stray changes nothing, and nothing leaves with it
   pub stray : is_stray e ≡ true → (frame_of o out ≡ []) × (out ≡ []) × (new ≡ old)
 

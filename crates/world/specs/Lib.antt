@@ -1,9 +1,10 @@
 pub mod Alone
+pub mod Books
 pub mod Examples
 pub mod Headline
-pub mod Region
 pub mod Seen
 pub mod Start
 pub mod StepsAs
 pub mod Stray
 pub mod World
+pub mod Granted

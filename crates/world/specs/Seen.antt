@@ -1,7 +1,9 @@
 -- What one circuit sees of the events of a whole run.
-use Rattle.std.specs.Prelude.{ℕ, List, Option, Some, None, ◌==◌, if◌then◌else◌}
+use Rattle.std.specs.Prelude.{ℕ, Bool, true, false, List, Option, Some, None, ◌==◌, if◌then◌else◌, slice_index_or}
 use Rattle.std.specs.List.{filter_map}
 use Rattle.types.specs.declared.dest.Proto.{Proto}
+use Rattle.lease_disk.specs.declared.image.Image.{Image}
+use Rattle.lease_disk.specs.declared.image.Image.TheVariants.{Byte}
 use Rattle.world.specs.declared.event.Event.{Event}
 use Rattle.world.specs.declared.event.Event.TheVariants as event
 
@@ -15,13 +17,21 @@ pub data Seen : Type 0 where
   Down : ℕ → Seen
   -- the moment passes
   Tick : ℕ → Seen
+  -- the server restarts, with this image of the circuit's region
+  Restart : Image → Seen
 
--- what circuit c sees of an event: what names it, and every tick, but no stray
+-- Circuit c's image among those of a restart. A circuit past the end of the list has the byte 0.
+abbrev pub image_at : ℕ → List Image → Image
+image_at c images = slice_index_or images c (Byte 0)
+
+-- what circuit c sees of an event: what names it, every tick, and every restart with its own image, but
+-- no stray
 abbrev pub seen_of : ℕ → Event → Option Seen
 seen_of c (event.Frame circuit proto bytes) = if circuit == c then Some (Frame proto bytes.now) else None
 seen_of c (event.Up circuit j now fault) = if circuit == c then Some (Up j now fault) else None
 seen_of c (event.Down circuit j) = if circuit == c then Some (Down j) else None
 seen_of c (event.Tick now) = Some (Tick now)
+seen_of c (event.Restart images) = Some (Restart (image_at c images.now))
 seen_of c (event.StrayUp proto source bytes now) = None
 seen_of c (event.StrayDown relay source bytes) = None
 
@@ -35,5 +45,15 @@ named_by (event.Frame circuit proto bytes) = Some circuit
 named_by (event.Up circuit j now fault) = Some circuit
 named_by (event.Down circuit j) = Some circuit
 named_by (event.Tick now) = None
+named_by (event.Restart images) = None
 named_by (event.StrayUp proto source bytes now) = None
 named_by (event.StrayDown relay source bytes) = None
+
+abbrev pub is_restart : Event → Bool
+is_restart (event.Frame circuit proto bytes) = false
+is_restart (event.Up circuit j now fault) = false
+is_restart (event.Down circuit j) = false
+is_restart (event.Tick now) = false
+is_restart (event.Restart images) = true
+is_restart (event.StrayUp proto source bytes now) = false
+is_restart (event.StrayDown relay source bytes) = false

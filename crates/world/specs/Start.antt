@@ -1,11 +1,15 @@
 -- The states of a world that was just opened.
-use Rattle.std.specs.Prelude.{◌≡◌, ℕ, List, length, Some}
+use Rattle.std.specs.Prelude.{◌≡◌, ℕ, List, length, Some, true}
 use Rattle.config.specs.CircuitPart.{CircuitPart, part_in}
 use Rattle.config.specs.Rules.{Settings}
+use Rattle.dispatch.specs.Leases.{recovered_book}
+use Rattle.lease_disk.specs.Region.{Region}
 use Rattle.world.specs.Alone.{start}
 use Rattle.world.specs.Headline.{CircuitState, Represents}
 
--- Every circuit's state represents its machine at the start.
-pub record Starts (settings : Settings) (quota : ℕ) (states : List CircuitState) : Type 0 where
+-- Every circuit's state represents its machine at the start, with the book that the circuit's region
+-- holds. Nothing is said of a circuit whose region cannot be read, which is closed.
+pub record Starts (settings : Settings) (quota : ℕ) (regions : ℕ → Region) (states : List CircuitState) : Type 0 where
   pub count : length states ≡ length settings.circuits
-  pub each : (c : ℕ) (part : CircuitPart) → part_in settings c ≡ Some part → Represents c states (record { part = part; quota = quota }) start
+  pub each : (c : ℕ) (part : CircuitPart) → part_in settings c ≡ Some part → (regions part.region).readable ≡ true
+      → Represents c states (record { part = part; quota = quota }) (start (recovered_book part (regions part.region).byte))

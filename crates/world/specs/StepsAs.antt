@@ -1,28 +1,28 @@
 -- What a world keeps from step to step. Only proofs need these.
-use Rattle.std.specs.Prelude.{◌≡◌, ℕ, ◌==◌, true, false, List, [], ◌∷◌, length, slice_get, Some, Ok}
+use Rattle.std.specs.Prelude.{◌≡◌, ℕ, ◌≤◌, ◌==◌, true, false, List, [], ◌∷◌, length, slice_get, Some, Ok}
 use Rattle.std.specs.List.{list_any}
 use Rattle.types.specs.Addr.{same_source}
 use Rattle.config.specs.CircuitPart.{CircuitPart, IsPart}
 use Rattle.dispatch.specs.Addressee.{addressee}
-use Rattle.dispatch.specs.ServerValue.{parts_in}
+use Rattle.dispatch.specs.Leases.{HasRegions}
+use Rattle.dispatch.specs.ServerValue.{AreReady, RegionsDiffer, parts_in}
+use Rattle.lease_disk.specs.Model as disk
 use Rattle.lossy_net.specs.Net.{Datagram, datagrams}
 use Rattle.lossy_net.specs.declared.dir.Dir.TheVariants.{Up, Down}
 use Rattle.relay.specs.Relays.{Topology, for_circuit, relayed_down, relayed_down_in}
-use Rattle.world.specs.Alone.{Alone, alone_step}
-use Rattle.world.specs.Headline.{CircuitState, IsOutcome}
+use Rattle.world.specs.Alone.{Alone, Effect, Setup, alone_step}
+use Rattle.world.specs.Headline.{CircuitState, IsOutcome, Shows}
 use Rattle.world.specs.Seen.{Seen}
 use Rattle.world.specs.World.{WorldValue}
 use Rattle.world.specs.declared.outcome.Outcome.{Outcome}
 
--- the machine that a state represents
-abbrev pub machine_of : CircuitState → Alone
-machine_of state = record { up = state.up; down = state.down; book = state.book }
-
--- What circuit c sees moves its state by the step of its machine, and the outcome is the machine's.
+-- What circuit c sees moves its state by the step of each machine that the state shows, and the outcome is
+-- the machine's.
 pub record StepsAs (c : ℕ) (s : Seen) (old new : CircuitState) (o : Outcome) (out : List ℕ) : Type 0 where
-  pub setup : new.setup ≡ old.setup
-  pub next : machine_of new ≡ (alone_step old.setup s (machine_of old)).next
-  pub outcome : IsOutcome c (alone_step old.setup s (machine_of old)).effect o out
+  pub effect : Effect
+  pub outcome : IsOutcome c effect o out
+  pub effect_is : (setup : Setup) (a : Alone) → Shows old setup a → (alone_step setup s a).effect ≡ effect
+  pub next : (setup : Setup) (a : Alone) → Shows old setup a → Shows new setup (alone_step setup s a).next
 
 -- Circuit k's state moves so, and every other one stays.
 pub record Moves (k : ℕ) (s : Seen) (old new : List CircuitState) (o : Outcome) (out : List ℕ) : Type 0 where
@@ -34,10 +34,10 @@ pub record Moves (k : ℕ) (s : Seen) (old new : List CircuitState) (o : Outcome
   pub steps : StepsAs k s before after o out
   pub others : (c : ℕ) → (k == c) ≡ false → slice_get new c ≡ slice_get old c
 
--- Every state moves so.
-pub record AllMove (s : Seen) (old new : List CircuitState) (o : Outcome) (out : List ℕ) : Type 0 where
+-- Every state moves so, by what its circuit sees.
+pub record AllMove (s : ℕ → Seen) (old new : List CircuitState) (o : Outcome) (out : List ℕ) : Type 0 where
   pub count : length new ≡ length old
-  pub each : (c : ℕ) (before : CircuitState) → slice_get old c ≡ Some before → (after : CircuitState) × (slice_get new c ≡ Some after) × StepsAs c s before after o out
+  pub each : (c : ℕ) (before : CircuitState) → slice_get old c ≡ Some before → (after : CircuitState) × (slice_get new c ≡ Some after) × StepsAs c (s c) before after o out
 
 -- each of the datagrams
 abbrev pub Each : (Datagram → Type 0) → List Datagram → Type 0
@@ -58,6 +58,7 @@ pub record IsWorldOf (t : Topology) (w : WorldValue) : Type 0 where
   pub parts : parts_in w.server ≡ t.circuits
   pub sources : w.server.relays ≡ t.relays
   pub count : length w.net.circuits ≡ length t.circuits
+  pub few : length t.circuits ≤ 1024
   pub each : (c : ℕ) (part : CircuitPart) → slice_get t.circuits c ≡ Some part → IsPart part
   pub listen4 : (c : ℕ) (part : CircuitPart) → slice_get t.circuits c ≡ Some part → part.listen4 ≡ t.listen4
   pub known : (c : ℕ) (part : CircuitPart) → slice_get t.circuits c ≡ Some part → list_any (same_source part.relay) t.relays ≡ true
@@ -65,6 +66,10 @@ pub record IsWorldOf (t : Topology) (w : WorldValue) : Type 0 where
   pub behind : (c : ℕ) (part : CircuitPart) → slice_get t.circuits c ≡ Some part → (relay : ℕ) × (slice_get w.behind c ≡ Some relay) × (slice_get t.relays relay ≡ Some part.relay)
   -- no two circuits have one id
   pub ids : (c : ℕ) (part : CircuitPart) → slice_get t.circuits c ≡ Some part → (d : ℕ) (other : CircuitPart) → slice_get t.circuits d ≡ Some other → other.id ≡ part.id → d ≡ c
+  -- each circuit has a region of its own, which an open circuit can save to
+  pub regions : HasRegions t.circuits (length w.disk.regions)
+  pub differ : RegionsDiffer t.circuits
+  pub ready : AreReady (disk.state_of w.disk) w.server
   pub addressed : (c : ℕ) (part : CircuitPart) → slice_get t.circuits c ≡ Some part → Each (IsFor t c part) (datagrams w.net c Up)
   pub returned : (c : ℕ) (part : CircuitPart) → slice_get t.circuits c ≡ Some part → Each (Returns t c part) (datagrams w.net c Down)
 

@@ -14,6 +14,7 @@ is_stray (event.Frame circuit proto bytes) = false
 is_stray (event.Up circuit j now fault) = false
 is_stray (event.Down circuit j) = false
 is_stray (event.Tick now) = false
+is_stray (event.Restart images) = false
 is_stray (event.StrayUp proto source bytes now) = true
 is_stray (event.StrayDown relay source bytes) = true
 
@@ -30,5 +31,6 @@ stray_outcome t (event.Frame circuit proto bytes) = None
 stray_outcome t (event.Up circuit j now fault) = None
 stray_outcome t (event.Down circuit j) = None
 stray_outcome t (event.Tick now) = None
+stray_outcome t (event.Restart images) = None
 stray_outcome t (event.StrayUp proto source bytes now) = Some (stray_up_outcome t source)
 stray_outcome t (event.StrayDown relay source bytes) = Some (stray_down_outcome t relay source)

@@ -1,8 +1,10 @@
 -- What shows of a world: a state for each circuit.
 use Rattle.std.specs.Prelude.{ℕ, suc, List, [], ◌∷◌, slice_index}
 use Rattle.config.specs.CircuitPart.{CircuitPart}
-use Rattle.dispatch.specs.Server.{Book}
-use Rattle.dispatch.specs.ServerValue.{ServerValue, books_in, parts_in}
+use Rattle.dispatch.specs.Leases.{Leases}
+use Rattle.dispatch.specs.ServerValue.{ServerValue, leases_in, parts_in}
+use Rattle.lease_disk.specs.Model.{ModelDiskValue}
+use Rattle.lease_disk.specs.Model as disk
 use Rattle.lossy_net.specs.Net.{NetValue, datagrams}
 use Rattle.lossy_net.specs.declared.dir.Dir.TheVariants.{Up, Down}
 use Rattle.relay.specs.Relays.{RelaysValue}
@@ -14,24 +16,23 @@ pub record WorldValue : Type 0 where
   pub behind : List ℕ
   pub net : NetValue
   pub server : ServerValue
-  -- the bytes of the disk's regions, which nothing writes
-  pub disk : List (List ℕ)
+  pub disk : ModelDiskValue
 
--- circuit c's state, with its part of the configuration and its book
-abbrev pub state_of : WorldValue → ℕ → CircuitPart → Book → CircuitState
-state_of w c part book = record {
+-- circuit c's state, with its part of the configuration and its leases
+abbrev pub state_of : WorldValue → ℕ → CircuitPart → Leases → CircuitState
+state_of w c part leases = record {
   setup = record { part = part; quota = w.net.quota };
   up = datagrams w.net c Up;
   down = datagrams w.net c Down;
   discarded = slice_index w.relays.discarded c;
-  book = book;
+  leases = leases;
 }
 
--- a state for each part and book, in order
-abbrev pub each_state : (ℕ → CircuitPart → Book → CircuitState) → List CircuitPart → List Book → List CircuitState
-each_state state (part ∷ parts) (book ∷ books) = state 0 part book ∷ each_state (λ c. state (suc c)) parts books
+-- a state for each part and leases, in order
+abbrev pub each_state : (ℕ → CircuitPart → Leases → CircuitState) → List CircuitPart → List Leases → List CircuitState
+each_state state (part ∷ parts) (leases ∷ all) = state 0 part leases ∷ each_state (λ c. state (suc c)) parts all
 each_state state (part ∷ parts) [] = []
-each_state state [] books = []
+each_state state [] all = []
 
 abbrev pub states : WorldValue → List CircuitState
-states w = each_state (state_of w) (parts_in w.server) (books_in w.server)
+states w = each_state (state_of w) (parts_in w.server) (leases_in (disk.state_of w.disk) w.server)

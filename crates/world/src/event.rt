@@ -1,4 +1,5 @@
 //! What happens to a world.
+use lease_disk::Image;
 use types::{Circuit, Moment, Proto, RelayNo, Source};
 
 /// One thing that happens, taken whole before the next. It lends its bytes.
@@ -8,12 +9,15 @@ pub enum Event<'a> {
     Frame(Circuit, Proto, &'a [u8]),
     /// The datagram towards the server with this number, 0 the newest of the circuit, is delivered
     /// at this moment. The last number says which call of the disk fails in this step's save, 1 the
-    /// first and 0 none; without a save it has no effect.
+    /// first and 6 the last, any other number none; without a save it has no effect.
     Up(Circuit, u16, Moment, u8),
     /// The datagram towards the relay with this number, 0 the newest of the circuit, is delivered.
     Down(Circuit, u16),
     /// The moment passes for all circuits.
     Tick(Moment),
+    /// The server and the disk stop and start again. Each circuit's region is then as its image says; a
+    /// circuit past the end of the list has `Image::Byte(0)`.
+    Restart(&'a [Image]),
     /// A datagram that no relay of the configuration sent reaches the server at this moment.
     StrayUp(Proto, Source, &'a [u8], Moment),
     /// A datagram that the server did not send reaches a relay.

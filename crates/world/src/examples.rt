@@ -6,9 +6,11 @@ ghost use Rattle.types.specs.declared.dest.Proto.TheVariants.{V4};
 ghost use Rattle.types.specs.declared.discard.Discard.TheVariants as reason;
 ghost use Rattle.dispatch.specs.Addressee.{addressee};
 ghost use Rattle.relay.specs.Relays.{relayed_up};
-ghost use Rattle.world.specs.Alone.{start, alone_step, after_all, frames, Dropped, Gone, SentUp, SentDown};
-ghost use Rattle.world.specs.Examples.{part_a, part_a1, setup_a, setup_a1, at_port, client_message, discover, discover_up, relayed_message, relayed_discover, offer, client, offers_at, one_offer, lease_until, datagram, with_up};
-ghost use Rattle.world.specs.Seen.{Frame, Up, Down, Tick};
+ghost use Rattle.lease_disk.specs.declared.image.Image.TheVariants.{Byte, Unreadable};
+ghost use Rattle.world.specs.Alone.{alone_step, after_all, frames, Dropped, Gone, SentUp, SentDown};
+ghost use Rattle.world.specs.Examples.{part_a, part_a1, setup_a, setup_a1, at_port, client_message, discover, discover_up, relayed_message, relayed_discover, offer, client, offers_at, one_offer, lease_until, datagram, with_up, begun, no_leases, asked, leased, closed, ack};
+ghost use Rattle.world.specs.Granted.{Granted, lines};
+ghost use Rattle.world.specs.Seen.{Frame, Up, Down, Tick, Restart};
 
 /// What the relay sends up of a frame, and which frames it drops.
 pub fn frames_go_up()
@@ -38,8 +40,8 @@ pub fn datagrams_have_circuits()
 /// A client's DHCPDISCOVER and the frame with its offer, byte for byte. The same frame on another
 /// circuit is offered that circuit's address.
 pub fn an_offer_comes_back()
-    ensures one { frames setup_a (Frame V4 (discover 1 []) ∷ Up 0 100 0 ∷ Down 0 ∷ []) start ≡ offer 0 ∷ [] }
-    ensures other { frames setup_a1 (Frame V4 (discover 1 []) ∷ Up 0 100 0 ∷ Down 0 ∷ []) start ≡ offer 1 ∷ [] }
+    ensures one { frames setup_a (Frame V4 (discover 1 []) ∷ Up 0 100 0 ∷ Down 0 ∷ []) begun ≡ offer 0 ∷ [] }
+    ensures other { frames setup_a1 (Frame V4 (discover 1 []) ∷ Up 0 100 0 ∷ Down 0 ∷ []) begun ≡ offer 1 ∷ [] }
 {}
 
 /// An offer holds its address for 60 seconds and not longer.
@@ -50,7 +52,7 @@ pub fn offers_expire()
 
 /// A moment before the clock leaves the clock, and an offer is counted from there.
 pub fn clocks_never_go_back()
-    ensures { (alone_step setup_a (Up 0 50 0) (with_up (discover_up 1 []) 100 empty)).next.book ≡ offers_at 100 (one_offer (client 1) (lease_until 160)) }
+    ensures { (alone_step setup_a (Up 0 50 0) (with_up (discover_up 1 []) 100 empty)).next.book ≡ Some (offers_at 100 (one_offer (client 1) (lease_until 160))) }
 {}
 
 /// Client identifiers of 2 to 64 bytes are served.
@@ -63,7 +65,44 @@ pub fn keys_have_limits()
 
 /// The network keeps the newest datagrams of a direction, and no more than its quota.
 pub fn the_network_keeps_the_newest()
-    ensures none { (alone_step setup_a (Up 0 100 0) start).effect ≡ Gone }
-    ensures last { (after_all (record setup_a { quota = 1 }) (Frame V4 (discover 1 []) ∷ Frame V4 (discover 2 []) ∷ []) start).up ≡ datagram (discover_up 2 []) ∷ [] }
+    ensures none { (alone_step setup_a (Up 0 100 0) begun).effect ≡ Gone }
+    ensures last { (after_all (record setup_a { quota = 1 }) (Frame V4 (discover 1 []) ∷ Frame V4 (discover 2 []) ∷ []) begun).up ≡ datagram (discover_up 2 []) ∷ [] }
     ensures lost { (alone_step setup_a (Up 1 100 0) (with_up (discover_up 2 []) 0 empty)).effect ≡ Gone }
+{}
+
+/// A DHCPREQUEST that the server answers: the DHCPACK's frame, byte for byte, and what is saved before
+/// it leaves.
+pub fn a_lease_is_kept()
+    ensures ack { frames setup_a (Up 0 110 0 ∷ Down 0 ∷ []) asked ≡ ack 0 ∷ [] }
+    ensures kept { (alone_step setup_a (Up 0 110 0) asked).next.kept ≡ Some leased }
+    ensures sure { (alone_step setup_a (Up 0 110 0) asked).next.doubt ≡ None }
+{}
+
+/// Where the last call of the save fails, the circuit closes and sends nothing. A restart then finds
+/// the lease where the gate's byte became 0xA5, and what was saved before where it became 0.
+pub fn a_lease_is_in_doubt()
+    ensures dropped { (alone_step setup_a (Up 0 110 6) asked).effect ≡ Dropped reason.DiskFault }
+    ensures closed { (alone_step setup_a (Up 0 110 6) asked).next ≡ closed }
+    ensures found { (after_all setup_a (Up 0 110 6 ∷ Restart (Byte 0xa5) ∷ []) asked).book ≡ Some leased }
+    ensures lost { (after_all setup_a (Up 0 110 6 ∷ Restart (Byte 0) ∷ []) asked).book ≡ Some no_leases }
+{}
+
+/// A closed circuit answers nothing, whatever moment passes.
+pub fn a_closed_circuit_is_silent()
+    ensures dropped { (alone_step setup_a (Up 0 110 0) closed).effect ≡ Dropped reason.CircuitClosed }
+    ensures same { (alone_step setup_a (Up 0 110 0) closed).next ≡ closed }
+    ensures tick { (alone_step setup_a (Tick 200) closed).next ≡ closed }
+{}
+
+/// A region that cannot be read closes its circuit, and loses nothing of what was saved or in doubt.
+pub fn an_unreadable_region_closes()
+    ensures open { (alone_step setup_a (Restart Unreadable) begun).next.book ≡ None }
+    ensures kept { (after_all setup_a (Restart Unreadable ∷ Restart (Byte 0) ∷ []) begun).book ≡ Some no_leases }
+    ensures doubt { (alone_step setup_a (Restart Unreadable) closed).next ≡ closed }
+    ensures found { (after_all setup_a (Restart Unreadable ∷ Restart (Byte 0xa5) ∷ []) closed).book ≡ Some leased }
+{}
+
+/// What the DHCPACK of a lease grants.
+pub fn a_lease_is_granted()
+    ensures { lines setup_a (Up 0 110 0) asked ≡ Granted (record { client = client 1; address = 167772170; until = 710; clock = 110 }) ∷ [] }
 {}

@@ -6,8 +6,10 @@ mod addressed;
 mod books;
 mod event;
 pub mod examples;
+#[cfg(test)]
+mod lease_tests;
+mod leases;
 mod machine;
-mod model_disk;
 mod outcome;
 mod sink;
 #[cfg(test)]
@@ -17,10 +19,11 @@ mod world;
 
 pub use addressed::{comes_to_its_circuit, reply_comes_to_its_circuit};
 pub use books::leaves_a_book;
+pub use dispatch::OpenFault;
 pub use event::Event;
+pub use leases::{forgets_no_lease, leases_no_address_twice};
 pub use machine::{Machine, run};
-pub use model_disk::{ModelDisk, REGION};
 pub use outcome::Outcome;
 pub use sink::Sink;
 pub use two_runs::{isolation, isolation_of_configurations};
-pub use world::{OpenFault, World};
+pub use world::World;

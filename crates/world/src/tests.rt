@@ -1,23 +1,48 @@
 //! A world of one circuit, on values worked out by hand.
-ghost use Rattle.std.specs.Prelude.{◌≡◌, ◌≤◌, [], ◌∷◌, ◌++◌, true, false};
+ghost use Rattle.std.specs.Prelude.{◌≡◌, ◌≤◌, ℕ, [], ◌∷◌, ◌++◌, true, false, length, IfOk};
+ghost use Rattle.lease_disk.specs.Model.{state_of};
+ghost use Rattle.lease_disk.specs.Region.{IsClean};
 
 use super::*;
 use config::{Config, ConfigFault};
 use fixtures::{ONE_CIRCUIT, client_frame, one_circuit_with};
+use lease_disk::{Disk, ModelDisk};
 use std::alloc::{AllocError, Global};
 use std::process::Abort;
 use types::{Addr4, Circuit, Count, Dest, Discard, Kind4, Moment, Proto, RelayNo, Source};
 use wire::PacketBuf;
 
+/// A disk of so many new regions.
+pub fn new_disk(alloc: Global, regions: u16) -> Result<ModelDisk, AllocError>
+    ensures count { IfOk result (λ disk. length disk.regions ≡ regions) }
+    ensures clean { IfOk result (λ disk. (q : ℕ) → (state_of disk q).readable ≡ true → IsClean (state_of disk q)) }
+{
+    ModelDisk::new(alloc, regions)
+}
+
+/// A world over a disk on which nothing is in doubt.
+pub fn open_over(
+    alloc: Global,
+    config: &Config,
+    disk: ModelDisk,
+    quota: u16,
+) -> Result<World, OpenFault>
+    requires least { 1 ≤ quota }
+    requires most { quota ≤ 256 }
+    requires clean { (q : ℕ) → (state_of disk q).readable ≡ true → IsClean (state_of disk q) }
+{
+    World::open(alloc, config, disk, quota)
+}
+
 /// A world of one circuit with a pool of two addresses, 10.0.0.10 and 10.0.0.11.
-fn opened(rt: &impl Abort, alloc: Global, quota: u16) -> World
+pub fn opened(rt: &impl Abort, alloc: Global, quota: u16) -> World
     requires least { 1 ≤ quota }
     requires most { quota ≤ 256 }
 {
     let text = one_circuit_with(alloc, "count4 = 2").expect(rt, "a text");
     let config = Config::read(alloc, text.as_str()).expect(rt, "a configuration");
-    let disk = ModelDisk::new(alloc, 1).expect(rt, "a disk");
-    World::open(alloc, &config, disk, quota).expect(rt, "a world")
+    let disk = new_disk(alloc, 1).expect(rt, "a disk");
+    open_over(alloc, &config, disk, quota).expect(rt, "a world")
 }
 
 /// A client's DHCPDISCOVER.
@@ -25,32 +50,50 @@ fn discover(client: u8) -> PacketBuf {
     client_frame(Kind4::Discover, client, &[])
 }
 
-fn only() -> Circuit {
+pub fn only() -> Circuit {
     Circuit::new(0).unwrap()
 }
 
-fn moment(seconds: u32) -> Moment {
+pub fn moment(seconds: u32) -> Moment {
     Moment::new(u64::from(seconds)).unwrap()
 }
 
-/// An event that needs no bytes, where a frame that leaves is not looked at.
-fn step(world: &mut World, event: &Event<'_>) -> Outcome {
-    world.step(event, &mut PacketBuf::new())
+/// What comes of the last of these events. Its frame is in `out`.
+pub fn take(world: &mut World, events: &[Event<'_>], out: &mut PacketBuf) -> Outcome {
+    let mut outcome = Outcome::Done;
+    for event in events {
+        outcome = world.step(event, out);
+    }
+    outcome
+}
+
+/// The same, where a frame that leaves is not looked at.
+pub fn step(world: &mut World, events: &[Event<'_>]) -> Outcome {
+    take(world, events, &mut PacketBuf::new())
 }
 
 /// A client's DHCPDISCOVER at the relay.
-fn send(world: &mut World, client: u8) -> Outcome {
+pub fn send(world: &mut World, client: u8) -> Outcome {
     let frame = discover(client);
-    step(world, &Event::Frame(only(), Proto::V4, frame.as_slice()))
+    step(world, &[Event::Frame(only(), Proto::V4, frame.as_slice())])
 }
 
 /// The datagram with this number at the server.
-fn up(world: &mut World, number: u16, seconds: u32) -> Outcome {
-    step(world, &Event::Up(only(), number, moment(seconds), 0))
+pub fn up(world: &mut World, number: u16, seconds: u32) -> Outcome {
+    step(world, &[Event::Up(only(), number, moment(seconds), 0)])
+}
+
+/// The datagram with this number at the relay.
+pub fn down(world: &mut World, number: u16) -> Outcome {
+    step(world, &[Event::Down(only(), number)])
+}
+
+pub fn tick(world: &mut World, seconds: u32) -> Outcome {
+    step(world, &[Event::Tick(moment(seconds))])
 }
 
 /// A frame of an offer of 10.0.0.x to client n.
-fn offered(client: u8, last: u8) -> Outcome {
+pub fn offered(client: u8, last: u8) -> Outcome {
     let dest = Dest::Unicast([2, 0, 0, 0, 0, client], Addr4([10, 0, 0, last]));
     Outcome::Framed(only(), dest)
 }
@@ -76,7 +119,7 @@ fn a_discover_is_answered_by_an_offer(rt: HostRuntime) {
     assert_eq!(rt; up(&mut world, 0, 100), Outcome::SentDown(300));
     let mut out = PacketBuf::new();
     assert_eq!(rt;
-        world.step(&Event::Down(only(), 0), &mut out),
+        take(&mut world, &[Event::Down(only(), 0)], &mut out),
         offered(1, 10)
     );
     assert_eq!(rt; out.as_slice(), offer().as_slice());
@@ -87,7 +130,7 @@ fn a_step_leaves_the_disk(rt: HostRuntime) {
     let mut world = opened(&rt, rt.alloc(), 16);
     assert_eq!(rt; send(&mut world, 1), Outcome::SentUp(255));
     // so far nothing is saved, so no call of the disk can fail
-    let event = Event::Up(only(), 0, moment(100), 6);
+    let event = [Event::Up(only(), 0, moment(100), 6)];
     assert_eq!(rt; step(&mut world, &event), Outcome::SentDown(300));
     let disk = world.disk();
     assert_eq!(rt; disk.regions(), 1);
@@ -105,10 +148,10 @@ fn a_clock_never_goes_back(rt: HostRuntime) {
         assert_eq!(rt; send(&mut world, client), Outcome::SentUp(255));
     }
     let no_address = Outcome::Dropped(Discard::NoAddress);
-    assert_eq!(rt; step(&mut world, &Event::Tick(moment(200))), Outcome::Done);
+    assert_eq!(rt; tick(&mut world, 200), Outcome::Done);
     assert_eq!(rt; up(&mut world, 2, 100), Outcome::SentDown(300));
     assert_eq!(rt; up(&mut world, 1, 201), Outcome::SentDown(300));
-    assert_eq!(rt; step(&mut world, &Event::Tick(moment(120))), Outcome::Done);
+    assert_eq!(rt; tick(&mut world, 120), Outcome::Done);
     assert_eq!(rt; up(&mut world, 0, 259), no_address);
     assert_eq!(rt; up(&mut world, 0, 260), Outcome::SentDown(300));
 }
@@ -139,11 +182,11 @@ fn at_port(port: u16) -> Source {
     Source { addr, port }
 }
 
-/// An event after which the output buffer is empty.
-fn quiet_step(rt: &impl Abort, world: &mut World, event: &Event<'_>) -> Outcome {
+/// Events after which the output buffer is empty.
+fn quiet_step(rt: &impl Abort, world: &mut World, events: &[Event<'_>]) -> Outcome {
     let mut out = PacketBuf::new();
     let _ = out.push(7);
-    let outcome = world.step(event, &mut out);
+    let outcome = take(world, events, &mut out);
     assert!(rt; out.is_empty());
     outcome
 }
@@ -156,21 +199,21 @@ fn strays_change_nothing(rt: HostRuntime) {
     let bytes = frame.as_slice();
     let last = moment(u32::MAX);
     for (port, known) in [(9999, false), (6767, false), (6801, true)] {
-        let event = Event::StrayUp(Proto::V4, at_port(port), bytes, last);
+        let event = [Event::StrayUp(Proto::V4, at_port(port), bytes, last)];
         let outcome = quiet_step(&rt, &mut world, &event);
         assert_eq!(rt; outcome == Outcome::Dropped(Discard::UnknownSource), !known);
         assert_eq!(rt; outcome == Outcome::NotAStray, known);
     }
     for (port, known) in [(9999, false), (6801, false), (6767, true), (6547, true)] {
-        let event = Event::StrayDown(RelayNo::new(0).unwrap(), at_port(port), bytes);
+        let event = [Event::StrayDown(RelayNo::new(0).unwrap(), at_port(port), bytes)];
         let outcome = quiet_step(&rt, &mut world, &event);
         assert_eq!(rt; outcome == Outcome::Dropped(Discard::NotServer), !known);
         assert_eq!(rt; outcome == Outcome::NotAStray, known);
     }
-    let event = Event::StrayDown(RelayNo::new(1).unwrap(), at_port(6767), bytes);
+    let event = [Event::StrayDown(RelayNo::new(1).unwrap(), at_port(6767), bytes)];
     assert_eq!(rt; quiet_step(&rt, &mut world, &event), Outcome::Gone);
     assert_eq!(rt; up(&mut world, 0, 100), Outcome::SentDown(300));
-    assert_eq!(rt; step(&mut world, &Event::Down(only(), 0)), offered(1, 10));
+    assert_eq!(rt; down(&mut world, 0), offered(1, 10));
 }
 
 #[test]
@@ -183,11 +226,11 @@ fn the_network_keeps_the_newest(rt: HostRuntime) {
     assert_eq!(rt; up(&mut world, 1, 100), Outcome::SentDown(300));
     assert_eq!(rt; up(&mut world, 0, 100), Outcome::SentDown(300));
     for (number, outcome) in [(0, offered(3, 11)), (1, offered(2, 10)), (2, Outcome::Gone)] {
-        assert_eq!(rt; step(&mut world, &Event::Down(only(), number)), outcome);
+        assert_eq!(rt; down(&mut world, number), outcome);
     }
     // a datagram can arrive again, and its reply takes the place of the oldest
     assert_eq!(rt; up(&mut world, 1, 100), Outcome::SentDown(300));
-    assert_eq!(rt; step(&mut world, &Event::Down(only(), 1)), offered(3, 11));
+    assert_eq!(rt; down(&mut world, 1), offered(3, 11));
 }
 
 /// To be run with each allocation refused in turn: the answer is right, or there was no memory.
@@ -200,10 +243,10 @@ fn opened_or_out_of_memory(rt: HostRuntime) {
             return;
         }
     };
-    let Ok(disk) = ModelDisk::new(rt.alloc(), 1) else {
+    let Ok(disk) = new_disk(rt.alloc(), 1) else {
         return;
     };
-    match World::open(rt.alloc(), &config, disk, 256) {
+    match open_over(rt.alloc(), &config, disk, 256) {
         Ok(mut world) => assert_eq!(rt; send(&mut world, 1), Outcome::SentUp(255)),
         Err(fault) => assert_eq!(rt; fault, OpenFault::Memory),
     }

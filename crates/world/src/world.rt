@@ -1,8 +1,14 @@
 //! A world: its relays, the network, the server and a disk.
-ghost use Rattle.std.specs.Prelude.{◌≡◌, ℕ, ◌+◌, ◌<◌, ◌≤◌, [], length, map, nat_lt, take, IfOk, IfErr, IfSome, OnOk};
+ghost use Rattle.std.specs.Prelude.{◌≡◌, ℕ, ◌+◌, ◌<◌, ◌≤◌, [], Some, length, map, nat_lt, slice_get, take, IfOk, IfErr, IfSome, OnOk};
+ghost use Rattle.config.specs.CircuitPart.{CircuitPart, parts_of};
+ghost use Rattle.dispatch.specs.Leases.{AreSynced, HasRegions};
+ghost use Rattle.dispatch.specs.ServerValue.{RegionsDiffer, parts_in};
+ghost use Rattle.dispatch.specs.declared.server.OpenFault.TheVariants as fault;
+ghost use Rattle.lease_disk.specs.Crash.{crashed};
+ghost use Rattle.lease_disk.specs.Model.{state_of};
 ghost use Rattle.relay.specs.Relays.{topology_of};
 ghost use Rattle.world.specs.Headline.{EmitsAt, Emits, Reaches, Steps, frame_of};
-ghost use Rattle.world.specs.Seen.{Frame, Up, Down, Tick};
+ghost use Rattle.world.specs.Seen.{Frame, Up, Down, Tick, Restart, image_at};
 ghost use Rattle.world.specs.declared.outcome.Outcome.TheVariants as outcome;
 ghost use Rattle.world.specs.Start.{Starts};
 ghost use Rattle.world.specs.Stray.{stray_outcome, stray_down_outcome, stray_up_outcome};
@@ -13,26 +19,17 @@ ghost use Rattle.wire.specs.Bytes.{AreBytes};
 use crate::addressed::{comes_to_its_circuit, reply_comes_to_its_circuit};
 use crate::event::Event;
 use crate::machine::{Machine, run};
-use crate::model_disk::ModelDisk;
 use crate::outcome::Outcome;
 use crate::sink::Sink;
 use config::Config;
-use dispatch::Server;
+use dispatch::{OpenFault, Server};
+use lease_disk::{Image, ModelDisk};
 use lossy_net::{Dir, Net};
 use relay::Relays;
 use std::alloc::{AllocError, Global};
 use std::marker::Model;
-use thiserror::Error;
 use types::{Circuit, Moment, Proto, RelayNo, Source};
 use wire::PacketBuf;
-
-/// Why a world was not opened.
-#[derive(Clone, Copy, Debug, PartialEq, Eq, Error)]
-pub enum OpenFault {
-    /// A request for memory was refused.
-    #[error("out of memory")]
-    Memory,
-}
 
 /// A world.
 #[derive(Drop)]
@@ -83,20 +80,42 @@ fn relay_indexes(alloc: Global, config: &Config) -> Result<Vec<RelayNo>, AllocEr
     Ok(behind)
 }
 
+/// Each circuit's region becomes what its image says.
+fn crash_all(server: &Server, disk: &mut ModelDisk, images: &[Image])
+    requires few { length server.now.circuits ≤ 1024 }
+    requires regions { HasRegions (parts_in server.now) (length disk.old.regions) }
+    requires differ { RegionsDiffer (parts_in server.now) }
+    ensures crashed { (c : ℕ) (part : CircuitPart) → slice_get (parts_in server.now) c ≡ Some part
+        → state_of disk.new part.region ≡ crashed (image_at c images.now) (state_of disk.old part.region) }
+    ensures count { length disk.new.regions ≡ length disk.old.regions }
+{
+    'circuits: for index in 0..server.circuit_count() {
+        let Some(circuit) = Circuit::new(index) else {
+            unreachable!()
+        };
+        let image = images.get(index).copied().unwrap_or(Image::Byte(0));
+        disk.crash(server.part(circuit).region(), image);
+    }
+}
+
 impl World {
-    /// The world of a configuration, where the network keeps at most `quota` datagrams of a circuit and
-    /// direction. All memory that its steps need is taken here. A refusal drops the disk.
+    /// The world of a configuration over this disk, where the network keeps at most `quota` datagrams of
+    /// a circuit and direction. Each circuit begins with the leases that its region holds. All memory
+    /// that its steps need is taken here. A refusal drops the disk.
     pub fn open(
         alloc: Global,
         config: &Config,
-        disk: ModelDisk,
+        mut disk: ModelDisk,
         quota: u16,
     ) -> Result<World, OpenFault>
         requires some { 1 ≤ quota }
         requires most { quota ≤ 256 }
-        ensures starts { IfOk result (λ world. Starts config.now quota (states world)) }
+        requires synced { AreSynced (parts_of config.now) (state_of disk) }
+        ensures starts { IfOk result (λ world. Starts config.now quota (state_of disk) (states world)) }
         ensures topology { IfOk result (λ world. world.relays.topology ≡ topology_of config.now) }
-        ensures disk { IfOk result (λ world. world.disk ≡ disk) }
+        ensures disk { IfOk result (λ world. state_of world.disk ≡ state_of disk) }
+        ensures small { IfErr result (λ why. why ≡ fault.DiskTooSmall → ¬ HasRegions (parts_of config.now) (length disk.regions)) }
+        ensures large { IfOk result (λ world. HasRegions (parts_of config.now) (length disk.regions)) }
     {
         let Ok(relays) = Relays::new(alloc, config) else {
             return Err(OpenFault::Memory);
@@ -107,8 +126,9 @@ impl World {
         let Ok(net) = Net::new(alloc, config.circuit_count(), usize::from(quota)) else {
             return Err(OpenFault::Memory);
         };
-        let Ok(server) = Server::open(alloc, config) else {
-            return Err(OpenFault::Memory);
+        let server = match Server::open(alloc, config, &mut disk) {
+            Ok(server) => server,
+            Err(why) => return Err(why),
         };
         Ok(World {
             relays,
@@ -145,7 +165,6 @@ impl World {
         requires { circuit < length self.old.net.circuits }
         ensures moves { Moves circuit (Frame proto frame.now) (states self.old) (states self.new) result out.new }
         ensures topology { self.new.relays.topology ≡ self.old.relays.topology }
-        ensures disk { self.new.disk ≡ self.old.disk }
     {
         comes_to_its_circuit();
         match self.relays.up(circuit, proto, frame, out) {
@@ -160,20 +179,32 @@ impl World {
     }
 
     /// A datagram at the server.
-    fn up(&mut self, circuit: Circuit, number: u16, now: Moment, out: &mut PacketBuf) -> Outcome
+    fn up(
+        &mut self,
+        circuit: Circuit,
+        number: u16,
+        now: Moment,
+        fault: u8,
+        out: &mut PacketBuf,
+    ) -> Outcome
         requires { circuit < length self.old.net.circuits }
-        ensures moves { (fault : ℕ) → Moves circuit (Up number now fault) (states self.old) (states self.new) result out.new }
+        ensures moves { Moves circuit (Up number now fault) (states self.old) (states self.new) result out.new }
         ensures topology { self.new.relays.topology ≡ self.old.relays.topology }
-        ensures disk { self.new.disk ≡ self.old.disk }
     {
         reply_comes_to_its_circuit();
         out.clear();
-        let source = self.server.part(circuit).relay();
+        let part = self.server.part(circuit);
+        let (source, region) = (part.relay(), part.region());
         let Some((proto, datagram)) = self.net.deliver(circuit, Dir::Up, number) else {
             return Outcome::Gone;
         };
         are_bytes(datagram);
-        match self.server.receive(source, datagram, now, out) {
+        self.disk.fail_at(region, fault);
+        let result = self
+            .server
+            .receive(source, datagram, now, &mut self.disk, out);
+        self.disk.fail_at(region, 0);
+        match result {
             Ok(()) => {
                 self.net.send(circuit, Dir::Down, proto, out);
                 let len = out.len();
@@ -189,7 +220,6 @@ impl World {
         requires { circuit < length self.old.net.circuits }
         ensures moves { Moves circuit (Down number) (states self.old) (states self.new) result out.new }
         ensures topology { self.new.relays.topology ≡ self.old.relays.topology }
-        ensures disk { self.new.disk ≡ self.old.disk }
     {
         out.clear();
         let Some((proto, datagram)) = self.net.deliver(circuit, Dir::Down, number) else {
@@ -207,14 +237,26 @@ impl World {
 
     /// A moment for all circuits.
     fn tick(&mut self, now: Moment, out: &mut PacketBuf) -> Outcome
-        ensures moves { AllMove (Tick now) (states self.old) (states self.new) result out.new }
+        ensures moves { AllMove (λ c. Tick now) (states self.old) (states self.new) result out.new }
         ensures done { result ≡ outcome.Done }
         ensures topology { self.new.relays.topology ≡ self.old.relays.topology }
-        ensures disk { self.new.disk ≡ self.old.disk }
         ensures empty { out.new ≡ [] }
     {
         out.clear();
         self.server.tick(now);
+        Outcome::Done
+    }
+
+    /// The server and the disk stop and start again.
+    fn restart(&mut self, images: &[Image], out: &mut PacketBuf) -> Outcome
+        ensures moves { AllMove (λ c. Restart (image_at c images.now)) (states self.old) (states self.new) result out.new }
+        ensures done { result ≡ outcome.Done }
+        ensures topology { self.new.relays.topology ≡ self.old.relays.topology }
+        ensures empty { out.new ≡ [] }
+    {
+        out.clear();
+        crash_all(&self.server, &mut self.disk, images);
+        self.server.restart(&mut self.disk);
         Outcome::Done
     }
 
@@ -231,13 +273,15 @@ impl World {
         ensures empty { out.new ≡ [] }
         ensures states { states self.new ≡ states self.old }
         ensures topology { self.new.relays.topology ≡ self.old.relays.topology }
-        ensures disk { self.new.disk ≡ self.old.disk }
     {
         out.clear();
         if self.relays.is_relay(source) {
             return Outcome::NotAStray;
         }
-        match self.server.receive(source, datagram, now, out) {
+        match self
+            .server
+            .receive(source, datagram, now, &mut self.disk, out)
+        {
             Ok(()) => unreachable!(),
             Err(why) => Outcome::Dropped(why),
         }
@@ -273,7 +317,6 @@ impl World {
         ensures steps { Steps event.now (states self.old) (states self.new) result out.new }
         ensures stray { IfSome (stray_outcome self.old.relays.topology event.now) (λ expected. result ≡ expected) }
         ensures topology { self.new.relays.topology ≡ self.old.relays.topology }
-        ensures disk { self.new.disk ≡ self.old.disk }
     {
         match *event {
             Event::Frame(circuit, proto, frame) => {
@@ -282,11 +325,11 @@ impl World {
                 }
                 self.frame(circuit, proto, frame, out)
             }
-            Event::Up(circuit, number, now, _) => {
+            Event::Up(circuit, number, now, fault) => {
                 if !self.exists(circuit) {
                     return gone(out);
                 }
-                self.up(circuit, number, now, out)
+                self.up(circuit, number, now, fault, out)
             }
             Event::Down(circuit, number) => {
                 if !self.exists(circuit) {
@@ -295,6 +338,7 @@ impl World {
                 self.down(circuit, number, out)
             }
             Event::Tick(now) => self.tick(now, out),
+            Event::Restart(images) => self.restart(images, out),
             Event::StrayUp(_, source, datagram, now) => self.stray_up(source, datagram, now, out),
             Event::StrayDown(relay, source, datagram) => {
                 self.stray_down(relay, source, datagram, out)

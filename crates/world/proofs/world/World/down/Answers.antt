@@ -22,8 +22,8 @@ returns-in_default-clause-moves c =
     let the = the_circuit w c.self.invariant k within in
     let P : WorldValue → Type 0 = λ v. Moves k (Down c.args.number) (states v) (states v) outcome.Gone c.clear.new.self in
     subst P c.self.view_is (
-    moves k (Down c.args.number) w w the.part the.book the.book outcome.Gone c.clear.new.self refl (whole w) refl the.served the.its the.its (λ n other. refl) (λ n other p b. refl)
-    (down_gone k w the.part the.book c.args.number c.clear.new.self (sym c.in_default.ensures) c.clear.ensures)
+    moves k (Down c.args.number) w w the.part the.leases the.leases outcome.Gone c.clear.new.self refl (whole w) refl the.served the.its the.its (λ n other. refl) (λ n other p l. refl)
+    (down_gone k w the.part the.leases c.args.number c.clear.new.self (sym c.in_default.ensures) c.clear.ensures)
     )
 
 pub index-relay-requires : goal.index-relay-requires
@@ -63,10 +63,10 @@ returns-clause-moves c =
     let comes = each_at (Returns t k the.part) (datagrams w.net k dir.Down) c.args.number d (is.returned k the.part the.there) there relay here in
     let result = sym comes ∙ ap (λ s. relayed_down_in t relay s d.bytes) (sym source) in
     let P : WorldValue → Type 0 = λ v. Moves k (Down c.args.number) (states v) (states v) c.match-down.result c.down.new.out in
-    let O : Outcome → Type 0 = λ o. StepsAs k (Down c.args.number) (state_of w k the.part the.book) (state_of w k the.part the.book) o c.down.new.out in
+    let O : Outcome → Type 0 = λ o. StepsAs k (Down c.args.number) (state_of w k the.part the.leases) (state_of w k the.part the.leases) o c.down.new.out in
     subst P c.self.view_is (
-    moves k (Down c.args.number) w w the.part the.book the.book c.match-down.result c.down.new.out refl (whole w) refl the.served the.its the.its (λ n other. refl) (λ n other p b. refl)
+    moves k (Down c.args.number) w w the.part the.leases the.leases c.match-down.result c.down.new.out refl (whole w) refl the.served the.its the.its (λ n other. refl) (λ n other p l. refl)
     (elim c.match-down.branch [
-      | in-Ok v ↦ subst O (sym v.result-is) (down_framed k w the.part the.book c.args.number d there v.in-Ok.sent.0 v.in-Ok.sent.1 c.down.new.out (result ∙ v.in-Ok.ensures.ok))
-      | in-Err v ↦ subst O (sym v.result-is) (down_dropped k w the.part the.book c.args.number d there v.in-Err.why c.down.new.out (result ∙ v.in-Err.ensures.err) v.in-Err.ensures.empty)
+      | in-Ok v ↦ subst O (sym v.result-is) (down_framed k w the.part the.leases c.args.number d there v.in-Ok.sent.0 v.in-Ok.sent.1 c.down.new.out (result ∙ v.in-Ok.ensures.ok))
+      | in-Err v ↦ subst O (sym v.result-is) (down_dropped k w the.part the.leases c.args.number d there v.in-Err.why c.down.new.out (result ∙ v.in-Err.ensures.err) v.in-Err.ensures.empty)
     ]))

@@ -18,7 +18,7 @@ invariant_of-self c =
     let t = w.relays.topology in
     let k = c.args.circuit in
     let d : Datagram = record { proto = c.args.proto; bytes = c.up.new.out } in
-    still_world w new is (ap (λ r. r.topology) c.in-Ok.ensures.kept) refl refl refl c.send.ensures.circuits
+    still_world w new is (ap (λ r. r.topology) c.in-Ok.ensures.kept) refl refl refl c.send.ensures.circuits refl is.ready
     (each_sent (IsFor t) t.circuits dir.Up w.net new.net is.addressed k d c.send.ensures.kept (λ n other. c.send.ensures.other_circuits n dir.Up (apart k n other))
     (λ part there.
     c.comes_to_its_circuit.ensures t.relays t.circuits k part c.args.proto c.args.frame.now c.up.new.out there (is.ids k part there) (is.known k part there) (is.each k part there)
@@ -30,7 +30,7 @@ pub invariant_of-self-in-Err : goal.invariant_of-self-in-Err
 invariant_of-self-in-Err c =
     let w : WorldValue = record { relays = c.self.inside.relays; behind = c.self.inside.behind.items; net = c.self.inside.net; server = c.self.inside.server; disk = c.self.inside.disk } in
     let new : WorldValue = record w { relays = c.up.new.self } in
-    still_world w new c.self.invariant (ap (λ r. r.topology) c.in-Err.ensures.counted) refl refl refl refl c.self.invariant.addressed c.self.invariant.returned
+    still_world w new c.self.invariant (ap (λ r. r.topology) c.in-Err.ensures.counted) refl refl refl refl refl c.self.invariant.ready c.self.invariant.addressed c.self.invariant.returned
 
 pub returns-in-Ok-clause-moves : goal.returns-in-Ok-clause-moves
 returns-in-Ok-clause-moves c =
@@ -41,11 +41,11 @@ returns-in-Ok-clause-moves c =
     let the = the_circuit w c.self.invariant k within in
     let P : WorldValue → Type 0 = λ v. Moves k (Frame c.args.proto c.args.frame.now) (states v) (states new) (outcome.SentUp c.len-len.result) c.clear.new.self in
     subst P c.self.view_is (
-    moves k (Frame c.args.proto c.args.frame.now) w new the.part the.book the.book (outcome.SentUp c.len-len.result) c.clear.new.self refl (whole w) refl the.served the.its the.its (λ n other. refl)
-    (λ n other p b.
-    same_circuit w new n p b c.send.ensures.quota (c.send.ensures.other_circuits n dir.Up (apart k n other)) (c.send.ensures.other_circuits n dir.Down (apart k n other))
+    moves k (Frame c.args.proto c.args.frame.now) w new the.part the.leases the.leases (outcome.SentUp c.len-len.result) c.clear.new.self refl (whole w) refl the.served the.its the.its (λ n other. refl)
+    (λ n other p l.
+    same_circuit w new n p l c.send.ensures.quota (c.send.ensures.other_circuits n dir.Up (apart k n other)) (c.send.ensures.other_circuits n dir.Down (apart k n other))
     (ap (λ r. slice_index r.discarded n) c.in-Ok.ensures.kept))
-    (frame_sent k w new the.part the.book c.args.proto c.args.frame.now c.up.new.out c.len-len.result c.clear.new.self (c.in-Ok.ensures.ok the.part the.there) c.send.ensures.quota
+    (frame_sent k w new the.part the.leases c.args.proto c.args.frame.now c.up.new.out c.len-len.result c.clear.new.self (c.in-Ok.ensures.ok the.part the.there) c.send.ensures.quota
     c.send.ensures.kept c.send.ensures.other_direction c.len-len.ensures.value c.clear.ensures)
     )
 
@@ -58,7 +58,7 @@ returns-in-Err-clause-moves c =
     let the = the_circuit w c.self.invariant k within in
     let P : WorldValue → Type 0 = λ v. Moves k (Frame c.args.proto c.args.frame.now) (states v) (states new) (outcome.Dropped c.in-Err.why) c.up.new.out in
     subst P c.self.view_is (
-    moves k (Frame c.args.proto c.args.frame.now) w new the.part the.book the.book (outcome.Dropped c.in-Err.why) c.up.new.out refl (whole w) refl the.served the.its the.its (λ n other. refl)
-    (λ n other p b. same_circuit w new n p b refl refl refl (ap (λ r. slice_index r.discarded n) c.in-Err.ensures.counted ∙ other_count k n w.relays.discarded other))
-    (frame_dropped k w new the.part the.book c.args.proto c.args.frame.now c.in-Err.why c.up.new.out (c.in-Err.ensures.err the.part the.there) refl c.in-Err.ensures.empty)
+    moves k (Frame c.args.proto c.args.frame.now) w new the.part the.leases the.leases (outcome.Dropped c.in-Err.why) c.up.new.out refl (whole w) refl the.served the.its the.its (λ n other. refl)
+    (λ n other p l. same_circuit w new n p l refl refl refl (ap (λ r. slice_index r.discarded n) c.in-Err.ensures.counted ∙ other_count k n w.relays.discarded other))
+    (frame_dropped k w new the.part the.leases c.args.proto c.args.frame.now c.in-Err.why c.up.new.out (c.in-Err.ensures.err the.part the.there) refl c.in-Err.ensures.empty)
     )

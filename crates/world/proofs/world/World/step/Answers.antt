@@ -1,9 +1,9 @@
 use Rattle.std.proofs.Common.{length, refl, sym, ap, ◌∙◌}
 use Rattle.std.proofs.lemmas.Bool.{ltb-false}
-use Rattle.world.specs.Seen.{Frame, Up, Down, seen_of, named_by}
+use Rattle.world.specs.Seen.{Frame, Up, Down, Tick, Restart, image_at, seen_of, named_by}
 use Rattle.world.specs.Stray.{is_stray}
 use Rattle.world.specs.World.{states}
-use Rattle.world.proofs.CircuitSteps.{named_steps, gone_steps, tick_steps, stray_steps}
+use Rattle.world.proofs.CircuitSteps.{named_steps, gone_steps, all_steps, stray_steps}
 use Rattle.world.proofs.world.World.step.Goals as goal
 
 pub returns-then-not-exists-clause-steps : goal.returns-then-not-exists-clause-steps
@@ -15,7 +15,7 @@ returns-then-not-exists-clause-steps c =
 pub returns-then-not-exists-2-clause-steps : goal.returns-then-not-exists-2-clause-steps
 returns-then-not-exists-2-clause-steps c =
     let k = c.in-Up.circuit in
-    gone_steps c.args.event.now k (Up c.in-Up.number c.in-Up.now c.in-Up.field-3) (λ n. ap (seen_of n) c.in-Up.is) (ap named_by c.in-Up.is) (states c.args.self.now)
+    gone_steps c.args.event.now k (Up c.in-Up.number c.in-Up.now c.in-Up.fault) (λ n. ap (seen_of n) c.in-Up.is) (ap named_by c.in-Up.is) (states c.args.self.now)
     c.gone-then-not-exists-2.result c.gone-then-not-exists-2.new.out
     (ltb-false k (length (states c.args.self.now)) (sym c.exists-in-Up.ensures.states ∙ c.if-not-exists-2.true)) c.gone-then-not-exists-2.ensures.gone c.gone-then-not-exists-2.ensures.empty
 
@@ -34,8 +34,8 @@ returns-else-not-exists-clause-steps c =
 
 pub returns-else-not-exists-2-clause-steps : goal.returns-else-not-exists-2-clause-steps
 returns-else-not-exists-2-clause-steps c =
-    let m = c.up.ensures.moves c.in-Up.field-3 in
-    named_steps c.args.event.now c.in-Up.circuit (Up c.in-Up.number c.in-Up.now c.in-Up.field-3) (λ n. ap (seen_of n) c.in-Up.is) (ap named_by c.in-Up.is)
+    let m = c.up.ensures.moves in
+    named_steps c.args.event.now c.in-Up.circuit (Up c.in-Up.number c.in-Up.now c.in-Up.fault) (λ n. ap (seen_of n) c.in-Up.is) (ap named_by c.in-Up.is)
     (states c.args.self.now) (states c.up.new.self) c.up.result c.up.new.out m.count m.others m.before m.after m.was m.is m.steps
 
 pub returns-else-not-exists-3-clause-steps : goal.returns-else-not-exists-3-clause-steps
@@ -46,8 +46,13 @@ returns-else-not-exists-3-clause-steps c =
 
 pub returns-in-Tick-clause-steps : goal.returns-in-Tick-clause-steps
 returns-in-Tick-clause-steps c =
-    let m = c.tick.ensures.moves in
-    tick_steps c.args.event.now c.in-Tick.now (states c.args.self.now) (states c.tick.new.self) c.tick.result c.tick.new.out c.in-Tick.is m.count m.each c.tick.ensures.done c.tick.ensures.empty
+    all_steps c.args.event.now (λ n. Tick c.in-Tick.now) (states c.args.self.now) (states c.tick.new.self) c.tick.result c.tick.new.out (λ n. ap (seen_of n) c.in-Tick.is) (ap named_by c.in-Tick.is)
+    c.tick.ensures.moves c.tick.ensures.done c.tick.ensures.empty
+
+pub returns-in-Restart-clause-steps : goal.returns-in-Restart-clause-steps
+returns-in-Restart-clause-steps c =
+    all_steps c.args.event.now (λ n. Restart (image_at n c.in-Restart.images.now)) (states c.args.self.now) (states c.restart.new.self) c.restart.result c.restart.new.out
+    (λ n. ap (seen_of n) c.in-Restart.is) (ap named_by c.in-Restart.is) c.restart.ensures.moves c.restart.ensures.done c.restart.ensures.empty
 
 pub returns-in-StrayUp-clause-steps : goal.returns-in-StrayUp-clause-steps
 returns-in-StrayUp-clause-steps c =

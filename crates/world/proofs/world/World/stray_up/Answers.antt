@@ -2,19 +2,20 @@ use Rattle.std.proofs.Common.{◌≡◌, false, refl, sym, ap, subst, ◌∙◌}
 use Rattle.std.specs.List.{list_any}
 use Rattle.types.specs.Addr.{same_source}
 use Rattle.types.specs.declared.discard.Discard.TheVariants.{UnknownSource}
-use Rattle.dispatch.specs.ServerValue.{books_in, parts_in}
+use Rattle.dispatch.specs.ServerValue.{books_in, leases_in, parts_in}
+use Rattle.lease_disk.specs.Model as disk
 use Rattle.world.specs.World.{WorldValue, each_state, state_of, states}
 use Rattle.world.specs.Stray.{stray_up_outcome}
-use Rattle.world.specs.declared.outcome.Outcome.{Outcome}
 use Rattle.world.specs.declared.outcome.Outcome.TheVariants as outcome
-use Rattle.world.proofs.StrayLemmas.{stray_received, refusal_is, no_ok, same_reason}
+use Rattle.world.proofs.StrayLemmas.{stray_received, stray_leases, refusal_is, no_ok, same_reason}
+use Rattle.world.proofs.WorldLemmas.{still_world}
 use Rattle.world.proofs.world.World.stray_up.Goals as goal
 
 pub unreachable-requires : goal.unreachable-requires
 unreachable-requires c =
     let w : WorldValue = record { relays = c.self.inside.relays; behind = c.self.inside.behind.items; net = c.self.inside.net; server = c.self.inside.server; disk = c.self.inside.disk } in
     let apart : list_any (same_source c.args.source) w.server.relays ≡ false = ap (list_any (same_source c.args.source)) c.self.invariant.sources ∙ sym c.is_relay.ensures ∙ c.if-is_relay.false in
-    let all = stray_received w.server.relays (parts_in w.server) c.args.now c.args.source c.args.datagram.now (books_in w.server) apart in
+    let all = stray_received w.server.relays (parts_in w.server) c.args.now c.args.source c.args.datagram.now _ (books_in w.server) apart in
     no_ok c.receive.result c.in-Ok.field-0 UnknownSource c.in-Ok.is
     (refusal_is _ UnknownSource (books_in w.server) c.receive.result c.receive.new.out all (c.receive.ensures.answer))
 
@@ -22,7 +23,7 @@ pub returns-clause-outcome : goal.returns-clause-outcome
 returns-clause-outcome c =
     let w : WorldValue = record { relays = c.self.inside.relays; behind = c.self.inside.behind.items; net = c.self.inside.net; server = c.self.inside.server; disk = c.self.inside.disk } in
     let apart : list_any (same_source c.args.source) w.server.relays ≡ false = ap (list_any (same_source c.args.source)) c.self.invariant.sources ∙ sym c.is_relay.ensures ∙ c.if-is_relay.false in
-    let all = stray_received w.server.relays (parts_in w.server) c.args.now c.args.source c.args.datagram.now (books_in w.server) apart in
+    let all = stray_received w.server.relays (parts_in w.server) c.args.now c.args.source c.args.datagram.now _ (books_in w.server) apart in
     let same = same_reason c.receive.result c.in-Err.why UnknownSource c.in-Err.is
     (refusal_is _ UnknownSource (books_in w.server) c.receive.result c.receive.new.out all (c.receive.ensures.answer)) in
     let known : false ≡ (c.is_relay.result) = sym c.if-is_relay.false in
@@ -32,9 +33,15 @@ returns-clause-outcome c =
 pub returns-clause-states : goal.returns-clause-states
 returns-clause-states c =
     let w : WorldValue = record { relays = c.self.inside.relays; behind = c.self.inside.behind.items; net = c.self.inside.net; server = c.self.inside.server; disk = c.self.inside.disk } in
-    let new : WorldValue = record w { server = c.receive.new.self } in
+    let new : WorldValue = record w { server = c.receive.new.self; disk = c.receive.new.disk } in
     let apart : list_any (same_source c.args.source) w.server.relays ≡ false = ap (list_any (same_source c.args.source)) c.self.invariant.sources ∙ sym c.is_relay.ensures ∙ c.if-is_relay.false in
-    let all = stray_received w.server.relays (parts_in w.server) c.args.now c.args.source c.args.datagram.now (books_in w.server) apart in
-    let books : books_in new.server ≡ books_in w.server = c.receive.ensures.books ∙ ap (λ r. r.books) all in
+    let leases = c.receive.ensures.leases refl ∙ stray_leases w.server.relays (parts_in w.server) c.args.now c.args.source c.args.datagram.now (disk.fuse_of w.disk) (leases_in (disk.state_of w.disk) w.server) apart in
     let P : WorldValue → Type 0 = λ v. states new ≡ states v in
-    subst P c.self.view_is (λ i. each_state (state_of w) (c.receive.ensures.parts i) (books i))
+    subst P c.self.view_is (λ i. each_state (state_of w) (c.receive.ensures.parts i) (leases i))
+
+pub invariant_of-self : goal.invariant_of-self
+invariant_of-self c =
+    let w : WorldValue = record { relays = c.self.inside.relays; behind = c.self.inside.behind.items; net = c.self.inside.net; server = c.self.inside.server; disk = c.self.inside.disk } in
+    let new : WorldValue = record w { server = c.receive.new.self; disk = c.receive.new.disk } in
+    let is = c.self.invariant in
+    still_world w new is refl refl c.receive.ensures.parts c.receive.ensures.relays refl c.receive.ensures.count (c.receive.ensures.ready refl) is.addressed is.returned

@@ -1,86 +1,133 @@
-use Rattle.std.proofs.Common.{◌<◌, length, refl, sym, ap, subst, ◌∙◌}
-use Rattle.std.specs.Prelude.{Ok, Err, slice_get}
-use Rattle.dispatch.specs.Server.{served}
+use Rattle.std.proofs.Common.{◌<◌, length, refl, sym, ap, subst, ◌∙◌, arith}
+use Rattle.std.specs.Prelude.{Result, slice_get}
+use Rattle.types.specs.declared.discard.Discard.{Discard}
+use Rattle.dispatch.specs.Received.{IsAnswer}
+use Rattle.config.specs.CircuitPart.{CircuitPart}
+use Rattle.dispatch.specs.Leases.{after_datagram}
+use Rattle.dispatch.specs.ServerValue.{AreReady, leases_in, parts_in}
+use Rattle.lease_disk.specs.Model as disk
 use Rattle.lossy_net.specs.Net.{Datagram}
 use Rattle.lossy_net.specs.declared.dir.Dir.TheVariants as dir
+use Rattle.relay.specs.Relays.{relayed_down_in}
 use Rattle.world.specs.Seen.{Up}
 use Rattle.world.specs.StepsAs.{IsFor, Returns, Moves}
 use Rattle.world.specs.World.{WorldValue, states}
 use Rattle.world.specs.declared.outcome.Outcome.TheVariants as outcome
+use Rattle.world.proofs.ShownLemmas.{its_answer, its_fails, reply_of}
 use Rattle.world.proofs.StateLemmas.{moves}
-use Rattle.relay.specs.Relays.{relayed_down_in}
-use Rattle.world.proofs.WorldLemmas.{TheCircuit, IsServed, the_circuit, is_served, is_reply, of_proto, whole, each_sent, each_kept, other_way, still_world, same_circuit, apart, up_gone, up_sent, up_dropped}
+use Rattle.world.proofs.WorldLemmas.{TheCircuit, IsServed, all_at, the_circuit, is_served, is_reply, of_proto, whole, each_sent, each_kept, has_regions, other_way, state_stays, still_world, same_circuit, apart, up_gone, up_sent, up_dropped}
 use Rattle.world.proofs.world.World.up.Goals as goal
 
+pub receive-result-requires-clause-ready : goal.receive-result-requires-clause-ready
+receive-result-requires-clause-ready c = λ tells.
+    let w : WorldValue = record { relays = c.self.inside.relays; behind = c.self.inside.behind.items; net = c.self.inside.net; server = c.self.inside.server; disk = c.self.inside.disk } in
+    let stays = state_stays c.region-region.result w.disk c.fail_at.new.self c.fail_at.ensures.state c.fail_at.ensures.others in
+    subst (λ regions. AreReady regions w.server) (sym stays) c.self.invariant.ready
+
+pub fail_at-requires-2 : goal.fail_at-requires-2
+fail_at-requires-2 c =
+    let w : WorldValue = record { relays = c.self.inside.relays; behind = c.self.inside.behind.items; net = c.self.inside.net; server = c.self.inside.server; disk = c.self.inside.disk } in
+    let own = all_at (λ (part : CircuitPart). part.region < length w.disk.regions) (parts_in w.server) c.args.circuit c.part-part.result.now (has_regions w c.self.invariant) c.part-part.ensures in
+    omega (arith, own, c.region-region.ensures, c.fail_at.ensures.others.count, c.receive-result.ensures.count)
+
 pub returns-in_default-clause-moves : goal.returns-in_default-clause-moves
-returns-in_default-clause-moves c = λ fault.
+returns-in_default-clause-moves c =
     let w : WorldValue = record { relays = c.self.inside.relays; behind = c.self.inside.behind.items; net = c.self.inside.net; server = c.self.inside.server; disk = c.self.inside.disk } in
     let k = c.args.circuit in
     let within = subst (λ (v : WorldValue). k < length v.net.circuits) (sym c.self.view_is) c.requires in
     let the = the_circuit w c.self.invariant k within in
-    let P : WorldValue → Type 0 = λ v. Moves k (Up c.args.number c.args.now fault) (states v) (states v) outcome.Gone c.clear.new.self in
+    let P : WorldValue → Type 0 = λ v. Moves k (Up c.args.number c.args.now c.args.fault) (states v) (states v) outcome.Gone c.clear.new.self in
     subst P c.self.view_is (
-    moves k (Up c.args.number c.args.now fault) w w the.part the.book the.book outcome.Gone c.clear.new.self refl (whole w) refl the.served the.its the.its (λ n other. refl) (λ n other p b. refl)
-    (up_gone k w the.part the.book c.args.number c.args.now fault c.clear.new.self (sym c.in_default.ensures) c.clear.ensures)
+    moves k (Up c.args.number c.args.now c.args.fault) w w the.part the.leases the.leases outcome.Gone c.clear.new.self refl (whole w) refl the.served the.its the.its (λ n other. refl) (λ n other p l. refl)
+    (up_gone k w the.part the.leases c.args.number c.args.now c.args.fault c.clear.new.self (sym c.in_default.ensures) c.clear.ensures)
     )
 
 pub invariant_of-self : goal.invariant_of-self
 invariant_of-self c =
     let w : WorldValue = record { relays = c.self.inside.relays; behind = c.self.inside.behind.items; net = c.self.inside.net; server = c.self.inside.server; disk = c.self.inside.disk } in
-    let new : WorldValue = record w { net = c.send.new.self; server = c.receive.new.self } in
+    let new : WorldValue = record w { net = c.send.new.self; server = c.receive-result.new.self; disk = c.fail_at-2.new.self } in
     let k = c.args.circuit in
     let within = subst (λ (v : WorldValue). k < length v.net.circuits) (sym c.self.view_is) c.requires in
     let the = the_circuit w c.self.invariant k within in
     let d : Datagram = record { proto = c.in-Some.proto; bytes = c.in-Some.datagram.now } in
     let is = c.self.invariant in
     let t = w.relays.topology in
-    let sent : Datagram = record { proto = d.proto; bytes = c.receive.new.out } in
-    let done : (known : TheCircuit w k) → IsServed w k known.part known.book c.args.now d (Ok tt) c.receive.new.out c.receive.new.self =
-    λ known. is_served w is k known c.args.number d c.args.now c.relay-source.result c.part.result.now (sym c.in-Some.ensures) c.part.ensures c.relay-source.ensures
-    (Ok tt) c.receive.new.out c.receive.new.self c.in-Ok.ensures.answer c.in-Ok.ensures.books in
-    still_world w new is refl refl c.in-Ok.ensures.parts c.in-Ok.ensures.relays c.send.ensures.circuits
+    let region = c.region-region.result in
+    let before = state_stays region w.disk c.fail_at.new.self c.fail_at.ensures.state c.fail_at.ensures.others in
+    let after = state_stays region c.receive-result.new.disk c.fail_at-2.new.self c.fail_at-2.ensures.state c.fail_at-2.ensures.others in
+    let sent : Datagram = record { proto = d.proto; bytes = c.receive-result.new.out } in
+    let fuse = ap (disk.fuse_of c.fail_at.new.self) (sym c.region-region.ensures) ∙ c.fail_at.ensures.fuse in
+    let count = c.fail_at-2.ensures.others.count ∙ c.receive-result.ensures.count ∙ c.fail_at.ensures.others.count in
+    let done : (known : TheCircuit w k) → IsServed w k known.part known.leases c.args.now c.args.fault d c.receive-result.result sent.bytes (leases_in (disk.state_of new.disk) new.server) =
+    λ known. is_served w is k known c.args.number d c.args.now c.args.fault c.relay-source.result c.part-part.result.now (sym c.in-Some.ensures) c.part-part.ensures c.relay-source.ensures
+    (disk.state_of c.fail_at.new.self) (disk.fuse_of c.fail_at.new.self) before fuse c.receive-result.result sent.bytes _ (leases_in (disk.state_of new.disk) new.server)
+    (c.receive-result.ensures.fails refl) c.receive-result.ensures.answer (ap (λ regions. leases_in regions new.server) after ∙ c.receive-result.ensures.leases refl) in
+    still_world w new is refl refl c.receive-result.ensures.parts c.receive-result.ensures.relays c.send.ensures.circuits count
+    (subst (λ regions. AreReady regions new.server) (sym after) (c.receive-result.ensures.ready refl))
     (each_kept (IsFor t) t.circuits dir.Up w.net new.net is.addressed
     (other_way k dir.Up w.net new.net c.send.ensures.other_direction (λ n other. c.send.ensures.other_circuits n dir.Up (apart k n other))))
     (each_sent (Returns t) t.circuits dir.Down w.net new.net is.returned k sent c.send.ensures.kept (λ n other. c.send.ensures.other_circuits n dir.Down (apart k n other))
     (λ part there relay behind.
-    let known : TheCircuit w k = record { part = part; book = the.book; there = there; served = ap (λ xs. slice_get xs k) is.parts ∙ there; its = the.its } in
+    let known : TheCircuit w k = record { part = part; leases = the.leases; there = there; served = ap (λ xs. slice_get xs k) is.parts ∙ there; its = the.its; book = the.book } in
     let r = done known in
+    let answer = its_answer part c.args.now d.bytes c.args.fault known.leases.book in
+    let P : Result (Unit {0}) Discard → Type 0 = λ result. IsAnswer answer result sent.bytes in
+    let reply = reply_of part c.args.now d.bytes (its_fails part c.args.now d.bytes c.args.fault known.leases.book) known.leases.book sent.bytes (is_reply answer sent.bytes (subst P c.in-Ok.is r.answer)) in
     of_proto part k sent.proto sent.bytes (relayed_down_in t relay t.listen4 sent.bytes)
-    (c.reply_comes_to_its_circuit.ensures t relay k part c.args.now d.bytes sent.bytes known.book there (is.ids k part there) behind (is.each k part there) c.are_bytes.ensures r.found
-    (is_reply (served part c.args.now d.bytes known.book).answer sent.bytes r.answer))))
+    (c.reply_comes_to_its_circuit.ensures t relay k part c.args.now d.bytes sent.bytes reply.book there (is.ids k part there) behind (is.each k part there) c.are_bytes.ensures r.found reply.answer)))
 
 pub returns-in-Ok-clause-moves : goal.returns-in-Ok-clause-moves
-returns-in-Ok-clause-moves c = λ fault.
+returns-in-Ok-clause-moves c =
     let w : WorldValue = record { relays = c.self.inside.relays; behind = c.self.inside.behind.items; net = c.self.inside.net; server = c.self.inside.server; disk = c.self.inside.disk } in
-    let new : WorldValue = record w { net = c.send.new.self; server = c.receive.new.self } in
+    let new : WorldValue = record w { net = c.send.new.self; server = c.receive-result.new.self; disk = c.fail_at-2.new.self } in
     let k = c.args.circuit in
     let within = subst (λ (v : WorldValue). k < length v.net.circuits) (sym c.self.view_is) c.requires in
     let the = the_circuit w c.self.invariant k within in
     let d : Datagram = record { proto = c.in-Some.proto; bytes = c.in-Some.datagram.now } in
-    let r = is_served w c.self.invariant k the c.args.number d c.args.now c.relay-source.result c.part.result.now (sym c.in-Some.ensures) c.part.ensures c.relay-source.ensures
-    (Ok tt) c.receive.new.out c.receive.new.self c.in-Ok.ensures.answer c.in-Ok.ensures.books in
-    let P : WorldValue → Type 0 = λ v. Moves k (Up c.args.number c.args.now fault) (states v) (states new) (outcome.SentDown c.len-len.result) c.clear-in-Ok.new.self in
+    let region = c.region-region.result in
+    let before = state_stays region w.disk c.fail_at.new.self c.fail_at.ensures.state c.fail_at.ensures.others in
+    let after = state_stays region c.receive-result.new.disk c.fail_at-2.new.self c.fail_at-2.ensures.state c.fail_at-2.ensures.others in
+    let fuse = ap (disk.fuse_of c.fail_at.new.self) (sym c.region-region.ensures) ∙ c.fail_at.ensures.fuse in
+    let r = is_served w c.self.invariant k the c.args.number d c.args.now c.args.fault c.relay-source.result c.part-part.result.now (sym c.in-Some.ensures) c.part-part.ensures c.relay-source.ensures
+    (disk.state_of c.fail_at.new.self) (disk.fuse_of c.fail_at.new.self) before fuse c.receive-result.result c.receive-result.new.out _ (leases_in (disk.state_of new.disk) new.server)
+    (c.receive-result.ensures.fails refl) c.receive-result.ensures.answer (ap (λ regions. leases_in regions new.server) after ∙ c.receive-result.ensures.leases refl) in
+    let P : WorldValue → Type 0 = λ v. Moves k (Up c.args.number c.args.now c.args.fault) (states v) (states new) (outcome.SentDown c.len-len.result) c.clear-in-Ok.new.self in
     subst P c.self.view_is (
-    moves k (Up c.args.number c.args.now fault) w new the.part the.book (served the.part c.args.now d.bytes the.book).book (outcome.SentDown c.len-len.result) c.clear-in-Ok.new.self
-    c.in-Ok.ensures.parts (whole w) r.size the.served the.its r.book r.others
-    (λ n other p b. same_circuit w new n p b c.send.ensures.quota (c.send.ensures.other_circuits n dir.Up (apart k n other)) (c.send.ensures.other_circuits n dir.Down (apart k n other)) refl)
-    (up_sent k w new the.part the.book c.args.number c.args.now fault d (Ok tt) c.receive.new.out (sym c.in-Some.ensures) r.answer c.send.ensures.quota c.send.ensures.other_direction
-    c.len-len.result c.clear-in-Ok.new.self refl c.send.ensures.kept c.len-len.ensures.value c.clear-in-Ok.ensures)
+    moves k (Up c.args.number c.args.now c.args.fault) w new the.part the.leases (after_datagram the.part c.args.now d.bytes c.args.fault the.leases) (outcome.SentDown c.len-len.result) c.clear-in-Ok.new.self
+    c.receive-result.ensures.parts (whole w) r.size the.served the.its r.leases r.others
+    (λ n other p l. same_circuit w new n p l c.send.ensures.quota (c.send.ensures.other_circuits n dir.Up (apart k n other)) (c.send.ensures.other_circuits n dir.Down (apart k n other)) refl)
+    (up_sent k w new the.part the.leases c.args.number c.args.now c.args.fault d c.receive-result.result c.receive-result.new.out (sym c.in-Some.ensures) r.answer c.send.ensures.quota c.send.ensures.other_direction
+    c.len-len.result c.clear-in-Ok.new.self c.in-Ok.is c.send.ensures.kept c.len-len.ensures.value c.clear-in-Ok.ensures)
     )
 
-pub returns-in-Err-clause-moves : goal.returns-in-Err-clause-moves
-returns-in-Err-clause-moves c = λ fault.
+pub invariant_of-self-in-Err : goal.invariant_of-self-in-Err
+invariant_of-self-in-Err c =
     let w : WorldValue = record { relays = c.self.inside.relays; behind = c.self.inside.behind.items; net = c.self.inside.net; server = c.self.inside.server; disk = c.self.inside.disk } in
-    let new : WorldValue = record w { server = c.receive.new.self } in
+    let new : WorldValue = record w { server = c.receive-result.new.self; disk = c.fail_at-2.new.self } in
+    let is = c.self.invariant in
+    let after = state_stays c.region-region.result c.receive-result.new.disk c.fail_at-2.new.self c.fail_at-2.ensures.state c.fail_at-2.ensures.others in
+    let count = c.fail_at-2.ensures.others.count ∙ c.receive-result.ensures.count ∙ c.fail_at.ensures.others.count in
+    still_world w new is refl refl c.receive-result.ensures.parts c.receive-result.ensures.relays refl count
+    (subst (λ regions. AreReady regions new.server) (sym after) (c.receive-result.ensures.ready refl)) is.addressed is.returned
+
+pub returns-in-Err-clause-moves : goal.returns-in-Err-clause-moves
+returns-in-Err-clause-moves c =
+    let w : WorldValue = record { relays = c.self.inside.relays; behind = c.self.inside.behind.items; net = c.self.inside.net; server = c.self.inside.server; disk = c.self.inside.disk } in
+    let new : WorldValue = record w { server = c.receive-result.new.self; disk = c.fail_at-2.new.self } in
     let k = c.args.circuit in
     let within = subst (λ (v : WorldValue). k < length v.net.circuits) (sym c.self.view_is) c.requires in
     let the = the_circuit w c.self.invariant k within in
     let d : Datagram = record { proto = c.in-Some.proto; bytes = c.in-Some.datagram.now } in
-    let r = is_served w c.self.invariant k the c.args.number d c.args.now c.relay-source.result c.part.result.now (sym c.in-Some.ensures) c.part.ensures c.relay-source.ensures
-    (Err c.in-Err.why) c.receive.new.out c.receive.new.self c.in-Err.ensures.answer c.in-Err.ensures.books in
-    let P : WorldValue → Type 0 = λ v. Moves k (Up c.args.number c.args.now fault) (states v) (states new) (outcome.Dropped c.in-Err.why) c.receive.new.out in
+    let region = c.region-region.result in
+    let before = state_stays region w.disk c.fail_at.new.self c.fail_at.ensures.state c.fail_at.ensures.others in
+    let after = state_stays region c.receive-result.new.disk c.fail_at-2.new.self c.fail_at-2.ensures.state c.fail_at-2.ensures.others in
+    let fuse = ap (disk.fuse_of c.fail_at.new.self) (sym c.region-region.ensures) ∙ c.fail_at.ensures.fuse in
+    let r = is_served w c.self.invariant k the c.args.number d c.args.now c.args.fault c.relay-source.result c.part-part.result.now (sym c.in-Some.ensures) c.part-part.ensures c.relay-source.ensures
+    (disk.state_of c.fail_at.new.self) (disk.fuse_of c.fail_at.new.self) before fuse c.receive-result.result c.receive-result.new.out _ (leases_in (disk.state_of new.disk) new.server)
+    (c.receive-result.ensures.fails refl) c.receive-result.ensures.answer (ap (λ regions. leases_in regions new.server) after ∙ c.receive-result.ensures.leases refl) in
+    let P : WorldValue → Type 0 = λ v. Moves k (Up c.args.number c.args.now c.args.fault) (states v) (states new) (outcome.Dropped c.in-Err.why) c.receive-result.new.out in
     subst P c.self.view_is (
-    moves k (Up c.args.number c.args.now fault) w new the.part the.book (served the.part c.args.now d.bytes the.book).book (outcome.Dropped c.in-Err.why) c.receive.new.out
-    c.in-Err.ensures.parts (whole w) r.size the.served the.its r.book r.others (λ n other p b. refl)
-    (up_dropped k w new the.part the.book c.args.number c.args.now fault d (Err c.in-Err.why) c.receive.new.out (sym c.in-Some.ensures) r.answer refl refl c.in-Err.why refl refl)
+    moves k (Up c.args.number c.args.now c.args.fault) w new the.part the.leases (after_datagram the.part c.args.now d.bytes c.args.fault the.leases) (outcome.Dropped c.in-Err.why) c.receive-result.new.out
+    c.receive-result.ensures.parts (whole w) r.size the.served the.its r.leases r.others (λ n other p l. refl)
+    (up_dropped k w new the.part the.leases c.args.number c.args.now c.args.fault d c.receive-result.result c.receive-result.new.out (sym c.in-Some.ensures) r.answer refl refl c.in-Err.why c.in-Err.is refl)
     )

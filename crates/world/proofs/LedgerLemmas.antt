@@ -1,0 +1,290 @@
+-- What a circuit's machine knows of a grant, from step to step.
+use Rattle.std.proofs.Common.{◌≡◌, ◌⊎◌, inl, inr, ℕ, ◌≤◌, Bool, true, false, not, List, [], ◌∷◌, refl, sym, ap, subst, ◌∙◌, max}
+use Rattle.std.specs.Prelude.{Option, Some, None, option_map, Result, Ok, Err, slice_get, nat_le, IfSome, ◌==◌, if◌then◌else◌}
+use Rattle.std.specs.FinMap.{get}
+use Rattle.types.specs.declared.dest.Proto.{Proto}
+use Rattle.types.specs.declared.discard.Discard.{Discard}
+use Rattle.v4_message.specs.Reading.{message_of}
+use Rattle.bindings_v4.specs.Book4.{address_of}
+use Rattle.bindings_v4.proofs.LaterBook.{later_is_a_book}
+use Rattle.config.specs.CircuitPart.{IsPart}
+use Rattle.dispatch.specs.Server.{Book, IsBook, Served, book_at, kept_book, message_served, served}
+use Rattle.lease_disk.specs.declared.image.Image.{Image}
+use Rattle.lease_disk.specs.declared.image.Image.TheVariants.{Byte, Unreadable}
+use Rattle.lossy_net.specs.Net.{Datagram}
+use Rattle.relay.specs.SentFrame.{SentFrame}
+use Rattle.relay.specs.Relays.{relayed_up, relayed_down}
+use Rattle.world.specs.Alone.{Alone, Setup, Step, Effect, frame_step, answer_step, served_step, book_step, up_step, reply_step, down_step, is_fault, or_kept, found, after_restart, alone_step, after_all, start}
+use Rattle.world.specs.Books.{HasBooks}
+use Rattle.world.specs.Granted.{Grant, Line, Granted, Ended, Stands, Knows, is_sent, datagram_lines, lines, ledger}
+use Rattle.world.specs.Seen.{Seen, Frame, Up, Down, Tick, Restart}
+use Rattle.world.proofs.GrantLemmas.{stands_left, stands_right, IsGranted, is_granted, Keeps, keeps_new, keeps_later, keeps_served}
+
+pub record HoldsIn (lease : ℕ) (g : Grant) (a : Alone) : Type 0 where
+  pub book : IfSome a.book (Keeps lease g)
+  pub kept : (k : Book) × (a.kept ≡ Some k) × Keeps lease g k
+  pub doubt : IfSome a.doubt (Keeps lease g)
+
+-- an open circuit has no book in doubt
+abbrev pub IsSure : Alone → Type 0
+IsSure a = IfSome a.book (λ b. a.doubt ≡ None)
+
+either_book : (P : Book → Type 0) (b : Bool) (one other : Option Book) → IfSome one P → IfSome other P → IfSome (if b then one else other) P
+either_book P true one other first second = first
+either_book P false one other first second = second
+
+either_step : (P : Alone → Type 0) (b : Bool) (one other : Step) → P one.next → P other.next → P (if b then one else other).next
+either_step P true one other first second = first
+either_step P false one other first second = second
+
+doubted : (P : Book → Type 0) (doubt kept : Option Book) → IfSome doubt P → ((k : Book) × (kept ≡ Some k) × P k) → (k : Book) × (or_kept doubt kept ≡ Some k) × P k
+doubted P None kept unsure sure = sure
+doubted P (Some b) kept unsure sure = (b, refl, unsure)
+
+pub found_in : (P : Book → Type 0) (r : Bool) (doubt kept : Option Book) → IfSome doubt P → ((k : Book) × (kept ≡ Some k) × P k)
+    → (k : Book) × ((if r then or_kept doubt kept else kept) ≡ Some k) × P k
+found_in P true doubt kept unsure sure = doubted P doubt kept unsure sure
+found_in P false doubt kept unsure sure = sure
+
+if_some : (P : Book → Type 0) (o : Option Book) → ((k : Book) × (o ≡ Some k) × P k) → IfSome o P
+if_some P o (k, is, p) = subst (λ (o : Option Book). IfSome o P) (sym is) p
+
+later_book : (now : ℕ) (b : Book) → IsBook b → IsBook (book_at now b)
+later_book now b book = later_is_a_book (max b.clock now) b.four b.clock book
+
+module _ (lease : ℕ) (g : Grant) where
+  framed : (setup : Setup) (a : Alone) (proto : Proto) (sent : Result (List ℕ) Discard) → HoldsIn lease g a → HoldsIn lease g (frame_step setup a proto sent).next
+  framed setup a proto (Err why) h = h
+  framed setup a proto (Ok bytes) h = record { book = h.book; kept = h.kept; doubt = h.doubt }
+
+  answered : (setup : Setup) (a : Alone) (proto : Proto) (answer : Result (List ℕ) Discard) → HoldsIn lease g a → HoldsIn lease g (answer_step setup a proto answer).next
+  answered setup a proto (Err why) h = h
+  answered setup a proto (Ok bytes) h = record { book = h.book; kept = h.kept; doubt = h.doubt }
+
+  replied : (a : Alone) (sent : Result SentFrame Discard) → HoldsIn lease g a → HoldsIn lease g (reply_step a sent).next
+  replied a (Err why) h = h
+  replied a (Ok frame) h = h
+
+  went_down : (setup : Setup) (a : Alone) (d : Option Datagram) → HoldsIn lease g a → HoldsIn lease g (down_step setup a d).next
+  went_down setup a None h = h
+  went_down setup a (Some d) h = replied a (relayed_down setup.part d.proto d.bytes) h
+
+  restarted : (image : Image) (a : Alone) → HoldsIn lease g a → HoldsIn lease g (after_restart image a)
+  restarted (Byte byte) a h =
+      let f = found_in (Keeps lease g) (byte == 0xa5) a.doubt a.kept h.doubt h.kept in
+      record { book = if_some (Keeps lease g) _ f; kept = f; doubt = tt }
+  restarted Unreadable a h = record { book = tt; kept = h.kept; doubt = h.doubt }
+
+  -- a book that is saved and opened
+  saved : (setup : Setup) (a : Alone) (proto : Proto) (done : Served) → Keeps lease g done.book → IfSome a.doubt (Keeps lease g)
+      → HoldsIn lease g (answer_step setup (record a { book = Some done.book; kept = Some (kept_book done.book) }) proto done.answer).next
+  saved setup a proto done keeps unsure =
+      answered setup (record a { book = Some done.book; kept = Some (kept_book done.book) }) proto done.answer (record { book = keeps; kept = (kept_book done.book, refl, keeps); doubt = unsure })
+
+  served_holds : (setup : Setup) (fault : ℕ) (a : Alone) (proto : Proto) (done : Served) → Keeps lease g done.book → HoldsIn lease g a → HoldsIn lease g (served_step setup fault a proto done).next
+  served_holds setup fault a proto done keeps h =
+      either_step (HoldsIn lease g) (not done.is_kept) _ _
+      (answered setup (record a { book = Some done.book }) proto done.answer (record { book = keeps; kept = h.kept; doubt = h.doubt }))
+      (either_step (HoldsIn lease g) (is_fault fault) _ _
+      (record { book = tt; kept = h.kept; doubt = either_book (Keeps lease g) (nat_le 5 fault) (Some (kept_book done.book)) a.doubt keeps h.doubt })
+      (saved setup a proto done keeps h.doubt))
+
+  by_sent : (kept fails : Bool) (one two three : Step) → kept ≡ true → is_sent two.effect ≡ false → is_sent (if not kept then one else if fails then two else three).effect ≡ true
+      → HoldsIn lease g three.next → HoldsIn lease g (if not kept then one else if fails then two else three).next
+  by_sent false fails one two three kept unsent sent h = absurd cc
+  by_sent true true one two three kept unsent sent h = absurd cc
+  by_sent true false one two three kept unsent sent h = h
+
+module _ (setup : Setup) (sound : IsPart setup.part) (g : Grant) where
+  -- a step keeps it, or its client ends it
+  step_holds : (s : Seen) (a : Alone) → HasBooks a → HoldsIn setup.part.lease g a
+      → HoldsIn setup.part.lease g (alone_step setup s a).next ⊎ Stands (Ended g.client g.address) (lines setup s a)
+  unfolding alone_step served
+  step_holds (Frame proto frame) a books h = inl (framed setup.part.lease g setup a proto (relayed_up setup.part proto frame) h)
+  step_holds (Up j now fault) a books h = went_up (slice_get a.up j) where
+    by : (d : Datagram) (b : Book) (effect : Effect)
+        → Keeps setup.part.lease g (message_served setup.part (book_at now b) (message_of d.bytes)).book ⊎ Stands (Ended g.client g.address) (datagram_lines setup.part effect now (Some b) (Some d))
+        → HoldsIn setup.part.lease g (book_step setup now fault a d (Some b)).next ⊎ Stands (Ended g.client g.address) (datagram_lines setup.part effect now (Some b) (Some d))
+    by d b effect (inl keeps) = inl (served_holds setup.part.lease g setup fault a d.proto (served setup.part now d.bytes b) keeps h)
+    by d b effect (inr ended) = inr ended
+
+    opened : (d : Datagram) (b : Option Book) (effect : Effect) → IfSome b IsBook → IfSome b (Keeps setup.part.lease g)
+        → HoldsIn setup.part.lease g (book_step setup now fault a d b).next ⊎ Stands (Ended g.client g.address) (datagram_lines setup.part effect now b (Some d))
+    opened d None effect book keeps = inl h
+    opened d (Some b) effect book keeps =
+        by d b effect (keeps_served setup.part (book_at now b) (later_book now b book) g effect (message_of d.bytes) (keeps_later setup.part.lease now g b keeps))
+
+    went_up : (d : Option Datagram) → HoldsIn setup.part.lease g (up_step setup now fault a d).next ⊎ Stands (Ended g.client g.address) (datagram_lines setup.part (up_step setup now fault a d).effect now a.book d)
+    went_up None = inl h
+    went_up (Some d) = opened d a.book _ books.book h.book
+  step_holds (Down j) a books h = inl (went_down setup.part.lease g setup a (slice_get a.down j) h)
+  step_holds (Tick now) a books h = inl (record { book = ticked a.book h.book; kept = h.kept; doubt = h.doubt }) where
+    ticked : (b : Option Book) → IfSome b (Keeps setup.part.lease g) → IfSome (option_map (book_at now) b) (Keeps setup.part.lease g)
+    ticked None keeps = keeps
+    ticked (Some b) keeps = keeps_later setup.part.lease now g b keeps
+  step_holds (Restart image) a books h = inl (restarted setup.part.lease g image a h)
+
+  -- whoever grants holds
+  grant_holds : (s : Seen) (a : Alone) → HasBooks a → IsSure a → Stands (Granted g) (lines setup s a) → HoldsIn setup.part.lease g (alone_step setup s a).next
+  unfolding alone_step served
+  grant_holds (Frame proto frame) a books sure s = absurd s
+  grant_holds (Up j now fault) a books sure s = went_up (slice_get a.up j) s where
+    opened : (d : Datagram) (b : Option Book) → IfSome b IsBook → IfSome b (λ b. a.doubt ≡ None)
+        → Stands (Granted g) (datagram_lines setup.part (book_step setup now fault a d b).effect now b (Some d)) → HoldsIn setup.part.lease g (book_step setup now fault a d b).next
+    opened d None book none s = absurd s
+    opened d (Some b) book none s =
+        let done = message_served setup.part (book_at now b) (message_of d.bytes) in
+        let i = is_granted setup.part sound (book_at now b) (later_book now b book) g (served_step setup fault a d.proto done).effect (message_of d.bytes) s in
+        by_sent setup.part.lease g done.is_kept (is_fault fault) _ _ _ i.is_kept refl i.sent
+        (saved setup.part.lease g setup a d.proto done (keeps_new setup.part (book_at now b) done _ g i) (subst (λ (o : Option Book). IfSome o (Keeps setup.part.lease g)) (sym none) tt))
+
+    went_up : (d : Option Datagram) → Stands (Granted g) (datagram_lines setup.part (up_step setup now fault a d).effect now a.book d) → HoldsIn setup.part.lease g (up_step setup now fault a d).next
+    went_up None s = absurd s
+    went_up (Some d) s = opened d a.book books.book sure s
+  grant_holds (Down j) a books sure s = absurd s
+  grant_holds (Tick now) a books sure s = absurd s
+  grant_holds (Restart image) a books sure s = absurd s
+
+  -- who grants the address to another client knows of the first grant
+  grants_another : (s : Seen) (a : Alone) (h : Grant) → HasBooks a → HoldsIn setup.part.lease g a → Stands (Granted h) (lines setup s a)
+      → h.address ≡ g.address → (g.client ≡ h.client → ⊥) → g.until ≤ h.clock
+  unfolding alone_step
+  grants_another (Frame proto frame) a h books holds s same apart = absurd s
+  grants_another (Up j now fault) a h books holds s same apart = went_up (slice_get a.up j) _ s where
+    by : (b : Book) → h.clock ≡ b.clock → ((client : List ℕ) → address_of (get b.four.bindings client) ≡ Some h.address → client ≡ h.client) → Knows g b → g.until ≤ h.clock
+    by b clock own (inl past) = subst (λ t. g.until ≤ t) (sym clock) past
+    by b clock own (inr (l, is, address, more)) = absurd (apart (own g.client (ap address_of is ∙ ap Some (address ∙ sym same))))
+
+    opened : (d : Datagram) (b : Option Book) (effect : Effect) → IfSome b IsBook → IfSome b (Keeps setup.part.lease g) → Stands (Granted h) (datagram_lines setup.part effect now b (Some d)) → g.until ≤ h.clock
+    opened d None effect book keeps s = absurd s
+    opened d (Some b) effect book keeps s =
+        let i = is_granted setup.part sound (book_at now b) (later_book now b book) h effect (message_of d.bytes) s in
+        by (book_at now b) i.clock i.own (keeps_later setup.part.lease now g b keeps).1
+
+    went_up : (d : Option Datagram) (effect : Effect) → Stands (Granted h) (datagram_lines setup.part effect now a.book d) → g.until ≤ h.clock
+    went_up None effect s = absurd s
+    went_up (Some d) effect s = opened d a.book effect books.book holds.book s
+  grants_another (Down j) a h books holds s same apart = absurd s
+  grants_another (Tick now) a h books holds s same apart = absurd s
+  grants_another (Restart image) a h books holds s same apart = absurd s
+
+-- ---- an open circuit has nothing in doubt
+
+sure_framed : (setup : Setup) (a : Alone) (proto : Proto) (sent : Result (List ℕ) Discard) → IsSure a → IsSure (frame_step setup a proto sent).next
+sure_framed setup a proto (Err why) sure = sure
+sure_framed setup a proto (Ok bytes) sure = sure
+
+sure_answered : (setup : Setup) (a : Alone) (proto : Proto) (answer : Result (List ℕ) Discard) → IsSure a → IsSure (answer_step setup a proto answer).next
+sure_answered setup a proto (Err why) sure = sure
+sure_answered setup a proto (Ok bytes) sure = sure
+
+sure_replied : (a : Alone) (sent : Result SentFrame Discard) → IsSure a → IsSure (reply_step a sent).next
+sure_replied a (Err why) sure = sure
+sure_replied a (Ok frame) sure = sure
+
+sure_down : (setup : Setup) (a : Alone) (d : Option Datagram) → IsSure a → IsSure (down_step setup a d).next
+sure_down setup a None sure = sure
+sure_down setup a (Some d) sure = sure_replied a (relayed_down setup.part d.proto d.bytes) sure
+
+sure_served : (setup : Setup) (fault : ℕ) (a : Alone) (proto : Proto) (done : Served) → a.doubt ≡ None → IsSure (served_step setup fault a proto done).next
+sure_served setup fault a proto done none =
+    either_step IsSure (not done.is_kept) _ _ (sure_answered setup (record a { book = Some done.book }) proto done.answer none)
+    (either_step IsSure (is_fault fault) _ _ tt (sure_answered setup (record a { book = Some done.book; kept = Some (kept_book done.book) }) proto done.answer none))
+
+none_doubted : (doubt o : Option Book) → doubt ≡ None → IfSome o (λ b. doubt ≡ None)
+none_doubted doubt None none = tt
+none_doubted doubt (Some b) none = none
+
+sure_restarted : (image : Image) (a : Alone) → IsSure (after_restart image a)
+sure_restarted (Byte byte) a = none_doubted None (found byte a) refl
+sure_restarted Unreadable a = tt
+
+sure_step : (setup : Setup) (s : Seen) (a : Alone) → IsSure a → IsSure (alone_step setup s a).next
+unfolding alone_step
+sure_step setup (Frame proto frame) a sure = sure_framed setup a proto (relayed_up setup.part proto frame) sure
+sure_step setup (Up j now fault) a sure = went_up (slice_get a.up j) where
+  opened : (d : Datagram) (b : Option Book) → IfSome b (λ b. a.doubt ≡ None) → IsSure (book_step setup now fault a d b).next
+  opened d None none = sure
+  opened d (Some b) none = sure_served setup fault a d.proto (served setup.part now d.bytes b) none
+
+  went_up : (d : Option Datagram) → IsSure (up_step setup now fault a d).next
+  went_up None = sure
+  went_up (Some d) = opened d a.book sure
+sure_step setup (Down j) a sure = sure_down setup a (slice_get a.down j) sure
+sure_step setup (Tick now) a sure = ticked a.book sure where
+  ticked : (b : Option Book) → IfSome b (λ b. a.doubt ≡ None) → IfSome (option_map (book_at now) b) (λ b. a.doubt ≡ None)
+  ticked None none = none
+  ticked (Some b) none = none
+sure_step setup (Restart image) a sure = sure_restarted image a
+
+sure_after : (setup : Setup) (seen : List Seen) (a : Alone) → IsSure a → IsSure (after_all setup seen a)
+unfolding after_all
+sure_after setup [] a sure = sure
+sure_after setup (s ∷ seen) a sure = sure_after setup seen (alone_step setup s a).next (sure_step setup s a sure)
+
+-- ---- a run
+
+module _ (setup : Setup) (sound : IsPart setup.part) (books_step : (s : Seen) (a : Alone) → HasBooks a → HasBooks (alone_step setup s a).next) where
+  books_after : (seen : List Seen) (a : Alone) → HasBooks a → HasBooks (after_all setup seen a)
+  unfolding after_all
+  books_after [] a books = books
+  books_after (s ∷ seen) a books = books_after seen (alone_step setup s a).next (books_step s a books)
+
+  run_holds : (g : Grant) (seen : List Seen) (a : Alone) → HasBooks a → HoldsIn setup.part.lease g a
+      → HoldsIn setup.part.lease g (after_all setup seen a) ⊎ Stands (Ended g.client g.address) (ledger setup seen a)
+  unfolding after_all ledger
+  run_holds g [] a books h = inl h
+  run_holds g (s ∷ seen) a books h = by (step_holds setup sound g s a books h) (λ next. run_holds g seen (alone_step setup s a).next (books_step s a books) next) where
+    rest : HoldsIn setup.part.lease g (after_all setup seen (alone_step setup s a).next) ⊎ Stands (Ended g.client g.address) (ledger setup seen (alone_step setup s a).next)
+        → HoldsIn setup.part.lease g (after_all setup seen (alone_step setup s a).next) ⊎ Stands (Ended g.client g.address) (ledger setup (s ∷ seen) a)
+    rest (inl holds) = inl holds
+    rest (inr ended) = inr (stands_right (Ended g.client g.address) (lines setup s a) _ ended)
+
+    by : HoldsIn setup.part.lease g (alone_step setup s a).next ⊎ Stands (Ended g.client g.address) (lines setup s a)
+        → (HoldsIn setup.part.lease g (alone_step setup s a).next
+        → HoldsIn setup.part.lease g (after_all setup seen (alone_step setup s a).next) ⊎ Stands (Ended g.client g.address) (ledger setup seen (alone_step setup s a).next))
+        → HoldsIn setup.part.lease g (after_all setup seen (alone_step setup s a).next) ⊎ Stands (Ended g.client g.address) (ledger setup (s ∷ seen) a)
+    by (inl holds) on = rest (on holds)
+    by (inr ended) on = inr (stands_left (Ended g.client g.address) (lines setup s a) _ ended)
+
+  module _ (kept : Option Book) (is_book : IfSome kept IsBook) (before : List Seen) (s : Seen) (g : Grant) where
+    abbrev reached : Alone
+    reached = after_all setup before (start kept)
+
+    reached_books : HasBooks reached
+    reached_books = books_after before (start kept) (record { book = is_book; kept = is_book; doubt = tt })
+
+    reached_sure : IsSure reached
+    reached_sure = sure_after setup before (start kept) (none_doubted None kept refl)
+
+    after_grant : (seen : List Seen) → Stands (Granted g) (lines setup s reached)
+        → HoldsIn setup.part.lease g (after_all setup seen (alone_step setup s reached).next) ⊎ Stands (Ended g.client g.address) (ledger setup seen (alone_step setup s reached).next)
+    after_grant seen grants =
+        run_holds g seen (alone_step setup s reached).next (books_step s reached reached_books) (grant_holds setup sound g s reached reached_books reached_sure grants)
+
+    pub forgets_none : (seen : List Seen) (byte : ℕ) → Stands (Granted g) (lines setup s (after_all setup before (start kept)))
+        → ((b : Book) × ((alone_step setup (Restart (Byte byte)) (after_all setup (s ∷ seen) (after_all setup before (start kept)))).next.book ≡ Some b) × Knows g b)
+        ⊎ Stands (Ended g.client g.address) (ledger setup seen (alone_step setup s (after_all setup before (start kept))).next)
+    unfolding alone_step after_all
+    forgets_none seen byte grants = by (after_grant seen grants) where
+      known : (a : Alone) → HoldsIn setup.part.lease g a → (b : Book) × (found byte a ≡ Some b) × Knows g b
+      known a h = let f = found_in (Keeps setup.part.lease g) (byte == 0xa5) a.doubt a.kept h.doubt h.kept in (f.0, f.1, f.2.1)
+
+      by : HoldsIn setup.part.lease g (after_all setup seen (alone_step setup s reached).next) ⊎ Stands (Ended g.client g.address) (ledger setup seen (alone_step setup s reached).next)
+          → ((b : Book) × (found byte (after_all setup seen (alone_step setup s reached).next) ≡ Some b) × Knows g b)
+          ⊎ Stands (Ended g.client g.address) (ledger setup seen (alone_step setup s reached).next)
+      by (inl h) = inl (known _ h)
+      by (inr ended) = inr ended
+
+    pub leases_once : (between : List Seen) (t : Seen) (h : Grant) → Stands (Granted g) (lines setup s (after_all setup before (start kept)))
+        → Stands (Granted h) (lines setup t (after_all setup (s ∷ between) (after_all setup before (start kept)))) → h.address ≡ g.address → (g.client ≡ h.client → ⊥)
+        → (g.until ≤ h.clock) ⊎ Stands (Ended g.client g.address) (ledger setup between (alone_step setup s (after_all setup before (start kept))).next)
+    unfolding after_all
+    leases_once between t h grants again same apart = by (after_grant between grants) where
+      there : HasBooks (after_all setup between (alone_step setup s reached).next)
+      there = books_after between (alone_step setup s reached).next (books_step s reached reached_books)
+
+      by : HoldsIn setup.part.lease g (after_all setup between (alone_step setup s reached).next) ⊎ Stands (Ended g.client g.address) (ledger setup between (alone_step setup s reached).next)
+          → (g.until ≤ h.clock) ⊎ Stands (Ended g.client g.address) (ledger setup between (alone_step setup s reached).next)
+      by (inl holds) = inl (grants_another setup sound g t (after_all setup between (alone_step setup s reached).next) h there holds again same apart)
+      by (inr ended) = inr ended

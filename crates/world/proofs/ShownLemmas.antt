@@ -1,0 +1,253 @@
+-- What a circuit's leases make of an event, beside what its machine makes of it.
+use Rattle.std.proofs.Common.{◌≡◌, ℕ, zero, suc, ◌⊎◌, inl, inr, Bool, true, false, leb, List, refl, sym, ap, subst, subst₂, ◌∙◌, arith, ne_eqb}
+use Rattle.std.proofs.lemmas.Bool.{le-leb}
+use Rattle.std.specs.Prelude.{◌==◌, ◌&&◌, ◌||◌, not, nat_le, if◌then◌else◌, slice_get, Option, Some, None, option_map, Result, Ok, Err}
+use Rattle.types.specs.declared.discard.Discard.{Discard}
+use Rattle.types.specs.declared.discard.Discard.TheVariants.{CircuitClosed, DiskFault}
+use Rattle.config.specs.CircuitPart.{CircuitPart}
+use Rattle.dispatch.specs.Leases.{Leases, after_datagram, after_saving, after_tick, after_restart, found_leases, kept, recovered_book, restarts_of, served_leases}
+use Rattle.dispatch.specs.Received.{Answered, after_save, answered, save_fails}
+use Rattle.dispatch.specs.Server.{Book, Served, book_at, kept_book, served}
+use Rattle.lease_disk.specs.Crash.{crashed}
+use Rattle.lease_disk.specs.Region.{Region, IsClean, effective, image}
+use Rattle.lease_disk.specs.declared.image.Image.{Image}
+use Rattle.lease_disk.specs.declared.image.Image.TheVariants.{Byte, Unreadable}
+use Rattle.lossy_net.specs.Net.{Datagram}
+use Rattle.types.specs.declared.dest.Proto.{Proto}
+use Rattle.world.specs.Alone.{Alone, Dropped, Setup, answer_step, alone_step, book_step, found, is_fault, or_kept, served_step, start, up_step}
+use Rattle.world.specs.Alone as alone
+use Rattle.world.specs.Headline.{CircuitState, Shows}
+use Rattle.world.specs.Seen.{Up}
+
+-- A circuit's leases are those of its machine.
+pub record Holds (l : Leases) (a : Alone) : Type 0 where
+  pub book : l.book ≡ a.book
+  pub restarts : (byte : ℕ) → l.restarts byte ≡ found byte a
+  pub sure : (b : Book) → a.book ≡ Some b → a.doubt ≡ None
+
+pub holds : (state : CircuitState) (setup : Setup) (a : Alone) → Shows state setup a → Holds state.leases a
+holds state setup a shown = record { book = shown.book; restarts = shown.restarts; sure = shown.sure }
+
+closed_is_sure : (a : Alone) → (b : Book) → None ≡ Some b → a.doubt ≡ None
+closed_is_sure a b h = absurd cc
+
+-- ---- the start
+
+found_alike : (kept : Option Book) (b : Bool) → kept ≡ (if b then or_kept None kept else kept)
+found_alike kept true = refl
+found_alike kept false = refl
+
+pub holds_start : (l : Leases) (kept : Option Book) → l.book ≡ kept → ((byte : ℕ) → l.restarts byte ≡ kept) → Holds l (start kept)
+holds_start l kept book restarts = record {
+  book = book;
+  restarts = λ byte. restarts byte ∙ found_alike kept (byte == 0xa5);
+  sure = λ b opened. refl;
+}
+
+-- of a region of which no byte is unsynced a crash changes none
+pub clean_image : (r : Region) → IsClean r → (byte : ℕ) → image byte r ≡ r.byte
+clean_image r clean byte = λ i n. if clean.each n i then byte else r.byte n
+
+-- ---- a moment
+
+sure_at : (now : ℕ) (book doubt : Option Book) → ((b : Book) → book ≡ Some b → doubt ≡ None) → (b : Book) → option_map (book_at now) book ≡ Some b → doubt ≡ None
+sure_at now None doubt sure b h = absurd cc
+sure_at now (Some opened) doubt sure b h = sure opened refl
+
+pub holds_tick : (now : ℕ) (l : Leases) (a : Alone) → Holds l a → Holds (after_tick now l) (record a { book = option_map (book_at now) a.book })
+holds_tick now l a h = record { book = ap (option_map (book_at now)) h.book; restarts = h.restarts; sure = sure_at now a.book a.doubt h.sure }
+
+-- ---- a restart
+
+pub holds_restart : (i : Image) (l : Leases) (a : Alone) → Holds l a → Holds (after_restart i l) (alone.after_restart i a)
+holds_restart (Byte byte) l a h = record {
+  book = h.restarts byte;
+  restarts = λ any. h.restarts byte ∙ found_alike (found byte a) (any == 0xa5);
+  sure = λ b opened. refl;
+}
+holds_restart Unreadable l a h = record { book = refl; restarts = h.restarts; sure = closed_is_sure a }
+
+-- what is found in a region as a crash left it
+pub found_crashed : (part : CircuitPart) (i : Image) (old new : ℕ → Region) (book : Option Book) → new part.region ≡ crashed i (old part.region)
+    → found_leases new part ≡ after_restart i (record { book = book; restarts = restarts_of part (old part.region) })
+found_crashed part (Byte byte) old new book is =
+    ap (λ r. record { book = if r.readable then recovered_book part r.byte else None; restarts = restarts_of part r }) is
+found_crashed part Unreadable old new book is =
+    ap (λ r. record { book = if r.readable then recovered_book part r.byte else None; restarts = restarts_of part r }) is
+
+-- ---- a datagram at the server
+
+-- the machine's books after a save that did not fail, after one that did, and after what its server made of
+-- a datagram
+abbrev saved : Book → Alone → Alone
+saved b a = record a { book = Some b; kept = Some (kept_book b) }
+
+abbrev torn : ℕ → Book → Alone → Alone
+torn fault b a = record a { book = None; doubt = if nat_le 5 fault then Some (kept_book b) else a.doubt }
+
+abbrev booked : ℕ → Served → Alone → Alone
+booked fault done a = if not done.is_kept then record a { book = Some done.book } else if is_fault fault then torn fault done.book a else saved done.book a
+
+abbrev pub after_up : CircuitPart → ℕ → List ℕ → ℕ → Alone → Option Book → Alone
+after_up part now bytes fault a None = a
+after_up part now bytes fault a (Some b) = booked fault (served part now bytes b) a
+
+-- whether the save that a datagram asks for fails
+abbrev pub its_fails : CircuitPart → ℕ → List ℕ → ℕ → Option Book → Bool
+its_fails part now bytes fault None = false
+its_fails part now bytes fault (Some b) = save_fails fault (served part now bytes b)
+
+-- No call of the save fails, or the one that the fault names does.
+record IsNone (fault : ℕ) : Type 0 where
+  none : effective 6 fault ≡ 0
+  not_one : is_fault fault ≡ false
+
+record IsOne (fault : ℕ) : Type 0 where
+  one : effective 6 fault ≡ fault
+  is_one : is_fault fault ≡ true
+  not_zero : (fault == 0) ≡ false
+
+classify : (fault : ℕ) → IsNone fault ⊎ IsOne fault
+classify zero = inl (record { none = refl; not_one = refl })
+classify (suc n) = by (leb (suc n) 6) refl where
+  by : (b : Bool) → leb (suc n) 6 ≡ b → IsNone (suc n) ⊎ IsOne (suc n)
+  by true within = inr (record { one = ap (λ b. if b then suc n else 0) within; is_one = (λ i. le-leb 1 (suc n) (omega arith) i && within i); not_zero = ne_eqb (suc n) 0 (λ h. omega (arith, h)) })
+  by false past = inl (record { none = ap (λ b. if b then suc n else 0) past; not_one = (λ i. le-leb 1 (suc n) (omega arith) i && past i) })
+
+fails_is : (fault : ℕ) → (effective 6 fault == 0) ≡ not (is_fault fault)
+fails_is fault = by (classify fault) where
+  by : IsNone fault ⊎ IsOne fault → (effective 6 fault == 0) ≡ not (is_fault fault)
+  by (inl c) = (λ i. c.none i == 0) ∙ sym (ap not c.not_one)
+  by (inr c) = (λ i. c.one i == 0) ∙ c.not_zero ∙ sym (ap not c.is_one)
+
+-- a save that did not fail: every restart finds its book
+found_saved : (b : Book) (doubt : Option Book) (gate : Bool) → doubt ≡ None → Some b ≡ (if gate then or_kept doubt (Some b) else Some b)
+found_saved b doubt true none = sym (ap (λ d. or_kept d (Some b)) none)
+found_saved b doubt false none = refl
+
+-- a save that failed: a restart may find its book from the fifth call on
+found_torn : (b : Book) (doubt kept : Option Book) (late gate : Bool)
+    → (if late && gate then Some b else if gate then or_kept doubt kept else kept) ≡ (if gate then or_kept (if late then Some b else doubt) kept else kept)
+found_torn b doubt kept true true = refl
+found_torn b doubt kept true false = refl
+found_torn b doubt kept false true = refl
+found_torn b doubt kept false false = refl
+
+module _ (fault : ℕ) (l : Leases) (a : Alone) (h : Holds l a) (was : Book) (opened : a.book ≡ Some was) where
+  holds_saved : (b : Book) → Holds (after_saving 0 b l) (saved b a)
+  holds_saved b = record {
+    book = refl;
+    restarts = λ byte. found_saved (kept_book b) a.doubt (byte == 0xa5) (h.sure was opened);
+    sure = λ any now_open. h.sure was opened;
+  }
+
+  holds_torn : (b : Book) → (fault == 0) ≡ false → Holds (after_saving fault b l) (torn fault b a)
+  holds_torn b not_zero = record {
+    book = ap (λ z. if z then Some b else None) not_zero;
+    restarts = λ byte.
+        (λ i. if not_zero i || (nat_le 5 fault && byte == 0xa5) then Some (kept_book b) else h.restarts byte i)
+        ∙ found_torn (kept_book b) a.doubt a.kept (nat_le 5 fault) (byte == 0xa5);
+    sure = closed_is_sure (torn fault b a);
+  }
+
+  holds_after_saving : (b : Book) → IsNone fault ⊎ IsOne fault → Holds (after_saving (effective 6 fault) b l) (if is_fault fault then torn fault b a else saved b a)
+  holds_after_saving b (inl c) =
+      let P : ℕ → Bool → Type 0 = λ k f. Holds (after_saving k b l) (if f then torn fault b a else saved b a) in
+      subst₂ P (sym c.none) (sym c.not_one) (holds_saved b)
+  holds_after_saving b (inr c) =
+      let P : ℕ → Bool → Type 0 = λ k f. Holds (after_saving k b l) (if f then torn fault b a else saved b a) in
+      subst₂ P (sym c.one) (sym c.is_one) (holds_torn b c.not_zero)
+
+  holds_kept : (answer : Result (List ℕ) Discard) (b : Book) (is_kept : Bool)
+      → Holds (kept fault (record { answer = answer; book = b; is_kept = is_kept }) l) (booked fault (record { answer = answer; book = b; is_kept = is_kept }) a)
+  holds_kept answer b true = holds_after_saving b (classify fault)
+  holds_kept answer b false = record { book = refl; restarts = h.restarts; sure = λ any now_open. h.sure was opened }
+
+pub holds_datagram : (part : CircuitPart) (now : ℕ) (bytes : List ℕ) (fault : ℕ) (l : Leases) (a : Alone) → Holds l a
+    → Holds (after_datagram part now bytes fault l) (after_up part now bytes fault a a.book)
+holds_datagram part now bytes fault l a h =
+    let P : Option Book → Type 0 = λ book. Holds (served_leases part now bytes fault l book) (after_up part now bytes fault a a.book) in
+    subst P (sym h.book) (by a.book refl)
+  where
+    by : (book : Option Book) → a.book ≡ book → Holds (served_leases part now bytes fault l book) (after_up part now bytes fault a book)
+    by None is = h
+    by (Some b) is = let done = served part now bytes b in holds_kept fault l a h b is done.answer done.book done.is_kept
+
+-- ---- the machine's answer
+
+abbrev pub its_answer : CircuitPart → ℕ → List ℕ → ℕ → Option Book → Result (List ℕ) Discard
+its_answer part now bytes fault book = (answered part now bytes (its_fails part now bytes fault book) book).answer
+
+module _ (setup : Setup) (fault : ℕ) (a : Alone) (proto : Proto) (answer : Result (List ℕ) Discard) (b : Book) where
+  abbrev of : Bool → Served
+  of is_kept = record { answer = answer; book = b; is_kept = is_kept }
+
+  by_fault : (f : Bool) → (if f then record { effect = Dropped DiskFault; next = torn fault b a } else answer_step setup (saved b a) proto answer)
+      ≡ answer_step setup (if f then torn fault b a else saved b a) proto (after_save (not (not f)) (of true)).answer
+  by_fault true = refl
+  by_fault false = refl
+
+  served_step_is : (is_kept : Bool) → served_step setup fault a proto (of is_kept) ≡ answer_step setup (booked fault (of is_kept) a) proto (after_save (save_fails fault (of is_kept)) (of is_kept)).answer
+  served_step_is true =
+      by_fault (is_fault fault)
+      ∙ sym (ap (λ z. answer_step setup (booked fault (of true) a) proto (after_save (not z) (of true)).answer) (fails_is fault))
+  served_step_is false = refl
+
+-- a closed circuit, or a datagram that is served
+book_step_is : (setup : Setup) (now fault : ℕ) (a : Alone) (d : Datagram) (book : Option Book)
+    → book_step setup now fault a d book ≡ answer_step setup (after_up setup.part now d.bytes fault a book) d.proto (its_answer setup.part now d.bytes fault book)
+book_step_is setup now fault a d None = refl
+book_step_is setup now fault a d (Some b) = let done = served setup.part now d.bytes b in served_step_is setup fault a d.proto done.answer done.book done.is_kept
+
+pub up_step_is : (setup : Setup) (a : Alone) (j now fault : ℕ) (d : Datagram) → slice_get a.up j ≡ Some d
+    → alone_step setup (Up j now fault) a ≡ answer_step setup (after_up setup.part now d.bytes fault a a.book) d.proto (its_answer setup.part now d.bytes fault a.book)
+unfolding alone_step
+up_step_is setup a j now fault d is = ap (up_step setup now fault a) is ∙ book_step_is setup now fault a d a.book
+
+-- ---- the queues
+
+-- neither a datagram at the server nor a restart takes from the network
+booked_up : (fault : ℕ) (b : Book) (a : Alone) (is_kept f : Bool) → (if not is_kept then record a { book = Some b } else if f then torn fault b a else saved b a).up ≡ a.up
+booked_up fault b a true true = refl
+booked_up fault b a true false = refl
+booked_up fault b a false f = refl
+
+booked_down : (fault : ℕ) (b : Book) (a : Alone) (is_kept f : Bool) → (if not is_kept then record a { book = Some b } else if f then torn fault b a else saved b a).down ≡ a.down
+booked_down fault b a true true = refl
+booked_down fault b a true false = refl
+booked_down fault b a false f = refl
+
+pub up_stays : (part : CircuitPart) (now : ℕ) (bytes : List ℕ) (fault : ℕ) (a : Alone) (book : Option Book) → (after_up part now bytes fault a book).up ≡ a.up
+up_stays part now bytes fault a None = refl
+up_stays part now bytes fault a (Some b) = let done = served part now bytes b in booked_up fault done.book a done.is_kept (is_fault fault)
+
+pub down_stays : (part : CircuitPart) (now : ℕ) (bytes : List ℕ) (fault : ℕ) (a : Alone) (book : Option Book) → (after_up part now bytes fault a book).down ≡ a.down
+down_stays part now bytes fault a None = refl
+down_stays part now bytes fault a (Some b) = let done = served part now bytes b in booked_down fault done.book a done.is_kept (is_fault fault)
+
+pub restart_ups : (i : Image) (a : Alone) → (alone.after_restart i a).up ≡ a.up
+restart_ups (Byte byte) a = refl
+restart_ups Unreadable a = refl
+
+pub restart_downs : (i : Image) (a : Alone) → (alone.after_restart i a).down ≡ a.down
+restart_downs (Byte byte) a = refl
+restart_downs Unreadable a = refl
+
+-- ---- a reply
+
+-- a reply is what the server makes of an open circuit's book
+pub record IsReplyOf (part : CircuitPart) (now : ℕ) (bytes reply : List ℕ) : Type 0 where
+  pub book : Book
+  pub answer : (served part now bytes book).answer ≡ Ok reply
+
+reply_by : (done : Served) (v : Bool) (reply : List ℕ) → (if◌then◌else◌ {A = Answered} v (record { answer = Err DiskFault; book = None }) (record { answer = done.answer; book = Some done.book })).answer ≡ Ok reply
+    → done.answer ≡ Ok reply
+reply_by done true reply h = let e : Err DiskFault ≡ Ok reply = h in absurd cc
+reply_by done false reply h = h
+
+pub reply_of : (part : CircuitPart) (now : ℕ) (bytes : List ℕ) (fails : Bool) (book : Option Book) (reply : List ℕ) → (answered part now bytes fails book).answer ≡ Ok reply
+    → IsReplyOf part now bytes reply
+reply_of part now bytes fails None reply h = let e : Err CircuitClosed ≡ Ok reply = h in absurd cc
+reply_of part now bytes fails (Some b) reply h =
+    let done = served part now bytes b in
+    record { book = b; answer = reply_by done (done.is_kept && fails) reply h }

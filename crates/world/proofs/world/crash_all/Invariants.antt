@@ -1,0 +1,16 @@
+use Rattle.std.proofs.Common.{◌≡◌, ℕ, ◌<◌, ◌≤◌, length}
+use Rattle.std.specs.Prelude.{Some, slice_get}
+use Rattle.config.specs.CircuitPart.{CircuitPart}
+use Rattle.dispatch.specs.ServerValue.{parts_in}
+use Rattle.lease_disk.specs.Crash.{crashed}
+use Rattle.lease_disk.specs.Model.{state_of}
+use Rattle.world.specs.Seen.{image_at}
+use Rattle.world.proofs.world.crash_all.Given as goal
+
+-- the regions of the circuits so far are as their images say, and those of the others as they were
+abbrev pub invariant-circuits : goal.invariant-circuits
+invariant-circuits l = record {
+  count : length l.disk.regions ≡ length l.fn.disk.regions;
+  done : (c : ℕ) (part : CircuitPart) → slice_get (parts_in l.server) c ≡ Some part → c < l.index → state_of l.disk part.region ≡ crashed (image_at c l.images) (state_of l.fn.disk part.region);
+  others : (c : ℕ) (part : CircuitPart) → slice_get (parts_in l.server) c ≡ Some part → l.index ≤ c → state_of l.disk part.region ≡ state_of l.fn.disk part.region;
+}
