@@ -3,9 +3,12 @@ pub mod CauseLemmas
 pub mod CircuitLemmas
 pub mod CutLemmas
 pub mod NumberLemmas
+pub mod PartLemmas
 pub mod ReadLemmas
 pub mod RegionLemmas
 pub mod RelayLemmas
+pub mod RestartLemmas
 pub mod RunLemmas
+pub mod StartLemmas
 pub mod WriteLemmas
 pub mod LineResultLemmas

@@ -20,8 +20,13 @@ use Rattle.config.specs.declared.settings.RelayConfig.{RelayConfig}
 use Rattle.types.specs.declared.addr.Source.{Source}
 use Rattle.types.specs.declared.discard.Discard.TheVariants.{UnknownSource, NotServer}
 use Rattle.types.specs.declared.discard.Discard.{Discard}
-use Rattle.daemon.specs.Lab.{part_result, line_result, moved, ticked}
-use Rattle.daemon.specs.Line.{Bad, Stray, line_of_text, short_line}
+use Rattle.std.specs.Borrow.{Bor}
+use Rattle.lease_disk.specs.declared.image.Image.{Image}
+use Rattle.world.specs.Seen as sees
+use Rattle.daemon.specs.Fields.{image_in}
+use Rattle.daemon.specs.ParsedLine.{IsRestart}
+use Rattle.daemon.specs.Lab.{part_result, line_result, moved, ticked, restarted}
+use Rattle.daemon.specs.Line.{Line, Bad, Stray, line_of_text, short_line}
 use Rattle.daemon.specs.Writing.{AppendsPrefix}
 use Rattle.daemon.specs.Follows.{AllRepresent, Names, Follows}
 use Rattle.daemon.specs.Output.{effect_text, outcome_effect, with_newline}
@@ -114,6 +119,27 @@ represents_ticked settings quota now states new o out machines steps represents 
       subst (λ p. Represents c new (record { part = part; quota = quota }) (ticked quota now (machines c) p)) (sym h)
       (steps.each c (record { part = part; quota = quota }) (machines c) (represents.each c part h));
 }
+
+-- the server and the disk start again
+pub restart_applied : (settings : Settings) (quota number : ℕ) (images : Bor (List Image)) (line : Line) (states new : List CircuitState) (o : Outcome) (out : List ℕ) (machines : ℕ → Alone) (held holds : Option (List ℕ))
+    → IsRestart images.now line → Steps (event.Restart images) states new o out → AllRepresent settings quota states machines → Appends held holds (with_newline (effect_text [] Done))
+    → Follows settings quota number (line_result settings quota machines line) new held holds None
+restart_applied settings quota number images line states new o out machines held holds is steps represents written =
+    subst (λ l. Follows settings quota number (line_result settings quota machines l) new held holds None) (sym is.is) (record {
+      appended = written;
+      represents = record {
+        each = λ c part h.
+            let setup : Setup = record { part = part; quota = quota } in
+            subst (λ p. Represents c new setup (restarted quota (image_in c is.named) (machines c) p)) (sym h)
+            (subst (λ image. Represents c new setup (alone_step setup (sees.Restart image) (machines c)).next) (is.each c)
+            (steps.each c setup (machines c) (represents.each c part h)));
+      };
+    })
+
+pub restart_not_written : (settings : Settings) (quota number : ℕ) (images : List Image) (line : Line) (states : List CircuitState) (machines : ℕ → Alone) (held holds : Option (List ℕ))
+    → IsRestart images line → AppendsPrefix held holds (with_newline (effect_text [] Done)) → Follows settings quota number (line_result settings quota machines line) states held holds (Some 6)
+restart_not_written settings quota number images line states machines held holds is written =
+    subst (λ l. Follows settings quota number (line_result settings quota machines l) states held holds (Some 6)) (sym is.is) (refl, written)
 
 -- a stray, which changes nothing
 stray_is : (expected : Option Outcome) (o : Outcome) (why : Discard) → IfSome expected (λ v. o ≡ v) → expected ≡ Some (outcome.Dropped why) → o ≡ outcome.Dropped why

@@ -5,15 +5,14 @@ use Rattle.std.specs.Io.KnownBytes.{Appends, Consumes, Keeps, IsAtEnd, prepend_k
 use Rattle.std.proofs.KnownBytes.{prepend_known-nil}
 use Rattle.std.proofs.lemmas.Option.{same_Some}
 use Rattle.config.specs.Rules.{Settings}
-use Rattle.world.specs.Alone.{Alone, start}
+use Rattle.world.specs.Alone.{Alone}
 use Rattle.world.specs.Headline.{CircuitState}
-use Rattle.world.specs.Start.{Starts}
 use Rattle.daemon.specs.LineEnd.{IsLine, IsLast, IsLong, IsCut}
-use Rattle.daemon.specs.Lab.{Output, LineResult, Refused, Applied, line_result, and_then, lab_from, lab_output}
+use Rattle.daemon.specs.Lab.{Output, LineResult, Refused, Applied, line_result, and_then, first_machines, lab_from, lab_output}
 use Rattle.daemon.specs.Line.{line_of_text}
 use Rattle.daemon.specs.Lines.{lacks, lines_of}
 use Rattle.daemon.specs.Writing.{AppendsPrefix}
-use Rattle.daemon.specs.Follows.{AllRepresent, IsRefusal, Follows, FollowsLast, Ends}
+use Rattle.daemon.specs.Follows.{AllRepresent, Begins, IsRefusal, Follows, FollowsLast, Ends}
 use Rattle.daemon.specs.Output.{bad_text}
 use Rattle.daemon.proofs.AheadLemmas.{all_consumed}
 use Rattle.daemon.proofs.CutLemmas.{line_before, line_begins, line_last}
@@ -35,10 +34,10 @@ pub record SoFar (settings : Settings) (quota number : ℕ) (given left held hol
   pub appended : Appends held holds written
   pub whole : (rest : List ℕ) → lab_output settings quota (read ++ rest) ≡ after written (lab_from settings quota number machines (lines_of rest))
 
-at_first : (settings : Settings) (quota : ℕ) (given held : Option (List ℕ)) (states : List CircuitState) → Starts settings quota states → SoFar settings quota 1 given given held held states
+at_first : (settings : Settings) (quota : ℕ) (given held : Option (List ℕ)) (states : List CircuitState) → Begins settings quota states → SoFar settings quota 1 given given held held states
 at_first settings quota given held states starts = record {
-  machines = λ c. start;
-  represents = record { each = starts.each };
+  machines = first_machines settings;
+  represents = starts;
   read = [];
   consumed = consumes_none given;
   written = [];
@@ -47,7 +46,7 @@ at_first settings quota given held states starts = record {
 }
 
 -- nothing is held at first
-pub at_start : (settings : Settings) (quota : ℕ) (given : Option (List ℕ)) (none : List ℕ) (writes : Option (List ℕ)) (states : List CircuitState) → none ≡ [] → Starts settings quota states
+pub at_start : (settings : Settings) (quota : ℕ) (given : Option (List ℕ)) (none : List ℕ) (writes : Option (List ℕ)) (states : List CircuitState) → none ≡ [] → Begins settings quota states
     → SoFar settings quota 1 given (prepend_known none given) writes writes states
 at_start settings quota given none writes states is starts =
     subst (λ left. SoFar settings quota 1 given left writes writes states) (sym (ap (λ v. prepend_known v given) is ∙ prepend_known-nil given)) (at_first settings quota given writes states starts)

@@ -1,9 +1,11 @@
--- The value of a field: a number, bytes, a circuit, a relay, or an address and port.
-use Rattle.std.specs.Prelude.{ℕ, ◌+◌, ◌-◌, ◌*◌, nat_le, ◌==◌, Bool, true, false, if◌then◌else◌, List, [], ◌∷◌, length, take, drop, codes, position, Option, option_map, Some, None, Result, Ok, Err}
+-- The value of a field: a number, bytes, a circuit, a relay, an address and port, or an image of a region.
+use Rattle.std.specs.Prelude.{ℕ, ◌+◌, ◌-◌, ◌*◌, nat_le, ◌==◌, ◌||◌, Bool, true, false, if◌then◌else◌, List, [], ◌∷◌, length, take, drop, codes, position, Option, option_map, Some, None, Result, Ok, Err}
 use Rattle.std.specs.Str.{bytes_eq}
 use Rattle.std.specs.Char.{is_ascii_digit}
 use Rattle.hex.specs.Hex.{decode_of}
 use Rattle.hex.specs.declared.error.FromHexError.{FromHexError}
+use Rattle.lease_disk.specs.declared.image.Image.{Image}
+use Rattle.lease_disk.specs.declared.image.Image.TheVariants.{Byte, Unreadable}
 use Rattle.types.specs.declared.addr.Addr4.{Addr4}
 use Rattle.types.specs.declared.addr.Source.{Source}
 use Rattle.config.specs.Rules.{Settings}
@@ -85,3 +87,47 @@ source_of text = do
   addr ← address_of parts.0
   port ← at_least 1 (number_to 65535 parts.1)
   Some (record { addr = addr; port = port })
+
+-- ---- the image of a circuit's region
+
+-- a byte in front of what stands before the mark
+abbrev pub with_front : ℕ → List ℕ × List ℕ → List ℕ × List ℕ
+with_front b parts = (b ∷ parts.0, parts.1)
+
+abbrev pub or_here : Bool → ℕ → List ℕ → Option (List ℕ × List ℕ) → Option (List ℕ × List ℕ)
+or_here here b text (Some parts) = Some (with_front b parts)
+or_here here b text None = if here then Some ([], text) else None
+
+-- what a text has before and behind the last of these bytes
+unfoldable pub parted_last : ℕ → List ℕ → Option (List ℕ × List ℕ)
+parted_last byte [] = None
+parted_last byte (b ∷ text) = or_here (b == byte) b text (parted_last byte text)
+
+abbrev pub byte_in : Option (List ℕ) → Option Image
+byte_in (Some (b ∷ [])) = Some (Byte b)
+byte_in _ = None
+
+-- `unreadable`, or the byte that two hexadecimal digits of either case spell
+abbrev pub image_of : List ℕ → Option Image
+image_of text =
+    if bytes_eq text (codes "unreadable") then Some Unreadable
+    else if length text == 2 then byte_in (ok_of (decode_of text))
+    else None
+
+-- `CID=IMAGE`, parted at the last `=` (61)
+abbrev pub named_image : Settings → List ℕ → Option (ℕ × Image)
+named_image settings field = do
+  parts ← parted_last 61 field
+  c ← circuit_named settings parts.0
+  image ← image_of parts.1
+  Some (c, image)
+
+-- these images name circuit c
+unfoldable pub is_named : ℕ → List (ℕ × Image) → Bool
+is_named c [] = false
+is_named c (named ∷ rest) = named.0 == c || is_named c rest
+
+-- the image that is named for circuit c, and the byte 0 where none is
+unfoldable pub image_in : ℕ → List (ℕ × Image) → Image
+image_in c [] = Byte 0
+image_in c (named ∷ rest) = if named.0 == c then named.1 else image_in c rest

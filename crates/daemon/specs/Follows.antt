@@ -7,13 +7,17 @@ use Rattle.world.specs.Alone.{Alone}
 use Rattle.world.specs.Headline.{CircuitState, Represents}
 use Rattle.world.specs.Seen.{Seen, seen_of}
 use Rattle.world.specs.declared.event.Event.{Event}
-use Rattle.daemon.specs.Lab.{LineResult, Refused, Applied, lab_output}
+use Rattle.daemon.specs.Lab.{LineResult, Refused, Applied, first_machines, lab_output}
 use Rattle.daemon.specs.Output.{bad_text}
 use Rattle.daemon.specs.Writing.{AppendsPrefix}
 
 -- each circuit's state represents its machine
 pub record AllRepresent (settings : Settings) (quota : ℕ) (states : List CircuitState) (machines : ℕ → Alone) : Type 0 where
   pub each : (c : ℕ) (part : CircuitPart) → part_in settings c ≡ Some part → Represents c states (record { part = part; quota = quota }) (machines c)
+
+-- The states of a world that was opened over formatted regions.
+abbrev pub Begins : Settings → ℕ → List CircuitState → Type 0
+Begins settings quota states = AllRepresent settings quota states (first_machines settings)
 
 -- The event is this one, seen by this circuit alone.
 abbrev pub Names : ℕ → Seen → Event → Type 0

@@ -2,10 +2,15 @@
 use Rattle.std.specs.Prelude.{ℕ, ◌+◌, ◌==◌, if◌then◌else◌, List, [], ◌∷◌, ◌++◌, Option, Some, None}
 use Rattle.config.specs.CircuitPart.{CircuitPart, part_in}
 use Rattle.config.specs.Rules.{Settings}
+use Rattle.dispatch.specs.Leases.{recovered_book}
+use Rattle.lease_disk.specs.declared.image.Image.{Image}
+use Rattle.lease_disk.specs.Crash.{formatted_region}
+use Rattle.lease_disk.specs.Region.{Region}
 use Rattle.world.specs.Alone.{Alone, Step, Dropped, Done, start, alone_step}
 use Rattle.world.specs.Seen.{Seen}
 use Rattle.world.specs.Seen as sees
-use Rattle.daemon.specs.Line.{Line, Ignored, Bad, Named, Tick, Stray, line_of_text}
+use Rattle.daemon.specs.Fields.{image_in}
+use Rattle.daemon.specs.Line.{Line, Ignored, Bad, Named, Tick, Restart, Stray, line_of_text}
 use Rattle.daemon.specs.Lines.{lines_of}
 use Rattle.daemon.specs.Output.{effect_text, with_newline, bad_text}
 
@@ -35,12 +40,19 @@ abbrev pub ticked : ℕ → ℕ → Alone → Option CircuitPart → Alone
 ticked quota now a None = a
 ticked quota now a (Some part) = (alone_step (record { part = part; quota = quota }) (sees.Tick now) a).next
 
+-- the server and the disk start again for a machine
+abbrev pub restarted : ℕ → Image → Alone → Option CircuitPart → Alone
+restarted quota image a None = a
+restarted quota image a (Some part) = (alone_step (record { part = part; quota = quota }) (sees.Restart image) a).next
+
 abbrev pub line_result : Settings → ℕ → (ℕ → Alone) → Line → LineResult
 line_result settings quota machines Ignored = Applied [] machines
 line_result settings quota machines Bad = Refused
 line_result settings quota machines (Named c seen) = part_result quota c seen machines (part_in settings c)
 line_result settings quota machines (Tick now) =
     Applied (with_newline (effect_text [] Done)) (λ c. ticked quota now (machines c) (part_in settings c))
+line_result settings quota machines (Restart named) =
+    Applied (with_newline (effect_text [] Done)) (λ c. restarted quota (image_in c named) (machines c) (part_in settings c))
 -- a stray changes no machine
 line_result settings quota machines (Stray why) = Applied (with_newline (effect_text [] (Dropped why))) machines
 
@@ -55,6 +67,15 @@ lab_from settings quota n machines [] = record { text = []; status = 0 }
 lab_from settings quota n machines (line ∷ lines) =
     and_then n (line_result settings quota machines (line_of_text settings line)) (λ next. lab_from settings quota (n + 1) next lines)
 
+-- a circuit's machine at the start, with the book that its region holds
+abbrev pub machine_over : (ℕ → Region) → Option CircuitPart → Alone
+machine_over regions None = start None
+machine_over regions (Some part) = start (recovered_book part (regions part.region).byte)
+
+-- each circuit's machine at the start, when every region was just formatted
+abbrev pub first_machines : Settings → ℕ → Alone
+first_machines settings c = machine_over (λ q. formatted_region) (part_in settings c)
+
 -- the output for a text
 abbrev pub lab_output : Settings → ℕ → List ℕ → Output
-lab_output settings quota text = lab_from settings quota 1 (λ c. start) (lines_of text)
+lab_output settings quota text = lab_from settings quota 1 (first_machines settings) (lines_of text)

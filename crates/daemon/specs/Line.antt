@@ -2,12 +2,13 @@
 use Rattle.std.specs.Prelude.{ℕ, nat_lt, ◌==◌, Bool, true, if◌then◌else◌, List, [], ◌∷◌, length, codes, Option, Some, None}
 use Rattle.std.specs.Str.{bytes_eq}
 use Rattle.config.specs.Rules.{Settings}
+use Rattle.lease_disk.specs.declared.image.Image.{Image}
 use Rattle.types.specs.declared.dest.Proto.TheVariants.{V4}
 use Rattle.types.specs.declared.discard.Discard.{Discard}
 use Rattle.types.specs.declared.discard.Discard.TheVariants.{UnknownSource, NotServer}
 use Rattle.relay.specs.Relays.{topology_of, is_relay, is_server}
 use Rattle.world.specs.Seen.{Seen, Frame, Up, Down}
-use Rattle.daemon.specs.Fields.{number_to, bytes_of, circuit_named, relay_named, source_of}
+use Rattle.daemon.specs.Fields.{number_to, bytes_of, circuit_named, relay_named, source_of, named_image, is_named}
 use Rattle.daemon.specs.Lines.{fields_of}
 
 pub data Line : Type 0 where
@@ -19,6 +20,8 @@ pub data Line : Type 0 where
   Named : ℕ → Seen → Line
   -- the moment passes for all circuits
   Tick : ℕ → Line
+  -- the server and the disk start again, with these images of circuits' regions
+  Restart : List (ℕ × Image) → Line
   -- a stray, which is dropped for this reason
   Stray : Discard → Line
 
@@ -38,15 +41,15 @@ frame_line settings (circuit ∷ proto ∷ digits ∷ []) =
     else Bad
 frame_line settings fields = Bad
 
--- `up CID J NOW FAULT`: J is 0 to 65535, NOW is 0 to 2^40 - 1, and the fault is 0, no fault
+-- `up CID J NOW FAULT`: J is 0 to 65535, NOW is 0 to 2^40 - 1, and the fault is 0, for
+-- none, or the call of the disk that fails in the save, 1 to 6
 abbrev pub up_line : Settings → List (List ℕ) → Line
-up_line settings (circuit ∷ j ∷ now ∷ fault ∷ []) =
-    if bytes_eq fault (codes "0") then (do
-      c ← circuit_named settings circuit
-      number ← number_to 65535 j
-      moment ← number_to 1099511627775 now
-      Named c (Up number moment 0))
-    else Bad
+up_line settings (circuit ∷ j ∷ now ∷ fault ∷ []) = do
+  c ← circuit_named settings circuit
+  number ← number_to 65535 j
+  moment ← number_to 1099511627775 now
+  call ← number_to 6 fault
+  Named c (Up number moment call)
 up_line settings fields = Bad
 
 -- `down CID J`
@@ -84,10 +87,16 @@ stray_down_line settings (name ∷ from ∷ digits ∷ []) = do
   if is_server (topology_of settings) source then Bad else Stray NotServer
 stray_down_line settings fields = Bad
 
--- the line by its first field
-abbrev pub line_for_word : Settings → List (List ℕ) → Line
-line_for_word settings [] = Bad
-line_for_word settings (word ∷ fields) =
+-- `restart` and `CID=IMAGE` any number of times, after these images. No circuit may be named twice.
+unfoldable pub restart_line : Settings → List (ℕ × Image) → List (List ℕ) → Line
+restart_line settings named [] = Restart named
+restart_line settings named (field ∷ fields) = do
+  next ← named_image settings field
+  if is_named next.0 named then Bad else restart_line settings (next ∷ named) fields
+
+-- the line of one event by its first field and the others
+abbrev pub event_line : Settings → List ℕ → List (List ℕ) → Line
+event_line settings word fields =
     if bytes_eq word (codes "frame") then frame_line settings fields
     else if bytes_eq word (codes "up") then up_line settings fields
     else if bytes_eq word (codes "down") then down_line settings fields
@@ -95,6 +104,12 @@ line_for_word settings (word ∷ fields) =
     else if bytes_eq word (codes "strayup") then stray_up_line settings fields
     else if bytes_eq word (codes "straydown") then stray_down_line settings fields
     else Bad
+
+-- the line by its first field
+abbrev pub line_for_word : Settings → List (List ℕ) → Line
+line_for_word settings [] = Bad
+line_for_word settings (word ∷ fields) =
+    if bytes_eq word (codes "restart") then restart_line settings [] fields else event_line settings word fields
 
 -- An empty line, or one that begins with `#` (35), is ignored.
 abbrev pub is_ignored : List ℕ → Bool

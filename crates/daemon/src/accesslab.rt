@@ -6,6 +6,7 @@ mod digits;
 mod engine;
 mod fields;
 mod hexadecimal;
+mod images;
 mod line;
 mod opening;
 mod output;

@@ -1,11 +1,12 @@
 //! A world of one circuit and the one client that it answers.
 use config::Config;
 use fixtures::{ONE_CIRCUIT, client_frame, offer};
+use lease_disk::ModelDisk;
 use std::alloc::Global;
 use std::fmt;
 use types::{Addr4, Circuit, Count, Dest, Kind4, Moment, Proto};
 use wire::PacketBuf;
-use world::{Event, ModelDisk, Outcome, Sink, World};
+use world::{Event, Outcome, Sink, World};
 
 /// The number of the fault of a configuration that is refused because memory ran out.
 const MEMORY: u8 = 40;

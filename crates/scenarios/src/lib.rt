@@ -6,6 +6,8 @@ mod circuits;
 #[cfg(test)]
 mod leases;
 #[cfg(test)]
+mod restarts;
+#[cfg(test)]
 mod rows;
 #[cfg(test)]
 mod tests;

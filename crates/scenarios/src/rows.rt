@@ -86,6 +86,6 @@ pub(crate) const ROWS: [Row; 14] = [
         &[Text("tick 200"), Discover(1), Text("up a 0 100 0"), Discover(2), Text("up a 0 259 0"), Text("up a 0 260 0")],
         &[Text("ok"), Text("up 255"), Text("down 300"), Text("up 255"), Text("drop 19"), Text("down 300")], DONE),
     Row("a bad line", "count4 = 1", 16,
-        &[Text("# a comment"), Text(""), Text("tick 1"), Text("up a 0 100 1"), Text("tick 2")],
+        &[Text("# a comment"), Text(""), Text("tick 1"), Text("up a 0 100 7"), Text("tick 2")],
         &[Text("ok"), Text("line 4 bad")], BAD_LINE),
 ];

@@ -1,8 +1,9 @@
 use crate::circuits::CIRCUITS;
 use crate::leases::LEASES;
+use crate::restarts::{BAD_RESTARTS, RESTARTS, RESTARTS_OF_TWO};
 use crate::rows::{Line, ROWS, Row};
 use config::Config;
-use daemon::accesslab::{DONE, StdReader, StdWriter, run};
+use daemon::accesslab::{BAD_LINE, DONE, StdReader, StdWriter, run};
 use fixtures::{ONE_CIRCUIT, TWO_CIRCUITS, client_frame, nak, offer, resized, with_bytes};
 use lossy_net::MAX_QUOTA;
 use std::alloc::{AllocError, Global};
@@ -54,7 +55,7 @@ fn identified(len: u8) -> PacketBuf {
     client_frame(Kind4::Discover, 1, &option[..usize::from(len) + 2])
 }
 
-fn push(text: &mut String, alloc: Global, line: Line) -> Result<(), AllocError> {
+pub(crate) fn push(text: &mut String, alloc: Global, line: Line) -> Result<(), AllocError> {
     let discover = client_frame(Kind4::Discover, 1, &[]);
     match line {
         Line::Text(words) => text.push_str(words)?,
@@ -113,7 +114,7 @@ fn text_of(alloc: Global, lines: &[Line]) -> Result<String, AllocError> {
 }
 
 /// The output for these lines and the status, `None` where the configuration is refused.
-fn output(alloc: Global, config: &str, quota: u16, lines: &str) -> Option<(Vec<u8>, u8)> {
+pub(crate) fn output(alloc: Global, config: &str, quota: u16, lines: &str) -> Option<(Vec<u8>, u8)> {
     let config = Config::read(alloc, config).ok()?;
     if quota == 0 {
         return None;
@@ -156,6 +157,29 @@ fn leases(rt: HostRuntime) -> Result<(), AllocError> {
         check(&rt, rt.alloc(), ONE_CIRCUIT, row)?;
     }
     Ok(())
+}
+
+#[test]
+fn restarts(rt: HostRuntime) -> Result<(), AllocError> {
+    for row in RESTARTS {
+        check(&rt, rt.alloc(), ONE_CIRCUIT, row)?;
+    }
+    for row in RESTARTS_OF_TWO {
+        check(&rt, rt.alloc(), TWO_CIRCUITS, row)?;
+    }
+    Ok(())
+}
+
+/// No line of these is a restart.
+#[test]
+fn bad_restarts(rt: HostRuntime) {
+    for line in BAD_RESTARTS {
+        let Some((written, BAD_LINE)) = output(rt.alloc(), TWO_CIRCUITS, 16, line) else {
+            assert!(rt; false, "{line}");
+            return;
+        };
+        assert_eq!(rt; written.as_slice(), b"line 1 bad\n".as_slice(), "{line}");
+    }
 }
 
 #[test]

@@ -9,19 +9,20 @@ ghost use Rattle.world.specs.Seen.{Seen};
 ghost use Rattle.world.specs.Stray.{is_stray, stray_outcome};
 ghost use Rattle.world.specs.declared.outcome.Outcome.TheVariants as outcome;
 ghost use Rattle.daemon.specs.Lab.{part_result, line_result};
-ghost use Rattle.daemon.specs.Line.{line_of_text, Tick, Stray};
-ghost use Rattle.daemon.specs.ParsedLine.{line_of, IsWithin};
+ghost use Rattle.daemon.specs.Line.{Line, line_of_text, Tick, Stray};
+ghost use Rattle.daemon.specs.ParsedLine.{line_of, IsRestart, IsWithin};
 ghost use Rattle.daemon.specs.Follows.{AllRepresent, Names, IsRefusal, Follows, FollowsLast};
 ghost use Rattle.daemon.specs.Run.{IsEnd, IsStatus};
 
 use super::hexadecimal::MAX_BYTES;
 use super::line::MAX_LINE;
 use super::output::{write_bad_line, write_done, write_outcome};
-use super::parse_line::{ParsedLine, parse_line};
+use super::parse_line::{Parsed, ParsedLine, parse_line};
 use super::status::{BAD_LINE, DONE, FAILED};
 use super::streams::ByteWriter;
 use config::Config;
-use types::{Circuit, Moment, Proto};
+use lease_disk::Image;
+use types::{Circuit, MAX_CIRCUITS, Moment, Proto};
 use wire::PacketBuf;
 use world::{Event, Machine};
 
@@ -84,6 +85,27 @@ fn apply_tick<M: Machine, W: ByteWriter>(
     }
 }
 
+/// Starts the server and the disk again. Returns a status where the run ends with it.
+fn apply_restart<M: Machine, W: ByteWriter>(
+    machine: &mut M,
+    images: &[Image],
+    out: &mut PacketBuf,
+    writer: &mut W,
+) -> Option<u8>
+    ensures follows { (settings : Settings) (quota number : ℕ) (line : Line) (machines : ℕ → Alone) → IsRestart images.now line → AllRepresent settings quota (M.states machine.old) machines
+        → Follows settings quota number (line_result settings quota machines line) (M.states machine.new) (W.contents writer.old) (W.contents writer.new) result }
+    ensures topology { M.topology machine.new ≡ M.topology machine.old }
+    ensures status { IfSome result IsEnd }
+    ensures quiet { ¬ (result ≡ Some 6) → W.failures writer.new ≡ W.failures writer.old }
+    ensures cause { result ≡ Some 6 → W.failures writer.new ≡ W.failures writer.old + 1 }
+{
+    let _ = machine.step(&Event::Restart(images), out);
+    match write_done(writer) {
+        Ok(()) => None,
+        Err(_) => Some(FAILED),
+    }
+}
+
 /// Applies a stray. Returns a status where the run ends with it.
 fn apply_stray<M: Machine, W: ByteWriter>(
     machine: &mut M,
@@ -133,8 +155,8 @@ fn apply<M: Machine, W: ByteWriter>(
             let event = Event::Frame(circuit, Proto::V4, &bytes[..len]);
             apply_event(machine, config, circuit, &event, out, writer)
         }
-        ParsedLine::Up(circuit, j, now) => {
-            let event = Event::Up(circuit, j, now, 0);
+        ParsedLine::Up(circuit, j, now, fault) => {
+            let event = Event::Up(circuit, j, now, fault);
             apply_event(machine, config, circuit, &event, out, writer)
         }
         ParsedLine::Down(circuit, j) => {
@@ -160,6 +182,7 @@ pub(crate) fn apply_line<M: Machine, W: ByteWriter>(
     number: u64,
     line: &[u8],
     bytes: &mut [u8; MAX_BYTES],
+    images: &mut [Image; MAX_CIRCUITS],
     out: &mut PacketBuf,
     writer: &mut W,
 ) -> Option<u8>
@@ -171,8 +194,10 @@ pub(crate) fn apply_line<M: Machine, W: ByteWriter>(
     ensures quiet { ¬ (result ≡ Some 6) → W.failures writer.new ≡ W.failures writer.old }
     ensures cause { result ≡ Some 6 → W.failures writer.new ≡ W.failures writer.old + 1 }
 {
-    let parsed = parse_line(config, line, bytes);
-    apply(machine, config, number, parsed, bytes, out, writer)
+    match parse_line(config, line, bytes, images) {
+        Parsed::Event(parsed) => apply(machine, config, number, parsed, bytes, out, writer),
+        Parsed::Restart => apply_restart(machine, images, out, writer),
+    }
 }
 
 /// Applies the line with this number, which lacks its line feed, and returns the status. An empty one is
@@ -183,6 +208,7 @@ pub(crate) fn apply_last_line<M: Machine, W: ByteWriter>(
     number: u64,
     line: &[u8],
     bytes: &mut [u8; MAX_BYTES],
+    images: &mut [Image; MAX_CIRCUITS],
     out: &mut PacketBuf,
     writer: &mut W,
 ) -> u8
@@ -196,7 +222,7 @@ pub(crate) fn apply_last_line<M: Machine, W: ByteWriter>(
     if line.is_empty() {
         return DONE;
     }
-    match apply_line(machine, config, number, line, bytes, out, writer) {
+    match apply_line(machine, config, number, line, bytes, images, out, writer) {
         Some(status) => status,
         None => DONE,
     }

@@ -2,9 +2,8 @@
 ghost use Rattle.std.specs.Prelude.{◌≡◌, ℕ, List, Some};
 ghost use Rattle.std.specs.Io.KnownBytes.{Appends};
 ghost use Rattle.relay.specs.Relays.{topology_of};
-ghost use Rattle.world.specs.Start.{Starts};
 ghost use Rattle.daemon.specs.Lab.{lab_output};
-ghost use Rattle.daemon.specs.Follows.{Ends};
+ghost use Rattle.daemon.specs.Follows.{Begins, Ends};
 ghost use Rattle.daemon.specs.Run.{IsPartial, IsStatus, HasCause, HasNoCause};
 
 use super::apply_line::{apply_last_line, apply_line, refuse};
@@ -14,6 +13,8 @@ use super::read_ahead::ReadAhead;
 use super::status::FAILED;
 use super::streams::{ByteReader, ByteWriter};
 use config::Config;
+use lease_disk::Image;
+use types::MAX_CIRCUITS;
 use wire::PacketBuf;
 use world::Machine;
 
@@ -24,7 +25,7 @@ fn apply_lines<M: Machine, R: ByteReader, W: ByteWriter>(
     reader: &mut R,
     writer: &mut W,
 ) -> u8
-    ensures ends { (quota : ℕ) → Starts config.now quota (M.states machine.old) → M.topology machine.old ≡ topology_of config.now
+    ensures ends { (quota : ℕ) → Begins config.now quota (M.states machine.old) → M.topology machine.old ≡ topology_of config.now
         → Ends config.now quota (R.remaining reader.old) (R.remaining reader.new) (W.contents writer.old) (W.contents writer.new) result }
     ensures status { IsStatus result }
     ensures cause { result ≡ 6 → HasCause (R.remaining reader.old) (R.remaining reader.new) (R.failures reader.old) (R.failures reader.new) (W.failures writer.old) (W.failures writer.new) }
@@ -32,6 +33,7 @@ fn apply_lines<M: Machine, R: ByteReader, W: ByteWriter>(
 {
     let mut ahead = ReadAhead::new();
     let mut bytes = [0; MAX_BYTES];
+    let mut images = [Image::Byte(0); MAX_CIRCUITS];
     let mut out = PacketBuf::new();
     // each line before the last has a byte at least, its line feed
     'lines: for earlier in 0..MAX_TEXT {
@@ -44,11 +46,11 @@ fn apply_lines<M: Machine, R: ByteReader, W: ByteWriter>(
             LineEnd::TooLong => return refuse(number, writer),
             LineEnd::EndOfInput(len) => {
                 let text = &ahead.as_slice()[..len];
-                return apply_last_line(machine, config, number, text, &mut bytes, &mut out, writer);
+                return apply_last_line(machine, config, number, text, &mut bytes, &mut images, &mut out, writer);
             }
         };
         let text = &ahead.as_slice()[..len];
-        let ended = apply_line(machine, config, number, text, &mut bytes, &mut out, writer);
+        let ended = apply_line(machine, config, number, text, &mut bytes, &mut images, &mut out, writer);
         if let Some(status) = ended {
             return status;
         }
@@ -67,13 +69,13 @@ pub fn lab<M: Machine, R: ByteReader, W: ByteWriter>(
     writer: &mut W,
 ) -> u8
     // The output is that of the whole text.
-    ensures written { (quota : ℕ) (text : List ℕ) → Starts config.now quota (M.states machine.old) → M.topology machine.old ≡ topology_of config.now
+    ensures written { (quota : ℕ) (text : List ℕ) → Begins config.now quota (M.states machine.old) → M.topology machine.old ≡ topology_of config.now
         → R.remaining reader.old ≡ Some text → ¬ (result ≡ 6)
         → Appends (W.contents writer.old) (W.contents writer.new) (lab_output config.now quota text).text
         × (result ≡ (lab_output config.now quota text).status) }
 
     // Where the reader or the writer failed, a prefix of the output for what was read is written.
-    ensures partial { (quota : ℕ) → Starts config.now quota (M.states machine.old) → M.topology machine.old ≡ topology_of config.now → result ≡ 6
+    ensures partial { (quota : ℕ) → Begins config.now quota (M.states machine.old) → M.topology machine.old ≡ topology_of config.now → result ≡ 6
         → IsPartial config.now quota (R.remaining reader.old) (R.remaining reader.new) (W.contents writer.old) (W.contents writer.new) }
 
     // No other status is returned.

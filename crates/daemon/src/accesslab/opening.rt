@@ -1,20 +1,22 @@
 //! A run over a world that is opened for it.
-ghost use Rattle.std.specs.Prelude.{◌≡◌, ◌⊎◌, ℕ, ◌+◌, ◌<◌, ◌≤◌, List, Some, IfOk, slice_get};
+ghost use Rattle.std.specs.Prelude.{◌≡◌, ◌⊎◌, ℕ, ◌+◌, ◌<◌, ◌≤◌, List, Some, IfOk, IfErr, slice_get};
 ghost use Rattle.std.specs.Io.KnownBytes.{Appends};
 ghost use Rattle.config.specs.declared.settings.CircuitConfig.{CircuitConfig};
+ghost use Rattle.dispatch.specs.declared.server.OpenFault.TheVariants as fault;
 ghost use Rattle.daemon.specs.Lab.{lab_output};
 ghost use Rattle.daemon.specs.Run.{IsPartial, IsStatus, HasCause, HasNoCause};
 ghost use Rattle.relay.specs.Relays.{topology_of};
-ghost use Rattle.world.specs.Start.{Starts};
+ghost use Rattle.daemon.specs.Follows.{Begins};
 ghost use Rattle.world.specs.World.{states};
 
 use super::engine::lab;
 use super::status::UNOPENED;
 use super::streams::{ByteReader, ByteWriter};
 use config::Config;
+use lease_disk::ModelDisk;
 use std::alloc::Global;
 use types::Circuit;
-use world::{ModelDisk, OpenFault, World};
+use world::{OpenFault, World};
 
 /// How many regions a disk needs to have those of all circuits: one more than the greatest number.
 fn regions(config: &Config) -> u16
@@ -39,8 +41,9 @@ fn regions(config: &Config) -> u16
 fn opened(alloc: Global, config: &Config, quota: u16) -> Result<World, OpenFault>
     requires some { 1 ≤ quota }
     requires most { quota ≤ 256 }
-    ensures starts { IfOk result (λ world. Starts config.now quota (states world)) }
+    ensures starts { IfOk result (λ world. Begins config.now quota (states world)) }
     ensures topology { IfOk result (λ world. world.relays.topology ≡ topology_of config.now) }
+    ensures memory { IfErr result (λ why. why ≡ fault.Memory) }
 {
     let Ok(disk) = ModelDisk::new(alloc, regions(config)) else {
         return Err(OpenFault::Memory);

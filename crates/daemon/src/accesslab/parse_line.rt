@@ -1,23 +1,27 @@
 //! The parser of a line.
-ghost use Rattle.std.specs.Prelude.{◌≡◌, ℕ, List, option_map};
+ghost use Rattle.std.specs.Prelude.{◌≡◌, ℕ, List, [], option_map};
 ghost use Rattle.config.specs.Rules.{Settings};
 ghost use Rattle.daemon.specs.Fields.{number_to};
-ghost use Rattle.daemon.specs.Lines.{fields_of};
 ghost use Rattle.daemon.specs.FieldsAfter.{fields_after, fields_of_next};
-ghost use Rattle.daemon.specs.Line.{frame_line, up_line, down_line, tick_line, stray_up_line, stray_down_line, line_for_word, short_line};
-ghost use Rattle.daemon.specs.ParsedLine.{line_of};
+ghost use Rattle.daemon.specs.Line.{frame_line, up_line, down_line, tick_line, stray_up_line, stray_down_line, restart_line, event_line, short_line};
+ghost use Rattle.daemon.specs.ParsedLine.{line_of, IsRestartOrBad, Means, ParsedWithin};
 ghost use Rattle.daemon.specs.ParsedLine.{IsWithin};
 
 use super::circuits::{circuit_named, is_relay, is_server, relay_named};
 use super::digits::number;
 use super::fields::first_field;
 use super::hexadecimal::{MAX_BYTES, bytes_at};
+use super::images::{clear_images, clear_names, named_image};
 use super::sources::source;
 use config::Config;
-use types::{Circuit, LAST_MOMENT, Moment, RelayNo, Source};
+use lease_disk::Image;
+use types::{Circuit, LAST_MOMENT, MAX_CIRCUITS, Moment, RelayNo, Source};
 
 /// The greatest number that names a datagram.
 pub const MAX_NUMBER: u64 = 65535;
+
+/// The last call of the disk in a save.
+pub const MAX_FAULT: u64 = 6;
 
 /// What a line says. The bytes of a frame are in a buffer of their own.
 #[derive(Clone, Copy, Debug, PartialEq, Eq)]
@@ -28,13 +32,23 @@ pub(crate) enum ParsedLine {
     Bad,
     /// The length of the frame in bytes.
     Frame(Circuit, usize),
-    Up(Circuit, u16, Moment),
+    /// The call of the disk that fails, 0 for none.
+    Up(Circuit, u16, Moment, u8),
     Down(Circuit, u16),
     Tick(Moment),
     /// The length of the datagram in bytes.
     StrayUp(Source, usize, Moment),
     /// The length of the datagram in bytes.
     StrayDown(RelayNo, Source, usize),
+}
+
+/// A line that was parsed.
+#[derive(Clone, Copy, Debug, PartialEq, Eq)]
+pub(crate) enum Parsed {
+    /// Any line but a restart.
+    Event(ParsedLine),
+    /// A restart. The images of the circuits are in a buffer of their own.
+    Restart,
 }
 
 /// The next field and what follows it, `None` where none is left.
@@ -53,6 +67,16 @@ fn datagram_number(text: &[u8]) -> Option<u16>
 {
     match number(text, MAX_NUMBER) {
         Some(number) => Some(number as u16),
+        None => None,
+    }
+}
+
+/// The number of the call of the disk that fails in a save.
+fn fault_number(text: &[u8]) -> Option<u8>
+    ensures { result ≡ number_to 6 text.now }
+{
+    match number(text, MAX_FAULT) {
+        Some(number) => Some(number as u8),
         None => None,
     }
 }
@@ -116,15 +140,15 @@ fn parse_up(config: &Config, rest: Option<&[u8]>) -> ParsedLine
     if next_field(rest).is_some() {
         return ParsedLine::Bad;
     }
-    if fault != b"0".as_slice() {
-        return ParsedLine::Bad;
-    }
     match (
         circuit_named(config, circuit),
         datagram_number(j),
         moment(now),
+        fault_number(fault),
     ) {
-        (Some(circuit), Some(j), Some(now)) => ParsedLine::Up(circuit, j, now),
+        (Some(circuit), Some(j), Some(now), Some(fault)) => {
+            ParsedLine::Up(circuit, j, now, fault)
+        }
         _ => ParsedLine::Bad,
     }
 }
@@ -226,12 +250,44 @@ fn parse_stray_down(config: &Config, rest: Option<&[u8]>, bytes: &mut [u8; MAX_B
     }
 }
 
-/// Parses a line by its first field.
-fn parse_event(config: &Config, line: &[u8], bytes: &mut [u8; MAX_BYTES]) -> ParsedLine
-    ensures value { line_of result bytes.new ≡ line_for_word config.now (fields_of line.now) }
+/// Parses the fields of a restart, `CID=HH` or `CID=unreadable`, to the images of the circuits in order,
+/// and returns whether they are good.
+fn parse_restart(
+    config: &Config,
+    rest: Option<&[u8]>,
+    images: &mut [Image; MAX_CIRCUITS],
+) -> bool
+    ensures { IsRestartOrBad result images.new (restart_line config.now [] (fields_after (option_map (λ line. line.now) rest.entry))) }
+{
+    let mut named = [false; MAX_CIRCUITS];
+    clear_names(&mut named);
+    clear_images(images);
+    let mut rest = rest;
+    'fields: while let Some((field, after)) = next_field(rest) {
+        let Some((circuit, image)) = named_image(config, field) else {
+            return false;
+        };
+        let index = circuit.index();
+        if named[index] {
+            return false;
+        }
+        named[index] = true;
+        images[index] = image;
+        rest = after;
+    }
+    true
+}
+
+/// Parses the line of one event by its first field and what follows it.
+fn parse_event(
+    config: &Config,
+    word: &[u8],
+    rest: Option<&[u8]>,
+    bytes: &mut [u8; MAX_BYTES],
+) -> ParsedLine
+    ensures value { line_of result bytes.new ≡ event_line config.now word.now (fields_after (option_map (λ line. line.now) rest.entry)) }
     ensures within { IsWithin config.now result }
 {
-    let (word, rest) = first_field(line);
     if word == b"frame".as_slice() {
         return parse_frame(config, rest, bytes);
     }
@@ -254,12 +310,24 @@ fn parse_event(config: &Config, line: &[u8], bytes: &mut [u8; MAX_BYTES]) -> Par
 }
 
 /// Parses a line that is not too long.
-pub(crate) fn parse_line(config: &Config, line: &[u8], bytes: &mut [u8; MAX_BYTES]) -> ParsedLine
-    ensures value { line_of result bytes.new ≡ short_line config.now line.now }
-    ensures within { IsWithin config.now result }
+pub(crate) fn parse_line(
+    config: &Config,
+    line: &[u8],
+    bytes: &mut [u8; MAX_BYTES],
+    images: &mut [Image; MAX_CIRCUITS],
+) -> Parsed
+    ensures value { Means result bytes.new images.new (short_line config.now line.now) }
+    ensures within { ParsedWithin config.now result }
 {
     if line.is_empty() || line[0] == b'#' {
-        return ParsedLine::Ignored;
+        return Parsed::Event(ParsedLine::Ignored);
     }
-    parse_event(config, line, bytes)
+    let (word, rest) = first_field(line);
+    if word != b"restart".as_slice() {
+        return Parsed::Event(parse_event(config, word, rest, bytes));
+    }
+    if !parse_restart(config, rest, images) {
+        return Parsed::Event(ParsedLine::Bad);
+    }
+    Parsed::Restart
 }

@@ -11,6 +11,7 @@ pub lines-init : goal.lines-init
 lines-init g c = record {
   topology = refl;
   bytes = refl;
+  images = refl;
   lines = omega (arith, c.new-ahead.ensures.count, ap length c.new-ahead.ensures.held);
   below = omega (arith, c.new-ahead.ensures.count);
   reader_quiet = refl;
@@ -73,7 +74,8 @@ lines-preserved g c =
     let left = ap length c.consume.ensures.held ∙ length-drop (c.in-Newline.len + 1) (held c.read_line.new.ahead) in
     record {
       topology = c.in_default-ended.ensures.topology ∙ c.lines.invariant.topology;
-      bytes = c.apply_line-ended.array_long;
+      bytes = search;
+      images = search;
       lines = omega (arith, inside, left, c.consume.ensures.count, c.read_line.ensures.grown, c.lines.invariant.lines);
       below = omega (arith, c.consume.ensures.count, c.in-Ok.ensures.below);
       reader_quiet = c.in-Ok.ensures.quiet ∙ c.lines.invariant.reader_quiet;
