@@ -137,8 +137,14 @@ fn faults_and_images(rt: HostRuntime) -> Result<(), AllocError> {
     for fault in 1..7 {
         for image in ["00", "5a", "a5"] {
             for unreadable in [false, true] {
-                assert!(rt; first_lease(alloc, fault, image, unreadable)?, "first {fault} {image}");
-                assert!(rt; third_lease(alloc, fault, image, unreadable)?, "third {fault} {image}");
+                assert!(rt;
+                    first_lease(alloc, fault, image, unreadable)?,
+                    "first {fault} {image}"
+                );
+                assert!(rt;
+                    third_lease(alloc, fault, image, unreadable)?,
+                    "third {fault} {image}"
+                );
             }
         }
     }

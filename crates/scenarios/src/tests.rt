@@ -114,7 +114,12 @@ fn text_of(alloc: Global, lines: &[Line]) -> Result<String, AllocError> {
 }
 
 /// The output for these lines and the status, `None` where the configuration is refused.
-pub(crate) fn output(alloc: Global, config: &str, quota: u16, lines: &str) -> Option<(Vec<u8>, u8)> {
+pub(crate) fn output(
+    alloc: Global,
+    config: &str,
+    quota: u16,
+    lines: &str,
+) -> Option<(Vec<u8>, u8)> {
     let config = Config::read(alloc, config).ok()?;
     if quota == 0 {
         return None;

@@ -46,11 +46,29 @@ fn apply_lines<M: Machine, R: ByteReader, W: ByteWriter>(
             LineEnd::TooLong => return refuse(number, writer),
             LineEnd::EndOfInput(len) => {
                 let text = &ahead.as_slice()[..len];
-                return apply_last_line(machine, config, number, text, &mut bytes, &mut images, &mut out, writer);
+                return apply_last_line(
+                    machine,
+                    config,
+                    number,
+                    text,
+                    &mut bytes,
+                    &mut images,
+                    &mut out,
+                    writer,
+                );
             }
         };
         let text = &ahead.as_slice()[..len];
-        let ended = apply_line(machine, config, number, text, &mut bytes, &mut images, &mut out, writer);
+        let ended = apply_line(
+            machine,
+            config,
+            number,
+            text,
+            &mut bytes,
+            &mut images,
+            &mut out,
+            writer,
+        );
         if let Some(status) = ended {
             return status;
         }

@@ -252,11 +252,7 @@ fn parse_stray_down(config: &Config, rest: Option<&[u8]>, bytes: &mut [u8; MAX_B
 
 /// Parses the fields of a restart, `CID=HH` or `CID=unreadable`, to the images of the circuits in order,
 /// and returns whether they are good.
-fn parse_restart(
-    config: &Config,
-    rest: Option<&[u8]>,
-    images: &mut [Image; MAX_CIRCUITS],
-) -> bool
+fn parse_restart(config: &Config, rest: Option<&[u8]>, images: &mut [Image; MAX_CIRCUITS]) -> bool
     ensures { IsRestartOrBad result images.new (restart_line config.now [] (fields_after (option_map (λ line. line.now) rest.entry))) }
 {
     let mut named = [false; MAX_CIRCUITS];
