@@ -21,7 +21,8 @@ const MAX_REGIONS: u16 = 1024;
 /// Why a file does not serve as a device.
 #[derive(Clone, Copy, Debug, PartialEq, Eq, Error)]
 pub enum FileFault {
-    #[error("the file cannot be opened, made or lengthened")]
+    /// The file can't be opened, made or lengthened, or another program holds it.
+    #[error("the file can't be opened, made or lengthened, or is in use")]
     File,
     #[error("out of memory")]
     Memory,
@@ -38,7 +39,7 @@ fn fault_of(error: io::Error) -> FileFault
 }
 
 /// A device over a file, whose region r is the 32768 bytes from byte 32768 r on. A sync syncs the
-/// whole file.
+/// whole file. The file is locked as long as it is open, so that it serves one program at a time.
 ///
 /// Contracts promise counts alone: how many regions there are, how many calls were made and how many
 /// of them failed. No contract can know what a file holds, so this device does not tell: that a read
@@ -151,6 +152,8 @@ impl FileDisk {
         ensures new { IfOk result (λ disk. disk ≡ uncalled disk.regions) }
     {
         let file = how.open(rt, path)?;
+        // so that nobody else formats or writes the leases of a server that runs
+        file.try_lock()?;
         let length = file.metadata()?.len();
         if length < bytes {
             lengthen(rt, path, &file, bytes)?;

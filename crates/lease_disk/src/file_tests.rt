@@ -127,6 +127,20 @@ fn files_that_do_not_serve(rt: HostRuntime) -> Result<(), Fail> {
 }
 
 #[test]
+fn a_file_serves_one_at_a_time(rt: HostRuntime) -> Result<(), Fail> {
+    let folder = new_folder(&rt, "lock")?;
+    let path = format!(in rt.alloc(); "{folder}/leases")?;
+    let mut disk = FileDisk::create(&rt, path.as_str(), 1)?;
+    assert!(rt; formats(&mut disk, 0));
+    assert_eq!(rt; faults_of(&rt, path.as_str()), [Some(FileFault::File); 2]);
+    assert!(rt; holds(&mut disk, 0, &empty()));
+    drop(disk);
+    assert_eq!(rt; faults_of(&rt, path.as_str()), [None; 2]);
+    fs::remove_dir_all(&rt, folder.as_str())?;
+    Ok(())
+}
+
+#[test]
 fn a_file_that_nobody_may_write(rt: HostRuntime) -> Result<(), Fail> {
     let folder = new_folder(&rt, "readonly")?;
     let path = format!(in rt.alloc(); "{folder}/leases")?;
@@ -158,6 +172,7 @@ fn regions_do_not_mix(rt: HostRuntime) -> Result<(), Fail> {
     };
     assert!(rt; 1 < disk.regions());
     assert!(rt; save(1, &mut disk, &mut marks, &first_lease()).is_ok());
+    drop(disk);
     let mut disk = FileDisk::open(&rt, path.as_str())?;
     assert!(rt; holds(&mut disk, 1, &first_lease()));
     assert!(rt; holds(&mut disk, 2, &empty()));
@@ -200,7 +215,7 @@ fn the_texts_of_the_faults(rt: HostRuntime) -> Result<(), Fail> {
     for (fault, text) in [
         (
             FileFault::File,
-            "the file cannot be opened, made or lengthened",
+            "the file can't be opened, made or lengthened, or is in use",
         ),
         (FileFault::Memory, "out of memory"),
     ] {

@@ -93,13 +93,14 @@ impl ModelDisk {
     ghost use Rattle.std.specs.Prelude.{ℕ, ◌≡◌, ◌<◌, length, IfOk};
     ghost use Rattle.lease_disk.specs.Crash.{crashed, filled, formatted_region};
     ghost use Rattle.lease_disk.specs.Model.{state_of, fuse_of, SameBut};
-    ghost use Rattle.lease_disk.specs.Region.{IsRead};
+    ghost use Rattle.lease_disk.specs.Region.{IsClean, IsRead};
 
-    /// A device of so many formatted regions. Its memory is all taken here; an error where some is
-    /// refused.
+    /// A device of so many formatted regions, in which nothing is unsynced. Its memory is all taken here;
+    /// an error where some is refused.
     pub fn new(alloc: Global, regions: u16) -> Result<ModelDisk, AllocError>
         ensures count { IfOk result (λ disk. length disk.regions ≡ regions) }
         ensures formatted { IfOk result (λ disk. (q : ℕ) → q < regions → state_of disk q ≡ formatted_region) }
+        ensures synced { IfOk result (λ disk. (q : ℕ) → IsClean (state_of disk q)) }
         ensures fuses { IfOk result (λ disk. (q : ℕ) → q < regions → fuse_of disk q ≡ 0) }
         ensures reads { IfOk result (λ disk. disk.reads ≡ 0) }
         ensures writes { IfOk result (λ disk. disk.writes ≡ 0) }
@@ -149,6 +150,7 @@ impl ModelDisk {
     pub fn fill(&mut self, region: u16, byte: u8)
         requires { region < length self.old.regions }
         ensures state { state_of self.new region ≡ filled byte (state_of self.old region) }
+        ensures synced { ((q : ℕ) → IsClean (state_of self.old q)) → (q : ℕ) → IsClean (state_of self.new q) }
         ensures fuse { fuse_of self.new region ≡ fuse_of self.old region }
         ensures others { SameBut region self.old self.new }
     {

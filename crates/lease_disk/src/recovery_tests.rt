@@ -180,17 +180,12 @@ fn a_region_of_format_two(rt: HostRuntime) -> Result<(), Fail> {
 #[test]
 fn the_last_clock(rt: HostRuntime) -> Result<(), Fail> {
     let last = [(11, 0xff), (12, 0xff), (13, 0xff), (14, 0xff), (15, 0xff)];
-    if let Some(slots) = slots_with(rt.alloc(), &last, [16, 16])? {
-        assert!(rt;
-            are_same(
-                &slots,
-                &Slots {
-                    clock: Moment::new(1_099_511_627_775).unwrap(),
-                    ..empty()
-                }
-            )
-        );
-    }
+    let slots = slots_with(rt.alloc(), &last, [16, 16])?.expect(&rt, "slots");
+    let expected = Slots {
+        clock: Moment::new(1_099_511_627_775).unwrap(),
+        ..empty()
+    };
+    assert!(rt; are_same(&slots, &expected));
     assert!(rt; !is_damaged(rt.alloc(), &last)?);
     assert!(rt; is_damaged(rt.alloc(), &[(10, 1)])?);
     assert!(rt; is_damaged(rt.alloc(), &[(8, 1)])?);
