@@ -1,5 +1,5 @@
 -- What a circuit answers to a message, by what its open circuit decides.
-use Rattle.std.proofs.Common.{◌≡◌, ℕ, ◌+◌, ◌==◌, ◌&&◌, nat_lt, Bool, true, false, not, cond, List, refl, sym, ap, subst, ◌∙◌, Ok, Err, Result, is_ok, arith}
+use Rattle.std.proofs.Common.{◌≡◌, ℕ, ◌+◌, ◌==◌, ◌&&◌, nat_lt, Bool, true, false, not, List, refl, sym, ap, subst, ◌∙◌, Ok, Err, Result, is_ok, arith}
 use Rattle.std.specs.Prelude.{Option, Some, None, if◌then◌else◌}
 use Rattle.std.proofs.lemmas.Bool.{lt-ltb, le-ltb}
 use Rattle.types.specs.declared.discard.Discard.{Discard}
@@ -10,20 +10,21 @@ use Rattle.v4_message.specs.Spelling.{MessageValue}
 use Rattle.config.specs.CircuitPart.{CircuitPart, pool4_of}
 use Rattle.bindings_v4.specs.Table4.{answer4}
 use Rattle.lease_disk.specs.Region.{Region, effective, faults_after}
-use Rattle.dispatch.specs.Leases.{Leases, kept, restarts_of, restarts_after}
-use Rattle.dispatch.specs.Received.{Answered, after_save}
+use Rattle.dispatch.specs.Leases.{Leases, after_datagram, kept, restarts_of, restarts_after}
+use Rattle.dispatch.specs.Received.{after_save, answered, circuit_fails, save_fails}
 use Rattle.dispatch.specs.Request.{request_in}
 use Rattle.dispatch.specs.Server.{Book, Served, book_at, decision_served, drop, message_served, request_served, served}
+use Rattle.dispatch.specs.ServerValue.{CircuitServerValue, OpenCircuitValue, book_of, leases_of, open_book}
 
 -- ---- what is decided
 
-served_is : (part : CircuitPart) (now : ℕ) (datagram : List ℕ) (b : Book) → served part now datagram b ≡ message_served part (book_at now b) (message_of datagram)
+unfolded : (part : CircuitPart) (now : ℕ) (datagram : List ℕ) (b : Book) → served part now datagram b ≡ message_served part (book_at now b) (message_of datagram)
 unfolding served
-served_is part now datagram b = λ i. message_served part (book_at now b) (message_of datagram)
+unfolded part now datagram b = λ i. message_served part (book_at now b) (message_of datagram)
 
 module _ (part : CircuitPart) (now : ℕ) (datagram : List ℕ) (m : MessageValue) (read : message_of datagram ≡ Ok m) (b later : Book) (ticked : later ≡ book_at now b) where
   of_message : served part now datagram b ≡ request_served part m later (request_in m)
-  of_message = served_is part now datagram b ∙ ap (message_served part (book_at now b)) read ∙ ap (λ x. request_served part m x (request_in m)) (sym ticked)
+  of_message = unfolded part now datagram b ∙ ap (message_served part (book_at now b)) read ∙ ap (λ x. request_served part m x (request_in m)) (sym ticked)
 
   pub refused : (why : Discard) → request_in m ≡ Err why → served part now datagram b ≡ drop why later
   refused why is = of_message ∙ ap (request_served part m later) is
@@ -65,19 +66,52 @@ fails_by result before after x is ok = counted result before after is ∙ ap not
 
 -- ---- the leases after it
 
+abbrev left : Option Book → (ℕ → Option Book) → Leases
+left book restarts = record { book = book; restarts = restarts }
+
+abbrev before : CircuitPart → (ℕ → Region) → Book → Leases
+before part regions b = left (Some b) (restarts_of part (regions part.region))
+
 module _ (part : CircuitPart) (regions later : ℕ → Region) (b : Book) (done : Served) (fuse : ℕ) (ok : Bool) where
-  abbrev before : Leases
-  before = record { book = Some b; restarts = restarts_of part (regions part.region) }
-
-  abbrev after : Bool → Leases
-  after open_still = record { book = if open_still then Some done.book else None; restarts = restarts_of part (later part.region) }
-
-  pub leases_after : (is_kept : Bool) → done.is_kept ≡ is_kept
+  leases_after : (is_kept : Bool) → done.is_kept ≡ is_kept
       → (is_kept ≡ true → restarts_of part (later part.region) ≡ restarts_after (effective 6 fuse) done.book (restarts_of part (regions part.region)))
       → (is_kept ≡ false → later ≡ regions)
       → ok ≡ not (is_kept && not (effective 6 fuse == 0))
-      → after ok ≡ kept fuse done before
+      → left (if ok then Some done.book else None) (restarts_of part (later part.region)) ≡ kept fuse done (before part regions b)
   leases_after false is saves stays answer =
       rw is (rw answer (λ i. record { book = Some done.book; restarts = restarts_of part (stays refl i part.region) }))
   leases_after true is saves stays answer =
       rw is (rw (answer ∙ not_not (effective 6 fuse == 0)) (λ i. record { book = if effective 6 fuse == 0 then Some done.book else None; restarts = saves refl i }))
+
+-- ---- what the clauses say
+
+-- an open circuit was asked, and served the datagram so
+pub record IsServed (s : CircuitServerValue) (now : ℕ) (datagram : List ℕ) (part : CircuitPart) (o : OpenCircuitValue) (done : Served) : Type 0 where
+  pub was : s ≡ record { part = part; state = Some o }
+  pub served_so : served part now datagram (open_book o) ≡ done
+
+module _ {s : CircuitServerValue} {now : ℕ} {datagram : List ℕ} {part : CircuitPart} {o : OpenCircuitValue} {done : Served} (case : IsServed s now datagram part o done) where
+  as_served : (fails : Bool) → answered s.part now datagram fails (book_of s) ≡ after_save fails done
+  as_served fails = ap (λ v. answered v.part now datagram fails (book_of v)) case.was ∙ ap (after_save fails) case.served_so
+
+  pub held : (fails : Bool) → fails ≡ false → answered s.part now datagram fails (book_of s) ≡ record { answer = done.answer; book = Some done.book }
+  held fails saved = as_served fails ∙ save_held fails done saved
+
+  pub failed : (fails : Bool) → fails ≡ true → done.is_kept ≡ true → answered s.part now datagram fails (book_of s) ≡ record { answer = Err DiskFault; book = None }
+  failed fails unsaved keeps = as_served fails ∙ save_failed fails done unsaved keeps
+
+  pub fails_as : (fuses : ℕ → ℕ) (fails : Bool) → fails ≡ save_fails (fuses part.region) done → fails ≡ circuit_fails now datagram fuses (Some s.part) (Some (book_of s))
+  fails_as fuses fails by_decision =
+      by_decision ∙ ap (save_fails (fuses part.region)) (sym case.served_so) ∙ sym (ap (λ v. circuit_fails now datagram fuses (Some v.part) (Some (book_of v))) case.was)
+
+  pub leases_as : (regions later : ℕ → Region) (fuses : ℕ → ℕ) (b : Book) (ok : Bool) → b ≡ done.book
+      → (done.is_kept ≡ true → restarts_of part (later part.region) ≡ restarts_after (effective 6 (fuses part.region)) b (restarts_of part (regions part.region)))
+      → (done.is_kept ≡ false → later ≡ regions)
+      → ok ≡ not (save_fails (fuses part.region) done)
+      → left (if ok then Some b else None) (restarts_of part (later part.region)) ≡ after_datagram s.part now datagram (fuses s.part.region) (leases_of regions s)
+  leases_as regions later fuses b ok book saves stays answer =
+      let K : Book → Type 0 = λ x. restarts_of part (later part.region) ≡ restarts_after (effective 6 (fuses part.region)) x (restarts_of part (regions part.region)) in
+      ap (λ x. left (if ok then Some x else None) (restarts_of part (later part.region))) book
+      ∙ leases_after part regions later (open_book o) done (fuses part.region) ok done.is_kept refl (λ keeps. subst K book (saves keeps)) stays answer
+      ∙ ap (λ d. kept (fuses part.region) d (before part regions (open_book o))) (sym case.served_so)
+      ∙ sym (ap (λ v. after_datagram v.part now datagram (fuses v.part.region) (leases_of regions v)) case.was)

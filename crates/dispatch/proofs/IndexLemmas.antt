@@ -1,26 +1,17 @@
 -- Elements of lists by their indexes, and that no two circuits of a configuration have one region.
 use Rattle.std.proofs.Common.{◌≡◌, ◌≢◌, ℕ, zero, suc, ◌<◌, List, [], ◌∷◌, map, refl, sym, ap, ◌∙◌, arith}
 use Rattle.std.specs.Prelude.{Some, slice_get, AllPairs}
-use Rattle.std.proofs.lemmas.Option.{slice_get_within, get_or_from_slice_get}
+use Rattle.std.proofs.lemmas.Option.{slice_get_within, get_or_from_slice_get, same_Some}
 use Rattle.config.specs.CircuitPart.{CircuitPart, part_of, parts_of, source_at}
 use Rattle.config.specs.Rules.{IsSound, Settings}
 use Rattle.config.specs.declared.settings.CircuitConfig.{CircuitConfig}
 use Rattle.dispatch.specs.ServerValue.{RegionsDiffer}
 
-pub some_is : {A : Type 0} (x y : A) → Some x ≡ Some y → x ≡ y
-some_is x y h = cc
-
 -- what is at an index of a mapped list comes from there
 pub of_map : {A B : Type 0} (f : A → B) (xs : List A) (n : ℕ) (y : B) → slice_get (map f xs) n ≡ Some y → (x : A) × (slice_get xs n ≡ Some x) × (y ≡ f x)
 of_map f [] n y at = absurd cc
-of_map f (x ∷ xs) zero y at = (x, refl, sym (some_is (f x) y at))
+of_map f (x ∷ xs) zero y at = (x, refl, sym (same_Some (f x) y at))
 of_map f (x ∷ xs) (suc n) y at = of_map f xs n y at
-
-neither_before : (c d : ℕ) → (c < d → ⊥) → (d < c → ⊥) → d ≡ c
-neither_before zero zero before after = refl
-neither_before zero (suc d) before after = absurd (before (omega arith))
-neither_before (suc c) zero before after = absurd (after (omega arith))
-neither_before (suc c) (suc d) before after = ap suc (neither_before c d (λ h. before (omega (arith, h))) (λ h. after (omega (arith, h))))
 
 -- where no two are alike, one that is like the other is at its index
 module _ {A B : Type 0} (f : A → B) (xs : List A) (apart : AllPairs (λ a b. f a ≢ f b) xs) where
@@ -29,7 +20,10 @@ module _ {A B : Type 0} (f : A → B) (xs : List A) (apart : AllPairs (λ a b. f
       apart c d x below (slice_get_within xs d y other) (ap f (get_or_from_slice_get xs c x x at) ∙ same ∙ sym (ap f (get_or_from_slice_get xs d y x other)))
 
   pub same_index : (c d : ℕ) (x y : A) → slice_get xs c ≡ Some x → slice_get xs d ≡ Some y → f y ≡ f x → d ≡ c
-  same_index c d x y at other same = neither_before c d (λ below. unlike c d x y at other below (sym same)) (λ above. unlike d c y x other at above same)
+  same_index c d x y at other same =
+      let before : c < d → ⊥ = λ below. unlike c d x y at other below (sym same) in
+      let behind : d < c → ⊥ = λ above. unlike d c y x other at above same in
+      omega arith
 
 pub regions_differ : (settings : Settings) → IsSound settings → RegionsDiffer (parts_of settings)
 regions_differ settings sound c d one other at there same =

@@ -1,7 +1,7 @@
 pub mod AddresseeLemmas
 pub mod AnswerLemmas
-pub mod DiskLemmas
 pub mod IndexLemmas
 pub mod ReceivedLemmas
+pub mod RegionLemmas
 pub mod SaveLemmas
 pub mod ServerLemmas

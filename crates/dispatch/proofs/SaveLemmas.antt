@@ -1,6 +1,6 @@
 -- What restarts find after a save, and that what is saved is a book.
-use Rattle.std.proofs.Common.{◌≡◌, ℕ, zero, suc, arith, ◌≤◌, ◌==◌, ◌&&◌, ◌||◌, nat_le, eqb, Bool, true, false, cond, List, [], ◌∷◌, length, replicate, map, All, refl, sym, ap, subst, ◌∙◌, Ok, Err, Result, is_ok, OnOk, OnErr}
-use Rattle.std.specs.Prelude.{Option, Some, None, option_map, slice_index, slice_index_or, if◌then◌else◌}
+use Rattle.std.proofs.Common.{◌≡◌, ℕ, zero, suc, arith, ◌≤◌, ◌==◌, ◌&&◌, ◌||◌, nat_le, Bool, true, false, cond, List, [], ◌∷◌, replicate, map, All, refl, sym, ap, subst, ◌∙◌, Ok, Err, Result, is_ok, OnOk, OnErr}
+use Rattle.std.specs.Prelude.{Some, option_map, slice_index, slice_index_or, if◌then◌else◌}
 use Rattle.std.proofs.lemmas.Bool.{eqb-true, leb-true}
 use Rattle.std.proofs.lemmas.List.Elements.{All-replicate}
 use Rattle.types.specs.declared.slot4.Slot4.{Slot4}
@@ -9,6 +9,7 @@ use Rattle.types.specs.declared.slots.Slot6.TheVariants as S6
 use Rattle.types.specs.declared.slots.Slots.{Slots}
 use Rattle.types.specs.Slots.{live4, live6, none_twice, same_client4, same_client6, IsWithin4, IsWithin6}
 use Rattle.config.specs.CircuitPart.{CircuitPart}
+use Rattle.lease_disk.proofs.Fresh.{clean_image}
 use Rattle.lease_disk.specs.Book.{IsBook}
 use Rattle.lease_disk.specs.Layout.{gate_at}
 use Rattle.lease_disk.specs.Recovered.{recovered, is_open}
@@ -19,14 +20,10 @@ use Rattle.lease_disk.specs.declared.device.Fault.{Fault}
 use Rattle.dispatch.specs.Leases.{book_in, counts_of, recovered_book, restarts_of, restarts_after}
 use Rattle.dispatch.specs.Server.{Book, kept_book}
 
--- nothing is unsynced, so that a crash leaves what is read
-pub image_clean : (byte : ℕ) (r : Region) → IsClean r → image byte r ≡ r.byte
-image_clean byte r clean = λ j. λ i. (ap (λ u. cond u byte (r.byte i)) (clean.each i)) j
-
 module _ (part : CircuitPart) (b : Book) (slots : Slots) (old new : Region) (means : book_in part slots ≡ kept_book b) where
   after_ok : IsSaved (counts_of part) slots new → restarts_of part new ≡ restarts_after 0 b (restarts_of part old)
   after_ok saved = λ j. λ byte.
-      (ap (recovered_book part) (image_clean byte new saved.clean) ∙ ap (option_map (book_in part)) saved.kept ∙ ap Some means) j
+      (ap (recovered_book part) (clean_image new saved.clean byte) ∙ ap (option_map (book_in part)) saved.kept ∙ ap Some means) j
 
   module _ (fuse : ℕ) (gate : Bank) (clean : IsClean old) (left : IsLeft fuse gate (recovered (counts_of part) old.byte) (Some slots) (counts_of part) new) where
     crash : (byte : ℕ) → IsCrash new (image byte new)
@@ -39,7 +36,7 @@ module _ (part : CircuitPart) (b : Book) (slots : Slots) (old new : Region) (mea
     either : (byte : ℕ) (there : Bool)
         → option_map (book_in part) (if there then Some slots else recovered (counts_of part) old.byte) ≡ (if there then Some (kept_book b) else restarts_of part old byte)
     either byte true = ap Some means
-    either byte false = ap (recovered_book part) (sym (image_clean byte old clean))
+    either byte false = ap (recovered_book part) (sym (clean_image old clean byte))
 
     left_at : (byte : ℕ) → restarts_of part new byte ≡ (if nat_le 5 fuse && byte == 165 then Some (kept_book b) else restarts_of part old byte)
     left_at byte =

@@ -1,6 +1,6 @@
 -- What a circuit's server and its region hold together, and what becomes of it. Whatever a decision
 -- changes but offers is saved in the region before the reply leaves.
-use Rattle.std.specs.Prelude.{◌≡◌, ℕ, ◌==◌, ◌&&◌, ◌||◌, nat_le, ◌<◌, Bool, true, false, not, List, [], ◌∷◌, length, map, Option, Some, None, option_map, All, slice_get, slice_set, Result, Ok, Err, if◌then◌else◌}
+use Rattle.std.specs.Prelude.{◌≡◌, ℕ, ◌==◌, ◌&&◌, ◌||◌, nat_le, ◌<◌, true, List, [], ◌∷◌, Option, Some, None, option_map, All, slice_get, slice_set, Result, Ok, Err, if◌then◌else◌}
 use Rattle.types.specs.declared.addr.Source.{Source}
 use Rattle.types.specs.declared.discard.Discard.{Discard}
 use Rattle.types.specs.declared.slots.Slots.{Slots}

@@ -5,10 +5,12 @@ mod addressee;
 mod circuit_server;
 mod laws;
 mod open_circuit;
+mod regions;
 mod request;
 mod server;
 #[cfg(test)]
 mod tests;
 
 pub use laws::leaves_a_book;
+pub use regions::region_count;
 pub use server::{OpenFault, Server};

@@ -1,8 +1,8 @@
 -- Steps of a world, from what happens to the states of its circuits.
 use Rattle.std.proofs.Common.{◌≡◌, ℕ, ◌≤◌, Bool, true, false, cond, eqb, List, [], length, refl, sym, ap, subst, ◌∙◌, arith, eq-eqb, ne_eqb}
-use Rattle.std.specs.Prelude.{Option, Some, None, slice_get}
-use Rattle.std.proofs.lemmas.Bool.{eqb-true}
-use Rattle.std.proofs.lemmas.Option.{slice_get_within}
+use Rattle.std.specs.Prelude.{Option, Some, None, nat_lt, slice_get}
+use Rattle.std.proofs.lemmas.Bool.{eqb-true, ltb-false}
+use Rattle.std.proofs.lemmas.Option.{same_Some, slice_get_within}
 use Rattle.world.specs.Alone.{Setup, Alone, Effect, alone_step}
 use Rattle.world.specs.Seen.{Seen, Tick, seen_of, named_by, is_restart}
 use Rattle.world.specs.Headline.{CircuitState, Shows, Represents, frames_to, frame_of, IsOutcome, Answers, after_seen, Steps}
@@ -14,10 +14,11 @@ use Rattle.world.specs.declared.event.Event.TheVariants as event
 use Rattle.world.specs.declared.outcome.Outcome.{Outcome}
 use Rattle.world.specs.declared.outcome.Outcome.TheVariants as outcome
 
--- ---- one circuit's state
+-- there is no such circuit
+pub missing : (k n : ℕ) (exists : Bool) → exists ≡ nat_lt k n → exists ≡ false → n ≤ k
+missing k n exists value none = ltb-false k n (sym value ∙ none)
 
-the_same : (p q : CircuitState) → Some p ≡ Some q → p ≡ q
-the_same p q h = cc
+-- ---- one circuit's state
 
 -- A state that moved by its machine's step represents the machine after it, and the outcome is the machine's.
 module _ (c : ℕ) (s : Seen) (old new : List CircuitState) (p q : CircuitState) (o : Outcome) (out : List ℕ)
@@ -25,7 +26,7 @@ module _ (c : ℕ) (s : Seen) (old new : List CircuitState) (p q : CircuitState)
   shown : Shows p setup a
   shown =
       let P : CircuitState → Type 0 = λ state. Shows state setup a in
-      subst P (sym (the_same p here.state (sym was ∙ here.there))) here.shows
+      subst P (sym (same_Some p here.state (sym was ∙ here.there))) here.shows
 
   represents_next : Represents c new setup (alone_step setup s a).next
   represents_next = record { state = q; there = is; shows = steps.next setup a shown }

@@ -2,7 +2,7 @@
 use Rattle.std.proofs.Common.{◌≡◌, ℕ, ◌+◌, Bool, true, false, cond, not, ◌&&◌, ◌||◌, List, [], ◌∷◌, ◌++◌, length, replicate, max, refl, ap, ◌∙◌}
 use Rattle.std.specs.Prelude.{Ok, Err, Option, Some, None, ◌==◌}
 use Rattle.std.specs.List.{find, range_with_len}
-use Rattle.std.specs.FinMap.{get, empty, remove, get-empty}
+use Rattle.std.specs.FinMap.{get, empty, get-empty}
 use Rattle.std.specs.Ordering.{nat_cmp, eq_by_cmp}
 use Rattle.std.specs.Cmp.Lexicographic.{slice_cmp}
 use Rattle.types.specs.Addr.{number4, addr4}

@@ -4,7 +4,6 @@ use Rattle.std.specs.Prelude.{Option, Some, None, Result, Ok, Err, ◌==◌, if�
 use Rattle.std.specs.FinMap.{get}
 use Rattle.std.proofs.lemmas.Bool.{cases_lt}
 use Rattle.std.proofs.Math.Nat.{le-max_left}
-use Rattle.types.specs.Addr.{addr4}
 use Rattle.types.specs.declared.addr.Addr4.{Addr4}
 use Rattle.types.specs.declared.discard.Discard.{Discard}
 use Rattle.types.specs.declared.kind4.Kind4.{Kind4}
@@ -19,15 +18,14 @@ use Rattle.bindings_v4.specs.Book4.{Lease, Book4, address_of}
 use Rattle.bindings_v4.specs.IsBook4.{TheBinding, TheOffer, EndsLease}
 use Rattle.bindings_v4.specs.declared.server4.Server4.{Server4}
 use Rattle.bindings_v4.specs.declared.server4.Server4.TheVariants.{Anybody, This, Another}
-use Rattle.bindings_v4.specs.Table4.{Decision, Unchanged, Lookup, Row, is_kept, replies, drops, grants, discover_row, other_server_row, selecting_row, known_address_row, no_server_row, decline_row, release_row, inform_row, server_of, lookup_in, row_of, answer4}
-use Rattle.bindings_v4.proofs.LaterBook.{later_is_a_book}
+use Rattle.bindings_v4.specs.Table4.{Unchanged, Lookup, Row, is_kept, replies, grants, discover_row, other_server_row, selecting_row, known_address_row, no_server_row, decline_row, release_row, inform_row, server_of, lookup_in, row_of, answer4}
 use Rattle.bindings_v4.proofs.LawLemmas.{own_granted}
 use Rattle.bindings_v4.proofs.LeaseLemmas.{lease_kept, lease_lasts}
 use Rattle.config.specs.CircuitPart.{CircuitPart, IsPart, pool4_of}
 use Rattle.dispatch.specs.Request.{request_in}
 use Rattle.dispatch.specs.Server.{Book, IsBook, Served, book_at, request_served, message_served}
 use Rattle.world.specs.Alone.{Effect}
-use Rattle.world.specs.Granted.{Grant, Line, Granted, Ended, Stands, Knows, grant_of, granted, end_of, ended, is_sent, request_lines, message_lines}
+use Rattle.world.specs.Granted.{Grant, Line, Granted, Ended, Stands, Knows, granted, end_of, ended, is_sent, request_lines, message_lines}
 
 -- ---- lists of lines
 

@@ -8,7 +8,6 @@ pub mod ReturnLemmas
 pub mod CircuitSteps
 pub mod StateLemmas
 pub mod StrayLemmas
-pub mod TestLemmas
 pub mod ShownLemmas
 pub mod GrantLemmas
 pub mod LedgerLemmas

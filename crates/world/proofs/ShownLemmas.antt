@@ -9,7 +9,7 @@ use Rattle.dispatch.specs.Leases.{Leases, after_datagram, after_saving, after_ti
 use Rattle.dispatch.specs.Received.{Answered, after_save, answered, save_fails}
 use Rattle.dispatch.specs.Server.{Book, Served, book_at, kept_book, served}
 use Rattle.lease_disk.specs.Crash.{crashed}
-use Rattle.lease_disk.specs.Region.{Region, IsClean, effective, image}
+use Rattle.lease_disk.specs.Region.{Region, effective}
 use Rattle.lease_disk.specs.declared.image.Image.{Image}
 use Rattle.lease_disk.specs.declared.image.Image.TheVariants.{Byte, Unreadable}
 use Rattle.lossy_net.specs.Net.{Datagram}
@@ -43,10 +43,6 @@ holds_start l kept book restarts = record {
   restarts = λ byte. restarts byte ∙ found_alike kept (byte == 0xa5);
   sure = λ b opened. refl;
 }
-
--- of a region of which no byte is unsynced a crash changes none
-pub clean_image : (r : Region) → IsClean r → (byte : ℕ) → image byte r ≡ r.byte
-clean_image r clean byte = λ i n. if clean.each n i then byte else r.byte n
 
 -- ---- a moment
 

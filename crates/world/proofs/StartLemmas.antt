@@ -1,6 +1,6 @@
 -- The states of a world that was just opened represent their circuits' machines at the start.
-use Rattle.std.proofs.Common.{◌≡◌, ◌≢◌, ℕ, zero, suc, ◌<◌, List, [], ◌∷◌, length, map, refl, sym, ap, subst, ◌∙◌, arith}
-use Rattle.std.specs.Prelude.{Some, None, All, AllPairs, ◌≤◌, if◌then◌else◌, slice_get, option_map, true}
+use Rattle.std.proofs.Common.{◌≡◌, ℕ, zero, suc, ◌<◌, List, [], ◌∷◌, length, map, refl, sym, ap, subst, ◌∙◌, arith}
+use Rattle.std.specs.Prelude.{Some, None, All, ◌≤◌, if◌then◌else◌, slice_get, option_map, true}
 use Rattle.std.specs.List.{list_any}
 use Rattle.std.proofs.lemmas.Option.{slice_get-map, slice_get_within, get_or_from_slice_get}
 use Rattle.std.proofs.lemmas.List.{length-map}
@@ -11,6 +11,7 @@ use Rattle.config.specs.CircuitPart.{CircuitPart, IsPart, part_of, source_at, pa
 use Rattle.config.specs.Rules.{Settings, IsSound, IsWithinLimits}
 use Rattle.config.specs.declared.settings.CircuitConfig.{CircuitConfig}
 use Rattle.config.specs.declared.settings.RelayConfig.{RelayConfig}
+use Rattle.dispatch.proofs.IndexLemmas.{of_map, same_index}
 use Rattle.dispatch.specs.Leases.{AreSynced, HasRegions, found_leases, recovered_book}
 use Rattle.dispatch.specs.ServerValue.{AreReady, RegionsDiffer, parts_in}
 use Rattle.lease_disk.specs.Model as disk
@@ -25,32 +26,12 @@ use Rattle.world.specs.Headline.{Represents}
 use Rattle.world.specs.Start.{Starts}
 use Rattle.world.specs.StepsAs.{Each, IsFor, Returns, IsWorldOf, IsWorld}
 use Rattle.world.specs.World.{WorldValue, state_of, states}
-use Rattle.world.proofs.ShownLemmas.{clean_image, holds_start}
-use Rattle.world.proofs.StateLemmas.{leases_now, some_is, state_at}
+use Rattle.lease_disk.proofs.Fresh.{clean_image}
+use Rattle.world.proofs.ShownLemmas.{holds_start}
+use Rattle.world.proofs.StateLemmas.{leases_now, state_at}
 use Rattle.world.proofs.WorldLemmas.{all_at, states_count}
 
 -- ---- lists
-
--- what is at an index of a mapped list comes from there
-of_map : {A B : Type 0} (f : A → B) (xs : List A) (n : ℕ) (y : B) → slice_get (map f xs) n ≡ Some y → (x : A) × (slice_get xs n ≡ Some x) × (y ≡ f x)
-of_map f [] n y at = absurd cc
-of_map f (x ∷ xs) zero y at = (x, refl, sym (some_is (f x) y at))
-of_map f (x ∷ xs) (suc n) y at = of_map f xs n y at
-
-neither_before : (c d : ℕ) → (c < d → ⊥) → (d < c → ⊥) → d ≡ c
-neither_before zero zero before after = refl
-neither_before zero (suc d) before after = absurd (before (omega arith))
-neither_before (suc c) zero before after = absurd (after (omega arith))
-neither_before (suc c) (suc d) before after = ap suc (neither_before c d (λ h. before (omega (arith, h))) (λ h. after (omega (arith, h))))
-
--- where no two are alike, one that is like the other is at its index
-module _ {A B : Type 0} (f : A → B) (xs : List A) (apart : AllPairs (λ a b. f a ≢ f b) xs) where
-  unlike : (c d : ℕ) (x y : A) → slice_get xs c ≡ Some x → slice_get xs d ≡ Some y → c < d → f x ≡ f y → ⊥
-  unlike c d x y at other below same =
-      apart c d x below (slice_get_within xs d y other) (ap f (get_or_from_slice_get xs c x x at) ∙ same ∙ sym (ap f (get_or_from_slice_get xs d y x other)))
-
-  same_index : (c d : ℕ) (x y : A) → slice_get xs c ≡ Some x → slice_get xs d ≡ Some y → f y ≡ f x → d ≡ c
-  same_index c d x y at other same = neither_before c d (λ below. unlike c d x y at other below (sym same)) (λ above. unlike d c y x other at above same)
 
 source_is : (relays : List RelayConfig) (n : ℕ) → n < length relays → slice_get (map (λ (r : RelayConfig). r.source) relays) n ≡ Some (source_at relays n)
 source_is [] n h = absurd (omega (arith, h))

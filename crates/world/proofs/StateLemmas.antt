@@ -1,6 +1,7 @@
 -- The states of a world, by parts and leases.
 use Rattle.std.proofs.Common.{◌≡◌, ℕ, zero, suc, ◌<◌, false, eqb, List, [], ◌∷◌, length, set, refl, sym, ap, ◌∙◌, arith}
 use Rattle.std.specs.Prelude.{Some, slice_get}
+use Rattle.std.proofs.lemmas.Option.{same_Some}
 use Rattle.config.specs.CircuitPart.{CircuitPart}
 use Rattle.dispatch.specs.Leases.{Leases}
 use Rattle.dispatch.specs.ServerValue.{leases_in, parts_in}
@@ -12,9 +13,6 @@ use Rattle.lease_disk.specs.Model as disk
 use Rattle.world.specs.declared.outcome.Outcome.{Outcome}
 
 -- ---- lists
-
-pub some_is : {A : Type 0} (x y : A) → Some x ≡ Some y → x ≡ y
-some_is x y h = cc
 
 -- the element that was written, and every other one
 pub get_set : {A : Type 0} (xs : List A) (k : ℕ) (x : A) → k < length xs → slice_get (set xs k x) k ≡ Some x
@@ -41,7 +39,7 @@ pub state_at : (f : ℕ → CircuitPart → Leases → CircuitState) (parts : Li
     → slice_get parts k ≡ Some p → slice_get all k ≡ Some b → slice_get (each_state f parts all) k ≡ Some (f k p b)
 state_at f [] all k p b there its = absurd cc
 state_at f (x ∷ parts) [] k p b there its = absurd cc
-state_at f (x ∷ parts) (y ∷ all) zero p b there its = λ i. Some (f 0 (some_is x p there i) (some_is y b its i))
+state_at f (x ∷ parts) (y ∷ all) zero p b there its = λ i. Some (f 0 (same_Some x p there i) (same_Some y b its i))
 state_at f (x ∷ parts) (y ∷ all) (suc k) p b there its = state_at (λ c. f (suc c)) parts all k p b there its
 
 pub record IsState (f : ℕ → CircuitPart → Leases → CircuitState) (parts : List CircuitPart) (all : List Leases) (k : ℕ) (s : CircuitState) : Type 0 where
@@ -54,7 +52,7 @@ pub record IsState (f : ℕ → CircuitPart → Leases → CircuitState) (parts 
 pub is_state : (f : ℕ → CircuitPart → Leases → CircuitState) (parts : List CircuitPart) (all : List Leases) (k : ℕ) (s : CircuitState) → slice_get (each_state f parts all) k ≡ Some s → IsState f parts all k s
 is_state f [] all k s at = absurd cc
 is_state f (x ∷ parts) [] k s at = absurd cc
-is_state f (x ∷ parts) (y ∷ all) zero s at = record { part = x; leases = y; there = refl; its = refl; is = sym (some_is (f 0 x y) s at) }
+is_state f (x ∷ parts) (y ∷ all) zero s at = record { part = x; leases = y; there = refl; its = refl; is = sym (same_Some (f 0 x y) s at) }
 is_state f (x ∷ parts) (y ∷ all) (suc k) s at =
     let r = is_state (λ c. f (suc c)) parts all k s at in
     record { part = r.part; leases = r.leases; there = r.there; its = r.its; is = r.is }
@@ -71,7 +69,7 @@ same_state f g [] all changed k size same alike = refl
 same_state f g (x ∷ parts) [] [] k size same alike = refl
 same_state f g (x ∷ parts) [] (z ∷ changed) k size same alike = absurd (omega (arith, size))
 same_state f g (x ∷ parts) (y ∷ all) [] k size same alike = absurd (omega (arith, size))
-same_state f g (x ∷ parts) (y ∷ all) (z ∷ changed) zero size same alike = ap Some (ap (g 0 x) (some_is z y same) ∙ alike x y)
+same_state f g (x ∷ parts) (y ∷ all) (z ∷ changed) zero size same alike = ap Some (ap (g 0 x) (same_Some z y same) ∙ alike x y)
 same_state f g (x ∷ parts) (y ∷ all) (z ∷ changed) (suc k) size same alike =
     same_state (λ c. f (suc c)) (λ c. g (suc c)) parts all changed k (omega (arith, size)) same alike
 

@@ -1,7 +1,7 @@
 -- What an event does to the state of its circuit, as the circuit's machine's step.
 use Rattle.std.proofs.Common.{◌≡◌, ◌≢◌, ℕ, zero, suc, ◌<◌, Bool, true, false, eqb, List, [], ◌∷◌, length, map, take, get_or, set, refl, sym, ap, subst, ◌∙◌, arith}
 use Rattle.std.specs.Prelude.{All, Option, Some, None, Result, Ok, Err, option_map, slice_get, slice_index}
-use Rattle.std.proofs.lemmas.Option.{slice_get-map, slice_get_within, get_or_from_slice_get}
+use Rattle.std.proofs.lemmas.Option.{slice_get-map, slice_get_within, get_or_from_slice_get, same_Some}
 use Rattle.std.proofs.lemmas.Bool.{eqb-true, eqb-false}
 use Rattle.std.proofs.lemmas.List.{length-map, length-set, get_or-set_other}
 use Rattle.std.proofs.lemmas.List.Elements.{All-get_or}
@@ -34,7 +34,7 @@ use Rattle.world.specs.Seen.{Seen, Frame, Up, Down, Tick, Restart}
 use Rattle.world.specs.StepsAs.{StepsAs, Each, IsFor, Returns, IsWorldOf, IsWorld, AllMove}
 use Rattle.world.specs.World.{WorldValue, each_state, state_of, states}
 use Rattle.world.proofs.ShownLemmas.{Holds, after_up, down_stays, found_crashed, holds, holds_datagram, holds_restart, holds_tick, its_answer, its_fails, restart_downs, restart_ups, up_stays, up_step_is}
-use Rattle.world.proofs.StateLemmas.{some_is, is_there, is_state, leases_now, state_at, state_count, get_set, get_set_other}
+use Rattle.world.proofs.StateLemmas.{is_there, is_state, leases_now, state_at, state_count, get_set, get_set_other}
 use Rattle.world.specs.declared.outcome.Outcome.{Outcome}
 use Rattle.world.specs.declared.outcome.Outcome.TheVariants as outcome
 
@@ -299,7 +299,7 @@ pub restarts_at : (regions : ℕ → Region) (circuits : List CircuitServerValue
     → slice_get (map (leases_of regions) circuits) c ≡ Some l → l.restarts ≡ restarts_of part (regions part.region)
 restarts_at regions [] c part l there its = absurd cc
 restarts_at regions (x ∷ xs) zero part l there its =
-    ap (λ (m : Leases). m.restarts) (sym (some_is (leases_of regions x) l its)) ∙ ap (λ p. restarts_of p (regions p.region)) (some_is (part_of x) part there)
+    ap (λ (m : Leases). m.restarts) (sym (same_Some (leases_of regions x) l its)) ∙ ap (λ p. restarts_of p (regions p.region)) (same_Some (part_of x) part there)
 restarts_at regions (x ∷ xs) (suc c) part l there its = restarts_at regions xs c part l there its
 
 -- ---- what the network keeps of every circuit
@@ -469,7 +469,7 @@ pub is_served : (w : WorldValue) → IsWorld w → (k : ℕ) (the : TheCircuit w
     → after ≡ received_leases w.server.relays (parts_in w.server) now source d.bytes faults (leases_in regions w.server)
     → IsServed w k the.part the.leases now fault d result reply after
 is_served w is k the j d now fault source given kept at from regions faults same_regions fuse result reply fails after failing answer leases =
-    let same : given ≡ the.part = some_is given the.part (sym at ∙ the.served) in
+    let same : given ≡ the.part = same_Some given the.part (sym at ∙ the.served) in
     let comes : source ≡ the.part.relay = from ∙ ap (λ p. p.relay) same in
     let at_region : faults the.part.region ≡ fault = ap (λ (p : CircuitPart). faults p.region) (sym same) ∙ fuse in
     let found = each_at (IsFor w.relays.topology k the.part) (datagrams w.net k dir.Up) j d (is.addressed k the.part the.there) kept in

@@ -4,9 +4,7 @@ ghost use Rattle.lease_disk.specs.Model.{state_of};
 ghost use Rattle.lease_disk.specs.Region.{IsClean};
 
 use super::*;
-use crate::tests::{
-    moment, new_disk, offered, only, open_over, opened, send, step, take, tick, up,
-};
+use crate::tests::{moment, offered, only, open_over, opened, send, step, take, tick, up};
 use config::Config;
 use fixtures::{ONE_CIRCUIT, client_frame};
 use lease_disk::{Disk, Image, ModelDisk};
@@ -174,7 +172,7 @@ fn a_fault_without_a_save_is_forgotten(rt: HostRuntime) {
 #[test]
 fn a_disk_is_too_small(rt: HostRuntime) {
     let config = Config::read(rt.alloc(), ONE_CIRCUIT).expect(&rt, "a configuration");
-    let disk = new_disk(rt.alloc(), 0).expect(&rt, "a disk");
+    let disk = ModelDisk::new(rt.alloc(), 0).expect(&rt, "a disk");
     match open_over(rt.alloc(), &config, disk, 16) {
         Ok(_) => assert!(rt; false),
         Err(fault) => assert_eq!(rt; fault, OpenFault::DiskTooSmall),
@@ -201,24 +199,14 @@ fn sixteen(alloc: Global) -> Result<String, AllocError> {
     Ok(text)
 }
 
-/// Gives each byte of a region one value.
-fn spoil(disk: &mut ModelDisk, region: u16)
-    requires there { region < length disk.old.regions }
-    requires clean { (q : ℕ) → (state_of disk.old q).readable ≡ true → IsClean (state_of disk.old q) }
-    ensures count { length disk.new.regions ≡ length disk.old.regions }
-    ensures clean { (q : ℕ) → (state_of disk.new q).readable ≡ true → IsClean (state_of disk.new q) }
-{
-    disk.fill(region, 0x5a);
-}
-
 /// A disk of sixteen regions of which three are damaged.
 fn damaged_disk(alloc: Global) -> Result<ModelDisk, AllocError>
-    ensures clean { IfOk result (λ disk. (q : ℕ) → (state_of disk q).readable ≡ true → IsClean (state_of disk q)) }
+    ensures synced { IfOk result (λ disk. (q : ℕ) → IsClean (state_of disk q)) }
 {
-    let mut disk = new_disk(alloc, 16)?;
-    spoil(&mut disk, 1);
-    spoil(&mut disk, 7);
-    spoil(&mut disk, 13);
+    let mut disk = ModelDisk::new(alloc, 16)?;
+    disk.fill(1, 0x5a);
+    disk.fill(7, 0x5a);
+    disk.fill(13, 0x5a);
     Ok(disk)
 }
 
@@ -266,7 +254,7 @@ fn restart_all(world: &mut World) -> Outcome {
 fn neighbours_are_served_as_alone(rt: HostRuntime) -> Result<(), Fail> {
     let text = sixteen(rt.alloc())?;
     let config = Config::read(rt.alloc(), text.as_str()).expect(&rt, "a configuration");
-    let sound = open_over(rt.alloc(), &config, new_disk(rt.alloc(), 16)?, 16);
+    let sound = open_over(rt.alloc(), &config, ModelDisk::new(rt.alloc(), 16)?, 16);
     let mut sound = sound.expect(&rt, "a world");
     let hurt = open_over(rt.alloc(), &config, damaged_disk(rt.alloc())?, 16);
     let mut hurt = hurt.expect(&rt, "a world");

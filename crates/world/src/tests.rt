@@ -12,15 +12,7 @@ use std::process::Abort;
 use types::{Addr4, Circuit, Count, Dest, Discard, Kind4, Moment, Proto, RelayNo, Source};
 use wire::PacketBuf;
 
-/// A disk of so many new regions.
-pub fn new_disk(alloc: Global, regions: u16) -> Result<ModelDisk, AllocError>
-    ensures count { IfOk result (λ disk. length disk.regions ≡ regions) }
-    ensures clean { IfOk result (λ disk. (q : ℕ) → (state_of disk q).readable ≡ true → IsClean (state_of disk q)) }
-{
-    ModelDisk::new(alloc, regions)
-}
-
-/// A world over a disk on which nothing is in doubt.
+/// A world over a disk in which nothing is unsynced.
 pub fn open_over(
     alloc: Global,
     config: &Config,
@@ -29,7 +21,7 @@ pub fn open_over(
 ) -> Result<World, OpenFault>
     requires least { 1 ≤ quota }
     requires most { quota ≤ 256 }
-    requires clean { (q : ℕ) → (state_of disk q).readable ≡ true → IsClean (state_of disk q) }
+    requires synced { (q : ℕ) → IsClean (state_of disk q) }
 {
     World::open(alloc, config, disk, quota)
 }
@@ -41,7 +33,7 @@ pub fn opened(rt: &impl Abort, alloc: Global, quota: u16) -> World
 {
     let text = one_circuit_with(alloc, "count4 = 2").expect(rt, "a text");
     let config = Config::read(alloc, text.as_str()).expect(rt, "a configuration");
-    let disk = new_disk(alloc, 1).expect(rt, "a disk");
+    let disk = ModelDisk::new(alloc, 1).expect(rt, "a disk");
     open_over(alloc, &config, disk, quota).expect(rt, "a world")
 }
 
@@ -243,7 +235,7 @@ fn opened_or_out_of_memory(rt: HostRuntime) {
             return;
         }
     };
-    let Ok(disk) = new_disk(rt.alloc(), 1) else {
+    let Ok(disk) = ModelDisk::new(rt.alloc(), 1) else {
         return;
     };
     match open_over(rt.alloc(), &config, disk, 256) {

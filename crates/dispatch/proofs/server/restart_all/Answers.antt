@@ -4,7 +4,7 @@ use Rattle.std.proofs.lemmas.List.{get_or-set_same, length-set, take-set, take_a
 use Rattle.std.proofs.lemmas.List.Elements.{All-more}
 use Rattle.config.specs.CircuitPart.{CircuitPart}
 use Rattle.lease_disk.specs.Region.{IsClean, Region}
-use Rattle.dispatch.specs.Leases.{AreSynced, found_book, found_leases, restarts_of}
+use Rattle.dispatch.specs.Leases.{found_book, found_leases, restarts_of}
 use Rattle.dispatch.specs.ServerValue.{CircuitServerValue, IsReady, book_of, leases_of, part_of}
 use Rattle.dispatch.proofs.ServerLemmas.{all_found, at_part, same_seen}
 use Rattle.dispatch.proofs.server.restart_all.Goals as goal

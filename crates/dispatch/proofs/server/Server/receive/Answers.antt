@@ -1,12 +1,11 @@
-use Rattle.std.proofs.Common.{◌≡◌, ◌<◌, ℕ, Bool, nat_lt, true, List, map, set, length, sym, ap, subst, ◌∙◌, refl}
-use Rattle.std.specs.Prelude.{Option, Some, Ok, slice_get, option_map, All}
+use Rattle.std.proofs.Common.{◌≡◌, ◌<◌, ℕ, nat_lt, List, map, set, length, sym, ap, subst, ◌∙◌}
+use Rattle.std.specs.Prelude.{Some, Ok, slice_get, option_map, All}
 use Rattle.std.proofs.lemmas.List.{map-set}
 use Rattle.std.proofs.lemmas.Option.{slice_get-map, slice_get-get_or}
 use Rattle.config.specs.CircuitPart.{CircuitPart}
-use Rattle.lease_disk.specs.Region.{Region}
 use Rattle.dispatch.specs.Addressee.{addressee}
-use Rattle.dispatch.specs.Leases.{Leases, after_datagram, received_leases, restarts_of}
-use Rattle.dispatch.specs.Received.{Received, IsAnswer, answered, circuit_fails, received, received_fails, with_answered}
+use Rattle.dispatch.specs.Leases.{received_leases, restarts_of}
+use Rattle.dispatch.specs.Received.{Received, IsAnswer, received, received_fails}
 use Rattle.dispatch.specs.ServerValue.{CircuitServerValue, IsReady, IsReadyFor, RegionsDiffer, ServerValue, book_of, books_in, leases_in, leases_of, part_of, parts_in}
 use Rattle.dispatch.proofs.ReceivedLemmas.{received_at, fails_at, leases_at}
 use Rattle.dispatch.proofs.ServerLemmas.{all_moved, at_part, one_moved, same_seen}

@@ -1,6 +1,6 @@
 use Rattle.std.proofs.Common.{◌≡◌, ◌<◌, length, refl, sym, ap, subst, ◌∙◌, get_or, arith}
 use Rattle.std.specs.Prelude.{Some, slice_get}
-use Rattle.std.proofs.lemmas.Option.{slice_get_within}
+use Rattle.std.proofs.lemmas.Option.{same_Some, slice_get_within}
 use Rattle.lossy_net.specs.Net.{Datagram, datagrams}
 use Rattle.relay.specs.Relays.{relayed_down_in}
 use Rattle.lossy_net.specs.declared.dir.Dir.TheVariants as dir
@@ -9,7 +9,7 @@ use Rattle.world.specs.StepsAs.{Moves, Returns, StepsAs}
 use Rattle.world.specs.World.{WorldValue, state_of, states}
 use Rattle.world.specs.declared.outcome.Outcome.{Outcome}
 use Rattle.world.specs.declared.outcome.Outcome.TheVariants as outcome
-use Rattle.world.proofs.StateLemmas.{moves, some_is}
+use Rattle.world.proofs.StateLemmas.{moves}
 use Rattle.world.proofs.WorldLemmas.{the_circuit, behind_is, whole, each_at, down_gone, down_framed, down_dropped}
 use Rattle.world.proofs.world.World.down.Goals.{in-Ok, in-Err}
 use Rattle.world.proofs.world.World.down.Goals as goal
@@ -59,7 +59,7 @@ returns-clause-moves c =
     let here = behind_is w is k the.part the.there relay (c.index-relay.ensures ∙ ap (λ n. get_or w.behind n relay) c.index.ensures.value) in
     let d : Datagram = record { proto = c.in-Some.proto; bytes = c.in-Some.datagram.now } in
     let there : slice_get (datagrams w.net k dir.Down) c.args.number ≡ Some d = sym c.in-Some.ensures in
-    let source = c.listen4-source.ensures ∙ ap (λ p. p.listen4) (some_is c.part.result.now the.part (sym c.part.ensures ∙ the.served)) ∙ is.listen4 k the.part the.there in
+    let source = c.listen4-source.ensures ∙ ap (λ p. p.listen4) (same_Some c.part.result.now the.part (sym c.part.ensures ∙ the.served)) ∙ is.listen4 k the.part the.there in
     let comes = each_at (Returns t k the.part) (datagrams w.net k dir.Down) c.args.number d (is.returned k the.part the.there) there relay here in
     let result = sym comes ∙ ap (λ s. relayed_down_in t relay s d.bytes) (sym source) in
     let P : WorldValue → Type 0 = λ v. Moves k (Down c.args.number) (states v) (states v) c.match-down.result c.down.new.out in

@@ -1,30 +1,29 @@
-use Rattle.std.proofs.Common.{length, refl, sym, ap, ◌∙◌}
-use Rattle.std.proofs.lemmas.Bool.{ltb-false}
+use Rattle.std.proofs.Common.{length, refl, ap}
 use Rattle.world.specs.Seen.{Frame, Up, Down, Tick, Restart, image_at, seen_of, named_by}
 use Rattle.world.specs.Stray.{is_stray}
 use Rattle.world.specs.World.{states}
-use Rattle.world.proofs.CircuitSteps.{named_steps, gone_steps, all_steps, stray_steps}
+use Rattle.world.proofs.CircuitSteps.{named_steps, missing, gone_steps, all_steps, stray_steps}
 use Rattle.world.proofs.world.World.step.Goals as goal
 
 pub returns-then-not-exists-clause-steps : goal.returns-then-not-exists-clause-steps
 returns-then-not-exists-clause-steps c =
     let k = c.in-Frame.circuit in
     gone_steps c.args.event.now k (Frame c.in-Frame.proto c.in-Frame.frame.now) (λ n. ap (seen_of n) c.in-Frame.is) (ap named_by c.in-Frame.is) (states c.args.self.now) c.gone.result c.gone.new.out
-    (ltb-false k (length (states c.args.self.now)) (sym c.exists.ensures.states ∙ c.if-not-exists.true)) c.gone.ensures.gone c.gone.ensures.empty
+    (missing k (length (states c.args.self.now)) _ c.exists.ensures.states c.if-not-exists.true) c.gone.ensures.gone c.gone.ensures.empty
 
 pub returns-then-not-exists-2-clause-steps : goal.returns-then-not-exists-2-clause-steps
 returns-then-not-exists-2-clause-steps c =
     let k = c.in-Up.circuit in
     gone_steps c.args.event.now k (Up c.in-Up.number c.in-Up.now c.in-Up.fault) (λ n. ap (seen_of n) c.in-Up.is) (ap named_by c.in-Up.is) (states c.args.self.now)
     c.gone-then-not-exists-2.result c.gone-then-not-exists-2.new.out
-    (ltb-false k (length (states c.args.self.now)) (sym c.exists-in-Up.ensures.states ∙ c.if-not-exists-2.true)) c.gone-then-not-exists-2.ensures.gone c.gone-then-not-exists-2.ensures.empty
+    (missing k (length (states c.args.self.now)) _ c.exists-in-Up.ensures.states c.if-not-exists-2.true) c.gone-then-not-exists-2.ensures.gone c.gone-then-not-exists-2.ensures.empty
 
 pub returns-then-not-exists-3-clause-steps : goal.returns-then-not-exists-3-clause-steps
 returns-then-not-exists-3-clause-steps c =
     let k = c.in-Down.circuit in
     gone_steps c.args.event.now k (Down c.in-Down.number) (λ n. ap (seen_of n) c.in-Down.is) (ap named_by c.in-Down.is) (states c.args.self.now)
     c.gone-then-not-exists-3.result c.gone-then-not-exists-3.new.out
-    (ltb-false k (length (states c.args.self.now)) (sym c.exists-in-Down.ensures.states ∙ c.if-not-exists-3.true)) c.gone-then-not-exists-3.ensures.gone c.gone-then-not-exists-3.ensures.empty
+    (missing k (length (states c.args.self.now)) _ c.exists-in-Down.ensures.states c.if-not-exists-3.true) c.gone-then-not-exists-3.ensures.gone c.gone-then-not-exists-3.ensures.empty
 
 pub returns-else-not-exists-clause-steps : goal.returns-else-not-exists-clause-steps
 returns-else-not-exists-clause-steps c =
