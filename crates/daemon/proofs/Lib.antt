@@ -2,10 +2,10 @@ pub mod AheadLemmas
 pub mod CauseLemmas
 pub mod CircuitLemmas
 pub mod CutLemmas
+pub mod FillLemmas
 pub mod NumberLemmas
 pub mod PartLemmas
 pub mod ReadLemmas
-pub mod RegionLemmas
 pub mod RelayLemmas
 pub mod RestartLemmas
 pub mod RunLemmas

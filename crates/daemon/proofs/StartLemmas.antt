@@ -1,25 +1,20 @@
--- A world over formatted regions.
-use Rattle.std.proofs.Common.{◌≡◌, ℕ, ◌<◌, List, get_or, refl, ap, sym, subst, ◌∙◌}
+-- A world over regions that can be read.
+use Rattle.std.proofs.Common.{◌≡◌, ℕ, ◌<◌, List, get_or, refl, sym, subst, ◌∙◌}
 use Rattle.std.specs.Prelude.{Option, Some, None, Result, Ok, Err, IfOk, IfErr, option_map, slice_get}
 use Rattle.std.proofs.lemmas.Option.{same_Some, slice_get-map, slice_get-get_or}
 use Rattle.config.specs.CircuitPart.{CircuitPart, part_in, part_of, parts_of, source_at}
 use Rattle.config.specs.Rules.{Settings}
 use Rattle.config.specs.declared.settings.CircuitConfig.{CircuitConfig}
-use Rattle.dispatch.specs.Leases.{AreSynced, HasRegions, recovered_book}
+use Rattle.dispatch.specs.Leases.{AreSynced, HasRegions}
 use Rattle.dispatch.specs.declared.server.OpenFault.{OpenFault}
 use Rattle.dispatch.specs.declared.server.OpenFault.TheVariants.{Memory, DiskTooSmall}
-use Rattle.lease_disk.specs.Crash.{formatted_region}
-use Rattle.lease_disk.specs.Region.{Region, IsClean}
-use Rattle.world.specs.Alone.{start}
+use Rattle.lease_disk.specs.Region.{Region}
+use Rattle.world.specs.Alone.{Alone}
 use Rattle.world.specs.Headline.{CircuitState, Represents}
 use Rattle.world.specs.Start.{Starts}
 use Rattle.world.specs.World.{WorldValue, states}
-use Rattle.daemon.specs.Follows.{Begins}
-use Rattle.daemon.specs.Lab.{machine_over}
-
--- each circuit's region is one of the first
-abbrev pub AreWithin : Settings → ℕ → Type 0
-AreWithin settings count = (c : ℕ) (circuit : CircuitConfig) → slice_get settings.circuits c ≡ Some circuit → circuit.region < count
+use Rattle.daemon.specs.Fills.{AreOver, AreReady, AreWithin}
+use Rattle.daemon.specs.Follows.{AllRepresent}
 
 within_at : (settings : Settings) (count c : ℕ) (part : CircuitPart) (o : Option CircuitConfig) → AreWithin settings count → slice_get settings.circuits c ≡ o
     → option_map (λ (x : CircuitConfig). part_of x (source_at settings.relays x.relay) settings.server.listen4 settings.server.listen6 settings.server.duid.items) o ≡ Some part → part.region < count
@@ -31,26 +26,25 @@ part_within settings count c part within h =
     within_at settings count c part (slice_get settings.circuits c) within refl
     (sym (slice_get-map (λ (x : CircuitConfig). part_of x (source_at settings.relays x.relay) settings.server.listen4 settings.server.listen6 settings.server.duid.items) settings.circuits c) ∙ h)
 
--- it begins with the machines of formatted regions
-pub begins : (settings : Settings) (quota count : ℕ) (regions : ℕ → Region) (states : List CircuitState) → AreWithin settings count
-    → ((q : ℕ) → q < count → regions q ≡ formatted_region) → Starts settings quota regions states → Begins settings quota states
-begins settings quota count regions states within formatted starts = record {
+-- it begins with the machines over these regions
+represents : (settings : Settings) (quota count : ℕ) (regions : ℕ → Region) (states : List CircuitState) → AreWithin settings count → AreReady count regions → Starts settings quota regions states
+    → (machines : ℕ → Alone) → AreOver settings regions machines → AllRepresent settings quota states machines
+represents settings quota count regions states within ready starts machines over = record {
   each = λ c part h.
-      let is = formatted part.region (part_within settings count c part within h) in
-      let first = subst (λ (r : Region). Represents c states (record { part = part; quota = quota }) (start (recovered_book part r.byte))) is (starts.each c part h (ap (λ (r : Region). r.readable) is)) in
-      subst (Represents c states (record { part = part; quota = quota })) (sym (ap (machine_over (λ q. formatted_region)) h)) first;
+      subst (Represents c states (record { part = part; quota = quota })) (sym (over.each c part h))
+      (starts.each c part h (ready part.region (part_within settings count c part within h)).readable);
 }
 
-pub begins_ok : (settings : Settings) (quota count : ℕ) (regions : ℕ → Region) (r : Result WorldValue OpenFault) → AreWithin settings count
-    → ((q : ℕ) → q < count → regions q ≡ formatted_region) → IfOk r (λ world. Starts settings quota regions (states world)) → IfOk r (λ world. Begins settings quota (states world))
-begins_ok settings quota count regions (Ok world) within formatted starts = begins settings quota count regions (states world) within formatted starts
-begins_ok settings quota count regions (Err why) within formatted starts = tt
+pub represents_ok : (settings : Settings) (quota count : ℕ) (regions : ℕ → Region) (r : Result WorldValue OpenFault) → AreWithin settings count → AreReady count regions
+    → IfOk r (λ world. Starts settings quota regions (states world)) → IfOk r (λ world. (machines : ℕ → Alone) → AreOver settings regions machines → AllRepresent settings quota (states world) machines)
+represents_ok settings quota count regions (Ok world) within ready starts = represents settings quota count regions (states world) within ready starts
+represents_ok settings quota count regions (Err why) within ready starts = tt
 
 -- what an opening asks of the device
-pub are_synced : (settings : Settings) (count : ℕ) (regions : ℕ → Region) → AreWithin settings count → ((q : ℕ) → q < count → regions q ≡ formatted_region) → AreSynced (parts_of settings) regions
-are_synced settings count regions within formatted = λ k d inside readable.
+pub are_synced : (settings : Settings) (count : ℕ) (regions : ℕ → Region) → AreWithin settings count → AreReady count regions → AreSynced (parts_of settings) regions
+are_synced settings count regions within ready = λ k d inside readable.
     let part : CircuitPart = get_or (parts_of settings) k d in
-    subst IsClean (sym (formatted part.region (part_within settings count k part within (slice_get-get_or (parts_of settings) k d inside)))) (record { each = λ i. refl })
+    (ready part.region (part_within settings count k part within (slice_get-get_or (parts_of settings) k d inside))).clean
 
 has_regions : (settings : Settings) (count : ℕ) → AreWithin settings count → HasRegions (parts_of settings) count
 has_regions settings count within = λ k d inside.

@@ -103,16 +103,17 @@ unfoldable pub parted_last : ℕ → List ℕ → Option (List ℕ × List ℕ)
 parted_last byte [] = None
 parted_last byte (b ∷ text) = or_here (b == byte) b text (parted_last byte text)
 
-abbrev pub byte_in : Option (List ℕ) → Option Image
-byte_in (Some (b ∷ [])) = Some (Byte b)
-byte_in _ = None
+abbrev pub single : Option (List ℕ) → Option ℕ
+single (Some (b ∷ [])) = Some b
+single _ = None
 
--- `unreadable`, or the byte that two hexadecimal digits of either case spell
+-- the byte that two hexadecimal digits of either case spell
+abbrev pub byte_of : List ℕ → Option ℕ
+byte_of text = if length text == 2 then single (ok_of (decode_of text)) else None
+
+-- `unreadable`, or the byte that two digits spell
 abbrev pub image_of : List ℕ → Option Image
-image_of text =
-    if bytes_eq text (codes "unreadable") then Some Unreadable
-    else if length text == 2 then byte_in (ok_of (decode_of text))
-    else None
+image_of text = if bytes_eq text (codes "unreadable") then Some Unreadable else option_map Byte (byte_of text)
 
 -- `CID=IMAGE`, parted at the last `=` (61)
 abbrev pub named_image : Settings → List ℕ → Option (ℕ × Image)

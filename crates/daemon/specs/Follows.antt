@@ -1,5 +1,5 @@
 -- What a line and a run of lines do to the world and to the writer. Only proofs need these.
-use Rattle.std.specs.Prelude.{◌≡◌, ℕ, ◌⊎◌, ◌==◌, if◌then◌else◌, List, ◌++◌, length, Option, Some, None}
+use Rattle.std.specs.Prelude.{◌≡◌, ℕ, ◌⊎◌, ◌==◌, if◌then◌else◌, true, List, ◌++◌, length, Option, Some, None}
 use Rattle.std.specs.Io.KnownBytes.{Appends, Consumes}
 use Rattle.config.specs.CircuitPart.{CircuitPart, part_in}
 use Rattle.config.specs.Rules.{Settings}
@@ -7,17 +7,14 @@ use Rattle.world.specs.Alone.{Alone}
 use Rattle.world.specs.Headline.{CircuitState, Represents}
 use Rattle.world.specs.Seen.{Seen, seen_of}
 use Rattle.world.specs.declared.event.Event.{Event}
-use Rattle.daemon.specs.Lab.{LineResult, Refused, Applied, first_machines, lab_output}
+use Rattle.daemon.specs.Lab.{Output, LineResult, Refused, Applied, lab_from}
+use Rattle.daemon.specs.Lines.{lines_of}
 use Rattle.daemon.specs.Output.{bad_text}
 use Rattle.daemon.specs.Writing.{AppendsPrefix}
 
 -- each circuit's state represents its machine
 pub record AllRepresent (settings : Settings) (quota : ℕ) (states : List CircuitState) (machines : ℕ → Alone) : Type 0 where
   pub each : (c : ℕ) (part : CircuitPart) → part_in settings c ≡ Some part → Represents c states (record { part = part; quota = quota }) (machines c)
-
--- The states of a world that was opened over formatted regions.
-abbrev pub Begins : Settings → ℕ → List CircuitState → Type 0
-Begins settings quota states = AllRepresent settings quota states (first_machines settings)
 
 -- The event is this one, seen by this circuit alone.
 abbrev pub Names : ℕ → Seen → Event → Type 0
@@ -48,10 +45,24 @@ FollowsLast settings quota number line result states held holds status =
     ((length line ≡ 0) × (status ≡ 0) × (holds ≡ held))
     ⊎ ((length line ≡ 0 → ⊥) × (((status ≡ 0) × Follows settings quota number result states held holds None) ⊎ Follows settings quota number result states held holds (Some status)))
 
+-- the output that follows what was written
+abbrev pub after : List ℕ → Output → Output
+after written o = record { text = written ++ o.text; status = o.status }
+
+-- A run that is about to apply the line with this number, and what is known of the rest of the text.
+pub record SoFar (settings : Settings) (quota number : ℕ) (output : List ℕ → Output) (given left held holds : Option (List ℕ)) (states : List CircuitState) (Known : List ℕ → Type 0) : Type 0 where
+  pub machines : ℕ → Alone
+  pub represents : AllRepresent settings quota states machines
+  pub read : List ℕ
+  pub consumed : Consumes given left read
+  pub written : List ℕ
+  pub appended : Appends held holds written
+  pub whole : (rest : List ℕ) → Known rest → output (read ++ rest) ≡ after written (lab_from settings quota number true machines (lines_of rest))
+
 -- A run that has read these bytes and ended with this status.
-pub record Ends (settings : Settings) (quota : ℕ) (given left held holds : Option (List ℕ)) (status : ℕ) : Type 0 where
+pub record Ends (output : List ℕ → Output) (given left held holds : Option (List ℕ)) (status : ℕ) : Type 0 where
   pub read : List ℕ
   pub consumed : Consumes given left read
   -- whatever is left of the text, what was written is the output of all of it
-  pub exact : (status ≡ 6 → ⊥) → (rest : List ℕ) → left ≡ Some rest → Appends held holds (lab_output settings quota (read ++ rest)).text × (status ≡ (lab_output settings quota (read ++ rest)).status)
-  pub partial : status ≡ 6 → AppendsPrefix held holds (lab_output settings quota read).text
+  pub exact : (status ≡ 6 → ⊥) → (rest : List ℕ) → left ≡ Some rest → Appends held holds (output (read ++ rest)).text × (status ≡ (output (read ++ rest)).status)
+  pub partial : status ≡ 6 → AppendsPrefix held holds (output read).text

@@ -1,16 +1,16 @@
 -- The output for a text of event lines, by one machine for each circuit.
-use Rattle.std.specs.Prelude.{ℕ, ◌+◌, ◌==◌, if◌then◌else◌, List, [], ◌∷◌, ◌++◌, Option, Some, None}
+use Rattle.std.specs.Prelude.{ℕ, ◌+◌, ◌==◌, if◌then◌else◌, Bool, true, false, ◌||◌, List, [], ◌∷◌, ◌++◌, Option, Some, None}
 use Rattle.config.specs.CircuitPart.{CircuitPart, part_in}
 use Rattle.config.specs.Rules.{Settings}
 use Rattle.dispatch.specs.Leases.{recovered_book}
 use Rattle.lease_disk.specs.declared.image.Image.{Image}
-use Rattle.lease_disk.specs.Crash.{formatted_region}
+use Rattle.lease_disk.specs.Crash.{filled, formatted_region}
 use Rattle.lease_disk.specs.Region.{Region}
 use Rattle.world.specs.Alone.{Alone, Step, Dropped, Done, start, alone_step}
 use Rattle.world.specs.Seen.{Seen}
 use Rattle.world.specs.Seen as sees
 use Rattle.daemon.specs.Fields.{image_in}
-use Rattle.daemon.specs.Line.{Line, Ignored, Bad, Named, Tick, Restart, Stray, line_of_text}
+use Rattle.daemon.specs.Line.{Line, Ignored, Bad, Fill, Named, Tick, Restart, Stray, line_of_text}
 use Rattle.daemon.specs.Lines.{lines_of}
 use Rattle.daemon.specs.Output.{effect_text, with_newline, bad_text}
 
@@ -48,6 +48,8 @@ restarted quota image a (Some part) = (alone_step (record { part = part; quota =
 abbrev pub line_result : Settings → ℕ → (ℕ → Alone) → Line → LineResult
 line_result settings quota machines Ignored = Applied [] machines
 line_result settings quota machines Bad = Refused
+-- a fill after an event
+line_result settings quota machines (Fill c byte) = Refused
 line_result settings quota machines (Named c seen) = part_result quota c seen machines (part_in settings c)
 line_result settings quota machines (Tick now) =
     Applied (with_newline (effect_text [] Done)) (λ c. ticked quota now (machines c) (part_in settings c))
@@ -61,16 +63,29 @@ abbrev pub and_then : ℕ → LineResult → ((ℕ → Alone) → Output) → Ou
 and_then n Refused rest = record { text = bad_text n; status = 3 }
 and_then n (Applied written machines) rest = record { text = written ++ (rest machines).text; status = (rest machines).status }
 
--- the output for these lines, the first of which is the n-th of the text, with status 0 at their end
-unfoldable pub lab_from : Settings → ℕ → ℕ → (ℕ → Alone) → List (List ℕ) → Output
-lab_from settings quota n machines [] = record { text = []; status = 0 }
-lab_from settings quota n machines (line ∷ lines) =
-    and_then n (line_result settings quota machines (line_of_text settings line)) (λ next. lab_from settings quota (n + 1) next lines)
-
 -- a circuit's machine at the start, with the book that its region holds
 abbrev pub machine_over : (ℕ → Region) → Option CircuitPart → Alone
 machine_over regions None = start None
 machine_over regions (Some part) = start (recovered_book part (regions part.region).byte)
+
+-- The result of a line of the text; `begun` says whether an event came before it. If none did, a fill
+-- puts the circuit's machine over a region in which every byte is this one.
+abbrev pub result_of : Settings → ℕ → Bool → (ℕ → Alone) → Line → LineResult
+result_of settings quota false machines (Fill c byte) =
+    Applied [] (moved c (machine_over (λ q. filled byte formatted_region) (part_in settings c)) machines)
+result_of settings quota begun machines line = line_result settings quota machines line
+
+abbrev pub is_event : Line → Bool
+is_event Ignored = false
+is_event (Fill c byte) = false
+is_event line = true
+
+-- the output for these lines, the first of which is the n-th of the text, with status 0 at their end
+unfoldable pub lab_from : Settings → ℕ → ℕ → Bool → (ℕ → Alone) → List (List ℕ) → Output
+lab_from settings quota n begun machines [] = record { text = []; status = 0 }
+lab_from settings quota n begun machines (line ∷ lines) =
+    and_then n (result_of settings quota begun machines (line_of_text settings line))
+    (λ next. lab_from settings quota (n + 1) (begun || is_event (line_of_text settings line)) next lines)
 
 -- each circuit's machine at the start, when every region was just formatted
 abbrev pub first_machines : Settings → ℕ → Alone
@@ -78,4 +93,8 @@ first_machines settings c = machine_over (λ q. formatted_region) (part_in setti
 
 -- the output for a text
 abbrev pub lab_output : Settings → ℕ → List ℕ → Output
-lab_output settings quota text = lab_from settings quota 1 (first_machines settings) (lines_of text)
+lab_output settings quota text = lab_from settings quota 1 false (first_machines settings) (lines_of text)
+
+-- the output for a text of events alone, over these machines
+abbrev pub events_output : Settings → ℕ → (ℕ → Alone) → List ℕ → Output
+events_output settings quota machines text = lab_from settings quota 1 true machines (lines_of text)

@@ -1,5 +1,6 @@
 pub mod Fields
 pub mod FieldsAfter
+pub mod Fills
 pub mod Follows
 pub mod Lab
 pub mod Line

@@ -8,7 +8,7 @@ use Rattle.types.specs.declared.discard.Discard.{Discard}
 use Rattle.types.specs.declared.discard.Discard.TheVariants.{UnknownSource, NotServer}
 use Rattle.relay.specs.Relays.{topology_of, is_relay, is_server}
 use Rattle.world.specs.Seen.{Seen, Frame, Up, Down}
-use Rattle.daemon.specs.Fields.{number_to, bytes_of, circuit_named, relay_named, source_of, named_image, is_named}
+use Rattle.daemon.specs.Fields.{number_to, bytes_of, byte_of, circuit_named, relay_named, source_of, named_image, is_named}
 use Rattle.daemon.specs.Lines.{fields_of}
 
 pub data Line : Type 0 where
@@ -16,6 +16,8 @@ pub data Line : Type 0 where
   Ignored : Line
   -- a line of no known form
   Bad : Line
+  -- before all events every byte of this circuit's region is this one
+  Fill : ℕ → ℕ → Line
   -- an event of this circuit
   Named : ℕ → Seen → Line
   -- the moment passes for all circuits
@@ -30,6 +32,14 @@ infixl 10 ◌>>=◌
 abbrev pub ◌>>=◌ : {A : Type 0} → Option A → (A → Line) → Line
 None >>= f = Bad
 Some a >>= f = f a
+
+-- `fill CID HH`: two hexadecimal digits of either case
+abbrev pub fill_line : Settings → List (List ℕ) → Line
+fill_line settings (circuit ∷ digits ∷ []) = do
+  c ← circuit_named settings circuit
+  byte ← byte_of digits
+  Fill c byte
+fill_line settings fields = Bad
 
 -- `frame CID 4 HEX`: the protocol is 4
 abbrev pub frame_line : Settings → List (List ℕ) → Line
@@ -109,7 +119,9 @@ event_line settings word fields =
 abbrev pub line_for_word : Settings → List (List ℕ) → Line
 line_for_word settings [] = Bad
 line_for_word settings (word ∷ fields) =
-    if bytes_eq word (codes "restart") then restart_line settings [] fields else event_line settings word fields
+    if bytes_eq word (codes "restart") then restart_line settings [] fields
+    else if bytes_eq word (codes "fill") then fill_line settings fields
+    else event_line settings word fields
 
 -- An empty line, or one that begins with `#` (35), is ignored.
 abbrev pub is_ignored : List ℕ → Bool

@@ -60,6 +60,12 @@ IsLineEnd held left (Newline len) = HoldsLine held len
 IsLineEnd held left (EndOfInput len) = HoldsLast held left len
 IsLineEnd held left TooLong = HoldsLong held
 
+-- The rest of a text begins with the line that is held and ends so.
+abbrev pub Fits : List ℕ → LineEnd → List ℕ → Type 0
+Fits held (Newline len) rest = (more : List ℕ) × (rest ≡ (take len held ++ 10 ∷ []) ++ more)
+Fits held (EndOfInput len) rest = rest ≡ held
+Fits held TooLong rest = (more : List ℕ) × (rest ≡ held ++ more)
+
 -- what was read before the reader failed
 pub record IsCut (old new : Option (List ℕ)) : Type 0 where
   pub front : List ℕ

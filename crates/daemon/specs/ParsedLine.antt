@@ -12,13 +12,14 @@ use Rattle.lease_disk.specs.declared.image.Image.{Image}
 use Rattle.daemon.specs.declared.accesslab.parse_line.Parsed.{Parsed}
 use Rattle.daemon.specs.declared.accesslab.parse_line.Parsed.TheVariants.{Event, Restart}
 use Rattle.daemon.specs.Fields.{image_in}
-use Rattle.daemon.specs.Line.{Line, Ignored, Bad, Named, Tick, Stray}
+use Rattle.daemon.specs.Line.{Line, Ignored, Bad, Fill, Named, Tick, Stray}
 use Rattle.daemon.specs.Line as line
 
 -- The line that a parsed line is. A frame has the first of these bytes.
 abbrev pub line_of : ParsedLine → List ℕ → Line
 line_of parsed.Ignored bytes = Ignored
 line_of parsed.Bad bytes = Bad
+line_of (parsed.Fill circuit byte) bytes = Fill circuit byte
 line_of (parsed.Frame circuit len) bytes = Named circuit (Frame V4 (take len bytes))
 line_of (parsed.Up circuit j now fault) bytes = Named circuit (Up j now fault)
 line_of (parsed.Down circuit j) bytes = Named circuit (Down j)
@@ -30,6 +31,7 @@ line_of (parsed.StrayDown relay source len) bytes = Stray NotServer
 abbrev pub IsWithin : Settings → ParsedLine → Type 0
 IsWithin settings parsed.Ignored = ⊤
 IsWithin settings parsed.Bad = ⊤
+IsWithin settings (parsed.Fill circuit byte) = circuit < length settings.circuits
 IsWithin settings (parsed.Frame circuit len) = (circuit < length settings.circuits) × (len ≤ 2048)
 IsWithin settings (parsed.Up circuit j now fault) = circuit < length settings.circuits
 IsWithin settings (parsed.Down circuit j) = circuit < length settings.circuits

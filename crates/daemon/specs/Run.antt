@@ -1,8 +1,7 @@
 -- How a run ends: its status, and what was read and written where the reader or the writer fails.
 use Rattle.std.specs.Prelude.{◌≡◌, ℕ, ◌<◌, ◌⊎◌, List, length, Option}
 use Rattle.std.specs.Io.KnownBytes.{Consumes}
-use Rattle.config.specs.Rules.{Settings}
-use Rattle.daemon.specs.Lab.{lab_output}
+use Rattle.daemon.specs.Lab.{Output}
 use Rattle.daemon.specs.Writing.{AppendsPrefix}
 
 -- the status of a run that ends before the end of the text: 3 at a bad line, 6 at a failure
@@ -14,10 +13,10 @@ abbrev pub IsStatus : ℕ → Type 0
 IsStatus status = (status ≡ 0) ⊎ IsEnd status
 
 -- Some of the text was read, and a prefix of its output was written.
-pub record IsPartial (settings : Settings) (quota : ℕ) (given left held holds : Option (List ℕ)) : Type 0 where
+pub record IsPartial (output : List ℕ → Output) (given left held holds : Option (List ℕ)) : Type 0 where
   pub read : List ℕ
   pub consumed : Consumes given left read
-  pub partial : AppendsPrefix held holds (lab_output settings quota read).text
+  pub partial : AppendsPrefix held holds (output read).text
 
 -- So many bytes were read.
 pub record HasRead (given left : Option (List ℕ)) (n : ℕ) : Type 0 where

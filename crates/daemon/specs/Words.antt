@@ -5,8 +5,8 @@ use Rattle.clap.specs.Words.{App, Row, Rule, Text, new_app, new_rule, with_rule,
 use Rattle.clap.specs.Simple.{on_top}
 use Rattle.clap.specs.declared.builder.ArgAction.TheVariants.{Set}
 use Rattle.clap.specs.declared.builder.value_parser.ValueParser.TheVariants as parser
-use Rattle.daemon.specs.declared.accesslab.command_line.Refusal.{Refusal}
-use Rattle.daemon.specs.declared.accesslab.command_line.Refusal.TheVariants.{Memory, Usage, BadValue}
+use Rattle.programs.specs.declared.refusal.Refusal.{Refusal}
+use Rattle.programs.specs.declared.refusal.Refusal.TheVariants.{Memory, Usage, BadValue}
 
 -- the path of the configuration, which is required
 abbrev pub config_rule : Rule

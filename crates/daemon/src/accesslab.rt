@@ -1,10 +1,12 @@
 //! Events as lines of text, and their outcomes, one line per event.
 mod apply_line;
+mod buffers;
 mod circuits;
 mod command_line;
 mod digits;
 mod engine;
 mod fields;
+mod fills;
 mod hexadecimal;
 mod images;
 mod line;
@@ -20,10 +22,10 @@ mod streams;
 mod tests;
 mod writing;
 
-pub use command_line::{LabWords, Refusal, words};
+pub use command_line::{LabWords, words};
 pub use engine::lab;
 pub use line::{MAX_LINE, MAX_TEXT};
 pub use opening::run;
-pub use status::{BAD_LINE, DONE, FAILED, REFUSED, UNOPENED, UNREADABLE};
+pub use status::{BAD_LINE, DONE};
 pub use std_streams::{StdReader, StdWriter};
 pub use streams::{ByteReader, ByteWriter, Failed};

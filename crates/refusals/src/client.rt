@@ -1,17 +1,20 @@
-//! A world of one circuit and the one client that it answers.
+//! A world of one circuit and the clients that it answers.
 use config::Config;
 use fixtures::{ONE_CIRCUIT, client_frame, offer};
-use lease_disk::ModelDisk;
+use lease_disk::{Image, ModelDisk};
 use std::alloc::Global;
 use std::fmt;
-use types::{Addr4, Circuit, Count, Dest, Kind4, Moment, Proto};
+use types::{Addr4, Circuit, Count, Dest, Discard, Kind4, Moment, Proto};
 use wire::PacketBuf;
 use world::{Event, Outcome, Sink, World};
 
 /// The number of the fault of a configuration that is refused because memory ran out.
 const MEMORY: u8 = 40;
 
-/// Whether the client was answered.
+/// Option 54 and option 50 of a client that takes the offer of 10.0.0.10.
+const SELECTING: &[u8] = &[54, 4, 10, 0, 0, 1, 50, 4, 10, 0, 0, 10];
+
+/// Whether the clients were answered as they should be.
 #[derive(Clone, Copy, Debug, PartialEq, Eq)]
 pub enum Judgement {
     Right,
@@ -69,10 +72,7 @@ pub fn opened(alloc: Global) -> Result<World, Judgement> {
 }
 
 /// Runs up to the client's offer, which the sink refuses, and takes the offer by another step.
-pub fn right(world: &mut World) -> Judgement {
-    let (Some(circuit), Some(moment)) = (Circuit::new(0), Moment::new(100)) else {
-        return Judgement::Wrong;
-    };
+fn is_offered(world: &mut World, circuit: Circuit, moment: Moment) -> bool {
     let frame = client_frame(Kind4::Discover, 1, &[]);
     let events = [
         Event::Frame(circuit, Proto::V4, frame.as_slice()),
@@ -84,14 +84,89 @@ pub fn right(world: &mut World) -> Judgement {
         refusals: Count::new(),
     };
     if world.run(&events, &mut sink) != Err(3) {
-        return Judgement::Wrong;
+        return false;
     }
     let mut out = PacketBuf::new();
     let dest = Dest::Unicast([2, 0, 0, 0, 0, 1], Addr4([10, 0, 0, 10]));
-    if world.step(&Event::Down(circuit, 0), &mut out) != Outcome::Framed(circuit, dest)
-        || out.as_slice() != offer(1).as_slice()
-    {
-        return Judgement::Wrong;
+    world.step(&Event::Down(circuit, 0), &mut out) == Outcome::Framed(circuit, dest)
+        && out.as_slice() == offer(1).as_slice()
+}
+
+/// Whether these events have these outcomes.
+fn gives(world: &mut World, events: &[Event<'_>], outcomes: &[Outcome]) -> bool {
+    let mut out = PacketBuf::new();
+    for (event, outcome) in events.iter().zip(outcomes) {
+        if world.step(event, &mut out) != *outcome {
+            return false;
+        }
     }
-    Judgement::Right
+    true
+}
+
+/// The client's request of its lease is the newest datagram, its DHCPDISCOVER the one before: the save of
+/// the lease fails by each call in turn, and a restart opens the circuit without it.
+fn loses_leases(world: &mut World, circuit: Circuit, moment: Moment) -> bool {
+    for fault in 1..7 {
+        let events = [
+            Event::Up(circuit, 1, moment, 0),
+            Event::Up(circuit, 0, moment, fault),
+            Event::Up(circuit, 0, moment, 0),
+            Event::Restart(&[Image::Byte(0)]),
+        ];
+        let outcomes = [
+            Outcome::SentDown(300),
+            Outcome::Dropped(Discard::DiskFault),
+            Outcome::Dropped(Discard::CircuitClosed),
+            Outcome::Done,
+        ];
+        if !gives(world, &events, &outcomes) {
+            return false;
+        }
+    }
+    true
+}
+
+/// The save fails by its last call, the region can't be read at first, and then its gate reads open: the
+/// client has its lease, so that another gets no address.
+fn keeps_a_lease(world: &mut World, circuit: Circuit, moment: Moment) -> bool {
+    let frame = client_frame(Kind4::Discover, 2, &[]);
+    let events = [
+        Event::Up(circuit, 1, moment, 0),
+        Event::Up(circuit, 0, moment, 6),
+        Event::Restart(&[Image::Unreadable]),
+        Event::Up(circuit, 0, moment, 0),
+        Event::Restart(&[Image::Byte(0xa5)]),
+        Event::Frame(circuit, Proto::V4, frame.as_slice()),
+        Event::Up(circuit, 0, moment, 0),
+        // the lease is renewed
+        Event::Up(circuit, 1, moment, 0),
+    ];
+    let outcomes = [
+        Outcome::SentDown(300),
+        Outcome::Dropped(Discard::DiskFault),
+        Outcome::Done,
+        Outcome::Dropped(Discard::CircuitClosed),
+        Outcome::Done,
+        Outcome::SentUp(255),
+        Outcome::Dropped(Discard::NoAddress),
+        Outcome::SentDown(300),
+    ];
+    gives(world, &events, &outcomes)
+}
+
+/// An offer, then faults of the disk and restarts.
+pub fn right(world: &mut World) -> Judgement {
+    let (Some(circuit), Some(moment)) = (Circuit::new(0), Moment::new(100)) else {
+        return Judgement::Wrong;
+    };
+    let request = client_frame(Kind4::Request, 1, SELECTING);
+    let frame = Event::Frame(circuit, Proto::V4, request.as_slice());
+    if is_offered(world, circuit, moment)
+        && gives(world, &[frame], &[Outcome::SentUp(267)])
+        && loses_leases(world, circuit, moment)
+        && keeps_a_lease(world, circuit, moment)
+    {
+        return Judgement::Right;
+    }
+    Judgement::Wrong
 }

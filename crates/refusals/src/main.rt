@@ -1,8 +1,8 @@
-//! Opens a world while one request for memory is refused, and lets it answer a client: either the whole
-//! answer is right, or the opening reports that memory ran out. It reads one line:
+//! Opens a world while one request for memory is refused, and runs it with faults of the disk and
+//! restarts: either all of it is right, or the opening reports that memory ran out. It reads one line:
 //!
 //! `refuse K` first makes as many requests as it takes for the K-th of the opening to be the 1000th of
-//! all, and prints `right`, `memory` or `wrong`. `opening` opens a world, `run` also lets it answer, and
+//! all, and prints `right`, `memory` or `wrong`. `opening` opens a world, `run` also runs it, and
 //! both then print how many further requests are granted before one is refused. Where the two numbers
 //! are equal, a run takes no memory.
 #![tactic(auto)]
@@ -26,7 +26,7 @@ fn granted(alloc: Global, most: u32) -> u32 {
     most
 }
 
-/// The answer of a world whose opening has its request of this number refused.
+/// The judgement of a world whose opening has its request of this number refused.
 fn refused(alloc: Global, number: u32) -> Judgement {
     granted(alloc, REFUSED.saturating_sub(number));
     match opened(alloc) {

@@ -1,6 +1,6 @@
 use crate::circuits::CIRCUITS;
 use crate::leases::LEASES;
-use crate::restarts::{BAD_RESTARTS, RESTARTS, RESTARTS_OF_TWO};
+use crate::restarts::{BAD_FILLS, BAD_RESTARTS, FILLS, RESTARTS, RESTARTS_OF_TWO};
 use crate::rows::{Line, ROWS, Row};
 use config::Config;
 use daemon::accesslab::{BAD_LINE, DONE, StdReader, StdWriter, run};
@@ -175,16 +175,44 @@ fn restarts(rt: HostRuntime) -> Result<(), AllocError> {
     Ok(())
 }
 
-/// No line of these is a restart.
 #[test]
-fn bad_restarts(rt: HostRuntime) {
-    for line in BAD_RESTARTS {
-        let Some((written, BAD_LINE)) = output(rt.alloc(), TWO_CIRCUITS, 16, line) else {
-            assert!(rt; false, "{line}");
-            return;
-        };
-        assert_eq!(rt; written.as_slice(), b"line 1 bad\n".as_slice(), "{line}");
+fn fills(rt: HostRuntime) -> Result<(), AllocError> {
+    for row in FILLS {
+        check(&rt, rt.alloc(), TWO_CIRCUITS, row)?;
     }
+    Ok(())
+}
+
+/// Whether this line is bad.
+fn is_bad(alloc: Global, line: &str) -> bool {
+    match output(alloc, TWO_CIRCUITS, 16, line) {
+        Some((written, status)) => {
+            status == BAD_LINE && written.as_slice() == b"line 1 bad\n".as_slice()
+        }
+        None => false,
+    }
+}
+
+/// No line of these is a restart or a fill.
+#[test]
+fn bad_restarts_and_fills(rt: HostRuntime) {
+    for line in BAD_RESTARTS {
+        assert!(rt; is_bad(rt.alloc(), line), "{line}");
+    }
+    for line in BAD_FILLS {
+        assert!(rt; is_bad(rt.alloc(), line), "{line}");
+    }
+}
+
+/// A bad line behind a fill is counted like any other.
+#[test]
+fn a_bad_line_after_a_fill(rt: HostRuntime) {
+    let Some((written, BAD_LINE)) = output(rt.alloc(), TWO_CIRCUITS, 16, "fill a 00\n\nfill b 00")
+    else {
+        assert!(rt; false);
+        return;
+    };
+    assert_eq!(rt; written.as_slice(), b"line 3 bad\n".as_slice());
 }
 
 #[test]

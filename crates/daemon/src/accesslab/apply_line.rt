@@ -14,7 +14,7 @@ ghost use Rattle.daemon.specs.ParsedLine.{line_of, IsRestart, IsWithin};
 ghost use Rattle.daemon.specs.Follows.{AllRepresent, Names, IsRefusal, Follows, FollowsLast};
 ghost use Rattle.daemon.specs.Run.{IsEnd, IsStatus};
 
-use super::hexadecimal::MAX_BYTES;
+use super::buffers::Buffers;
 use super::line::MAX_LINE;
 use super::output::{write_bad_line, write_done, write_outcome};
 use super::parse_line::{Parsed, ParsedLine, parse_line};
@@ -22,7 +22,7 @@ use super::status::{BAD_LINE, DONE, FAILED};
 use super::streams::ByteWriter;
 use config::Config;
 use lease_disk::Image;
-use types::{Circuit, MAX_CIRCUITS, Moment, Proto};
+use types::{Circuit, Moment, Proto};
 use wire::PacketBuf;
 use world::{Event, Machine};
 
@@ -129,20 +129,19 @@ fn apply_stray<M: Machine, W: ByteWriter>(
     }
 }
 
-/// Applies a parsed line, whose frame is the first bytes of the array. Returns a status where the run
+/// Applies a parsed line, whose frame is the first bytes of the buffer. Returns a status where the run
 /// ends with it.
 fn apply<M: Machine, W: ByteWriter>(
     machine: &mut M,
     config: &Config,
     number: u64,
     parsed: ParsedLine,
-    bytes: &[u8; MAX_BYTES],
-    out: &mut PacketBuf,
+    buffers: &mut Buffers,
     writer: &mut W,
 ) -> Option<u8>
     requires { IsWithin config.now parsed }
     ensures follows { (quota : ℕ) (machines : ℕ → Alone) → AllRepresent config.now quota (M.states machine.old) machines → M.topology machine.old ≡ topology_of config.now
-        → Follows config.now quota number (line_result config.now quota machines (line_of parsed bytes.now)) (M.states machine.new) (W.contents writer.old) (W.contents writer.new) result }
+        → Follows config.now quota number (line_result config.now quota machines (line_of parsed buffers.old.bytes)) (M.states machine.new) (W.contents writer.old) (W.contents writer.new) result }
     ensures topology { M.topology machine.new ≡ M.topology machine.old }
     ensures status { IfSome result IsEnd }
     ensures quiet { ¬ (result ≡ Some 6) → W.failures writer.new ≡ W.failures writer.old }
@@ -150,27 +149,28 @@ fn apply<M: Machine, W: ByteWriter>(
 {
     match parsed {
         ParsedLine::Ignored => None,
-        ParsedLine::Bad => Some(refuse(number, writer)),
+        // an event came before this fill
+        ParsedLine::Bad | ParsedLine::Fill(_, _) => Some(refuse(number, writer)),
         ParsedLine::Frame(circuit, len) => {
-            let event = Event::Frame(circuit, Proto::V4, &bytes[..len]);
-            apply_event(machine, config, circuit, &event, out, writer)
+            let event = Event::Frame(circuit, Proto::V4, &buffers.bytes[..len]);
+            apply_event(machine, config, circuit, &event, &mut buffers.out, writer)
         }
         ParsedLine::Up(circuit, j, now, fault) => {
             let event = Event::Up(circuit, j, now, fault);
-            apply_event(machine, config, circuit, &event, out, writer)
+            apply_event(machine, config, circuit, &event, &mut buffers.out, writer)
         }
         ParsedLine::Down(circuit, j) => {
             let event = Event::Down(circuit, j);
-            apply_event(machine, config, circuit, &event, out, writer)
+            apply_event(machine, config, circuit, &event, &mut buffers.out, writer)
         }
-        ParsedLine::Tick(now) => apply_tick(machine, now, out, writer),
+        ParsedLine::Tick(now) => apply_tick(machine, now, &mut buffers.out, writer),
         ParsedLine::StrayUp(source, len, now) => {
-            let event = Event::StrayUp(Proto::V4, source, &bytes[..len], now);
-            apply_stray(machine, &event, out, writer)
+            let event = Event::StrayUp(Proto::V4, source, &buffers.bytes[..len], now);
+            apply_stray(machine, &event, &mut buffers.out, writer)
         }
         ParsedLine::StrayDown(relay, source, len) => {
-            let event = Event::StrayDown(relay, source, &bytes[..len]);
-            apply_stray(machine, &event, out, writer)
+            let event = Event::StrayDown(relay, source, &buffers.bytes[..len]);
+            apply_stray(machine, &event, &mut buffers.out, writer)
         }
     }
 }
@@ -181,9 +181,7 @@ pub(crate) fn apply_line<M: Machine, W: ByteWriter>(
     config: &Config,
     number: u64,
     line: &[u8],
-    bytes: &mut [u8; MAX_BYTES],
-    images: &mut [Image; MAX_CIRCUITS],
-    out: &mut PacketBuf,
+    buffers: &mut Buffers,
     writer: &mut W,
 ) -> Option<u8>
     requires { length line.now ≤ 8192 }
@@ -194,9 +192,9 @@ pub(crate) fn apply_line<M: Machine, W: ByteWriter>(
     ensures quiet { ¬ (result ≡ Some 6) → W.failures writer.new ≡ W.failures writer.old }
     ensures cause { result ≡ Some 6 → W.failures writer.new ≡ W.failures writer.old + 1 }
 {
-    match parse_line(config, line, bytes, images) {
-        Parsed::Event(parsed) => apply(machine, config, number, parsed, bytes, out, writer),
-        Parsed::Restart => apply_restart(machine, images, out, writer),
+    match parse_line(config, line, &mut buffers.bytes, &mut buffers.images) {
+        Parsed::Event(parsed) => apply(machine, config, number, parsed, buffers, writer),
+        Parsed::Restart => apply_restart(machine, &buffers.images, &mut buffers.out, writer),
     }
 }
 
@@ -207,9 +205,7 @@ pub(crate) fn apply_last_line<M: Machine, W: ByteWriter>(
     config: &Config,
     number: u64,
     line: &[u8],
-    bytes: &mut [u8; MAX_BYTES],
-    images: &mut [Image; MAX_CIRCUITS],
-    out: &mut PacketBuf,
+    buffers: &mut Buffers,
     writer: &mut W,
 ) -> u8
     requires { length line.now ≤ 8192 }
@@ -222,7 +218,7 @@ pub(crate) fn apply_last_line<M: Machine, W: ByteWriter>(
     if line.is_empty() {
         return DONE;
     }
-    match apply_line(machine, config, number, line, bytes, images, out, writer) {
+    match apply_line(machine, config, number, line, buffers, writer) {
         Some(status) => status,
         None => DONE,
     }

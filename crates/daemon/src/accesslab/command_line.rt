@@ -5,6 +5,7 @@ ghost use Rattle.daemon.specs.Words.{config_rule, quota_rule, bare_app, lab_app,
 
 use clap::{Arg, ArgAction, Command};
 use lossy_net::MAX_QUOTA;
+use programs::Refusal;
 use std::alloc::{AllocError, Global};
 
 /// The values of the words after the program's name.
@@ -14,17 +15,6 @@ pub struct LabWords<'a> {
     pub config: &'a str,
     /// How many datagrams of a circuit the network keeps in each direction, 1 to 256.
     pub quota: u16,
-}
-
-/// Why the words are refused.
-#[derive(Debug, Drop)]
-pub enum Refusal {
-    /// A request for memory was refused.
-    Memory,
-    /// The words are not those of the command line, or ask for help or the version.
-    Usage(clap::Error),
-    /// A value is missing or out of range.
-    BadValue,
 }
 
 fn config_arg<'a>(alloc: Global) -> Arg<'a>

@@ -1,6 +1,6 @@
 //! Bytes as hexadecimal digits.
 ghost use Rattle.std.specs.Prelude.{◌≡◌, ◌≤◌, take, option_map, IfSome};
-ghost use Rattle.daemon.specs.Fields.{bytes_of};
+ghost use Rattle.daemon.specs.Fields.{bytes_of, byte_of};
 
 /// The most bytes that a field may spell.
 pub const MAX_BYTES: usize = 2048;
@@ -22,6 +22,20 @@ pub(crate) fn bytes_at(text: &[u8], bytes: &mut [u8; MAX_BYTES]) -> Option<usize
     let count = text.len() / 2;
     match hex::decode_to_slice(text, &mut bytes[..count]) {
         Ok(()) => Some(count),
+        Err(_) => None,
+    }
+}
+
+/// The byte that two digits spell.
+pub(crate) fn byte(text: &[u8]) -> Option<u8>
+    ensures { result ≡ byte_of text.now }
+{
+    if text.len() != 2 {
+        return None;
+    }
+    let mut byte = [0; 1];
+    match hex::decode_to_slice(text, &mut byte[..]) {
+        Ok(()) => Some(byte[0]),
         Err(_) => None,
     }
 }

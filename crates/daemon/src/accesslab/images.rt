@@ -5,6 +5,7 @@ ghost use Rattle.world.specs.Seen.{image_at};
 ghost use Rattle.daemon.specs.Fields.{image_of, named_image, parted_last};
 
 use super::circuits::circuit_named;
+use super::hexadecimal::byte;
 use config::Config;
 use lease_disk::Image;
 use memchr::memrchr;
@@ -45,13 +46,9 @@ fn image(text: &[u8]) -> Option<Image>
     if text == b"unreadable".as_slice() {
         return Some(Image::Unreadable);
     }
-    if text.len() != 2 {
-        return None;
-    }
-    let mut byte = [0; 1];
-    match hex::decode_to_slice(text, &mut byte[..]) {
-        Ok(()) => Some(Image::Byte(byte[0])),
-        Err(_) => None,
+    match byte(text) {
+        Some(byte) => Some(Image::Byte(byte)),
+        None => None,
     }
 }
 

@@ -26,6 +26,14 @@ pub(crate) enum LineEnd {
     TooLong,
 }
 
+/// A line that was read and not yet consumed.
+#[derive(Clone, Copy, Debug, PartialEq, Eq)]
+pub(crate) struct NextLine {
+    /// How many lines of the text come before it.
+    pub(crate) earlier: u64,
+    pub(crate) end: LineEnd,
+}
+
 /// How the first line of the text ends, `None` where the text has no line feed and may be too short.
 fn first_end(text: &[u8]) -> Option<LineEnd>
     ensures some { IfSome result (IsFirstEnd text.now) }
@@ -40,9 +48,41 @@ fn first_end(text: &[u8]) -> Option<LineEnd>
     }
 }
 
-/// Reads until the first line is held or is too long. What was written is flushed before each read, which
+/// Reads until the first line is held or is too long.
+pub(crate) fn read_line<R: ByteReader>(
+    ahead: &mut ReadAhead,
+    reader: &mut R,
+) -> Result<LineEnd, Failed>
+    requires { ahead.old.count < 18446744073709551615 }
+    ensures end { IfOk result (IsLineEnd (held ahead.new) (R.remaining reader.new)) }
+    ensures within { IfOk result (λ end. len_of end ≤ 8192) }
+    ensures inside { IfOk result (λ end. len_of end + feeds_of end ≤ length (held ahead.new)) }
+    ensures kept { Keeps (prepend_known (held ahead.old) (R.remaining reader.old)) (prepend_known (held ahead.new) (R.remaining reader.new)) }
+    ensures grown { length (held ahead.old) + ahead.new.count ≡ length (held ahead.new) + ahead.old.count }
+    ensures counted { IsCounted (R.remaining reader.old) (R.remaining reader.new) ahead.old.count ahead.new.count }
+    ensures below { OnOk result (ahead.new.count < 18446744073709551615) }
+    ensures quiet { OnOk result (R.failures reader.new ≡ R.failures reader.old) }
+    ensures cause { OnErr result ((R.failures reader.new ≡ R.failures reader.old + 1) ⊎ (ahead.new.count ≡ 18446744073709551615)) }
+{
+    // each read but the last makes it longer by a byte at least
+    'reads: for longer in 0..MAX_LINE + 2 {
+        let text = ahead.as_slice();
+        if let Some(end) = first_end(text) {
+            return Ok(end);
+        }
+        let len = text.len();
+        match ahead.fill(reader) {
+            Ok(true) => (),
+            Ok(false) => return Ok(LineEnd::EndOfInput(len)),
+            Err(failed) => return Err(failed),
+        }
+    }
+    unreachable!()
+}
+
+/// The same for a line whose predecessors were answered. What was written is flushed before a read, which
 /// may wait for input.
-pub(crate) fn read_line<R: ByteReader, W: ByteWriter>(
+pub(crate) fn flush_and_read_line<R: ByteReader, W: ByteWriter>(
     ahead: &mut ReadAhead,
     reader: &mut R,
     writer: &mut W,
@@ -60,21 +100,8 @@ pub(crate) fn read_line<R: ByteReader, W: ByteWriter>(
     ensures writer_quiet { OnOk result (W.failures writer.new ≡ W.failures writer.old) }
     ensures cause { OnErr result ((R.failures reader.new ≡ R.failures reader.old + 1) ⊎ (ahead.new.count ≡ 18446744073709551615) ⊎ (W.failures writer.new ≡ W.failures writer.old + 1)) }
 {
-    // each read but the last makes it longer by a byte at least
-    'reads: for longer in 0..MAX_LINE + 2 {
-        let text = ahead.as_slice();
-        if let Some(end) = first_end(text) {
-            return Ok(end);
-        }
-        let len = text.len();
-        if let Err(failed) = writer.flush() {
-            return Err(failed);
-        }
-        match ahead.fill(reader) {
-            Ok(true) => (),
-            Ok(false) => return Ok(LineEnd::EndOfInput(len)),
-            Err(failed) => return Err(failed),
-        }
+    if first_end(ahead.as_slice()).is_none() {
+        writer.flush()?;
     }
-    unreachable!()
+    read_line(ahead, reader)
 }

@@ -1,59 +1,45 @@
 //! A run over a world that is opened for it.
-ghost use Rattle.std.specs.Prelude.{◌≡◌, ◌⊎◌, ℕ, ◌+◌, ◌<◌, ◌≤◌, List, Some, IfOk, IfErr, slice_get};
+ghost use Rattle.std.specs.Prelude.{◌≡◌, ◌⊎◌, ℕ, ◌≤◌, List, Some, length, IfOk, IfErr};
 ghost use Rattle.std.specs.Io.KnownBytes.{Appends};
-ghost use Rattle.config.specs.declared.settings.CircuitConfig.{CircuitConfig};
 ghost use Rattle.dispatch.specs.declared.server.OpenFault.TheVariants as fault;
 ghost use Rattle.daemon.specs.Lab.{lab_output};
 ghost use Rattle.daemon.specs.Run.{IsPartial, IsStatus, HasCause, HasNoCause};
 ghost use Rattle.relay.specs.Relays.{topology_of};
-ghost use Rattle.daemon.specs.Follows.{Begins};
+ghost use Rattle.daemon.specs.Fills.{AreOver, AreReady, AreWithin};
+ghost use Rattle.daemon.specs.Follows.{AllRepresent};
+ghost use Rattle.lease_disk.specs.Model.{state_of};
+ghost use Rattle.world.specs.Alone.{Alone};
 ghost use Rattle.world.specs.World.{states};
 
-use super::engine::lab;
-use super::status::UNOPENED;
+use super::buffers::Buffers;
+use super::engine::apply_lines;
+use super::fills::apply_fills;
+use super::read_ahead::ReadAhead;
+use super::status::{FAILED, UNOPENED};
 use super::streams::{ByteReader, ByteWriter};
 use config::Config;
+use dispatch::region_count;
 use lease_disk::ModelDisk;
 use std::alloc::Global;
-use types::Circuit;
 use world::{OpenFault, World};
 
-/// How many regions a disk needs to have those of all circuits: one more than the greatest number.
-fn regions(config: &Config) -> u16
-    ensures enough { (c : ℕ) (circuit : CircuitConfig) → slice_get config.now.circuits c ≡ Some circuit → circuit.region < result }
-    ensures no_more { (c : ℕ) × (circuit : CircuitConfig) × (slice_get config.now.circuits c ≡ Some circuit) × (circuit.region + 1 ≡ result) }
-    ensures most { result ≤ 1024 }
-{
-    let mut regions = 0;
-    for index in 0..config.circuit_count() {
-        let Some(circuit) = Circuit::new(index) else {
-            unreachable!()
-        };
-        let needed = config.at(circuit).region + 1;
-        if needed > regions {
-            regions = needed;
-        }
-    }
-    regions
-}
-
-/// The world of a configuration over a disk with formatted regions.
-fn opened(alloc: Global, config: &Config, quota: u16) -> Result<World, OpenFault>
+/// The world of a configuration over this disk.
+fn opened(alloc: Global, config: &Config, disk: ModelDisk, quota: u16) -> Result<World, OpenFault>
     requires some { 1 ≤ quota }
     requires most { quota ≤ 256 }
-    ensures starts { IfOk result (λ world. Begins config.now quota (states world)) }
+    requires regions { AreWithin config.now (length disk.regions) }
+    requires ready { AreReady (length disk.regions) (state_of disk) }
+    ensures represents { IfOk result (λ world. (machines : ℕ → Alone) → AreOver config.now (state_of disk) machines → AllRepresent config.now quota (states world) machines) }
     ensures topology { IfOk result (λ world. world.relays.topology ≡ topology_of config.now) }
     ensures memory { IfErr result (λ why. why ≡ fault.Memory) }
 {
-    let Ok(disk) = ModelDisk::new(alloc, regions(config)) else {
-        return Err(OpenFault::Memory);
-    };
     World::open(alloc, config, disk, quota)
 }
 
-/// Opens a world of the configuration, applies the lines of a text to it and writes the outcome of
-/// each. Returns the status: 0 at the end of the text, 3 at a bad line, 4 where the world was not
-/// opened, 6 exactly where the reader or the writer fails or 2^64 - 1 bytes were read.
+/// Fills the regions of a formatted disk as the lines before all events say, opens a world of the
+/// configuration over it, applies the other lines of the text and writes the outcome of each. Returns the
+/// status: 0 at the end of the text, 3 at a bad line, 4 where the world was not opened, 6 exactly where
+/// the reader or the writer fails or 2^64 - 1 bytes were read.
 ///
 /// The contract does not say that 4 is returned only when out of memory.
 pub fn run<R: ByteReader, W: ByteWriter>(
@@ -78,14 +64,30 @@ pub fn run<R: ByteReader, W: ByteWriter>(
     ensures status { (result ≡ 4) ⊎ IsStatus result }
 
     // Where the reader or the writer failed, a prefix of the output for what was read is written.
-    ensures partial { result ≡ 6 → IsPartial config.now quota (R.remaining reader.old) (R.remaining reader.new) (W.contents writer.old) (W.contents writer.new) }
+    ensures partial { result ≡ 6 → IsPartial (lab_output config.now quota) (R.remaining reader.old) (R.remaining reader.new) (W.contents writer.old) (W.contents writer.new) }
 
     // A failure has a cause, and nothing else comes of one.
     ensures cause { result ≡ 6 → HasCause (R.remaining reader.old) (R.remaining reader.new) (R.failures reader.old) (R.failures reader.new) (W.failures writer.old) (W.failures writer.new) }
     ensures quiet { ¬ (result ≡ 6) → HasNoCause (R.remaining reader.old) (R.remaining reader.new) (R.failures reader.old) (R.failures reader.new) (W.failures writer.old) (W.failures writer.new) }
 {
-    let Ok(mut world) = opened(alloc, config, quota) else {
+    let Ok(mut disk) = ModelDisk::new(alloc, region_count(config)) else {
         return UNOPENED;
     };
-    lab(&mut world, config, reader, writer)
+    let mut ahead = ReadAhead::new();
+    let mut buffers = Buffers::new();
+    let Ok(next) = apply_fills(&mut disk, config, &mut ahead, &mut buffers, reader) else {
+        return FAILED;
+    };
+    let Ok(mut world) = opened(alloc, config, disk, quota) else {
+        return UNOPENED;
+    };
+    apply_lines(
+        &mut world,
+        config,
+        next,
+        &mut ahead,
+        &mut buffers,
+        reader,
+        writer,
+    )
 }

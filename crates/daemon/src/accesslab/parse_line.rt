@@ -3,14 +3,14 @@ ghost use Rattle.std.specs.Prelude.{◌≡◌, ℕ, List, [], option_map};
 ghost use Rattle.config.specs.Rules.{Settings};
 ghost use Rattle.daemon.specs.Fields.{number_to};
 ghost use Rattle.daemon.specs.FieldsAfter.{fields_after, fields_of_next};
-ghost use Rattle.daemon.specs.Line.{frame_line, up_line, down_line, tick_line, stray_up_line, stray_down_line, restart_line, event_line, short_line};
+ghost use Rattle.daemon.specs.Line.{fill_line, frame_line, up_line, down_line, tick_line, stray_up_line, stray_down_line, restart_line, event_line, short_line};
 ghost use Rattle.daemon.specs.ParsedLine.{line_of, IsRestartOrBad, Means, ParsedWithin};
 ghost use Rattle.daemon.specs.ParsedLine.{IsWithin};
 
 use super::circuits::{circuit_named, is_relay, is_server, relay_named};
 use super::digits::number;
 use super::fields::first_field;
-use super::hexadecimal::{MAX_BYTES, bytes_at};
+use super::hexadecimal::{MAX_BYTES, byte, bytes_at};
 use super::images::{clear_images, clear_names, named_image};
 use super::sources::source;
 use config::Config;
@@ -30,6 +30,8 @@ pub(crate) enum ParsedLine {
     Ignored,
     /// A line of no known form.
     Bad,
+    /// The byte that fills the circuit's region before all events.
+    Fill(Circuit, u8),
     /// The length of the frame in bytes.
     Frame(Circuit, usize),
     /// The call of the disk that fails, 0 for none.
@@ -88,6 +90,26 @@ fn moment(text: &[u8]) -> Option<Moment>
     match number(text, LAST_MOMENT) {
         Some(seconds) => Moment::new(seconds),
         None => None,
+    }
+}
+
+/// `fill CID HH`.
+fn parse_fill(config: &Config, rest: Option<&[u8]>) -> ParsedLine
+    ensures value { (bytes : List ℕ) → line_of result bytes ≡ fill_line config.now (fields_after (option_map (λ line. line.now) rest.entry)) }
+    ensures within { IsWithin config.now result }
+{
+    let Some((circuit, rest)) = next_field(rest) else {
+        return ParsedLine::Bad;
+    };
+    let Some((digits, rest)) = next_field(rest) else {
+        return ParsedLine::Bad;
+    };
+    if next_field(rest).is_some() {
+        return ParsedLine::Bad;
+    }
+    match (circuit_named(config, circuit), byte(digits)) {
+        (Some(circuit), Some(byte)) => ParsedLine::Fill(circuit, byte),
+        _ => ParsedLine::Bad,
     }
 }
 
@@ -319,6 +341,9 @@ pub(crate) fn parse_line(
         return Parsed::Event(ParsedLine::Ignored);
     }
     let (word, rest) = first_field(line);
+    if word == b"fill".as_slice() {
+        return Parsed::Event(parse_fill(config, rest));
+    }
     if word != b"restart".as_slice() {
         return Parsed::Event(parse_event(config, word, rest, bytes));
     }

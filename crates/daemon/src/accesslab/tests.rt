@@ -3,6 +3,7 @@ ghost use Rattle.std.specs.Prelude.{◌<◌};
 use super::*;
 use config::Config;
 use fixtures::ONE_CIRCUIT;
+use programs::Refusal;
 use std::alloc::{AllocError, Global};
 use std::io::{self, ErrorKind, Read, Write};
 use types::Discard;
@@ -375,6 +376,51 @@ fn a_writer_that_fails(rt: HostRuntime) {
         (4, DONE, "ok\nok\n"),
     ] {
         if let Some((ended, written)) = cut_short(rt.alloc(), 100, 100, calls) {
+            assert_eq!(rt; ended, status);
+            assert_eq!(rt; written.as_slice(), lines.as_bytes());
+        } else {
+            assert!(rt; false);
+        }
+    }
+}
+
+/// The status and the output of a whole run over a text that begins with a fill.
+fn run_cut_short(alloc: Global, most: usize, reads: usize, writes: usize) -> Option<(u8, Vec<u8>)>
+    requires { 0 < most }
+{
+    let config = Config::read(alloc, ONE_CIRCUIT).ok()?;
+    let mut reader = StdReader::new(Failing {
+        inner: Pieces {
+            rest: b"fill a 5a\ntick 1\n",
+            most,
+        },
+        calls: reads,
+    });
+    let mut writer = StdWriter::new(Failing {
+        inner: Vec::new(alloc),
+        calls: writes,
+    });
+    let status = run(alloc, &config, 16, &mut reader, &mut writer);
+    Some((status, writer.into_inner().inner))
+}
+
+/// The writer is not called before the first event.
+#[test]
+fn failures_before_and_after_a_fill(rt: HostRuntime) {
+    for (most, reads, writes, status, lines) in [
+        // 17 bytes, one call for each, and one that finds the end
+        (1, 0, 0, FAILED, ""),
+        (1, 9, 0, FAILED, ""),
+        (1, 16, 0, FAILED, ""),
+        (1, 17, 0, FAILED, ""),
+        (1, 17, 1, FAILED, "ok\n"),
+        (1, 17, 2, FAILED, "ok\n"),
+        (1, 18, 2, DONE, "ok\n"),
+        (100, 1, 2, FAILED, "ok\n"),
+        (100, 2, 1, FAILED, "ok\n"),
+        (100, 2, 2, DONE, "ok\n"),
+    ] {
+        if let Some((ended, written)) = run_cut_short(rt.alloc(), most, reads, writes) {
             assert_eq!(rt; ended, status);
             assert_eq!(rt; written.as_slice(), lines.as_bytes());
         } else {

@@ -1,89 +1,118 @@
-use Rattle.std.proofs.Common.{◌≡◌, ◌+◌, ◌∙◌, length, refl, take, drop, arith, length-drop, ap}
+use Rattle.std.proofs.Common.{◌≡◌, ◌+◌, ◌++◌, ◌∷◌, [], ◌∙◌, length, refl, take, drop, arith, length-drop, ap}
 use Rattle.std.specs.Prelude.{Some}
+use Rattle.std.proofs.KnownBytes.{Keeps-refl}
 use Rattle.daemon.specs.ReadAhead.{held}
-use Rattle.daemon.proofs.AheadLemmas.{line_consumed, last_consumed, long_consumed, cut_consumed}
-use Rattle.daemon.proofs.CauseLemmas.{read_failed, none_failed}
+use Rattle.daemon.proofs.AheadLemmas.{line_consumed, last_consumed, cut_consumed}
+use Rattle.daemon.proofs.CauseLemmas.{read_failed, still_none_failed, write_failed}
 use Rattle.daemon.proofs.ReadLemmas.{counted_none, counted_more}
-use Rattle.daemon.proofs.RunLemmas.{at_start, so_far_kept, next_line, ends_cut, ends_long, ends_last, ends_feed}
+use Rattle.daemon.proofs.RunLemmas.{so_far_kept, next_line, ends_cut, ends_last, ends_feed, ends_too_long, fits_last}
 use Rattle.daemon.proofs.accesslab.engine.apply_lines.Goals as goal
 
 pub lines-init : goal.lines-init
 lines-init g c = record {
   topology = refl;
-  bytes = refl;
-  images = refl;
-  lines = omega (arith, c.new-ahead.ensures.count, ap length c.new-ahead.ensures.held);
-  below = omega (arith, c.new-ahead.ensures.count);
+  end = c.requires.end;
+  within = c.requires.within;
+  inside = c.requires.inside;
+  lines = c.requires.lines;
+  below = c.requires.below;
   reader_quiet = refl;
   writer_quiet = refl;
-  counted = rw c.new-ahead.ensures.count (counted_none _ 0);
-  so_far = λ quota starts knows. at_start c.args.config.now quota _ _ _ _ c.new-ahead.ensures.held starts;
+  counted = counted_none _ _;
+  so_far = λ quota output given holds start knows. start;
 }
 
-pub returns-in_default-clause-ends : goal.returns-in_default-clause-ends
-returns-in_default-clause-ends g c = λ quota starts knows.
-    ends_cut c.args.config.now quota (c.lines.earlier + 1) _ _ _ _ _ _
-    (so_far_kept _ _ _ _ _ _ _ _ _ (c.lines.invariant.so_far quota starts knows) c.read_line.ensures.written)
-    (cut_consumed _ _ (held c.read_line.new.ahead) c.read_line.ensures.kept)
-
-pub returns-in_default-clause-cause : goal.returns-in_default-clause-cause
-returns-in_default-clause-cause g c = λ failed.
-    read_failed _ _ _ _ _ _ _ _ _ _ _ c.lines.invariant.reader_quiet c.lines.invariant.writer_quiet c.lines.invariant.counted c.read_line.ensures.counted c.in_default.ensures.cause
-
 pub returns-in-TooLong-clause-ends : goal.returns-in-TooLong-clause-ends
-returns-in-TooLong-clause-ends g c = λ quota starts knows.
-    let long = rw c.in-TooLong.is at c.in-Ok.ensures.end in
-    ends_long c.args.config.now quota (c.lines.earlier + 1) _ _ _ _ _ _ _ (drop long.size (held c.read_line.new.ahead)) c.refuse.result
-    (so_far_kept _ _ _ _ _ _ _ _ _ (c.lines.invariant.so_far quota starts knows) c.read_line.ensures.written)
-    (long_consumed _ _ (held c.read_line.new.ahead) c.read_line.ensures.kept long) c.refuse.ensures.refusal
+returns-in-TooLong-clause-ends g c = λ quota output given holds start knows.
+    let long = rw c.in-TooLong.is at c.lines.invariant.end in
+    let so_far = rw c.in-TooLong.is at (c.lines.invariant.so_far quota output given holds start knows) in
+    ends_too_long c.args.config.now quota (c.lines.earlier + 1) output given _ holds _ _ _ (held c.lines.ahead) c.refuse.result so_far long c.refuse.ensures.refusal
+
+pub returns-in-TooLong-clause-cause : goal.returns-in-TooLong-clause-cause
+returns-in-TooLong-clause-cause g c = λ given counted failed. write_failed _ _ _ _ _ _ _ c.lines.invariant.writer_quiet (c.refuse.ensures.cause failed)
 
 pub returns-in-TooLong-clause-quiet : goal.returns-in-TooLong-clause-quiet
-returns-in-TooLong-clause-quiet g c = λ fine.
-    none_failed _ _ _ _ _ _ _ _ _ _ _ c.lines.invariant.reader_quiet c.in-Ok.ensures.quiet (c.in-Ok.ensures.writer_quiet ∙ c.lines.invariant.writer_quiet) (c.refuse.ensures.quiet fine)
-    c.lines.invariant.counted c.read_line.ensures.counted c.in-Ok.ensures.below
+returns-in-TooLong-clause-quiet g c = λ given counted fine.
+    still_none_failed _ _ _ _ _ _ _ _ c.lines.invariant.reader_quiet c.lines.invariant.writer_quiet (c.refuse.ensures.quiet fine)
+    (counted_more _ _ _ _ _ _ counted c.lines.invariant.counted) c.lines.invariant.below
 
 pub returns-in-EndOfInput-clause-ends : goal.returns-in-EndOfInput-clause-ends
-returns-in-EndOfInput-clause-ends g c = λ quota starts knows.
-    ends_last c.args.config.now quota (c.lines.earlier + 1) _ _ _ _ _ _ _ _ (take c.in-EndOfInput.len c.as_slice.result.now) c.apply_last_line.result
-    (so_far_kept _ _ _ _ _ _ _ _ _ (c.lines.invariant.so_far quota starts knows) c.read_line.ensures.written)
-    (last_consumed _ _ (held c.read_line.new.ahead) c.as_slice.result.now c.in-EndOfInput.len c.as_slice.ensures c.read_line.ensures.kept (rw c.in-EndOfInput.is at c.in-Ok.ensures.end))
+returns-in-EndOfInput-clause-ends g c = λ quota output given holds start knows.
+    let last = rw c.in-EndOfInput.is at c.lines.invariant.end in
+    let so_far = rw c.in-EndOfInput.is at (c.lines.invariant.so_far quota output given holds start knows) in
+    let line = take c.in-EndOfInput.len c.as_slice.result.now in
+    ends_last c.args.config.now quota (c.lines.earlier + 1) output given _ _ holds _ _ _ _ _ line c.apply_last_line.result so_far
+    (last_consumed _ _ (held c.lines.ahead) c.as_slice.result.now c.in-EndOfInput.len c.as_slice.ensures (Keeps-refl _) last)
+    (fits_last (held c.lines.ahead) c.as_slice.result.now _ c.in-EndOfInput.len c.as_slice.ensures last)
     (λ machines represents. c.apply_last_line.ensures.follows quota machines represents (c.lines.invariant.topology ∙ knows))
 
+pub returns-in-EndOfInput-clause-cause : goal.returns-in-EndOfInput-clause-cause
+returns-in-EndOfInput-clause-cause g c = λ given counted failed. write_failed _ _ _ _ _ _ _ c.lines.invariant.writer_quiet (c.apply_last_line.ensures.cause failed)
+
 pub returns-in-EndOfInput-clause-quiet : goal.returns-in-EndOfInput-clause-quiet
-returns-in-EndOfInput-clause-quiet g c = λ fine.
-    none_failed _ _ _ _ _ _ _ _ _ _ _ c.lines.invariant.reader_quiet c.in-Ok.ensures.quiet (c.in-Ok.ensures.writer_quiet ∙ c.lines.invariant.writer_quiet) (c.apply_last_line.ensures.quiet fine)
-    c.lines.invariant.counted c.read_line.ensures.counted c.in-Ok.ensures.below
+returns-in-EndOfInput-clause-quiet g c = λ given counted fine.
+    still_none_failed _ _ _ _ _ _ _ _ c.lines.invariant.reader_quiet c.lines.invariant.writer_quiet (c.apply_last_line.ensures.quiet fine)
+    (counted_more _ _ _ _ _ _ counted c.lines.invariant.counted) c.lines.invariant.below
 
 pub returns-in-Some-clause-ends : goal.returns-in-Some-clause-ends
-returns-in-Some-clause-ends g c = λ quota starts knows.
-    ends_feed c.args.config.now quota (c.lines.earlier + 1) _ _ _ _ _ _ _ _ (take c.in-Newline.len c.as_slice-in-lines.result.now) (drop (c.in-Newline.len + 1) (held c.read_line.new.ahead)) c.in-Some.status
-    (so_far_kept _ _ _ _ _ _ _ _ _ (c.lines.invariant.so_far quota starts knows) c.read_line.ensures.written)
-    (line_consumed _ _ (held c.read_line.new.ahead) c.as_slice-in-lines.result.now _ c.in-Newline.len c.as_slice-in-lines.ensures refl c.read_line.ensures.kept (rw c.in-Newline.is at c.in-Ok.ensures.end))
+returns-in-Some-clause-ends g c = λ quota output given holds start knows.
+    let feeds = rw c.in-Newline.is at c.lines.invariant.end in
+    let so_far = rw c.in-Newline.is at (c.lines.invariant.so_far quota output given holds start knows) in
+    let text = c.as_slice-in-lines.result.now in
+    ends_feed c.args.config.now quota (c.lines.earlier + 1) output given _ _ holds _ _ _ _ _ (take c.in-Newline.len text) (drop (c.in-Newline.len + 1) (held c.lines.ahead)) c.in-Some.status so_far
+    (line_consumed _ _ (held c.lines.ahead) text _ c.in-Newline.len c.as_slice-in-lines.ensures refl (Keeps-refl _) feeds)
+    (λ rest. (rest, ap (λ v. (take c.in-Newline.len v ++ 10 ∷ []) ++ rest) c.as_slice-in-lines.ensures))
     (λ machines represents. c.in-Some.ensures.follows quota machines represents (c.lines.invariant.topology ∙ knows))
 
+pub returns-in-Some-clause-cause : goal.returns-in-Some-clause-cause
+returns-in-Some-clause-cause g c = λ given counted failed.
+    write_failed _ _ _ _ _ _ _ c.lines.invariant.writer_quiet (c.in-Some.ensures.cause (ap Some failed))
+
 pub returns-in-Some-clause-quiet : goal.returns-in-Some-clause-quiet
-returns-in-Some-clause-quiet g c = λ fine.
-    none_failed _ _ _ _ _ _ _ _ _ _ _ c.lines.invariant.reader_quiet c.in-Ok.ensures.quiet (c.in-Ok.ensures.writer_quiet ∙ c.lines.invariant.writer_quiet)
+returns-in-Some-clause-quiet g c = λ given counted fine.
+    still_none_failed _ _ _ _ _ _ _ _ c.lines.invariant.reader_quiet c.lines.invariant.writer_quiet
     (c.in-Some.ensures.quiet (λ (e : Some c.in-Some.status ≡ Some 6). fine (cc)))
-    c.lines.invariant.counted c.read_line.ensures.counted c.in-Ok.ensures.below
+    (counted_more _ _ _ _ _ _ counted c.lines.invariant.counted) c.lines.invariant.below
+
+pub returns-in_default-flush_and_read_line-clause-ends : goal.returns-in_default-flush_and_read_line-clause-ends
+returns-in_default-flush_and_read_line-clause-ends g c = λ quota output given holds start knows.
+    let feeds = rw c.in-Newline.is at c.lines.invariant.end in
+    let so_far = rw c.in-Newline.is at (c.lines.invariant.so_far quota output given holds start knows) in
+    let text = c.as_slice-in-lines.result.now in
+    let next = next_line c.args.config.now quota (c.lines.earlier + 1) output given _ _ holds _ _ _ _ _ (take c.in-Newline.len text) so_far
+    (line_consumed _ _ (held c.lines.ahead) text _ c.in-Newline.len c.as_slice-in-lines.ensures c.consume.ensures.held (Keeps-refl _) feeds)
+    (λ rest. (rest, ap (λ v. (take c.in-Newline.len v ++ 10 ∷ []) ++ rest) c.as_slice-in-lines.ensures))
+    (λ machines represents. c.in_default.ensures.follows quota machines represents (c.lines.invariant.topology ∙ knows)) in
+    ends_cut c.args.config.now quota ((c.lines.earlier + 1) + 1) output given _ _ holds _ _ _
+    (so_far_kept c.args.config.now quota ((c.lines.earlier + 1) + 1) output given _ _ holds _ _ _ _ _ next (Keeps-refl _) c.flush_and_read_line.ensures.written (λ rest known. known))
+    (cut_consumed _ _ (held c.flush_and_read_line.new.ahead) c.flush_and_read_line.ensures.kept) tt
+
+pub returns-in_default-flush_and_read_line-clause-cause : goal.returns-in_default-flush_and_read_line-clause-cause
+returns-in_default-flush_and_read_line-clause-cause g c = λ given counted failed.
+    read_failed _ _ _ _ _ _ _ _ _ _ _ c.lines.invariant.reader_quiet (c.in_default.ensures.quiet (λ e. absurd (cc)) ∙ c.lines.invariant.writer_quiet)
+    (rw c.consume.ensures.count (counted_more _ _ _ _ _ _ counted c.lines.invariant.counted)) c.flush_and_read_line.ensures.counted c.in_default-flush_and_read_line.ensures.cause
 
 pub lines-preserved : goal.lines-preserved
 lines-preserved g c =
-    let holds = rw c.in-Newline.is at c.in-Ok.ensures.end in
-    let inside = holds.inside in
-    let left = ap length c.consume.ensures.held ∙ length-drop (c.in-Newline.len + 1) (held c.read_line.new.ahead) in
+    let feeds = rw c.in-Newline.is at c.lines.invariant.end in
+    let inside = feeds.inside in
+    let text = c.as_slice-in-lines.result.now in
+    let left = ap length c.consume.ensures.held ∙ length-drop (c.in-Newline.len + 1) (held c.lines.ahead) in
     record {
-      topology = c.in_default-ended.ensures.topology ∙ c.lines.invariant.topology;
-      bytes = search;
-      images = search;
-      lines = omega (arith, inside, left, c.consume.ensures.count, c.read_line.ensures.grown, c.lines.invariant.lines);
-      below = omega (arith, c.consume.ensures.count, c.in-Ok.ensures.below);
+      topology = c.in_default.ensures.topology ∙ c.lines.invariant.topology;
+      end = c.in-Ok.ensures.end;
+      within = c.in-Ok.ensures.within;
+      inside = c.in-Ok.ensures.inside;
+      lines = omega (arith, inside, left, c.consume.ensures.count, c.flush_and_read_line.ensures.grown, c.lines.invariant.lines);
+      below = c.in-Ok.ensures.below;
       reader_quiet = c.in-Ok.ensures.quiet ∙ c.lines.invariant.reader_quiet;
-      writer_quiet = c.in_default-ended.ensures.quiet (λ e. absurd (cc)) ∙ c.in-Ok.ensures.writer_quiet ∙ c.lines.invariant.writer_quiet;
-      counted = rw c.consume.ensures.count (counted_more _ _ _ _ _ _ c.lines.invariant.counted c.read_line.ensures.counted);
-      so_far = λ quota starts knows.
-          next_line c.args.config.now quota (c.lines.earlier + 1) _ _ _ _ _ _ _ _ (take c.in-Newline.len c.as_slice-in-lines.result.now)
-          (so_far_kept _ _ _ _ _ _ _ _ _ (c.lines.invariant.so_far quota starts knows) c.read_line.ensures.written)
-          (line_consumed _ _ (held c.read_line.new.ahead) c.as_slice-in-lines.result.now _ c.in-Newline.len c.as_slice-in-lines.ensures c.consume.ensures.held c.read_line.ensures.kept holds)
-          (λ machines represents. c.in_default-ended.ensures.follows quota machines represents (c.lines.invariant.topology ∙ knows));
+      writer_quiet = c.in-Ok.ensures.writer_quiet ∙ c.in_default.ensures.quiet (λ e. absurd (cc)) ∙ c.lines.invariant.writer_quiet;
+      counted = counted_more _ _ _ _ _ _ c.lines.invariant.counted (rw c.consume.ensures.count at c.flush_and_read_line.ensures.counted);
+      so_far = λ quota output given holds start knows.
+          let so_far = rw c.in-Newline.is at (c.lines.invariant.so_far quota output given holds start knows) in
+          let next = next_line c.args.config.now quota (c.lines.earlier + 1) output given _ _ holds _ _ _ _ _ (take c.in-Newline.len text) so_far
+          (line_consumed _ _ (held c.lines.ahead) text _ c.in-Newline.len c.as_slice-in-lines.ensures c.consume.ensures.held (Keeps-refl _) feeds)
+          (λ rest. (rest, ap (λ v. (take c.in-Newline.len v ++ 10 ∷ []) ++ rest) c.as_slice-in-lines.ensures))
+          (λ machines represents. c.in_default.ensures.follows quota machines represents (c.lines.invariant.topology ∙ knows)) in
+          so_far_kept c.args.config.now quota ((c.lines.earlier + 1) + 1) output given _ _ holds _ _ _ _ _ next c.flush_and_read_line.ensures.kept c.flush_and_read_line.ensures.written (λ rest known. tt);
     }

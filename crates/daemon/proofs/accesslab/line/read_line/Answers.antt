@@ -20,8 +20,8 @@ returns-in-Ok-false-clause-end g c =
 pub returns-in-Ok-false-clause-counted : goal.returns-in-Ok-false-clause-counted
 returns-in-Ok-false-clause-counted g c = counted_more _ _ _ _ _ _ c.reads.invariant.counted c.fill.ensures.counted
 
-pub returns-in-Err-fill-clause-counted : goal.returns-in-Err-fill-clause-counted
-returns-in-Err-fill-clause-counted g c = counted_more _ _ _ _ _ _ c.reads.invariant.counted c.fill.ensures.counted
+pub returns-in-Err-clause-counted : goal.returns-in-Err-clause-counted
+returns-in-Err-clause-counted g c = counted_more _ _ _ _ _ _ c.reads.invariant.counted c.fill.ensures.counted
 
 pub reads-preserved : goal.reads-preserved
 reads-preserved g c =
@@ -34,10 +34,8 @@ reads-preserved g c =
       few = omega arith;
       long = omega arith;
       kept = Keeps-trans _ _ _ c.reads.invariant.kept c.fill.ensures.kept;
-      written = Keeps-trans _ _ _ c.reads.invariant.written c.flush.ensures.kept;
       grown = let e = c.reads.invariant.grown in omega arith;
       counted = counted_more _ _ _ _ _ _ c.reads.invariant.counted c.fill.ensures.counted;
       below = c.in-Ok-true.ensures.below;
       quiet = c.in-Ok-true.ensures.quiet ∙ c.reads.invariant.quiet;
-      writer_quiet = c.in_default-flush.ensures.quiet ∙ c.reads.invariant.writer_quiet;
     }

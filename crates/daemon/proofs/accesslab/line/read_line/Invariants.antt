@@ -10,10 +10,8 @@ invariant-reads g l = record {
   few : l.longer ≤ 8193;
   long : l.longer ≤ length (held l.ahead);
   kept : Keeps (prepend_known (held l.fn.ahead) (g.R.ByteReader.remaining l.fn.reader)) (prepend_known (held l.ahead) (g.R.ByteReader.remaining l.reader));
-  written : Keeps (g.W.ByteWriter.contents l.fn.writer) (g.W.ByteWriter.contents l.writer);
   grown : length (held l.fn.ahead) + l.ahead.count ≡ length (held l.ahead) + l.fn.ahead.count;
   counted : IsCounted (g.R.ByteReader.remaining l.fn.reader) (g.R.ByteReader.remaining l.reader) l.fn.ahead.count l.ahead.count;
   below : l.ahead.count < 18446744073709551615;
   quiet : g.R.ByteReader.failures l.reader ≡ g.R.ByteReader.failures l.fn.reader;
-  writer_quiet : g.W.ByteWriter.failures l.writer ≡ g.W.ByteWriter.failures l.fn.writer;
 }

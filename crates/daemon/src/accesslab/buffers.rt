@@ -1,0 +1,26 @@
+//! The buffers of a run.
+use super::hexadecimal::MAX_BYTES;
+use lease_disk::Image;
+use types::MAX_CIRCUITS;
+use wire::PacketBuf;
+
+/// What all lines of a run are parsed to and send out in turn, so that a line takes no memory.
+#[derive(Drop)]
+pub(crate) struct Buffers {
+    /// The bytes of a frame or a datagram.
+    pub(crate) bytes: [u8; MAX_BYTES],
+    /// The images of a restart, one per circuit.
+    pub(crate) images: [Image; MAX_CIRCUITS],
+    /// What leaves.
+    pub(crate) out: PacketBuf,
+}
+
+impl Buffers {
+    pub(crate) fn new() -> Buffers {
+        Buffers {
+            bytes: [0; MAX_BYTES],
+            images: [Image::Byte(0); MAX_CIRCUITS],
+            out: PacketBuf::new(),
+        }
+    }
+}
