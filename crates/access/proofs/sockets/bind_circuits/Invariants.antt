@@ -1,0 +1,13 @@
+use Rattle.std.proofs.Common.{◌≡◌, ◌≤◌, ◌<◌, length}
+use Rattle.std.specs.Prelude.{All}
+use Rattle.access.proofs.sockets.bind_circuits.Given as goal
+
+abbrev pub invariant-circuits : goal.invariant-circuits
+invariant-circuits g l = record {
+  index : l.index ≤ l.index-end;
+  end : l.index-end ≡ length l.config.circuits;
+  few : length l.config.circuits ≤ 16;
+  port : l.port ≤ 65472;
+  count : length l.circuits.items ≡ l.index;
+  behind : All (λ circuit. circuit.relay < length l.config.relays) l.circuits.items;
+}

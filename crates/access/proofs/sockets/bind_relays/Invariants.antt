@@ -1,0 +1,11 @@
+use Rattle.std.proofs.Common.{◌≡◌, ◌≤◌, length}
+use Rattle.config.specs.Rules.{IsSound}
+use Rattle.access.proofs.sockets.bind_relays.Given as goal
+
+abbrev pub invariant-relays : goal.invariant-relays
+invariant-relays g l = record {
+  index : l.index ≤ l.index-end;
+  end : l.index-end ≡ length l.config.relays;
+  sound : IsSound l.config;
+  count : length l.relays.items ≡ l.index;
+}

@@ -1,0 +1,52 @@
+-- The command line of `accessd`, and the values that its words spell.
+use Rattle.std.specs.Prelude.{◌≡◌, ◌↔◌, ℕ, Bool, pos, true, List, [], ◌∷◌, Some, codes}
+use Rattle.clap.specs.Words.{App, Row, Rule, Text, new_app, new_rule, with_rule, matches_of, first_of, fault_of}
+use Rattle.clap.specs.Simple.{on_top}
+use Rattle.clap.specs.declared.builder.ArgAction.TheVariants.{Set, SetTrue}
+use Rattle.clap.specs.declared.builder.value_parser.ValueParser.TheVariants as parser
+use Rattle.programs.specs.CommandLine.{IsNumber}
+
+-- the path of the configuration, which is required
+abbrev pub config_rule : Rule
+config_rule = record (new_rule (codes "CONFIG")) { action = Some Set; required = true }
+
+-- `--disk FILE`, which is required
+abbrev pub disk_rule : Rule
+disk_rule = record (new_rule (codes "disk")) { long = Some (codes "disk"); value_names = 1; action = Some Set; required = true }
+
+-- `--turns N`, 1 to 1000000, which is required
+abbrev pub turns_rule : Rule
+turns_rule = record (new_rule (codes "turns")) { long = Some (codes "turns"); value_names = 1; action = Some Set; required = true; parser = Some (parser.Signed (pos 1) (pos 1000000)) }
+
+-- `--format`, a flag
+abbrev pub format_rule : Rule
+format_rule = record (new_rule (codes "format")) { long = Some (codes "format"); action = Some SetTrue }
+
+-- `--port P`, 1024 to 65472, 20000 by default
+abbrev pub port_rule : Rule
+port_rule = record (new_rule (codes "port")) { long = Some (codes "port"); value_names = 1; action = Some Set; parser = Some (parser.Signed (pos 1024) (pos 65472)); defaults = codes "20000" ∷ [] }
+
+-- the command without its arguments; the program's name is not one of its words
+abbrev pub bare_app : App
+bare_app = on_top (λ s. record s { no_binary_name = true; has_version = true }) (new_app (codes "accessd"))
+
+abbrev pub access_app : App
+access_app = with_rule (with_rule (with_rule (with_rule (with_rule bare_app config_rule) disk_rule) turns_rule) format_rule) port_rule
+
+-- What the words give the arguments is these values.
+pub record HasValues (given : List Row) (config disk : List ℕ) (turns : ℕ) (format : Bool) (port : ℕ) : Type 0 where
+  pub config_is : first_of (codes "CONFIG") given ≡ Some config
+  pub disk_is : first_of (codes "disk") given ≡ Some disk
+  pub turns_are : IsNumber (first_of (codes "turns") given) 1 1000000 turns
+  pub format_is : (format ≡ true) ↔ (first_of (codes "format") given ≡ Some (codes "true"))
+  pub port_is : IsNumber (first_of (codes "port") given) 1024 65472 port
+
+-- The words spell these values.
+pub record Spells (words : List Text) (config disk : List ℕ) (turns : ℕ) (format : Bool) (port : ℕ) : Type 0 where
+  -- clap finds no fault in them
+  pub right : fault_of access_app words ≡ []
+  pub values : HasValues (matches_of access_app words) config disk turns format port
+
+-- The words spell values.
+abbrev pub SpellsSomething : List Text → Type 0
+SpellsSomething words = (config : List ℕ) × (disk : List ℕ) × (turns : ℕ) × (format : Bool) × (port : ℕ) × Spells words config disk turns format port

@@ -1,0 +1,58 @@
+//! A UDP socket that never waits.
+ghost use Rattle.std.specs.Prelude.{◌≤◌, IfSome};
+
+use std::io;
+use std::net::{IpAddr, Ipv4Addr, Net, SocketAddr, UdpSocket};
+use types::{Addr4, MAX_DATAGRAM, Source};
+
+/// Room for a datagram. It has one byte more than the longest that is served, so that of a longer one
+/// enough arrives to be refused for its length.
+pub const ROOM: usize = MAX_DATAGRAM + 1;
+
+/// A bound UDP socket that never waits.
+#[derive(Drop)]
+pub struct Port {
+    socket: UdpSocket,
+}
+
+/// The system's form of an address and port.
+fn system_address(source: Source) -> SocketAddr {
+    let Addr4([a, b, c, d]) = source.addr;
+    SocketAddr::new(IpAddr::V4(Ipv4Addr::new(a, b, c, d)), source.port)
+}
+
+/// An IPv4 address and port of the system's form.
+fn source_of(address: SocketAddr) -> Option<Source> {
+    match address.ip() {
+        IpAddr::V4(ip) => Some(Source {
+            addr: Addr4(ip.octets()),
+            port: address.port(),
+        }),
+        IpAddr::V6(_) => None,
+    }
+}
+
+impl Port {
+    /// Binds a socket to this address and port.
+    pub fn bind<R: Net>(net: &R, at: Source) -> io::Result<Port> {
+        let socket = UdpSocket::bind(net, system_address(at))?;
+        socket.set_nonblocking(true)?;
+        Ok(Port { socket })
+    }
+
+    /// Takes a datagram that waits, if there is one: how many bytes of it are in `room`, and where it
+    /// came from. One whose receive fails is lost.
+    pub fn take(&self, room: &mut [u8; ROOM]) -> Option<(usize, Source)>
+        ensures { IfSome result (λ taken. taken.0 ≤ 1281) }
+    {
+        let Ok((len, from)) = self.socket.recv_from(room) else {
+            return None;
+        };
+        Some((len, source_of(from)?))
+    }
+
+    /// Sends a datagram, or loses it. Returns whether the system took it.
+    pub fn send(&self, datagram: &[u8], to: Source) -> bool {
+        self.socket.send_to(datagram, system_address(to)).is_ok()
+    }
+}

@@ -1,0 +1,157 @@
+//! The sockets of relay, server and circuits.
+ghost use Rattle.std.specs.Prelude.{◌≡◌, ◌≤◌, ◌<◌, length, All, IfOk};
+
+use crate::port::Port;
+use config::Config;
+use std::alloc::{AllocError, Global};
+use std::io;
+use std::net::Net;
+use thiserror::Error;
+use types::{Addr4, Circuit, RelayNo, Source};
+
+/// The most circuits that are served.
+pub const MAX_SERVED: usize = 16;
+
+/// Ports of one circuit: two where it listens, and two where its frames go.
+const PORTS: u16 = 4;
+
+/// The address of every circuit's ports.
+const LOOPBACK: Addr4 = Addr4([127, 0, 0, 1]);
+
+/// Why the sockets were not opened.
+#[derive(Clone, Copy, Debug, PartialEq, Eq, Error)]
+pub enum SocketFault {
+    #[error("out of memory")]
+    Memory,
+    /// No socket could be bound to this address and port.
+    #[error("no socket can be bound")]
+    Bind(Source),
+}
+
+/// The sockets of one circuit.
+#[derive(Drop)]
+pub struct CircuitSockets {
+    /// Where its DHCPv4 frames come from, and those towards it leave.
+    pub port4: Port,
+    /// The same for DHCPv6.
+    pub port6: Port,
+    /// Where its DHCPv4 frames go.
+    pub client4: Source,
+    /// The index of its relay.
+    pub relay: usize,
+}
+
+/// All sockets: those of the circuits and of the relays in the order of the configuration, and the
+/// server's.
+#[derive(Drop)]
+pub struct Sockets {
+    pub circuits: Vec<CircuitSockets>,
+    pub listen4: Port,
+    pub listen6: Port,
+    pub relays: Vec<Port>,
+}
+
+/// A port on loopback.
+pub(crate) fn local(port: u16) -> Source {
+    Source {
+        addr: LOOPBACK,
+        port,
+    }
+}
+
+fn bind<R: Net>(net: &R, at: Source) -> Result<Port, SocketFault> {
+    match Port::bind(net, at) {
+        Ok(port) => Ok(port),
+        Err(error) if error.kind() == io::ErrorKind::OutOfMemory => Err(SocketFault::Memory),
+        Err(_) => Err(SocketFault::Bind(at)),
+    }
+}
+
+impl CircuitSockets {
+    /// Binds the sockets of the circuit whose ports begin at `first`.
+    fn bind<R: Net>(net: &R, first: u16, relay: usize) -> Result<CircuitSockets, SocketFault>
+        requires { first ≤ 65532 }
+        ensures { IfOk result (λ circuit. circuit.relay ≡ relay) }
+    {
+        Ok(CircuitSockets {
+            port4: bind(net, local(first))?,
+            port6: bind(net, local(first + 1))?,
+            client4: local(first + 2),
+            relay,
+        })
+    }
+}
+
+fn bind_circuits<R: Net>(
+    net: &R,
+    alloc: Global,
+    config: &Config,
+    port: u16,
+) -> Result<Vec<CircuitSockets>, SocketFault>
+    requires few { length config.now.circuits ≤ 16 }
+    requires most { port ≤ 65472 }
+    ensures count { IfOk result (λ circuits. length circuits.items ≡ length config.now.circuits) }
+    ensures behind { IfOk result (λ circuits. All (λ circuit. circuit.relay < length config.now.relays) circuits.items) }
+{
+    let Ok(mut circuits) = Vec::with_capacity(alloc, config.circuit_count()) else {
+        return Err(SocketFault::Memory);
+    };
+    'circuits: for index in 0..config.circuit_count() {
+        let Some(circuit) = Circuit::new(index) else {
+            unreachable!()
+        };
+        let relay = config.at(circuit).relay.index();
+        let sockets = CircuitSockets::bind(net, port + PORTS * index as u16, relay)?;
+        if circuits.push(sockets).is_err() {
+            return Err(SocketFault::Memory);
+        }
+    }
+    Ok(circuits)
+}
+
+fn bind_relays<R: Net>(net: &R, alloc: Global, config: &Config) -> Result<Vec<Port>, SocketFault>
+    ensures count { IfOk result (λ relays. length relays.items ≡ length config.now.relays) }
+{
+    let Ok(mut relays) = Vec::with_capacity(alloc, config.relay_count()) else {
+        return Err(SocketFault::Memory);
+    };
+    'relays: for index in 0..config.relay_count() {
+        let Some(relay) = RelayNo::new(index) else {
+            unreachable!()
+        };
+        let socket = bind(net, config.relay(relay).source)?;
+        if relays.push(socket).is_err() {
+            return Err(SocketFault::Memory);
+        }
+    }
+    Ok(relays)
+}
+
+impl Sockets {
+    /// Binds all sockets of a configuration. Those of the first circuit begin at `port`, those of each
+    /// other one 4 later.
+    pub fn bind<R: Net>(
+        net: &R,
+        alloc: Global,
+        config: &Config,
+        port: u16,
+    ) -> Result<Sockets, SocketFault>
+        requires few { length config.now.circuits ≤ 16 }
+        requires most { port ≤ 65472 }
+        ensures circuits { IfOk result (λ sockets. length sockets.circuits.items ≡ length config.now.circuits) }
+        ensures relays { IfOk result (λ sockets. length sockets.relays.items ≡ length config.now.relays) }
+        ensures behind { IfOk result (λ sockets. All (λ circuit. circuit.relay < length config.now.relays) sockets.circuits.items) }
+    {
+        let server = config.server();
+        let circuits = bind_circuits(net, alloc, config, port)?;
+        let listen4 = bind(net, server.listen4)?;
+        let listen6 = bind(net, server.listen6)?;
+        let relays = bind_relays(net, alloc, config)?;
+        Ok(Sockets {
+            circuits,
+            listen4,
+            listen6,
+            relays,
+        })
+    }
+}

@@ -1,0 +1,68 @@
+//! The file that keeps the leases.
+ghost use Rattle.std.specs.Prelude.{◌≡◌, ◌≤◌, ◌<◌, ◌+◌, ℕ, Some, IfOk, slice_get};
+ghost use Rattle.config.specs.declared.settings.CircuitConfig.{CircuitConfig};
+
+use crate::sockets::MAX_SERVED;
+use config::Config;
+use dispatch::region_count;
+use lease_disk::{FileDisk, FileFault, format};
+use std::fs::File;
+use std::rt::Files;
+use thiserror::Error;
+use types::Circuit;
+
+/// Why a file does not serve as the store of a configuration.
+#[derive(Clone, Copy, Debug, PartialEq, Eq, Error)]
+pub enum StoreFault {
+    #[error("the file can't be opened, made or lengthened, or is in use")]
+    File,
+    #[error("out of memory")]
+    Memory,
+    /// A region could not be formatted.
+    #[error("a region can't be formatted")]
+    Format,
+}
+
+/// Formats the region of each circuit.
+fn format_regions(config: &Config, disk: &mut FileDisk) -> Result<(), StoreFault>
+    requires { (c : ℕ) (circuit : CircuitConfig) → slice_get config.now.circuits c ≡ Some circuit → circuit.region < disk.old.regions }
+    ensures { disk.new.regions ≡ disk.old.regions }
+{
+    'circuits: for index in 0..config.circuit_count() {
+        let Some(circuit) = Circuit::new(index) else {
+            unreachable!()
+        };
+        if format(config.at(circuit).region, disk).is_err() {
+            return Err(StoreFault::Format);
+        }
+    }
+    Ok(())
+}
+
+fn fault_of(fault: FileFault) -> StoreFault {
+    match fault {
+        FileFault::File => StoreFault::File,
+        FileFault::Memory => StoreFault::Memory,
+    }
+}
+
+/// Opens the file with this path as the store of a configuration, as it is.
+pub fn open_store<R: Files<File = File>>(rt: &R, path: &str) -> Result<FileDisk, StoreFault> {
+    FileDisk::open(rt, path).map_err(fault_of)
+}
+
+/// Makes the file, where there is none, or lengthens it, and formats the region of each circuit: all
+/// leases in these are lost. Formats none where there are more circuits than are served.
+pub fn format_store<R: Files<File = File>>(
+    rt: &R,
+    path: &str,
+    config: &Config,
+) -> Result<FileDisk, StoreFault>
+    ensures regions { IfOk result (λ disk. (c : ℕ) (circuit : CircuitConfig) → slice_get config.now.circuits c ≡ Some circuit → circuit.region < disk.regions) }
+{
+    let mut disk = FileDisk::create(rt, path, region_count(config)).map_err(fault_of)?;
+    if config.circuit_count() <= MAX_SERVED {
+        format_regions(config, &mut disk)?;
+    }
+    Ok(disk)
+}

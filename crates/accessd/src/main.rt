@@ -1,0 +1,142 @@
+//! Runs relay and server over UDP sockets on loopback, with the leases kept in a file.
+#![tactic(auto)]
+
+ghost use Rattle.std.specs.Prelude.{◌≤◌};
+
+use access::{Access, AccessFault, AccessWords, StoreFault, format_store, open_store};
+use config::Config;
+use dispatch::region_count;
+use lease_disk::FileDisk;
+use programs::{REFUSED, UNOPENED, UNREADABLE, complain, read_configuration};
+use std::env;
+use std::process::ExitCode;
+use std::rt::Clock;
+use types::{Addr4, Circuit, Moment, Source};
+
+/// Reports that the store does not serve, and returns the status.
+fn refuse_store(rt: &HostRuntime, path: &str, fault: StoreFault) -> u8 {
+    let status = match fault {
+        StoreFault::File => {
+            let _ = eprintln!(rt; "{path}: {fault}");
+            return UNREADABLE;
+        }
+        StoreFault::Memory => complain(rt, "open memory", UNOPENED),
+        StoreFault::Format => complain(rt, "open disk", UNOPENED),
+    };
+    let _ = eprintln!(rt; "{path}: {fault}");
+    status
+}
+
+/// The file with the leases, formatted where that is asked for.
+fn store(rt: &HostRuntime, config: &Config, values: &AccessWords<'_>) -> Result<FileDisk, u8> {
+    let disk = if values.format {
+        format_store(rt, values.disk, config)
+    } else {
+        open_store(rt, values.disk)
+    };
+    match disk {
+        Ok(disk) => Ok(disk),
+        Err(fault) => Err(refuse_store(rt, values.disk, fault)),
+    }
+}
+
+/// Reports why relay and server were not opened, and returns the status.
+fn refuse(rt: &HostRuntime, config: &Config, disk: &str, fault: AccessFault) -> u8 {
+    match fault {
+        AccessFault::Memory => complain(rt, "open memory", UNOPENED),
+        AccessFault::Disk => {
+            let needed = region_count(config);
+            let _ = eprintln!(rt; "open disk");
+            let _ = eprintln!(rt; "{disk}: {fault}, {needed}; --format makes them");
+            UNOPENED
+        }
+        AccessFault::Socket(Source { addr, port }) => {
+            let Addr4([a, b, c, d]) = addr;
+            let _ = eprintln!(rt; "{a}.{b}.{c}.{d}:{port}: {fault}");
+            UNREADABLE
+        }
+        AccessFault::TooManyCircuits => {
+            let count = config.circuit_count();
+            let _ = eprintln!(rt; "circuits");
+            let _ = eprintln!(rt; "{count} circuits: {fault}");
+            REFUSED
+        }
+    }
+}
+
+/// This moment by the system's clock, or the one before where the clock can't be read.
+fn moment(rt: &HostRuntime, before: Moment) -> Moment {
+    let Ok(since) = rt.since_1970() else {
+        return before;
+    };
+    Moment::new(since.as_secs()).unwrap_or(before)
+}
+
+/// Reports in one line what is served: the circuits, their ports and the file with the leases.
+fn report_start(rt: &HostRuntime, config: &Config, values: &AccessWords<'_>) {
+    let count = config.circuit_count();
+    for index in 0..count {
+        let Some(circuit) = Circuit::new(index) else {
+            unreachable!()
+        };
+        let before = if index == 0 { "serving " } else { ", " };
+        let id = text_of(config.at(circuit).id.as_bytes());
+        let _ = eprint!(rt; "{before}{id}");
+    }
+    let first = usize::from(values.port);
+    let last = first + 4 * count - 1;
+    let _ = eprintln!(rt;
+        " on 127.0.0.1, ports {first} to {last}, leases in {}",
+        values.disk
+    );
+}
+
+/// The text of an id, whose bytes are visible ASCII characters.
+fn text_of(id: &[u8]) -> &str {
+    std::str::from_utf8(id).unwrap_or("?")
+}
+
+/// Opens relay and server, takes the turns, and returns the status.
+fn run(rt: &HostRuntime, values: AccessWords<'_>) -> u8
+    requires least { 1024 ≤ values.port }
+    requires most { values.port ≤ 65472 }
+{
+    let config = match read_configuration(rt, values.config) {
+        Ok(config) => config,
+        Err(status) => return status,
+    };
+    let disk = match store(rt, &config, &values) {
+        Ok(disk) => disk,
+        Err(status) => return status,
+    };
+    let mut access = match Access::open(rt, rt.alloc(), &config, disk, values.port) {
+        Ok(access) => access,
+        Err(fault) => return refuse(rt, &config, values.disk, fault),
+    };
+    report_start(rt, &config, &values);
+    let mut now = Moment::first();
+    for _ in 0..values.turns {
+        now = moment(rt, now);
+        access.turn(now);
+    }
+    complain(rt, *access.counts(), 0)
+}
+
+fn status(rt: &HostRuntime) -> u8 {
+    let alloc = rt.alloc();
+    let Ok(given) = env::args(rt) else {
+        return complain(rt, "error: an argument is not UTF-8", REFUSED);
+    };
+    let given: Result<Vec<String>, _> = given.skip(1).collect(alloc);
+    let Ok(given) = given else {
+        return complain(rt, "error: out of memory", REFUSED);
+    };
+    match access::words(alloc, &given) {
+        Ok(values) => run(rt, values),
+        Err(refusal) => refusal.show(rt),
+    }
+}
+
+fn main(rt: HostRuntime) -> ExitCode {
+    ExitCode::from(status(&rt))
+}
