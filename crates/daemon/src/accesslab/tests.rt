@@ -3,7 +3,7 @@ ghost use Rattle.std.specs.Prelude.{◌<◌};
 use super::*;
 use config::Config;
 use fixtures::ONE_CIRCUIT;
-use programs::Refusal;
+use programs::{FAILED, Refusal};
 use std::alloc::{AllocError, Global};
 use std::io::{self, ErrorKind, Read, Write};
 use types::Discard;
