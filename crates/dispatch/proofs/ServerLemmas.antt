@@ -1,12 +1,14 @@
 -- Lists of circuits' servers.
-use Rattle.std.proofs.Common.{◌≡◌, ℕ, zero, suc, ◌+◌, ◌<◌, Bool, not, cond, List, [], ◌∷◌, ◌++◌, map, length, take, drop, get_or, set, refl, sym, ap, subst, ◌∙◌, arith, append_assoc}
+use Rattle.std.proofs.Common.{◌≡◌, ℕ, zero, suc, ◌+◌, ◌<◌, ◌≤◌, ◌↔◌, Bool, true, false, not, cond, List, [], ◌∷◌, ◌++◌, map, length, take, drop, get_or, set, refl, sym, ap, subst, ◌∙◌, arith, append_assoc}
 use Rattle.std.specs.List.{All, position, position_or_len}
-use Rattle.std.specs.Prelude.{Some, slice_get}
+use Rattle.std.specs.Prelude.{Some, None, is_some, option_map, nat_lt, slice_get, slice_index_or}
+use Rattle.std.proofs.lemmas.Bool.{ltb-true}
+use Rattle.std.proofs.lemmas.Option.{same_Some, none-some, slice_get-map, slice_get_past, slice_get_read}
 use Rattle.std.proofs.lemmas.List.Elements.{All-nil, All-cons, All-head, All-tail}
 use Rattle.config.specs.CircuitPart.{CircuitPart}
 use Rattle.lease_disk.specs.Region.{Region}
 use Rattle.dispatch.specs.Leases.{found_leases}
-use Rattle.dispatch.specs.ServerValue.{CircuitServerValue, leases_of, part_of}
+use Rattle.dispatch.specs.ServerValue.{CircuitServerValue, book_of, leases_of, part_of}
 use Rattle.std.proofs.lemmas.List.{length-map, length-take-le, map-append, map-set, get_or-map, take_more}
 use Rattle.std.proofs.Math.Seq.{take-append_seam, drop-cons, get_or-append_seam, set-append_seam, map-set_same}
 
@@ -96,3 +98,21 @@ all_found regions (x ∷ xs) all = λ i. All-head (λ s. leases_of regions s ≡
 -- a slice of a whole vector that was written through
 pub written_through : {A : Type 0} (len : ℕ) (new rest : List A) → len ≡ length new → take len (new ++ rest) ≡ new
 written_through len new rest is = subst (λ n. take n (new ++ rest) ≡ new) (sym is) (take-append_seam new rest)
+
+-- ---- which circuits are open
+
+seen_open : (xs : List CircuitServerValue) (c : ℕ) → slice_get (map is_some (map book_of xs)) c ≡ option_map (λ o. is_some o) (option_map book_of (slice_get xs c))
+seen_open xs c = slice_get-map (λ o. is_some o) (map book_of xs) c ∙ ap (option_map (λ o. is_some o)) (slice_get-map book_of xs c)
+
+pub open_at : (xs : List CircuitServerValue) (c : ℕ) (s : CircuitServerValue) (b : Bool) → c < length xs → s ≡ slice_index_or xs c s → b ≡ is_some (book_of s)
+    → (b ≡ true) ↔ (slice_get (map is_some (map book_of xs)) c ≡ Some true)
+open_at xs c s b within is seen =
+    let found : slice_get (map is_some (map book_of xs)) c ≡ Some b =
+    seen_open xs c ∙ ap (λ o. option_map (λ o. is_some o) (option_map book_of o)) (slice_get_read xs (length xs) c s refl within is) ∙ ap Some (sym seen) in
+    (λ yes. found ∙ ap Some yes, λ there. same_Some b true (sym found ∙ there))
+
+pub none_past : (xs : List CircuitServerValue) (c n : ℕ) → n ≡ length xs → n ≤ c → (nat_lt c n ≡ true) ↔ (slice_get (map is_some (map book_of xs)) c ≡ Some true)
+none_past xs c n size past =
+    let none : slice_get (map is_some (map book_of xs)) c ≡ None =
+    seen_open xs c ∙ ap (λ o. option_map (λ o. is_some o) (option_map book_of o)) (slice_get_past xs c (omega (arith, size, past))) in
+    (λ less. let within : c < n = ltb-true c n less in absurd (omega (arith, within, past)), λ there. absurd (none-some true (sym none ∙ there)))

@@ -1,5 +1,5 @@
 //! The server of one circuit: what it has while it is open, and what it makes of a message.
-ghost use Rattle.std.specs.Prelude.{◌≡◌, ◌≢◌, ◌<◌, ℕ, [], List, Ok, Some, true, nat_lt, IfSome};
+ghost use Rattle.std.specs.Prelude.{◌≡◌, ◌≢◌, ◌<◌, ℕ, [], List, Ok, Some, true, is_some, nat_lt, IfSome};
 ghost use Rattle.v4_message.specs.Reading.{message_of};
 ghost use Rattle.config.specs.CircuitPart.{pool4_of};
 ghost use Rattle.dispatch.specs.Leases.{after_datagram, after_tick, found_book};
@@ -50,6 +50,13 @@ impl CircuitServer {
         ensures { result.now ≡ self.now.part }
     {
         &self.part
+    }
+
+    /// Whether the circuit is open.
+    pub(crate) fn is_open(&self) -> bool
+        ensures { result ≡ is_some (book_of self.now) }
+    {
+        self.state.is_some()
     }
 
     /// Begins with what the circuit's region holds. The circuit is closed where the region cannot be

@@ -1,6 +1,6 @@
 //! How many regions a configuration needs.
 ghost use Rattle.std.specs.Prelude.{◌≡◌, ◌<◌, ◌≤◌, ◌+◌, ℕ, Some, slice_get};
-ghost use Rattle.config.specs.declared.settings.CircuitConfig.{CircuitConfig};
+ghost use Rattle.settings.specs.declared.settings.CircuitConfig.{CircuitConfig};
 
 use config::Config;
 use types::Circuit;

@@ -1,5 +1,5 @@
 //! The server of all circuits, over a device that keeps their leases.
-ghost use Rattle.std.specs.Prelude.{◌≡◌, ◌<◌, ◌+◌, [], ℕ, length, map, slice_get, All, Some, true, false, nat_lt, IfOk, IfErr};
+ghost use Rattle.std.specs.Prelude.{◌≡◌, ◌<◌, ◌+◌, ◌↔◌, [], ℕ, length, map, slice_get, All, Some, true, false, is_some, nat_lt, IfOk, IfErr};
 ghost use Rattle.config.specs.CircuitPart.{IsPart, parts_of};
 ghost use Rattle.dispatch.specs.Leases.{AreSynced, HasRegions, after_tick, found_leases, received_leases};
 ghost use Rattle.dispatch.specs.Received.{IsAnswer, received, received_fails};
@@ -163,6 +163,15 @@ impl Server {
         ensures { slice_get (parts_in self.now) circuit ≡ Some result.now }
     {
         self.circuits[circuit.index()].part()
+    }
+
+    /// Whether there is a circuit of this index that is open: its region was read and is not damaged, and
+    /// each save to it was done.
+    pub fn is_open(&self, circuit: Circuit) -> bool
+        ensures { (result ≡ true) ↔ (slice_get (map is_some (books_in self.now)) circuit ≡ Some true) }
+    {
+        let index = circuit.index();
+        index < self.circuits.len() && self.circuits[index].is_open()
     }
 
     /// Takes a datagram from this source at this moment, for the circuit that it is of. What the answer
