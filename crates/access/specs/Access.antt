@@ -1,6 +1,7 @@
 -- What shows of relay and server over sockets.
-use Rattle.std.specs.Prelude.{ℕ}
-use Rattle.dispatch.specs.ServerValue.{ServerValue}
+use Rattle.std.specs.Prelude.{◌≡◌, ◌≤◌, ℕ, Some, slice_get}
+use Rattle.dispatch.specs.Server.{Book}
+use Rattle.dispatch.specs.ServerValue.{ServerValue, books_in}
 use Rattle.relay.specs.Relays.{Topology}
 
 pub record AccessValue : Type 0 where
@@ -9,3 +10,7 @@ pub record AccessValue : Type 0 where
   pub server : ServerValue
   -- how many regions the store has
   pub regions : ℕ
+
+-- the clock of no open circuit is before this moment
+abbrev pub HasReached : ℕ → ServerValue → Type 0
+HasReached now server = (c : ℕ) (book : Book) → slice_get (books_in server) c ≡ Some (Some book) → now ≤ book.clock

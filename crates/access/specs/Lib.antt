@@ -1,2 +1,3 @@
 pub mod Access
+pub mod Counts
 pub mod Words

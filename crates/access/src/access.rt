@@ -1,13 +1,14 @@
 //! Relay and server over sockets.
-ghost use Rattle.std.specs.Prelude.{◌≡◌, ◌≤◌, ◌<◌, ◌+◌, ◌↔◌, length, Err, IfOk, IfErr};
+ghost use Rattle.std.specs.Prelude.{◌≡◌, ◌≤◌, ◌<◌, ◌+◌, ◌↔◌, length, map, true, is_some, Some, slice_get, Err, IfOk, IfErr};
+ghost use Rattle.access.specs.Access.{HasReached};
 ghost use Rattle.access.specs.declared.access.AccessFault.TheVariants as fault;
 ghost use Rattle.config.specs.CircuitPart.{parts_of};
 ghost use Rattle.dispatch.specs.Leases.{HasRegions};
-ghost use Rattle.dispatch.specs.ServerValue.{parts_in};
+ghost use Rattle.dispatch.specs.ServerValue.{books_in, parts_in};
 ghost use Rattle.relay.specs.Relays.{topology_of};
 
 use crate::counts::Counts;
-use crate::port::{Port, ROOM};
+use crate::datagram_socket::{BUFFER, DatagramSocket};
 use crate::sockets::{MAX_SERVED, SocketFault, Sockets};
 use config::Config;
 use dispatch::{OpenFault, Server};
@@ -47,7 +48,7 @@ pub struct Access {
     disk: FileDisk,
     sockets: Sockets,
     listen4: Source,
-    room: [u8; ROOM],
+    buffer: [u8; BUFFER],
     out: PacketBuf,
     counts: Counts,
 }
@@ -110,7 +111,7 @@ impl Access {
             disk,
             sockets,
             listen4: config.server().listen4,
-            room: [0; ROOM],
+            buffer: [0; BUFFER],
             out: PacketBuf::new(),
             counts: Counts::new(),
         })
@@ -118,59 +119,68 @@ impl Access {
 
     /// Tries each socket once without waiting: those of the circuits in order, the server's, those of
     /// the relays. What comes in is carried on at once; a datagram that can't be received or sent is
-    /// lost. Then moves all clocks to this moment. Returns how many datagrams were taken.
+    /// lost. Then moves all clocks to this moment. Returns how many datagrams were received.
     pub fn turn(&mut self, now: Moment) -> u32
         ensures most { result ≤ 42 }
+        ensures clocks { HasReached now self.new.server }
         ensures topology { self.new.topology ≡ self.old.topology }
         ensures parts { parts_in self.new.server ≡ parts_in self.old.server }
         ensures regions { self.new.regions ≡ self.old.regions }
     {
-        let taken = self.take_from_circuits()
-            + self.take_from_server(now)
-            + self.take_from_relays();
+        let received = self.receive_from_circuits()
+            + self.receive_from_server(now)
+            + self.receive_from_relays();
         self.server.tick(now);
-        taken
+        received
     }
 
-    /// What became of the datagrams that were taken.
+    /// Whether there is a circuit of this index that is open: its region was read and is not damaged, and
+    /// each save to it was done.
+    pub fn is_open(&self, circuit: Circuit) -> bool
+        ensures { (result ≡ true) ↔ (slice_get (map is_some (books_in self.now.server)) circuit ≡ Some true) }
+    {
+        self.server.is_open(circuit)
+    }
+
+    /// What became of the datagrams that were received.
     pub fn counts(&self) -> &Counts {
         &self.counts
     }
 
     /// Takes a frame from each of the circuits' sockets to its relay.
-    fn take_from_circuits(&mut self) -> u32
+    fn receive_from_circuits(&mut self) -> u32
         ensures most { result ≤ 32 }
         ensures topology { self.new.topology ≡ self.old.topology }
         ensures parts { parts_in self.new.server ≡ parts_in self.old.server }
         ensures regions { self.new.regions ≡ self.old.regions }
     {
-        let mut taken = 0;
+        let mut received = 0;
         'circuits: for index in 0..self.sockets.circuits.len() {
-            taken += self.take_from_circuit(index);
+            received += self.receive_from_circuit(index);
         }
-        taken
+        received
     }
 
     /// Takes a frame from each of a circuit's sockets to its relay.
-    fn take_from_circuit(&mut self, index: usize) -> u32
+    fn receive_from_circuit(&mut self, index: usize) -> u32
         requires { index < length self.old.topology.circuits }
         ensures most { result ≤ 2 }
         ensures topology { self.new.topology ≡ self.old.topology }
         ensures parts { parts_in self.new.server ≡ parts_in self.old.server }
         ensures regions { self.new.regions ≡ self.old.regions }
     {
-        let mut taken = 0;
+        let mut received = 0;
         let sockets = &self.sockets.circuits[index];
-        if let Some((len, _)) = sockets.port4.take(&mut self.room) {
-            taken += 1;
+        if let Some((len, _)) = sockets.socket4.receive(&mut self.buffer) {
+            received += 1;
             self.relay_up(index, len);
         }
         let sockets = &self.sockets.circuits[index];
-        if sockets.port6.take(&mut self.room).is_some() {
-            taken += 1;
+        if sockets.socket6.receive(&mut self.buffer).is_some() {
+            received += 1;
             self.drop_unserved();
         }
-        taken
+        received
     }
 
     /// Sends a client's frame on to the server.
@@ -181,38 +191,38 @@ impl Access {
         ensures parts { parts_in self.new.server ≡ parts_in self.old.server }
         ensures regions { self.new.regions ≡ self.old.regions }
     {
-        self.counts.take();
+        self.counts.count_received();
         let Some(circuit) = Circuit::new(index) else {
             unreachable!()
         };
-        let frame = &self.room[..len];
+        let frame = &self.buffer[..len];
         match self.relays.up(circuit, Proto::V4, frame, &mut self.out) {
             Ok(()) => {
                 let relay = self.sockets.circuits[index].relay;
                 let sent = self.sockets.relays[relay].send(self.out.as_slice(), self.listen4);
-                self.counts.relay(sent);
+                self.counts.count_relayed(sent);
             }
-            Err(why) => self.counts.drop_for(why),
+            Err(why) => self.counts.count_dropped(why),
         }
     }
 
     /// Takes a datagram from each of the server's sockets to the server.
-    fn take_from_server(&mut self, now: Moment) -> u32
+    fn receive_from_server(&mut self, now: Moment) -> u32
         ensures most { result ≤ 2 }
         ensures topology { self.new.topology ≡ self.old.topology }
         ensures parts { parts_in self.new.server ≡ parts_in self.old.server }
         ensures regions { self.new.regions ≡ self.old.regions }
     {
-        let mut taken = 0;
-        if let Some((len, from)) = self.sockets.listen4.take(&mut self.room) {
-            taken += 1;
+        let mut received = 0;
+        if let Some((len, from)) = self.sockets.listen4.receive(&mut self.buffer) {
+            received += 1;
             self.answer(len, from, now);
         }
-        if self.sockets.listen6.take(&mut self.room).is_some() {
-            taken += 1;
+        if self.sockets.listen6.receive(&mut self.buffer).is_some() {
+            received += 1;
             self.drop_unserved();
         }
-        taken
+        received
     }
 
     /// Answers a relay's datagram.
@@ -222,53 +232,53 @@ impl Access {
         ensures parts { parts_in self.new.server ≡ parts_in self.old.server }
         ensures regions { self.new.regions ≡ self.old.regions }
     {
-        let datagram = &self.room[..len];
-        self.counts.take();
+        let datagram = &self.buffer[..len];
+        self.counts.count_received();
         let answer = self
             .server
             .receive(from, datagram, now, &mut self.disk, &mut self.out);
         match answer {
             Ok(()) => {
                 let sent = self.sockets.listen4.send(self.out.as_slice(), from);
-                self.counts.answer(sent);
+                self.counts.count_answered(sent);
             }
-            Err(why) => self.counts.drop_for(why),
+            Err(why) => self.counts.count_dropped(why),
         }
     }
 
     /// Takes a datagram from each relay's socket to the circuit that it is for.
-    fn take_from_relays(&mut self) -> u32
+    fn receive_from_relays(&mut self) -> u32
         ensures most { result ≤ 8 }
         ensures topology { self.new.topology ≡ self.old.topology }
         ensures parts { parts_in self.new.server ≡ parts_in self.old.server }
         ensures regions { self.new.regions ≡ self.old.regions }
     {
-        let mut taken = 0;
+        let mut received = 0;
         'relays: for index in 0..self.sockets.relays.len() {
-            taken += self.take_from_relay(index);
+            received += self.receive_from_relay(index);
         }
-        taken
+        received
     }
 
     /// Takes a datagram from a relay's socket to the circuit that it is for.
-    fn take_from_relay(&mut self, index: usize) -> u32
+    fn receive_from_relay(&mut self, index: usize) -> u32
         requires { index < length self.old.topology.relays }
         ensures most { result ≤ 1 }
         ensures topology { self.new.topology ≡ self.old.topology }
         ensures parts { parts_in self.new.server ≡ parts_in self.old.server }
         ensures regions { self.new.regions ≡ self.old.regions }
     {
-        let Some((len, from)) = self.sockets.relays[index].take(&mut self.room) else {
+        let Some((len, from)) = self.sockets.relays[index].receive(&mut self.buffer) else {
             return 0;
         };
         let Some(relay) = RelayNo::new(index) else {
             unreachable!()
         };
-        let datagram = &self.room[..len];
-        self.counts.take();
+        let datagram = &self.buffer[..len];
+        self.counts.count_received();
         match self.relays.down(relay, from, datagram, &mut self.out) {
             Ok((circuit, dest)) => self.deliver(circuit, dest),
-            Err(why) => self.counts.drop_for(why),
+            Err(why) => self.counts.count_dropped(why),
         }
         1
     }
@@ -282,12 +292,12 @@ impl Access {
     {
         let sockets = &self.sockets.circuits[circuit.index()];
         let frame = self.out.as_slice();
-        self.room[0] = destination_byte(dest);
-        self.room[1..frame.len() + 1].copy_from_slice(frame);
+        self.buffer[0] = destination_byte(dest);
+        self.buffer[1..frame.len() + 1].copy_from_slice(frame);
         let sent = sockets
-            .port4
-            .send(&self.room[..frame.len() + 1], sockets.client4);
-        self.counts.deliver(sent);
+            .socket4
+            .send(&self.buffer[..frame.len() + 1], sockets.client4);
+        self.counts.count_delivered(sent);
     }
 
     /// Drops a DHCPv6 datagram, which is not served.
@@ -296,8 +306,8 @@ impl Access {
         ensures parts { parts_in self.new.server ≡ parts_in self.old.server }
         ensures regions { self.new.regions ≡ self.old.regions }
     {
-        self.counts.take();
-        self.counts.drop_for(Discard::NotServed);
+        self.counts.count_received();
+        self.counts.count_dropped(Discard::NotServed);
     }
 }
 

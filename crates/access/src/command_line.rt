@@ -3,11 +3,11 @@ ghost use Rattle.std.specs.Prelude.{◌≡◌, ◌↔◌, ℕ, Bool, List, Some,
 ghost use Rattle.std.specs.Prelude.{string_bytes, IfOk, IfErr, IfSome, IsNone};
 ghost use Rattle.clap.specs.Words.{app_of, rule_of, found_of, first_value, rows_of};
 ghost use Rattle.programs.specs.CommandLine.{IsNumber, IsRefused};
-ghost use Rattle.access.specs.Words.{config_rule, disk_rule, turns_rule, format_rule, port_rule};
+ghost use Rattle.access.specs.Words.{disk_rule, turns_rule, format_rule, port_rule};
 ghost use Rattle.access.specs.Words.{bare_app, access_app, HasValues, Spells, SpellsSomething};
 
 use clap::{Arg, ArgAction, ArgMatches, Command};
-use programs::Refusal;
+use programs::{Refusal, config_arg};
 use std::alloc::{AllocError, Global};
 
 const MAX_TURNS: u32 = 1_000_000;
@@ -29,16 +29,6 @@ pub struct AccessWords<'a> {
     pub format: bool,
     /// The first port of the first circuit, 1024 to 65472.
     pub port: u16,
-}
-
-fn config_arg<'a>(alloc: Global) -> Arg<'a>
-    ensures rule { rule_of result ≡ config_rule }
-    ensures local { result.global ≡ false }
-{
-    Arg::new(alloc, "CONFIG")
-        .action(ArgAction::Set)
-        .required(true)
-        .help("The configuration, a TOML file")
 }
 
 fn disk_arg<'a>(alloc: Global) -> Arg<'a>

@@ -93,109 +93,76 @@ fn defaults(rt: HostRuntime) -> Result<(), AllocError> {
     Ok(())
 }
 
+/// Words at the limits, and the values that they spell.
+const AT_LIMITS: [([&str; 7], AccessWords<'static>); 3] = [
+    (
+        [
+            "a.toml", "--disk", "leases", "--turns", "1000000", "--port", "20000",
+        ],
+        AccessWords {
+            turns: 1_000_000,
+            ..VALUES
+        },
+    ),
+    (
+        [
+            "a.toml", "--disk", "leases", "--turns", "1", "--port", "1024",
+        ],
+        AccessWords {
+            port: 1024,
+            ..VALUES
+        },
+    ),
+    (
+        [
+            "a.toml", "--disk", "leases", "--turns", "1", "--port", "65472",
+        ],
+        AccessWords {
+            port: 65472,
+            ..VALUES
+        },
+    ),
+];
+
+/// Words that are refused: beyond a limit, one that lacks, one too many, no number, twice, unknown.
+const REFUSED: [&[&str]; 18] = [
+    &["a.toml", "--disk", "leases", "--turns", "0"],
+    &["a.toml", "--disk", "leases", "--turns", "1000001"],
+    &[
+        "a.toml", "--disk", "leases", "--turns", "1", "--port", "1023",
+    ],
+    &[
+        "a.toml", "--disk", "leases", "--turns", "1", "--port", "65473",
+    ],
+    &[],
+    &["--disk", "leases", "--turns", "1"],
+    &["a.toml", "--turns", "1"],
+    &["a.toml", "--disk", "leases"],
+    &["a.toml", "b.toml", "--disk", "leases", "--turns", "1"],
+    &["a.toml", "--disk", "leases", "--turns"],
+    &["a.toml", "--disk", "leases", "--turns", "-1"],
+    &["a.toml", "--disk", "leases", "--turns", "many"],
+    &["a.toml", "--disk", "leases", "--turns=1", "--turns=2"],
+    &["a.toml", "--disk", "leases", "--turns=1", "--port="],
+    &["a.toml", "--disk", "leases", "--turns=1", "--format=yes"],
+    &["a.toml", "--disk", "leases", "--turns=1", "--quota=2"],
+    &["a.toml", "--help"],
+    &["--version"],
+];
+
 #[test]
 fn limits(rt: HostRuntime) -> Result<(), AllocError> {
-    let alloc = rt.alloc();
-    let words = ["a.toml", "--disk", "leases", "--turns", "1000000"];
-    assert!(rt;
-        gives(
-            alloc,
-            &words,
-            AccessWords {
-                turns: 1_000_000,
-                ..VALUES
-            }
-        )?
-    );
-    let words = [
-        "a.toml", "--disk", "leases", "--turns", "1", "--port", "1024",
-    ];
-    assert!(rt;
-        gives(
-            alloc,
-            &words,
-            AccessWords {
-                port: 1024,
-                ..VALUES
-            }
-        )?
-    );
-    let words = [
-        "a.toml", "--disk", "leases", "--turns", "1", "--port", "65472",
-    ];
-    assert!(rt;
-        gives(
-            alloc,
-            &words,
-            AccessWords {
-                port: 65472,
-                ..VALUES
-            }
-        )?
-    );
-    assert!(rt; are_refused(alloc, &["a.toml", "--disk", "leases", "--turns", "0"])?);
-    assert!(rt; are_refused(alloc, &["a.toml", "--disk", "leases", "--turns", "1000001"])?);
-    assert!(rt;
-        are_refused(
-            alloc,
-            &[
-                "a.toml", "--disk", "leases", "--turns", "1", "--port", "1023"
-            ]
-        )?
-    );
-    assert!(rt;
-        are_refused(
-            alloc,
-            &[
-                "a.toml", "--disk", "leases", "--turns", "1", "--port", "65473"
-            ]
-        )?
-    );
+    for (words, values) in AT_LIMITS.iter() {
+        assert!(rt; gives(rt.alloc(), words, *values)?);
+    }
     Ok(())
 }
 
 #[test]
 fn refused_words(rt: HostRuntime) -> Result<(), AllocError> {
-    let alloc = rt.alloc();
-    assert!(rt; are_refused(alloc, &[])?);
-    assert!(rt; are_refused(alloc, &["--disk", "leases", "--turns", "1"])?);
-    assert!(rt; are_refused(alloc, &["a.toml", "--turns", "1"])?);
-    assert!(rt; are_refused(alloc, &["a.toml", "--disk", "leases"])?);
-    assert!(rt;
-        are_refused(
-            alloc,
-            &["a.toml", "b.toml", "--disk", "leases", "--turns", "1"]
-        )?
-    );
-    assert!(rt; are_refused(alloc, &["a.toml", "--disk", "leases", "--turns"])?);
-    assert!(rt; are_refused(alloc, &["a.toml", "--disk", "leases", "--turns", "-1"])?);
-    assert!(rt; are_refused(alloc, &["a.toml", "--disk", "leases", "--turns", "many"])?);
-    assert!(rt;
-        are_refused(
-            alloc,
-            &["a.toml", "--disk", "leases", "--turns=1", "--turns=2"]
-        )?
-    );
-    assert!(rt;
-        are_refused(
-            alloc,
-            &["a.toml", "--disk", "leases", "--turns=1", "--port="]
-        )?
-    );
-    assert!(rt;
-        are_refused(
-            alloc,
-            &["a.toml", "--disk", "leases", "--turns=1", "--format=yes"]
-        )?
-    );
-    assert!(rt;
-        are_refused(
-            alloc,
-            &["a.toml", "--disk", "leases", "--turns=1", "--quota=2"]
-        )?
-    );
-    assert!(rt; are_refused(alloc, &["a.toml", "--help"])?);
-    assert!(rt; are_refused(alloc, &["--version"])?);
+    for words in REFUSED.iter() {
+        assert!(rt; are_refused(rt.alloc(), words)?);
+    }
     Ok(())
 }
 

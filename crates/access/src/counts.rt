@@ -1,4 +1,8 @@
-//! What became of the datagrams that were taken.
+//! What became of the datagrams that were received.
+ghost use Rattle.std.specs.Prelude.{◌≡◌, if◌then◌else◌, replicate, slice_index};
+ghost use Rattle.types.specs.Discard.{number_of};
+ghost use Rattle.access.specs.Counts.{one_more, one_more_for};
+
 use std::fmt;
 use types::Discard;
 
@@ -35,11 +39,11 @@ const REASONS: [Discard; 26] = [
 /// One more than the greatest number of a reason.
 const NUMBERS: usize = 35;
 
-/// What became of the datagrams that were taken from the sockets. Each count stays at its greatest value.
+/// What became of the datagrams that were received from the sockets. Each count stays at its greatest value.
 #[derive(Clone, Copy, Debug)]
 pub struct Counts {
-    /// Datagrams that were taken from a socket.
-    pub taken: u64,
+    /// Datagrams that were received from a socket.
+    pub received: u64,
     /// Frames that a relay sent on to the server.
     pub relayed: u64,
     /// Datagrams that the server answered.
@@ -51,14 +55,23 @@ pub struct Counts {
     dropped: [u64; NUMBERS],
 }
 
-fn count(counter: &mut u64) {
+fn count(counter: &mut u64)
+    ensures { counter.new ≡ one_more counter.old }
+{
     *counter = counter.saturating_add(1);
 }
 
 impl Counts {
-    pub fn new() -> Counts {
+    pub fn new() -> Counts
+        ensures received { result.received ≡ 0 }
+        ensures relayed { result.relayed ≡ 0 }
+        ensures answered { result.answered ≡ 0 }
+        ensures delivered { result.delivered ≡ 0 }
+        ensures unsent { result.unsent ≡ 0 }
+        ensures dropped { result.dropped ≡ replicate 35 0 }
+    {
         Counts {
-            taken: 0,
+            received: 0,
             relayed: 0,
             answered: 0,
             delivered: 0,
@@ -67,45 +80,57 @@ impl Counts {
         }
     }
 
-    /// One more datagram was taken from a socket.
-    pub fn take(&mut self) {
-        count(&mut self.taken);
+    /// One more datagram was received from a socket.
+    pub fn count_received(&mut self)
+        ensures { self.new ≡ record self.old { received = one_more self.old.received } }
+    {
+        count(&mut self.received);
     }
 
     /// One more frame was to go on to the server, and the system took it or not.
-    pub fn relay(&mut self, sent: bool) {
-        count(if sent {
-            &mut self.relayed
+    pub fn count_relayed(&mut self, sent: bool)
+        ensures { self.new ≡ (if sent then record self.old { relayed = one_more self.old.relayed } else record self.old { unsent = one_more self.old.unsent }) }
+    {
+        if sent {
+            count(&mut self.relayed);
         } else {
-            &mut self.unsent
-        });
+            count(&mut self.unsent);
+        }
     }
 
     /// One more datagram was answered, and the system took the answer or not.
-    pub fn answer(&mut self, sent: bool) {
-        count(if sent {
-            &mut self.answered
+    pub fn count_answered(&mut self, sent: bool)
+        ensures { self.new ≡ (if sent then record self.old { answered = one_more self.old.answered } else record self.old { unsent = one_more self.old.unsent }) }
+    {
+        if sent {
+            count(&mut self.answered);
         } else {
-            &mut self.unsent
-        });
+            count(&mut self.unsent);
+        }
     }
 
     /// One more frame was to go to a circuit, and the system took it or not.
-    pub fn deliver(&mut self, sent: bool) {
-        count(if sent {
-            &mut self.delivered
+    pub fn count_delivered(&mut self, sent: bool)
+        ensures { self.new ≡ (if sent then record self.old { delivered = one_more self.old.delivered } else record self.old { unsent = one_more self.old.unsent }) }
+    {
+        if sent {
+            count(&mut self.delivered);
         } else {
-            &mut self.unsent
-        });
+            count(&mut self.unsent);
+        }
     }
 
     /// One more datagram was dropped for this reason.
-    pub fn drop_for(&mut self, why: Discard) {
+    pub fn count_dropped(&mut self, why: Discard)
+        ensures { self.new ≡ record self.old { dropped = one_more_for why self.old.dropped } }
+    {
         count(&mut self.dropped[usize::from(why.number())]);
     }
 
     /// How many datagrams were dropped for this reason.
-    pub fn dropped(&self, why: Discard) -> u64 {
+    pub fn dropped(&self, why: Discard) -> u64
+        ensures { result ≡ slice_index self.now.dropped (number_of why) }
+    {
         self.dropped[usize::from(why.number())]
     }
 }
@@ -115,8 +140,8 @@ impl fmt::Display for Counts {
     fn fmt<W: fmt::Write>(&self, f: &mut fmt::Formatter<W>) -> fmt::Result {
         write!(
             f,
-            "{} datagrams taken, {} sent on to the server, {} answered, {} sent on to a circuit, {} not sent",
-            self.taken, self.relayed, self.answered, self.delivered, self.unsent
+            "{} datagrams received, {} sent on to the server, {} answered, {} sent on to a circuit, {} not sent",
+            self.received, self.relayed, self.answered, self.delivered, self.unsent
         )?;
         for why in REASONS {
             let dropped = self.dropped(why);

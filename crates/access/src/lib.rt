@@ -7,7 +7,7 @@ mod command_line;
 #[cfg(test)]
 mod command_line_tests;
 mod counts;
-mod port;
+mod datagram_socket;
 mod sockets;
 mod store;
 #[cfg(test)]

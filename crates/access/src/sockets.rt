@@ -1,7 +1,7 @@
 //! The sockets of relay, server and circuits.
 ghost use Rattle.std.specs.Prelude.{◌≡◌, ◌≤◌, ◌<◌, length, All, IfOk};
 
-use crate::port::Port;
+use crate::datagram_socket::DatagramSocket;
 use config::Config;
 use std::alloc::{AllocError, Global};
 use std::io;
@@ -32,9 +32,9 @@ pub enum SocketFault {
 #[derive(Drop)]
 pub struct CircuitSockets {
     /// Where its DHCPv4 frames come from, and those towards it leave.
-    pub port4: Port,
+    pub socket4: DatagramSocket,
     /// The same for DHCPv6.
-    pub port6: Port,
+    pub socket6: DatagramSocket,
     /// Where its DHCPv4 frames go.
     pub client4: Source,
     /// The index of its relay.
@@ -46,9 +46,9 @@ pub struct CircuitSockets {
 #[derive(Drop)]
 pub struct Sockets {
     pub circuits: Vec<CircuitSockets>,
-    pub listen4: Port,
-    pub listen6: Port,
-    pub relays: Vec<Port>,
+    pub listen4: DatagramSocket,
+    pub listen6: DatagramSocket,
+    pub relays: Vec<DatagramSocket>,
 }
 
 /// A port on loopback.
@@ -59,8 +59,8 @@ pub(crate) fn local(port: u16) -> Source {
     }
 }
 
-fn bind<R: Net>(net: &R, at: Source) -> Result<Port, SocketFault> {
-    match Port::bind(net, at) {
+fn bind<R: Net>(net: &R, at: Source) -> Result<DatagramSocket, SocketFault> {
+    match DatagramSocket::bind(net, at) {
         Ok(port) => Ok(port),
         Err(error) if error.kind() == io::ErrorKind::OutOfMemory => Err(SocketFault::Memory),
         Err(_) => Err(SocketFault::Bind(at)),
@@ -74,8 +74,8 @@ impl CircuitSockets {
         ensures { IfOk result (λ circuit. circuit.relay ≡ relay) }
     {
         Ok(CircuitSockets {
-            port4: bind(net, local(first))?,
-            port6: bind(net, local(first + 1))?,
+            socket4: bind(net, local(first))?,
+            socket6: bind(net, local(first + 1))?,
             client4: local(first + 2),
             relay,
         })
@@ -109,7 +109,11 @@ fn bind_circuits<R: Net>(
     Ok(circuits)
 }
 
-fn bind_relays<R: Net>(net: &R, alloc: Global, config: &Config) -> Result<Vec<Port>, SocketFault>
+fn bind_relays<R: Net>(
+    net: &R,
+    alloc: Global,
+    config: &Config,
+) -> Result<Vec<DatagramSocket>, SocketFault>
     ensures count { IfOk result (λ relays. length relays.items ≡ length config.now.relays) }
 {
     let Ok(mut relays) = Vec::with_capacity(alloc, config.relay_count()) else {

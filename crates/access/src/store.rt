@@ -1,11 +1,12 @@
 //! The file that keeps the leases.
-ghost use Rattle.std.specs.Prelude.{◌≡◌, ◌≤◌, ◌<◌, ◌+◌, ℕ, Some, IfOk, slice_get};
-ghost use Rattle.config.specs.declared.settings.CircuitConfig.{CircuitConfig};
+ghost use Rattle.std.specs.Prelude.{◌≡◌, ◌≤◌, ◌<◌, ◌+◌, ◌*◌, ℕ, true, length, Some, IfOk, OnOk, slice_get};
+ghost use Rattle.settings.specs.declared.settings.CircuitConfig.{CircuitConfig};
+ghost use Rattle.lease_disk.specs.Crash.{IsFormatted};
 
 use crate::sockets::MAX_SERVED;
 use config::Config;
 use dispatch::region_count;
-use lease_disk::{FileDisk, FileFault, format};
+use lease_disk::{Disk, FileDisk, FileFault, format};
 use std::fs::File;
 use std::rt::Files;
 use thiserror::Error;
@@ -24,17 +25,19 @@ pub enum StoreFault {
 }
 
 /// Formats the region of each circuit.
-fn format_regions(config: &Config, disk: &mut FileDisk) -> Result<(), StoreFault>
-    requires { (c : ℕ) (circuit : CircuitConfig) → slice_get config.now.circuits c ≡ Some circuit → circuit.region < disk.old.regions }
-    ensures { disk.new.regions ≡ disk.old.regions }
+fn format_regions<D: Disk>(config: &Config, disk: &mut D) -> Result<(), StoreFault>
+    requires { (c : ℕ) (circuit : CircuitConfig) → slice_get config.now.circuits c ≡ Some circuit → circuit.region < D.count disk.old }
+    ensures formatted { D.tells ≡ true → OnOk result ((c : ℕ) (circuit : CircuitConfig) → slice_get config.now.circuits c ≡ Some circuit → IsFormatted (D.state disk.new circuit.region)) }
+    ensures count { D.count disk.new ≡ D.count disk.old }
+    ensures writes { OnOk result (D.writes disk.new ≡ D.writes disk.old + 2 * length config.now.circuits) }
 {
     'circuits: for index in 0..config.circuit_count() {
         let Some(circuit) = Circuit::new(index) else {
             unreachable!()
         };
-        if format(config.at(circuit).region, disk).is_err() {
+        let Ok(()) = format(config.at(circuit).region, disk) else {
             return Err(StoreFault::Format);
-        }
+        };
     }
     Ok(())
 }
@@ -58,6 +61,7 @@ pub fn format_store<R: Files<File = File>>(
     path: &str,
     config: &Config,
 ) -> Result<FileDisk, StoreFault>
+    ensures writes { length config.now.circuits ≤ 16 → IfOk result (λ disk. disk.writes ≡ 2 * length config.now.circuits) }
     ensures regions { IfOk result (λ disk. (c : ℕ) (circuit : CircuitConfig) → slice_get config.now.circuits c ≡ Some circuit → circuit.region < disk.regions) }
 {
     let mut disk = FileDisk::create(rt, path, region_count(config)).map_err(fault_of)?;

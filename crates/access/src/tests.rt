@@ -2,7 +2,7 @@
 ghost use Rattle.std.specs.Prelude.{◌≤◌};
 
 use super::*;
-use crate::port::{Port, ROOM};
+use crate::datagram_socket::{BUFFER, DatagramSocket};
 use crate::sockets::local;
 use config::Config;
 use fixtures::{ONE_CIRCUIT, TWO_CIRCUITS, client_frame, offer};
@@ -10,7 +10,7 @@ use std::fs::OpenOptions;
 use std::os::unix::fs::FileExt;
 use std::test::Fail;
 use std::{env, fs, process};
-use types::{Addr4, Discard, Kind4, Moment, Source};
+use types::{Addr4, Circuit, Discard, Kind4, Moment, Source};
 
 /// A folder of a test's own, with nothing in it.
 fn new_folder(rt: &HostRuntime, test: &str) -> Result<String, Fail> {
@@ -95,7 +95,7 @@ struct Bench {
     store: String,
     config: Config,
     access: Access,
-    client: Port,
+    client: DatagramSocket,
     port: u16,
 }
 
@@ -111,7 +111,7 @@ impl Bench {
         let config = config_at(rt, text, first)?;
         let disk = format_store(rt, store.as_str(), &config)?;
         let access = Access::open(rt, rt.alloc(), &config, disk, port)?;
-        let client = Port::bind(rt, local(port + 2))?;
+        let client = DatagramSocket::bind(rt, local(port + 2))?;
         Ok(Bench {
             folder,
             store,
@@ -167,15 +167,15 @@ fn a_discover_is_offered(rt: HostRuntime) -> Result<(), Fail> {
     let config = Config::read(rt.alloc(), ONE_CIRCUIT)?;
     let disk = format_store(&rt, store.as_str(), &config)?;
     let mut access = Access::open(&rt, rt.alloc(), &config, disk, 20000)?;
-    let client = Port::bind(&rt, local(20002))?;
+    let client = DatagramSocket::bind(&rt, local(20002))?;
     let frame = client_frame(Kind4::Discover, 1, &[]);
     assert!(rt; client.send(frame.as_slice(), local(20000)));
     assert_eq!(rt; access.turn(moment(100)), 3);
-    let mut room = [0; ROOM];
-    assert_eq!(rt; client.take(&mut room), Some((301, local(20000))));
-    assert_eq!(rt; room[0], 1);
-    assert_eq!(rt; &room[1..301], offer(1).as_slice());
-    assert_eq!(rt; client.take(&mut room), None);
+    let mut buffer = [0; BUFFER];
+    assert_eq!(rt; client.receive(&mut buffer), Some((301, local(20000))));
+    assert_eq!(rt; buffer[0], 1);
+    assert_eq!(rt; &buffer[1..301], offer(1).as_slice());
+    assert_eq!(rt; client.receive(&mut buffer), None);
     assert_eq!(rt; access.turn(moment(101)), 0);
     fs::remove_dir_all(&rt, folder.as_str())?;
     Ok(())
@@ -184,22 +184,28 @@ fn a_discover_is_offered(rt: HostRuntime) -> Result<(), Fail> {
 #[test]
 fn a_lease_outlives_its_server(rt: HostRuntime) -> Result<(), Fail> {
     let mut bench = Bench::new(&rt, "lease", ONE_CIRCUIT, 21000)?;
-    let mut room = [0; ROOM];
+    let mut buffer = [0; BUFFER];
     for (kind, options, now) in [
         (Kind4::Discover, &[][..], 100),
         (Kind4::Request, SELECT, 101),
     ] {
         let frame = client_frame(kind, 1, options);
         assert_eq!(rt; bench.exchange(frame.as_slice(), now), 3);
-        assert_eq!(rt; bench.client.take(&mut room), Some((301, local(21010))));
+        assert_eq!(rt;
+            bench.client.receive(&mut buffer),
+            Some((301, local(21010)))
+        );
     }
     let mut bench = bench.reopened(&rt, 21010)?;
     let frame = client_frame(Kind4::Request, 1, REBOOT);
     assert_eq!(rt; bench.exchange(frame.as_slice(), 102), 3);
-    assert_eq!(rt; bench.client.take(&mut room), Some((301, local(21010))));
+    assert_eq!(rt;
+        bench.client.receive(&mut buffer),
+        Some((301, local(21010)))
+    );
     // an ACK of 10.0.0.10
-    assert_eq!(rt; &room[17..21], [10, 0, 0, 10].as_slice());
-    assert_eq!(rt; &room[241..244], [53, 1, 5].as_slice());
+    assert_eq!(rt; &buffer[17..21], [10, 0, 0, 10].as_slice());
+    assert_eq!(rt; &buffer[241..244], [53, 1, 5].as_slice());
     bench.close(&rt)
 }
 
@@ -228,16 +234,16 @@ fn survives(bench: &mut Bench, len: usize, found: [u64; 4]) -> bool
     for port in [21110, 21100, 21102] {
         bench.client.send(&bytes[..len], local(port));
     }
-    let mut room = [0; ROOM];
+    let mut buffer = [0; BUFFER];
     if bench.access.turn(moment(100)) != 3
         || dropped(&bench.access, reasons) != found
-        || bench.client.take(&mut room).is_some()
+        || bench.client.receive(&mut buffer).is_some()
     {
         return false;
     }
     let frame = client_frame(Kind4::Discover, 1, &[]);
     bench.exchange(frame.as_slice(), 100) == 3
-        && bench.client.take(&mut room) == Some((301, local(21110)))
+        && bench.client.receive(&mut buffer) == Some((301, local(21110)))
 }
 
 #[test]
@@ -261,25 +267,28 @@ fn dhcpv6_is_not_served(rt: HostRuntime) -> Result<(), Fail> {
     }
     assert_eq!(rt; bench.access.turn(moment(100)), 2);
     assert_eq!(rt; bench.access.counts().dropped(Discard::NotServed), 2);
-    assert_eq!(rt; bench.access.counts().taken, 2);
+    assert_eq!(rt; bench.access.counts().received, 2);
     bench.close(&rt)
 }
 
 #[test]
 fn frames_leave_from_their_circuits_socket(rt: HostRuntime) -> Result<(), Fail> {
     let mut bench = Bench::new(&rt, "two", TWO_CIRCUITS, 21400)?;
-    let second = Port::bind(&rt, local(21416))?;
+    let second = DatagramSocket::bind(&rt, local(21416))?;
     let frame = client_frame(Kind4::Discover, 1, &[]);
-    let mut room = [0; ROOM];
+    let mut buffer = [0; BUFFER];
     assert!(rt; second.send(frame.as_slice(), local(21414)));
     assert_eq!(rt; bench.exchange(frame.as_slice(), 100), 4);
     assert_eq!(rt; bench.access.turn(moment(100)), 2);
-    assert_eq!(rt; bench.client.take(&mut room), Some((301, local(21410))));
-    assert_eq!(rt; &room[17..21], [10, 0, 0, 10].as_slice());
-    assert_eq!(rt; second.take(&mut room), Some((301, local(21414))));
-    assert_eq!(rt; &room[17..21], [10, 0, 1, 10].as_slice());
-    assert_eq!(rt; bench.client.take(&mut room), None);
-    assert_eq!(rt; second.take(&mut room), None);
+    assert_eq!(rt;
+        bench.client.receive(&mut buffer),
+        Some((301, local(21410)))
+    );
+    assert_eq!(rt; &buffer[17..21], [10, 0, 0, 10].as_slice());
+    assert_eq!(rt; second.receive(&mut buffer), Some((301, local(21414))));
+    assert_eq!(rt; &buffer[17..21], [10, 0, 1, 10].as_slice());
+    assert_eq!(rt; bench.client.receive(&mut buffer), None);
+    assert_eq!(rt; second.receive(&mut buffer), None);
     bench.close(&rt)
 }
 
@@ -291,9 +300,9 @@ fn a_client_that_does_not_listen(rt: HostRuntime) -> Result<(), Fail> {
     for _ in 0..3000 {
         assert_eq!(rt; bench.exchange(frame.as_slice(), 100), 3);
     }
-    let mut room = [0; ROOM];
+    let mut buffer = [0; BUFFER];
     for _ in 0..3000 {
-        let _ = bench.client.take(&mut room);
+        let _ = bench.client.receive(&mut buffer);
     }
     // and more frames than it keeps for the relay
     for _ in 0..3000 {
@@ -301,18 +310,21 @@ fn a_client_that_does_not_listen(rt: HostRuntime) -> Result<(), Fail> {
     }
     for _ in 0..3000 {
         bench.access.turn(moment(100));
-        let _ = bench.client.take(&mut room);
+        let _ = bench.client.receive(&mut buffer);
     }
-    assert_eq!(rt; bench.client.take(&mut room), None);
+    assert_eq!(rt; bench.client.receive(&mut buffer), None);
     assert_eq!(rt; bench.exchange(frame.as_slice(), 100), 3);
-    assert_eq!(rt; bench.client.take(&mut room), Some((301, local(21510))));
+    assert_eq!(rt;
+        bench.client.receive(&mut buffer),
+        Some((301, local(21510)))
+    );
     bench.close(&rt)
 }
 
 #[test]
 fn a_store_that_gets_shorter(rt: HostRuntime) -> Result<(), Fail> {
     let mut bench = Bench::new(&rt, "shorter", ONE_CIRCUIT, 21600)?;
-    let mut room = [0; ROOM];
+    let mut buffer = [0; BUFFER];
     let discover = client_frame(Kind4::Discover, 1, &[]);
     assert_eq!(rt; bench.exchange(discover.as_slice(), 100), 3);
     let file = OpenOptions::new()
@@ -323,9 +335,12 @@ fn a_store_that_gets_shorter(rt: HostRuntime) -> Result<(), Fail> {
     let request = client_frame(Kind4::Request, 1, SELECT);
     assert_eq!(rt; bench.exchange(request.as_slice(), 101), 3);
     file.set_len(100)?;
-    assert!(rt; bench.client.take(&mut room).is_some());
-    assert_eq!(rt; bench.client.take(&mut room), Some((301, local(21610))));
-    assert_eq!(rt; &room[241..244], [53, 1, 5].as_slice());
+    assert!(rt; bench.client.receive(&mut buffer).is_some());
+    assert_eq!(rt;
+        bench.client.receive(&mut buffer),
+        Some((301, local(21610)))
+    );
+    assert_eq!(rt; &buffer[241..244], [53, 1, 5].as_slice());
     let Bench {
         folder,
         store,
@@ -401,13 +416,17 @@ fn a_damaged_region(rt: HostRuntime) -> Result<(), Fail> {
         .open(&rt, bench.store.as_str())?;
     file.write_all_at(&[2; 32768], 0)?;
     let mut bench = bench.reopened(&rt, 21810)?;
-    let second = Port::bind(&rt, local(21816))?;
+    for (index, open) in [(0, false), (1, true), (2, false)] {
+        let is_open = Circuit::new(index).is_some_and(|circuit| bench.access.is_open(circuit));
+        assert_eq!(rt; is_open, open);
+    }
+    let second = DatagramSocket::bind(&rt, local(21816))?;
     let frame = client_frame(Kind4::Discover, 1, &[]);
-    let mut room = [0; ROOM];
+    let mut buffer = [0; BUFFER];
     assert_eq!(rt; bench.exchange(frame.as_slice(), 100), 2);
     assert_eq!(rt; bench.access.counts().dropped(Discard::CircuitClosed), 1);
     assert!(rt; second.send(frame.as_slice(), local(21814)));
     assert_eq!(rt; bench.access.turn(moment(100)), 3);
-    assert_eq!(rt; second.take(&mut room), Some((301, local(21814))));
+    assert_eq!(rt; second.receive(&mut buffer), Some((301, local(21814))));
     bench.close(&rt)
 }

@@ -72,8 +72,9 @@ fn moment(rt: &HostRuntime, before: Moment) -> Moment {
     Moment::new(since.as_secs()).unwrap_or(before)
 }
 
-/// Reports in one line what is served: the circuits, their ports and the file with the leases.
-fn report_start(rt: &HostRuntime, config: &Config, values: &AccessWords<'_>) {
+/// Reports in one line what is served: the circuits, those that are closed as such, their ports and the
+/// file with the leases.
+fn report_start(rt: &HostRuntime, config: &Config, access: &Access, values: &AccessWords<'_>) {
     let count = config.circuit_count();
     for index in 0..count {
         let Some(circuit) = Circuit::new(index) else {
@@ -82,6 +83,9 @@ fn report_start(rt: &HostRuntime, config: &Config, values: &AccessWords<'_>) {
         let before = if index == 0 { "serving " } else { ", " };
         let id = text_of(config.at(circuit).id.as_bytes());
         let _ = eprint!(rt; "{before}{id}");
+        if !access.is_open(circuit) {
+            let _ = eprint!(rt; " (closed: its region is damaged or can't be read)");
+        }
     }
     let first = usize::from(values.port);
     let last = first + 4 * count - 1;
@@ -113,7 +117,7 @@ fn run(rt: &HostRuntime, values: AccessWords<'_>) -> u8
         Ok(access) => access,
         Err(fault) => return refuse(rt, &config, values.disk, fault),
     };
-    report_start(rt, &config, &values);
+    report_start(rt, &config, &access, &values);
     let mut now = Moment::first();
     for _ in 0..values.turns {
         now = moment(rt, now);

@@ -1,11 +1,16 @@
-use Rattle.std.proofs.Common.{◌≡◌, ◌≤◌, length}
+use Rattle.std.proofs.Common.{◌≡◌, ◌≤◌, ◌<◌, ◌+◌, ◌*◌, ℕ, true, length}
+use Rattle.std.specs.Prelude.{Some, slice_get}
 use Rattle.config.specs.Rules.{IsSound}
+use Rattle.settings.specs.declared.settings.CircuitConfig.{CircuitConfig}
+use Rattle.lease_disk.specs.Crash.{IsFormatted}
 use Rattle.access.proofs.store.format_regions.Given as goal
 
 abbrev pub invariant-circuits : goal.invariant-circuits
-invariant-circuits l = record {
+invariant-circuits g l = record {
   index : l.index ≤ l.index-end;
   end : l.index-end ≡ length l.config.circuits;
   sound : IsSound l.config;
-  regions : l.disk.regions ≡ l.fn.disk.regions;
+  count : g.D.Disk.count l.disk ≡ g.D.Disk.count l.fn.disk;
+  writes : g.D.Disk.writes l.disk ≡ g.D.Disk.writes l.fn.disk + 2 * l.index;
+  formatted : g.D.Disk.tells ≡ true → (c : ℕ) (circuit : CircuitConfig) → c < l.index → slice_get l.config.circuits c ≡ Some circuit → IsFormatted (g.D.Disk.state l.disk circuit.region);
 }

@@ -1,13 +1,13 @@
 use Rattle.std.proofs.Common.{◌≡◌, ◌≤◌, length}
 use Rattle.dispatch.specs.ServerValue.{parts_in}
-use Rattle.access.proofs.access.Access.take_from_relays.Given as goal
+use Rattle.access.proofs.access.Access.receive_from_relays.Given as goal
 
 abbrev pub invariant-relays : goal.invariant-relays
 invariant-relays l = record {
   index : l.index ≤ l.index-end;
   end : l.index-end ≡ length l.self.topology.relays;
   few : l.index-end ≤ 8;
-  taken : l.taken ≤ l.index;
+  received : l.received ≤ l.index;
   topology : l.self.topology ≡ l.fn.self.topology;
   parts : parts_in l.self.server ≡ parts_in l.fn.self.server;
   regions : l.self.regions ≡ l.fn.self.regions;

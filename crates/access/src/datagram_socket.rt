@@ -5,13 +5,13 @@ use std::io;
 use std::net::{IpAddr, Ipv4Addr, Net, SocketAddr, UdpSocket};
 use types::{Addr4, MAX_DATAGRAM, Source};
 
-/// Room for a datagram. It has one byte more than the longest that is served, so that of a longer one
+/// The length of the buffer that a datagram is received in. It has one byte more than the longest that is served, so that of a longer one
 /// enough arrives to be refused for its length.
-pub const ROOM: usize = MAX_DATAGRAM + 1;
+pub const BUFFER: usize = MAX_DATAGRAM + 1;
 
 /// A bound UDP socket that never waits.
 #[derive(Drop)]
-pub struct Port {
+pub struct DatagramSocket {
     socket: UdpSocket,
 }
 
@@ -32,20 +32,20 @@ fn source_of(address: SocketAddr) -> Option<Source> {
     }
 }
 
-impl Port {
+impl DatagramSocket {
     /// Binds a socket to this address and port.
-    pub fn bind<R: Net>(net: &R, at: Source) -> io::Result<Port> {
+    pub fn bind<R: Net>(net: &R, at: Source) -> io::Result<DatagramSocket> {
         let socket = UdpSocket::bind(net, system_address(at))?;
         socket.set_nonblocking(true)?;
-        Ok(Port { socket })
+        Ok(DatagramSocket { socket })
     }
 
-    /// Takes a datagram that waits, if there is one: how many bytes of it are in `room`, and where it
+    /// Receives a datagram that waits, if there is one: how many bytes of it are in `buffer`, and where it
     /// came from. One whose receive fails is lost.
-    pub fn take(&self, room: &mut [u8; ROOM]) -> Option<(usize, Source)>
-        ensures { IfSome result (λ taken. taken.0 ≤ 1281) }
+    pub fn receive(&self, buffer: &mut [u8; BUFFER]) -> Option<(usize, Source)>
+        ensures { IfSome result (λ received. received.0 ≤ 1281) }
     {
-        let Ok((len, from)) = self.socket.recv_from(room) else {
+        let Ok((len, from)) = self.socket.recv_from(buffer) else {
             return None;
         };
         Some((len, source_of(from)?))

@@ -1,13 +1,13 @@
 use Rattle.std.proofs.Common.{◌≡◌, ◌≤◌, ◌*◌, length}
 use Rattle.dispatch.specs.ServerValue.{parts_in}
-use Rattle.access.proofs.access.Access.take_from_circuits.Given as goal
+use Rattle.access.proofs.access.Access.receive_from_circuits.Given as goal
 
 abbrev pub invariant-circuits : goal.invariant-circuits
 invariant-circuits l = record {
   index : l.index ≤ l.index-end;
   end : l.index-end ≡ length l.self.topology.circuits;
   few : l.index-end ≤ 16;
-  taken : l.taken ≤ 2 * l.index;
+  received : l.received ≤ 2 * l.index;
   topology : l.self.topology ≡ l.fn.self.topology;
   parts : parts_in l.self.server ≡ parts_in l.fn.self.server;
   regions : l.self.regions ≡ l.fn.self.regions;

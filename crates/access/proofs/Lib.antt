@@ -1,0 +1,2 @@
+pub mod ClockLemmas
+pub mod FormatLemmas
