@@ -3,40 +3,43 @@ use Rattle.std.proofs.Common.{◌≡◌, ◌≢◌, ◌⊎◌, inl, inr, ◌-◌
 use Rattle.std.specs.Prelude.{All, AllPairs, slice_get, ⊤}
 use Rattle.std.specs.Int.{w32, w128, from_be_bytes}
 use Rattle.std.proofs.lemmas.Option.{slice_get_within, same_Some, slice_get-get_or}
-use Rattle.config.specs.declared.limit_fault.LimitFault.{LimitFault}
-use Rattle.config.specs.declared.limit_fault.LimitFault.TheVariants.{Relays, Circuits, Server, Relay, Circuit}
-use Rattle.config.specs.declared.limit_fault.CircuitLimit.{CircuitLimit}
-use Rattle.config.specs.declared.limit_fault.CircuitLimit.TheVariants.{Number, Form, PastLast4, PastLast6}
-use Rattle.config.specs.declared.names.ServerKey.{ServerKey}
-use Rattle.config.specs.declared.names.ServerKey.TheVariants.{Listen4, Listen6, Duid}
-use Rattle.config.specs.declared.names.RelayKey.{RelayKey}
-use Rattle.config.specs.declared.names.RelayKey.TheVariants.{Name, Source as SourceKey}
-use Rattle.config.specs.declared.names.CircuitKey.{CircuitKey}
-use Rattle.config.specs.declared.names.CircuitKey.TheVariants.{Id, Relay as RelayOf, Region, Lease, Gateway4, Prefix4, First4, Count4, Dns, Link6, First6, Count6}
-use Rattle.config.specs.declared.settings.ServerConfig.{ServerConfig}
-use Rattle.config.specs.declared.settings.RelayConfig.{RelayConfig}
-use Rattle.config.specs.declared.settings.CircuitConfig.{CircuitConfig}
+use Rattle.settings.specs.declared.limit_fault.LimitFault.{LimitFault}
+use Rattle.settings.specs.declared.limit_fault.LimitFault.TheVariants.{Relays, Circuits, Server, Relay, Circuit}
+use Rattle.settings.specs.declared.limit_fault.CircuitLimit.{CircuitLimit}
+use Rattle.settings.specs.declared.limit_fault.CircuitLimit.TheVariants.{Number, Form, PastLast4, PastLast6}
+use Rattle.settings.specs.declared.names.ServerKey.{ServerKey}
+use Rattle.settings.specs.declared.names.ServerKey.TheVariants.{Listen4, Listen6, Duid}
+use Rattle.settings.specs.declared.names.RelayKey.{RelayKey}
+use Rattle.settings.specs.declared.names.RelayKey.TheVariants.{Name, Source as SourceKey}
+use Rattle.settings.specs.declared.names.CircuitKey.{CircuitKey}
+use Rattle.settings.specs.declared.names.CircuitKey.TheVariants.{Id, Relay as RelayOf, Region, Lease, Gateway4, Prefix4, First4, Count4, Dns, Link6, First6, Count6}
+use Rattle.settings.specs.declared.settings.ServerConfig.{ServerConfig}
+use Rattle.settings.specs.declared.settings.RelayConfig.{RelayConfig}
+use Rattle.settings.specs.declared.settings.CircuitConfig.{CircuitConfig}
 use Rattle.toml.specs.Data.{Members}
 use Rattle.toml.specs.Parse.{parse_document}
-use Rattle.config.specs.declared.names.CircuitRef.{CircuitRef}
-use Rattle.config.specs.declared.names.TableName.TheVariants.{Server as ServerTable, Relay as RelayTable, Circuit as CircuitTable}
-use Rattle.config.specs.declared.fault.Location.{Location}
-use Rattle.config.specs.declared.fault.Location.TheVariants.{Table, Server as AtServer, Relay as AtRelay, Circuit as AtCircuit}
-use Rattle.config.specs.declared.fault.SameName.{SameName}
-use Rattle.config.specs.declared.fault.SameName.TheVariants.{Ids, Names, Sources, Listens, Listen4 as RelayListen4, Listen6 as RelayListen6}
-use Rattle.config.specs.declared.fault.ConfigFault.{ConfigFault}
-use Rattle.config.specs.declared.fault.ConfigFault.TheVariants.{Memory, Text, Missing, Limit, IdTwice, RegionTwice, Overlap4, Overlap6, GatewayInPool, OffSubnet}
+use Rattle.settings.specs.declared.names.CircuitRef.{CircuitRef}
+use Rattle.settings.specs.declared.names.TableName.TheVariants.{Server as ServerTable, Relay as RelayTable, Circuit as CircuitTable}
+use Rattle.settings.specs.declared.fault.Location.{Location}
+use Rattle.settings.specs.declared.fault.Location.TheVariants.{Table, Server as AtServer, Relay as AtRelay, Circuit as AtCircuit}
+use Rattle.settings.specs.declared.fault.SameName.{SameName}
+use Rattle.settings.specs.declared.fault.SameName.TheVariants.{Ids, Names, Sources, Listens, Listen4 as RelayListen4, Listen6 as RelayListen6}
+use Rattle.settings.specs.declared.fault.ConfigFault.{ConfigFault}
+use Rattle.settings.specs.declared.fault.ConfigFault.TheVariants.{Memory, Text, Missing, Limit, IdTwice, RegionTwice, Overlap4, Overlap6, GatewayInPool, OffSubnet}
 use Rattle.types.specs.Addr.{number4, number6}
-use Rattle.config.specs.Broken.{IsEntry, AreSame, ShareRegion, SharePool4, SharePool6, IsGatewayInPool, IsOffSubnet, IsEntryOf, HasServerKey, HasRelayKey, HasCircuitKey, RelayLacks, CircuitLacks, IsMissing, IsServerUnfit, IsRelayUnfit, IsCircuitUnfit, IsUnfit}
-use Rattle.config.specs.Fault.{number_of}
-use Rattle.config.specs.Keys.{AllThere, HasServerKeys, HasRelayKeys, HasCircuitKeys, HasAll}
-use Rattle.config.specs.Field.{Field, Missing, Other, Value, HasValue}
-use Rattle.config.specs.Rules.{Settings, IsInPool4, IsInPool6, IsOnSubnet, NamesDiffer, RegionsDiffer, Pools4Apart, Pools6Apart, GatewaysOutside, OnSubnets, KeepsRules}
-use Rattle.config.specs.Tables.{ServerKeys, RelayKeys, CircuitKeys, Tables, tables_of}
-use Rattle.config.specs.Valid.{EachReads, IsRead, IsValid, BreaksRule, IsLeastRule, IsConfig, IsFaultOf}
-use Rattle.config.specs.Values.{IsNameAt, IsServer, IsRelay, IsCircuit}
-use Rattle.config.proofs.ReadLemmas.{entry_there, reads_length}
-use Rattle.config.proofs.SameLemmas.{meet, same_address, same_address6, same_number, same_name, same_id, same_duid, same_source, same_addresses}
+use Rattle.config.specs.Broken.{AreSame, ShareRegion, SharePool4, SharePool6, IsGatewayInPool, IsOffSubnet}
+use Rattle.settings.specs.Broken.{IsEntry, IsEntryOf, HasServerKey, HasRelayKey, HasCircuitKey, RelayLacks, CircuitLacks, IsMissing, IsServerUnfit, IsRelayUnfit, IsCircuitUnfit, IsUnfit}
+use Rattle.settings.specs.Fault.{number_of}
+use Rattle.settings.specs.Keys.{AllThere, HasServerKeys, HasRelayKeys, HasCircuitKeys, HasAll}
+use Rattle.settings.specs.Field.{Field, Missing, Other, Value, HasValue}
+use Rattle.config.specs.Rules.{IsInPool4, IsInPool6, IsOnSubnet, NamesDiffer, RegionsDiffer, Pools4Apart, Pools6Apart, GatewaysOutside, OnSubnets, KeepsRules}
+use Rattle.settings.specs.Settings.{Settings}
+use Rattle.settings.specs.Tables.{ServerKeys, RelayKeys, CircuitKeys, Tables, tables_of}
+use Rattle.config.specs.Valid.{IsValid, BreaksRule, IsLeastRule, IsConfig, IsFaultOf}
+use Rattle.settings.specs.Read.{EachReads, IsRead}
+use Rattle.settings.specs.Values.{IsNameAt, IsServer, IsRelay, IsCircuit}
+use Rattle.settings.proofs.ReadLemmas.{entry_there, reads_length}
+use Rattle.settings.proofs.SameLemmas.{meet, same_address, same_address6, same_number, same_name, same_id, same_duid, same_source, same_addresses}
 
 -- rule 43: what is unfit is not read
 

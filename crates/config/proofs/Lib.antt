@@ -1,9 +1,5 @@
-pub mod EntryLemmas
+pub mod FaultLemmas
 pub mod LawLemmas
-pub mod NameLemmas
 pub mod PartLemmas
 pub mod PoolLemmas
-pub mod ReadLemmas
 pub mod RuleLemmas
-pub mod SameLemmas
-pub mod TextLemmas

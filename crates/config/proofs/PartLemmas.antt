@@ -11,10 +11,11 @@ use Rattle.types.specs.Addr.{number4, is_unspecified}
 use Rattle.types.specs.declared.addr.Addr4.{Addr4}
 use Rattle.types.specs.declared.addr.Source.{Source}
 use Rattle.config.specs.CircuitPart.{CircuitPart, IsPart, part_of, source_at, parts_of, part_in}
-use Rattle.config.specs.Rules.{Settings, IsHost, IsOnSubnet, IsSound, IsWithinLimits}
-use Rattle.config.specs.declared.settings.CircuitConfig.{CircuitConfig}
-use Rattle.config.specs.declared.settings.RelayConfig.{RelayConfig}
-use Rattle.config.specs.declared.settings.ServerConfig.{ServerConfig}
+use Rattle.config.specs.Rules.{IsHost, IsOnSubnet, IsSound}
+use Rattle.settings.specs.Settings.{Settings, IsWithinLimits}
+use Rattle.settings.specs.declared.settings.CircuitConfig.{CircuitConfig}
+use Rattle.settings.specs.declared.settings.RelayConfig.{RelayConfig}
+use Rattle.settings.specs.declared.settings.ServerConfig.{ServerConfig}
 
 -- what holds of each element holds of the one at an index
 all_at : {X : Type 0} (P : X → Type 0) (xs : List X) (i : ℕ) (x : X) → slice_get xs i ≡ Some x → All P xs → P x

@@ -6,9 +6,9 @@ use Rattle.types.specs.Pool4.{IsPool4, PoolValue}
 use Rattle.types.specs.CircuitId.{IsCircuitId}
 use Rattle.types.specs.declared.addr.Addr4.{Addr4}
 use Rattle.types.specs.declared.addr.Source.{Source}
-use Rattle.config.specs.declared.settings.RelayConfig.{RelayConfig}
-use Rattle.config.specs.declared.settings.CircuitConfig.{CircuitConfig}
-use Rattle.config.specs.Rules.{Settings}
+use Rattle.settings.specs.declared.settings.RelayConfig.{RelayConfig}
+use Rattle.settings.specs.declared.settings.CircuitConfig.{CircuitConfig}
+use Rattle.settings.specs.Settings.{Settings}
 
 pub record CircuitPart : Type 0 where
   -- the circuit id, and where its relay's datagrams come from

@@ -1,11 +1,5 @@
 pub mod Broken
 pub mod CircuitPart
-pub mod Fault
-pub mod Field
-pub mod Keys
 pub mod Pairs
 pub mod Rules
-pub mod Tables
-pub mod Texts
 pub mod Valid
-pub mod Values

@@ -1,33 +1,17 @@
 -- When a text is a configuration, and which fault it has otherwise.
-use Rattle.std.specs.Prelude.{◌≡◌, ℕ, ◌≤◌, List, [], ◌∷◌, length, Some, None, ⊤}
+use Rattle.std.specs.Prelude.{◌≡◌, ℕ, List, Some, None, ⊤}
 use Rattle.toml.specs.Data.{Members}
 use Rattle.toml.specs.Parse.{parse_document}
-use Rattle.config.specs.declared.limit_fault.LimitFault.{LimitFault}
-use Rattle.config.specs.declared.fault.ConfigFault.{ConfigFault}
-use Rattle.config.specs.declared.fault.ConfigFault.TheVariants.{Memory, Text, Missing, Limit, IdTwice, RegionTwice, Overlap4, Overlap6, GatewayInPool, OffSubnet}
-use Rattle.config.specs.Broken.{AreSame, ShareRegion, SharePool4, SharePool6, IsGatewayInPool, IsOffSubnet, IsMissing, IsUnfit}
-use Rattle.config.specs.Field.{Field, HasValue}
-use Rattle.config.specs.Keys.{HasAll}
-use Rattle.config.specs.Rules.{Settings, NamesDiffer, RegionsDiffer, Pools4Apart, Pools6Apart, GatewaysOutside, KeepsRules}
-use Rattle.config.specs.Tables.{Tables, tables_of}
-use Rattle.config.specs.Values.{IsServer, IsRelay, IsCircuit}
-
--- the entries stand for the values, one for one
-abbrev pub EachReads : {A B : Type 0} → (A → B → Type 0) → List (Field A) → List B → Type 0
-EachReads P [] [] = ⊤
-EachReads P (f ∷ fs) (b ∷ bs) = HasValue f (λ a. P a b) × EachReads P fs bs
-EachReads P (f ∷ fs) [] = ⊥
-EachReads P [] (b ∷ bs) = ⊥
-
--- the settings are the values at the keys, each within its limits
-pub record IsRead (tables : Tables) (settings : Settings) : Type 0 where
-  pub server : HasValue tables.server (λ keys. IsServer keys settings.server)
-  pub relays : HasValue tables.relays (λ entries. EachReads IsRelay entries settings.relays)
-  pub some_relay : 1 ≤ length settings.relays
-  pub few_relays : length settings.relays ≤ 8
-  pub circuits : HasValue tables.circuits (λ entries. EachReads (IsCircuit settings.relays) entries settings.circuits)
-  pub some_circuit : 1 ≤ length settings.circuits
-  pub few_circuits : length settings.circuits ≤ 1024
+use Rattle.settings.specs.declared.limit_fault.LimitFault.{LimitFault}
+use Rattle.settings.specs.declared.fault.ConfigFault.{ConfigFault}
+use Rattle.settings.specs.declared.fault.ConfigFault.TheVariants.{Memory, Text, Missing, Limit, IdTwice, RegionTwice, Overlap4, Overlap6, GatewayInPool, OffSubnet}
+use Rattle.config.specs.Broken.{AreSame, ShareRegion, SharePool4, SharePool6, IsGatewayInPool, IsOffSubnet}
+use Rattle.settings.specs.Broken.{IsMissing, IsUnfit}
+use Rattle.settings.specs.Keys.{HasAll}
+use Rattle.settings.specs.Read.{IsRead}
+use Rattle.settings.specs.Settings.{Settings}
+use Rattle.config.specs.Rules.{NamesDiffer, RegionsDiffer, Pools4Apart, Pools6Apart, GatewaysOutside, KeepsRules}
+use Rattle.settings.specs.Tables.{Tables, tables_of}
 
 -- no rule is broken, and these are the values
 pub record IsValid (tables : Tables) (settings : Settings) : Type 0 where
@@ -65,13 +49,6 @@ pub record BreaksRule (tables : Tables) (fault : ConfigFault) : Type 0 where
 pub record BreaksLimit (tables : Tables) (fault : LimitFault) : Type 0 where
   pub all : HasAll tables
   pub broken : IsUnfit tables fault
-
--- No values are read: the fault names one outside its limits, or memory was refused, which says nothing
--- of the tables.
-abbrev pub IsUnread : Tables → ConfigFault → Type 0
-IsUnread tables Memory = ⊤
-IsUnread tables (Limit limit) = IsUnfit tables limit
-IsUnread tables fault = ⊥
 
 -- the fault is the least rule that the tables break
 abbrev pub IsLeastBroken : Tables → ConfigFault → Type 0

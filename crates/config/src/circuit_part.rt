@@ -5,9 +5,8 @@ ghost use Rattle.types.specs.Pool4.{IsPool4};
 ghost use Rattle.config.specs.CircuitPart.{IsPart, part_in, parts_of, pool4_of};
 
 use crate::config::Config;
-use crate::limits::MAX_DNS;
-use crate::settings::{CircuitConfig, copy_of};
 use arrayvec::ArrayVec;
+use settings::{CircuitConfig, MAX_DNS, copy_of};
 use std::alloc::{AllocError, Global};
 use std::marker::Model;
 use types::{Addr4, Circuit, CircuitId, MAX_DUID, Pool4, Source};

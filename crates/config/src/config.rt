@@ -3,14 +3,15 @@ ghost use Rattle.std.specs.Prelude.{◌≡◌, ◌<◌, ◌≤◌, length, All, 
 ghost use Rattle.toml.specs.Parse.{parse_document};
 ghost use Rattle.toml.specs.View.{table_view};
 ghost use Rattle.types.specs.declared.limits.TheConstants.{MAX_RELAYS, MAX_CIRCUITS};
-ghost use Rattle.config.specs.Fault.{number_of};
-ghost use Rattle.config.specs.Rules.{IsSound, IsServerWithinLimits, IsRelayWithinLimits, IsWithinLimits, IsIdAt, KeepsRules};
+ghost use Rattle.settings.specs.Fault.{number_of};
+ghost use Rattle.config.specs.Rules.{IsSound, IsIdAt, KeepsRules};
+ghost use Rattle.settings.specs.Settings.{IsServerWithinLimits, IsRelayWithinLimits, IsWithinLimits};
 ghost use Rattle.config.specs.Valid.{IsConfig, IsFaultOf};
 
-use crate::fault::ConfigFault;
-use crate::reading::{Values, tables_in, values_in};
 use crate::rules::rules;
-use crate::settings::{CircuitConfig, RelayConfig, ServerConfig};
+use settings::{
+    CircuitConfig, ConfigFault, RelayConfig, ServerConfig, Values, tables_in, values_in,
+};
 use std::alloc::Global;
 use std::marker::Model;
 use toml::Table;
@@ -25,7 +26,8 @@ pub struct Config {
 }
 
 impl Model for Config {
-    ghost use Rattle.config.specs.Rules.{Settings, IsSound};
+    ghost use Rattle.config.specs.Rules.{IsSound};
+    ghost use Rattle.settings.specs.Settings.{Settings};
 
     ghost Value = { Settings };
 

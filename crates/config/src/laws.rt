@@ -1,10 +1,10 @@
 //! What the definitions of configurations and faults say together, for every text.
 ghost use Rattle.std.specs.Prelude.{◌≡◌, ◌≢◌, ℕ, List};
-ghost use Rattle.config.specs.Fault.{number_of};
-ghost use Rattle.config.specs.Rules.{Settings};
+ghost use Rattle.settings.specs.Fault.{number_of};
+ghost use Rattle.settings.specs.Settings.{Settings};
 ghost use Rattle.config.specs.Valid.{IsConfig, IsFaultOf};
-ghost use Rattle.config.specs.declared.fault.ConfigFault.{ConfigFault};
-ghost use Rattle.config.specs.declared.fault.ConfigFault.TheVariants.{Memory};
+ghost use Rattle.settings.specs.declared.fault.ConfigFault.{ConfigFault};
+ghost use Rattle.settings.specs.declared.fault.ConfigFault.TheVariants.{Memory};
 
 /// A text is a configuration with one list of values at most.
 pub fn one_configuration()

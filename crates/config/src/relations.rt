@@ -4,7 +4,7 @@ ghost use Rattle.types.specs.Addr.{number4, number6};
 ghost use Rattle.config.specs.Rules.{IsInPool4, IsInPool6};
 
 use crate::pairs::Relation;
-use crate::settings::{CircuitConfig, RelayConfig};
+use settings::{CircuitConfig, RelayConfig};
 use types::Source;
 
 /// Two circuits have the same id.

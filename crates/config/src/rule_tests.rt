@@ -1,10 +1,9 @@
 //! The rules about several relays and circuits.
 ghost use Rattle.std.specs.Prelude.{All};
 ghost use Rattle.std.specs.Bool.{OnTrue};
-ghost use Rattle.config.specs.Rules.{IsWithinLimits};
+ghost use Rattle.settings.specs.Settings.{IsWithinLimits};
 
 use super::*;
-use crate::pools::is_within6;
 use crate::rules::rules;
 use arrayvec::ArrayVec;
 use std::alloc::AllocError;
@@ -29,7 +28,7 @@ fn is_within(relays: &[RelayConfig], circuit: &CircuitConfig) -> bool
         && circuit.dns.len() <= 4
         && 1 <= circuit.count6
         && circuit.count6 <= 16
-        && is_within6(circuit.first6, circuit.count6)
+        && u128::from(circuit.count6) - 1 <= u128::MAX - circuit.first6.number()
 }
 
 /// Whether each circuit's values are within their limits.

@@ -1,18 +1,19 @@
 //! The rules about a configuration's values, for any number of relays and circuits.
 ghost use Rattle.std.specs.Prelude.{◌≡◌, ◌≢◌, ◌+◌, ◌<◌, List, length, slice_get, All, AllPairs, Some, OnOk, IfErr, IfSome, IfNone};
 ghost use Rattle.config.specs.Broken.{AreSame, AreTwo, AreTwoRelays, HasSource, IsGatewayInPool, IsOffSubnet};
-ghost use Rattle.config.specs.Rules.{Settings, IsOnSubnet, IsWithinLimits, NamesDiffer, GatewaysOutside, KeepsRules};
+ghost use Rattle.config.specs.Rules.{IsOnSubnet, NamesDiffer, GatewaysOutside, KeepsRules};
+ghost use Rattle.settings.specs.Settings.{Settings, IsWithinLimits};
 ghost use Rattle.config.specs.Valid.{IsLeastRule};
 
-use crate::fault::{ConfigFault, SameName};
-use crate::names::{CircuitKey, CircuitRef};
 use crate::pairs::{Relation, first_of_all, first_pair, first_related};
 use crate::relations::{
     GatewayInPool4, IsSourceOf, LinkInPool6, SameId, SameRegion, SameRelayName, SameSource,
     SharedPool4, SharedPool6,
 };
-use crate::settings::{CircuitConfig, RelayConfig, ServerConfig};
 use crate::subnets::off_subnet;
+use settings::{
+    CircuitConfig, CircuitKey, CircuitRef, ConfigFault, RelayConfig, SameName, ServerConfig,
+};
 use types::Source;
 
 /// A circuit of the list, by its number and its id.

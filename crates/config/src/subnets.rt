@@ -3,10 +3,10 @@ ghost use Rattle.std.specs.Prelude.{◌≡◌, ◌≢◌, ℕ, ◌+◌, ◌/◌,
 ghost use Rattle.std.specs.Bool.{OnTrue, OnFalse};
 ghost use Rattle.types.specs.Addr.{number4, number6};
 ghost use Rattle.config.specs.Broken.{IsCircuitOf, IsOffSubnet};
-ghost use Rattle.config.specs.Rules.{Settings, IsInPool4, IsInPool6, IsHost, IsOnSubnet};
+ghost use Rattle.config.specs.Rules.{IsInPool4, IsInPool6, IsHost, IsOnSubnet};
+ghost use Rattle.settings.specs.Settings.{Settings};
 
-use crate::names::{CircuitKey, CircuitRef};
-use crate::settings::CircuitConfig;
+use settings::{CircuitConfig, CircuitKey, CircuitRef};
 
 /// Whether an address is a host's in the gateway's network.
 fn is_host(address: u64, gateway: u64, prefix: u8) -> bool

@@ -3,8 +3,9 @@ use Rattle.std.proofs.Common.{◌≡◌, ◌≢◌, ℕ, zero, suc, ◌<◌, Lis
 use Rattle.std.specs.Prelude.{Some, slice_get, AllPairs}
 use Rattle.std.proofs.lemmas.Option.{slice_get_within, get_or_from_slice_get, same_Some}
 use Rattle.config.specs.CircuitPart.{CircuitPart, part_of, parts_of, source_at}
-use Rattle.config.specs.Rules.{IsSound, Settings}
-use Rattle.config.specs.declared.settings.CircuitConfig.{CircuitConfig}
+use Rattle.config.specs.Rules.{IsSound}
+use Rattle.settings.specs.Settings.{Settings}
+use Rattle.settings.specs.declared.settings.CircuitConfig.{CircuitConfig}
 use Rattle.dispatch.specs.ServerValue.{RegionsDiffer}
 
 -- what is at an index of a mapped list comes from there

@@ -10,7 +10,7 @@ use Rattle.types.specs.declared.discard.Discard.TheVariants as reason
 use Rattle.v4_message.specs.Agent.{agent_of}
 use Rattle.v4_message.specs.Spelling.{MessageValue}
 use Rattle.config.specs.CircuitPart.{CircuitPart, parts_of}
-use Rattle.config.specs.Rules.{Settings}
+use Rattle.settings.specs.Settings.{Settings}
 use Rattle.relay.specs.SentFrame.{SentFrame}
 use Rattle.relay.specs.Up4.{relayed_up4}
 use Rattle.relay.specs.Down4.{◌>>=◌, is_named, reply_of, suboptions_in, reply_on_link, relayed_down4}

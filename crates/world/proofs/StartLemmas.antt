@@ -8,9 +8,10 @@ use Rattle.std.proofs.lemmas.List.Folds.{list_any_at}
 use Rattle.types.specs.Addr.{same_source}
 use Rattle.types.specs.declared.addr.Source.{Source}
 use Rattle.config.specs.CircuitPart.{CircuitPart, IsPart, part_of, source_at, part_in, parts_of}
-use Rattle.config.specs.Rules.{Settings, IsSound, IsWithinLimits}
-use Rattle.config.specs.declared.settings.CircuitConfig.{CircuitConfig}
-use Rattle.config.specs.declared.settings.RelayConfig.{RelayConfig}
+use Rattle.config.specs.Rules.{IsSound}
+use Rattle.settings.specs.Settings.{Settings, IsWithinLimits}
+use Rattle.settings.specs.declared.settings.CircuitConfig.{CircuitConfig}
+use Rattle.settings.specs.declared.settings.RelayConfig.{RelayConfig}
 use Rattle.dispatch.proofs.IndexLemmas.{of_map, same_index}
 use Rattle.dispatch.specs.Leases.{AreSynced, HasRegions, found_leases, recovered_book}
 use Rattle.dispatch.specs.ServerValue.{AreReady, RegionsDiffer, parts_in}

@@ -1,7 +1,7 @@
 -- The states of a world that was just opened.
 use Rattle.std.specs.Prelude.{◌≡◌, ℕ, List, length, Some, true}
 use Rattle.config.specs.CircuitPart.{CircuitPart, part_in}
-use Rattle.config.specs.Rules.{Settings}
+use Rattle.settings.specs.Settings.{Settings}
 use Rattle.dispatch.specs.Leases.{recovered_book}
 use Rattle.lease_disk.specs.Region.{Region}
 use Rattle.world.specs.Alone.{start}

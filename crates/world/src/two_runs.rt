@@ -1,7 +1,7 @@
 //! The headline for two runs.
 ghost use Rattle.std.specs.Prelude.{◌≡◌, ℕ, List, Some, true};
 ghost use Rattle.config.specs.CircuitPart.{CircuitPart, part_in};
-ghost use Rattle.config.specs.Rules.{Settings};
+ghost use Rattle.settings.specs.Settings.{Settings};
 ghost use Rattle.dispatch.specs.Leases.{recovered_book};
 ghost use Rattle.lease_disk.specs.Region.{Region};
 ghost use Rattle.relay.specs.Relays.{CircuitFrame};

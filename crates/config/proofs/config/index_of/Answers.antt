@@ -1,7 +1,7 @@
 use Rattle.std.proofs.Common.{arith, sym, ◌∙◌, ◌≡◌, below_more}
 use Rattle.std.proofs.lemmas.Bool.{false≢true}
 use Rattle.std.proofs.lemmas.Slice.Eq.{bytes_eq-Decides}
-use Rattle.config.proofs.NameLemmas.{is_name, not_name, name_within}
+use Rattle.settings.proofs.NameLemmas.{is_name, not_name, name_within}
 use Rattle.config.proofs.config.index_of.Goals as goal
 
 pub returns-then-eq-clause-found : goal.returns-then-eq-clause-found

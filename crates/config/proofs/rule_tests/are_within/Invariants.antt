@@ -1,6 +1,6 @@
 use Rattle.std.proofs.Common.{ℕ, ◌<◌, get_or}
-use Rattle.config.specs.Rules.{IsWithinLimits}
-use Rattle.config.specs.declared.settings.CircuitConfig.{CircuitConfig}
+use Rattle.settings.specs.Settings.{IsWithinLimits}
+use Rattle.settings.specs.declared.settings.CircuitConfig.{CircuitConfig}
 use Rattle.config.proofs.rule_tests.are_within.Given as goal
 
 abbrev pub invariant-loop-index : goal.invariant-loop-index

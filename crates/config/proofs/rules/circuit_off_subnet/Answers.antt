@@ -1,7 +1,7 @@
 use Rattle.std.proofs.Common.{below_more, subst}
 use Rattle.std.proofs.lemmas.List.{get_or_read}
 use Rattle.config.specs.Rules.{IsOnSubnet}
-use Rattle.config.specs.declared.settings.CircuitConfig.{CircuitConfig}
+use Rattle.settings.specs.declared.settings.CircuitConfig.{CircuitConfig}
 use Rattle.config.proofs.rules.circuit_off_subnet.Goals as goal
 
 pub loop-index-preserved : goal.loop-index-preserved

@@ -1,6 +1,6 @@
 use Rattle.std.proofs.Common.{refl}
 use Rattle.config.proofs.RuleLemmas.{pools4_apart, pools6_apart}
-use Rattle.config.specs.Rules.{Settings}
+use Rattle.settings.specs.Settings.{Settings}
 use Rattle.config.proofs.rules.rules.Goals as goal
 
 pub returns-in-Some-two_circuits-3-clause-err : goal.returns-in-Some-two_circuits-3-clause-err

@@ -1,6 +1,6 @@
 use Rattle.std.proofs.Common.{◌≡◌, ◌<◌, length, ap, arith, ◌∙◌}
 use Rattle.std.proofs.lemmas.List.{length-map}
-use Rattle.config.specs.Rules.{Settings}
+use Rattle.settings.specs.Settings.{Settings}
 use Rattle.relay.specs.Relays.{Topology}
 use Rattle.relay.proofs.tests.opened.Goals as goal
 

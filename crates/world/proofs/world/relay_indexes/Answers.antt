@@ -2,7 +2,7 @@ use Rattle.std.proofs.Common.{◌≡◌, ℕ, ◌+◌, List, [], ◌∷◌, ◌+
 use Rattle.std.specs.Prelude.{Some, slice_get}
 use Rattle.std.proofs.lemmas.List.{map-append, take_more}
 use Rattle.std.proofs.lemmas.Option.{slice_get_within, get_or_from_slice_get}
-use Rattle.config.specs.declared.settings.CircuitConfig.{CircuitConfig}
+use Rattle.settings.specs.declared.settings.CircuitConfig.{CircuitConfig}
 use Rattle.world.proofs.world.relay_indexes.Goals as goal
 
 pub circuits-preserved : goal.circuits-preserved

@@ -1,8 +1,8 @@
 use Rattle.std.proofs.Common.{List, subst}
-use Rattle.config.specs.declared.settings.CircuitConfig.{CircuitConfig}
-use Rattle.config.specs.declared.settings.RelayConfig.{RelayConfig}
+use Rattle.settings.specs.declared.settings.CircuitConfig.{CircuitConfig}
+use Rattle.settings.specs.declared.settings.RelayConfig.{RelayConfig}
 use Rattle.config.specs.Valid.{IsLeastRule}
-use Rattle.config.proofs.ReadLemmas.{broken_is_fault, unread_is_fault}
+use Rattle.config.proofs.FaultLemmas.{broken_is_fault, unread_is_fault}
 use Rattle.config.proofs.config.Config.read.Goals as goal
 
 pub returns-in-Err-values_in-clause-broken : goal.returns-in-Err-values_in-clause-broken

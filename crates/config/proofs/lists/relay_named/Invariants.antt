@@ -1,6 +1,0 @@
-use Rattle.std.proofs.Common.{ℕ, ◌<◌}
-use Rattle.config.specs.Values.{IsNameAt}
-use Rattle.config.proofs.lists.relay_named.Given as goal
-
-abbrev pub invariant-loop-i : goal.invariant-loop-i
-invariant-loop-i l = (k : ℕ) → k < l.i → IsNameAt l.relays k l.name → ⊥

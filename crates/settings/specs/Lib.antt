@@ -1,0 +1,9 @@
+pub mod Broken
+pub mod Fault
+pub mod Field
+pub mod Keys
+pub mod Read
+pub mod Settings
+pub mod Tables
+pub mod Texts
+pub mod Values

@@ -1,0 +1,136 @@
+//! The server, a relay and a circuit, each from its table.
+ghost use Rattle.std.specs.Prelude.{ℕ, ◌+◌, ◌^◌, ◌≤◌, ◌<◌, List, IfOk, IfErr};
+ghost use Rattle.toml.specs.View.{table_view};
+ghost use Rattle.types.specs.Addr.{number4, number6};
+ghost use Rattle.settings.specs.Broken.{IsServerUnfit, IsRelayUnfit, IsCircuitUnfit};
+ghost use Rattle.settings.specs.Field.{Field, HasValue, IsThere};
+ghost use Rattle.settings.specs.Keys.{HasCircuitKeys};
+ghost use Rattle.settings.specs.Tables.{RelayKeys, server_keys, relay_keys, circuit_keys};
+ghost use Rattle.settings.specs.Texts.{IsAddress, IsAddress6};
+ghost use Rattle.settings.specs.Values.{IsNumber, IsNameAt, IsServer, IsRelay, IsCircuit};
+
+use crate::limit_fault::CircuitLimit;
+use crate::limits::{MAX_PREFIX4, MIN_PREFIX4};
+use crate::lists::{addresses_at, duid_at, relay_at};
+use crate::names::{CircuitKey, RelayKey, ServerKey};
+use crate::pools::{is_within4, is_within6};
+use crate::settings::{CircuitConfig, RelayConfig, ServerConfig};
+use crate::values::{address_at, address6_at, id_at, name_at, number_at, source_at};
+use toml::Table;
+use types::{Addr4, Addr6, MAX_LEASE, MAX_POOL, MAX_REGION, MIN_LEASE};
+
+/// What was found, or this fault where nothing was.
+macro_rules! found {
+    ($found:expr, $fault:expr) => {
+        match $found {
+            Some(value) => value,
+            None => return Err($fault),
+        }
+    };
+}
+
+/// What was found at a key of a circuit, or that it is not of its form.
+macro_rules! formed {
+    ($found:expr, $key:ident) => {
+        found!($found, CircuitLimit::Form(CircuitKey::$key))
+    };
+}
+
+/// The number at a key of a circuit, or that it is outside its limits.
+macro_rules! number {
+    ($found:expr, $key:ident) => {
+        match $found {
+            Ok(number) => number,
+            Err(outside) => return Err(CircuitLimit::Number(CircuitKey::$key, outside)),
+        }
+    };
+}
+
+/// What the table says of the server, or a key whose value is not of its form.
+pub fn server_of(table: &Table) -> Result<ServerConfig, ServerKey>
+    ensures ok { IfOk result (IsServer (server_keys (table_view table.now))) }
+    ensures err { IfErr result (IsServerUnfit (server_keys (table_view table.now))) }
+{
+    let listen4 = found!(source_at(table, "listen4"), ServerKey::Listen4);
+    let listen6 = found!(source_at(table, "listen6"), ServerKey::Listen6);
+    let duid = found!(duid_at(table, "duid"), ServerKey::Duid);
+    Ok(ServerConfig {
+        listen4,
+        listen6,
+        duid,
+    })
+}
+
+/// What the table says of a relay, or a key whose value is not of its form.
+pub fn relay_of(table: &Table) -> Result<RelayConfig, RelayKey>
+    ensures ok { IfOk result (IsRelay (relay_keys (table_view table.now))) }
+    ensures err { IfErr result (IsRelayUnfit (relay_keys (table_view table.now))) }
+{
+    let name = found!(name_at(table, "name"), RelayKey::Name);
+    let source = found!(source_at(table, "source"), RelayKey::Source);
+    Ok(RelayConfig { name, source })
+}
+
+/// What the table says of a circuit behind one of the relays, or what is wrong with one of its values.
+pub fn circuit_of(table: &Table, relays: &[RelayConfig]) -> Result<CircuitConfig, CircuitLimit>
+    requires keys { (entries : List (Field RelayKeys)) × HasCircuitKeys entries (circuit_keys (table_view table.now)) }
+    requires relay { (index : ℕ) × (index < 8) × HasValue (circuit_keys (table_view table.now)).relay (IsNameAt relays.now index) }
+    ensures ok { IfOk result (IsCircuit relays.now (circuit_keys (table_view table.now))) }
+    ensures err { IfErr result (IsCircuitUnfit (circuit_keys (table_view table.now))) }
+{
+    let id = formed!(id_at(table, "id"), Id);
+    let Some(relay) = relay_at(table, "relay", relays) else {
+        unreachable!()
+    };
+    let region = number!(number_at(table, "region", 0, MAX_REGION), Region);
+    let lease = number!(number_at(table, "lease", MIN_LEASE, MAX_LEASE), Lease);
+    let gateway4 = formed!(address_at(table, "gateway4"), Gateway4);
+    let prefix4 = number_at(table, "prefix4", MIN_PREFIX4, MAX_PREFIX4);
+    let prefix4 = number!(prefix4, Prefix4);
+    let (first4, count4) = pool4_of(table)?;
+    let dns = formed!(addresses_at(table, "dns"), Dns);
+    let link6 = formed!(address6_at(table, "link6"), Link6);
+    let (first6, count6) = pool6_of(table)?;
+    Ok(CircuitConfig {
+        id,
+        relay,
+        region: region as u16,
+        lease,
+        gateway4,
+        prefix4: prefix4 as u8,
+        first4,
+        count4,
+        dns,
+        link6,
+        first6,
+        count6,
+    })
+}
+
+/// The first address of a circuit's DHCPv4 pool and how many it has.
+fn pool4_of(table: &Table) -> Result<(Addr4, u8), CircuitLimit>
+    requires { IsThere (circuit_keys (table_view table.now)).count4 }
+    ensures ok { IfOk result (λ p. HasValue (circuit_keys (table_view table.now)).first4 (λ text. IsAddress text p.0) × IsNumber (circuit_keys (table_view table.now)).count4 1 16 p.1 × (number4 p.0 + p.1 ≤ 2 ^ 32)) }
+    ensures err { IfErr result (IsCircuitUnfit (circuit_keys (table_view table.now))) }
+{
+    let first = formed!(address_at(table, "first4"), First4);
+    let count = number!(number_at(table, "count4", 1, MAX_POOL as u32), Count4);
+    if !is_within4(first, count as u8) {
+        return Err(CircuitLimit::PastLast4);
+    }
+    Ok((first, count as u8))
+}
+
+/// The first address of a circuit's DHCPv6 pool and how many it has.
+fn pool6_of(table: &Table) -> Result<(Addr6, u8), CircuitLimit>
+    requires { IsThere (circuit_keys (table_view table.now)).count6 }
+    ensures ok { IfOk result (λ p. HasValue (circuit_keys (table_view table.now)).first6 (λ text. IsAddress6 text p.0) × IsNumber (circuit_keys (table_view table.now)).count6 1 16 p.1 × (number6 p.0 + p.1 ≤ 2 ^ 128)) }
+    ensures err { IfErr result (IsCircuitUnfit (circuit_keys (table_view table.now))) }
+{
+    let first = formed!(address6_at(table, "first6"), First6);
+    let count = number!(number_at(table, "count6", 1, MAX_POOL as u32), Count6);
+    if !is_within6(first, count as u8) {
+        return Err(CircuitLimit::PastLast6);
+    }
+    Ok((first, count as u8))
+}

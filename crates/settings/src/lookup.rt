@@ -1,0 +1,59 @@
+//! What a table has at a key.
+ghost use Rattle.std.specs.Prelude.{◌≡◌, IfSome, IfNone, option_map};
+ghost use Rattle.toml.specs.Data.{get_member};
+ghost use Rattle.toml.specs.View.{view, table_view, array_view};
+ghost use Rattle.settings.specs.Field.{Value as Told, IsThere, text_at, integer_at, table_at, list_at};
+
+use toml::value::Array;
+use toml::{Table, Value};
+
+/// The value at a key.
+fn value_at<'a>(table: &'a Table, key: &str) -> Option<&'a Value>
+    ensures { option_map (λ v. view v.now) result ≡ get_member key.now (table_view table.now) }
+{
+    table.get(key)
+}
+
+/// The text at a key.
+pub fn text_at<'a>(table: &'a Table, key: &str) -> Option<&'a str>
+    ensures some { IfSome result (λ text. text_at key.now (table_view table.now) ≡ Told text.now) }
+    ensures none { IfNone result (¬ IsThere (text_at key.now (table_view table.now))) }
+{
+    match value_at(table, key) {
+        Some(Value::String(text)) => Some(text.as_str()),
+        _ => None,
+    }
+}
+
+/// The whole number at a key.
+pub fn integer_at(table: &Table, key: &str) -> Option<i64>
+    ensures some { IfSome result (λ n. integer_at key.now (table_view table.now) ≡ Told n) }
+    ensures none { IfNone result (¬ IsThere (integer_at key.now (table_view table.now))) }
+{
+    match value_at(table, key) {
+        Some(Value::Integer(n)) => Some(*n),
+        _ => None,
+    }
+}
+
+/// The table at a key.
+pub fn table_at<'a>(table: &'a Table, key: &str) -> Option<&'a Table>
+    ensures some { IfSome result (λ t. table_at key.now (table_view table.now) ≡ Told (table_view t.now)) }
+    ensures none { IfNone result (¬ IsThere (table_at key.now (table_view table.now))) }
+{
+    match value_at(table, key) {
+        Some(Value::Table(keys)) => Some(keys),
+        _ => None,
+    }
+}
+
+/// The list at a key.
+pub fn list_at<'a>(table: &'a Table, key: &str) -> Option<&'a Array>
+    ensures some { IfSome result (λ a. list_at key.now (table_view table.now) ≡ Told (array_view a.now)) }
+    ensures none { IfNone result (¬ IsThere (list_at key.now (table_view table.now))) }
+{
+    match value_at(table, key) {
+        Some(Value::Array(entries)) => Some(entries),
+        _ => None,
+    }
+}
