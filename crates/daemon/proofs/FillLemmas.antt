@@ -7,8 +7,9 @@ use Rattle.std.proofs.lemmas.Bool.{cases_eq}
 use Rattle.std.proofs.lemmas.List.{length-take-le}
 use Rattle.std.proofs.lemmas.Option.{same_Some, slice_get-map}
 use Rattle.config.specs.CircuitPart.{CircuitPart, part_in, part_of, source_at}
-use Rattle.config.specs.Rules.{IsSound, Settings}
-use Rattle.config.specs.declared.settings.CircuitConfig.{CircuitConfig}
+use Rattle.config.specs.Rules.{IsSound}
+use Rattle.settings.specs.Settings.{Settings}
+use Rattle.settings.specs.declared.settings.CircuitConfig.{CircuitConfig}
 use Rattle.dispatch.proofs.IndexLemmas.{regions_differ}
 use Rattle.dispatch.specs.Leases.{recovered_book}
 use Rattle.lease_disk.specs.Crash.{filled, formatted_region}
@@ -16,21 +17,21 @@ use Rattle.lease_disk.specs.Model.{ModelDiskValue, SameBut, region_of, state_of}
 use Rattle.lease_disk.specs.Region.{Region}
 use Rattle.world.specs.Alone.{Alone, start}
 use Rattle.world.specs.Headline.{CircuitState}
-use Rattle.daemon.specs.declared.accesslab.parse_line.ParsedLine.{ParsedLine}
-use Rattle.daemon.specs.declared.accesslab.parse_line.ParsedLine.TheVariants as parsed_line
+use Rattle.lab_text.specs.declared.parse_line.ParsedLine.{ParsedLine}
+use Rattle.lab_text.specs.declared.parse_line.ParsedLine.TheVariants as parsed_line
 use Rattle.lease_disk.specs.declared.image.Image.{Image}
-use Rattle.daemon.specs.declared.accesslab.line.LineEnd.TheVariants.{Newline, EndOfInput, TooLong}
+use Rattle.lab_text.specs.declared.line.LineEnd.TheVariants.{Newline, EndOfInput, TooLong}
 use Rattle.daemon.specs.Fills.{IsReady, AreReady, AreOver, AreFilled, FilledSoFar}
 use Rattle.daemon.specs.Follows.{AllRepresent, SoFar}
 use Rattle.daemon.specs.Lab.{LineResult, Refused, Applied, and_then, first_machines, is_event, lab_from, lab_output, machine_over, result_of}
-use Rattle.daemon.specs.Line.{Line, Bad, Fill, Ignored, Named, Tick, Restart, Stray, line_of_text}
-use Rattle.daemon.specs.LineEnd.{Fits, HoldsLine, HoldsLast, HoldsLong, IsLast, IsLine}
-use Rattle.daemon.specs.Lines.{lacks, lines_of}
-use Rattle.daemon.specs.ParsedLine.{IsRestart, line_of}
-use Rattle.daemon.proofs.CutLemmas.{line_before, line_begins, line_last}
+use Rattle.lab_text.specs.Line.{Line, Bad, Fill, Ignored, Named, Tick, Restart, Stray, line_of_text}
+use Rattle.lab_text.specs.LineEnd.{Fits, HoldsLine, HoldsLast, HoldsLong, IsLast, IsLine}
+use Rattle.lab_text.specs.Lines.{lacks, lines_of}
+use Rattle.lab_text.specs.ParsedLine.{IsRestart, line_of}
+use Rattle.lab_text.proofs.CutLemmas.{line_before, line_begins, line_last}
 use Rattle.daemon.proofs.LineResultLemmas.{long_is}
-use Rattle.daemon.proofs.ReadLemmas.{consumes_none, consumes_more}
-use Rattle.daemon.proofs.WriteLemmas.{appends_none}
+use Rattle.lab_text.proofs.ReadLemmas.{consumes_none, consumes_more}
+use Rattle.lab_text.proofs.WriteLemmas.{appends_none}
 
 -- ---- the regions
 

@@ -1,14 +1,5 @@
-pub mod AheadLemmas
 pub mod CauseLemmas
-pub mod CircuitLemmas
-pub mod CutLemmas
 pub mod FillLemmas
-pub mod NumberLemmas
-pub mod PartLemmas
-pub mod ReadLemmas
-pub mod RelayLemmas
-pub mod RestartLemmas
 pub mod RunLemmas
 pub mod StartLemmas
-pub mod WriteLemmas
 pub mod LineResultLemmas

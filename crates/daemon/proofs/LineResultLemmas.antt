@@ -4,8 +4,8 @@ use Rattle.std.specs.Prelude.{Option, Some, None, IfSome, slice_get, option_map}
 use Rattle.std.specs.Io.KnownBytes.{Appends}
 use Rattle.std.proofs.lemmas.List.{length-map}
 use Rattle.std.proofs.lemmas.Option.{same_Some, slice_get-map}
-use Rattle.config.specs.Rules.{Settings}
-use Rattle.config.specs.declared.settings.CircuitConfig.{CircuitConfig}
+use Rattle.settings.specs.Settings.{Settings}
+use Rattle.settings.specs.declared.settings.CircuitConfig.{CircuitConfig}
 use Rattle.world.specs.Alone.{Alone, Setup, Effect, Dropped, Gone, SentUp, SentDown, Framed, Done, alone_step}
 use Rattle.config.specs.CircuitPart.{CircuitPart, part_in, part_of, source_at}
 use Rattle.world.specs.Headline.{CircuitState, Represents, Steps, IsOutcome, Answers, after_seen}
@@ -16,18 +16,17 @@ use Rattle.world.specs.declared.outcome.Outcome.{Outcome}
 use Rattle.world.specs.declared.outcome.Outcome.TheVariants as outcome
 use Rattle.world.specs.Stray.{is_stray, stray_up_outcome, stray_down_outcome}
 use Rattle.relay.specs.Relays.{Topology, topology_of, is_relay, is_server}
-use Rattle.config.specs.declared.settings.RelayConfig.{RelayConfig}
 use Rattle.types.specs.declared.addr.Source.{Source}
 use Rattle.types.specs.declared.discard.Discard.TheVariants.{UnknownSource, NotServer}
 use Rattle.types.specs.declared.discard.Discard.{Discard}
 use Rattle.std.specs.Borrow.{Bor}
 use Rattle.lease_disk.specs.declared.image.Image.{Image}
 use Rattle.world.specs.Seen as sees
-use Rattle.daemon.specs.Fields.{image_in}
-use Rattle.daemon.specs.ParsedLine.{IsRestart}
+use Rattle.lab_text.specs.Fields.{image_in}
+use Rattle.lab_text.specs.ParsedLine.{IsRestart}
 use Rattle.daemon.specs.Lab.{part_result, line_result, moved, ticked, restarted}
-use Rattle.daemon.specs.Line.{Line, Bad, Stray, line_of_text, short_line}
-use Rattle.daemon.specs.Writing.{AppendsPrefix}
+use Rattle.lab_text.specs.Line.{Line, Bad, Stray, line_of_text, short_line}
+use Rattle.lab_text.specs.Writing.{AppendsPrefix}
 use Rattle.daemon.specs.Follows.{AllRepresent, Names, Follows}
 use Rattle.daemon.specs.Output.{effect_text, outcome_effect, with_newline}
 

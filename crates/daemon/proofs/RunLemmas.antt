@@ -5,22 +5,22 @@ use Rattle.std.specs.Io.KnownBytes.{Appends, Consumes, Keeps, IsAtEnd, prepend_k
 use Rattle.std.proofs.KnownBytes.{Consumes-kept, prepend_known-nil}
 use Rattle.std.proofs.lemmas.List.{length-take-le}
 use Rattle.std.proofs.lemmas.Option.{same_Some}
-use Rattle.config.specs.Rules.{Settings}
+use Rattle.settings.specs.Settings.{Settings}
 use Rattle.world.specs.Alone.{Alone}
 use Rattle.world.specs.Headline.{CircuitState}
-use Rattle.daemon.specs.declared.accesslab.line.LineEnd.TheVariants.{EndOfInput, TooLong}
-use Rattle.daemon.specs.LineEnd.{Fits, HoldsLast, HoldsLong, IsCounted, IsLine, IsLast, IsLong, IsCut}
+use Rattle.lab_text.specs.declared.line.LineEnd.TheVariants.{EndOfInput, TooLong}
+use Rattle.lab_text.specs.LineEnd.{Fits, HoldsLast, HoldsLong, IsCounted, IsLine, IsLast, IsLong, IsCut}
 use Rattle.daemon.specs.Lab.{Output, LineResult, Refused, Applied, line_result, and_then, lab_from, events_output}
-use Rattle.daemon.specs.Line.{line_of_text}
-use Rattle.daemon.specs.Lines.{lacks, lines_of}
+use Rattle.lab_text.specs.Line.{line_of_text}
+use Rattle.lab_text.specs.Lines.{lacks, lines_of}
 use Rattle.daemon.specs.Run.{IsPartial}
-use Rattle.daemon.specs.Writing.{AppendsPrefix}
+use Rattle.lab_text.specs.Writing.{AppendsPrefix}
 use Rattle.daemon.specs.Follows.{AllRepresent, IsRefusal, Follows, FollowsLast, SoFar, Ends, after}
 use Rattle.daemon.specs.Output.{bad_text}
-use Rattle.daemon.proofs.AheadLemmas.{all_consumed, held_consumed}
-use Rattle.daemon.proofs.CutLemmas.{line_before, line_begins, line_last}
-use Rattle.daemon.proofs.ReadLemmas.{consumes_none, consumes_more}
-use Rattle.daemon.proofs.WriteLemmas.{appends_none, appends_kept, appends_more, front_behind, front_longer}
+use Rattle.lab_text.proofs.AheadLemmas.{all_consumed, held_consumed}
+use Rattle.lab_text.proofs.CutLemmas.{line_before, line_begins, line_last}
+use Rattle.lab_text.proofs.ReadLemmas.{consumes_none, consumes_more}
+use Rattle.lab_text.proofs.WriteLemmas.{appends_none, appends_kept, appends_more, front_behind, front_longer}
 use Rattle.daemon.proofs.LineResultLemmas.{long_is}
 
 -- nothing was read, and any text may come

@@ -2,12 +2,12 @@
 use Rattle.std.specs.Prelude.{◌≡◌, ℕ, ◌<◌, Bool, true, List, [], ◌++◌, slice_get, Option, Some}
 use Rattle.std.specs.Io.KnownBytes.{Consumes}
 use Rattle.config.specs.CircuitPart.{CircuitPart, part_in}
-use Rattle.config.specs.Rules.{Settings}
-use Rattle.config.specs.declared.settings.CircuitConfig.{CircuitConfig}
+use Rattle.settings.specs.Settings.{Settings}
+use Rattle.settings.specs.declared.settings.CircuitConfig.{CircuitConfig}
 use Rattle.lease_disk.specs.Region.{Region, IsClean}
 use Rattle.world.specs.Alone.{Alone}
 use Rattle.daemon.specs.Lab.{LineResult, Refused, Applied, machine_over, lab_from, lab_output}
-use Rattle.daemon.specs.Lines.{lines_of}
+use Rattle.lab_text.specs.Lines.{lines_of}
 
 -- A region that can be read, of which no byte is unsynced.
 pub record IsReady (region : Region) : Type 0 where

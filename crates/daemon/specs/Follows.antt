@@ -2,15 +2,15 @@
 use Rattle.std.specs.Prelude.{◌≡◌, ℕ, ◌⊎◌, ◌==◌, if◌then◌else◌, true, List, ◌++◌, length, Option, Some, None}
 use Rattle.std.specs.Io.KnownBytes.{Appends, Consumes}
 use Rattle.config.specs.CircuitPart.{CircuitPart, part_in}
-use Rattle.config.specs.Rules.{Settings}
+use Rattle.settings.specs.Settings.{Settings}
 use Rattle.world.specs.Alone.{Alone}
 use Rattle.world.specs.Headline.{CircuitState, Represents}
 use Rattle.world.specs.Seen.{Seen, seen_of}
 use Rattle.world.specs.declared.event.Event.{Event}
 use Rattle.daemon.specs.Lab.{Output, LineResult, Refused, Applied, lab_from}
-use Rattle.daemon.specs.Lines.{lines_of}
+use Rattle.lab_text.specs.Lines.{lines_of}
 use Rattle.daemon.specs.Output.{bad_text}
-use Rattle.daemon.specs.Writing.{AppendsPrefix}
+use Rattle.lab_text.specs.Writing.{AppendsPrefix}
 
 -- each circuit's state represents its machine
 pub record AllRepresent (settings : Settings) (quota : ℕ) (states : List CircuitState) (machines : ℕ → Alone) : Type 0 where

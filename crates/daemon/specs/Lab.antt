@@ -1,7 +1,7 @@
 -- The output for a text of event lines, by one machine for each circuit.
 use Rattle.std.specs.Prelude.{ℕ, ◌+◌, ◌==◌, if◌then◌else◌, Bool, true, false, ◌||◌, List, [], ◌∷◌, ◌++◌, Option, Some, None}
 use Rattle.config.specs.CircuitPart.{CircuitPart, part_in}
-use Rattle.config.specs.Rules.{Settings}
+use Rattle.settings.specs.Settings.{Settings}
 use Rattle.dispatch.specs.Leases.{recovered_book}
 use Rattle.lease_disk.specs.declared.image.Image.{Image}
 use Rattle.lease_disk.specs.Crash.{filled, formatted_region}
@@ -9,9 +9,9 @@ use Rattle.lease_disk.specs.Region.{Region}
 use Rattle.world.specs.Alone.{Alone, Step, Dropped, Done, start, alone_step}
 use Rattle.world.specs.Seen.{Seen}
 use Rattle.world.specs.Seen as sees
-use Rattle.daemon.specs.Fields.{image_in}
-use Rattle.daemon.specs.Line.{Line, Ignored, Bad, Fill, Named, Tick, Restart, Stray, line_of_text}
-use Rattle.daemon.specs.Lines.{lines_of}
+use Rattle.lab_text.specs.Fields.{image_in}
+use Rattle.lab_text.specs.Line.{Line, Ignored, Bad, Fill, Named, Tick, Restart, Stray, line_of_text}
+use Rattle.lab_text.specs.Lines.{lines_of}
 use Rattle.daemon.specs.Output.{effect_text, with_newline, bad_text}
 
 pub record Output : Type 0 where

@@ -1,14 +1,6 @@
-pub mod Fields
-pub mod FieldsAfter
 pub mod Fills
 pub mod Follows
 pub mod Lab
-pub mod Line
-pub mod LineEnd
-pub mod Lines
 pub mod Output
-pub mod ParsedLine
-pub mod ReadAhead
 pub mod Run
 pub mod Words
-pub mod Writing

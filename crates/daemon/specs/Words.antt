@@ -1,16 +1,11 @@
 -- The command line of `accesslab`, and the values that its words spell.
-use Rattle.std.specs.Prelude.{◌≡◌, ℕ, pos, ◌≤◌, true, List, [], ◌∷◌, Some, codes, ⊤}
+use Rattle.std.specs.Prelude.{◌≡◌, ℕ, pos, ◌≤◌, true, List, [], ◌∷◌, Some, codes}
 use Rattle.std.specs.Str.Parse.{IsNumeral, digits_value, without_leading_plus}
-use Rattle.clap.specs.Words.{App, Row, Rule, Text, new_app, new_rule, with_rule, matches_of, first_of, fault_of, HasKind}
+use Rattle.clap.specs.Words.{App, Row, Rule, Text, new_app, new_rule, with_rule, matches_of, first_of, fault_of}
 use Rattle.clap.specs.Simple.{on_top}
 use Rattle.clap.specs.declared.builder.ArgAction.TheVariants.{Set}
 use Rattle.clap.specs.declared.builder.value_parser.ValueParser.TheVariants as parser
-use Rattle.programs.specs.declared.refusal.Refusal.{Refusal}
-use Rattle.programs.specs.declared.refusal.Refusal.TheVariants.{Memory, Usage, BadValue}
-
--- the path of the configuration, which is required
-abbrev pub config_rule : Rule
-config_rule = record (new_rule (codes "CONFIG")) { action = Some Set; required = true }
+use Rattle.programs.specs.CommandLine.{config_rule}
 
 -- `--quota Q`, 1 to 256, 16 by default
 abbrev pub quota_rule : Rule
@@ -40,8 +35,6 @@ pub record Spells (words : List Text) (config : List ℕ) (quota : ℕ) : Type 0
   pub least : 1 ≤ quota
   pub most : quota ≤ 256
 
--- Why words are refused: out of memory, or clap finds this fault in them, or they spell no values.
-abbrev pub IsRefused : List Text → Refusal → Type 0
-IsRefused words Memory = ⊤
-IsRefused words (Usage error) = HasKind (fault_of lab_app words) error
-IsRefused words BadValue = (config : List ℕ) (quota : ℕ) → ¬ Spells words config quota
+-- The words spell values.
+abbrev pub SpellsSomething : List Text → Type 0
+SpellsSomething words = (config : List ℕ) × (quota : ℕ) × Spells words config quota

@@ -1,9 +1,14 @@
--- What the command line of any program means by a number, and by a refusal.
-use Rattle.std.specs.Prelude.{◌≡◌, ℕ, ◌≤◌, List, Option, Some, ⊤}
+-- What the command line of any program means by its configuration, by a number, and by a refusal.
+use Rattle.std.specs.Prelude.{◌≡◌, ℕ, ◌≤◌, true, List, Option, Some, codes, ⊤}
 use Rattle.std.specs.Str.Parse.{IsNumeral, digits_value, without_leading_plus}
-use Rattle.clap.specs.Words.{App, Text, fault_of, HasKind}
+use Rattle.clap.specs.Words.{App, Rule, Text, new_rule, fault_of, HasKind}
+use Rattle.clap.specs.declared.builder.ArgAction.TheVariants.{Set}
 use Rattle.programs.specs.declared.refusal.Refusal.{Refusal}
 use Rattle.programs.specs.declared.refusal.Refusal.TheVariants.{Memory, Usage, BadValue}
+
+-- the path of the configuration, which is required
+abbrev pub config_rule : Rule
+config_rule = record (new_rule (codes "CONFIG")) { action = Some Set; required = true }
 
 -- The value that the words give an argument is the number n, and n is within its limits.
 pub record IsNumber (given : Option Text) (least most n : ℕ) : Type 0 where

@@ -1,10 +1,13 @@
-//! What the programs do before they run: refused words, the configuration's file, and the statuses.
+//! What the programs do before they run: a shared argument, refused words, the configuration's file, and
+//! the statuses.
 #![tactic(auto)]
 
+mod arguments;
 mod configuration;
 mod refusal;
 mod status;
 
+pub use arguments::config_arg;
 pub use configuration::read_configuration;
 pub use refusal::Refusal;
 pub use status::{FAILED, REFUSED, UNOPENED, UNREADABLE, complain};

@@ -1,7 +1,7 @@
 //! One line of events, applied to the machine.
 ghost use Rattle.std.specs.Prelude.{◌≡◌, ◌+◌, ◌<◌, ◌≤◌, ℕ, true, length, Some, IfSome};
 ghost use Rattle.config.specs.CircuitPart.{part_in};
-ghost use Rattle.config.specs.Rules.{Settings};
+ghost use Rattle.settings.specs.Settings.{Settings};
 ghost use Rattle.relay.specs.Relays.{topology_of};
 ghost use Rattle.types.specs.declared.discard.Discard.{Discard};
 ghost use Rattle.world.specs.Alone.{Alone};
@@ -9,18 +9,17 @@ ghost use Rattle.world.specs.Seen.{Seen};
 ghost use Rattle.world.specs.Stray.{is_stray, stray_outcome};
 ghost use Rattle.world.specs.declared.outcome.Outcome.TheVariants as outcome;
 ghost use Rattle.daemon.specs.Lab.{part_result, line_result};
-ghost use Rattle.daemon.specs.Line.{Line, line_of_text, Tick, Stray};
-ghost use Rattle.daemon.specs.ParsedLine.{line_of, IsRestart, IsWithin};
+ghost use Rattle.lab_text.specs.Line.{Line, line_of_text, Tick, Stray};
+ghost use Rattle.lab_text.specs.ParsedLine.{line_of, IsRestart, IsWithin};
 ghost use Rattle.daemon.specs.Follows.{AllRepresent, Names, IsRefusal, Follows, FollowsLast};
 ghost use Rattle.daemon.specs.Run.{IsEnd, IsStatus};
 
 use super::buffers::Buffers;
-use super::line::MAX_LINE;
 use super::output::{write_bad_line, write_done, write_outcome};
-use super::parse_line::{Parsed, ParsedLine, parse_line};
 use super::status::{BAD_LINE, DONE, FAILED};
-use super::streams::ByteWriter;
 use config::Config;
+use lab_text::parse_line::{Parsed, ParsedLine, parse_line};
+use lab_text::{ByteWriter, MAX_LINE};
 use lease_disk::Image;
 use types::{Circuit, Moment, Proto};
 use wire::PacketBuf;

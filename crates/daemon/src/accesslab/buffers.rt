@@ -1,5 +1,5 @@
 //! The buffers of a run.
-use super::hexadecimal::MAX_BYTES;
+use lab_text::MAX_BYTES;
 use lease_disk::Image;
 use types::MAX_CIRCUITS;
 use wire::PacketBuf;

@@ -1,11 +1,12 @@
 //! The command line.
 ghost use Rattle.std.specs.Prelude.{◌≡◌, false, map, string_bytes, IfOk, IfErr};
 ghost use Rattle.clap.specs.Words.{app_of, rule_of};
-ghost use Rattle.daemon.specs.Words.{config_rule, quota_rule, bare_app, lab_app, Spells, IsRefused};
+ghost use Rattle.programs.specs.CommandLine.{IsRefused};
+ghost use Rattle.daemon.specs.Words.{quota_rule, bare_app, lab_app, Spells, SpellsSomething};
 
 use clap::{Arg, ArgAction, Command};
 use lossy_net::MAX_QUOTA;
-use programs::Refusal;
+use programs::{Refusal, config_arg};
 use std::alloc::{AllocError, Global};
 
 /// The values of the words after the program's name.
@@ -15,16 +16,6 @@ pub struct LabWords<'a> {
     pub config: &'a str,
     /// How many datagrams of a circuit the network keeps in each direction, 1 to 256.
     pub quota: u16,
-}
-
-fn config_arg<'a>(alloc: Global) -> Arg<'a>
-    ensures rule { rule_of result ≡ config_rule }
-    ensures local { result.global ≡ false }
-{
-    Arg::new(alloc, "CONFIG")
-        .action(ArgAction::Set)
-        .required(true)
-        .help("The configuration, a TOML file")
 }
 
 fn quota_arg<'a>(alloc: Global) -> Arg<'a>
@@ -60,7 +51,7 @@ fn command<'a>(alloc: Global) -> Result<Command<'a>, AllocError>
 /// The values of the words after the program's name.
 pub fn words<'a>(alloc: Global, words: &'a [String]) -> Result<LabWords<'a>, Refusal>
     ensures values { IfOk result (λ values. Spells (map string_bytes words.entry.now) values.config.now values.quota) }
-    ensures refused { IfErr result (IsRefused (map string_bytes words.entry.now)) }
+    ensures refused { IfErr result (IsRefused lab_app SpellsSomething (map string_bytes words.entry.now)) }
 {
     let Ok(command) = command(alloc) else {
         return Err(Refusal::Memory);

@@ -5,17 +5,17 @@ ghost use Rattle.relay.specs.Relays.{topology_of};
 ghost use Rattle.world.specs.Alone.{Alone};
 ghost use Rattle.daemon.specs.Lab.{Output, events_output};
 ghost use Rattle.daemon.specs.Follows.{AllRepresent, Ends, SoFar};
-ghost use Rattle.daemon.specs.LineEnd.{Fits, IsCounted, IsLineEnd, len_of, feeds_of};
-ghost use Rattle.daemon.specs.ReadAhead.{held};
+ghost use Rattle.lab_text.specs.LineEnd.{Fits, IsCounted, IsLineEnd, len_of, feeds_of};
+ghost use Rattle.lab_text.specs.ReadAhead.{held};
 ghost use Rattle.daemon.specs.Run.{IsPartial, IsStatus, HasCause, HasNoCause};
 
 use super::apply_line::{apply_last_line, apply_line, refuse};
 use super::buffers::Buffers;
-use super::line::{LineEnd, MAX_TEXT, NextLine, flush_and_read_line};
-use super::read_ahead::ReadAhead;
 use super::status::FAILED;
-use super::streams::{ByteReader, ByteWriter};
 use config::Config;
+use lab_text::{
+    ByteReader, ByteWriter, LineEnd, MAX_TEXT, NextLine, ReadAhead, flush_and_read_line,
+};
 use world::Machine;
 
 /// Applies the lines in order from this one on, up to the end or to the first bad one.

@@ -1,21 +1,19 @@
 //! The lines before all events, which say what the regions of the disk hold.
-ghost use Rattle.std.specs.Prelude.{◌≡◌, ◌+◌, ◌⊎◌, ◌<◌, ◌≤◌, ℕ, [], true, false, not, length, IfOk, OnOk, OnErr};
+ghost use Rattle.std.specs.Prelude.{◌≡◌, ◌+◌, ◌⊎◌, ◌<◌, ◌≤◌, ℕ, ⊤, List, Option, [], true, false, not, length, IfOk, OnOk, OnErr};
 ghost use Rattle.std.specs.Io.KnownBytes.{prepend_known};
 ghost use Rattle.lease_disk.specs.Crash.{formatted_region};
 ghost use Rattle.lease_disk.specs.Model.{state_of};
 ghost use Rattle.world.specs.Alone.{Alone};
 ghost use Rattle.daemon.specs.Fills.{AreFilled, AreOver, AreReady, AreWithin, FilledSoFar};
 ghost use Rattle.daemon.specs.Lab.{is_event, result_of};
-ghost use Rattle.daemon.specs.Line.{line_of_text};
-ghost use Rattle.daemon.specs.LineEnd.{Fits, IsCounted, IsLineEnd, len_of, feeds_of};
-ghost use Rattle.daemon.specs.ReadAhead.{held};
+ghost use Rattle.lab_text.specs.Line.{line_of_text};
+ghost use Rattle.lab_text.specs.LineEnd.{Fits, HoldsLast, IsCounted, IsLineEnd, len_of, feeds_of};
+ghost use Rattle.lab_text.specs.ReadAhead.{held};
 
 use super::buffers::Buffers;
-use super::line::{LineEnd, MAX_TEXT, NextLine, read_line};
-use super::parse_line::{Parsed, ParsedLine, parse_line};
-use super::read_ahead::ReadAhead;
-use super::streams::{ByteReader, Failed};
 use config::Config;
+use lab_text::parse_line::{Parsed, ParsedLine, parse_line};
+use lab_text::{ByteReader, Failed, LineEnd, MAX_TEXT, NextLine, ReadAhead, read_line};
 use lease_disk::ModelDisk;
 
 /// Applies a line that may come before all events, and returns whether it is one.
@@ -43,6 +41,38 @@ fn apply_fill(disk: &mut ModelDisk, config: &Config, line: &[u8], buffers: &mut 
         }
         _ => false,
     }
+}
+
+/// Applies the last line of the text, which lacks its line feed, where it may come before all events, and
+/// consumes it. Returns how the line of the first event ends, or an empty one where there is none.
+fn apply_last_fill(
+    disk: &mut ModelDisk,
+    config: &Config,
+    len: usize,
+    ahead: &mut ReadAhead,
+    buffers: &mut Buffers,
+) -> LineEnd
+    requires short { len ≤ 8192 }
+    requires inside { len ≤ length (held ahead.old) }
+    requires regions { AreWithin config.now (length disk.old.regions) }
+    requires ready { AreReady (length disk.old.regions) (state_of disk.old) }
+    ensures filled { (quota number : ℕ) (given left : Option (List ℕ)) → HoldsLast (held ahead.old) left len
+        → FilledSoFar config.now quota number false given (prepend_known (held ahead.old) left) (state_of disk.old) (λ rest. ⊤)
+        → FilledSoFar config.now quota number true given (prepend_known (held ahead.new) left) (state_of disk.new) (Fits (held ahead.new) result) }
+    ensures end { (left : Option (List ℕ)) → HoldsLast (held ahead.old) left len → IsLineEnd (held ahead.new) left result }
+    ensures within { len_of result ≤ 8192 }
+    ensures inside { len_of result + feeds_of result ≤ length (held ahead.new) }
+    ensures shorter { length (held ahead.new) ≤ length (held ahead.old) }
+    ensures count { ahead.new.count ≡ ahead.old.count }
+    ensures regions { length disk.new.regions ≡ length disk.old.regions }
+    ensures ready { AreReady (length disk.new.regions) (state_of disk.new) }
+{
+    let line = &ahead.as_slice()[..len];
+    if !apply_fill(disk, config, line, buffers) {
+        return LineEnd::EndOfInput(len);
+    }
+    ahead.consume(len);
+    LineEnd::EndOfInput(0)
 }
 
 /// Applies the lines before the first event, and returns that event's line, or an empty one at the end of
@@ -80,12 +110,7 @@ pub(crate) fn apply_fills<R: ByteReader>(
             LineEnd::Newline(len) => len,
             LineEnd::TooLong => return Ok(NextLine { earlier, end }),
             LineEnd::EndOfInput(len) => {
-                let line = &ahead.as_slice()[..len];
-                if apply_fill(disk, config, line, buffers) {
-                    ahead.consume(len);
-                    let end = LineEnd::EndOfInput(0);
-                    return Ok(NextLine { earlier, end });
-                }
+                let end = apply_last_fill(disk, config, len, ahead, buffers);
                 return Ok(NextLine { earlier, end });
             }
         };

@@ -3,12 +3,11 @@ ghost use Rattle.std.specs.Prelude.{◌≡◌, ◌+◌, ◌≤◌, ◌∷◌, �
 ghost use Rattle.std.specs.Io.KnownBytes.{Appends};
 ghost use Rattle.hex.specs.Hex.{encode_lower};
 ghost use Rattle.world.specs.Alone.{Effect, Framed, Done};
-ghost use Rattle.daemon.specs.Writing.{AppendsPrefix};
+ghost use Rattle.lab_text.specs.Writing.{AppendsPrefix};
 ghost use Rattle.daemon.specs.Output.{dotted, effect_text, outcome_effect, with_newline, bad_text};
 
-use super::streams::{ByteWriter, Failed};
-use super::writing::write_parts;
 use itoa::Buffer;
+use lab_text::{ByteWriter, Failed, write_parts};
 use types::{Addr4, Addr6, Dest, MAX_DATAGRAM};
 use wire::PacketBuf;
 use world::Outcome;

@@ -1,8 +1,8 @@
 use Rattle.std.proofs.Common.{subst, ◌∙◌}
 use Rattle.daemon.specs.Lab.{line_result}
-use Rattle.daemon.specs.Line.{line_of_text}
+use Rattle.lab_text.specs.Line.{line_of_text}
 use Rattle.daemon.specs.Follows.{Follows}
-use Rattle.daemon.specs.ParsedLine.{IsRestart}
+use Rattle.lab_text.specs.ParsedLine.{IsRestart}
 use Rattle.daemon.proofs.LineResultLemmas.{short_is}
 use Rattle.daemon.proofs.accesslab.apply_line.apply_line.Goals as goal
 

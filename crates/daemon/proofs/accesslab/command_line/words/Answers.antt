@@ -51,7 +51,7 @@ out_of_limits words text there none config quota spells =
     none (subst (λ t. IsNumeral 10 (without_leading_plus t)) same spells.numeral) (omega (arith, value, spells.least)) (omega (arith, value, spells.most))
 
 pub returns-in_default-get_str-clause-refused : goal.returns-in_default-get_str-clause-refused
-returns-in_default-get_str-clause-refused c = λ config quota spells.
+returns-in_default-get_str-clause-refused c = λ (config, quota, spells).
     let found = found_of c.in-Ok-try_get_matches_from.matches in
     let h = c.in-Ok-try_get_matches_from.ensures.matches (ap is_simple c.in-Ok.ensures ∙ simple) in
     let words = map string_bytes c.args.words.now in
@@ -59,7 +59,7 @@ returns-in_default-get_str-clause-refused c = λ config quota spells.
     not_there _ config (ap (first_of (codes "CONFIG")) (sym rows) ∙ sym (first_value-rows found (codes "CONFIG")) ∙ sym c.in_default-get_str.ensures) spells.config_is
 
 pub returns-in_default-get_str-2-clause-refused : goal.returns-in_default-get_str-2-clause-refused
-returns-in_default-get_str-2-clause-refused c = λ config quota spells.
+returns-in_default-get_str-2-clause-refused c = λ (config, quota, spells).
     let found = found_of c.in-Ok-try_get_matches_from.matches in
     let h = c.in-Ok-try_get_matches_from.ensures.matches (ap is_simple c.in-Ok.ensures ∙ simple) in
     let words = map string_bytes c.args.words.now in
@@ -73,7 +73,7 @@ returns-in_default-parse-clause-refused c =
     let words = map string_bytes c.args.words.now in
     let rows = h.0 ∙ ap (λ a. matches_of a words) c.in-Ok.ensures in
     let there = ap (first_of (codes "quota")) (sym rows) ∙ sym (first_value-rows found (codes "quota")) ∙ sym c.in-Some-get_str.ensures in
-    out_of_limits words c.in-Some-get_str.text.now there (λ numeral least most. c.in_default-parse.ensures.value.0 (numeral, omega (arith, most)))
+    λ (config, quota, spells). out_of_limits words c.in-Some-get_str.text.now there (λ numeral least most. c.in_default-parse.ensures.value.0 (numeral, omega (arith, most))) config quota spells
 
 pub returns-then-quota-lt1-clause-refused : goal.returns-then-quota-lt1-clause-refused
 returns-then-quota-lt1-clause-refused c =
@@ -82,7 +82,7 @@ returns-then-quota-lt1-clause-refused c =
     let words = map string_bytes c.args.words.now in
     let rows = h.0 ∙ ap (λ a. matches_of a words) c.in-Ok.ensures in
     let there = ap (first_of (codes "quota")) (sym rows) ∙ sym (first_value-rows found (codes "quota")) ∙ sym c.in-Some-get_str.ensures in
-    out_of_limits words c.in-Some-get_str.text.now there (λ numeral least most. omega (arith, c.in-Ok-parse.ensures.value.0.1, c.if-quota-lt1.true, least))
+    λ (config, quota, spells). out_of_limits words c.in-Some-get_str.text.now there (λ numeral least most. omega (arith, c.in-Ok-parse.ensures.value.0.1, c.if-quota-lt1.true, least)) config quota spells
 
 pub returns-then-from-gt-MAX_QUOTA-clause-refused : goal.returns-then-from-gt-MAX_QUOTA-clause-refused
 returns-then-from-gt-MAX_QUOTA-clause-refused c =
@@ -91,4 +91,4 @@ returns-then-from-gt-MAX_QUOTA-clause-refused c =
     let words = map string_bytes c.args.words.now in
     let rows = h.0 ∙ ap (λ a. matches_of a words) c.in-Ok.ensures in
     let there = ap (first_of (codes "quota")) (sym rows) ∙ sym (first_value-rows found (codes "quota")) ∙ sym c.in-Some-get_str.ensures in
-    out_of_limits words c.in-Some-get_str.text.now there (λ numeral least most. omega (arith, c.in-Ok-parse.ensures.value.0.1, c.from.ensures, c.if-from-gt-MAX_QUOTA.true, most))
+    λ (config, quota, spells). out_of_limits words c.in-Some-get_str.text.now there (λ numeral least most. omega (arith, c.in-Ok-parse.ensures.value.0.1, c.from.ensures, c.if-from-gt-MAX_QUOTA.true, most)) config quota spells

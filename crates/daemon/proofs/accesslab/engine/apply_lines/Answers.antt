@@ -1,10 +1,10 @@
 use Rattle.std.proofs.Common.{◌≡◌, ◌+◌, ◌++◌, ◌∷◌, [], ◌∙◌, length, refl, take, drop, arith, length-drop, ap}
 use Rattle.std.specs.Prelude.{Some}
 use Rattle.std.proofs.KnownBytes.{Keeps-refl}
-use Rattle.daemon.specs.ReadAhead.{held}
-use Rattle.daemon.proofs.AheadLemmas.{line_consumed, last_consumed, cut_consumed}
+use Rattle.lab_text.specs.ReadAhead.{held}
+use Rattle.lab_text.proofs.AheadLemmas.{line_consumed, last_consumed, cut_consumed}
 use Rattle.daemon.proofs.CauseLemmas.{read_failed, still_none_failed, write_failed}
-use Rattle.daemon.proofs.ReadLemmas.{counted_none, counted_more}
+use Rattle.lab_text.proofs.ReadLemmas.{counted_none, counted_more}
 use Rattle.daemon.proofs.RunLemmas.{so_far_kept, next_line, ends_cut, ends_last, ends_feed, ends_too_long, fits_last}
 use Rattle.daemon.proofs.accesslab.engine.apply_lines.Goals as goal
 

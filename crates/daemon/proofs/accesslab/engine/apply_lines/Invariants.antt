@@ -4,8 +4,8 @@ use Rattle.std.specs.Io.KnownBytes.{prepend_known}
 use Rattle.relay.specs.Relays.{topology_of}
 use Rattle.daemon.specs.Follows.{SoFar}
 use Rattle.daemon.specs.Lab.{Output}
-use Rattle.daemon.specs.LineEnd.{Fits, IsCounted, IsLineEnd, len_of, feeds_of}
-use Rattle.daemon.specs.ReadAhead.{held}
+use Rattle.lab_text.specs.LineEnd.{Fits, IsCounted, IsLineEnd, len_of, feeds_of}
+use Rattle.lab_text.specs.ReadAhead.{held}
 use Rattle.daemon.proofs.accesslab.engine.apply_lines.Given as goal
 
 abbrev pub invariant-lines : goal.invariant-lines

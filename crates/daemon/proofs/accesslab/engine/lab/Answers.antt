@@ -1,7 +1,7 @@
 use Rattle.std.proofs.Common.{length, refl, ap, arith}
 use Rattle.daemon.specs.Lab.{events_output}
 use Rattle.daemon.proofs.CauseLemmas.{cause_from, none_from, read_failed}
-use Rattle.daemon.proofs.ReadLemmas.{counted_none}
+use Rattle.lab_text.proofs.ReadLemmas.{counted_none}
 use Rattle.daemon.proofs.RunLemmas.{at_start, ended_written, partial_none}
 use Rattle.daemon.proofs.accesslab.engine.lab.Goals as goal
 

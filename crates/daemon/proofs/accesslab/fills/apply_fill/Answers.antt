@@ -1,7 +1,7 @@
 use Rattle.std.proofs.Common.{not, refl, sym, ap, subst, ◌∙◌}
 use Rattle.daemon.specs.Lab.{is_event}
-use Rattle.daemon.specs.Line.{line_of_text}
-use Rattle.daemon.specs.ParsedLine.{IsRestart, line_of}
+use Rattle.lab_text.specs.Line.{line_of_text}
+use Rattle.lab_text.specs.ParsedLine.{IsRestart, line_of}
 use Rattle.daemon.proofs.FillLemmas.{fill_applied, fill_ready, ignored_applied, others_are_events, restart_is_event}
 use Rattle.daemon.proofs.LineResultLemmas.{short_is}
 use Rattle.daemon.proofs.accesslab.fills.apply_fill.Goals as goal

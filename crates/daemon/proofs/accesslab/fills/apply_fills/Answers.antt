@@ -3,14 +3,14 @@ use Rattle.std.proofs.KnownBytes.{Keeps-refl}
 use Rattle.std.specs.Io.KnownBytes.{prepend_known}
 use Rattle.lease_disk.specs.Model.{state_of}
 use Rattle.daemon.specs.Fills.{FilledSoFar}
-use Rattle.daemon.specs.declared.accesslab.line.LineEnd.TheVariants.{EndOfInput, Newline}
+use Rattle.lab_text.specs.declared.line.LineEnd.TheVariants.{Newline}
 use Rattle.daemon.specs.Lab.{is_event}
-use Rattle.daemon.specs.Line.{line_of_text}
-use Rattle.daemon.specs.LineEnd.{Fits}
-use Rattle.daemon.specs.ReadAhead.{held}
-use Rattle.daemon.proofs.AheadLemmas.{line_consumed, last_consumed}
-use Rattle.daemon.proofs.FillLemmas.{IsBegun, begun_last, begun_long, begun_newline, filled_begun, filled_first, filled_kept, filled_last, filled_next, formatted_are_ready, formatted_over, is_false, is_true, none_left, nothing_held, nothing_more}
-use Rattle.daemon.proofs.ReadLemmas.{counted_none, counted_more}
+use Rattle.lab_text.specs.Line.{line_of_text}
+use Rattle.lab_text.specs.LineEnd.{Fits}
+use Rattle.lab_text.specs.ReadAhead.{held}
+use Rattle.lab_text.proofs.AheadLemmas.{line_consumed}
+use Rattle.daemon.proofs.FillLemmas.{IsBegun, begun_long, begun_newline, filled_begun, filled_first, filled_kept, filled_next, formatted_are_ready, formatted_over, is_false, is_true, nothing_held}
+use Rattle.lab_text.proofs.ReadLemmas.{counted_none, counted_more}
 use Rattle.daemon.proofs.StartLemmas.{part_within}
 use Rattle.daemon.proofs.accesslab.fills.apply_fills.Goals as goal
 
@@ -44,60 +44,35 @@ returns-in-TooLong-clause-counted g c = counted_more _ _ _ _ _ _ c.lines.invaria
 pub apply_fill-requires-clause-regions : goal.apply_fill-requires-clause-regions
 apply_fill-requires-clause-regions g c = λ n circuit there. let e = c.lines.invariant.regions in let w = c.requires.regions n circuit there in omega arith
 
-pub apply_fill-requires-in-lines-clause-regions : goal.apply_fill-requires-in-lines-clause-regions
-apply_fill-requires-in-lines-clause-regions g c = λ n circuit there. let e = c.lines.invariant.regions in let w = c.requires.regions n circuit there in omega arith
-
-pub returns-then-apply_fill-clause-filled : goal.returns-then-apply_fill-clause-filled
-returns-then-apply_fill-clause-filled g c = λ quota.
-    let last = rw c.in-EndOfInput.is at c.in-Ok.ensures.end in
-    let left = ap length c.consume.ensures.held ∙ length-drop c.in-EndOfInput.len (held c.read_line.new.ahead) in
-    filled_last c.args.config.now quota (c.lines.earlier + 1) _ _ _ (state_of c.lines.disk) (state_of c.apply_fill.new.disk) (take c.in-EndOfInput.len c.as_slice.result.now) (held c.consume.new.self)
-    (none_left _ (let e = last.size in omega (arith, left, e)))
-    (filled_kept c.args.config.now quota (c.lines.earlier + 1) false _ _ _ (state_of c.lines.disk) _ (c.lines.invariant.so_far quota) c.read_line.ensures.kept)
-    (last_consumed _ _ (held c.read_line.new.ahead) c.as_slice.result.now c.in-EndOfInput.len c.as_slice.ensures (Keeps-refl _) last)
-    (is_false (is_event (line_of_text c.args.config.now (take c.in-EndOfInput.len c.as_slice.result.now))) c.apply_fill.result c.apply_fill.ensures.no_event c.if-apply_fill.true)
-    (λ machines over. c.apply_fill.ensures.filled quota machines c.if-apply_fill.true over)
-
-pub returns-then-apply_fill-clause-end : goal.returns-then-apply_fill-clause-end
-returns-then-apply_fill-clause-end g c =
-    let last = rw c.in-EndOfInput.is at c.in-Ok.ensures.end in
-    let left = ap length c.consume.ensures.held ∙ length-drop c.in-EndOfInput.len (held c.read_line.new.ahead) in
-    nothing_more (held c.consume.new.self) _ (let e = last.size in omega (arith, left, e)) last.end
-
-pub returns-then-apply_fill-clause-lines : goal.returns-then-apply_fill-clause-lines
-returns-then-apply_fill-clause-lines g c =
-    let left = ap length c.consume.ensures.held ∙ length-drop c.in-EndOfInput.len (held c.read_line.new.ahead) in
-    omega (arith, left, c.consume.ensures.count, c.read_line.ensures.grown, c.lines.invariant.lines)
-
-pub returns-then-apply_fill-clause-counted : goal.returns-then-apply_fill-clause-counted
-returns-then-apply_fill-clause-counted g c = rw c.consume.ensures.count (counted_more _ _ _ _ _ _ c.lines.invariant.counted c.read_line.ensures.counted)
+pub apply_last_fill-end-requires-clause-regions : goal.apply_last_fill-end-requires-clause-regions
+apply_last_fill-end-requires-clause-regions g c = λ n circuit there. let e = c.lines.invariant.regions in let w = c.requires.regions n circuit there in omega arith
 
 pub returns-in-EndOfInput-clause-filled : goal.returns-in-EndOfInput-clause-filled
 returns-in-EndOfInput-clause-filled g c = λ quota.
-    let last = rw c.in-EndOfInput.is at c.in-Ok.ensures.end in
-    let line = take c.in-EndOfInput.len c.as_slice.result.now in
-    let e = is_true (is_event (line_of_text c.args.config.now line)) c.apply_fill.result c.apply_fill.ensures.no_event c.if-apply_fill.false in
-    subst (λ d. FilledSoFar c.args.config.now quota (c.lines.earlier + 1) true (g.R.ByteReader.remaining c.args.reader.now) (prepend_known (held c.read_line.new.ahead) (g.R.ByteReader.remaining c.read_line.new.reader)) (state_of d) (Fits (held c.read_line.new.ahead) (EndOfInput c.in-EndOfInput.len)))
-    (sym (c.apply_fill.ensures.same c.if-apply_fill.false))
-    (filled_begun c.args.config.now quota (c.lines.earlier + 1) _ _ (state_of c.lines.disk) _
+    c.apply_last_fill-end.ensures.filled quota (c.lines.earlier + 1) _ _ (rw c.in-EndOfInput.is at c.in-Ok.ensures.end)
     (filled_kept c.args.config.now quota (c.lines.earlier + 1) false _ _ _ (state_of c.lines.disk) _ (c.lines.invariant.so_far quota) c.read_line.ensures.kept)
-    (begun_last c.args.config.now quota (c.lines.earlier + 1) (held c.read_line.new.ahead) _ c.in-EndOfInput.len last
-    (ap (λ text. is_event (line_of_text c.args.config.now (take c.in-EndOfInput.len text))) (sym c.as_slice.ensures) ∙ e)))
+
+pub returns-in-EndOfInput-clause-end : goal.returns-in-EndOfInput-clause-end
+returns-in-EndOfInput-clause-end g c = c.apply_last_fill-end.ensures.end _ (rw c.in-EndOfInput.is at c.in-Ok.ensures.end)
+
+pub returns-in-EndOfInput-clause-lines : goal.returns-in-EndOfInput-clause-lines
+returns-in-EndOfInput-clause-lines g c =
+    omega (arith, c.apply_last_fill-end.ensures.shorter, c.apply_last_fill-end.ensures.count, c.read_line.ensures.grown, c.lines.invariant.lines)
 
 pub returns-in-EndOfInput-clause-counted : goal.returns-in-EndOfInput-clause-counted
-returns-in-EndOfInput-clause-counted g c = counted_more _ _ _ _ _ _ c.lines.invariant.counted c.read_line.ensures.counted
+returns-in-EndOfInput-clause-counted g c = rw c.apply_last_fill-end.ensures.count (counted_more _ _ _ _ _ _ c.lines.invariant.counted c.read_line.ensures.counted)
 
 pub returns-then-not-apply_fill-clause-filled : goal.returns-then-not-apply_fill-clause-filled
 returns-then-not-apply_fill-clause-filled g c = λ quota.
     let feeds = rw c.in-Newline.is at c.in-Ok.ensures.end in
-    let line = take c.in-Newline.len c.as_slice-in-lines.result.now in
-    let e = is_true (is_event (line_of_text c.args.config.now line)) c.apply_fill-in-lines.result c.apply_fill-in-lines.ensures.no_event c.if-not-apply_fill.true in
+    let line = take c.in-Newline.len c.as_slice.result.now in
+    let e = is_true (is_event (line_of_text c.args.config.now line)) c.apply_fill.result c.apply_fill.ensures.no_event c.if-not-apply_fill.true in
     subst (λ d. FilledSoFar c.args.config.now quota (c.lines.earlier + 1) true (g.R.ByteReader.remaining c.args.reader.now) (prepend_known (held c.read_line.new.ahead) (g.R.ByteReader.remaining c.read_line.new.reader)) (state_of d) (Fits (held c.read_line.new.ahead) (Newline c.in-Newline.len)))
-    (sym (c.apply_fill-in-lines.ensures.same c.if-not-apply_fill.true))
+    (sym (c.apply_fill.ensures.same c.if-not-apply_fill.true))
     (filled_begun c.args.config.now quota (c.lines.earlier + 1) _ _ (state_of c.lines.disk) _
     (filled_kept c.args.config.now quota (c.lines.earlier + 1) false _ _ _ (state_of c.lines.disk) _ (c.lines.invariant.so_far quota) c.read_line.ensures.kept)
     (begun_newline c.args.config.now quota (c.lines.earlier + 1) (held c.read_line.new.ahead) c.in-Newline.len feeds
-    (ap (λ text. is_event (line_of_text c.args.config.now (take c.in-Newline.len text))) (sym c.as_slice-in-lines.ensures) ∙ e)))
+    (ap (λ text. is_event (line_of_text c.args.config.now (take c.in-Newline.len text))) (sym c.as_slice.ensures) ∙ e)))
 
 pub returns-then-not-apply_fill-clause-counted : goal.returns-then-not-apply_fill-clause-counted
 returns-then-not-apply_fill-clause-counted g c = counted_more _ _ _ _ _ _ c.lines.invariant.counted c.read_line.ensures.counted
@@ -106,19 +81,19 @@ pub lines-preserved : goal.lines-preserved
 lines-preserved g c =
     let feeds = rw c.in-Newline.is at c.in-Ok.ensures.end in
     let inside = feeds.inside in
-    let text = c.as_slice-in-lines.result.now in
-    let left = ap length c.consume-in-lines.ensures.held ∙ length-drop (c.in-Newline.len + 1) (held c.read_line.new.ahead) in
+    let text = c.as_slice.result.now in
+    let left = ap length c.consume.ensures.held ∙ length-drop (c.in-Newline.len + 1) (held c.read_line.new.ahead) in
     record {
-      regions = c.apply_fill-in-lines.ensures.count ∙ c.lines.invariant.regions;
-      ready = c.apply_fill-in-lines.ensures.ready;
-      lines = omega (arith, inside, left, c.consume-in-lines.ensures.count, c.read_line.ensures.grown, c.lines.invariant.lines);
-      below = omega (arith, c.consume-in-lines.ensures.count, c.in-Ok.ensures.below);
+      regions = c.apply_fill.ensures.count ∙ c.lines.invariant.regions;
+      ready = c.apply_fill.ensures.ready;
+      lines = omega (arith, inside, left, c.consume.ensures.count, c.read_line.ensures.grown, c.lines.invariant.lines);
+      below = omega (arith, c.consume.ensures.count, c.in-Ok.ensures.below);
       quiet = c.in-Ok.ensures.quiet ∙ c.lines.invariant.quiet;
-      counted = rw c.consume-in-lines.ensures.count (counted_more _ _ _ _ _ _ c.lines.invariant.counted c.read_line.ensures.counted);
+      counted = rw c.consume.ensures.count (counted_more _ _ _ _ _ _ c.lines.invariant.counted c.read_line.ensures.counted);
       so_far = λ quota.
-          filled_next c.args.config.now quota (c.lines.earlier + 1) _ _ _ (state_of c.lines.disk) (state_of c.apply_fill-in-lines.new.disk) (take c.in-Newline.len text)
+          filled_next c.args.config.now quota (c.lines.earlier + 1) _ _ _ (state_of c.lines.disk) (state_of c.apply_fill.new.disk) (take c.in-Newline.len text)
           (filled_kept c.args.config.now quota (c.lines.earlier + 1) false _ _ _ (state_of c.lines.disk) _ (c.lines.invariant.so_far quota) c.read_line.ensures.kept)
-          (line_consumed _ _ (held c.read_line.new.ahead) text _ c.in-Newline.len c.as_slice-in-lines.ensures c.consume-in-lines.ensures.held (Keeps-refl _) feeds)
-          (is_false (is_event (line_of_text c.args.config.now (take c.in-Newline.len text))) c.apply_fill-in-lines.result c.apply_fill-in-lines.ensures.no_event c.if-not-apply_fill.false)
-          (λ machines over. c.apply_fill-in-lines.ensures.filled quota machines c.if-not-apply_fill.false over);
+          (line_consumed _ _ (held c.read_line.new.ahead) text _ c.in-Newline.len c.as_slice.ensures c.consume.ensures.held (Keeps-refl _) feeds)
+          (is_false (is_event (line_of_text c.args.config.now (take c.in-Newline.len text))) c.apply_fill.result c.apply_fill.ensures.no_event c.if-not-apply_fill.false)
+          (λ machines over. c.apply_fill.ensures.filled quota machines c.if-not-apply_fill.false over);
     }

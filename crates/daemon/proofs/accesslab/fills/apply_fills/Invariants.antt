@@ -3,8 +3,8 @@ use Rattle.std.specs.Prelude.{⊤}
 use Rattle.std.specs.Io.KnownBytes.{prepend_known}
 use Rattle.lease_disk.specs.Model.{state_of}
 use Rattle.daemon.specs.Fills.{AreReady, FilledSoFar}
-use Rattle.daemon.specs.LineEnd.{IsCounted}
-use Rattle.daemon.specs.ReadAhead.{held}
+use Rattle.lab_text.specs.LineEnd.{IsCounted}
+use Rattle.lab_text.specs.ReadAhead.{held}
 use Rattle.daemon.proofs.accesslab.fills.apply_fills.Given as goal
 
 abbrev pub invariant-lines : goal.invariant-lines

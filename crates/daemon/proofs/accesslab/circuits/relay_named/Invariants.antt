@@ -1,7 +1,0 @@
-use Rattle.std.proofs.Common.{◌≤◌}
-use Rattle.std.specs.Str.{bytes_eq}
-use Rattle.daemon.proofs.RelayLemmas.{LacksBefore}
-use Rattle.daemon.proofs.accesslab.circuits.relay_named.Given as goal
-
-abbrev pub invariant-relays : goal.invariant-relays
-invariant-relays l = LacksBefore (λ relay. bytes_eq relay.name.items l.name) l.config.relays l.index

@@ -1,0 +1,9 @@
+pub mod AheadLemmas
+pub mod CircuitLemmas
+pub mod CutLemmas
+pub mod NumberLemmas
+pub mod PartLemmas
+pub mod ReadLemmas
+pub mod RelayLemmas
+pub mod RestartLemmas
+pub mod WriteLemmas

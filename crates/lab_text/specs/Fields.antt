@@ -1,0 +1,134 @@
+-- The value of a field: a number, bytes, a circuit, a relay, an address and port, or an image of a region.
+use Rattle.std.specs.Prelude.{ℕ, ◌+◌, ◌-◌, ◌*◌, nat_le, ◌==◌, ◌||◌, Bool, true, false, if◌then◌else◌, List, [], ◌∷◌, length, take, drop, codes, position, Option, option_map, Some, None, Result, Ok, Err}
+use Rattle.std.specs.Str.{bytes_eq}
+use Rattle.std.specs.Char.{is_ascii_digit}
+use Rattle.hex.specs.Hex.{decode_of}
+use Rattle.hex.specs.declared.error.FromHexError.{FromHexError}
+use Rattle.lease_disk.specs.declared.image.Image.{Image}
+use Rattle.lease_disk.specs.declared.image.Image.TheVariants.{Byte, Unreadable}
+use Rattle.types.specs.declared.addr.Addr4.{Addr4}
+use Rattle.types.specs.declared.addr.Source.{Source}
+use Rattle.settings.specs.Settings.{Settings}
+
+-- the number with the digits of n followed by these; the digit `0` is 48
+unfoldable pub digits_after : ℕ → List ℕ → Option ℕ
+digits_after n [] = Some n
+digits_after n (d ∷ ds) = if is_ascii_digit d then digits_after (10 * n + (d - 48)) ds else None
+
+-- there is no digit, or a leading zero
+abbrev pub lacks_first : List ℕ → Bool
+lacks_first [] = true
+lacks_first (d ∷ []) = false
+lacks_first (d ∷ e ∷ ds) = d == 48
+
+abbrev pub at_most : ℕ → Option ℕ → Option ℕ
+at_most most None = None
+at_most most (Some n) = if nat_le n most then Some n else None
+
+-- the number that decimal digits spell, without a sign and without leading zeros
+abbrev pub value_of : List ℕ → Option ℕ
+value_of text = if lacks_first text then None else digits_after 0 text
+
+abbrev pub number_to : ℕ → List ℕ → Option ℕ
+number_to most text = at_most most (value_of text)
+
+abbrev pub ok_of : Result (List ℕ) FromHexError → Option (List ℕ)
+ok_of (Ok bytes) = Some bytes
+ok_of (Err why) = None
+
+-- The bytes of an even number of hexadecimal digits of either case, for at most 2048 bytes. A single `-` is no
+-- bytes.
+abbrev pub bytes_of : List ℕ → Option (List ℕ)
+bytes_of [] = None
+bytes_of (b ∷ digits) =
+    if bytes_eq (b ∷ digits) (codes "-") then Some []
+    else if nat_le (length (b ∷ digits)) (2 * 2048) then ok_of (decode_of (b ∷ digits))
+    else None
+
+-- the index of the circuit with exactly this id
+abbrev pub circuit_named : Settings → List ℕ → Option ℕ
+circuit_named settings id = position (λ circuit. bytes_eq circuit.id id) settings.circuits
+
+-- the index of the first relay with exactly this name
+abbrev pub relay_named : Settings → List ℕ → Option ℕ
+relay_named settings name = position (λ relay. bytes_eq relay.name.items name) settings.relays
+
+-- ---- an address and port
+
+-- what a text has before and behind the first of these bytes
+abbrev pub parted : ℕ → List ℕ → Option (List ℕ × List ℕ)
+parted byte text = option_map (λ i. (take i text, drop (i + 1) text)) (position (λ b. b == byte) text)
+
+infixl 10 ◌>>=◌
+abbrev pub ◌>>=◌ : {A B : Type 0} → Option A → (A → Option B) → Option B
+None >>= f = None
+Some a >>= f = f a
+
+-- four numbers from 0 to 255 with points (46) between them
+abbrev pub address_of : List ℕ → Option Addr4
+address_of text = do
+  one ← parted 46 text
+  two ← parted 46 one.1
+  three ← parted 46 two.1
+  a ← number_to 255 one.0
+  b ← number_to 255 two.0
+  c ← number_to 255 three.0
+  d ← number_to 255 three.1
+  Some (record { 0 = a ∷ b ∷ c ∷ d ∷ [] })
+
+abbrev pub at_least : ℕ → Option ℕ → Option ℕ
+at_least least None = None
+at_least least (Some n) = if nat_le least n then Some n else None
+
+-- an address and a port from 1 to 65535 on both sides of a colon (58)
+abbrev pub source_of : List ℕ → Option Source
+source_of text = do
+  parts ← parted 58 text
+  addr ← address_of parts.0
+  port ← at_least 1 (number_to 65535 parts.1)
+  Some (record { addr = addr; port = port })
+
+-- ---- the image of a circuit's region
+
+-- a byte in front of what stands before the mark
+abbrev pub with_front : ℕ → List ℕ × List ℕ → List ℕ × List ℕ
+with_front b parts = (b ∷ parts.0, parts.1)
+
+abbrev pub or_here : Bool → ℕ → List ℕ → Option (List ℕ × List ℕ) → Option (List ℕ × List ℕ)
+or_here here b text (Some parts) = Some (with_front b parts)
+or_here here b text None = if here then Some ([], text) else None
+
+-- what a text has before and behind the last of these bytes
+unfoldable pub parted_last : ℕ → List ℕ → Option (List ℕ × List ℕ)
+parted_last byte [] = None
+parted_last byte (b ∷ text) = or_here (b == byte) b text (parted_last byte text)
+
+abbrev pub single : Option (List ℕ) → Option ℕ
+single (Some (b ∷ [])) = Some b
+single _ = None
+
+-- the byte that two hexadecimal digits of either case spell
+abbrev pub byte_of : List ℕ → Option ℕ
+byte_of text = if length text == 2 then single (ok_of (decode_of text)) else None
+
+-- `unreadable`, or the byte that two digits spell
+abbrev pub image_of : List ℕ → Option Image
+image_of text = if bytes_eq text (codes "unreadable") then Some Unreadable else option_map Byte (byte_of text)
+
+-- `CID=IMAGE`, parted at the last `=` (61)
+abbrev pub named_image : Settings → List ℕ → Option (ℕ × Image)
+named_image settings field = do
+  parts ← parted_last 61 field
+  c ← circuit_named settings parts.0
+  image ← image_of parts.1
+  Some (c, image)
+
+-- these images name circuit c
+unfoldable pub is_named : ℕ → List (ℕ × Image) → Bool
+is_named c [] = false
+is_named c (named ∷ rest) = named.0 == c || is_named c rest
+
+-- the image that is named for circuit c, and the byte 0 where none is
+unfoldable pub image_in : ℕ → List (ℕ × Image) → Image
+image_in c [] = Byte 0
+image_in c (named ∷ rest) = if named.0 == c then named.1 else image_in c rest

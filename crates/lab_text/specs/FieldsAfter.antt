@@ -1,0 +1,13 @@
+-- The fields that are still to be read. Only proofs need these.
+use Rattle.std.specs.Prelude.{ℕ, List, [], ◌∷◌, Option, Some, None}
+use Rattle.lab_text.specs.Lines.{fields_of}
+
+-- the fields after a space, if there is one
+abbrev pub fields_after : Option (List ℕ) → List (List ℕ)
+fields_after None = []
+fields_after (Some rest) = fields_of rest
+
+-- the next field and those after it, if there is a next one
+abbrev pub fields_of_next : Option (List ℕ × Option (List ℕ)) → List (List ℕ)
+fields_of_next None = []
+fields_of_next (Some parts) = parts.0 ∷ fields_after parts.1

@@ -1,0 +1,73 @@
+//! Texts of addresses and ports.
+ghost use Rattle.std.specs.Prelude.{◌≡◌, ◌<◌, ◌==◌, length, option_map, IfSome};
+ghost use Rattle.std.specs.List.{position};
+ghost use Rattle.lab_text.specs.Fields.{address_of, at_least, number_to, parted, source_of};
+
+use crate::digits::number;
+use types::{Addr4, Source};
+
+/// The greatest port.
+const MAX_PORT: u64 = 65535;
+
+/// The index of the first of these bytes.
+fn index_of(text: &[u8], byte: u8) -> Option<usize>
+    ensures value { result ≡ position (λ b. b == byte) text.now }
+    ensures within { IfSome result (λ at. at < length text.now) }
+{
+    text.iter().position(|b| *b == byte)
+}
+
+/// What a text has before and behind the first of these bytes.
+fn parted(text: &[u8], byte: u8) -> Option<(&[u8], &[u8])>
+    ensures { option_map (λ parts. (parts.0.now, parts.1.now)) result ≡ parted byte text.now }
+{
+    let Some(at) = index_of(text, byte) else {
+        return None;
+    };
+    Some((&text[..at], &text[at + 1..]))
+}
+
+/// A number from 0 to 255.
+fn octet(text: &[u8]) -> Option<u8>
+    ensures { result ≡ number_to 255 text.now }
+{
+    match number(text, 255) {
+        Some(octet) => Some(octet as u8),
+        None => None,
+    }
+}
+
+/// The port that a text spells, 1 to 65535.
+fn port(text: &[u8]) -> Option<u16>
+    ensures { result ≡ at_least 1 (number_to 65535 text.now) }
+{
+    match number(text, MAX_PORT) {
+        Some(0) => None,
+        Some(port) => Some(port as u16),
+        None => None,
+    }
+}
+
+/// The address that a text spells, as `10.0.0.1`.
+fn address(text: &[u8]) -> Option<Addr4>
+    ensures { result ≡ address_of text.now }
+{
+    let (one, rest) = parted(text, b'.')?;
+    let (two, rest) = parted(rest, b'.')?;
+    let (three, four) = parted(rest, b'.')?;
+    let one = octet(one)?;
+    let two = octet(two)?;
+    let three = octet(three)?;
+    let four = octet(four)?;
+    Some(Addr4([one, two, three, four]))
+}
+
+/// The address and port that a text spells, as `10.0.0.1:67`.
+pub(crate) fn source(text: &[u8]) -> Option<Source>
+    ensures { result ≡ source_of text.now }
+{
+    let (front, back) = parted(text, b':')?;
+    let addr = address(front)?;
+    let port = port(back)?;
+    Some(Source { addr, port })
+}
