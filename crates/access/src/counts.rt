@@ -39,7 +39,8 @@ const REASONS: [Discard; 26] = [
 /// One more than the greatest number of a reason.
 const NUMBERS: usize = 35;
 
-/// What became of the datagrams that were received from the sockets. Each count stays at its greatest value.
+/// What became of the datagrams that were received from the sockets. Each count stays at its greatest
+/// value.
 #[derive(Clone, Copy, Debug)]
 pub struct Counts {
     /// Datagrams that were received from a socket.

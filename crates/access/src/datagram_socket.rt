@@ -5,8 +5,8 @@ use std::io;
 use std::net::{IpAddr, Ipv4Addr, Net, SocketAddr, UdpSocket};
 use types::{Addr4, MAX_DATAGRAM, Source};
 
-/// The length of the buffer that a datagram is received in. It has one byte more than the longest that is served, so that of a longer one
-/// enough arrives to be refused for its length.
+/// The length of the buffer that a datagram is received in. It has one byte more than the longest that is
+/// served, so that of a longer one enough arrives to be refused for its length.
 pub const BUFFER: usize = MAX_DATAGRAM + 1;
 
 /// A bound UDP socket that never waits.
