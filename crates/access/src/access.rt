@@ -1,6 +1,7 @@
 //! Relay and server over sockets.
 ghost use Rattle.std.specs.Prelude.{◌≡◌, ◌≤◌, ◌<◌, ◌+◌, ◌↔◌, length, map, true, is_some, Some, slice_get, Err, IfOk, IfErr};
 ghost use Rattle.access.specs.Access.{HasReached};
+ghost use Rattle.access.specs.Sockets.{IsSocket, RefusesSocket};
 ghost use Rattle.access.specs.declared.access.AccessFault.TheVariants as fault;
 ghost use Rattle.config.specs.CircuitPart.{parts_of};
 ghost use Rattle.dispatch.specs.Leases.{HasRegions};
@@ -8,7 +9,7 @@ ghost use Rattle.dispatch.specs.ServerValue.{books_in, parts_in};
 ghost use Rattle.relay.specs.Relays.{topology_of};
 
 use crate::counts::Counts;
-use crate::datagram_socket::{BUFFER, DatagramSocket};
+use crate::datagram_socket::{BUFFER_LEN, DatagramSocket};
 use crate::sockets::{MAX_SERVED, SocketFault, Sockets};
 use config::Config;
 use dispatch::{OpenFault, Server};
@@ -48,7 +49,7 @@ pub struct Access {
     disk: FileDisk,
     sockets: Sockets,
     listen4: Source,
-    buffer: [u8; BUFFER],
+    buffer: [u8; BUFFER_LEN],
     out: PacketBuf,
     counts: Counts,
 }
@@ -88,6 +89,7 @@ impl Access {
         ensures parts { IfOk result (λ access. parts_in access.server ≡ parts_of config.now) }
         ensures circuits { result ≡ Err fault.TooManyCircuits ↔ (16 < length config.now.circuits) }
         ensures small { IfErr result (λ why. why ≡ fault.Disk → ¬ HasRegions (parts_of config.now) disk.regions) }
+        ensures socket { IfErr result (RefusesSocket (λ at. IsSocket config.now port at × HasRegions (parts_of config.now) disk.regions)) }
     {
         if config.circuit_count() > MAX_SERVED {
             return Err(AccessFault::TooManyCircuits);
@@ -111,7 +113,7 @@ impl Access {
             disk,
             sockets,
             listen4: config.server().listen4,
-            buffer: [0; BUFFER],
+            buffer: [0; BUFFER_LEN],
             out: PacketBuf::new(),
             counts: Counts::new(),
         })

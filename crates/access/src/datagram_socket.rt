@@ -7,7 +7,7 @@ use types::{Addr4, MAX_DATAGRAM, Source};
 
 /// The length of the buffer that a datagram is received in. It has one byte more than the longest that is
 /// served, so that of a longer one enough arrives to be refused for its length.
-pub const BUFFER: usize = MAX_DATAGRAM + 1;
+pub const BUFFER_LEN: usize = MAX_DATAGRAM + 1;
 
 /// A bound UDP socket that never waits.
 #[derive(Drop)]
@@ -42,7 +42,7 @@ impl DatagramSocket {
 
     /// Receives a datagram that waits, if there is one: how many bytes of it are in `buffer`, and where it
     /// came from. One whose receive fails is lost.
-    pub fn receive(&self, buffer: &mut [u8; BUFFER]) -> Option<(usize, Source)>
+    pub fn receive(&self, buffer: &mut [u8; BUFFER_LEN]) -> Option<(usize, Source)>
         ensures { IfSome result (λ received. received.0 ≤ 1281) }
     {
         let Ok((len, from)) = self.socket.recv_from(buffer) else {

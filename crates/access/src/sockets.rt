@@ -1,5 +1,6 @@
 //! The sockets of relay, server and circuits.
-ghost use Rattle.std.specs.Prelude.{◌≡◌, ◌≤◌, ◌<◌, length, All, IfOk};
+ghost use Rattle.std.specs.Prelude.{◌≡◌, ◌≤◌, ◌<◌, ◌+◌, ◌⊎◌, length, All, IfOk, IfErr};
+ghost use Rattle.access.specs.Sockets.{local_port, Refuses, IsCircuitSocket, IsRelaySocket, IsSocket};
 
 use crate::datagram_socket::DatagramSocket;
 use config::Config;
@@ -52,14 +53,18 @@ pub struct Sockets {
 }
 
 /// A port on loopback.
-pub(crate) fn local(port: u16) -> Source {
+pub(crate) fn local(port: u16) -> Source
+    ensures { result ≡ local_port port }
+{
     Source {
         addr: LOOPBACK,
         port,
     }
 }
 
-fn bind<R: Net>(net: &R, at: Source) -> Result<DatagramSocket, SocketFault> {
+fn bind<R: Net>(net: &R, at: Source) -> Result<DatagramSocket, SocketFault>
+    ensures { IfErr result (Refuses (λ refused. refused ≡ at)) }
+{
     match DatagramSocket::bind(net, at) {
         Ok(port) => Ok(port),
         Err(error) if error.kind() == io::ErrorKind::OutOfMemory => Err(SocketFault::Memory),
@@ -71,7 +76,8 @@ impl CircuitSockets {
     /// Binds the sockets of the circuit whose ports begin at `first`.
     fn bind<R: Net>(net: &R, first: u16, relay: usize) -> Result<CircuitSockets, SocketFault>
         requires { first ≤ 65532 }
-        ensures { IfOk result (λ circuit. circuit.relay ≡ relay) }
+        ensures relay { IfOk result (λ circuit. circuit.relay ≡ relay) }
+        ensures refused { IfErr result (Refuses (λ at. (at ≡ local_port first) ⊎ (at ≡ local_port (first + 1)))) }
     {
         Ok(CircuitSockets {
             socket4: bind(net, local(first))?,
@@ -92,6 +98,7 @@ fn bind_circuits<R: Net>(
     requires most { port ≤ 65472 }
     ensures count { IfOk result (λ circuits. length circuits.items ≡ length config.now.circuits) }
     ensures behind { IfOk result (λ circuits. All (λ circuit. circuit.relay < length config.now.relays) circuits.items) }
+    ensures refused { IfErr result (Refuses (IsCircuitSocket (length config.now.circuits) port)) }
 {
     let Ok(mut circuits) = Vec::with_capacity(alloc, config.circuit_count()) else {
         return Err(SocketFault::Memory);
@@ -115,6 +122,7 @@ fn bind_relays<R: Net>(
     config: &Config,
 ) -> Result<Vec<DatagramSocket>, SocketFault>
     ensures count { IfOk result (λ relays. length relays.items ≡ length config.now.relays) }
+    ensures refused { IfErr result (Refuses (IsRelaySocket config.now.relays)) }
 {
     let Ok(mut relays) = Vec::with_capacity(alloc, config.relay_count()) else {
         return Err(SocketFault::Memory);
@@ -145,6 +153,7 @@ impl Sockets {
         ensures circuits { IfOk result (λ sockets. length sockets.circuits.items ≡ length config.now.circuits) }
         ensures relays { IfOk result (λ sockets. length sockets.relays.items ≡ length config.now.relays) }
         ensures behind { IfOk result (λ sockets. All (λ circuit. circuit.relay < length config.now.relays) sockets.circuits.items) }
+        ensures refused { IfErr result (Refuses (IsSocket config.now port)) }
     {
         let server = config.server();
         let circuits = bind_circuits(net, alloc, config, port)?;

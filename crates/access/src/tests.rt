@@ -2,7 +2,7 @@
 ghost use Rattle.std.specs.Prelude.{◌≤◌};
 
 use super::*;
-use crate::datagram_socket::{BUFFER, DatagramSocket};
+use crate::datagram_socket::{BUFFER_LEN, DatagramSocket};
 use crate::sockets::local;
 use config::Config;
 use fixtures::{ONE_CIRCUIT, TWO_CIRCUITS, client_frame, offer};
@@ -171,7 +171,7 @@ fn a_discover_is_offered(rt: HostRuntime) -> Result<(), Fail> {
     let frame = client_frame(Kind4::Discover, 1, &[]);
     assert!(rt; client.send(frame.as_slice(), local(20000)));
     assert_eq!(rt; access.turn(moment(100)), 3);
-    let mut buffer = [0; BUFFER];
+    let mut buffer = [0; BUFFER_LEN];
     assert_eq!(rt; client.receive(&mut buffer), Some((301, local(20000))));
     assert_eq!(rt; buffer[0], 1);
     assert_eq!(rt; &buffer[1..301], offer(1).as_slice());
@@ -184,7 +184,7 @@ fn a_discover_is_offered(rt: HostRuntime) -> Result<(), Fail> {
 #[test]
 fn a_lease_outlives_its_server(rt: HostRuntime) -> Result<(), Fail> {
     let mut bench = Bench::new(&rt, "lease", ONE_CIRCUIT, 21000)?;
-    let mut buffer = [0; BUFFER];
+    let mut buffer = [0; BUFFER_LEN];
     for (kind, options, now) in [
         (Kind4::Discover, &[][..], 100),
         (Kind4::Request, SELECT, 101),
@@ -234,7 +234,7 @@ fn survives(bench: &mut Bench, len: usize, found: [u64; 4]) -> bool
     for port in [21110, 21100, 21102] {
         bench.client.send(&bytes[..len], local(port));
     }
-    let mut buffer = [0; BUFFER];
+    let mut buffer = [0; BUFFER_LEN];
     if bench.access.turn(moment(100)) != 3
         || dropped(&bench.access, reasons) != found
         || bench.client.receive(&mut buffer).is_some()
@@ -276,7 +276,7 @@ fn frames_leave_from_their_circuits_socket(rt: HostRuntime) -> Result<(), Fail> 
     let mut bench = Bench::new(&rt, "two", TWO_CIRCUITS, 21400)?;
     let second = DatagramSocket::bind(&rt, local(21416))?;
     let frame = client_frame(Kind4::Discover, 1, &[]);
-    let mut buffer = [0; BUFFER];
+    let mut buffer = [0; BUFFER_LEN];
     assert!(rt; second.send(frame.as_slice(), local(21414)));
     assert_eq!(rt; bench.exchange(frame.as_slice(), 100), 4);
     assert_eq!(rt; bench.access.turn(moment(100)), 2);
@@ -300,7 +300,7 @@ fn a_client_that_does_not_listen(rt: HostRuntime) -> Result<(), Fail> {
     for _ in 0..3000 {
         assert_eq!(rt; bench.exchange(frame.as_slice(), 100), 3);
     }
-    let mut buffer = [0; BUFFER];
+    let mut buffer = [0; BUFFER_LEN];
     for _ in 0..3000 {
         let _ = bench.client.receive(&mut buffer);
     }
@@ -324,7 +324,7 @@ fn a_client_that_does_not_listen(rt: HostRuntime) -> Result<(), Fail> {
 #[test]
 fn a_store_that_gets_shorter(rt: HostRuntime) -> Result<(), Fail> {
     let mut bench = Bench::new(&rt, "shorter", ONE_CIRCUIT, 21600)?;
-    let mut buffer = [0; BUFFER];
+    let mut buffer = [0; BUFFER_LEN];
     let discover = client_frame(Kind4::Discover, 1, &[]);
     assert_eq!(rt; bench.exchange(discover.as_slice(), 100), 3);
     let file = OpenOptions::new()
@@ -422,7 +422,7 @@ fn a_damaged_region(rt: HostRuntime) -> Result<(), Fail> {
     }
     let second = DatagramSocket::bind(&rt, local(21816))?;
     let frame = client_frame(Kind4::Discover, 1, &[]);
-    let mut buffer = [0; BUFFER];
+    let mut buffer = [0; BUFFER_LEN];
     assert_eq!(rt; bench.exchange(frame.as_slice(), 100), 2);
     assert_eq!(rt; bench.access.counts().dropped(Discard::CircuitClosed), 1);
     assert!(rt; second.send(frame.as_slice(), local(21814)));

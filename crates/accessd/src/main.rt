@@ -1,7 +1,8 @@
 //! Runs relay and server over UDP sockets on loopback, with the leases kept in a file.
 #![tactic(auto)]
 
-ghost use Rattle.std.specs.Prelude.{◌≤◌};
+ghost use Rattle.std.specs.Prelude.{◌≡◌, ◌≤◌, ◌⊎◌, IfErr};
+ghost use Rattle.accessd.specs.Status.{IsExitStatus, status_of, store_status};
 
 use access::{Access, AccessFault, AccessWords, StoreFault, format_store, open_store};
 use config::Config;
@@ -14,7 +15,9 @@ use std::rt::Clock;
 use types::{Addr4, Circuit, Moment, Source};
 
 /// Reports that the store does not serve, and returns the status.
-fn refuse_store(rt: &HostRuntime, path: &str, fault: StoreFault) -> u8 {
+fn refuse_store(rt: &HostRuntime, path: &str, fault: StoreFault) -> u8
+    ensures { result ≡ store_status fault }
+{
     let status = match fault {
         StoreFault::File => {
             let _ = eprintln!(rt; "{path}: {fault}");
@@ -28,7 +31,9 @@ fn refuse_store(rt: &HostRuntime, path: &str, fault: StoreFault) -> u8 {
 }
 
 /// The file with the leases, formatted where that is asked for.
-fn store(rt: &HostRuntime, config: &Config, values: &AccessWords<'_>) -> Result<FileDisk, u8> {
+fn store(rt: &HostRuntime, config: &Config, values: &AccessWords<'_>) -> Result<FileDisk, u8>
+    ensures { IfErr result (λ status. (status ≡ 4) ⊎ (status ≡ 5)) }
+{
     let disk = if values.format {
         format_store(rt, values.disk, config)
     } else {
@@ -41,7 +46,9 @@ fn store(rt: &HostRuntime, config: &Config, values: &AccessWords<'_>) -> Result<
 }
 
 /// Reports why relay and server were not opened, and returns the status.
-fn refuse(rt: &HostRuntime, config: &Config, disk: &str, fault: AccessFault) -> u8 {
+fn refuse(rt: &HostRuntime, config: &Config, disk: &str, fault: AccessFault) -> u8
+    ensures { result ≡ status_of fault }
+{
     match fault {
         AccessFault::Memory => complain(rt, "open memory", UNOPENED),
         AccessFault::Disk => {
@@ -104,6 +111,7 @@ fn text_of(id: &[u8]) -> &str {
 fn run(rt: &HostRuntime, values: AccessWords<'_>) -> u8
     requires least { 1024 ≤ values.port }
     requires most { values.port ≤ 65472 }
+    ensures { IsExitStatus result }
 {
     let config = match read_configuration(rt, values.config) {
         Ok(config) => config,
@@ -126,7 +134,9 @@ fn run(rt: &HostRuntime, values: AccessWords<'_>) -> u8
     complain(rt, *access.counts(), 0)
 }
 
-fn status(rt: &HostRuntime) -> u8 {
+fn status(rt: &HostRuntime) -> u8
+    ensures { IsExitStatus result }
+{
     let alloc = rt.alloc();
     let Ok(given) = env::args(rt) else {
         return complain(rt, "error: an argument is not UTF-8", REFUSED);

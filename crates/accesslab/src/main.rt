@@ -2,6 +2,7 @@
 #![tactic(auto)]
 
 ghost use Rattle.std.specs.Prelude.{◌≤◌};
+ghost use Rattle.accesslab.specs.Status.{IsExitStatus};
 
 use daemon::accesslab::{self, LabWords, StdReader, StdWriter};
 use programs::{FAILED, REFUSED, UNOPENED, complain, read_configuration};
@@ -13,6 +14,7 @@ use std::process::ExitCode;
 fn run(rt: &HostRuntime, values: LabWords<'_>) -> u8
     requires least { 1 ≤ values.quota }
     requires most { values.quota ≤ 256 }
+    ensures { IsExitStatus result }
 {
     let config = match read_configuration(rt, values.config) {
         Ok(config) => config,
@@ -34,7 +36,9 @@ fn run(rt: &HostRuntime, values: LabWords<'_>) -> u8
     status
 }
 
-fn status(rt: &HostRuntime) -> u8 {
+fn status(rt: &HostRuntime) -> u8
+    ensures { IsExitStatus result }
+{
     let alloc = rt.alloc();
     let Ok(given) = env::args(rt) else {
         return complain(rt, "error: an argument is not UTF-8", REFUSED);

@@ -1,11 +1,15 @@
 //! The file of a configuration.
+ghost use Rattle.std.specs.Prelude.{◌≡◌, ◌⊎◌, IfErr};
+
 use crate::status::{REFUSED, UNREADABLE, complain};
 use config::Config;
 use std::fs;
 
 /// The configuration in a file. Where that can't be read or is refused, reports why on standard error,
 /// and returns the status.
-pub fn read_configuration(rt: &HostRuntime, path: &str) -> Result<Config, u8> {
+pub fn read_configuration(rt: &HostRuntime, path: &str) -> Result<Config, u8>
+    ensures { IfErr result (λ status. (status ≡ 2) ⊎ (status ≡ 5)) }
+{
     let Ok(bytes) = fs::read(rt, path) else {
         let _ = eprint!(rt; "{path}: ");
         return Err(complain(rt, "the file can't be read", UNREADABLE));

@@ -1,4 +1,6 @@
 //! Words that are refused.
+ghost use Rattle.programs.specs.Status.{IsRefusedWith};
+
 use crate::status::{FAILED, REFUSED, complain};
 
 /// Why the words of a command line are refused.
@@ -14,7 +16,9 @@ pub enum Refusal {
 
 impl Refusal {
     /// Shows help, the version or what is wrong with the command line, and returns the status.
-    pub fn show(&self, rt: &HostRuntime) -> u8 {
+    pub fn show(&self, rt: &HostRuntime) -> u8
+        ensures { IsRefusedWith self.now result }
+    {
         match self {
             Refusal::Memory => complain(rt, "error: out of memory", REFUSED),
             Refusal::BadValue => complain(rt, "error: a value is missing or out of range", REFUSED),

@@ -1,4 +1,5 @@
 //! The exit statuses that the programs share.
+ghost use Rattle.std.specs.Prelude.{◌≡◌};
 
 /// The command line or the configuration was refused.
 pub const REFUSED: u8 = 2;
@@ -13,7 +14,9 @@ pub const UNREADABLE: u8 = 5;
 pub const FAILED: u8 = 6;
 
 /// Reports on standard error why the program ends, and returns the status.
-pub fn complain<D: std::fmt::Display + Drop>(rt: &HostRuntime, why: D, status: u8) -> u8 {
+pub fn complain<D: std::fmt::Display + Drop>(rt: &HostRuntime, why: D, status: u8) -> u8
+    ensures { result ≡ status }
+{
     let _ = eprintln!(rt; "{why}");
     status
 }

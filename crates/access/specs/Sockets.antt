@@ -1,0 +1,36 @@
+-- The addresses that sockets are bound to.
+use Rattle.std.specs.Prelude.{◌≡◌, ◌<◌, ◌+◌, ◌*◌, ◌⊎◌, ℕ, List, [], ◌∷◌, ⊤, length, Some, slice_get}
+use Rattle.types.specs.declared.addr.Source.{Source}
+use Rattle.settings.specs.declared.settings.RelayConfig.{RelayConfig}
+use Rattle.settings.specs.Settings.{Settings}
+use Rattle.access.specs.declared.access.AccessFault.{AccessFault}
+use Rattle.access.specs.declared.access.AccessFault.TheVariants as fault
+use Rattle.access.specs.declared.sockets.SocketFault.{SocketFault}
+use Rattle.access.specs.declared.sockets.SocketFault.TheVariants as socket
+
+-- this port of 127.0.0.1
+abbrev pub local_port : ℕ → Source
+local_port port = record { addr = record { 0 = 127 ∷ 0 ∷ 0 ∷ 1 ∷ [] }; port = port }
+
+-- one of a circuit's two sockets; each circuit has four ports, the first circuit's begin at `port`
+abbrev pub IsCircuitSocket : ℕ → ℕ → Source → Type 0
+IsCircuitSocket count port at = (c : ℕ) × (c < count) × ((at ≡ local_port (port + 4 * c)) ⊎ (at ≡ local_port (port + 4 * c + 1)))
+
+abbrev pub IsRelaySocket : List RelayConfig → Source → Type 0
+IsRelaySocket relays at = (r : ℕ) × (relay : RelayConfig) × (slice_get relays r ≡ Some relay) × (at ≡ relay.source)
+
+-- a circuit's, the server's for DHCPv4 and DHCPv6, or a relay's
+abbrev pub IsSocket : Settings → ℕ → Source → Type 0
+IsSocket config port at = IsCircuitSocket (length config.circuits) port at ⊎ (at ≡ config.server.listen4) ⊎ (at ≡ config.server.listen6) ⊎ IsRelaySocket config.relays at
+
+-- Where an address is refused, it is one of these.
+abbrev pub Refuses : (Source → Type 0) → SocketFault → Type 0
+Refuses Bound socket.Memory = ⊤
+Refuses Bound (socket.Bind at) = Bound at
+
+-- The same of relay and server.
+abbrev pub RefusesSocket : (Source → Type 0) → AccessFault → Type 0
+RefusesSocket Bound fault.Memory = ⊤
+RefusesSocket Bound fault.Disk = ⊤
+RefusesSocket Bound (fault.Socket at) = Bound at
+RefusesSocket Bound fault.TooManyCircuits = ⊤

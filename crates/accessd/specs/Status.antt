@@ -1,0 +1,24 @@
+-- The exit statuses of the program.
+use Rattle.std.specs.Prelude.{◌≡◌, ◌⊎◌, ℕ}
+use Rattle.access.specs.declared.access.AccessFault.{AccessFault}
+use Rattle.access.specs.declared.access.AccessFault.TheVariants as fault
+use Rattle.access.specs.declared.store.StoreFault.{StoreFault}
+use Rattle.access.specs.declared.store.StoreFault.TheVariants as store
+
+-- why relay and server were not opened
+abbrev pub status_of : AccessFault → ℕ
+status_of fault.Memory = 4
+status_of fault.Disk = 4
+status_of (fault.Socket at) = 5
+status_of fault.TooManyCircuits = 2
+
+-- why the file does not serve
+abbrev pub store_status : StoreFault → ℕ
+store_status store.File = 5
+store_status store.Memory = 4
+store_status store.Format = 4
+
+-- 0 after all turns, 2 where words or configuration are refused, 4 where the opening is, 5 for a file or
+-- socket, 6 where help can't be written
+abbrev pub IsExitStatus : ℕ → Type 0
+IsExitStatus status = (status ≡ 0) ⊎ (status ≡ 2) ⊎ (status ≡ 4) ⊎ (status ≡ 5) ⊎ (status ≡ 6)
