@@ -73,12 +73,25 @@ fn bind<R: Net>(net: &R, at: Source) -> Result<DatagramSocket, SocketFault>
 }
 
 impl CircuitSockets {
-    /// Binds the sockets of the circuit whose ports begin at `first`.
-    fn bind<R: Net>(net: &R, first: u16, relay: usize) -> Result<CircuitSockets, SocketFault>
-        requires { first ≤ 65532 }
-        ensures relay { IfOk result (λ circuit. circuit.relay ≡ relay) }
-        ensures refused { IfErr result (Refuses (λ at. (at ≡ local_port first) ⊎ (at ≡ local_port (first + 1)))) }
+    /// Binds the sockets of the circuit at this index. The ports of the first circuit begin at `port`,
+    /// those of each other one 4 later.
+    fn bind<R: Net>(
+        net: &R,
+        config: &Config,
+        port: u16,
+        index: usize,
+    ) -> Result<CircuitSockets, SocketFault>
+        requires few { length config.now.circuits ≤ 16 }
+        requires index { index < length config.now.circuits }
+        requires most { port ≤ 65472 }
+        ensures behind { IfOk result (λ circuit. circuit.relay < length config.now.relays) }
+        ensures refused { IfErr result (Refuses (IsCircuitSocket (length config.now.circuits) port)) }
     {
+        let Some(circuit) = Circuit::new(index) else {
+            unreachable!()
+        };
+        let relay = config.at(circuit).relay.index();
+        let first = port + PORTS * index as u16;
         Ok(CircuitSockets {
             socket4: bind(net, local(first))?,
             socket6: bind(net, local(first + 1))?,
@@ -104,11 +117,7 @@ fn bind_circuits<R: Net>(
         return Err(SocketFault::Memory);
     };
     'circuits: for index in 0..config.circuit_count() {
-        let Some(circuit) = Circuit::new(index) else {
-            unreachable!()
-        };
-        let relay = config.at(circuit).relay.index();
-        let sockets = CircuitSockets::bind(net, port + PORTS * index as u16, relay)?;
+        let sockets = CircuitSockets::bind(net, config, port, index)?;
         if circuits.push(sockets).is_err() {
             return Err(SocketFault::Memory);
         }
