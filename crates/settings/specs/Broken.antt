@@ -1,5 +1,5 @@
 -- What a fault of the rules 42 and 43 points at: the entries, keys and values that break its rule.
-use Rattle.std.specs.Prelude.{◌≡◌, ◌⊎◌, ℕ, ℤ, ◌+◌, ◌-◌, ◌^◌, ◌≤◌, ◌<◌, List, length, slice_get, Some, IfSome, ⊤}
+use Rattle.std.specs.Prelude.{◌≡◌, ◌⊎◌, ℕ, ℤ, ◌+◌, ◌-◌, ◌^◌, ◌≤◌, ◌<◌, List, length, slice_get, Some, IfSome, IfNone, ⊤}
 use Rattle.types.specs.Addr.{number4, number6}
 use Rattle.types.specs.declared.addr.Addr4.{Addr4}
 use Rattle.types.specs.declared.addr.Addr6.{Addr6}
@@ -30,10 +30,16 @@ pub record IsEntry {A : Type 0} (entries : List A) (number : ℕ) (entry : A) : 
   pub counted : 1 ≤ number
   pub there : slice_get entries (number - 1) ≡ Some entry
 
--- the entry of a circuit of the text, with the id that the text has there where one is named
+-- the entry has this circuit id
+abbrev pub HasId : Field CircuitKeys → List ℕ → Type 0
+HasId entry id = HasValue entry (λ keys. HasValue keys.id (λ text. IsId text id))
+
+-- The entry of a circuit of the text, named with the id that the entry has, and without one only where
+-- it has none.
 pub record IsEntryOf (entries : List (Field CircuitKeys)) (circuit : CircuitRef) (entry : Field CircuitKeys) : Type 0 where
   pub is : IsEntry entries circuit.number entry
-  pub id : IfSome circuit.id (λ id. HasValue entry (λ keys. keys.id ≡ Value id))
+  pub id : IfSome circuit.id (HasId entry)
+  pub no_id : IfNone circuit.id ((id : List ℕ) → ¬ HasId entry id)
 
 -- rule 42
 

@@ -1,7 +1,7 @@
 //! Whether every table and key is there, of its type.
-ghost use Rattle.std.specs.Prelude.{◌≡◌, ◌↔◌, Some, IsNone, IsTrue, IfSome, ⊤};
+ghost use Rattle.std.specs.Prelude.{ℕ, List, ◌≡◌, ◌↔◌, Some, IsNone, IsTrue, IfSome, IfNone, ⊤};
 ghost use Rattle.toml.specs.View.{view, items_view, table_view};
-ghost use Rattle.settings.specs.Broken.{HasServerKey, HasRelayKey, HasCircuitKey, RelayLacks, CircuitLacks};
+ghost use Rattle.settings.specs.Broken.{HasId, HasServerKey, HasRelayKey, HasCircuitKey, RelayLacks, CircuitLacks};
 ghost use Rattle.settings.specs.Field.{Value as Told, HasValue, text_of, each};
 ghost use Rattle.settings.specs.Keys.{AllThere, IsRelayName, HasServerKeys, HasRelayKeys, HasCircuitKeys};
 ghost use Rattle.settings.specs.Tables.{server_keys, relay_keys, circuit_keys, relay_entry, circuit_entry};
@@ -178,7 +178,8 @@ fn circuit_entry_lacks(entry: &Value, relays: &[Value]) -> Option<CircuitKey>
 
 /// The id of an entry of the list of circuits, where it is a table with an id.
 pub fn entry_id(entry: &Value) -> Option<CircuitId>
-    ensures { IfSome result (λ id. HasValue (circuit_entry (Some (view entry.now))) (λ keys. keys.id ≡ Told id)) }
+    ensures some { IfSome result (HasId (circuit_entry (Some (view entry.now)))) }
+    ensures none { IfNone result ((id : List ℕ) → ¬ HasId (circuit_entry (Some (view entry.now))) id) }
 {
     match entry.as_table() {
         Some(circuit) => id_at(circuit, "id"),

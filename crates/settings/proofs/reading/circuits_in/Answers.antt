@@ -1,7 +1,6 @@
-use Rattle.std.proofs.Common.{◌≡◌, length, arith, subst}
-use Rattle.std.specs.Prelude.{IfSome}
-use Rattle.settings.specs.Broken.{IsCircuitUnfit}
-use Rattle.settings.specs.Field.{Value, HasValue}
+use Rattle.std.proofs.Common.{length, arith, subst}
+use Rattle.std.specs.Prelude.{ℕ, List, IfSome, IfNone}
+use Rattle.settings.specs.Broken.{HasId, IsCircuitUnfit}
 use Rattle.settings.specs.Keys.{HasCircuitKeys}
 use Rattle.settings.specs.Tables.{circuit_entry}
 use Rattle.settings.specs.Values.{IsCircuit}
@@ -20,8 +19,9 @@ circuit_in-requires-clause-keys c =
 pub returns-in-Err-clause-unread : goal.returns-in-Err-clause-unread
 returns-in-Err-clause-unread c = λ server relays.
     let entry = numbered (λ keys. IsCircuitUnfit keys c.in-Err.limit) circuit_entry c.args.entries.now c.loop-i.i c.index-entries-i.result c.loop-i-test.true c.index-entries-i.is c.in-Err.ensures.err in
-    let id = subst (λ f. IfSome c.entry_id-id.result (λ id. HasValue f (λ keys. keys.id ≡ Value id))) entry.2 c.entry_id-id.ensures in
-    (entry.0, record { is = entry.1; id = id }, entry.3)
+    let id = subst (λ f. IfSome c.entry_id-id.result (HasId f)) entry.2 c.entry_id-id.ensures.some in
+    let no_id = subst (λ f. IfNone c.entry_id-id.result ((id : List ℕ) → ¬ HasId f id)) entry.2 c.entry_id-id.ensures.none in
+    (entry.0, record { is = entry.1; id = id; no_id = no_id }, entry.3)
 
 pub returns-clause-read : goal.returns-clause-read
 returns-clause-read c = each_reads_all (IsCircuit c.args.relays.now) circuit_entry c.args.entries.now c.loop-i.i c.loop-i.circuits.items c.loop-i-test.false c.loop-i.invariant
