@@ -3,6 +3,7 @@ use Rattle.std.specs.Prelude.{◌≡◌, ◌≤◌, ℕ, Some, slice_get}
 use Rattle.dispatch.specs.Server.{Book}
 use Rattle.dispatch.specs.ServerValue.{ServerValue, books_in}
 use Rattle.relay.specs.Relays.{Topology}
+use Rattle.access.specs.declared.counts.Counts.{Counts}
 
 pub record AccessValue : Type 0 where
   -- what the relays know of the configuration
@@ -10,6 +11,8 @@ pub record AccessValue : Type 0 where
   pub server : ServerValue
   -- how many regions the store has
   pub regions : ℕ
+  -- what became of the datagrams that were received
+  pub counts : Counts
 
 -- the clock of no open circuit is before this moment
 abbrev pub HasReached : ℕ → ServerValue → Type 0

@@ -1,6 +1,7 @@
 //! Relay and server over sockets.
 ghost use Rattle.std.specs.Prelude.{◌≡◌, ◌≤◌, ◌<◌, ◌+◌, ◌↔◌, length, map, true, is_some, Some, slice_get, Err, IfOk, IfErr};
 ghost use Rattle.access.specs.Access.{HasReached};
+ghost use Rattle.access.specs.Counts.{more_by, one_more};
 ghost use Rattle.access.specs.Sockets.{IsSocket, RefusesSocket};
 ghost use Rattle.access.specs.declared.access.AccessFault.TheVariants as fault;
 ghost use Rattle.config.specs.CircuitPart.{parts_of};
@@ -62,7 +63,7 @@ impl Model for Access {
 
     ghost Value = { AccessValue };
 
-    ghost view = { λ a. record { topology = a.relays.topology; server = a.server; regions = a.disk.regions } };
+    ghost view = { λ a. record { topology = a.relays.topology; server = a.server; regions = a.disk.regions; counts = a.counts } };
 
     // each circuit and each relay has its sockets, each circuit a relay and a region
     ghost invariant = { λ a. (length a.sockets.circuits.items ≡ length a.relays.topology.circuits) × (length a.sockets.circuits.items ≤ 16) × All (λ circuit. circuit.relay < length a.sockets.relays.items) a.sockets.circuits.items × (length a.sockets.relays.items ≡ length a.relays.topology.relays) × (length a.sockets.relays.items ≤ 8) × HasRegions (parts_in a.server) a.disk.regions };
@@ -128,6 +129,7 @@ impl Access {
         ensures topology { self.new.topology ≡ self.old.topology }
         ensures parts { parts_in self.new.server ≡ parts_in self.old.server }
         ensures regions { self.new.regions ≡ self.old.regions }
+        ensures received { self.new.counts.received ≡ more_by result self.old.counts.received }
     {
         let received = self.receive_from_circuits()
             + self.receive_from_server(now)
@@ -145,7 +147,9 @@ impl Access {
     }
 
     /// What became of the datagrams that were received.
-    pub fn counts(&self) -> &Counts {
+    pub fn counts(&self) -> &Counts
+        ensures { result.now ≡ self.now.counts }
+    {
         &self.counts
     }
 
@@ -155,6 +159,7 @@ impl Access {
         ensures topology { self.new.topology ≡ self.old.topology }
         ensures parts { parts_in self.new.server ≡ parts_in self.old.server }
         ensures regions { self.new.regions ≡ self.old.regions }
+        ensures received { self.new.counts.received ≡ more_by result self.old.counts.received }
     {
         let mut received = 0;
         'circuits: for index in 0..self.sockets.circuits.len() {
@@ -170,6 +175,7 @@ impl Access {
         ensures topology { self.new.topology ≡ self.old.topology }
         ensures parts { parts_in self.new.server ≡ parts_in self.old.server }
         ensures regions { self.new.regions ≡ self.old.regions }
+        ensures received { self.new.counts.received ≡ more_by result self.old.counts.received }
     {
         let mut received = 0;
         let sockets = &self.sockets.circuits[index];
@@ -192,6 +198,7 @@ impl Access {
         ensures topology { self.new.topology ≡ self.old.topology }
         ensures parts { parts_in self.new.server ≡ parts_in self.old.server }
         ensures regions { self.new.regions ≡ self.old.regions }
+        ensures received { self.new.counts.received ≡ one_more self.old.counts.received }
     {
         self.counts.count_received();
         let Some(circuit) = Circuit::new(index) else {
@@ -214,6 +221,7 @@ impl Access {
         ensures topology { self.new.topology ≡ self.old.topology }
         ensures parts { parts_in self.new.server ≡ parts_in self.old.server }
         ensures regions { self.new.regions ≡ self.old.regions }
+        ensures received { self.new.counts.received ≡ more_by result self.old.counts.received }
     {
         let mut received = 0;
         if let Some((len, from)) = self.sockets.listen4.receive(&mut self.buffer) {
@@ -233,6 +241,7 @@ impl Access {
         ensures topology { self.new.topology ≡ self.old.topology }
         ensures parts { parts_in self.new.server ≡ parts_in self.old.server }
         ensures regions { self.new.regions ≡ self.old.regions }
+        ensures received { self.new.counts.received ≡ one_more self.old.counts.received }
     {
         let datagram = &self.buffer[..len];
         self.counts.count_received();
@@ -254,6 +263,7 @@ impl Access {
         ensures topology { self.new.topology ≡ self.old.topology }
         ensures parts { parts_in self.new.server ≡ parts_in self.old.server }
         ensures regions { self.new.regions ≡ self.old.regions }
+        ensures received { self.new.counts.received ≡ more_by result self.old.counts.received }
     {
         let mut received = 0;
         'relays: for index in 0..self.sockets.relays.len() {
@@ -269,6 +279,7 @@ impl Access {
         ensures topology { self.new.topology ≡ self.old.topology }
         ensures parts { parts_in self.new.server ≡ parts_in self.old.server }
         ensures regions { self.new.regions ≡ self.old.regions }
+        ensures received { self.new.counts.received ≡ more_by result self.old.counts.received }
     {
         let Some((len, from)) = self.sockets.relays[index].receive(&mut self.buffer) else {
             return 0;
@@ -291,6 +302,7 @@ impl Access {
         ensures topology { self.new.topology ≡ self.old.topology }
         ensures parts { parts_in self.new.server ≡ parts_in self.old.server }
         ensures regions { self.new.regions ≡ self.old.regions }
+        ensures received { self.new.counts.received ≡ self.old.counts.received }
     {
         let sockets = &self.sockets.circuits[circuit.index()];
         let frame = self.out.as_slice();
@@ -307,6 +319,7 @@ impl Access {
         ensures topology { self.new.topology ≡ self.old.topology }
         ensures parts { parts_in self.new.server ≡ parts_in self.old.server }
         ensures regions { self.new.regions ≡ self.old.regions }
+        ensures received { self.new.counts.received ≡ one_more self.old.counts.received }
     {
         self.counts.count_received();
         self.counts.count_dropped(Discard::NotServed);

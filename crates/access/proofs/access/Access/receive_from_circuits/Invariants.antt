@@ -1,5 +1,6 @@
 use Rattle.std.proofs.Common.{◌≡◌, ◌≤◌, ◌*◌, length}
 use Rattle.dispatch.specs.ServerValue.{parts_in}
+use Rattle.access.specs.Counts.{more_by}
 use Rattle.access.proofs.access.Access.receive_from_circuits.Given as goal
 
 abbrev pub invariant-circuits : goal.invariant-circuits
@@ -11,4 +12,5 @@ invariant-circuits l = record {
   topology : l.self.topology ≡ l.fn.self.topology;
   parts : parts_in l.self.server ≡ parts_in l.fn.self.server;
   regions : l.self.regions ≡ l.fn.self.regions;
+  counts : l.self.counts.received ≡ more_by l.received l.fn.self.counts.received;
 }
