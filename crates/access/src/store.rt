@@ -1,7 +1,9 @@
 //! The file that keeps the leases.
-ghost use Rattle.std.specs.Prelude.{◌≡◌, ◌≤◌, ◌<◌, ◌+◌, ◌*◌, ℕ, true, length, Some, IfOk, OnOk, slice_get};
+ghost use Rattle.std.specs.Prelude.{◌≡◌, ◌≢◌, ◌≤◌, ◌<◌, ◌+◌, ◌*◌, ℕ, true, length, Some, IfOk, IfErr, OnOk, slice_get};
+ghost use Rattle.access.specs.declared.store.StoreFault.TheVariants as fault;
 ghost use Rattle.settings.specs.declared.settings.CircuitConfig.{CircuitConfig};
 ghost use Rattle.lease_disk.specs.Crash.{IsFormatted};
+ghost use Rattle.lease_disk.specs.FileDisk.{uncalled};
 
 use crate::sockets::MAX_SERVED;
 use config::Config;
@@ -42,15 +44,21 @@ fn format_regions<D: Disk>(config: &Config, disk: &mut D) -> Result<(), StoreFau
     Ok(())
 }
 
-fn fault_of(fault: FileFault) -> StoreFault {
-    match fault {
+fn fault_of(why: FileFault) -> StoreFault
+    ensures { result ≢ fault.Format }
+{
+    match why {
         FileFault::File => StoreFault::File,
         FileFault::Memory => StoreFault::Memory,
     }
 }
 
 /// Opens the file with this path as the store of a configuration, as it is.
-pub fn open_store<R: Files<File = File>>(rt: &R, path: &str) -> Result<FileDisk, StoreFault> {
+pub fn open_store<R: Files<File = File>>(rt: &R, path: &str) -> Result<FileDisk, StoreFault>
+    ensures most { IfOk result (λ disk. disk.regions ≤ 1024) }
+    ensures new { IfOk result (λ disk. disk ≡ uncalled disk.regions) }
+    ensures refused { IfErr result (λ why. why ≢ fault.Format) }
+{
     FileDisk::open(rt, path).map_err(fault_of)
 }
 
