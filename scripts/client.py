@@ -88,8 +88,8 @@ class Circuit:
 class Server:
     """A run of `accessd` over a configuration and a store, from when it is ready to serve."""
 
-    def __init__(self, program, config, store, *words):
-        command = [program, config, "--disk", store, "--turns", "1000000", *words]
+    def __init__(self, program, config, store, *words, turns=1_000_000):
+        command = [program, config, "--disk", store, "--turns", str(turns), *words]
         self.process = subprocess.Popen(command, stderr=subprocess.PIPE, text=True)
         self.first_line = self.process.stderr.readline().rstrip("\n")
 

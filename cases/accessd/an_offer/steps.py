@@ -1,0 +1,10 @@
+"""One client is offered an address: the frame comes from its circuit's port, behind one byte for unicast."""
+from client import DISCOVER, Circuit, Server, frame
+
+server = Server("accessd", "config.toml", "leases", "--format")
+circuit = Circuit(20000)
+circuit.send(frame(DISCOVER, 1))
+datagram, source = circuit.socket.recvfrom(2048)
+print(len(datagram), datagram.hex(), "from", *source)
+print(circuit.receive(0.1))
+server.kill()
