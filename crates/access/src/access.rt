@@ -30,7 +30,7 @@ pub enum AccessFault {
     #[error("out of memory")]
     Memory,
     /// The store lacks the region of a circuit.
-    #[error("the store has fewer regions than the circuits need")]
+    #[error("the file has fewer regions than the circuits need")]
     Disk,
     /// No socket could be bound to this address and port.
     #[error("no socket can be bound to an address")]

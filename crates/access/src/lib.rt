@@ -4,14 +4,10 @@
 
 mod access;
 mod command_line;
-#[cfg(test)]
-mod command_line_tests;
 mod counts;
 mod datagram_socket;
 mod sockets;
 mod store;
-#[cfg(test)]
-mod tests;
 
 pub use access::{Access, AccessFault};
 pub use command_line::{AccessWords, words};
