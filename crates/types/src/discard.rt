@@ -15,7 +15,7 @@ pub enum Discard {
     #[error("the frame is malformed")]
     MalformedUp,
     /// op is not BOOTREQUEST (RFC 2131, section 2).
-    #[error("the frame is no request")]
+    #[error("the frame is not a request")]
     NotRequest,
     /// giaddr is set, though the client is on the relay's own circuit (RFC 3046, section 2.1.1).
     #[error("the frame has a giaddr already")]
@@ -33,7 +33,7 @@ pub enum Discard {
     #[error("the frame has passed another relay")]
     NestedRelay,
     /// The datagram came from no configured relay.
-    #[error("the datagram is from no configured relay")]
+    #[error("the datagram is not from a configured relay")]
     UnknownSource,
     /// The server can't read the datagram.
     #[error("the datagram is malformed")]
@@ -45,16 +45,16 @@ pub enum Discard {
     #[error("the datagram's circuit is unknown")]
     UnknownCircuit,
     /// giaddr is not the circuit's gateway, or link-address not its link's.
-    #[error("the datagram's link is not its circuit's")]
+    #[error("the datagram's link address is not its circuit's")]
     WrongLink,
     /// There is no server identifier override, or it is not the gateway (RFC 5107, section 4).
-    #[error("the datagram has no right server identifier override")]
+    #[error("the server identifier override is missing or wrong")]
     NoOverride,
     /// The client's identifier is missing, or its length is outside the limits.
     #[error("the client's identifier is missing, or too short or too long")]
     ClientKey,
     /// The client speaks to another server.
-    #[error("the client speaks to another server")]
+    #[error("the client has selected another server")]
     OtherServer,
     /// No address of the circuit's pool is free.
     #[error("no address is free")]
@@ -72,7 +72,7 @@ pub enum Discard {
     #[error("the circuit's region could not be written")]
     DiskFault,
     /// The message was heard and has no reply.
-    #[error("there is nothing to say")]
+    #[error("no reply is due")]
     NothingToSay,
     /// The datagram towards the relay is not from the server.
     #[error("the reply is not from the server")]
@@ -84,7 +84,7 @@ pub enum Discard {
     #[error("the reply's circuit is unknown")]
     UnknownCircuitDown,
     /// The reply's giaddr is not the circuit's gateway, or its link-address not the link's.
-    #[error("the reply's link is not its circuit's")]
+    #[error("the reply's link address is not its circuit's")]
     WrongLinkDown,
 }
 
