@@ -1,4 +1,4 @@
--- What a fault of the rules 44 to 49 points at: the entries, keys and values that break its rule.
+-- What a fault of rules 44 to 49 points at: the entries, keys and values that break its rule.
 use Rattle.std.specs.Prelude.{◌≡◌, ◌≢◌, ℕ, ◌^◌, ◌/◌, ◌<◌, Some}
 use Rattle.types.specs.Addr.{number4, number6}
 use Rattle.types.specs.declared.addr.Source.{Source}
@@ -63,7 +63,7 @@ SharePool4 s first second = AreTwo s first second (λ c d. (n : ℕ) × IsInPool
 abbrev pub SharePool6 : Settings → CircuitRef → CircuitRef → Type 0
 SharePool6 s first second = AreTwo s first second (λ c d. (n : ℕ) × IsInPool6 c n × IsInPool6 d n)
 
--- a circuit whose value is in the pool of another, or in its own
+-- a circuit whose value is in another's pool, or in its own
 pub record IsInside (settings : Settings) (circuit owner : CircuitRef) (R : CircuitConfig → CircuitConfig → Type 0) : Type 0 where
   pub one : CircuitConfig
   pub other : CircuitConfig

@@ -1,7 +1,7 @@
 -- Related entries of a list, by their indices.
 use Rattle.std.specs.Prelude.{◌≡◌, ℕ, ◌≤◌, List, slice_get, Some}
 
--- the entry at this index, which is not below `from`, and of which this holds
+-- the entry at this index, which is `from` or above, and of which this holds
 pub record IsRelated {A : Type 0} (P : A → Type 0) (entries : List A) (from index : ℕ) : Type 0 where
   pub entry : A
   pub is : slice_get entries index ≡ Some entry

@@ -56,7 +56,7 @@ pub record IsOnSubnet (circuit : CircuitConfig) : Type 0 where
 abbrev pub OnSubnets : Settings → Type 0
 OnSubnets settings = All IsOnSubnet settings.circuits
 
--- the rules 44 to 49
+-- rules 44 to 49
 pub record KeepsRules (settings : Settings) : Type 0 where
   pub names : NamesDiffer settings
   pub regions : RegionsDiffer settings
@@ -65,7 +65,7 @@ pub record KeepsRules (settings : Settings) : Type 0 where
   pub gateways : GatewaysOutside settings
   pub subnets : OnSubnets settings
 
--- what holds of every configuration that was read
+-- what holds of every configuration that has been read
 pub record IsSound (settings : Settings) : Type 0 where
   pub some_relay : 1 ≤ length settings.relays
   pub relays : length settings.relays ≤ 8

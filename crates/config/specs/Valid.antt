@@ -22,8 +22,8 @@ pub record IsValid (tables : Tables) (settings : Settings) : Type 0 where
   -- rules 44 to 49
   pub rules : KeepsRules settings
 
--- The fault is the least of the rules 44 to 49 that the settings break, and the entries that it names
--- break it.
+-- The fault is the lowest of rules 44 to 49 that the settings break, and the entries that it names break
+-- it.
 abbrev pub IsLeastRule : Settings → ConfigFault → Type 0
 IsLeastRule s (IdTwice same) = AreSame s same
 IsLeastRule s (RegionTwice first second) = NamesDiffer s × ShareRegion s first second
@@ -38,7 +38,7 @@ IsLeastRule s (Text error) = ⊥
 IsLeastRule s (Missing location) = ⊥
 IsLeastRule s (Limit limit) = ⊥
 
--- the settings that are read break a rule, and the fault is the least one
+-- the settings that were read break a rule, and the fault is the lowest one
 pub record BreaksRule (tables : Tables) (fault : ConfigFault) : Type 0 where
   pub settings : Settings
   pub all : HasAll tables
@@ -50,7 +50,7 @@ pub record BreaksLimit (tables : Tables) (fault : LimitFault) : Type 0 where
   pub all : HasAll tables
   pub broken : IsUnfit tables fault
 
--- the fault is the least rule that the tables break
+-- the fault is the lowest rule that the tables break
 abbrev pub IsLeastBroken : Tables → ConfigFault → Type 0
 IsLeastBroken tables (Missing location) = IsMissing tables location
 IsLeastBroken tables (Limit limit) = BreaksLimit tables limit
@@ -60,7 +60,7 @@ IsLeastBroken tables fault = BreaksRule tables fault
 abbrev pub IsConfig : List ℕ → Settings → Type 0
 IsConfig text settings = (doc : Members) × (parse_document text ≡ Some doc) × IsValid (tables_of doc) settings
 
--- The fault is right for the text. Out of memory says nothing of it.
+-- The fault is right for the text. Out of memory says nothing about it.
 abbrev pub IsFaultOf : List ℕ → ConfigFault → Type 0
 IsFaultOf text Memory = ⊤
 IsFaultOf text (Text error) = parse_document text ≡ None

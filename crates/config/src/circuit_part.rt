@@ -11,8 +11,8 @@ use std::alloc::{AllocError, Global};
 use std::marker::Model;
 use types::{Addr4, Circuit, CircuitId, MAX_DUID, Pool4, Source};
 
-/// A circuit's values with the source of its relay and the server's values. It is a copy, so that
-/// relay and server need no configuration once they are open.
+/// A circuit's values, with the source of its relay and the server's values. It is a copy, so that
+/// relay and server don't need the configuration once they are open.
 #[derive(Debug, Drop)]
 pub struct CircuitPart {
     circuit: CircuitConfig,
@@ -79,14 +79,14 @@ impl CircuitPart {
         self.relay
     }
 
-    /// Where the server takes DHCPv4 datagrams.
+    /// Where the server receives DHCPv4 datagrams.
     pub fn listen4(&self) -> Source
         ensures { result ≡ self.now.listen4 }
     {
         self.listen4
     }
 
-    /// Where the server takes DHCPv6 datagrams.
+    /// Where the server receives DHCPv6 datagrams.
     pub fn listen6(&self) -> Source
         ensures { result ≡ self.now.listen6 }
     {

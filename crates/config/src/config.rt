@@ -36,7 +36,7 @@ impl Model for Config {
     ghost invariant = { λ c. IsSound (record { server = c.server; relays = c.relays.items; circuits = c.circuits.items }) };
 }
 
-/// The data of a text.
+/// The text's data, or the fault that it is not TOML.
 fn document(alloc: Global, text: &str) -> Result<Table, ConfigFault>
     ensures ok { IfOk result (λ t. parse_document text.now ≡ Some (table_view t)) }
     ensures err { IfErr result (IsFaultOf text.now) }
@@ -86,7 +86,7 @@ impl Config {
         }
     }
 
-    /// The configuration that a text is.
+    /// Reads a text: its configuration, or the lowest rule that it breaks and what breaks it.
     pub fn read(alloc: Global, text: &str) -> Result<Config, ConfigFault>
         ensures valid { IfOk result (IsConfig text.now) }
         ensures broken { IfErr result (IsFaultOf text.now) }

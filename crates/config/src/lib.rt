@@ -1,19 +1,13 @@
-//! The configuration: read from TOML, checked by numbered rules, and asked by circuit and relay.
+//! The configuration: read from TOML, checked by numbered rules, and looked up by circuit and relay.
 #![tactic(auto)]
 
 mod circuit_part;
 mod config;
 mod laws;
-#[cfg(test)]
-mod many_tests;
 mod pairs;
 mod relations;
-#[cfg(test)]
-mod rule_tests;
 mod rules;
 mod subnets;
-#[cfg(test)]
-mod tests;
 
 pub use circuit_part::CircuitPart;
 pub use config::Config;

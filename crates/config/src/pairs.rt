@@ -2,7 +2,7 @@
 ghost use Rattle.std.specs.Prelude.{◌↔◌, ◌≤◌, ◌<◌, ℕ, length, slice_index_or, All, AllPairs, IsTrue, IfSome, IfNone};
 ghost use Rattle.config.specs.Pairs.{IsRelated, AreRelated};
 
-/// What a value may have to do with an entry of a list.
+/// A relation between a value and an entry of a list.
 pub trait Relation<A, B> {
     ghost related: { A → B → Type 0 };
 
@@ -24,8 +24,8 @@ pub fn first_related<A, B, R: Relation<A, B>>(one: &A, entries: &[B], from: usiz
     None
 }
 
-/// The indices of two entries, the lesser first, that are related: each entry is compared with all
-/// that stand behind it.
+/// The indices of two entries that are related, the lower one first: each entry is compared with all that
+/// come after it.
 pub fn first_pair<T, R: Relation<T, T>>(entries: &[T]) -> Option<(usize, usize)>
     ensures some { IfSome result (λ pair. AreRelated R.related entries.now pair.0 pair.1 × (pair.0 < pair.1)) }
     ensures none { IfNone result (AllPairs (λ one other. ¬ R.related one other) entries.now) }
@@ -38,8 +38,8 @@ pub fn first_pair<T, R: Relation<T, T>>(entries: &[T]) -> Option<(usize, usize)>
     None
 }
 
-/// The indices of an entry and of one that it is related to: each entry is compared with all, and with
-/// itself.
+/// The indices of an entry and of one that it is related to: each entry is compared with all, itself
+/// included.
 pub fn first_of_all<T, R: Relation<T, T>>(entries: &[T]) -> Option<(usize, usize)>
     ensures some { IfSome result (λ pair. AreRelated R.related entries.now pair.0 pair.1) }
     ensures none { IfNone result (All (λ one. All (λ other. ¬ R.related one other) entries.now) entries.now) }

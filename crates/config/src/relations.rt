@@ -29,7 +29,7 @@ impl Relation<CircuitConfig, CircuitConfig> for SameRegion {
     }
 }
 
-/// Whether two runs of numbers, each by its first and how many it has, have one in common.
+/// Whether two runs of numbers, each given by its first and its length, have a number in common.
 fn overlap(first: u128, count: u8, second: u128, other: u8) -> bool
     ensures { IsTrue result ↔ ((n : ℕ) × ((first ≤ n) × (n < first + count)) × ((second ≤ n) × (n < second + other))) }
 {
@@ -66,7 +66,7 @@ impl Relation<CircuitConfig, CircuitConfig> for SharedPool6 {
     }
 }
 
-/// The gateway of the one circuit is in the other's DHCPv4 pool.
+/// The gateway of one circuit is in the other's DHCPv4 pool.
 pub struct GatewayInPool4;
 
 impl Relation<CircuitConfig, CircuitConfig> for GatewayInPool4 {
@@ -79,7 +79,7 @@ impl Relation<CircuitConfig, CircuitConfig> for GatewayInPool4 {
     }
 }
 
-/// The link address of the one circuit is in the other's DHCPv6 pool.
+/// The link address of one circuit is in the other's DHCPv6 pool.
 pub struct LinkInPool6;
 
 impl Relation<CircuitConfig, CircuitConfig> for LinkInPool6 {

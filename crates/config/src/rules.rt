@@ -39,7 +39,7 @@ fn two_circuits<R: Relation<CircuitConfig, CircuitConfig>>(
     Some((circuit_ref(circuits, first), circuit_ref(circuits, second)))
 }
 
-/// The numbers of two relays that are related, the lesser first.
+/// The numbers of two relays that are related, the lower one first.
 fn two_relays<R: Relation<RelayConfig, RelayConfig>>(
     relays: &[RelayConfig],
 ) -> Option<(usize, usize)>
@@ -60,7 +60,7 @@ fn relay_of(relays: &[RelayConfig], source: &Source) -> Option<usize>
 }
 
 /// Rule 44: two ids, two relays' names, or two of the sources and the server's addresses that are the
-/// same. The variants of `SameName` are looked for in their order.
+/// same. The variants of `SameName` are tried in their order.
 fn same_name(
     server: &ServerConfig,
     relays: &[RelayConfig],
@@ -90,7 +90,7 @@ fn same_name(
     None
 }
 
-/// Rule 48: a circuit, the key of its gateway or of its link address, and the circuit whose pool has it.
+/// Rule 48: a circuit, the key of its gateway or its link address, and the circuit whose pool contains it.
 fn gateway_in_pool(circuits: &[CircuitConfig]) -> Option<(CircuitRef, CircuitKey, CircuitRef)>
     ensures some { IfSome result (λ found. (s : Settings) → s.circuits ≡ circuits.now → IsGatewayInPool s found.0 found.1 found.2) }
     ensures none { IfNone result ((s : Settings) → s.circuits ≡ circuits.now → GatewaysOutside s) }
@@ -106,7 +106,7 @@ fn gateway_in_pool(circuits: &[CircuitConfig]) -> Option<(CircuitRef, CircuitKey
     None
 }
 
-/// Rule 49: a circuit, and the key of its gateway or of its pool that is off its subnet.
+/// Rule 49: a circuit, and the key of its gateway or of its pool, whichever is off its subnet.
 fn circuit_off_subnet(circuits: &[CircuitConfig]) -> Option<(CircuitRef, CircuitKey)>
     requires limits { (relays : List RelayConfig) × All (IsWithinLimits relays) circuits.now }
     ensures some { IfSome result (λ found. (s : Settings) → s.circuits ≡ circuits.now → IsOffSubnet s found.0 found.1) }
@@ -120,8 +120,8 @@ fn circuit_off_subnet(circuits: &[CircuitConfig]) -> Option<(CircuitRef, Circuit
     None
 }
 
-/// The rules 44 to 49 about the values of the server, its relays and its circuits, in their order: the
-/// least that is broken, and the entries that break it.
+/// Rules 44 to 49 about the values of the server, its relays and its circuits, in their order: the lowest
+/// that is broken, and the entries that break it.
 pub fn rules(
     server: &ServerConfig,
     relays: &[RelayConfig],

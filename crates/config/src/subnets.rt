@@ -1,4 +1,4 @@
-//! Whether the addresses of a circuit are those of hosts in its subnets.
+//! Whether a circuit's addresses are host addresses in its subnets.
 ghost use Rattle.std.specs.Prelude.{◌≡◌, ◌≢◌, ℕ, ◌+◌, ◌/◌, ◌^◌, ◌≤◌, ◌↔◌, IsTrue, IfSome, IfNone};
 ghost use Rattle.std.specs.Bool.{OnTrue, OnFalse};
 ghost use Rattle.types.specs.Addr.{number4, number6};
@@ -8,7 +8,7 @@ ghost use Rattle.settings.specs.Settings.{Settings};
 
 use settings::{CircuitConfig, CircuitKey, CircuitRef};
 
-/// Whether an address is a host's in the gateway's network.
+/// Whether an address is a host address in the gateway's subnet.
 fn is_host(address: u64, gateway: u64, prefix: u8) -> bool
     requires { prefix ≤ 30 }
     ensures { IsTrue result ↔ IsHost prefix gateway address }
@@ -17,7 +17,7 @@ fn is_host(address: u64, gateway: u64, prefix: u8) -> bool
     address / size == gateway / size && address % size != 0 && address % size != size - 1
 }
 
-/// Whether the gateway is a host's address in its network.
+/// Whether the gateway is a host address in its own subnet.
 fn has_host_gateway(circuit: &CircuitConfig) -> bool
     requires prefix { circuit.now.prefix4 ≤ 30 }
     ensures { IsTrue result ↔ IsHost circuit.now.prefix4 (number4 circuit.now.gateway4) (number4 circuit.now.gateway4) }
@@ -26,7 +26,7 @@ fn has_host_gateway(circuit: &CircuitConfig) -> bool
     is_host(gateway, gateway, circuit.prefix4)
 }
 
-/// Whether every address of the DHCPv4 pool is a host's in the gateway's network.
+/// Whether every address of the DHCPv4 pool is a host address in the gateway's subnet.
 fn has_host_pool(circuit: &CircuitConfig) -> bool
     requires prefix { circuit.now.prefix4 ≤ 30 }
     ensures all { OnTrue result ((n : ℕ) → IsInPool4 circuit.now n → IsHost circuit.now.prefix4 (number4 circuit.now.gateway4) n) }
@@ -58,7 +58,7 @@ fn is_on_link6(circuit: &CircuitConfig) -> bool
     true
 }
 
-/// How many addresses have one first half.
+/// How many addresses share the first 64 bits.
 const LINK_SIZE: u128 = 1 << 64;
 
 /// The key of the gateway or of the pool that is off the circuit's subnet.

@@ -5,8 +5,8 @@ use crate::status::{REFUSED, UNREADABLE, complain};
 use config::Config;
 use std::fs;
 
-/// The configuration in a file. Where that can't be read or is refused, reports why on standard error,
-/// and returns the status.
+/// The configuration in a file. If that can't be read or is refused, reports why on standard error and
+/// returns the status.
 pub fn read_configuration(rt: &HostRuntime, path: &str) -> Result<Config, u8>
     ensures { IfErr result (λ status. (status ≡ 2) ⊎ (status ≡ 5)) }
 {

@@ -1,5 +1,5 @@
-//! What the programs do before they run: a shared argument, refused words, the configuration's file, and
-//! the statuses.
+//! What the programs do before they run: a shared argument, refused command lines, the configuration's file
+//! and the exit statuses.
 #![tactic(auto)]
 
 mod arguments;

@@ -1,4 +1,4 @@
-//! Words that are refused.
+//! Refused command lines.
 ghost use Rattle.programs.specs.Status.{IsRefusedWith};
 
 use crate::status::{FAILED, REFUSED, complain};
@@ -6,7 +6,7 @@ use crate::status::{FAILED, REFUSED, complain};
 /// Why the words of a command line are refused.
 #[derive(Debug, Drop)]
 pub enum Refusal {
-    /// A request for memory was refused.
+    /// Out of memory.
     Memory,
     /// The words are not those of the command line, or ask for help or the version.
     Usage(clap::Error),

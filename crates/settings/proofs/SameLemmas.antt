@@ -68,15 +68,15 @@ Plain xs = (i : ℕ) → i < length xs → slice_index xs i ≢ 58
 plain_rest : (x : ℕ) (xs : List ℕ) → Plain (x ∷ xs) → Plain xs
 plain_rest x xs h = λ i less. h (suc i) (omega arith)
 
--- a text parts at its only colon in one way
-one_parting : (f g b d : List ℕ) → f ++ 58 ∷ b ≡ g ++ 58 ∷ d → Plain f → Plain g → (f ≡ g) × (b ≡ d)
-one_parting [] [] b d e plain_f plain_g = (refl, cc)
-one_parting [] (y ∷ g) b d e plain_f plain_g = absurd (plain_g 0 (omega arith) cc)
-one_parting (x ∷ f) [] b d e plain_f plain_g = absurd (plain_f 0 (omega arith) cc)
-one_parting (x ∷ f) (y ∷ g) b d e plain_f plain_g =
+-- there is one way to split a text at its only colon
+one_split : (f g b d : List ℕ) → f ++ 58 ∷ b ≡ g ++ 58 ∷ d → Plain f → Plain g → (f ≡ g) × (b ≡ d)
+one_split [] [] b d e plain_f plain_g = (refl, cc)
+one_split [] (y ∷ g) b d e plain_f plain_g = absurd (plain_g 0 (omega arith) cc)
+one_split (x ∷ f) [] b d e plain_f plain_g = absurd (plain_f 0 (omega arith) cc)
+one_split (x ∷ f) (y ∷ g) b d e plain_f plain_g =
     let head : x ≡ y = cc in
     let tail : f ++ 58 ∷ b ≡ g ++ 58 ∷ d = cc in
-    let rest = one_parting f g b d tail (plain_rest x f plain_f) (plain_rest y g plain_g) in
+    let rest = one_split f g b d tail (plain_rest x f plain_f) (plain_rest y g plain_g) in
     ((λ i. head i ∷ rest.0 i), rest.1)
 
 one_port : (text : List ℕ) (m n : ℕ) → IsPort text m → IsPort text n → m ≡ n
@@ -84,7 +84,7 @@ one_port text m n h k = decimal_injective m n (omega (arith, h.most)) (omega (ar
 
 one_source : (text : List ℕ) (s t : Source) → IsSource text s → IsSource text t → s ≡ t
 one_source text s t h k =
-    let parts = one_parting h.front k.front h.back k.back (sym h.parted ∙ k.parted) h.no_colon k.no_colon in
+    let parts = one_split h.front k.front h.back k.back (sym h.joined ∙ k.joined) h.no_colon k.no_colon in
     let address = one_address k.front s.addr t.addr (subst (λ x. IsAddress x s.addr) parts.0 h.address) k.address in
     let port = one_port k.back s.port t.port (subst (λ x. IsPort x s.port) parts.1 h.port) k.port in
     λ i. record { addr = record { 0 = address i }; port = port i }

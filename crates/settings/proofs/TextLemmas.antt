@@ -52,14 +52,14 @@ read_port text n first some parsed =
       most = omega arith;
     }
 
--- a source's text parts at its only colon
+-- a source is split at its only colon
 pub parts_of_source : (text : List ℕ) (x : Bor (List ℕ) × Bor (List ℕ)) → IsSplitOnceResult 58 text (Some x) → (s : Source) → IsSource text s → IsAddress x.0.now s.addr × IsPort x.1.now s.port
 parts_of_source text x parted s h =
-    let same = split_after 58 text h.front h.back (Some x) parted (lit< tt) h.parted h.no_colon in
+    let same = split_after 58 text h.front h.back (Some x) parted (lit< tt) h.joined h.no_colon in
     (subst (λ t. IsAddress t s.addr) (sym same.0) h.address, subst (λ t. IsPort t s.port) (sym same.1) h.port)
 
 pub no_source : (text : List ℕ) → IsSplitOnceResult 58 text None → (s : Source) → IsSource text s → ⊥
-no_source text parted s h = split_after 58 text h.front h.back None parted (lit< tt) h.parted h.no_colon
+no_source text parted s h = split_after 58 text h.front h.back None parted (lit< tt) h.joined h.no_colon
 
 pub source_from_parts : (text : List ℕ) (x : Bor (List ℕ) × Bor (List ℕ)) → IsSplitOnceResult 58 text (Some x) → (s : Source) → IsAddress x.0.now s.addr → IsPort x.1.now s.port → IsSource text s
 source_from_parts text x parted s address port =
@@ -67,7 +67,7 @@ source_from_parts text x parted s address port =
     record {
       front = x.0.now;
       back = x.1.now;
-      parted = parts.0;
+      joined = parts.0;
       no_colon = parts.1;
       address = address;
       port = port;

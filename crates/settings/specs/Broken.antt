@@ -1,4 +1,4 @@
--- What a fault of the rules 42 and 43 points at: the entries, keys and values that break its rule.
+-- What a fault of rules 42 and 43 points at: the entries, keys and values that break its rule.
 use Rattle.std.specs.Prelude.{◌≡◌, ◌⊎◌, ℕ, ℤ, ◌+◌, ◌-◌, ◌^◌, ◌≤◌, ◌<◌, List, length, slice_get, Some, IfSome, IfNone, ⊤}
 use Rattle.types.specs.Addr.{number4, number6}
 use Rattle.types.specs.declared.addr.Addr4.{Addr4}
@@ -34,8 +34,8 @@ pub record IsEntry {A : Type 0} (entries : List A) (number : ℕ) (entry : A) : 
 abbrev pub HasId : Field CircuitKeys → List ℕ → Type 0
 HasId entry id = HasValue entry (λ keys. HasValue keys.id (λ text. IsId text id))
 
--- The entry of a circuit of the text, named with the id that the entry has, and without one only where
--- it has none.
+-- The entry of a circuit of the text, named with the id that the entry has, and without one only if it
+-- has none.
 pub record IsEntryOf (entries : List (Field CircuitKeys)) (circuit : CircuitRef) (entry : Field CircuitKeys) : Type 0 where
   pub is : IsEntry entries circuit.number entry
   pub id : IfSome circuit.id (HasId entry)
@@ -43,7 +43,7 @@ pub record IsEntryOf (entries : List (Field CircuitKeys)) (circuit : CircuitRef)
 
 -- rule 42
 
--- a key of the server, of a relay, of a circuit is there and of its type
+-- a key of the server, of a relay, of a circuit is present and of its type
 abbrev pub HasServerKey : ServerKeys → ServerKey → Type 0
 HasServerKey keys Listen4 = IsThere keys.listen4
 HasServerKey keys Listen6 = IsThere keys.listen6
@@ -67,7 +67,7 @@ HasCircuitKey relays keys Link6 = IsThere keys.link6
 HasCircuitKey relays keys First6 = IsThere keys.first6
 HasCircuitKey relays keys Count6 = IsThere keys.count6
 
--- an entry of the list of relays, or of circuits, lacks this key; one that is no table lacks each
+-- an entry in the array of relays, or of circuits, lacks this key; one that is not a table lacks every key
 abbrev pub RelayLacks : List (Field RelayKeys) → ℕ → RelayKey → Type 0
 RelayLacks entries number key = (entry : Field RelayKeys) × IsEntry entries number entry × ¬ HasValue entry (λ keys. HasRelayKey keys key)
 

@@ -1,4 +1,4 @@
--- The number of each fault: the least rule that is broken.
+-- The number of each fault: the lowest rule that is broken.
 use Rattle.std.specs.Prelude.{ℕ}
 use Rattle.settings.specs.declared.fault.ConfigFault.{ConfigFault}
 use Rattle.settings.specs.declared.fault.ConfigFault.TheVariants.{Memory, Text, Missing, Limit, IdTwice, RegionTwice, Overlap4, Overlap6, GatewayInPool, OffSubnet}

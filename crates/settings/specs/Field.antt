@@ -1,4 +1,4 @@
--- What one look-up in the untyped data of a text gives.
+-- What a look-up in the untyped data of a text finds.
 use Rattle.std.specs.Prelude.{ℕ, ℤ, List, [], ◌∷◌, Option, Some, None, ⊤}
 use Rattle.toml.specs.Data.{Data, string, integer, array, table, Items, no_items, item, Members, get_member}
 
@@ -24,7 +24,7 @@ field_map f Missing = Missing
 field_map f Other = Other
 field_map f (Value a) = Value (f a)
 
--- a text, a whole number, a table, a list: any other type is another type
+-- a string, an integer, a table, an array: any other type is another type
 abbrev pub text_of : Option Data → Field (List ℕ)
 text_of None = Missing
 text_of (Some (string bytes)) = Value bytes
@@ -58,7 +58,7 @@ table_at key keys = table_of (get_member key keys)
 abbrev pub list_at : List ℕ → Members → Field Items
 list_at key keys = list_of (get_member key keys)
 
--- the entries of a list, each of which is there
+-- the entries of an array, none of which is missing
 abbrev pub each : {A : Type 0} → (Option Data → Field A) → Items → List (Field A)
 each f no_items = []
 each f (item d ds) = f (Some d) ∷ each f ds

@@ -1,14 +1,14 @@
--- Rule 42: every table and key is there, of its type, and a circuit's relay has a name of a relay.
+-- Rule 42: every table and key is present and of its type, and a circuit's `relay` is the name of a relay.
 use Rattle.std.specs.Prelude.{◌≡◌, ◌⊎◌, ℕ, List, [], ◌∷◌, ⊤}
 use Rattle.settings.specs.Field.{Field, Value, HasValue, IsThere}
 use Rattle.settings.specs.Tables.{ServerKeys, RelayKeys, CircuitKeys, Tables}
 
--- each entry is there, and this holds of it
+-- each entry has a value, and this holds of it
 abbrev pub AllThere : {A : Type 0} → (A → Type 0) → List (Field A) → Type 0
 AllThere P [] = ⊤
 AllThere P (f ∷ fs) = HasValue f P × AllThere P fs
 
--- some entry is there of which this holds
+-- some entry has a value of which this holds
 abbrev pub AnyThere : {A : Type 0} → (A → Type 0) → List (Field A) → Type 0
 AnyThere P [] = ⊥
 AnyThere P (f ∷ fs) = HasValue f P ⊎ AnyThere P fs

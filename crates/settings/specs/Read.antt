@@ -1,4 +1,4 @@
--- Which values the tables of a text stand for, and which fault they have where there are none.
+-- Which values the tables of a text stand for, and which fault they have if they stand for none.
 use Rattle.std.specs.Prelude.{◌≤◌, List, [], ◌∷◌, length, ⊤}
 use Rattle.settings.specs.declared.fault.ConfigFault.{ConfigFault}
 use Rattle.settings.specs.declared.fault.ConfigFault.TheVariants.{Memory, Limit}
@@ -25,8 +25,8 @@ pub record IsRead (tables : Tables) (settings : Settings) : Type 0 where
   pub some_circuit : 1 ≤ length settings.circuits
   pub few_circuits : length settings.circuits ≤ 1024
 
--- No values are read: the fault names one outside its limits, or memory was refused, which says nothing
--- of the tables.
+-- No values are read: the fault names one outside its limits, or is out of memory, which says nothing
+-- about the tables.
 abbrev pub IsUnread : Tables → ConfigFault → Type 0
 IsUnread tables Memory = ⊤
 IsUnread tables (Limit limit) = IsUnfit tables limit

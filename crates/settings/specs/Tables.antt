@@ -60,14 +60,14 @@ circuit_keys keys = record {
   count6 = integer_at (codes "count6") keys;
 }
 
--- an entry of a list of tables
+-- an entry of an array of tables
 abbrev pub relay_entry : Option Data → Field RelayKeys
 relay_entry entry = field_map relay_keys (table_of entry)
 
 abbrev pub circuit_entry : Option Data → Field CircuitKeys
 circuit_entry entry = field_map circuit_keys (table_of entry)
 
--- the record of a text
+-- the tables of a text
 abbrev pub tables_of : Members → Tables
 tables_of doc = record {
   server = field_map server_keys (table_at (codes "server") doc);
@@ -75,7 +75,7 @@ tables_of doc = record {
   circuits = field_map (each circuit_entry) (list_at (codes "circuit") doc);
 }
 
--- the record of tables that are there
+-- tables that were found
 abbrev pub found_tables : Members → Items → Items → Tables
 found_tables server relays circuits = record {
   server = Value (server_keys server);

@@ -1,4 +1,4 @@
--- What texts spell addresses, ports and sources.
+-- Which strings spell addresses, ports and sources.
 use Rattle.std.specs.Prelude.{◌≡◌, ◌≢◌, ℕ, ◌≤◌, ◌<◌, ◌^◌, List, ◌∷◌, ◌++◌, length, slice_index, decimal, Ok}
 use Rattle.std.specs.Net.Grammar.{IsDotted}
 use Rattle.hex.specs.Hex.{decode_sized}
@@ -6,23 +6,22 @@ use Rattle.types.specs.declared.addr.Addr4.{Addr4}
 use Rattle.types.specs.declared.addr.Addr6.{Addr6}
 use Rattle.types.specs.declared.addr.Source.{Source}
 
--- Four numbers from 0 to 255 with points between them, each as it is written in decimal: without
--- leading zeros.
+-- Four numbers from 0 to 255 with dots between them, each written in decimal without leading zeros.
 abbrev pub IsAddress : List ℕ → Addr4 → Type 0
 IsAddress text address = IsDotted text address.0
 
--- a number from 1 to 65535 as it is written in decimal: without leading zeros
+-- a number from 1 to 65535, written in decimal without leading zeros
 pub record IsPort (text : List ℕ) (port : ℕ) : Type 0 where
   pub spelled : text ≡ decimal port
   pub least : 1 ≤ port
   pub most : port < 2 ^ 16
 
--- an address and a port, on both sides of the text's only colon
+-- an address and a port, split at the string's only colon
 pub record IsSource (text : List ℕ) (source : Source) : Type 0 where
   pub front : List ℕ
   pub back : List ℕ
   -- 58 is the colon
-  pub parted : text ≡ front ++ 58 ∷ back
+  pub joined : text ≡ front ++ 58 ∷ back
   pub no_colon : (i : ℕ) → i < length front → slice_index front i ≢ 58
   pub address : IsAddress front source.addr
   pub port : IsPort back source.port

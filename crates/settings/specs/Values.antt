@@ -1,4 +1,4 @@
--- Rule 43: what the texts and numbers at the keys stand for, each within its limits.
+-- Rule 43: what the strings and integers at the keys stand for, each within its limits.
 use Rattle.std.specs.Prelude.{◌≡◌, ℕ, ℤ, pos, ◌+◌, ◌^◌, ◌≤◌, List, [], ◌∷◌, length, slice_get, option_map, Some, Ok, ⊤}
 use Rattle.hex.specs.Hex.{decode_sized}
 use Rattle.types.specs.Addr.{number4, number6}
@@ -11,13 +11,13 @@ use Rattle.settings.specs.Field.{Field, Value, HasValue}
 use Rattle.settings.specs.Tables.{ServerKeys, RelayKeys, CircuitKeys}
 use Rattle.settings.specs.Texts.{IsAddress, IsSource, IsAddress6}
 
--- the whole number n, from `least` to `most`
+-- the integer n, from `least` to `most`
 pub record IsNumber (field : Field ℤ) (least most n : ℕ) : Type 0 where
   pub value : field ≡ Value (pos n)
   pub from : least ≤ n
   pub to : n ≤ most
 
--- the text itself, of 1 to 32 bytes
+-- the string itself, of 1 to 32 bytes
 pub record IsName (text name : List ℕ) : Type 0 where
   pub value : text ≡ name
   pub least : 1 ≤ length name
@@ -29,12 +29,12 @@ pub record IsDuid (text duid : List ℕ) : Type 0 where
   pub least : 3 ≤ length duid
   pub most : length duid ≤ 130
 
--- the text itself, of 1 to 32 visible characters
+-- the string itself, of 1 to 32 visible characters
 pub record IsId (text id : List ℕ) : Type 0 where
   pub value : text ≡ id
   pub visible : IsCircuitId id
 
--- each text an address, in order
+-- each string is an address, in order
 abbrev pub AreAddresses : List (Field (List ℕ)) → List Addr4 → Type 0
 AreAddresses [] [] = ⊤
 AreAddresses (f ∷ fs) (a ∷ as_) = HasValue f (λ text. IsAddress text a) × AreAddresses fs as_

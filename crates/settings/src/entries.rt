@@ -19,7 +19,7 @@ use crate::values::{address_at, address6_at, id_at, name_at, number_at, source_a
 use toml::Table;
 use types::{Addr4, Addr6, MAX_LEASE, MAX_POOL, MAX_REGION, MIN_LEASE};
 
-/// What was found, or this fault where nothing was.
+/// What was found, or this fault if nothing was.
 macro_rules! found {
     ($found:expr, $fault:expr) => {
         match $found {
@@ -29,14 +29,14 @@ macro_rules! found {
     };
 }
 
-/// What was found at a key of a circuit, or that it is not of its form.
+/// What was found at a key of a circuit, or the fault that it is malformed.
 macro_rules! formed {
     ($found:expr, $key:ident) => {
         found!($found, CircuitLimit::Form(CircuitKey::$key))
     };
 }
 
-/// The number at a key of a circuit, or that it is outside its limits.
+/// The number at a key of a circuit, or the fault that it is outside its limits.
 macro_rules! number {
     ($found:expr, $key:ident) => {
         match $found {
@@ -46,7 +46,7 @@ macro_rules! number {
     };
 }
 
-/// What the table says of the server, or a key whose value is not of its form.
+/// The server's values, or a key whose value is malformed.
 pub fn server_of(table: &Table) -> Result<ServerConfig, ServerKey>
     ensures ok { IfOk result (IsServer (server_keys (table_view table.now))) }
     ensures err { IfErr result (IsServerUnfit (server_keys (table_view table.now))) }
@@ -61,7 +61,7 @@ pub fn server_of(table: &Table) -> Result<ServerConfig, ServerKey>
     })
 }
 
-/// What the table says of a relay, or a key whose value is not of its form.
+/// A relay's values, or a key whose value is malformed.
 pub fn relay_of(table: &Table) -> Result<RelayConfig, RelayKey>
     ensures ok { IfOk result (IsRelay (relay_keys (table_view table.now))) }
     ensures err { IfErr result (IsRelayUnfit (relay_keys (table_view table.now))) }
@@ -71,7 +71,7 @@ pub fn relay_of(table: &Table) -> Result<RelayConfig, RelayKey>
     Ok(RelayConfig { name, source })
 }
 
-/// What the table says of a circuit behind one of the relays, or what is wrong with one of its values.
+/// The values of a circuit behind one of the relays, or what is wrong with one of them.
 pub fn circuit_of(table: &Table, relays: &[RelayConfig]) -> Result<CircuitConfig, CircuitLimit>
     requires keys { (entries : List (Field RelayKeys)) × HasCircuitKeys entries (circuit_keys (table_view table.now)) }
     requires relay { (index : ℕ) × (index < 8) × HasValue (circuit_keys (table_view table.now)).relay (IsNameAt relays.now index) }

@@ -1,4 +1,4 @@
-//! Why a text is no configuration, and where.
+//! Why a text is not a configuration, and where it is wrong.
 ghost use Rattle.std.specs.Prelude.{◌≡◌};
 
 use crate::limit_fault::LimitFault;
@@ -6,7 +6,7 @@ use crate::names::{CircuitKey, CircuitRef, RelayKey, ServerKey, TableName};
 use std::fmt;
 use thiserror::Error;
 
-/// A table or a key that is missing or of another type. Relays are counted from 1.
+/// A table or key that is missing or of the wrong type. Relays are counted from 1.
 #[derive(Debug, PartialEq, Eq, Drop)]
 pub enum Location {
     Table(TableName),
@@ -15,7 +15,7 @@ pub enum Location {
     Circuit(CircuitRef, CircuitKey),
 }
 
-/// Two names or two addresses that have to differ and are the same. Relays are counted from 1.
+/// Two names, or two addresses, that must differ but are the same. Relays are counted from 1.
 #[derive(Debug, PartialEq, Eq, Drop)]
 pub enum SameName {
     /// The ids of two circuits.
@@ -35,15 +35,15 @@ pub enum SameName {
 impl fmt::Display for Location {
     fn fmt<W: fmt::Write>(&self, f: &mut fmt::Formatter<W>) -> fmt::Result {
         match self {
-            Location::Table(TableName::Server) => f.write_str("server is missing, or no table"),
-            Location::Table(table) => write!(f, "{table} is missing, or no list of tables"),
-            Location::Server(key) => write!(f, "server: {key} is missing, or no text"),
+            Location::Table(TableName::Server) => f.write_str("server is missing or not a table"),
+            Location::Table(table) => write!(f, "{table} is missing or not an array of tables"),
+            Location::Server(key) => write!(f, "server: {key} is missing or not a string"),
             Location::Relay(number, key) => {
-                write!(f, "relay {number}: {key} is missing, or no text")
+                write!(f, "relay {number}: {key} is missing or not a string")
             }
             Location::Circuit(circuit, key) => {
                 let kind = kind(*key);
-                write!(f, "circuit {circuit}: {key} is missing, or no {kind}")
+                write!(f, "circuit {circuit}: {key} is missing or not {kind}")
             }
         }
     }
@@ -54,10 +54,14 @@ impl fmt::Display for SameName {
         match self {
             SameName::Ids(first, second) => {
                 let (one, other) = (first.number, second.number);
-                write!(f, "circuits {one} and {other} have one id, {first}")
+                write!(f, "circuits {one} and {other} have the same id, {first}")
             }
-            SameName::Names(one, other) => write!(f, "relays {one} and {other} have one name"),
-            SameName::Sources(one, other) => write!(f, "relays {one} and {other} have one source"),
+            SameName::Names(one, other) => {
+                write!(f, "relays {one} and {other} have the same name")
+            }
+            SameName::Sources(one, other) => {
+                write!(f, "relays {one} and {other} have the same source")
+            }
             SameName::Listens => f.write_str("server: listen4 and listen6 are the same"),
             SameName::Listen4(relay) => {
                 write!(f, "the source of relay {relay} is the server's listen4")
@@ -69,29 +73,41 @@ impl fmt::Display for SameName {
     }
 }
 
-/// What a circuit has at a key.
+/// What the value at a key of a circuit has to be: its type, or the name of a relay.
 fn kind(key: CircuitKey) -> &'static str {
     match key {
-        CircuitKey::Relay => "relay's name",
-        CircuitKey::Dns => "list of texts",
-        CircuitKey::Region | CircuitKey::Lease | CircuitKey::Prefix4 => "whole number",
-        CircuitKey::Count4 | CircuitKey::Count6 => "whole number",
-        CircuitKey::Id | CircuitKey::Gateway4 | CircuitKey::First4 => "text",
-        CircuitKey::Link6 | CircuitKey::First6 => "text",
+        CircuitKey::Relay => "the name of a relay",
+        CircuitKey::Dns => "an array of strings",
+        CircuitKey::Region | CircuitKey::Lease | CircuitKey::Prefix4 => "an integer",
+        CircuitKey::Count4 | CircuitKey::Count6 => "an integer",
+        CircuitKey::Id | CircuitKey::Gateway4 | CircuitKey::First4 => "a string",
+        CircuitKey::Link6 | CircuitKey::First6 => "a string",
     }
 }
 
-/// Why a text is no configuration, in the order of the numbers. Of several rules that it breaks the
-/// least is reported.
+/// Which part of rule 49 a circuit breaks: that of its gateway, of its DHCPv4 pool (`first4`) or of its
+/// DHCPv6 pool (`first6`).
+fn off_subnet(key: CircuitKey) -> &'static str {
+    match key {
+        CircuitKey::First4 => {
+            "the pool at first4 is not within the subnet of gateway4, or includes the subnet's first or last address"
+        }
+        CircuitKey::First6 => "the pool at first6 is not within the /64 subnet of link6",
+        _ => "gateway4 is the first or last address of its subnet",
+    }
+}
+
+/// Why a text is not a configuration, in the order of the rules' numbers. Of several rules that it breaks,
+/// the one with the lowest number is reported.
 #[derive(Debug, PartialEq, Eq, Drop, Error)]
 pub enum ConfigFault {
-    /// Memory was refused. It says nothing of the text.
+    /// Out of memory, which says nothing about the text.
     #[error("out of memory")]
     Memory,
-    /// The text is no TOML.
+    /// The text is not TOML.
     #[error("{0}")]
     Text(toml::de::Error),
-    /// A table or a key is not there, or a circuit's relay has no relay's name.
+    /// A table or key is missing or of the wrong type, or a circuit's `relay` is not the name of a relay.
     #[error("{0}")]
     Missing(Location),
     /// A value, or a number of entries, is outside its limits.
@@ -99,7 +115,7 @@ pub enum ConfigFault {
     Limit(LimitFault),
     #[error("{0}")]
     IdTwice(SameName),
-    #[error("circuits {0} and {1} have one region")]
+    #[error("circuits {0} and {1} have the same region")]
     RegionTwice(CircuitRef, CircuitRef),
     #[error("circuits {0} and {1} share DHCPv4 addresses")]
     Overlap4(CircuitRef, CircuitRef),
@@ -108,8 +124,8 @@ pub enum ConfigFault {
     /// `gateway4` or `link6` of the first circuit is in the pool of the second.
     #[error("circuit {0}: {1} is in the pool of circuit {2}")]
     GatewayInPool(CircuitRef, CircuitKey, CircuitRef),
-    /// `gateway4`, or an address of the pool that begins at this key.
-    #[error("circuit {0}: {1} gives an address off the circuit's subnet, or one that no host may have")]
+    /// The circuit's gateway, or the pool that begins at this key, doesn't fit its subnet.
+    #[error("circuit {0}: {why}", why = off_subnet(*.1))]
     OffSubnet(CircuitRef, CircuitKey),
 }
 

@@ -1,4 +1,4 @@
-//! Whether every table and key is there, of its type.
+//! Whether every table and key is present and of its type.
 ghost use Rattle.std.specs.Prelude.{ℕ, List, ◌≡◌, ◌↔◌, Some, IsNone, IsTrue, IfSome, IfNone, ⊤};
 ghost use Rattle.toml.specs.View.{view, items_view, table_view};
 ghost use Rattle.settings.specs.Broken.{HasId, HasServerKey, HasRelayKey, HasCircuitKey, RelayLacks, CircuitLacks};
@@ -12,7 +12,7 @@ use crate::values::id_at;
 use toml::{Table, Value};
 use types::CircuitId;
 
-/// A key of the server that is not there, or of another type.
+/// A key of the server that is missing or of the wrong type.
 pub fn server_lacks(server: &Table) -> Option<ServerKey>
     ensures none { IsNone result ↔ HasServerKeys (server_keys (table_view server.now)) }
     ensures some { IfSome result (λ key. ¬ HasServerKey (server_keys (table_view server.now)) key) }
@@ -29,7 +29,7 @@ pub fn server_lacks(server: &Table) -> Option<ServerKey>
     None
 }
 
-/// A key of a relay that is not there, or of another type.
+/// A key of a relay that is missing or of the wrong type.
 fn relay_lacks(relay: &Table) -> Option<RelayKey>
     ensures none { IsNone result ↔ HasRelayKeys (relay_keys (table_view relay.now)) }
     ensures some { IfSome result (λ key. ¬ HasRelayKey (relay_keys (table_view relay.now)) key) }
@@ -56,7 +56,7 @@ pub fn relays_lack(entries: &[Value]) -> Option<(usize, RelayKey)>
     None
 }
 
-/// A key of an entry of the list of relays that is not there: `name` where the entry is no table.
+/// A missing key of an entry in the array of relays: `name` if the entry is not a table.
 fn relay_entry_lacks(entry: &Value) -> Option<RelayKey>
     ensures none { IsNone result ↔ HasValue (relay_entry (Some (view entry.now))) HasRelayKeys }
     ensures some { IfSome result (λ key. ¬ HasValue (relay_entry (Some (view entry.now))) (λ keys. HasRelayKey keys key)) }
@@ -89,7 +89,7 @@ fn has_name(entry: &Value, name: &str) -> bool
     }
 }
 
-/// Whether each entry is a text.
+/// Whether each entry is a string.
 fn are_texts(entries: &[Value]) -> bool
     ensures { IsTrue result ↔ AllThere (λ _. ⊤) (each text_of (items_view entries.now)) }
 {
@@ -101,7 +101,7 @@ fn are_texts(entries: &[Value]) -> bool
     true
 }
 
-/// Whether the name servers are a list of texts.
+/// Whether the name servers are an array of strings.
 fn has_dns(circuit: &Table) -> bool
     ensures { IsTrue result ↔ HasValue (circuit_keys (table_view circuit.now)).dns (AllThere (λ _. ⊤)) }
 {
@@ -121,7 +121,7 @@ fn has_relay(circuit: &Table, relays: &[Value]) -> bool
     }
 }
 
-/// A key of a circuit that is not there, or of another type, or `relay` where it is no relay's name.
+/// A key of a circuit that is missing or of the wrong type, or `relay` if that names none.
 fn circuit_lacks(circuit: &Table, relays: &[Value]) -> Option<CircuitKey>
     ensures none { IsNone result ↔ HasCircuitKeys (each relay_entry (items_view relays.now)) (circuit_keys (table_view circuit.now)) }
     ensures some { IfSome result (λ key. ¬ HasCircuitKey (each relay_entry (items_view relays.now)) (circuit_keys (table_view circuit.now)) key) }
@@ -165,7 +165,7 @@ fn circuit_lacks(circuit: &Table, relays: &[Value]) -> Option<CircuitKey>
     None
 }
 
-/// A key of an entry of the list of circuits that is not there: `id` where the entry is no table.
+/// A missing key of an entry in the array of circuits: `id` if the entry is not a table.
 fn circuit_entry_lacks(entry: &Value, relays: &[Value]) -> Option<CircuitKey>
     ensures none { IsNone result ↔ HasValue (circuit_entry (Some (view entry.now))) (HasCircuitKeys (each relay_entry (items_view relays.now))) }
     ensures some { IfSome result (λ key. ¬ HasValue (circuit_entry (Some (view entry.now))) (λ keys. HasCircuitKey (each relay_entry (items_view relays.now)) keys key)) }
@@ -176,7 +176,7 @@ fn circuit_entry_lacks(entry: &Value, relays: &[Value]) -> Option<CircuitKey>
     }
 }
 
-/// The id of an entry of the list of circuits, where it is a table with an id.
+/// The id of an entry in the array of circuits, if it is a table with an id.
 pub fn entry_id(entry: &Value) -> Option<CircuitId>
     ensures some { IfSome result (HasId (circuit_entry (Some (view entry.now)))) }
     ensures none { IfNone result ((id : List ℕ) → ¬ HasId (circuit_entry (Some (view entry.now))) id) }

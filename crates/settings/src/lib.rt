@@ -1,4 +1,5 @@
-//! The settings of a configuration: what its text has at each key, within which limits, and what is wrong with it.
+//! The settings of a configuration: what its text has at each key, within which limits, and what is wrong
+//! with it.
 #![tactic(auto)]
 
 mod entries;
@@ -12,8 +13,6 @@ mod names;
 mod pools;
 mod reading;
 mod settings;
-#[cfg(test)]
-mod tests;
 mod text_forms;
 mod values;
 

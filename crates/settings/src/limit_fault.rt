@@ -1,8 +1,8 @@
-//! Which value is outside its limits or not of its form.
+//! Which value is outside its limits or malformed.
 use crate::names::{CircuitKey, CircuitRef, RelayKey, ServerKey};
 use std::fmt;
 
-/// A whole number outside its limits.
+/// An integer outside its limits.
 #[derive(Clone, Copy, Debug, PartialEq, Eq)]
 pub struct Outside {
     pub found: i64,
@@ -15,7 +15,7 @@ pub struct Outside {
 pub enum CircuitLimit {
     /// A number is outside its limits.
     Number(CircuitKey, Outside),
-    /// A text, or a list of texts, is not of its form.
+    /// A string, or an array of strings, is malformed.
     Form(CircuitKey),
     /// The DHCPv4 pool runs past the last IPv4 address.
     PastLast4,
@@ -23,32 +23,32 @@ pub enum CircuitLimit {
     PastLast6,
 }
 
-/// A value, or a number of entries, that is outside its limits or not of its form. Relays are counted
+/// A value, or a number of entries, that is outside its limits or malformed. Relays are counted
 /// from 1.
 #[derive(Debug, PartialEq, Eq, Drop)]
 pub enum LimitFault {
-    /// So many relays, and not 1 to 8.
+    /// This many relays, not 1 to 8.
     Relays(usize),
-    /// So many circuits, and not 1 to 1024.
+    /// This many circuits, not 1 to 1024.
     Circuits(usize),
     Server(ServerKey),
     Relay(usize, RelayKey),
     Circuit(CircuitRef, CircuitLimit),
 }
 
-const ENDPOINT: &str = "an address and a port, as 10.0.0.1:67";
+const ENDPOINT: &str = "an address and port such as 10.0.0.1:67";
 
-const ADDRESS: &str = "an address, as 10.0.0.1";
+const ADDRESS: &str = "an address such as 10.0.0.1";
 
 const DIGITS: &str = "32 hexadecimal digits";
 
-const NUMBER: &str = "a whole number";
+const NUMBER: &str = "an integer";
 
 /// What a value of the server has to be.
 fn server_form(key: ServerKey) -> &'static str {
     match key {
         ServerKey::Listen4 | ServerKey::Listen6 => ENDPOINT,
-        ServerKey::Duid => "3 to 130 bytes, two hexadecimal digits each",
+        ServerKey::Duid => "3 to 130 bytes in hexadecimal",
     }
 }
 
@@ -60,11 +60,11 @@ fn relay_form(key: RelayKey) -> &'static str {
     }
 }
 
-/// What a text of a circuit has to be.
+/// What a value of a circuit has to be.
 fn circuit_form(key: CircuitKey) -> &'static str {
     match key {
         CircuitKey::Id => "1 to 32 visible ASCII characters",
-        CircuitKey::Relay => "a relay's name",
+        CircuitKey::Relay => "the name of a relay",
         CircuitKey::Gateway4 | CircuitKey::First4 => ADDRESS,
         CircuitKey::Dns => "a list of at most 4 addresses",
         CircuitKey::Link6 | CircuitKey::First6 => DIGITS,
@@ -105,8 +105,12 @@ impl fmt::Display for CircuitLimit {
                 let form = circuit_form(*key);
                 write!(f, "{key} is not {form}")
             }
-            CircuitLimit::PastLast4 => f.write_str("the DHCPv4 pool runs past the last address"),
-            CircuitLimit::PastLast6 => f.write_str("the DHCPv6 pool runs past the last address"),
+            CircuitLimit::PastLast4 => f.write_str(
+                "the DHCPv4 pool runs past the last IPv4 address",
+            ),
+            CircuitLimit::PastLast6 => f.write_str(
+                "the DHCPv6 pool runs past the last IPv6 address",
+            ),
         }
     }
 }

@@ -45,7 +45,7 @@ fn duid(text: &str) -> Option<ArrayVec<u8, MAX_DUID>>
     }
 }
 
-/// The addresses that texts spell, at most 4.
+/// The addresses that strings spell, at most 4.
 fn addresses(texts: &[Value]) -> Option<ArrayVec<Addr4, MAX_DNS>>
     ensures some { IfSome result (λ found. AreAddresses (each text_of (items_view texts.now)) found.items) }
     ensures few { IfSome result (λ found. length found.items ≤ MAX_DNS) }

@@ -14,7 +14,7 @@ fn value_at<'a>(table: &'a Table, key: &str) -> Option<&'a Value>
     table.get(key)
 }
 
-/// The text at a key.
+/// The string at a key.
 pub fn text_at<'a>(table: &'a Table, key: &str) -> Option<&'a str>
     ensures some { IfSome result (λ text. text_at key.now (table_view table.now) ≡ Told text.now) }
     ensures none { IfNone result (¬ IsThere (text_at key.now (table_view table.now))) }
@@ -25,7 +25,7 @@ pub fn text_at<'a>(table: &'a Table, key: &str) -> Option<&'a str>
     }
 }
 
-/// The whole number at a key.
+/// The integer at a key.
 pub fn integer_at(table: &Table, key: &str) -> Option<i64>
     ensures some { IfSome result (λ n. integer_at key.now (table_view table.now) ≡ Told n) }
     ensures none { IfNone result (¬ IsThere (integer_at key.now (table_view table.now))) }
@@ -47,7 +47,7 @@ pub fn table_at<'a>(table: &'a Table, key: &str) -> Option<&'a Table>
     }
 }
 
-/// The list at a key.
+/// The array at a key.
 pub fn list_at<'a>(table: &'a Table, key: &str) -> Option<&'a Array>
     ensures some { IfSome result (λ a. list_at key.now (table_view table.now) ≡ Told (array_view a.now)) }
     ensures none { IfNone result (¬ IsThere (list_at key.now (table_view table.now))) }

@@ -2,7 +2,7 @@
 use std::fmt;
 use types::CircuitId;
 
-/// A table of the text, or a list of tables.
+/// A table of the text, or an array of tables.
 #[derive(Clone, Copy, Debug, PartialEq, Eq)]
 pub enum TableName {
     Server,
@@ -42,8 +42,7 @@ pub enum CircuitKey {
     Count6,
 }
 
-/// A circuit of the text: its number among the circuits, counted from 1, and its id where that can be
-/// read.
+/// A circuit of the text: its number among the circuits, counted from 1, and its id if that can be read.
 #[derive(Debug, PartialEq, Eq, Drop)]
 pub struct CircuitRef {
     pub number: usize,
@@ -98,7 +97,7 @@ impl fmt::Display for CircuitKey {
     }
 }
 
-/// `"a1"` by its id, or `2` by its number.
+/// By its id as `"a1"`, or by its number as `2`.
 impl fmt::Display for CircuitRef {
     fn fmt<W: fmt::Write>(&self, f: &mut fmt::Formatter<W>) -> fmt::Result {
         if let Some(id) = &self.id {

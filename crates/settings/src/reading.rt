@@ -30,7 +30,7 @@ pub struct TextTables<'a> {
     pub circuits: &'a [Value],
 }
 
-/// The tables of a text, or a location where a table or a key is not there.
+/// The tables of a text, or the location of a table or key that is missing or of the wrong type.
 pub fn tables_in<'a>(doc: &'a Table) -> Result<TextTables<'a>, Location>
     ensures tables { IfOk result (λ f. tables_of (table_view doc.now) ≡ found_tables (table_view f.server.now) (items_view f.relays.now) (items_view f.circuits.now)) }
     ensures all { IfOk result (λ _. HasAll (tables_of (table_view doc.now))) }
@@ -71,7 +71,7 @@ pub struct Values {
     pub circuits: Vec<CircuitConfig>,
 }
 
-/// The values of an entry of the list of relays, or a key whose value is not of its form.
+/// The values of an entry in the array of relays, or a key whose value is malformed.
 fn relay_in(entry: &Value) -> Result<RelayConfig, RelayKey>
     requires { HasValue (relay_entry (Some (view entry.now))) HasRelayKeys }
     ensures ok { IfOk result (λ relay. HasValue (relay_entry (Some (view entry.now))) (λ keys. IsRelay keys relay)) }
@@ -83,7 +83,7 @@ fn relay_in(entry: &Value) -> Result<RelayConfig, RelayKey>
     }
 }
 
-/// The values of an entry of the list of circuits, or what is wrong with one of them.
+/// The values of an entry in the array of circuits, or what is wrong with one of them.
 fn circuit_in(entry: &Value, relays: &[RelayConfig]) -> Result<CircuitConfig, CircuitLimit>
     requires few { length relays.now ≤ 8 }
     requires keys { (names : List (Field RelayKeys)) × EachReads IsRelay names relays.now × HasValue (circuit_entry (Some (view entry.now))) (HasCircuitKeys names) }
@@ -160,7 +160,7 @@ fn circuits_in(
     Ok(circuits)
 }
 
-/// The values of tables that have every key, or the first fault: a value or a number of entries outside
+/// The values of tables that have every key, or the first fault: a value, or a number of entries, outside
 /// its limits, or out of memory.
 pub fn values_in(
     alloc: Global,

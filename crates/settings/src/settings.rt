@@ -1,22 +1,22 @@
-//! What a configuration says of the server, of a relay and of a circuit, by the names of its keys.
+//! What a configuration says about the server, a relay and a circuit, by the names of its keys.
 ghost use Rattle.std.specs.Prelude.{◌≡◌};
 
 use crate::limits::{MAX_DNS, MAX_NAME};
 use arrayvec::ArrayVec;
 use types::{Addr4, Addr6, CircuitId, MAX_DUID, RelayNo, Source};
 
-/// The server, as the table `server` says it.
+/// The server, from the table `server`.
 #[derive(Debug, Drop)]
 pub struct ServerConfig {
-    /// Where the server takes DHCPv4 datagrams.
+    /// Where the server receives DHCPv4 datagrams.
     pub listen4: Source,
-    /// Where the server takes DHCPv6 datagrams.
+    /// Where the server receives DHCPv6 datagrams.
     pub listen6: Source,
     /// 3 to 130 bytes.
     pub duid: ArrayVec<u8, MAX_DUID>,
 }
 
-/// A relay, as one entry of `relay` says it.
+/// A relay, from one entry of `relay`.
 #[derive(Debug, Drop)]
 pub struct RelayConfig {
     /// 1 to 32 bytes.
@@ -25,7 +25,7 @@ pub struct RelayConfig {
     pub source: Source,
 }
 
-/// A circuit, as one entry of `circuit` says it.
+/// A circuit, from one entry of `circuit`.
 #[derive(Debug, Drop)]
 pub struct CircuitConfig {
     pub id: CircuitId,

@@ -1,11 +1,11 @@
-//! The texts of addresses and ports.
+//! How addresses and ports are written.
 ghost use Rattle.std.specs.Prelude.{ℕ, ◌≡◌, IfSome, IfNone};
 ghost use Rattle.settings.specs.Texts.{IsAddress, IsPort, IsSource, IsAddress6};
 
 use std::net::Ipv4Addr;
 use types::{Addr4, Addr6, Source};
 
-/// The address that a text spells, as `10.0.0.1`.
+/// The address that a string spells, such as `10.0.0.1`.
 pub fn address(text: &str) -> Option<Addr4>
     ensures some { IfSome result (IsAddress text.now) }
     ensures none { IfNone result ((a : Addr4) → ¬ IsAddress text.now a) }
@@ -16,13 +16,13 @@ pub fn address(text: &str) -> Option<Addr4>
     }
 }
 
-/// The port that a text spells, as `67`.
+/// The port that a string spells, such as `67`.
 pub fn port(text: &str) -> Option<u16>
     ensures some { IfSome result (IsPort text.now) }
     ensures none { IfNone result ((n : ℕ) → ¬ IsPort text.now n) }
 {
     let bytes = text.as_bytes();
-    // neither a sign nor a zero
+    // no sign and no leading zero
     if bytes.is_empty() || bytes[0] <= b'0' {
         return None;
     }
@@ -32,7 +32,7 @@ pub fn port(text: &str) -> Option<u16>
     }
 }
 
-/// The address and port that a text spells, as `10.0.0.1:67`.
+/// The address and port that a string spells, such as `10.0.0.1:67`.
 pub fn source(text: &str) -> Option<Source>
     ensures some { IfSome result (IsSource text.now) }
     ensures none { IfNone result ((s : Source) → ¬ IsSource text.now s) }

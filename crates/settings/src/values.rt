@@ -1,4 +1,4 @@
-//! What the texts and numbers at the keys of a table stand for, each within its limits.
+//! What the strings and integers at the keys of a table stand for, each within its limits.
 ghost use Rattle.std.specs.Prelude.{◌≡◌, ℕ, List, length, ◌≤◌, IfOk, IfErr, IfSome, IfNone};
 ghost use Rattle.toml.specs.View.{table_view};
 ghost use Rattle.types.specs.CircuitId.{IsCircuitId};
@@ -15,7 +15,7 @@ use arrayvec::ArrayVec;
 use toml::Table;
 use types::{Addr4, Addr6, CircuitId, Source};
 
-/// The whole number at a key, from `least` to `most`; else the one that is there.
+/// The integer at a key if it is from `least` to `most`, or else the one that was found.
 pub fn number_at(table: &Table, key: &str, least: u32, most: u32) -> Result<u32, Outside>
     requires { IsThere (integer_at key.now (table_view table.now)) }
     ensures ok { IfOk result (IsNumber (integer_at key.now (table_view table.now)) least most) }
@@ -74,7 +74,7 @@ pub fn id_at(table: &Table, key: &str) -> Option<CircuitId>
     }
 }
 
-/// The relay's name at a key.
+/// The name of a relay at a key.
 pub fn name_at(table: &Table, key: &str) -> Option<ArrayVec<u8, MAX_NAME>>
     ensures some { IfSome result (λ name. HasValue (text_at key.now (table_view table.now)) (λ text. IsName text name.items)) }
     ensures none { IfNone result ((name : List ℕ) → ¬ HasValue (text_at key.now (table_view table.now)) (λ text. IsName text name)) }
