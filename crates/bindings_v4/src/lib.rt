@@ -12,8 +12,6 @@ mod laws;
 mod lookup;
 mod server4;
 mod table4;
-#[cfg(test)]
-mod tests;
 mod write;
 
 pub use book4::Book4;

@@ -13,8 +13,6 @@ mod read_ahead;
 mod sources;
 mod std_streams;
 mod streams;
-#[cfg(test)]
-mod tests;
 mod writing;
 
 pub use hexadecimal::MAX_BYTES;

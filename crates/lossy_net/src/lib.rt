@@ -7,8 +7,6 @@ mod memory;
 mod net;
 mod packet;
 mod ring;
-#[cfg(test)]
-mod tests;
 
 pub use dir::Dir;
 pub use memory::Memory;

@@ -1,89 +1,49 @@
-//! The relays of one circuit, on values worked out by hand.
-ghost use Rattle.std.specs.Prelude.{◌≡◌, ◌<◌, length, IfSome};
-
+//! Datagrams at the relay that its server never sends, on values worked out by hand.
 use super::*;
 use config::Config;
-use fixtures::{ONE_CIRCUIT, client_frame, resized, with_bytes};
+use fixtures::ONE_CIRCUIT;
 use std::alloc::Global;
-use types::{Addr4, Circuit, Dest, Discard, Kind4, Proto, RelayNo, Source};
+use types::{Addr4, Dest, Discard, RelayNo, Source};
 use wire::PacketBuf;
 
-/// The server's addresses, and one that is not the server's.
-const LISTEN4: Source = Source {
-    addr: Addr4([127, 0, 0, 1]),
-    port: 6767,
-};
-
-const LISTEN6: Source = Source {
-    addr: Addr4([127, 0, 0, 1]),
-    port: 6547,
-};
-
-const STRANGER: Source = Source {
-    addr: Addr4([127, 0, 0, 2]),
-    port: 6767,
-};
-
-/// The relays of the configuration; `None` where memory is refused.
-fn opened(alloc: Global) -> Option<Relays>
-    ensures circuit { IfSome result (λ relays. 0 < length relays.topology.circuits) }
-    ensures relay { IfSome result (λ relays. 0 < length relays.topology.relays) }
-{
-    let Ok(config) = Config::read(alloc, ONE_CIRCUIT) else {
-        return None;
-    };
-    if config.circuit_count() == 0 || config.relay_count() == 0 {
+/// Where the relay sends a datagram from this port of 127.0.0.1, or why it does not, and the frame.
+fn down(alloc: Global, port: u16, datagram: &[u8]) -> Option<(Result<Dest, Discard>, PacketBuf)> {
+    let config = Config::read(alloc, ONE_CIRCUIT).ok()?;
+    let relays = Relays::new(alloc, &config).ok()?;
+    let relay = RelayNo::new(0)?;
+    if !relays.exists(relay) {
         return None;
     }
-    let Ok(relays) = Relays::new(alloc, &config) else {
-        return None;
-    };
-    Some(relays)
-}
-
-/// What fresh relays make of a frame on the circuit.
-fn up(alloc: Global, frame: &[u8], out: &mut PacketBuf) -> Option<Result<(), Discard>> {
-    let mut relays = opened(alloc)?;
-    Some(relays.up(Circuit::new(0)?, Proto::V4, frame, out))
-}
-
-/// What fresh relays make of a datagram at the relay, and whether it is for the circuit.
-fn down(
-    alloc: Global,
-    source: Source,
-    datagram: &[u8],
-    out: &mut PacketBuf,
-) -> Option<Result<Dest, Discard>> {
-    let relays = opened(alloc)?;
-    match relays.down(RelayNo::new(0)?, source, datagram, out) {
-        Ok((circuit, dest)) if circuit.index() == 0 => Some(Ok(dest)),
-        Ok(_) => None,
-        Err(why) => Some(Err(why)),
+    let mut out = PacketBuf::new();
+    out.push(7).ok()?;
+    let addr = Addr4([127, 0, 0, 1]);
+    match relays.down(relay, Source { addr, port }, datagram, &mut out) {
+        Ok((_, dest)) => Some((Ok(dest), out)),
+        Err(why) => Some((Err(why), out)),
     }
 }
 
-/// The DHCPDISCOVER of client 1.
-fn discover() -> PacketBuf {
-    client_frame(Kind4::Discover, 1, &[])
+/// Whether a datagram is dropped for this reason, and nothing is sent.
+fn is_dropped(alloc: Global, port: u16, datagram: &[u8], why: Discard) -> bool {
+    match down(alloc, port, datagram) {
+        Some((Err(found), out)) => found == why && out.is_empty(),
+        Some((Ok(_), _)) => false,
+        None => false,
+    }
 }
 
-/// The same with pads before its end and bytes after it, as long as a frame may be.
-fn long_discover() -> PacketBuf {
-    let with_pads = client_frame(Kind4::Discover, 1, &[0; 7]);
-    with_bytes(&resized(&with_pads, 1024), 251, &[7])
+/// Whether a datagram of the server is sent to the client of the offer, as 300 bytes.
+fn is_sent(alloc: Global, datagram: &[u8]) -> bool {
+    match down(alloc, 6767, datagram) {
+        Some((Ok(dest), out)) => {
+            dest == Dest::Unicast([2, 0, 0, 0, 0, 1], Addr4([10, 0, 0, 10])) && out.len() == 300
+        }
+        Some((Err(_), _)) => false,
+        None => false,
+    }
 }
 
-/// The datagram that the first two become.
-fn relayed_discover() -> [u8; 255] {
-    let mut datagram = [0; 255];
-    datagram[..8].copy_from_slice(&[1, 1, 6, 1, 0, 0, 0, 1]);
-    datagram[24..34].copy_from_slice(&[10, 0, 0, 1, 2, 0, 0, 0, 0, 1]);
-    datagram[236..243].copy_from_slice(&[99, 130, 83, 99, 53, 1, 1]);
-    datagram[243..].copy_from_slice(&[82, 9, 1, 1, 97, 11, 4, 10, 0, 0, 1, 255]);
-    datagram
-}
-
-/// The DHCPOFFER of 10.0.0.10 to the client, with a byte after its end.
+/// The DHCPOFFER of 10.0.0.10 to client 1 of the circuit, with a byte after its end.
 fn offer() -> [u8; 256] {
     let mut datagram = [0; 256];
     datagram[..8].copy_from_slice(&[2, 1, 6, 0, 0, 0, 0, 1]);
@@ -94,186 +54,32 @@ fn offer() -> [u8; 256] {
     datagram
 }
 
-/// The frame that it becomes.
-fn offer_frame() -> [u8; 300] {
-    let mut frame = [0; 300];
-    frame[..8].copy_from_slice(&[2, 1, 6, 0, 0, 0, 0, 1]);
-    frame[16..20].copy_from_slice(&[10, 0, 0, 10]);
-    frame[24..34].copy_from_slice(&[10, 0, 0, 1, 2, 0, 0, 0, 0, 1]);
-    frame[236..244].copy_from_slice(&[99, 130, 83, 99, 53, 1, 2, 255]);
-    frame
-}
-
-#[test]
-fn a_discover_goes_up(rt: HostRuntime) {
-    let mut out = PacketBuf::new();
-    assert_eq!(rt;
-        up(rt.alloc(), discover().as_slice(), &mut out),
-        Some(Ok(()))
-    );
-    assert_eq!(rt; out.as_slice(), relayed_discover().as_slice());
-    assert_eq!(rt;
-        up(rt.alloc(), long_discover().as_slice(), &mut out),
-        Some(Ok(()))
-    );
-    assert_eq!(rt; out.as_slice(), relayed_discover().as_slice());
-}
-
-#[test]
-fn only_clients_types_go_up(rt: HostRuntime) {
-    let rows = [
-        (Kind4::Discover, Ok(())),
-        (Kind4::Offer, Err(Discard::WrongType)),
-        (Kind4::Request, Ok(())),
-        (Kind4::Decline, Ok(())),
-        (Kind4::Ack, Err(Discard::WrongType)),
-        (Kind4::Nak, Err(Discard::WrongType)),
-        (Kind4::Release, Ok(())),
-        (Kind4::Inform, Ok(())),
-    ];
-    let mut out = PacketBuf::new();
-    for (kind, expected) in rows {
-        let frame = client_frame(kind, 1, &[]);
-        let number = kind.code();
-        assert_eq!(rt;
-            up(rt.alloc(), frame.as_slice(), &mut out),
-            Some(expected),
-            "type {number}"
-        );
-    }
-}
-
-#[test]
-fn the_first_rule_upwards_decides(rt: HostRuntime) {
-    // from the last rule to the first, each hides those before it in the list
-    let faults: [(usize, u8, Discard); 6] = [
-        (242, 2, Discard::WrongType),
-        (3, 16, Discard::Hops),
-        (243, 82, Discard::HasOption82),
-        (27, 1, Discard::HasGiaddr),
-        (0, 2, Discard::NotRequest),
-        (250, 0, Discard::MalformedUp),
-    ];
-    let mut frame = long_discover();
-    let mut out = PacketBuf::new();
-    for (at, byte, why) in faults {
-        frame = with_bytes(&frame, at, &[byte]);
-        assert_eq!(rt;
-            up(rt.alloc(), frame.as_slice(), &mut out),
-            Some(Err(why)),
-            "at {at}"
-        );
-        assert!(rt; out.is_empty(), "at {at}");
-    }
-    let too_long = Some(Err(Discard::TooLong));
-    assert_eq!(rt; up(rt.alloc(), &[0; 1025], &mut out), too_long);
-}
-
-#[test]
-fn unreadable_frames_are_malformed(rt: HostRuntime) {
-    let rows = [
-        PacketBuf::new(),
-        // without its end option
-        resized(&discover(), 243),
-        // with its type twice
-        client_frame(Kind4::Discover, 1, &[53, 1, 1]),
-    ];
-    let mut out = PacketBuf::new();
-    for frame in rows {
-        assert_eq!(rt;
-            up(rt.alloc(), frame.as_slice(), &mut out),
-            Some(Err(Discard::MalformedUp))
-        );
-    }
-}
-
-#[test]
-fn an_offer_comes_down(rt: HostRuntime) {
-    let mut out = PacketBuf::new();
-    let mut datagram = offer();
-    let client = Dest::Unicast([2, 0, 0, 0, 0, 1], Addr4([10, 0, 0, 10]));
-    assert_eq!(rt;
-        down(rt.alloc(), LISTEN4, &datagram, &mut out),
-        Some(Ok(client))
-    );
-    assert_eq!(rt; out.as_slice(), offer_frame().as_slice());
-
-    // the client can't take a unicast yet
-    let all = Some(Ok(Dest::Broadcast));
-    datagram[10] = 128;
-    assert_eq!(rt; down(rt.alloc(), LISTEN4, &datagram, &mut out), all);
-    // it has no address
-    datagram[10] = 0;
-    datagram[16..20].copy_from_slice(&[0, 0, 0, 0]);
-    assert_eq!(rt; down(rt.alloc(), LISTEN4, &datagram, &mut out), all);
-}
-
+/// From the last rule to the first, each fault hides those before it in the list.
 #[test]
 fn the_first_rule_downwards_decides(rt: HostRuntime) {
-    // from the last rule to the first, each hides those before it in the list
-    let faults: [(u16, u8, Discard); 6] = [
+    let mut datagram = offer();
+    assert!(rt; is_sent(rt.alloc(), &datagram));
+    let faults: [(u8, u8, Discard); 6] = [
+        // another giaddr, another circuit's id, a suboption that is cut
         (27, 2, Discard::WrongLinkDown),
         (247, 98, Discard::UnknownCircuitDown),
         (246, 9, Discard::MalformedDown),
+        // no option 82, a request, no end option
         (243, 83, Discard::UnknownCircuitDown),
         (0, 1, Discard::MalformedDown),
         (254, 0, Discard::MalformedDown),
     ];
-    let mut datagram = offer();
-    let mut out = PacketBuf::new();
     for (at, byte, why) in faults {
         datagram[usize::from(at)] = byte;
-        assert_eq!(rt;
-            down(rt.alloc(), LISTEN4, &datagram, &mut out),
-            Some(Err(why)),
-            "at {at}"
-        );
-        assert!(rt; out.is_empty(), "at {at}");
+        assert!(rt; is_dropped(rt.alloc(), 6767, &datagram, why), "at {at}");
     }
-    let malformed = Some(Err(Discard::MalformedDown));
-    assert_eq!(rt; down(rt.alloc(), LISTEN4, &[0; 1281], &mut out), malformed);
+    assert!(rt; is_dropped(rt.alloc(), 6767, &[0; 1281], Discard::MalformedDown));
 }
 
+/// The server's DHCPv6 address sends no DHCPv4, and nobody else is the server.
 #[test]
 fn only_the_server_is_heard(rt: HostRuntime) {
-    let mut out = PacketBuf::new();
-    let rows = [
-        (LISTEN6, Discard::MalformedDown),
-        (STRANGER, Discard::NotServer),
-    ];
-    for (source, why) in rows {
-        assert_eq!(rt;
-            down(rt.alloc(), source, &offer(), &mut out),
-            Some(Err(why))
-        );
-        assert!(rt; out.is_empty());
-    }
-}
-
-/// The counter after a refused frame, one that goes up, and another refused one.
-fn counts(alloc: Global) -> Option<[u32; 4]> {
-    let mut relays = opened(alloc)?;
-    let circuit = Circuit::new(0)?;
-    let mut out = PacketBuf::new();
-    let none = relays.discarded(circuit);
-    let _ = relays.up(circuit, Proto::V4, &[], &mut out);
-    let one = relays.discarded(circuit);
-    let _ = relays.up(circuit, Proto::V4, discover().as_slice(), &mut out);
-    let same = relays.discarded(circuit);
-    let _ = relays.up(circuit, Proto::V4, &[0; 1025], &mut out);
-    Some([none, one, same, relays.discarded(circuit)])
-}
-
-#[test]
-fn refused_frames_are_counted(rt: HostRuntime) {
-    assert_eq!(rt; counts(rt.alloc()), Some([0, 1, 1, 2]));
-}
-
-#[test]
-fn texts(rt: HostRuntime) -> Result<(), std::alloc::AllocError> {
-    assert_eq!(rt;
-        format!(in rt.alloc(); "{Memory}")?.as_str(),
-        "out of memory"
-    );
-    Ok(())
+    let datagram = offer();
+    assert!(rt; is_dropped(rt.alloc(), 6547, &datagram, Discard::MalformedDown));
+    assert!(rt; is_dropped(rt.alloc(), 6768, &datagram, Discard::NotServer));
 }

@@ -4,8 +4,6 @@
 
 mod laws;
 mod reply4;
-#[cfg(test)]
-mod tests;
 
 pub use laws::reply_is_read;
 pub use reply4::write4;

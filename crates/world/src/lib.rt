@@ -6,8 +6,6 @@ mod addressed;
 mod books;
 mod event;
 pub mod examples;
-#[cfg(test)]
-mod lease_tests;
 mod leases;
 mod machine;
 mod outcome;
