@@ -6,7 +6,7 @@ ghost use Rattle.lease_disk.specs.Region.{IsClean};
 
 use super::*;
 use config::Config;
-use fixtures::{ONE_CIRCUIT, client_frame, offer};
+use fixtures::{ONE_CIRCUIT, client_frame};
 use lease_disk::{Disk, Image, ModelDisk};
 use std::alloc::{AllocError, Global};
 use types::{Addr4, Circuit, Count, Dest, Kind4, Moment, Proto, RelayNo, Source};
@@ -68,30 +68,6 @@ impl Shelf {
             refusals: Count::new(),
         })
     }
-
-    /// Keeps the frame if there is room.
-    fn keep(&mut self, circuit: Circuit, dest: Dest, bytes: &[u8]) -> bool
-        ensures yes { result ≡ true → self.new.frames.items ≡ self.old.frames.items ++ (circuit, dest, bytes.now) ∷ [] }
-        ensures no { result ≡ false → self.new.frames.items ≡ self.old.frames.items }
-        ensures refusals { self.new.refusals ≡ self.old.refusals }
-    {
-        let mut copy = PacketBuf::new();
-        if copy.extend(bytes).is_err() || self.frames.len() >= self.room {
-            return false;
-        }
-        self.frames.push((circuit, dest, copy)).is_ok()
-    }
-
-    /// Whether its first frame is the offer of 10.0.0.10 to client 1.
-    fn has_the_offer(&self) -> bool {
-        match self.frames.get(0) {
-            Some((_, dest, bytes)) => {
-                *dest == Dest::Unicast([2, 0, 0, 0, 0, 1], Addr4([10, 0, 0, 10]))
-                    && bytes.as_slice() == offer(1).as_slice()
-            }
-            None => false,
-        }
-    }
 }
 
 impl Sink for Shelf {
@@ -102,7 +78,9 @@ impl Sink for Shelf {
     ghost refusals = { λ s. s.refusals.count };
 
     fn frame(&mut self, circuit: Circuit, dest: Dest, bytes: &[u8]) -> bool {
-        if self.keep(circuit, dest, bytes) {
+        let mut copy = PacketBuf::new();
+        let fits = copy.extend(bytes).is_ok() && self.frames.len() < self.room;
+        if fits && self.frames.push((circuit, dest, copy)).is_ok() {
             return true;
         }
         self.refusals.tick();
@@ -124,9 +102,7 @@ fn ends(alloc: Global, room: usize, ended: Result<(), usize>) -> bool {
         Event::Down(a, 9),
         Event::Down(a, 0),
     ];
-    world.run(&events, &mut shelf) == ended
-        && shelf.frames.len() == room
-        && (room == 0 || shelf.has_the_offer())
+    world.run(&events, &mut shelf) == ended && shelf.frames.len() == room
 }
 
 #[test]
@@ -136,30 +112,27 @@ fn a_run_ends_where_the_sink_refuses(rt: HostRuntime) {
     assert!(rt; ends(rt.alloc(), 2, Ok(())));
 }
 
-/// What comes of the last of these events, and whether no frame leaves with it.
-fn step(world: &mut World, events: &[Event<'_>]) -> (Outcome, bool) {
-    let mut out = PacketBuf::new();
-    let _ = out.push(7);
-    let mut outcome = Outcome::Done;
+/// Whether each of these events comes to this, and no frame leaves.
+fn each_comes_to(world: &mut World, events: &[Event<'_>], expected: Outcome) -> bool {
     for event in events {
-        outcome = world.step(event, &mut out);
+        let mut out = PacketBuf::new();
+        let _ = out.push(7);
+        if world.step(event, &mut out) != expected || !out.is_empty() {
+            return false;
+        }
     }
-    (outcome, out.is_empty())
+    true
 }
 
-/// Whether client 1's frame of this type is answered at the moment 101.
-fn is_answered(world: &mut World, kind: Kind4, options: &[u8]) -> bool {
+/// Whether client 1's frame of this type goes up as so many bytes and is answered at the moment 101.
+fn is_answered(world: &mut World, kind: Kind4, options: &[u8], len: usize) -> bool {
     let frame = client_frame(kind, 1, options);
-    let events = [
-        Event::Frame(circuit(0), Proto::V4, frame.as_slice()),
-        Event::Up(circuit(0), 0, Moment::new(101).unwrap(), 0),
-    ];
-    step(world, &events) == (Outcome::SentDown(300), true)
-}
-
-/// Whether an event comes to this, without a frame.
-fn comes_to(world: &mut World, event: &[Event<'_>], outcome: Outcome) -> bool {
-    step(world, event) == (outcome, true)
+    let (a, now) = (circuit(0), Moment::new(101).unwrap());
+    each_comes_to(
+        world,
+        &[Event::Frame(a, Proto::V4, frame.as_slice())],
+        Outcome::SentUp(len),
+    ) && each_comes_to(world, &[Event::Up(a, 0, now, 0)], Outcome::SentDown(300))
 }
 
 /// Whether the region's bytes have these at an offset.
@@ -179,11 +152,11 @@ fn keeps_a_lease(alloc: Global) -> bool {
     let Ok(mut world) = opened(alloc, 1) else {
         return false;
     };
-    let offered = is_answered(&mut world, Kind4::Discover, &[])
+    let offered = is_answered(&mut world, Kind4::Discover, &[], 255)
         && has(&world, 0, &[0xa5, 0, 0])
         && has(&world, 4096, &[0; 4096])
         && has(&world, 8192, &[1, 0]);
-    let leased = is_answered(&mut world, Kind4::Request, SELECTS)
+    let leased = is_answered(&mut world, Kind4::Request, SELECTS, 267)
         && has(&world, 0, &[0xa5, 0, 0])
         && has(&world, 4096, &[0xa5, 1, 0, 0, 0, 0, 0, 0])
         && has(&world, 4104, &[0, 0, 0, 0, 0, 0, 0, 101])
@@ -199,8 +172,7 @@ fn the_bytes_of_a_lease(rt: HostRuntime) {
     assert!(rt; keeps_a_lease(rt.alloc()));
 }
 
-/// Whether events of circuits and relays that do not exist come to nothing, and images past the last
-/// circuit too.
+/// Whether what names circuits and relays that do not exist comes to nothing.
 fn passes_over_what_does_not_exist(alloc: Global) -> bool {
     let Ok(mut world) = opened(alloc, 1) else {
         return false;
@@ -211,22 +183,15 @@ fn passes_over_what_does_not_exist(alloc: Global) -> bool {
     let addr = Addr4([127, 0, 0, 1]);
     let server = Source { addr, port: 6767 };
     let images = [Image::Byte(0), Image::Unreadable, Image::Byte(0xa5)];
-    let gone = comes_to(
-        &mut world,
-        &[Event::Frame(other, Proto::V4, bytes)],
-        Outcome::Gone,
-    ) && comes_to(
-        &mut world,
-        &[Event::Up(other, 0, Moment::first(), 0)],
-        Outcome::Gone,
-    ) && comes_to(&mut world, &[Event::Down(other, 0)], Outcome::Gone)
-        && comes_to(
-            &mut world,
-            &[Event::StrayDown(relay, server, bytes)],
-            Outcome::Gone,
-        );
-    gone && comes_to(&mut world, &[Event::Restart(&images)], Outcome::Done)
-        && is_answered(&mut world, Kind4::Discover, &[])
+    let events = [
+        Event::Frame(other, Proto::V4, bytes),
+        Event::Up(other, 0, Moment::first(), 0),
+        Event::Down(other, 0),
+        Event::StrayDown(relay, server, bytes),
+    ];
+    each_comes_to(&mut world, &events, Outcome::Gone)
+        && each_comes_to(&mut world, &[Event::Restart(&images)], Outcome::Done)
+        && is_answered(&mut world, Kind4::Discover, &[], 255)
 }
 
 #[test]
