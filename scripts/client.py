@@ -65,6 +65,7 @@ class Circuit:
         self.server = (LOOPBACK, port)
         self.socket = socket.socket(socket.AF_INET, socket.SOCK_DGRAM)
         self.socket.bind((LOOPBACK, port + 2))
+        self.socket.settimeout(2)
 
     def send(self, datagram):
         self.socket.sendto(datagram, self.server)
