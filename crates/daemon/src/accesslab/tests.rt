@@ -7,9 +7,6 @@ use fixtures::ONE_CIRCUIT;
 use programs::FAILED;
 use std::alloc::Global;
 use std::io::{self, ErrorKind, Read, Write};
-use types::Discard;
-use wire::PacketBuf;
-use world::{Event, Machine, Outcome};
 
 /// How many calls a stream takes before it fails, and whether each is interrupted once before it.
 #[derive(Clone, Copy, Debug)]
@@ -158,47 +155,4 @@ fn pieces_and_interruptions(rt: HostRuntime) {
         };
         assert!(rt; gives(rt.alloc(), row, BAD_LINE, lines), "{row:?}");
     }
-}
-
-/// A world without circuits, whatever the configuration says. An event that names one is gone.
-#[derive(Drop)]
-struct Nowhere;
-
-impl Machine for Nowhere {
-    ghost use Rattle.std.specs.Prelude.{[], ◌∷◌};
-
-    ghost states = { λ _. [] };
-
-    ghost topology = { λ _. record { listen4 = record { addr = record { 0 = 0 ∷ 0 ∷ 0 ∷ 0 ∷ [] }; port = 0 }; listen6 = record { addr = record { 0 = 0 ∷ 0 ∷ 0 ∷ 0 ∷ [] }; port = 0 }; relays = []; circuits = [] } };
-
-    fn step(&mut self, event: &Event<'_>, out: &mut PacketBuf) -> Outcome {
-        out.clear();
-        match event {
-            Event::Frame(_, _, _) => Outcome::Gone,
-            Event::Up(_, _, _, _) => Outcome::Gone,
-            Event::Down(_, _) => Outcome::Gone,
-            Event::Tick(_) => Outcome::Done,
-            Event::Restart(_) => Outcome::Done,
-            Event::StrayUp(_, _, _, _) => Outcome::Dropped(Discard::UnknownSource),
-            Event::StrayDown(_, _, _) => Outcome::Gone,
-        }
-    }
-}
-
-/// Whether `lab` over this world writes these lines and ends with this status.
-fn lab_gives(alloc: Global, text: &str, status: u8, lines: &str) -> bool {
-    let Ok(config) = Config::read(alloc, ONE_CIRCUIT) else {
-        return false;
-    };
-    let mut reader = StdReader::new(text.as_bytes());
-    let mut writer = StdWriter::new(Vec::new(alloc));
-    let ended = lab(&mut Nowhere, &config, &mut reader, &mut writer);
-    ended == status && writer.into_inner().as_slice() == lines.as_bytes()
-}
-
-/// To a machine that has started, a fill is a bad line.
-#[test]
-fn another_machine(rt: HostRuntime) {
-    assert!(rt; lab_gives(rt.alloc(), "tick 1\nframe a 4 00\n", DONE, "ok\ngone\n"));
-    assert!(rt; lab_gives(rt.alloc(), "fill a 00\n", BAD_LINE, "line 1 bad\n"));
 }
