@@ -4,8 +4,6 @@
 mod bank;
 mod device;
 mod file_disk;
-#[cfg(test)]
-mod file_tests;
 mod formatting;
 mod image;
 mod laws;
