@@ -7,8 +7,6 @@ mod fills;
 mod opening;
 mod output;
 mod status;
-#[cfg(test)]
-mod tests;
 
 pub use command_line::{LabWords, words};
 pub use engine::lab;

@@ -8,8 +8,6 @@ mod open_circuit;
 mod regions;
 mod request;
 mod server;
-#[cfg(test)]
-mod tests;
 
 pub use laws::leaves_a_book;
 pub use regions::region_count;

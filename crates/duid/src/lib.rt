@@ -2,7 +2,5 @@
 #![tactic(auto)]
 
 mod duid;
-#[cfg(test)]
-mod tests;
 
 pub use duid::{Duid, Length};

@@ -11,11 +11,7 @@ mod layout;
 mod model_disk;
 mod read_bank;
 mod recovering;
-#[cfg(test)]
-mod recovery_tests;
 mod saving;
-#[cfg(test)]
-mod tests;
 mod write_bank;
 
 pub use bank::{Bank, Marks};

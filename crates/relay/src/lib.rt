@@ -5,8 +5,6 @@
 mod down4;
 mod laws;
 mod relays;
-#[cfg(test)]
-mod tests;
 mod up4;
 
 pub use laws::{agrees, named_circuit, only_circuit};

@@ -18,8 +18,6 @@ mod relay_no;
 mod request4;
 mod slot4;
 mod slots;
-#[cfg(test)]
-mod tests;
 
 pub use addr::{Addr4, Addr6, Source};
 pub use circuit::Circuit;

@@ -7,8 +7,6 @@ mod header;
 mod laws;
 mod message;
 mod parts;
-#[cfg(test)]
-mod tests;
 
 pub use fault::MessageFault;
 pub use header::{BROADCAST, Header, OP_REPLY, OP_REQUEST};

@@ -9,8 +9,6 @@ mod laws;
 mod options;
 mod seen_codes;
 mod suboptions;
-#[cfg(test)]
-mod tests;
 mod token;
 mod writing;
 

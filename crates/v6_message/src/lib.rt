@@ -15,8 +15,6 @@ mod relay_header;
 mod scan;
 mod seen_codes;
 mod status;
-#[cfg(test)]
-mod tests;
 
 pub use fault::{MessageFault, RelayFault};
 pub use ia::Ia6;

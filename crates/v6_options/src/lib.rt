@@ -6,8 +6,6 @@ mod fault;
 mod iter;
 mod laws;
 mod options;
-#[cfg(test)]
-mod tests;
 mod token;
 mod writing;
 

@@ -5,8 +5,6 @@
 mod cursor;
 mod numbers;
 mod packet_buf;
-#[cfg(test)]
-mod tests;
 
 pub use cursor::{Cursor, Short};
 pub use numbers::{bytes_again, number_again};

@@ -10,8 +10,6 @@ mod leases;
 mod machine;
 mod outcome;
 mod sink;
-#[cfg(test)]
-mod tests;
 mod two_runs;
 mod world;
 

@@ -1,0 +1,11 @@
+//! What no line of text brings about: forged datagrams, devices, sinks, readers and writers that fail.
+#![tactic(auto)]
+
+#[cfg(test)]
+mod dispatch_tests;
+#[cfg(test)]
+mod lab_tests;
+#[cfg(test)]
+mod relay_tests;
+#[cfg(test)]
+mod world_tests;
