@@ -14,20 +14,27 @@ use std::process::ExitCode;
 use std::rt::Clock;
 use types::{Addr4, Circuit, Moment, Source};
 
-/// Reports that the store does not serve, and returns the status.
-fn refuse_store(rt: &HostRuntime, path: &str, fault: StoreFault) -> u8
+/// The status of a store that does not serve.
+fn store_status(fault: StoreFault) -> u8
     ensures { result ≡ store_status fault }
 {
-    let status = match fault {
-        StoreFault::File => {
-            let _ = eprintln!(rt; "{path}: {fault}");
-            return UNREADABLE;
-        }
-        StoreFault::Memory => complain(rt, "open memory", UNOPENED),
-        StoreFault::Format => complain(rt, "open disk", UNOPENED),
+    match fault {
+        StoreFault::File => UNREADABLE,
+        StoreFault::Memory | StoreFault::Format => UNOPENED,
+    }
+}
+
+/// Reports that the store does not serve.
+fn report_store(rt: &HostRuntime, path: &str, fault: StoreFault) {
+    let opening = match fault {
+        StoreFault::File => None,
+        StoreFault::Memory => Some("open memory"),
+        StoreFault::Format => Some("open disk"),
     };
+    if let Some(line) = opening {
+        let _ = eprintln!(rt; "{line}");
+    }
     let _ = eprintln!(rt; "{path}: {fault}");
-    status
 }
 
 /// The file with the leases, formatted where that is asked for.
@@ -41,7 +48,10 @@ fn store(rt: &HostRuntime, config: &Config, values: &AccessWords<'_>) -> Result<
     };
     match disk {
         Ok(disk) => Ok(disk),
-        Err(fault) => Err(refuse_store(rt, values.disk, fault)),
+        Err(fault) => {
+            report_store(rt, values.disk, fault);
+            Err(store_status(fault))
+        }
     }
 }
 

@@ -5,7 +5,7 @@ use types::*;
 fn keys_of_dhcpv6(rt: HostRuntime) {
     let bytes = [7; 131];
     for (len, there) in [(2, false), (3, true), (130, true), (131, false)] {
-        assert_eq!(rt; Key6::new(&bytes[..len], 1).is_some(), there);
+        assert!(rt; Key6::new(&bytes[..len], 1).is_some() == there);
     }
     let key = Key6::new(&[0, 3, 0], 1);
     assert!(rt; key.is_some());
@@ -18,5 +18,5 @@ fn keys_of_dhcpv6(rt: HostRuntime) {
 fn counts_have_no_bytes(rt: HostRuntime) {
     let mut count = Count::new();
     count.tick();
-    assert_eq!(rt; size_of::<Count>(), 0);
+    assert!(rt; size_of::<Count>() == 0);
 }

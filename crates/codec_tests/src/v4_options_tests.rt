@@ -49,7 +49,7 @@ fn the_first_fault_is_reported(rt: HostRuntime) {
         (&[12, 1, 255, 255], None),
     ];
     for (bytes, want) in rows {
-        assert_eq!(rt; fault(bytes), want, "{bytes:?}");
+        assert!(rt; fault(bytes) == want);
     }
 }
 
@@ -68,14 +68,14 @@ fn options_in_order(rt: HostRuntime) {
         (255, None),
     ];
     for (code, value) in rows {
-        assert_eq!(rt; options.get(code), value, "option {code}");
+        assert!(rt; options.get(code) == value);
     }
     let mut iter = options.iter();
-    assert_eq!(rt; iter.next(), Some((61, [0, 7].as_slice())));
-    assert_eq!(rt; iter.next(), Some((80, [].as_slice())));
-    assert_eq!(rt; iter.next(), Some((53, [3].as_slice())));
-    assert_eq!(rt; iter.next(), None);
-    assert_eq!(rt; iter.next(), None);
+    assert!(rt; iter.next() == Some((61, [0, 7].as_slice())));
+    assert!(rt; iter.next() == Some((80, [].as_slice())));
+    assert!(rt; iter.next() == Some((53, [3].as_slice())));
+    assert!(rt; iter.next() == None);
+    assert!(rt; iter.next() == None);
 }
 
 #[test]
@@ -92,12 +92,12 @@ fn many_and_long(rt: HostRuntime) {
         Ok(options) => {
             let mut last = 0;
             for (code, value) in options.iter() {
-                assert_eq!(rt; value.len(), 1);
+                assert!(rt; value.len() == 1);
                 last = code;
             }
-            assert_eq!(rt; last, 149);
-            assert_eq!(rt; options.get(100), Some([0].as_slice()));
-            assert_eq!(rt; options.get(149), Some([49].as_slice()));
+            assert!(rt; last == 149);
+            assert!(rt; options.get(100) == Some([0].as_slice()));
+            assert!(rt; options.get(149) == Some([49].as_slice()));
         }
         Err(_) => assert!(rt; false),
     }
@@ -106,10 +106,10 @@ fn many_and_long(rt: HostRuntime) {
     long[1] = 255;
     long[257] = 255;
     match Options::read(&long) {
-        Ok(options) => assert_eq!(rt; options.get(61), Some([7; 255].as_slice())),
+        Ok(options) => assert!(rt; options.get(61) == Some([7; 255].as_slice())),
         Err(_) => assert!(rt; false),
     }
-    assert_eq!(rt; fault(&long[..256]), Some(OptFault::Cut));
+    assert!(rt; fault(&long[..256]) == Some(OptFault::Cut));
 }
 
 #[test]
@@ -119,15 +119,15 @@ fn writes_without_pads(rt: HostRuntime) {
         return assert!(rt; false);
     };
     let mut out = PacketBuf::new();
-    assert_eq!(rt; out.push(9), Ok(()));
-    assert_eq!(rt; options.write(&mut out), Ok(()));
-    assert_eq!(rt; put(61, &[0, 7], &mut out), Ok(()));
+    assert!(rt; out.push(9) == Ok(()));
+    assert!(rt; options.write(&mut out) == Ok(()));
+    assert!(rt; put(61, &[0, 7], &mut out) == Ok(()));
     let want = [9, 53, 1, 1, 82, 2, 1, 0, 50, 4, 10, 0, 0, 10, 61, 2, 0, 7];
-    assert_eq!(rt; out.as_slice(), want.as_slice());
+    assert!(rt; out.as_slice() == want.as_slice());
     out.clear();
-    assert_eq!(rt; options.write_without(82, &mut out), Ok(()));
+    assert!(rt; options.write_without(82, &mut out) == Ok(()));
     let want = [53, 1, 1, 50, 4, 10, 0, 0, 10];
-    assert_eq!(rt; out.as_slice(), want.as_slice());
+    assert!(rt; out.as_slice() == want.as_slice());
 }
 
 #[test]
@@ -139,15 +139,15 @@ fn what_does_not_fit_leaves_nothing(rt: HostRuntime) {
     for (len, fits) in [(1277, true), (1278, false)] {
         fill(&mut out, len);
         let written = options.write(&mut out);
-        assert_eq!(rt; written, if fits { Ok(()) } else { Err(Full) });
-        assert_eq!(rt; out.len(), if fits { 1280 } else { 0 });
+        assert!(rt; written == if fits { Ok(()) } else { Err(Full) });
+        assert!(rt; out.len() == if fits { 1280 } else { 0 });
     }
     let long = [1; 255];
     for (len, fits) in [(0, true), (1023, true), (1024, false)] {
         fill(&mut out, len);
         let written = put(61, &long, &mut out);
-        assert_eq!(rt; written, if fits { Ok(()) } else { Err(Full) });
-        assert_eq!(rt; out.len(), if fits { len + 257 } else { 0 });
+        assert!(rt; written == if fits { Ok(()) } else { Err(Full) });
+        assert!(rt; out.len() == if fits { len + 257 } else { 0 });
     }
 }
 
@@ -167,14 +167,14 @@ fn suboptions(rt: HostRuntime) {
         (&[1, 0, 1, 0, 11], Some(SuboptFault::Twice)),
     ];
     for (bytes, want) in rows {
-        assert_eq!(rt; subfault(bytes), want, "{bytes:?}");
+        assert!(rt; subfault(bytes) == want);
     }
     match Suboptions::read(&[0, 1, 7, 1, 1, 97, 11, 4, 10, 0, 0, 1]) {
         Ok(suboptions) => {
-            assert_eq!(rt; suboptions.get(code::CIRCUIT_ID), Some([97].as_slice()));
-            assert_eq!(rt; suboptions.get(code::SERVER_IDENTIFIER_OVERRIDE), Some([10, 0, 0, 1].as_slice()));
-            assert_eq!(rt; suboptions.get(0), Some([7].as_slice()));
-            assert_eq!(rt; suboptions.get(2), None);
+            assert!(rt; suboptions.get(code::CIRCUIT_ID) == Some([97].as_slice()));
+            assert!(rt; suboptions.get(code::SERVER_IDENTIFIER_OVERRIDE) == Some([10, 0, 0, 1].as_slice()));
+            assert!(rt; suboptions.get(0) == Some([7].as_slice()));
+            assert!(rt; suboptions.get(2) == None);
         }
         Err(_) => assert!(rt; false),
     }
@@ -183,11 +183,8 @@ fn suboptions(rt: HostRuntime) {
 #[test]
 fn faults_have_texts(rt: HostRuntime) -> Result<(), std::test::Fail> {
     let texts = format!(in rt.alloc(); "{}; {}", OptFault::Twice, SuboptFault::Cut)?;
-    assert_eq!(rt;
-        texts.as_str(),
-        "an option appears twice; a suboption is cut off"
-    );
+    assert!(rt; texts.as_str() == "an option appears twice; a suboption is cut off");
     let text = format!(in rt.alloc(); "{}", SuboptFault::Twice)?;
-    assert_eq!(rt; text.as_str(), "a suboption appears twice");
+    assert!(rt; text.as_str() == "a suboption appears twice");
     Ok(())
 }

@@ -44,7 +44,7 @@ fn a_cut_option_is_reported(rt: HostRuntime) {
         (&[0, 0, 0, 0, 0, 1, 0, 9], Some(OptFault::Cut)),
     ];
     for (bytes, want) in rows {
-        assert_eq!(rt; fault(bytes), want, "{bytes:?}");
+        assert!(rt; fault(bytes) == want);
     }
 }
 
@@ -55,17 +55,17 @@ fn options_of_a_solicit(rt: HostRuntime) {
     };
     let duid: &[u8] = &[0, 3, 0, 1, 2, 0, 0, 0, 0, 2];
     let ia: &[u8] = &[0, 0, 0, 1, 0, 0, 0, 0, 0, 0, 0, 0];
-    assert_eq!(rt; options.get(code::CLIENT_ID), Some(duid));
-    assert_eq!(rt; options.get(code::IA_NA), Some(ia));
-    assert_eq!(rt; options.get(code::SERVER_ID), None);
+    assert!(rt; options.get(code::CLIENT_ID) == Some(duid));
+    assert!(rt; options.get(code::IA_NA) == Some(ia));
+    assert!(rt; options.get(code::SERVER_ID) == None);
     let mut iter = options.iter();
-    assert_eq!(rt; iter.next(), Some((code::CLIENT_ID, duid)));
-    assert_eq!(rt; iter.next(), Some((code::IA_NA, ia)));
-    assert_eq!(rt; iter.next(), None);
-    assert_eq!(rt; iter.next(), None);
+    assert!(rt; iter.next() == Some((code::CLIENT_ID, duid)));
+    assert!(rt; iter.next() == Some((code::IA_NA, ia)));
+    assert!(rt; iter.next() == None);
+    assert!(rt; iter.next() == None);
     let mut out = PacketBuf::new();
-    assert_eq!(rt; options.write(&mut out), Ok(()));
-    assert_eq!(rt; out.as_slice(), SOLICIT.as_slice());
+    assert!(rt; options.write(&mut out) == Ok(()));
+    assert!(rt; out.as_slice() == SOLICIT.as_slice());
 }
 
 #[test]
@@ -74,44 +74,37 @@ fn the_first_of_two_options(rt: HostRuntime) {
         return assert!(rt; false);
     };
     let (first, empty): (&[u8], &[u8]) = (&[7], &[]);
-    assert_eq!(rt; options.get(0), Some(first));
-    assert_eq!(rt; options.get(256), Some(empty));
-    assert_eq!(rt; options.get(1), None);
+    assert!(rt; options.get(0) == Some(first));
+    assert!(rt; options.get(256) == Some(empty));
+    assert!(rt; options.get(1) == None);
 }
 
 #[test]
 fn writing_to_the_last_byte(rt: HostRuntime) {
     let mut out = PacketBuf::new();
     let value = [1, 2, 3, 4, 5, 6];
-    assert_eq!(rt; put(code::INTERFACE_ID, &value, &mut out), Ok(()));
-    assert_eq!(rt; out.as_slice(), [0, 18, 0, 6, 1, 2, 3, 4, 5, 6].as_slice());
+    assert!(rt; put(code::INTERFACE_ID, &value, &mut out) == Ok(()));
+    assert!(rt; out.as_slice() == [0, 18, 0, 6, 1, 2, 3, 4, 5, 6].as_slice());
     fill(&mut out, 1270);
-    assert_eq!(rt; put(code::INTERFACE_ID, &value, &mut out), Ok(()));
-    assert_eq!(rt; out.len(), 1280);
+    assert!(rt; put(code::INTERFACE_ID, &value, &mut out) == Ok(()));
+    assert!(rt; out.len() == 1280);
     for len in [1271, 1275, 1277, 1279] {
         fill(&mut out, len);
-        assert_eq!(rt;
-            put(code::INTERFACE_ID, &[1, 2, 3, 4, 5, 6], &mut out),
-            Err(Full),
-            "{len}"
-        );
+        assert!(rt; put(code::INTERFACE_ID, &[1, 2, 3, 4, 5, 6], &mut out) == Err(Full));
         assert!(rt; out.as_slice().is_empty(), "{len}");
     }
     let Ok(options) = Options::read(&SOLICIT) else {
         return assert!(rt; false);
     };
     fill(&mut out, 1250);
-    assert_eq!(rt; options.write(&mut out), Ok(()));
+    assert!(rt; options.write(&mut out) == Ok(()));
     fill(&mut out, 1251);
-    assert_eq!(rt; options.write(&mut out), Err(Full));
+    assert!(rt; options.write(&mut out) == Err(Full));
     assert!(rt; out.as_slice().is_empty());
 }
 
 #[test]
 fn texts(rt: HostRuntime) -> Result<(), AllocError> {
-    assert_eq!(rt;
-        format!(in rt.alloc(); "{}", OptFault::Cut)?.as_str(),
-        "an option is cut off"
-    );
+    assert!(rt; format!(in rt.alloc(); "{}", OptFault::Cut)?.as_str() == "an option is cut off");
     Ok(())
 }

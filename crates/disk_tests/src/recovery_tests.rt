@@ -61,11 +61,11 @@ pub fn empty() -> Slots {
 fn a_formatted_region_is_an_empty_book(rt: HostRuntime) -> Result<(), Fail> {
     let (mut disk, expected) = formatted_disk(rt.alloc())?;
     disk.fill(0, 0x5a);
-    assert_eq!(rt; fault_of(&mut disk, 0), Some(RecoverFault::Damaged));
+    assert!(rt; fault_of(&mut disk, 0) == Some(RecoverFault::Damaged));
     assert!(rt; format(0, &mut disk).is_ok());
     if let Ok((slots, marks)) = recover(0, &mut disk, [16, 16]) {
         assert!(rt; are_same(&slots, &empty()));
-        assert_eq!(rt; marks, expected);
+        assert!(rt; marks == expected);
         return Ok(());
     }
     assert!(rt; false);
@@ -76,10 +76,10 @@ fn a_formatted_region_is_an_empty_book(rt: HostRuntime) -> Result<(), Fail> {
 fn an_unreadable_region_is_a_fault(rt: HostRuntime) -> Result<(), Fail> {
     let mut disk = ModelDisk::new(rt.alloc(), 2)?;
     disk.crash(1, Image::Unreadable);
-    assert_eq!(rt; fault_of(&mut disk, 1), Some(RecoverFault::DiskFault));
-    assert_eq!(rt; fault_of(&mut disk, 0), None);
+    assert!(rt; fault_of(&mut disk, 1) == Some(RecoverFault::DiskFault));
+    assert!(rt; fault_of(&mut disk, 0) == None);
     disk.crash(1, Image::Byte(0));
-    assert_eq!(rt; fault_of(&mut disk, 1), None);
+    assert!(rt; fault_of(&mut disk, 1) == None);
     Ok(())
 }
 
@@ -127,7 +127,7 @@ fn the_open_bank_that_follows_counts(rt: HostRuntime) -> Result<(), Fail> {
     ];
     for (first, second, bank) in rows {
         let bytes = [(1, first), (4096, 0xa5), (4097, second)];
-        assert_eq!(rt; bank_with(rt.alloc(), &bytes)?, bank, "{first} {second}");
+        assert!(rt; bank_with(rt.alloc(), &bytes)? == bank);
     }
     Ok(())
 }

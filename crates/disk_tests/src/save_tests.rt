@@ -46,9 +46,9 @@ pub fn formatted_disk(alloc: Global) -> Result<(ModelDisk, Marks), AllocError>
 #[test]
 fn a_new_device_is_formatted(rt: HostRuntime) -> Result<(), Fail> {
     let disk = ModelDisk::new(rt.alloc(), 2)?;
-    assert_eq!(rt; disk.regions(), 2);
+    assert!(rt; disk.regions() == 2);
     let bytes = disk.bytes(1);
-    assert_eq!(rt; bytes.len(), 32768);
+    assert!(rt; bytes.len() == 32768);
     for (at, byte) in [
         (0, 0xa5),
         (1, 0),
@@ -58,7 +58,7 @@ fn a_new_device_is_formatted(rt: HostRuntime) -> Result<(), Fail> {
         (8193, 0),
         (32767, 0),
     ] {
-        assert_eq!(rt; bytes.get(at), Some(&byte), "at {at}");
+        assert!(rt; bytes.get(at) == Some(&byte));
     }
     Ok(())
 }
@@ -77,7 +77,7 @@ fn a_crash_changes_what_was_not_synced(rt: HostRuntime) -> Result<(), Fail> {
     disk.crash(1, Image::Byte(0x5a));
     let mut read = [0; 4];
     assert!(rt; disk.read(1, 10, &mut read).is_ok());
-    assert_eq!(rt; read, [7, 0x5a, 0, 0x5a]);
+    assert!(rt; read == [7, 0x5a, 0, 0x5a]);
     assert!(rt; has(disk.bytes(0), 10, &[0, 0, 0, 0]));
     Ok(())
 }
@@ -102,7 +102,7 @@ fn formatting_replaces_any_bytes(rt: HostRuntime) -> Result<(), Fail> {
     disk.crash(0, Image::Byte(0xff));
     let bytes = disk.bytes(0);
     for (at, byte) in [(0, 0xa5), (1, 0), (4096, 0), (8192, 1), (32767, 0)] {
-        assert_eq!(rt; bytes.get(at), Some(&byte), "at {at}");
+        assert!(rt; bytes.get(at) == Some(&byte));
     }
     disk.fail_at(0, 2);
     assert!(rt; format(0, &mut disk).is_err());
@@ -121,13 +121,13 @@ fn the_bytes_of_a_first_save(rt: HostRuntime) -> Result<(), Fail> {
     assert!(rt; has(bytes, 4136, &[0, 0, 0, 0, 0, 0, 2, 0xbd]));
     assert!(rt; has(bytes, 4144, &[1, 2, 0, 0, 0, 0, 1, 0]));
     assert!(rt; has(bytes, 8192, &[1]));
-    assert_eq!(rt;
-        marks,
-        Marks {
-            bank: Bank::Second,
-            sequence: 1,
-            other_open: true
-        }
+    assert!(rt;
+        marks
+            == Marks {
+                bank: Bank::Second,
+                sequence: 1,
+                other_open: true
+            }
     );
     Ok(())
 }
@@ -200,12 +200,12 @@ fn stop_third(alloc: Global, k: u8, byte: u8) -> Result<Option<(u8, u8)>, AllocE
 fn stops_in_the_first_save(rt: HostRuntime) -> Result<(), Fail> {
     for byte in [0x00, 0x02, 0x5a, 0xa5, 0xff] {
         // the gate was closed: it is not in doubt before the fifth call
-        assert_eq!(rt; stop_first(rt.alloc(), 1, byte)?, Some((0, 0)));
-        assert_eq!(rt; stop_first(rt.alloc(), 2, byte)?, Some((0, 0)));
-        assert_eq!(rt; stop_first(rt.alloc(), 3, byte)?, Some((0, byte)));
-        assert_eq!(rt; stop_first(rt.alloc(), 4, byte)?, Some((0, byte)));
-        assert_eq!(rt; stop_first(rt.alloc(), 5, byte)?, Some((byte, 1)));
-        assert_eq!(rt; stop_first(rt.alloc(), 6, byte)?, Some((byte, 1)));
+        assert!(rt; stop_first(rt.alloc(), 1, byte)? == Some((0, 0)));
+        assert!(rt; stop_first(rt.alloc(), 2, byte)? == Some((0, 0)));
+        assert!(rt; stop_first(rt.alloc(), 3, byte)? == Some((0, byte)));
+        assert!(rt; stop_first(rt.alloc(), 4, byte)? == Some((0, byte)));
+        assert!(rt; stop_first(rt.alloc(), 5, byte)? == Some((byte, 1)));
+        assert!(rt; stop_first(rt.alloc(), 6, byte)? == Some((byte, 1)));
     }
     Ok(())
 }
@@ -214,12 +214,12 @@ fn stops_in_the_first_save(rt: HostRuntime) -> Result<(), Fail> {
 fn stops_in_a_later_save(rt: HostRuntime) -> Result<(), Fail> {
     for byte in [0x00, 0x02, 0x5a, 0xa5, 0xff] {
         // bank 1 of the second save, with sequence 1, is open when the third closes it
-        assert_eq!(rt; stop_third(rt.alloc(), 1, byte)?, Some((byte, 1)));
-        assert_eq!(rt; stop_third(rt.alloc(), 2, byte)?, Some((byte, 1)));
-        assert_eq!(rt; stop_third(rt.alloc(), 3, byte)?, Some((0, byte)));
-        assert_eq!(rt; stop_third(rt.alloc(), 4, byte)?, Some((0, byte)));
-        assert_eq!(rt; stop_third(rt.alloc(), 5, byte)?, Some((byte, 0)));
-        assert_eq!(rt; stop_third(rt.alloc(), 6, byte)?, Some((byte, 0)));
+        assert!(rt; stop_third(rt.alloc(), 1, byte)? == Some((byte, 1)));
+        assert!(rt; stop_third(rt.alloc(), 2, byte)? == Some((byte, 1)));
+        assert!(rt; stop_third(rt.alloc(), 3, byte)? == Some((0, byte)));
+        assert!(rt; stop_third(rt.alloc(), 4, byte)? == Some((0, byte)));
+        assert!(rt; stop_third(rt.alloc(), 5, byte)? == Some((byte, 0)));
+        assert!(rt; stop_third(rt.alloc(), 6, byte)? == Some((byte, 0)));
     }
     Ok(())
 }

@@ -106,7 +106,7 @@ fn receive(
     let source = Source { addr, port };
     let result = bench.server.receive(source, datagram.as_slice(), now, &mut bench.disk, &mut out);
     match result {
-        Ok(()) => assert_eq!(rt; out.len(), 300),
+        Ok(()) => assert!(rt; out.len() == 300),
         Err(_) => assert!(rt; out.is_empty()),
     }
     result
@@ -139,7 +139,7 @@ fn reasons(rt: HostRuntime) {
     for (port, kind, giaddr, rest, expected) in rows {
         let mut bench = bench_of(&rt, rt.alloc(), ONE_CIRCUIT);
         let datagram = message(kind, 1, giaddr, rest);
-        assert_eq!(rt; receive(&rt, &mut bench, port, &datagram, 100), expected);
+        assert!(rt; receive(&rt, &mut bench, port, &datagram, 100) == expected);
     }
 }
 
@@ -149,25 +149,22 @@ fn long_datagrams(rt: HostRuntime) {
     let mut datagram = message(1, 1, [10, 0, 0, 1], AGENT);
     let filled = datagram.extend(&[0; 1025]).is_ok();
     assert!(rt; filled);
-    assert_eq!(rt; datagram.len(), 1280);
-    assert_eq!(rt; receive(&rt, &mut bench, 6801, &datagram, 100), Ok(()));
+    assert!(rt; datagram.len() == 1280);
+    assert!(rt; receive(&rt, &mut bench, 6801, &datagram, 100) == Ok(()));
 }
 
 #[test]
 fn an_offer_expires_by_the_circuits_clock(rt: HostRuntime) {
     let mut bench = bench_of(&rt, rt.alloc(), ONE_CIRCUIT);
-    assert_eq!(rt; discover(&rt, &mut bench, 1, 100), Ok(()));
+    assert!(rt; discover(&rt, &mut bench, 1, 100) == Ok(()));
 
     // a datagram of no circuit moves no clock
     let stranger = message(1, 2, [10, 0, 0, 1], AGENT);
-    assert_eq!(rt;
-        receive(&rt, &mut bench, 9999, &stranger, 160),
-        Err(Discard::UnknownSource)
-    );
-    assert_eq!(rt; discover(&rt, &mut bench, 2, 159), Err(Discard::NoAddress));
+    assert!(rt; receive(&rt, &mut bench, 9999, &stranger, 160) == Err(Discard::UnknownSource));
+    assert!(rt; discover(&rt, &mut bench, 2, 159) == Err(Discard::NoAddress));
 
     bench.server.tick(Moment::new(160).expect(&rt, "a moment"));
-    assert_eq!(rt; discover(&rt, &mut bench, 2, 100), Ok(()));
+    assert!(rt; discover(&rt, &mut bench, 2, 100) == Ok(()));
 }
 
 /// Circuits `a` and `a1` behind relay `r1`, and a relay `r2` without circuits.
@@ -191,7 +188,7 @@ fn reasons_among_two_circuits(rt: HostRuntime) -> Result<(), AllocError> {
     for (port, giaddr, rest, expected) in rows {
         let mut bench = bench_of(&rt, rt.alloc(), text.as_str());
         let datagram = message(1, 1, giaddr, rest);
-        assert_eq!(rt; receive(&rt, &mut bench, port, &datagram, 100), expected);
+        assert!(rt; receive(&rt, &mut bench, port, &datagram, 100) == expected);
     }
     Ok(())
 }
@@ -208,7 +205,7 @@ fn a_short_reply_after_a_long_one(rt: HostRuntime) {
     let offered = bench
         .server
         .receive(relay, discover.as_slice(), now, &mut bench.disk, &mut out);
-    assert_eq!(rt; offered, Ok(()));
+    assert!(rt; offered == Ok(()));
     let wanted = [
         50, 4, 10, 0, 9, 9, 82, 10, 1, 2, 97, 49, 11, 4, 10, 0, 1, 1, 255,
     ];
@@ -216,27 +213,21 @@ fn a_short_reply_after_a_long_one(rt: HostRuntime) {
     let refused = bench
         .server
         .receive(relay, request.as_slice(), now, &mut bench.disk, &mut out);
-    assert_eq!(rt; refused, Ok(()));
+    assert!(rt; refused == Ok(()));
     let datagram = out.as_slice();
-    assert_eq!(rt; datagram.len(), 300);
-    assert_eq!(rt; datagram.get(242), Some(&6));
-    assert_eq!(rt; datagram.get(261), Some(&255));
-    assert_eq!(rt;
-        datagram.iter().skip(262).filter(|byte| **byte != 0).count(),
-        0
-    );
+    assert!(rt; datagram.len() == 300);
+    assert!(rt; datagram.get(242) == Some(&6));
+    assert!(rt; datagram.get(261) == Some(&255));
+    assert!(rt; datagram.iter().skip(262).filter(|byte| **byte != 0).count() == 0);
 }
 
 /// A damaged region closes its circuit, alone, and a disk without the last region is refused.
 #[test]
 fn damage(rt: HostRuntime) {
     let mut bench = opened(&rt, rt.alloc(), TWO_CIRCUITS, 2, Some(0x5a)).expect(&rt, "a server");
-    assert_eq!(rt;
-        discover(&rt, &mut bench, 1, 100),
-        Err(Discard::CircuitClosed)
-    );
+    assert!(rt; discover(&rt, &mut bench, 1, 100) == Err(Discard::CircuitClosed));
     let other = message(1, 1, [10, 0, 1, 1], AGENT_A1);
-    assert_eq!(rt; receive(&rt, &mut bench, 6801, &other, 100), Ok(()));
+    assert!(rt; receive(&rt, &mut bench, 6801, &other, 100) == Ok(()));
 
     let refused = opened(&rt, rt.alloc(), TWO_CIRCUITS, 1, None);
     assert!(rt; matches!(refused, Err(OpenFault::DiskTooSmall)));
