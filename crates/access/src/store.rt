@@ -28,10 +28,10 @@ pub enum StoreFault {
 
 /// Formats the region of each circuit.
 fn format_regions<D: Disk>(config: &Config, disk: &mut D) -> Result<(), StoreFault>
-    requires { (c : ℕ) (circuit : CircuitConfig) → slice_get config.now.circuits c ≡ Some circuit → circuit.region < D.count disk.old }
-    ensures formatted { D.tells ≡ true → OnOk result ((c : ℕ) (circuit : CircuitConfig) → slice_get config.now.circuits c ≡ Some circuit → IsFormatted (D.state disk.new circuit.region)) }
-    ensures count { D.count disk.new ≡ D.count disk.old }
-    ensures writes { OnOk result (D.writes disk.new ≡ D.writes disk.old + 2 * length config.now.circuits) }
+    requires { (c : ℕ) (circuit : CircuitConfig) → slice_get config.now.circuits c ≡ Some circuit → circuit.region < (D.device disk.old).count }
+    ensures formatted { D.tells ≡ true → OnOk result ((c : ℕ) (circuit : CircuitConfig) → slice_get config.now.circuits c ≡ Some circuit → IsFormatted ((D.device disk.new).region circuit.region)) }
+    ensures count { (D.device disk.new).count ≡ (D.device disk.old).count }
+    ensures writes { OnOk result ((D.device disk.new).writes ≡ (D.device disk.old).writes + 2 * length config.now.circuits) }
 {
     'circuits: for index in 0..config.circuit_count() {
         let Some(circuit) = Circuit::new(index) else {

@@ -21,7 +21,7 @@ use Rattle.bindings_v4.specs.declared.server4.Server4.{Server4}
 use Rattle.bindings_v4.specs.declared.server4.Server4.TheVariants.{Anybody, This, Another}
 use Rattle.bindings_v4.specs.Book4.{in_pool, or_else}
 use Rattle.bindings_v4.specs.Kept4.{EndsBy, IsWithin, AreWithin}
-use Rattle.bindings_v4.specs.Lookup4.{keep_of, decision_of}
+use Rattle.bindings_v4.specs.Decision4.{keep_of, decision_of}
 use Rattle.bindings_v4.specs.Slots4.{AreSlots, is_clients, with_vacancy, without_lessee, client_of, with_slot, with_offer, with_kept, holder_of}
 use Rattle.bindings_v4.specs.Table4.{Unchanged, Row, replies, grants, discover_row, other_server_row, selecting_row, known_address_row, no_server_row, decline_row, release_row, inform_row, where_is, where_specified, server_of, Lookup, row_of}
 use Rattle.bindings_v4.proofs.KeptLemmas.{WithinAt, within_at, are_within}

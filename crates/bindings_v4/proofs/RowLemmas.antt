@@ -15,7 +15,8 @@ use Rattle.bindings_v4.specs.declared.decision4.Decision4.{Decision4}
 use Rattle.bindings_v4.specs.declared.holder4.Holder4.{Holder4}
 use Rattle.bindings_v4.specs.declared.holder4.Holder4.TheVariants.{Bound, Offered, Barred}
 use Rattle.bindings_v4.specs.Book4.{Lease, is_live, in_pool, address_of, or_else}
-use Rattle.bindings_v4.specs.Lookup4.{until_of, is_vacant, is_bound_to, is_offered_to, wanted_slot, picked_slot, keep_of, decision_of}
+use Rattle.bindings_v4.specs.Lookup4.{until_of, is_vacant, is_bound_to, is_offered_to, wanted_slot, picked_slot}
+use Rattle.bindings_v4.specs.Decision4.{keep_of, decision_of}
 use Rattle.bindings_v4.specs.Slots4.{PoolSlots, bound_to, offered_to, barred_until, book_of_slots, book_of, is_clients, AreSlots, with_slot, with_decision}
 use Rattle.bindings_v4.specs.declared.server4.Server4.{Server4}
 use Rattle.bindings_v4.specs.declared.server4.Server4.TheVariants.{Anybody, This, Another}

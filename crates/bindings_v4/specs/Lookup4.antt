@@ -1,4 +1,4 @@
--- How the code looks slots up, and how it writes a row of the table as a decision. Only proofs need these.
+-- How the code looks slots up. Only proofs need these.
 use Rattle.std.specs.Prelude.{◌≡◌, ℕ, ◌+◌, ◌-◌, nat_lt, slice_index_or, not, Bool, true, false, List, length, Option, Some, None, if◌then◌else◌, option_map, IfSome}
 use Rattle.std.specs.List.{position}
 use Rattle.std.specs.Str.{bytes_eq}
@@ -7,15 +7,12 @@ use Rattle.types.specs.Pool4.{PoolValue}
 use Rattle.bindings_v4.specs.declared.holder4.Holder4.{Holder4}
 use Rattle.bindings_v4.specs.declared.holder4.Holder4.TheVariants.{Bound, Offered, Barred}
 use Rattle.bindings_v4.specs.declared.decision4.Decision4.{Decision4}
-use Rattle.types.specs.declared.slot4.Slot4.TheVariants as content
 use Rattle.bindings_v4.specs.declared.case4.Case4.{Case4}
-use Rattle.bindings_v4.specs.declared.decision4.KeptSlot.{KeptSlot}
-use Rattle.bindings_v4.specs.declared.decision4.OfferChange.{OfferChange}
-use Rattle.bindings_v4.specs.declared.decision4.OfferChange.TheVariants as offer
 use Rattle.bindings_v4.specs.declared.table4.Lookup4.{Lookup4}
 use Rattle.bindings_v4.specs.declared.case4.SlotAddress.{SlotAddress}
 use Rattle.bindings_v4.specs.Book4.{is_live, or_else}
-use Rattle.bindings_v4.specs.Table4.{Change, Unchanged, Offers, Withdraws, Binds, Bars, Frees, Row, Lookup}
+use Rattle.bindings_v4.specs.Decision4.{decision_of}
+use Rattle.bindings_v4.specs.Table4.{Row, Lookup}
 
 abbrev pub until_of : Holder4 → ℕ
 until_of (Bound key until) = until
@@ -56,27 +53,7 @@ picked_slot clock first slots client wanted =
     (or_else (position (is_offered_to clock client) slots)
     (or_else (wanted_slot clock first slots wanted) (position (is_vacant clock) slots)))
 
--- the change of offers and the slot to keep of a row, in a pool that begins at this address
-abbrev pub offer_of : ℕ → List ℕ → Change → Option OfferChange
-offer_of first client Unchanged = None
-offer_of first client (Offers address until) = Some (offer.Made (address - first) client until)
-offer_of first client (Withdraws address) = Some (offer.Withdrawn (address - first))
-offer_of first client (Binds address until) = None
-offer_of first client (Bars address until) = None
-offer_of first client (Frees address) = None
-
-abbrev pub keep_of : ℕ → List ℕ → Change → Option KeptSlot
-keep_of first client Unchanged = None
-keep_of first client (Offers address until) = None
-keep_of first client (Withdraws address) = None
-keep_of first client (Binds address until) = Some (record { slot = address - first; content = content.Bound client until })
-keep_of first client (Bars address until) = Some (record { slot = address - first; content = content.Barred until })
-keep_of first client (Frees address) = Some (record { slot = address - first; content = content.Free })
-
-abbrev pub decision_of : ℕ → ℕ → List ℕ → Row → Decision4
-decision_of first clock client row =
-    record { clock = clock; answer = row.answer; offer = offer_of first client row.change; keep = keep_of first client row.change }
-
+-- a row as a decision, for the client of a case
 abbrev pub decision_in : Case4 → Row → Decision4
 decision_in case row = decision_of (number4 case.pool.first) case.clock case.client row
 

@@ -168,6 +168,10 @@ row_of pool t found m Offer server = drops reason.NotServed Unchanged
 row_of pool t found m Ack server = drops reason.NotServed Unchanged
 row_of pool t found m Nak server = drops reason.NotServed Unchanged
 
+-- The row of a client's message, by pool, clock and the book at that clock.
+abbrev pub row4 : PoolValue → ℕ → Book4 → Request4 → Row
+row4 pool t b m = row_of pool t (lookup_in pool b m) m m.kind (server_of pool m.server)
+
 pub record Decision : Type 0 where
   -- a reply, or why there is none
   pub answer : Result Reply4 Discard
@@ -179,5 +183,5 @@ pub record Decision : Type 0 where
 -- The decision on a client's message, by pool, clock and the book at that clock.
 unfoldable pub answer4 : PoolValue → ℕ → Book4 → Request4 → Decision
 answer4 pool t b m =
-    let row = row_of pool t (lookup_in pool b m) m m.kind (server_of pool m.server) in
+    let row = row4 pool t b m in
     record { answer = row.answer; book = with_change m.key row.change b; is_kept = is_kept row.change }

@@ -3,10 +3,11 @@ ghost use Rattle.std.specs.Prelude.{◌≡◌, ◌+◌, ◌<◌, ◌≤◌, ℕ,
 ghost use Rattle.types.specs.Addr.{number4};
 ghost use Rattle.types.specs.Slots.{IsWithin4, live4, none_twice, same_client4};
 ghost use Rattle.types.specs.declared.slot4.Slot4.TheVariants.{Free};
+ghost use Rattle.bindings_v4.specs.Decision4.{decision_of};
 ghost use Rattle.bindings_v4.specs.Kept4.{AreWithin, EndsBy, book4_in, kept_book, kept_slots};
 ghost use Rattle.bindings_v4.specs.Lookup4.{IsAt, IsLookup, lookup_of};
 ghost use Rattle.bindings_v4.specs.Slots4.{AreSlots, book_of, with_decision};
-ghost use Rattle.bindings_v4.specs.Table4.{answer4, lookup_in};
+ghost use Rattle.bindings_v4.specs.Table4.{answer4, lookup_in, row4};
 
 use crate::case4::{Case4, SlotAddress};
 use crate::decision4::Decision4;
@@ -71,6 +72,7 @@ impl Book4 {
 
     /// What a client's message calls for at this clock. Nothing is changed.
     pub fn decide(&self, request: &Request4, clock: Moment) -> Decision4
+        ensures exact { result ≡ decision_of (number4 self.now.pool.first) clock request.now.key (row4 self.now.pool clock (book_of clock self.now) request.now) }
         ensures clock { result.clock ≡ clock }
         ensures keep { is_some result.keep ≡ (answer4 self.now.pool clock (book_of clock self.now) request.now).is_kept }
         ensures answer { result.answer ≡ (answer4 self.now.pool clock (book_of clock self.now) request.now).answer }

@@ -5,15 +5,18 @@ use Rattle.std.proofs.lemmas.Bool.{lt-ltb, le-ltb}
 use Rattle.types.specs.declared.discard.Discard.{Discard}
 use Rattle.types.specs.declared.discard.Discard.TheVariants.{DiskFault}
 use Rattle.types.specs.declared.request4.Request4.{Request4}
+use Rattle.types.specs.declared.request4.Reply4.{Reply4}
 use Rattle.v4_message.specs.Reading.{message_of}
 use Rattle.v4_message.specs.Spelling.{MessageValue}
 use Rattle.config.specs.CircuitPart.{CircuitPart, pool4_of}
-use Rattle.bindings_v4.specs.Table4.{answer4}
+use Rattle.bindings_v4.specs.Book4.{Book4}
+use Rattle.bindings_v4.specs.Table4.{Decision, answer4}
+use Rattle.lease_disk.specs.Device.{Device, Touches, WritesAt}
 use Rattle.lease_disk.specs.Region.{Region, effective, faults_after}
 use Rattle.dispatch.specs.Leases.{Leases, after_datagram, kept, restarts_of, restarts_after}
-use Rattle.dispatch.specs.Received.{after_save, answered, circuit_fails, save_fails}
+use Rattle.dispatch.specs.Received.{after_save, answered, circuit_fails, circuit_saves, save_fails, saves}
 use Rattle.dispatch.specs.Request.{request_in}
-use Rattle.dispatch.specs.Server.{Book, Served, book_at, decision_served, drop, message_served, request_served, served}
+use Rattle.dispatch.specs.Server.{Book, Served, book_at, decision_served, drop, message_served, reply_to, request_served, served}
 use Rattle.dispatch.specs.ServerValue.{CircuitServerValue, OpenCircuitValue, book_of, leases_of, open_book}
 
 -- ---- what is decided
@@ -32,6 +35,12 @@ module _ (part : CircuitPart) (now : ℕ) (datagram : List ℕ) (m : MessageValu
   pub decided : (request : Request4) → request_in m ≡ Ok request
       → served part now datagram b ≡ decision_served part m later.clock (answer4 (pool4_of part) later.clock later.four request)
   decided request is = of_message ∙ ap (request_served part m later) is
+
+-- what is served, by the decision as the code has it
+module _ (part : CircuitPart) (m : MessageValue) (clock : ℕ) (decision : Decision) (answer : Result Reply4 Discard) (four : Book4) (is_kept : Bool)
+    (answer_is : answer ≡ decision.answer) (book_is : four ≡ decision.book) (kept_is : is_kept ≡ decision.is_kept) where
+  pub served_as : decision_served part m clock decision ≡ record { answer = reply_to part m answer; book = record { clock = clock; four = four }; is_kept = is_kept }
+  served_as = λ i. record { answer = reply_to part m (sym answer_is i); book = record { clock = clock; four = sym book_is i }; is_kept = sym kept_is i }
 
 -- ---- after the save
 
@@ -83,6 +92,13 @@ module _ (part : CircuitPart) (regions later : ℕ → Region) (b : Book) (done 
   leases_after true is saves stays answer =
       rw is (rw (answer ∙ not_not (effective 6 fuse == 0)) (λ i. record { book = if effective 6 fuse == 0 then Some done.book else None; restarts = saves refl i }))
 
+-- ---- what is written
+
+writes_if : (tells is_kept : Bool) (region : ℕ) (old new : Device) → (is_kept ≡ false → new ≡ old) → Touches tells region old new
+    → WritesAt tells (if is_kept then Some region else None) old new
+writes_if tells true region old new stays touches = touches
+writes_if tells false region old new stays touches = stays refl
+
 -- ---- what the clauses say
 
 -- an open circuit was asked, and served the datagram so
@@ -103,6 +119,13 @@ module _ {s : CircuitServerValue} {now : ℕ} {datagram : List ℕ} {part : Circ
   pub fails_as : (fuses : ℕ → ℕ) (fails : Bool) → fails ≡ save_fails (fuses part.region) done → fails ≡ circuit_fails now datagram fuses (Some s.part) (Some (book_of s))
   fails_as fuses fails by_decision =
       by_decision ∙ ap (save_fails (fuses part.region)) (sym case.served_so) ∙ sym (ap (λ v. circuit_fails now datagram fuses (Some v.part) (Some (book_of v))) case.was)
+
+  pub writes_as : (tells : Bool) (old new : Device) → (done.is_kept ≡ false → new ≡ old) → Touches tells part.region old new
+      → WritesAt tells (circuit_saves now datagram (Some s.part) (Some (book_of s))) old new
+  writes_as tells old new stays touches =
+      subst (λ (region : Option ℕ). WritesAt tells region old new)
+      (sym (ap (λ v. circuit_saves now datagram (Some v.part) (Some (book_of v))) case.was ∙ ap (saves part) case.served_so))
+      (writes_if tells done.is_kept part.region old new stays touches)
 
   pub leases_as : (regions later : ℕ → Region) (fuses : ℕ → ℕ) (b : Book) (ok : Bool) → b ≡ done.book
       → (done.is_kept ≡ true → restarts_of part (later part.region) ≡ restarts_after (effective 6 (fuses part.region)) b (restarts_of part (regions part.region)))

@@ -5,7 +5,7 @@ use Rattle.types.specs.declared.addr.Source.{Source}
 use Rattle.config.specs.CircuitPart.{CircuitPart}
 use Rattle.dispatch.specs.Addressee.{addressee}
 use Rattle.dispatch.specs.Leases.{Leases, leases_with, addressee_leases, received_leases, after_datagram}
-use Rattle.dispatch.specs.Received.{received, received_fails, with_answered, answered, circuit_answered, addressee_answered, circuit_fails, addressee_fails}
+use Rattle.dispatch.specs.Received.{received, received_fails, with_answered, answered, circuit_answered, addressee_answered, circuit_fails, addressee_fails, circuit_saves, addressee_saves, received_saves}
 use Rattle.dispatch.specs.Server.{Book}
 
 module _ (relays : List Source) (parts : List CircuitPart) (now : ℕ) (source : Source) (datagram : List ℕ) (c : ℕ) (part : CircuitPart)
@@ -21,6 +21,12 @@ module _ (relays : List Source) (parts : List CircuitPart) (now : ℕ) (source :
   fails_at faults books book its =
       ap (addressee_fails parts now datagram faults books) found
       ∙ (λ i. circuit_fails now datagram faults (there i) (its i))
+
+  pub saves_at : (books : List (Option Book)) (book : Option Book) → slice_get books c ≡ Some book
+      → received_saves relays parts now source datagram books ≡ circuit_saves now datagram (Some part) (Some book)
+  saves_at books book its =
+      ap (addressee_saves parts now datagram books) found
+      ∙ (λ i. circuit_saves now datagram (there i) (its i))
 
   pub leases_at : (faults : ℕ → ℕ) (all : List Leases) (l : Leases) → slice_get all c ≡ Some l
       → received_leases relays parts now source datagram faults all ≡ slice_set all c (after_datagram part now datagram (faults part.region) l)

@@ -6,6 +6,7 @@ use Rattle.types.specs.declared.discard.Discard.{Discard}
 use Rattle.types.specs.declared.slots.Slots.{Slots}
 use Rattle.lease_disk.specs.declared.image.Image.{Image}
 use Rattle.lease_disk.specs.declared.image.Image.TheVariants.{Byte, Unreadable}
+use Rattle.lease_disk.specs.Layout.{gate_open}
 use Rattle.lease_disk.specs.Recovered.{recovered}
 use Rattle.lease_disk.specs.Region.{Region, IsClean, image, effective}
 use Rattle.config.specs.CircuitPart.{CircuitPart, pool4_of}
@@ -43,10 +44,10 @@ found_book part region = if region.readable then recovered_book part region.byte
 -- ---- a datagram of the circuit
 
 -- What restarts find after a save of a book whose k-th call of the device failed, 0 where none did.
--- From the fifth call on the new book may be there: where the unsynced gate then reads 0xA5.
+-- From the fifth call on the new book may be there: where the unsynced gate then reads open.
 abbrev pub restarts_after : ℕ → Book → (ℕ → Option Book) → ℕ → Option Book
 restarts_after k b restarts byte =
-    if k == 0 || (nat_le 5 k && byte == 0xa5) then Some (kept_book b) else restarts byte
+    if k == 0 || (nat_le 5 k && byte == gate_open) then Some (kept_book b) else restarts byte
 
 -- A save that fails closes the circuit.
 abbrev pub after_saving : ℕ → Book → Leases → Leases

@@ -72,6 +72,26 @@ addressee_fails parts now datagram faults books (Ok c) = circuit_fails now datag
 abbrev pub received_fails : List Source → List CircuitPart → ℕ → Source → List ℕ → (ℕ → ℕ) → List (Option Book) → Bool
 received_fails relays parts now source datagram faults books = addressee_fails parts now datagram faults books (addressee relays parts source datagram)
 
+-- ---- what is written
+
+-- the region of a circuit, where something is saved
+abbrev pub saves : CircuitPart → Served → Option ℕ
+saves part done = if done.is_kept then Some part.region else None
+
+abbrev pub circuit_saves : ℕ → List ℕ → Option CircuitPart → Option (Option Book) → Option ℕ
+circuit_saves now datagram (Some part) (Some (Some b)) = saves part (served part now datagram b)
+circuit_saves now datagram (Some part) (Some None) = None
+circuit_saves now datagram (Some part) None = None
+circuit_saves now datagram None book = None
+
+abbrev pub addressee_saves : List CircuitPart → ℕ → List ℕ → List (Option Book) → Result ℕ Discard → Option ℕ
+addressee_saves parts now datagram books (Err why) = None
+addressee_saves parts now datagram books (Ok c) = circuit_saves now datagram (slice_get parts c) (slice_get books c)
+
+-- The region that a datagram's save writes to, whether it fails or not; None where nothing is written.
+abbrev pub received_saves : List Source → List CircuitPart → ℕ → Source → List ℕ → List (Option Book) → Option ℕ
+received_saves relays parts now source datagram books = addressee_saves parts now datagram books (addressee relays parts source datagram)
+
 -- A result with what `out` then holds is this answer.
 abbrev pub IsAnswer : Result (List ℕ) Discard → Result (Unit {0}) Discard → List ℕ → Type 0
 IsAnswer (Ok bytes) result out = (result ≡ Ok tt) × (out ≡ bytes)

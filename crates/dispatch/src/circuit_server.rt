@@ -1,10 +1,12 @@
 //! The server of one circuit: what it has while it is open, and what it makes of a message.
-ghost use Rattle.std.specs.Prelude.{◌≡◌, ◌≢◌, ◌<◌, ℕ, [], List, Ok, Some, true, is_some, nat_lt, IfSome};
+ghost use Rattle.std.specs.Prelude.{◌≡◌, ◌<◌, ◌≤◌, ◌+◌, ℕ, [], List, Ok, Some, true, is_some, nat_lt, IfSome};
 ghost use Rattle.v4_message.specs.Reading.{message_of};
 ghost use Rattle.config.specs.CircuitPart.{pool4_of};
 ghost use Rattle.dispatch.specs.Leases.{after_datagram, after_tick, found_book};
-ghost use Rattle.dispatch.specs.Received.{IsAnswer, answered, circuit_fails};
+ghost use Rattle.dispatch.specs.Received.{IsAnswer, answered, circuit_fails, circuit_saves};
+ghost use Rattle.dispatch.specs.Server.{reply_to};
 ghost use Rattle.dispatch.specs.ServerValue.{IsReady, book_of, leases_of};
+ghost use Rattle.lease_disk.specs.Device.{Touches, TouchesNothing, WritesAt};
 ghost use Rattle.lease_disk.specs.Region.{IsClean, Region};
 
 use crate::open_circuit::OpenCircuit;
@@ -13,7 +15,7 @@ use config::CircuitPart;
 use lease_disk::Disk;
 use replies::write4;
 use std::marker::Model;
-use types::{Discard, Moment};
+use types::{Discard, Moment, Reply4};
 use v4_message::Message;
 use wire::PacketBuf;
 
@@ -62,14 +64,12 @@ impl CircuitServer {
     /// Begins with what the circuit's region holds. The circuit is closed where the region cannot be
     /// read or is damaged.
     pub(crate) fn restart<D: Disk>(&mut self, disk: &mut D)
-        requires { self.old.part.region < D.count disk.old }
+        requires { self.old.part.region < (D.device disk.old).count }
         ensures part { self.new.part ≡ self.old.part }
-        ensures book { D.tells ≡ true → book_of self.new ≡ found_book self.old.part (D.state disk.old self.old.part.region) }
-        ensures ready { D.tells ≡ true → ((D.state disk.old self.old.part.region).readable ≡ true → IsClean (D.state disk.old self.old.part.region)) → IsReady (D.state disk.old) self.new }
-        ensures state { D.tells ≡ true → D.state disk.new ≡ D.state disk.old }
-        ensures fuse { D.tells ≡ true → D.fuse disk.new ≡ D.fuse disk.old }
-        ensures count { D.count disk.new ≡ D.count disk.old }
-        ensures writes { D.writes disk.new ≡ D.writes disk.old }
+        ensures book { D.tells ≡ true → book_of self.new ≡ found_book self.old.part ((D.device disk.old).region self.old.part.region) }
+        ensures ready { D.tells ≡ true → (((D.device disk.old).region self.old.part.region).readable ≡ true → IsClean ((D.device disk.old).region self.old.part.region)) → IsReady (D.device disk.old).region self.new }
+        ensures frame { TouchesNothing D.tells (D.device disk.old) (D.device disk.new) }
+        ensures reads { (D.device disk.new).reads ≤ (D.device disk.old).reads + 4 }
     {
         self.state = OpenCircuit::recover(&self.part, disk);
     }
@@ -83,21 +83,21 @@ impl CircuitServer {
         out: &mut PacketBuf,
     ) -> Result<(), Discard>
         requires empty { out.old ≡ [] }
-        requires exists { self.old.part.region < D.count disk.old }
-        requires ready { D.tells ≡ true → IsReady (D.state disk.old) self.old }
+        requires exists { self.old.part.region < (D.device disk.old).count }
+        requires ready { D.tells ≡ true → IsReady (D.device disk.old).region self.old }
         ensures part { self.new.part ≡ self.old.part }
         ensures answer { (datagram : List ℕ) → message_of datagram ≡ Ok message.now
-            → IsAnswer (answered self.old.part now datagram (nat_lt (D.failures disk.old) (D.failures disk.new)) (book_of self.old)).answer result out.new }
+            → IsAnswer (answered self.old.part now datagram (nat_lt (D.device disk.old).failures (D.device disk.new).failures) (book_of self.old)).answer result out.new }
         ensures book { (datagram : List ℕ) → message_of datagram ≡ Ok message.now
-            → book_of self.new ≡ (answered self.old.part now datagram (nat_lt (D.failures disk.old) (D.failures disk.new)) (book_of self.old)).book }
+            → book_of self.new ≡ (answered self.old.part now datagram (nat_lt (D.device disk.old).failures (D.device disk.new).failures) (book_of self.old)).book }
         ensures fails { D.tells ≡ true → (datagram : List ℕ) → message_of datagram ≡ Ok message.now
-            → nat_lt (D.failures disk.old) (D.failures disk.new) ≡ circuit_fails now datagram (D.fuse disk.old) (Some self.old.part) (Some (book_of self.old)) }
+            → nat_lt (D.device disk.old).failures (D.device disk.new).failures ≡ circuit_fails now datagram (D.device disk.old).fuse (Some self.old.part) (Some (book_of self.old)) }
         ensures leases { D.tells ≡ true → (datagram : List ℕ) → message_of datagram ≡ Ok message.now
-            → leases_of (D.state disk.new) self.new ≡ after_datagram self.old.part now datagram (D.fuse disk.old self.old.part.region) (leases_of (D.state disk.old) self.old) }
-        ensures ready { D.tells ≡ true → IsReady (D.state disk.new) self.new }
-        ensures others { D.tells ≡ true → (q : ℕ) → q ≢ self.old.part.region → D.state disk.new q ≡ D.state disk.old q }
-        ensures count { D.count disk.new ≡ D.count disk.old }
-        ensures reads { D.reads disk.new ≡ D.reads disk.old }
+            → leases_of (D.device disk.new).region self.new ≡ after_datagram self.old.part now datagram ((D.device disk.old).fuse self.old.part.region) (leases_of (D.device disk.old).region self.old) }
+        ensures ready { D.tells ≡ true → IsReady (D.device disk.new).region self.new }
+        ensures writes { (datagram : List ℕ) → message_of datagram ≡ Ok message.now
+            → WritesAt D.tells (circuit_saves now datagram (Some self.old.part) (Some (book_of self.old))) (D.device disk.old) (D.device disk.new) }
+        ensures frame { Touches D.tells self.old.part.region (D.device disk.old) (D.device disk.new) }
     {
         let Some(circuit) = &mut self.state else {
             return Err(Discard::CircuitClosed);
@@ -107,12 +107,9 @@ impl CircuitServer {
             Ok(request) => request,
             Err(why) => return Err(why),
         };
-        match circuit.serve(&self.part, &request, disk) {
-            Ok(Ok(reply)) => {
-                write4(&self.part, message, reply, out);
-                Ok(())
-            }
-            Ok(Err(why)) => Err(why),
+        let decision = circuit.decide(&request);
+        match circuit.keep(&self.part, &decision, disk) {
+            Ok(()) => reply(&self.part, message, decision.answer, out),
             Err(_) => {
                 self.state = None;
                 Err(Discard::DiskFault)
@@ -129,5 +126,24 @@ impl CircuitServer {
         if let Some(circuit) = &mut self.state {
             circuit.tick(now);
         }
+    }
+}
+
+/// Writes the reply where there is one.
+fn reply(
+    part: &CircuitPart,
+    message: &Message<'_>,
+    answer: Result<Reply4, Discard>,
+    out: &mut PacketBuf,
+) -> Result<(), Discard>
+    requires { out.old ≡ [] }
+    ensures { IsAnswer (reply_to part.now message.now answer) result out.new }
+{
+    match answer {
+        Ok(reply) => {
+            write4(part, message, reply, out);
+            Ok(())
+        }
+        Err(why) => Err(why),
     }
 }

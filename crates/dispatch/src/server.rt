@@ -1,10 +1,11 @@
 //! The server of all circuits, over a device that keeps their leases.
-ghost use Rattle.std.specs.Prelude.{◌≡◌, ◌<◌, ◌+◌, ◌↔◌, [], ℕ, length, map, slice_get, All, Some, true, false, is_some, nat_lt, IfOk, IfErr};
+ghost use Rattle.std.specs.Prelude.{◌≡◌, ◌<◌, ◌≤◌, ◌+◌, ◌*◌, ◌↔◌, [], ℕ, length, map, slice_get, All, Some, true, false, is_some, nat_lt, IfOk, IfErr};
 ghost use Rattle.config.specs.CircuitPart.{IsPart, parts_of};
 ghost use Rattle.dispatch.specs.Leases.{AreSynced, HasRegions, after_tick, found_leases, received_leases};
-ghost use Rattle.dispatch.specs.Received.{IsAnswer, received, received_fails};
+ghost use Rattle.dispatch.specs.Received.{IsAnswer, received, received_fails, received_saves};
 ghost use Rattle.dispatch.specs.ServerValue.{AreReady, IsReady, RegionsDiffer, books_in, leases_in, leases_of, part_of, parts_in};
 ghost use Rattle.dispatch.specs.declared.server.OpenFault.TheVariants as fault;
+ghost use Rattle.lease_disk.specs.Device.{TouchesNothing, WritesAt};
 ghost use Rattle.lease_disk.specs.Region.{Region};
 
 use crate::addressee::addressee;
@@ -104,14 +105,12 @@ fn tick_all(circuits: &mut [CircuitServer], now: Moment)
 
 /// Begins each with what its region holds.
 fn restart_all<D: Disk>(circuits: &mut [CircuitServer], disk: &mut D)
-    requires { HasRegions (map part_of circuits.old) (D.count disk.old) }
+    requires { HasRegions (map part_of circuits.old) (D.device disk.old).count }
     ensures parts { map part_of circuits.new ≡ map part_of circuits.old }
-    ensures leases { D.tells ≡ true → map (leases_of (D.state disk.new)) circuits.new ≡ map (found_leases (D.state disk.old)) (map part_of circuits.old) }
-    ensures ready { D.tells ≡ true → AreSynced (map part_of circuits.old) (D.state disk.old) → All (IsReady (D.state disk.new)) circuits.new }
-    ensures state { D.tells ≡ true → D.state disk.new ≡ D.state disk.old }
-    ensures fuse { D.tells ≡ true → D.fuse disk.new ≡ D.fuse disk.old }
-    ensures count { D.count disk.new ≡ D.count disk.old }
-    ensures writes { D.writes disk.new ≡ D.writes disk.old }
+    ensures leases { D.tells ≡ true → map (leases_of (D.device disk.new).region) circuits.new ≡ map (found_leases (D.device disk.old).region) (map part_of circuits.old) }
+    ensures ready { D.tells ≡ true → AreSynced (map part_of circuits.old) (D.device disk.old).region → All (IsReady (D.device disk.new).region) circuits.new }
+    ensures frame { TouchesNothing D.tells (D.device disk.old) (D.device disk.new) }
+    ensures reads { (D.device disk.new).reads ≤ (D.device disk.old).reads + 4 * length circuits.old }
 {
     'circuits: for index in 0..circuits.len() {
         circuits[index].restart(disk);
@@ -123,19 +122,17 @@ impl Server {
     /// that its region holds; one whose region cannot be read or is damaged is closed, alone. All
     /// memory is taken before the device is first called.
     pub fn open<D: Disk>(alloc: Global, config: &Config, disk: &mut D) -> Result<Server, OpenFault>
-        requires synced { D.tells ≡ true → AreSynced (parts_of config.now) (D.state disk.old) }
+        requires synced { D.tells ≡ true → AreSynced (parts_of config.now) (D.device disk.old).region }
         ensures relays { IfOk result (λ server. server.relays ≡ map (λ relay. relay.source) config.now.relays) }
         ensures parts { IfOk result (λ server. parts_in server ≡ parts_of config.now) }
         ensures sound { IfOk result (λ server. All IsPart (parts_of config.now)) }
         ensures differ { IfOk result (λ server. RegionsDiffer (parts_of config.now)) }
-        ensures leases { D.tells ≡ true → IfOk result (λ server. leases_in (D.state disk.new) server ≡ map (found_leases (D.state disk.old)) (parts_of config.now)) }
-        ensures ready { D.tells ≡ true → IfOk result (λ server. AreReady (D.state disk.new) server) }
-        ensures large { IfOk result (λ server. HasRegions (parts_of config.now) (D.count disk.new)) }
-        ensures small { IfErr result (λ why. why ≡ fault.DiskTooSmall → ¬ HasRegions (parts_of config.now) (D.count disk.old)) }
-        ensures state { D.tells ≡ true → D.state disk.new ≡ D.state disk.old }
-        ensures fuse { D.tells ≡ true → D.fuse disk.new ≡ D.fuse disk.old }
-        ensures count { D.count disk.new ≡ D.count disk.old }
-        ensures writes { D.writes disk.new ≡ D.writes disk.old }
+        ensures leases { D.tells ≡ true → IfOk result (λ server. leases_in (D.device disk.new).region server ≡ map (found_leases (D.device disk.old).region) (parts_of config.now)) }
+        ensures ready { D.tells ≡ true → IfOk result (λ server. AreReady (D.device disk.new).region server) }
+        ensures large { IfOk result (λ server. HasRegions (parts_of config.now) (D.device disk.new).count) }
+        ensures small { IfErr result (λ why. why ≡ fault.DiskTooSmall → ¬ HasRegions (parts_of config.now) (D.device disk.old).count) }
+        ensures frame { TouchesNothing D.tells (D.device disk.old) (D.device disk.new) }
+        ensures reads { (D.device disk.new).reads ≤ (D.device disk.old).reads + 4 * length config.now.circuits }
     {
         let Ok(relays) = relay_sources(alloc, config) else {
             return Err(OpenFault::Memory);
@@ -185,21 +182,22 @@ impl Server {
         disk: &mut D,
         out: &mut PacketBuf,
     ) -> Result<(), Discard>
-        requires regions { HasRegions (parts_in self.old) (D.count disk.old) }
-        requires ready { D.tells ≡ true → AreReady (D.state disk.old) self.old }
+        requires regions { HasRegions (parts_in self.old) (D.device disk.old).count }
+        requires ready { D.tells ≡ true → AreReady (D.device disk.old).region self.old }
         ensures relays { self.new.relays ≡ self.old.relays }
         ensures parts { parts_in self.new ≡ parts_in self.old }
 
         // Over every device: the save fails where the device counts a failure.
-        ensures answer { IsAnswer (received self.old.relays (parts_in self.old) now source datagram.now (nat_lt (D.failures disk.old) (D.failures disk.new)) (books_in self.old)).answer result out.new }
-        ensures books { books_in self.new ≡ (received self.old.relays (parts_in self.old) now source datagram.now (nat_lt (D.failures disk.old) (D.failures disk.new)) (books_in self.old)).books }
+        ensures answer { IsAnswer (received self.old.relays (parts_in self.old) now source datagram.now (nat_lt (D.device disk.old).failures (D.device disk.new).failures) (books_in self.old)).answer result out.new }
+        ensures books { books_in self.new ≡ (received self.old.relays (parts_in self.old) now source datagram.now (nat_lt (D.device disk.old).failures (D.device disk.new).failures) (books_in self.old)).books }
 
         // Over a device that tells its bytes: when the save fails, and what restarts then find.
-        ensures fails { D.tells ≡ true → nat_lt (D.failures disk.old) (D.failures disk.new) ≡ received_fails self.old.relays (parts_in self.old) now source datagram.now (D.fuse disk.old) (books_in self.old) }
-        ensures leases { D.tells ≡ true → leases_in (D.state disk.new) self.new ≡ received_leases self.old.relays (parts_in self.old) now source datagram.now (D.fuse disk.old) (leases_in (D.state disk.old) self.old) }
-        ensures ready { D.tells ≡ true → AreReady (D.state disk.new) self.new }
-        ensures count { D.count disk.new ≡ D.count disk.old }
-        ensures reads { D.reads disk.new ≡ D.reads disk.old }
+        ensures fails { D.tells ≡ true → nat_lt (D.device disk.old).failures (D.device disk.new).failures ≡ received_fails self.old.relays (parts_in self.old) now source datagram.now (D.device disk.old).fuse (books_in self.old) }
+        ensures leases { D.tells ≡ true → leases_in (D.device disk.new).region self.new ≡ received_leases self.old.relays (parts_in self.old) now source datagram.now (D.device disk.old).fuse (leases_in (D.device disk.old).region self.old) }
+        ensures ready { D.tells ≡ true → AreReady (D.device disk.new).region self.new }
+
+        // What is written, over every device: the region of a circuit that has something saved, or nothing.
+        ensures frame { WritesAt D.tells (received_saves self.old.relays (parts_in self.old) now source datagram.now (books_in self.old)) (D.device disk.old) (D.device disk.new) }
     {
         out.clear();
         let (index, message) = match addressee(&self.relays, &self.circuits, source, datagram) {
@@ -222,16 +220,14 @@ impl Server {
     /// Begins each circuit anew with what its region holds, without offers. One whose region cannot be
     /// read or is damaged is closed, alone.
     pub fn restart<D: Disk>(&mut self, disk: &mut D)
-        requires regions { HasRegions (parts_in self.old) (D.count disk.old) }
-        requires synced { D.tells ≡ true → AreSynced (parts_in self.old) (D.state disk.old) }
+        requires regions { HasRegions (parts_in self.old) (D.device disk.old).count }
+        requires synced { D.tells ≡ true → AreSynced (parts_in self.old) (D.device disk.old).region }
         ensures relays { self.new.relays ≡ self.old.relays }
         ensures parts { parts_in self.new ≡ parts_in self.old }
-        ensures leases { D.tells ≡ true → leases_in (D.state disk.new) self.new ≡ map (found_leases (D.state disk.old)) (parts_in self.old) }
-        ensures ready { D.tells ≡ true → AreReady (D.state disk.new) self.new }
-        ensures state { D.tells ≡ true → D.state disk.new ≡ D.state disk.old }
-        ensures fuse { D.tells ≡ true → D.fuse disk.new ≡ D.fuse disk.old }
-        ensures count { D.count disk.new ≡ D.count disk.old }
-        ensures writes { D.writes disk.new ≡ D.writes disk.old }
+        ensures leases { D.tells ≡ true → leases_in (D.device disk.new).region self.new ≡ map (found_leases (D.device disk.old).region) (parts_in self.old) }
+        ensures ready { D.tells ≡ true → AreReady (D.device disk.new).region self.new }
+        ensures frame { TouchesNothing D.tells (D.device disk.old) (D.device disk.new) }
+        ensures reads { (D.device disk.new).reads ≤ (D.device disk.old).reads + 4 * length self.old.circuits }
     {
         restart_all(&mut self.circuits, disk);
     }

@@ -1,5 +1,5 @@
 -- The exits of a save, by what its three functions promise.
-use Rattle.std.proofs.Common.{◌≡◌, ℕ, ◌+◌, ◌-◌, ◌≤◌, true, false, List, [], ◌∷◌, length, take, slice_index, Option, Some, Result, OnErr, Ok, Err, refl, sym, ap, ◌∙◌, subst, arith}
+use Rattle.std.proofs.Common.{◌≡◌, ℕ, ◌+◌, ◌-◌, ◌≤◌, Bool, true, false, List, [], ◌∷◌, length, take, slice_index, Option, Some, Result, OnErr, Ok, Err, refl, sym, ap, ◌∙◌, subst, arith}
 use Rattle.std.specs.Prelude.{if◌then◌else◌, ◌==◌, drop, suc}
 use Rattle.std.proofs.Math.Seq.{take-length}
 use Rattle.types.specs.declared.slots.Slots.{Slots}
@@ -21,6 +21,10 @@ none_is_some e = omega arith
 suc_injective : {n : ℕ} → suc n ≡ 4096 → n ≡ 4095
 suc_injective e = omega arith
 
+closed_size : (was_open : Bool) → length {A = ℕ} (if was_open then 0 ∷ [] else []) ≡ (if was_open then 1 else 0)
+closed_size true = refl
+closed_size false = refl
+
 clean_synced : (r : Region) → IsClean (synced r)
 clean_synced r = record { each = λ i. refl }
 
@@ -30,10 +34,10 @@ front_zero (x ∷ xs) e size = rw e refl
 
 pub exit_closing : (counts : List ℕ) (after : Option Slots) (marks : Marks) (bank : Bank) (r0 r : Region) (k : ℕ)
     → bank ≡ other marks.bank → AreMarks r0.byte marks → IsClean r0
-    → IsTorn (gate_at bank) (if marks.other_open then 1 else 0) r0 r → false ≡ (effective 2 k == 0)
+    → IsTorn (gate_at bank) (length {A = ℕ} (if marks.other_open then 0 ∷ [] else [])) r0 r → false ≡ (effective 2 k == 0)
     → IsLeft k (other marks.bank) (recovered counts r0.byte) after counts r
 exit_closing counts after marks bank r0 r k b m clean torn answer =
-    left_closing k counts after marks r0 r m clean (rw b at torn) (early k answer)
+    left_closing k counts after marks r0 r m clean (rw (b, closed_size marks.other_open) at torn) (early k answer)
 
 is_shut : (marks : Marks) (bank : Bank) (r0 r1 : Region) → bank ≡ other marks.bank → AreMarks r0.byte marks
     → r1 ≡ synced (written (gate_at bank) (if marks.other_open then 0 ∷ [] else []) r0) → IsShut marks.bank r0.byte r1.byte
@@ -44,13 +48,13 @@ is_shut marks bank r0 r1 b m e =
 is_clean : (r r1 : Region) → r1 ≡ synced r → IsClean r1
 is_clean r r1 e = subst (λ (x : Region). IsClean x) (sym e) (clean_synced r)
 
-pub exit_writing : (counts : List ℕ) (after : Option Slots) (marks : Marks) (bank : Bank) (r0 r1 r : Region) (k k1 : ℕ)
+pub exit_writing : (counts : List ℕ) (after : Option Slots) (marks : Marks) (bank : Bank) (bytes : List ℕ) (r0 r1 r : Region) (k k1 : ℕ)
     → bank ≡ other marks.bank → AreMarks r0.byte marks
     → r1 ≡ synced (written (gate_at bank) (if marks.other_open then 0 ∷ [] else []) r0) → k1 ≡ k - 2
-    → IsTorn (bank_at bank + 1) 4095 r1 r → false ≡ (effective 2 k1 == 0)
+    → length bytes ≡ 4095 → IsTorn (bank_at bank + 1) (length bytes) r1 r → false ≡ (effective 2 k1 == 0)
     → IsLeft k (other marks.bank) (recovered counts r0.byte) after counts r
-exit_writing counts after marks bank r0 r1 r k k1 b m e f torn answer =
-    left_writing k counts after marks r0 r1 r m (is_shut marks bank r0 r1 b m e) (is_clean (written (gate_at bank) (if marks.other_open then 0 ∷ [] else []) r0) r1 e) (rw b at torn) (middle k (rw f at answer))
+exit_writing counts after marks bank bytes r0 r1 r k k1 b m e f size torn answer =
+    left_writing k counts after marks r0 r1 r m (is_shut marks bank r0 r1 b m e) (is_clean (written (gate_at bank) (if marks.other_open then 0 ∷ [] else []) r0) r1 e) (rw (b, size) at torn) (middle k (rw f at answer))
 
 -- what the three functions are given, and what the first two left
 pub record AreFilled (marks : Marks) (bank : Bank) (sequence : ℕ) (bytes whole : List ℕ) (r0 r1 r2 : Region) : Type 0 where
@@ -64,7 +68,7 @@ pub record AreFilled (marks : Marks) (bank : Bank) (sequence : ℕ) (bytes whole
   pub sequence_in : slice_index whole 1 ≡ sequence
   pub sequence_is : marks.sequence ≤ 2 → sequence ≡ next marks.sequence
 
-size_behind : (xs : List ℕ) → length xs ≡ 4096 → length (drop 1 xs) ≡ 4095
+pub size_behind : (xs : List ℕ) → length xs ≡ 4096 → length (drop 1 xs) ≡ 4095
 size_behind [] size = absurd (none_is_some size)
 size_behind (x ∷ xs) size = suc_injective size
 
@@ -75,12 +79,15 @@ behind xs size = let n : length (drop 1 xs) ≡ 4095 = size_behind xs size in rw
 pub slice_behind : (xs ys : List ℕ) → xs ≡ ys → length ys ≡ 4096 → take (length xs - 1) (drop 1 xs) ≡ drop 1 ys
 slice_behind xs ys e size = rw (e, size) (behind ys size)
 
+pub slice_size : (xs ys : List ℕ) → xs ≡ ys → length ys ≡ 4096 → length (take (length xs - 1) (drop 1 xs)) ≡ 4095
+slice_size xs ys e size = ap length (slice_behind xs ys e size) ∙ size_behind ys size
+
 first_behind : (xs : List ℕ) → slice_index (drop 1 xs) 0 ≡ slice_index xs 1
 first_behind [] = refl
 first_behind (x ∷ []) = refl
 first_behind (x ∷ y ∷ xs) = refl
 
-next_marks : (marks : Marks) (bank : Bank) (sequence : ℕ) (bytes whole : List ℕ) (r0 r1 r2 : Region) → AreFilled marks bank sequence bytes whole r0 r1 r2 → sequence ≡ next marks.sequence
+pub next_marks : (marks : Marks) (bank : Bank) (sequence : ℕ) (bytes whole : List ℕ) (r0 r1 r2 : Region) → AreFilled marks bank sequence bytes whole r0 r1 r2 → sequence ≡ next marks.sequence
 next_marks marks bank sequence bytes whole r0 r1 r2 h =
     h.sequence_is (rw (h.marks_are.sequence) (counted_sequence r0.byte marks.bank h.marks_are.counting))
 

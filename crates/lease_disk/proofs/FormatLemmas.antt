@@ -9,10 +9,10 @@ pub on_ok : {T E : Type 0} → (r : Result T E) → {P Q : Type 0} → (P → Q)
 on_ok (Ok x) f p = f p
 on_ok (Err e) f p = tt
 
-pub is_formatted : (bytes : List ℕ) (old middle new : Region) → length bytes ≡ 32768 → ((i : ℕ) → slice_index bytes i ≡ formatted i) → middle ≡ written 0 bytes old → new ≡ synced middle → IsFormatted new
-is_formatted bytes old middle new size h e f =
+pub is_formatted : (bytes : List ℕ) (old new : Region) → length bytes ≡ 32768 → ((i : ℕ) → slice_index bytes i ≡ formatted i) → new ≡ synced (written 0 bytes old) → IsFormatted new
+is_formatted bytes old new size h e =
     let w : IsFormatted (synced (written 0 bytes old)) = record {
       byte = λ i k. rw (size, is_inside 0 32768 i (omega arith) (omega arith)) (ap (slice_index bytes) (omega arith) ∙ h i);
       clean = record { each = λ i. refl };
     } in
-    subst (λ (r : Region). IsFormatted r) (sym (f ∙ ap synced e)) w
+    subst (λ (r : Region). IsFormatted r) (sym e) w

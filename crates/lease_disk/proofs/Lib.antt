@@ -6,3 +6,6 @@ pub mod FormatLemmas
 pub mod Fresh
 pub mod Reading
 pub mod Books
+pub mod Frames
+pub mod SavedBytes
+pub mod WrittenLemmas

@@ -1,5 +1,6 @@
 pub mod Book
 pub mod Crash
+pub mod Device
 pub mod FileDisk
 pub mod Keys
 pub mod Layout

@@ -1,7 +1,8 @@
 -- A device in memory, by its fields.
-use Rattle.std.specs.Prelude.{◌≡◌, ◌≢◌, ℕ, false, List, [], length, slice_index, slice_index_or}
+use Rattle.std.specs.Prelude.{◌≡◌, ◌≢◌, ℕ, ◌||◌, false, List, [], length, slice_index, slice_index_or}
 use Rattle.lease_disk.specs.declared.model_disk.Stored.{Stored}
-use Rattle.lease_disk.specs.Region.{Region}
+use Rattle.lease_disk.specs.Device.{Device}
+use Rattle.lease_disk.specs.Region.{Region, is_within}
 
 pub record ModelDiskValue : Type 0 where
   pub regions : List Stored
@@ -25,6 +26,14 @@ state_of disk region = region_of (stored_at disk.regions region)
 -- which of a region's writes and syncs from now on fails
 abbrev pub fuse_of : ModelDiskValue → ℕ → ℕ
 fuse_of disk region = (stored_at disk.regions region).fuse
+
+-- the device as the contracts of every device see it
+abbrev pub device_of : ModelDiskValue → Device
+device_of disk = record { count = length disk.regions; region = state_of disk; fuse = fuse_of disk; reads = disk.reads; writes = disk.writes; failures = disk.failures }
+
+-- a region after a write of n bytes that failed
+abbrev pub spoilt : ℕ → ℕ → Region → Region
+spoilt at n r = record { byte = r.byte; unsynced = λ i. is_within at n i || r.unsynced i; readable = r.readable }
 
 -- the same device but for one region's contents and fuse
 pub record SameBut (region : ℕ) (old new : ModelDiskValue) : Type 0 where

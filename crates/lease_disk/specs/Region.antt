@@ -21,10 +21,6 @@ written at bytes r = record {
   readable = r.readable;
 }
 
--- a region after a write of n bytes that failed
-abbrev pub spoilt : ℕ → ℕ → Region → Region
-spoilt at n r = record { byte = r.byte; unsynced = λ i. is_within at n i || r.unsynced i; readable = r.readable }
-
 -- a region after a sync
 abbrev pub synced : Region → Region
 synced r = record { byte = r.byte; unsynced = λ i. false; readable = r.readable }

@@ -170,21 +170,11 @@ impl FileDisk {
 
 impl Disk for FileDisk {
     ghost use Rattle.std.specs.Prelude.{false};
-    ghost use Rattle.lease_disk.specs.FileDisk.{untold};
+    ghost use Rattle.lease_disk.specs.FileDisk.{device_of};
 
     ghost tells = { false };
 
-    ghost state = { λ d region. untold };
-
-    ghost fuse = { λ d region. 0 };
-
-    ghost count = { λ d. d.regions };
-
-    ghost reads = { λ d. d.reads };
-
-    ghost writes = { λ d. d.writes };
-
-    ghost failures = { λ d. d.failures };
+    ghost device = { device_of };
 
     fn regions(&self) -> u16 {
         self.regions

@@ -1,11 +1,13 @@
 //! Formatting a region.
-ghost use Rattle.std.specs.Prelude.{◌≡◌, ◌≢◌, ◌<◌, ◌≤◌, ◌+◌, ◌-◌, ◌==◌, ℕ, true, length, is_ok, slice_index, nat_lt, if◌then◌else◌, OnOk};
+ghost use Rattle.std.specs.Prelude.{◌≡◌, ◌<◌, ◌≤◌, ◌+◌, ◌-◌, ◌==◌, ℕ, true, length, is_ok, slice_index, nat_lt, if◌then◌else◌, OnOk, OnErr};
 ghost use Rattle.lease_disk.specs.Crash.{IsFormatted};
+ghost use Rattle.lease_disk.specs.Device.{Touches};
 ghost use Rattle.lease_disk.specs.Layout.{formatted};
-ghost use Rattle.lease_disk.specs.Region.{is_within, effective, faults_after};
+ghost use Rattle.lease_disk.specs.Region.{IsTorn, is_within, effective, faults_after};
 
 use crate::device::{Disk, Fault, REGION};
 use crate::layout::{FORMAT, FORMAT_AT, GATE_OPEN};
+use crate::writing::write_synced;
 
 /// Copies `source` over the bytes of `target` from an offset on.
 pub fn put(target: &mut [u8], at: usize, source: &[u8])
@@ -38,20 +40,17 @@ pub fn format_bytes(bytes: &mut [u8])
 
 /// Formats a region, whatever it holds: an empty book at clock 0.
 pub fn format<D: Disk>(region: u16, disk: &mut D) -> Result<(), Fault>
-    requires { region < D.count disk.old }
-    ensures ok { D.tells ≡ true → OnOk result (IsFormatted (D.state disk.new region)) }
-    ensures readable { D.tells ≡ true → (D.state disk.new region).readable ≡ (D.state disk.old region).readable }
-    ensures answer { D.tells ≡ true → is_ok result ≡ (effective 2 (D.fuse disk.old region) == 0) }
-    ensures fuse { D.tells ≡ true → OnOk result (D.fuse disk.new region ≡ D.fuse disk.old region - 2) }
-    ensures others { D.tells ≡ true → (q : ℕ) → q ≢ region → D.state disk.new q ≡ D.state disk.old q }
-    ensures other_fuses { D.tells ≡ true → (q : ℕ) → q ≢ region → D.fuse disk.new q ≡ D.fuse disk.old q }
-    ensures count { D.count disk.new ≡ D.count disk.old }
-    ensures reads { D.reads disk.new ≡ D.reads disk.old }
-    ensures writes { OnOk result (D.writes disk.new ≡ D.writes disk.old + 2) }
-    ensures failures { D.failures disk.new ≡ faults_after result (D.failures disk.old) }
+    requires { region < (D.device disk.old).count }
+    ensures ok { D.tells ≡ true → OnOk result (IsFormatted ((D.device disk.new).region region)) }
+    ensures err { D.tells ≡ true → OnErr result (IsTorn 0 32768 ((D.device disk.old).region region) ((D.device disk.new).region region)) }
+    ensures readable { D.tells ≡ true → ((D.device disk.new).region region).readable ≡ ((D.device disk.old).region region).readable }
+    ensures answer { D.tells ≡ true → is_ok result ≡ (effective 2 ((D.device disk.old).fuse region) == 0) }
+    ensures fuse { D.tells ≡ true → OnOk result ((D.device disk.new).fuse region ≡ (D.device disk.old).fuse region - 2) }
+    ensures frame { Touches D.tells region (D.device disk.old) (D.device disk.new) }
+    ensures writes { OnOk result ((D.device disk.new).writes ≡ (D.device disk.old).writes + 2) }
+    ensures failures { (D.device disk.new).failures ≡ faults_after result (D.device disk.old).failures }
 {
     let mut bytes = [0; REGION];
     format_bytes(&mut bytes);
-    disk.write_at(region, 0, &bytes)?;
-    disk.sync(region)
+    write_synced(region, disk, 0, &bytes)
 }

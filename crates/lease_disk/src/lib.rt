@@ -13,6 +13,7 @@ mod read_bank;
 mod recovering;
 mod saving;
 mod write_bank;
+mod writing;
 
 pub use bank::{Bank, Marks};
 pub use device::{Disk, Fault, REGION};

@@ -168,22 +168,14 @@ impl ModelDisk {
 }
 
 impl Disk for ModelDisk {
-    ghost use Rattle.std.specs.Prelude.{true, length};
-    ghost use Rattle.lease_disk.specs.Model.{state_of, fuse_of};
+    ghost use Rattle.std.specs.Prelude.{◌≡◌, ◌+◌, ◌-◌, ◌==◌, ◌<◌, ◌≤◌, not, true, length, is_ok, OnOk, OnErr};
+    ghost use Rattle.lease_disk.specs.Device.{Touches};
+    ghost use Rattle.lease_disk.specs.Model.{device_of, spoilt, state_of};
+    ghost use Rattle.lease_disk.specs.Region.{IsTorn, faults_after, written};
 
     ghost tells = { true };
 
-    ghost state = { state_of };
-
-    ghost fuse = { fuse_of };
-
-    ghost count = { λ d. length d.regions };
-
-    ghost reads = { λ d. d.reads };
-
-    ghost writes = { λ d. d.writes };
-
-    ghost failures = { λ d. d.failures };
+    ghost device = { device_of };
 
     fn regions(&self) -> u16 {
         self.regions.len() as u16
@@ -200,7 +192,19 @@ impl Disk for ModelDisk {
         Ok(())
     }
 
-    fn write_at(&mut self, region: u16, at: usize, bytes: &[u8]) -> Result<(), Fault> {
+    fn write_at(&mut self, region: u16, at: usize, bytes: &[u8]) -> Result<(), Fault>
+        requires exists { region < length self.old.regions }
+        requires fits { at + length bytes.now ≤ 32768 }
+        ensures ok { true ≡ true → OnOk result ((device_of self.new).region region ≡ written at bytes.now ((device_of self.old).region region)) }
+        ensures err { true ≡ true → OnErr result (IsTorn at (length bytes.now) ((device_of self.old).region region) ((device_of self.new).region region)) }
+        ensures answer { true ≡ true → is_ok result ≡ not ((device_of self.old).fuse region == 1) }
+        ensures fuse { true ≡ true → (device_of self.new).fuse region ≡ (device_of self.old).fuse region - 1 }
+        ensures frame { Touches true region (device_of self.old) (device_of self.new) }
+        ensures writes { (device_of self.new).writes ≡ (device_of self.old).writes + 1 }
+        ensures failures { (device_of self.new).failures ≡ faults_after result (device_of self.old).failures }
+        // and the bytes stay after a fault
+        ensures spoilt { OnErr result (state_of self.new region ≡ spoilt at (length bytes.now) (state_of self.old region)) }
+    {
         self.writes.tick();
         let stored = &mut self.regions[usize::from(region)];
         mark(&mut stored.unsynced, at, bytes.len());

@@ -2,6 +2,7 @@
 ghost use Rattle.std.specs.Prelude.{◌≡◌, ◌≤◌, ◌<◌, ◌+◌, ℕ, List, [], ◌∷◌, Option, Some, None, true, false, length, is_ok, slice_index, option_map, IfOk, IfSome};
 ghost use Rattle.lease_disk.specs.declared.bank.Bank.TheVariants.{First, Second};
 ghost use Rattle.lease_disk.specs.Book.{IsBook};
+ghost use Rattle.lease_disk.specs.Device.{TouchesNothing};
 ghost use Rattle.lease_disk.specs.Recovered.{recovered, is_format2, is_counting, other, body};
 ghost use Rattle.lease_disk.specs.Recover.{IsHead, Answers, recover_faults};
 ghost use Rattle.lease_disk.specs.Region.{faults_after};
@@ -34,15 +35,12 @@ pub struct Head {
 
 /// Reads whether a region has format 2.
 fn has_format2<D: Disk>(region: u16, disk: &mut D) -> Result<bool, Fault>
-    requires { region < D.count disk.old }
-    ensures format { D.tells ≡ true → IfOk result (λ two. two ≡ is_format2 (D.state disk.old region).byte) }
-    ensures answer { D.tells ≡ true → is_ok result ≡ (D.state disk.old region).readable }
-    ensures state { D.tells ≡ true → D.state disk.new ≡ D.state disk.old }
-    ensures fuse { D.tells ≡ true → D.fuse disk.new ≡ D.fuse disk.old }
-    ensures count { D.count disk.new ≡ D.count disk.old }
-    ensures reads { D.reads disk.new ≡ D.reads disk.old + 1 }
-    ensures writes { D.writes disk.new ≡ D.writes disk.old }
-    ensures failures { D.failures disk.new ≡ faults_after result (D.failures disk.old) }
+    requires { region < (D.device disk.old).count }
+    ensures format { D.tells ≡ true → IfOk result (λ two. two ≡ is_format2 ((D.device disk.old).region region).byte) }
+    ensures answer { D.tells ≡ true → is_ok result ≡ ((D.device disk.old).region region).readable }
+    ensures frame { TouchesNothing D.tells (D.device disk.old) (D.device disk.new) }
+    ensures reads { (D.device disk.new).reads ≡ (D.device disk.old).reads + 1 }
+    ensures failures { (D.device disk.new).failures ≡ faults_after result (D.device disk.old).failures }
 {
     let mut bytes = [0; 1];
     disk.read(region, FORMAT_AT, &mut bytes)?;
@@ -51,15 +49,12 @@ fn has_format2<D: Disk>(region: u16, disk: &mut D) -> Result<bool, Fault>
 
 /// Reads a bank's gate and its sequence.
 fn read_head<D: Disk>(region: u16, disk: &mut D, bank: Bank) -> Result<Head, Fault>
-    requires { region < D.count disk.old }
-    ensures head { D.tells ≡ true → IfOk result (λ head. IsHead (D.state disk.old region).byte bank head) }
-    ensures answer { D.tells ≡ true → is_ok result ≡ (D.state disk.old region).readable }
-    ensures state { D.tells ≡ true → D.state disk.new ≡ D.state disk.old }
-    ensures fuse { D.tells ≡ true → D.fuse disk.new ≡ D.fuse disk.old }
-    ensures count { D.count disk.new ≡ D.count disk.old }
-    ensures reads { D.reads disk.new ≡ D.reads disk.old + 1 }
-    ensures writes { D.writes disk.new ≡ D.writes disk.old }
-    ensures failures { D.failures disk.new ≡ faults_after result (D.failures disk.old) }
+    requires { region < (D.device disk.old).count }
+    ensures head { D.tells ≡ true → IfOk result (λ head. IsHead ((D.device disk.old).region region).byte bank head) }
+    ensures answer { D.tells ≡ true → is_ok result ≡ ((D.device disk.old).region region).readable }
+    ensures frame { TouchesNothing D.tells (D.device disk.old) (D.device disk.new) }
+    ensures reads { (D.device disk.new).reads ≡ (D.device disk.old).reads + 1 }
+    ensures failures { (D.device disk.new).failures ≡ faults_after result (D.device disk.old).failures }
 {
     let mut bytes = [0; 2];
     disk.read(region, bank.at(), &mut bytes)?;
@@ -71,15 +66,12 @@ fn read_head<D: Disk>(region: u16, disk: &mut D, bank: Bank) -> Result<Head, Fau
 
 /// Reads a bank behind its gate; the gate's byte is 0 in what is returned.
 fn read_body<D: Disk>(region: u16, disk: &mut D, bank: Bank) -> Result<[u8; BANK_SIZE], Fault>
-    requires { region < D.count disk.old }
-    ensures body { D.tells ≡ true → IfOk result (λ bytes. slice_index bytes ≡ body (D.state disk.old region).byte bank) }
-    ensures answer { D.tells ≡ true → is_ok result ≡ (D.state disk.old region).readable }
-    ensures state { D.tells ≡ true → D.state disk.new ≡ D.state disk.old }
-    ensures fuse { D.tells ≡ true → D.fuse disk.new ≡ D.fuse disk.old }
-    ensures count { D.count disk.new ≡ D.count disk.old }
-    ensures reads { D.reads disk.new ≡ D.reads disk.old + 1 }
-    ensures writes { D.writes disk.new ≡ D.writes disk.old }
-    ensures failures { D.failures disk.new ≡ faults_after result (D.failures disk.old) }
+    requires { region < (D.device disk.old).count }
+    ensures body { D.tells ≡ true → IfOk result (λ bytes. slice_index bytes ≡ body ((D.device disk.old).region region).byte bank) }
+    ensures answer { D.tells ≡ true → is_ok result ≡ ((D.device disk.old).region region).readable }
+    ensures frame { TouchesNothing D.tells (D.device disk.old) (D.device disk.new) }
+    ensures reads { (D.device disk.new).reads ≡ (D.device disk.old).reads + 1 }
+    ensures failures { (D.device disk.new).failures ≡ faults_after result (D.device disk.old).failures }
 {
     let mut bytes = [0; BANK_SIZE];
     disk.read(region, bank.at() + 1, &mut bytes[1..])?;
@@ -127,17 +119,14 @@ fn read_region<D: Disk>(
     disk: &mut D,
     counts: [u8; 2],
 ) -> Result<Option<(Slots, Marks)>, Fault>
-    requires { region < D.count disk.old }
-    ensures slots { D.tells ≡ true → IfOk result (λ found. recovered counts (D.state disk.old region).byte ≡ option_map (λ f. f.0) found) }
-    ensures marks { D.tells ≡ true → IfOk result (λ found. IfSome found (λ f. AreMarks (D.state disk.old region).byte f.1)) }
+    requires { region < (D.device disk.old).count }
+    ensures slots { D.tells ≡ true → IfOk result (λ found. recovered counts ((D.device disk.old).region region).byte ≡ option_map (λ f. f.0) found) }
+    ensures marks { D.tells ≡ true → IfOk result (λ found. IfSome found (λ f. AreMarks ((D.device disk.old).region region).byte f.1)) }
     ensures book { IfOk result (λ found. IfSome found (λ f. IsBook counts f.0)) }
-    ensures answer { D.tells ≡ true → is_ok result ≡ (D.state disk.old region).readable }
-    ensures state { D.tells ≡ true → D.state disk.new ≡ D.state disk.old }
-    ensures fuse { D.tells ≡ true → D.fuse disk.new ≡ D.fuse disk.old }
-    ensures count { D.count disk.new ≡ D.count disk.old }
-    ensures reads { D.reads disk.new ≤ D.reads disk.old + 4 }
-    ensures writes { D.writes disk.new ≡ D.writes disk.old }
-    ensures failures { D.failures disk.new ≡ faults_after result (D.failures disk.old) }
+    ensures answer { D.tells ≡ true → is_ok result ≡ ((D.device disk.old).region region).readable }
+    ensures frame { TouchesNothing D.tells (D.device disk.old) (D.device disk.new) }
+    ensures reads { (D.device disk.new).reads ≤ (D.device disk.old).reads + 4 }
+    ensures failures { (D.device disk.new).failures ≡ faults_after result (D.device disk.old).failures }
 {
     if has_format2(region, disk)? {
         return Ok(None);
@@ -162,15 +151,12 @@ pub fn recover<D: Disk>(
     disk: &mut D,
     counts: [u8; 2],
 ) -> Result<(Slots, Marks), RecoverFault>
-    requires exists { region < D.count disk.old }
-    ensures answer { D.tells ≡ true → Answers counts (D.state disk.old region) result }
+    requires exists { region < (D.device disk.old).count }
+    ensures answer { D.tells ≡ true → Answers counts ((D.device disk.old).region region) result }
     ensures book { IfOk result (λ found. IsBook counts found.0) }
-    ensures state { D.tells ≡ true → D.state disk.new ≡ D.state disk.old }
-    ensures fuse { D.tells ≡ true → D.fuse disk.new ≡ D.fuse disk.old }
-    ensures count { D.count disk.new ≡ D.count disk.old }
-    ensures reads { D.reads disk.new ≤ D.reads disk.old + 4 }
-    ensures writes { D.writes disk.new ≡ D.writes disk.old }
-    ensures failures { D.failures disk.new ≡ recover_faults result (D.failures disk.old) }
+    ensures frame { TouchesNothing D.tells (D.device disk.old) (D.device disk.new) }
+    ensures reads { (D.device disk.new).reads ≤ (D.device disk.old).reads + 4 }
+    ensures failures { (D.device disk.new).failures ≡ recover_faults result (D.device disk.old).failures }
 {
     match read_region(region, disk, counts) {
         Ok(Some(found)) => Ok(found),

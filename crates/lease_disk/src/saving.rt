@@ -1,72 +1,44 @@
 //! Saving the slots of a circuit so that a crash leaves the old ones or the new ones.
-ghost use Rattle.std.specs.Prelude.{◌≡◌, ◌≢◌, ℕ, true, ◌+◌, ◌-◌, ◌==◌, ◌<◌, ◌≤◌, if◌then◌else◌, List, [], ◌∷◌, Some, length, is_ok, OnOk, OnErr};
+ghost use Rattle.std.specs.Prelude.{◌≡◌, ℕ, true, ◌+◌, ◌==◌, ◌<◌, if◌then◌else◌, List, [], ◌∷◌, Some, length, is_ok, OnOk, OnErr};
 ghost use Rattle.lease_disk.specs.Book.{IsBook};
+ghost use Rattle.lease_disk.specs.Device.{IsWritten, Touches};
 ghost use Rattle.lease_disk.specs.Layout.{gate_open, gate_at, bank_at};
 ghost use Rattle.lease_disk.specs.Recovered.{recovered, other};
-ghost use Rattle.lease_disk.specs.Region.{IsClean, IsTorn, written, synced, effective, faults_after};
-ghost use Rattle.lease_disk.specs.Save.{AreMarks, IsSaved, IsLeft};
+ghost use Rattle.lease_disk.specs.Region.{IsClean, effective, faults_after};
+ghost use Rattle.lease_disk.specs.Save.{AreMarks, IsSaved, IsLeft, saved_byte};
 
 use crate::bank::{Bank, Marks, sequence_after};
 use crate::device::{Disk, Fault};
 use crate::layout::GATE_OPEN;
 use crate::write_bank::write_bank;
+use crate::writing::write_synced;
 use types::Slots;
 
 /// Closes a bank's gate, and syncs. A gate that reads closed already is not written to: while its
 /// byte is in doubt, it could become an open gate before a bank that must not count.
 fn close<D: Disk>(region: u16, disk: &mut D, bank: Bank, reads_open: bool) -> Result<(), Fault>
-    requires { region < D.count disk.old }
-    ensures ok { D.tells ≡ true → OnOk result (D.state disk.new region ≡ synced (written (gate_at bank) (if reads_open then 0 ∷ [] else []) (D.state disk.old region))) }
-    ensures err { D.tells ≡ true → OnErr result (IsTorn (gate_at bank) (if reads_open then 1 else 0) (D.state disk.old region) (D.state disk.new region)) }
-    ensures answer { D.tells ≡ true → is_ok result ≡ (effective 2 (D.fuse disk.old region) == 0) }
-    ensures fuse { D.tells ≡ true → OnOk result (D.fuse disk.new region ≡ D.fuse disk.old region - 2) }
-    ensures others { D.tells ≡ true → (q : ℕ) → q ≢ region → D.state disk.new q ≡ D.state disk.old q }
-    ensures other_fuses { D.tells ≡ true → (q : ℕ) → q ≢ region → D.fuse disk.new q ≡ D.fuse disk.old q }
-    ensures count { D.count disk.new ≡ D.count disk.old }
-    ensures reads { D.reads disk.new ≡ D.reads disk.old }
-    ensures writes { OnOk result (D.writes disk.new ≡ D.writes disk.old + 2) }
-    ensures failures { D.failures disk.new ≡ faults_after result (D.failures disk.old) }
+    requires { region < (D.device disk.old).count }
+    ensures { IsWritten D.tells region (gate_at bank) (if reads_open then 0 ∷ [] else []) result (D.device disk.old) (D.device disk.new) }
 {
     let closed: &[u8] = if reads_open { &[0] } else { &[] };
-    disk.write_at(region, bank.at(), closed)?;
-    disk.sync(region)
+    write_synced(region, disk, bank.at(), closed)
 }
 
 /// Writes what is behind a bank's gate, and syncs.
 fn write_body<D: Disk>(region: u16, disk: &mut D, bank: Bank, bytes: &[u8]) -> Result<(), Fault>
-    requires exists { region < D.count disk.old }
+    requires exists { region < (D.device disk.old).count }
     requires whole { length bytes.now ≡ 4095 }
-    ensures ok { D.tells ≡ true → OnOk result (D.state disk.new region ≡ synced (written (bank_at bank + 1) bytes.now (D.state disk.old region))) }
-    ensures err { D.tells ≡ true → OnErr result (IsTorn (bank_at bank + 1) 4095 (D.state disk.old region) (D.state disk.new region)) }
-    ensures answer { D.tells ≡ true → is_ok result ≡ (effective 2 (D.fuse disk.old region) == 0) }
-    ensures fuse { D.tells ≡ true → OnOk result (D.fuse disk.new region ≡ D.fuse disk.old region - 2) }
-    ensures others { D.tells ≡ true → (q : ℕ) → q ≢ region → D.state disk.new q ≡ D.state disk.old q }
-    ensures other_fuses { D.tells ≡ true → (q : ℕ) → q ≢ region → D.fuse disk.new q ≡ D.fuse disk.old q }
-    ensures count { D.count disk.new ≡ D.count disk.old }
-    ensures reads { D.reads disk.new ≡ D.reads disk.old }
-    ensures writes { OnOk result (D.writes disk.new ≡ D.writes disk.old + 2) }
-    ensures failures { D.failures disk.new ≡ faults_after result (D.failures disk.old) }
+    ensures { IsWritten D.tells region (bank_at bank + 1) bytes.now result (D.device disk.old) (D.device disk.new) }
 {
-    disk.write_at(region, bank.at() + 1, bytes)?;
-    disk.sync(region)
+    write_synced(region, disk, bank.at() + 1, bytes)
 }
 
 /// Opens a bank's gate, and syncs.
 fn open_gate<D: Disk>(region: u16, disk: &mut D, bank: Bank) -> Result<(), Fault>
-    requires { region < D.count disk.old }
-    ensures ok { D.tells ≡ true → OnOk result (D.state disk.new region ≡ synced (written (gate_at bank) (gate_open ∷ []) (D.state disk.old region))) }
-    ensures err { D.tells ≡ true → OnErr result (IsTorn (gate_at bank) 1 (D.state disk.old region) (D.state disk.new region)) }
-    ensures answer { D.tells ≡ true → is_ok result ≡ (effective 2 (D.fuse disk.old region) == 0) }
-    ensures fuse { D.tells ≡ true → OnOk result (D.fuse disk.new region ≡ D.fuse disk.old region - 2) }
-    ensures others { D.tells ≡ true → (q : ℕ) → q ≢ region → D.state disk.new q ≡ D.state disk.old q }
-    ensures other_fuses { D.tells ≡ true → (q : ℕ) → q ≢ region → D.fuse disk.new q ≡ D.fuse disk.old q }
-    ensures count { D.count disk.new ≡ D.count disk.old }
-    ensures reads { D.reads disk.new ≡ D.reads disk.old }
-    ensures writes { OnOk result (D.writes disk.new ≡ D.writes disk.old + 2) }
-    ensures failures { D.failures disk.new ≡ faults_after result (D.failures disk.old) }
+    requires { region < (D.device disk.old).count }
+    ensures { IsWritten D.tells region (gate_at bank) (gate_open ∷ []) result (D.device disk.old) (D.device disk.new) }
 {
-    disk.write_at(region, bank.at(), &[GATE_OPEN])?;
-    disk.sync(region)
+    write_synced(region, disk, bank.at(), &[GATE_OPEN])
 }
 
 /// Saves the slots of a circuit in its region, by six calls of the device. After an error the region
@@ -77,22 +49,20 @@ pub fn save<D: Disk>(
     marks: &mut Marks,
     slots: &Slots,
 ) -> Result<(), Fault>
-    requires exists { region < D.count disk.old }
-    requires clean { D.tells ≡ true → IsClean (D.state disk.old region) }
-    requires marks { D.tells ≡ true → AreMarks (D.state disk.old region).byte marks.old }
-    ensures ok { D.tells ≡ true → (counts : List ℕ) → IsBook counts slots.now → OnOk result (IsSaved counts slots.now (D.state disk.new region)) }
-    ensures clean { D.tells ≡ true → OnOk result (IsClean (D.state disk.new region)) }
-    ensures marks { D.tells ≡ true → OnOk result (AreMarks (D.state disk.new region).byte marks.new) }
+    requires exists { region < (D.device disk.old).count }
+    requires clean { D.tells ≡ true → IsClean ((D.device disk.old).region region) }
+    requires marks { D.tells ≡ true → AreMarks ((D.device disk.old).region region).byte marks.old }
+    ensures ok { D.tells ≡ true → (counts : List ℕ) → IsBook counts slots.now → OnOk result (IsSaved counts slots.now ((D.device disk.new).region region)) }
+    ensures bytes { D.tells ≡ true → OnOk result ((i : ℕ) → ((D.device disk.new).region region).byte i ≡ saved_byte marks.old slots.now ((D.device disk.old).region region).byte i) }
+    ensures clean { D.tells ≡ true → OnOk result (IsClean ((D.device disk.new).region region)) }
+    ensures marks { D.tells ≡ true → OnOk result (AreMarks ((D.device disk.new).region region).byte marks.new) }
     ensures err { D.tells ≡ true → (counts : List ℕ) → IsBook counts slots.now →
-        OnErr result (IsLeft (D.fuse disk.old region) (other marks.old.bank) (recovered counts (D.state disk.old region).byte) (Some slots.now) counts (D.state disk.new region)) }
-    ensures answer { D.tells ≡ true → is_ok result ≡ (effective 6 (D.fuse disk.old region) == 0) }
-    ensures others { D.tells ≡ true → (q : ℕ) → q ≢ region → D.state disk.new q ≡ D.state disk.old q }
-    ensures other_fuses { D.tells ≡ true → (q : ℕ) → q ≢ region → D.fuse disk.new q ≡ D.fuse disk.old q }
+        OnErr result (IsLeft ((D.device disk.old).fuse region) (other marks.old.bank) (recovered counts ((D.device disk.old).region region).byte) (Some slots.now) counts ((D.device disk.new).region region)) }
+    ensures answer { D.tells ≡ true → is_ok result ≡ (effective 6 ((D.device disk.old).fuse region) == 0) }
     ensures kept { OnErr result (marks.new ≡ marks.old) }
-    ensures count { D.count disk.new ≡ D.count disk.old }
-    ensures reads { D.reads disk.new ≡ D.reads disk.old }
-    ensures writes { OnOk result (D.writes disk.new ≡ D.writes disk.old + 6) }
-    ensures failures { D.failures disk.new ≡ faults_after result (D.failures disk.old) }
+    ensures frame { Touches D.tells region (D.device disk.old) (D.device disk.new) }
+    ensures writes { OnOk result ((D.device disk.new).writes ≡ (D.device disk.old).writes + 6) }
+    ensures failures { (D.device disk.new).failures ≡ faults_after result (D.device disk.old).failures }
 {
     let bank = marks.bank.other();
     let sequence = sequence_after(marks.sequence);

@@ -1,11 +1,12 @@
 -- Steps of a world, from what happens to the states of its circuits.
 use Rattle.std.proofs.Common.{◌≡◌, ℕ, ◌≤◌, Bool, true, false, cond, eqb, List, [], length, refl, sym, ap, subst, ◌∙◌, arith, eq-eqb, ne_eqb}
-use Rattle.std.specs.Prelude.{Option, Some, None, nat_lt, slice_get}
+use Rattle.std.specs.Prelude.{Option, Some, None, option_map, nat_lt, slice_get}
 use Rattle.std.proofs.lemmas.Bool.{eqb-true, ltb-false}
 use Rattle.std.proofs.lemmas.Option.{same_Some, slice_get_within}
-use Rattle.world.specs.Alone.{Setup, Alone, Effect, alone_step}
+use Rattle.lease_disk.specs.Region.{Region}
+use Rattle.world.specs.Alone.{Setup, Alone, Effect, alone_step, writes}
 use Rattle.world.specs.Seen.{Seen, Tick, seen_of, named_by, is_restart}
-use Rattle.world.specs.Headline.{CircuitState, Shows, Represents, frames_to, frame_of, IsOutcome, Answers, after_seen, Steps}
+use Rattle.world.specs.Headline.{CircuitState, Shows, Represents, frames_to, frame_of, IsOutcome, Answers, after_seen, region_at, Steps}
 use Rattle.world.specs.StepsAs.{StepsAs, AllMove}
 use Rattle.world.specs.Stray.{is_stray}
 use Rattle.world.proofs.Runs.{away_from}
@@ -30,6 +31,11 @@ module _ (c : ℕ) (s : Seen) (old new : List CircuitState) (p q : CircuitState)
 
   represents_next : Represents c new setup (alone_step setup s a).next
   represents_next = record { state = q; there = is; shows = steps.next setup a shown }
+
+  region_stays : writes setup s a ≡ false → region_at c new ≡ region_at c old
+  region_stays nothing =
+      let region : CircuitState → Region = λ state. state.region in
+      ap (option_map region) is ∙ ap Some (steps.quiet setup a shown nothing) ∙ sym (ap (option_map region) was)
 
   has_outcome : IsOutcome c (alone_step setup s a).effect o out
   has_outcome =
@@ -88,6 +94,7 @@ stray_steps e old new o out stray nothing empty same = record {
   answers = λ c setup a here.
       let Q : Option Seen → Type 0 = λ v. Answers c setup v a o out in
       subst Q (sym (stray_unseen e stray c)) (ap (frames_to c) nothing);
+  quiet = λ c setup a t here seen nothing. ap (region_at c) same;
   others = λ c blind. ap (λ states. slice_get states c) same;
   away = λ c blind. ap (frames_to c) nothing;
   gone = λ c name far. let h : None ≡ Some c = sym (stray_unnamed e stray) ∙ name in absurd cc;
@@ -139,6 +146,7 @@ module _ (e : Event) (k : ℕ) (s : Seen) (sees : IsSeenBy e k s) (named : named
       count = count;
       each = λ c setup a here. each c setup a (eqb k c) refl here;
       answers = λ c setup a here. answers c setup a (eqb k c) refl here;
+      quiet = λ c setup a t here seen nothing. quiet c setup a t (eqb k c) refl here seen nothing;
       others = λ c blind. others c (sees_not c blind (eqb k c) refl);
       away = λ c blind. away_from k c steps.effect o out steps.outcome (sees_not c blind (eqb k c) refl);
       gone = λ c name far. absurd (too_far c (names_it c name) far);
@@ -163,6 +171,16 @@ module _ (e : Event) (k : ℕ) (s : Seen) (sees : IsSeenBy e k s) (named : named
             let Q : Option Seen → Type 0 = λ v. Answers k setup v a o out in
             subst P (eqb-true k c same) (λ there. subst Q (sym seen_by_it) (has_outcome k s old new p q o out was is steps setup a there)) here
 
+        quiet : (c : ℕ) (setup : Setup) (a : Alone) (t : Seen) (b : Bool) → eqb k c ≡ b → Represents c old setup a → seen_of c e ≡ Some t → writes setup t a ≡ false → region_at c new ≡ region_at c old
+        quiet c setup a t false other here seen nothing = ap (option_map (λ (state : CircuitState). state.region)) (others c other)
+        quiet c setup a t true same here seen nothing =
+            let P : ℕ → Type 0 = λ n. Represents n old setup a → seen_of n e ≡ Some t → region_at n new ≡ region_at n old in
+            subst P (eqb-true k c same)
+            (λ there sees_it.
+            let is_it : t ≡ s = same_Some t s (sym sees_it ∙ seen_by_it) in
+            region_stays k s old new p q o out was is steps setup a there (ap (λ v. writes setup v a) (sym is_it) ∙ nothing))
+            here seen
+
         too_far : (c : ℕ) → c ≡ k → length old ≤ c → ⊥
         too_far c is_k far = omega (arith, is_k, far, slice_get_within old k p was)
 
@@ -174,6 +192,7 @@ module _ (e : Event) (k : ℕ) (s : Seen) (sees : IsSeenBy e k s) (named : named
     answers = λ c setup a here.
         let Q : Option Seen → Type 0 = λ v. Answers c setup v a o out in
         subst Q (sym (unseen c (apart c setup a here))) (ap (λ v. frames_to c (frame_of v out)) gone);
+    quiet = λ c setup a t here seen nothing. refl;
     others = λ c blind. refl;
     away = λ c blind. ap (λ v. frames_to c (frame_of v out)) gone;
     gone = λ c name far. (gone, empty, refl);
@@ -199,6 +218,10 @@ all_steps e s old new o out sees unnamed moves done empty = record {
       let m = moves.each c here.state here.there in
       let Q : Option Seen → Type 0 = λ v. Answers c setup v a o out in
       subst Q (sym (sees c)) (has_outcome c (s c) old new here.state m.0 o out here.there m.1 m.2 setup a here);
+  quiet = λ c setup a t here seen nothing.
+      let m = moves.each c here.state here.there in
+      let is_it : t ≡ s c = same_Some t (s c) (sym seen ∙ sees c) in
+      region_stays c (s c) old new here.state m.0 o out here.there m.1 m.2 setup a here (ap (λ v. writes setup v a) (sym is_it) ∙ nothing);
   others = λ c blind. let h : Some (s c) ≡ None = sym (sees c) ∙ blind in absurd cc;
   away = λ c blind. let h : Some (s c) ≡ None = sym (sees c) ∙ blind in absurd cc;
   gone = λ c name far. let h : None ≡ Some c = sym unnamed ∙ name in absurd cc;

@@ -63,13 +63,13 @@ state_count f (x ∷ parts) [] same = absurd (omega (arith, same))
 state_count f (x ∷ parts) (y ∷ all) same = ap suc (state_count (λ c. f (suc c)) parts all (omega (arith, same)))
 
 pub same_state : (f g : ℕ → CircuitPart → Leases → CircuitState) (parts : List CircuitPart) (all changed : List Leases) (k : ℕ) → length changed ≡ length all
-    → slice_get changed k ≡ slice_get all k → ((p : CircuitPart) (b : Leases) → g k p b ≡ f k p b)
+    → slice_get changed k ≡ slice_get all k → ((p : CircuitPart) (b : Leases) → slice_get parts k ≡ Some p → g k p b ≡ f k p b)
     → slice_get (each_state g parts changed) k ≡ slice_get (each_state f parts all) k
 same_state f g [] all changed k size same alike = refl
 same_state f g (x ∷ parts) [] [] k size same alike = refl
 same_state f g (x ∷ parts) [] (z ∷ changed) k size same alike = absurd (omega (arith, size))
 same_state f g (x ∷ parts) (y ∷ all) [] k size same alike = absurd (omega (arith, size))
-same_state f g (x ∷ parts) (y ∷ all) (z ∷ changed) zero size same alike = ap Some (ap (g 0 x) (same_Some z y same) ∙ alike x y)
+same_state f g (x ∷ parts) (y ∷ all) (z ∷ changed) zero size same alike = ap Some (ap (g 0 x) (same_Some z y same) ∙ alike x y refl)
 same_state f g (x ∷ parts) (y ∷ all) (z ∷ changed) (suc k) size same alike =
     same_state (λ c. f (suc c)) (λ c. g (suc c)) parts all changed k (omega (arith, size)) same alike
 
@@ -84,7 +84,7 @@ pub moves : (k : ℕ) (s : Seen) (w new : WorldValue) (p : CircuitPart) (l after
     → parts_in new.server ≡ parts_in w.server → length (leases_now w) ≡ length (parts_in w.server) → length (leases_now new) ≡ length (leases_now w)
     → slice_get (parts_in w.server) k ≡ Some p → slice_get (leases_now w) k ≡ Some l → slice_get (leases_now new) k ≡ Some after
     → ((c : ℕ) → eqb k c ≡ false → slice_get (leases_now new) c ≡ slice_get (leases_now w) c)
-    → ((c : ℕ) → eqb k c ≡ false → (p : CircuitPart) (l : Leases) → state_of new c p l ≡ state_of w c p l)
+    → ((c : ℕ) → eqb k c ≡ false → (p : CircuitPart) (l : Leases) → slice_get (parts_in w.server) c ≡ Some p → state_of new c p l ≡ state_of w c p l)
     → StepsAs k s (state_of w k p l) (state_of new k p after) o out → Moves k s (states w) (states new) o out
 moves k s w new p l after o out parts whole size there its now same alike steps =
     let with_parts : List CircuitPart → List CircuitState = λ ps. each_state (state_of new) ps (leases_now new) in

@@ -1,6 +1,6 @@
 -- What server and relay make of strays.
 use Rattle.std.proofs.Common.{◌≡◌, ℕ, Bool, true, false, List, refl, sym, ◌∙◌}
-use Rattle.std.specs.Prelude.{◌||◌, Option, Result, Ok, Err}
+use Rattle.std.specs.Prelude.{◌||◌, Option, None, Result, Ok, Err, slice_index}
 use Rattle.std.specs.List.{list_any}
 use Rattle.types.specs.Addr.{same_source}
 use Rattle.types.specs.declared.addr.Source.{Source}
@@ -9,9 +9,13 @@ use Rattle.types.specs.declared.discard.Discard.TheVariants.{UnknownSource, NotS
 use Rattle.config.specs.CircuitPart.{CircuitPart}
 use Rattle.dispatch.specs.Addressee.{addressee}
 use Rattle.dispatch.specs.Leases.{Leases, received_leases}
-use Rattle.dispatch.specs.Received.{IsAnswer, Received, drop_all, received}
+use Rattle.dispatch.specs.Received.{IsAnswer, Received, drop_all, received, received_saves}
 use Rattle.dispatch.specs.Server.{Book}
-use Rattle.relay.specs.Relays.{CircuitFrame, Topology, is_server, relayed_down_in}
+use Rattle.lease_disk.specs.Device.{Device}
+use Rattle.lossy_net.specs.Net.{NetValue, datagrams}
+use Rattle.lossy_net.specs.declared.dir.Dir.TheVariants.{Up, Down}
+use Rattle.world.specs.Headline.{CircuitState}
+use Rattle.relay.specs.Relays.{CircuitFrame, RelaysValue, Topology, is_server, relayed_down_in}
 
 either_false : (a b : Bool) → (a || b) ≡ false → (a ≡ false) × (b ≡ false)
 either_false true b h = absurd cc
@@ -28,6 +32,24 @@ pub stray_leases : (relays : List Source) (parts : List CircuitPart) (now : ℕ)
     → list_any (same_source source) relays ≡ false → received_leases relays parts now source datagram faults all ≡ all
 unfolding addressee
 stray_leases relays parts now source datagram faults all h = rw h refl
+
+-- and nothing is written
+pub stray_saves : (relays : List Source) (parts : List CircuitPart) (now : ℕ) (source : Source) (datagram : List ℕ) (books : List (Option Book))
+    → list_any (same_source source) relays ≡ false → received_saves relays parts now source datagram books ≡ None
+unfolding addressee
+stray_saves relays parts now source datagram books h = rw h refl
+
+-- a circuit's state, by network, relays and device
+abbrev pub states_over : NetValue → RelaysValue → Device → ℕ → CircuitPart → Leases → CircuitState
+states_over net relays device c part leases = record {
+  setup = record { part = part; quota = net.quota };
+  up = datagrams net c Up;
+  down = datagrams net c Down;
+  discarded = slice_index relays.discarded c;
+  leases = leases;
+  region = device.region part.region;
+  fuse = device.fuse part.region;
+}
 
 -- a relay drops what the server did not send
 pub stray_relayed : (t : Topology) (relay : ℕ) (source : Source) (datagram : List ℕ) → is_server t source ≡ false → relayed_down_in t relay source datagram ≡ Err NotServer

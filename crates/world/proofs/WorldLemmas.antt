@@ -1,6 +1,6 @@
 -- What an event does to the state of its circuit, as the circuit's machine's step.
 use Rattle.std.proofs.Common.{◌≡◌, ◌≢◌, ℕ, zero, suc, ◌<◌, Bool, true, false, eqb, List, [], ◌∷◌, length, map, take, get_or, set, refl, sym, ap, subst, ◌∙◌, arith}
-use Rattle.std.specs.Prelude.{All, Option, Some, None, Result, Ok, Err, option_map, slice_get, slice_index}
+use Rattle.std.specs.Prelude.{All, if◌then◌else◌, Option, Some, None, Result, Ok, Err, option_map, slice_get, slice_index}
 use Rattle.std.proofs.lemmas.Option.{slice_get-map, slice_get_within, get_or_from_slice_get, same_Some}
 use Rattle.std.proofs.lemmas.Bool.{eqb-true, eqb-false}
 use Rattle.std.proofs.lemmas.List.{length-map, length-set, get_or-set_other}
@@ -13,10 +13,11 @@ use Rattle.types.specs.declared.discard.Discard.{Discard}
 use Rattle.config.specs.CircuitPart.{CircuitPart}
 use Rattle.dispatch.specs.Addressee.{addressee}
 use Rattle.dispatch.specs.Leases.{AreSynced, HasRegions, Leases, addressee_leases, after_datagram, after_restart, after_tick, found_leases, leases_with, received_leases, restarts_of}
-use Rattle.dispatch.specs.Received.{IsAnswer, Received, addressee_answered, addressee_fails, answered, circuit_answered, circuit_fails, received, received_fails, with_answered}
-use Rattle.dispatch.specs.Server.{Book, book_at}
+use Rattle.dispatch.specs.Received.{IsAnswer, Received, addressee_answered, addressee_fails, addressee_saves, answered, circuit_answered, circuit_fails, circuit_saves, received, received_fails, received_saves, with_answered}
+use Rattle.dispatch.specs.Server.{Book, book_at, served}
 use Rattle.dispatch.specs.ServerValue.{AreReady, CircuitServerValue, book_of, books_in, leases_in, leases_of, part_of, parts_in}
 use Rattle.lease_disk.specs.Crash.{crashed}
+use Rattle.lease_disk.specs.Device.{Device, WritesAt}
 use Rattle.lease_disk.specs.Model.{ModelDiskValue, SameBut}
 use Rattle.lease_disk.specs.Model as disk
 use Rattle.lease_disk.specs.Region.{IsClean, Region}
@@ -27,9 +28,9 @@ use Rattle.lossy_net.specs.declared.dir.Dir.{Dir}
 use Rattle.lossy_net.specs.declared.dir.Dir.TheVariants as dir
 use Rattle.relay.specs.SentFrame.{SentFrame}
 use Rattle.relay.specs.Relays.{CircuitFrame, for_circuit, one_more, relayed_up, relayed_down}
-use Rattle.world.specs.Alone.{Setup, Alone, Effect, Step, Dropped, Gone, SentUp, SentDown, Framed, Done, alone_step, frame_step, up_step, answer_step, down_step, reply_step}
+use Rattle.world.specs.Alone.{Setup, Alone, Effect, Step, Dropped, Gone, SentUp, SentDown, Framed, Done, alone_step, frame_step, up_step, answer_step, down_step, reply_step, book_writes, up_writes, writes}
 use Rattle.world.specs.Alone as alone
-use Rattle.world.specs.Headline.{CircuitState, IsOutcome, Shows}
+use Rattle.world.specs.Headline.{CircuitState, IsOutcome, KeepsSpares, Shows}
 use Rattle.world.specs.Seen.{Seen, Frame, Up, Down, Tick, Restart}
 use Rattle.world.specs.StepsAs.{StepsAs, Each, IsFor, Returns, IsWorldOf, IsWorld, AllMove}
 use Rattle.world.specs.World.{WorldValue, each_state, state_of, states}
@@ -70,14 +71,25 @@ known_step setup s a effect q step is effect_is shows =
     record { effect_is = ap (λ st. st.effect) is ∙ effect_is; next = subst P (sym is) shows }
 
 steps_by : (k : ℕ) (s : Seen) (p q : CircuitState) (o : Outcome) (out : List ℕ) (effect : Effect) → IsOutcome k effect o out
-    → ((a : Alone) → Shows p p.setup a → MachineSteps p.setup s a effect q) → StepsAs k s p q o out
-steps_by k s p q o out effect outcome each =
-    record { effect = effect; outcome = outcome; effect_is = λ setup a shown. (full setup a shown).effect_is; next = λ setup a shown. (full setup a shown).next }
+    → ((a : Alone) → Shows p p.setup a → MachineSteps p.setup s a effect q)
+    → ((a : Alone) → Shows p p.setup a → writes p.setup s a ≡ false → q.region ≡ p.region) → StepsAs k s p q o out
+steps_by k s p q o out effect outcome each quiet = record {
+  effect = effect;
+  outcome = outcome;
+  effect_is = λ setup a shown. (full setup a shown).effect_is;
+  next = λ setup a shown. (full setup a shown).next;
+  quiet = λ setup a shown nothing. quietly setup a shown nothing;
+}
   where
     full : (setup : Setup) (a : Alone) → Shows p setup a → MachineSteps setup s a effect q
     full setup a shown =
         let P : Setup → Type 0 = λ u. Shows p u a → MachineSteps u s a effect q in
         subst P shown.setup_is (each a) shown
+
+    quietly : (setup : Setup) (a : Alone) → Shows p setup a → writes setup s a ≡ false → q.region ≡ p.region
+    quietly setup a shown nothing =
+        let P : Setup → Type 0 = λ u. Shows p u a → writes u s a ≡ false → q.region ≡ p.region in
+        subst P shown.setup_is (quiet a) shown nothing
 
 shows_as : (q : CircuitState) (setup : Setup) (a : Alone) (ups downs : List Datagram) → q.setup ≡ setup → q.up ≡ ups → q.down ≡ downs → Holds q.leases a
     → Shows q setup (record a { up = ups; down = downs })
@@ -91,28 +103,30 @@ unfolding alone_step
 frame_is setup a proto frame r is = ap (frame_step setup a proto) is
 
 pub frame_sent : (k : ℕ) (w new : WorldValue) (p : CircuitPart) (l : Leases) (proto : Proto) (frame bytes : List ℕ) (len : ℕ) (out : List ℕ)
-    → relayed_up p proto frame ≡ Ok bytes → new.net.quota ≡ w.net.quota
+    → relayed_up p proto frame ≡ Ok bytes → new.disk ≡ w.disk → new.net.quota ≡ w.net.quota
     → datagrams new.net k dir.Up ≡ take w.net.quota (record { proto = proto; bytes = bytes } ∷ datagrams w.net k dir.Up)
     → datagrams new.net k dir.Down ≡ datagrams w.net k dir.Down → len ≡ length bytes → out ≡ []
     → StepsAs k (Frame proto frame) (state_of w k p l) (state_of new k p l) (outcome.SentUp len) out
-frame_sent k w new p l proto frame bytes len out sent quota kept others size empty =
+frame_sent k w new p l proto frame bytes len out sent same quota kept others size empty =
     let was = state_of w k p l in
     let is = state_of new k p l in
     let newest : List Datagram → List Datagram = λ ds. take w.net.quota (record { proto = proto; bytes = bytes } ∷ ds) in
     steps_by k (Frame proto frame) was is (outcome.SentUp len) out (SentUp len) (refl, empty) (λ a shown.
     known_step was.setup (Frame proto frame) a (SentUp len) is _ (frame_is was.setup a proto frame (Ok bytes) sent) (ap SentUp (sym size))
     (shows_as is was.setup a (newest a.up) a.down (λ i. record { part = p; quota = quota i }) (kept ∙ ap newest shown.up) (others ∙ shown.down) (holds was was.setup a shown)))
+    (λ a shown nothing. ap (λ d. disk.state_of d p.region) same)
 
 pub frame_dropped : (k : ℕ) (w new : WorldValue) (p : CircuitPart) (l : Leases) (proto : Proto) (frame : List ℕ) (why : Discard) (out : List ℕ)
-    → relayed_up p proto frame ≡ Err why → new.net ≡ w.net → out ≡ []
+    → relayed_up p proto frame ≡ Err why → new.disk ≡ w.disk → new.net ≡ w.net → out ≡ []
     → StepsAs k (Frame proto frame) (state_of w k p l) (state_of new k p l) (outcome.Dropped why) out
-frame_dropped k w new p l proto frame why out dropped net empty =
+frame_dropped k w new p l proto frame why out dropped same net empty =
     let was = state_of w k p l in
     let is = state_of new k p l in
     steps_by k (Frame proto frame) was is (outcome.Dropped why) out (Dropped why) (refl, empty) (λ a shown.
     known_step was.setup (Frame proto frame) a (Dropped why) is _ (frame_is was.setup a proto frame (Err why) dropped) refl
     (shows_as is was.setup a a.up a.down (λ i. record { part = p; quota = (net i).quota }) (ap (λ n. datagrams n k dir.Up) net ∙ shown.up)
     (ap (λ n. datagrams n k dir.Down) net ∙ shown.down) (holds was was.setup a shown)))
+    (λ a shown nothing. ap (λ d. disk.state_of d p.region) same)
 
 -- ---- a datagram at the server
 
@@ -126,6 +140,7 @@ up_gone k w p l j now fault out none empty =
     let was = state_of w k p l in
     steps_by k (Up j now fault) was was outcome.Gone out Gone (refl, empty) (λ a shown.
     known_step was.setup (Up j now fault) a Gone was _ (up_is was.setup a j now fault None (ap (λ ds. slice_get ds j) (sym shown.up) ∙ none)) refl shown)
+    (λ a shown nothing. refl)
 
 pub is_reply : (r : Result (List ℕ) Discard) (out : List ℕ) → IsAnswer r (Ok tt) out → r ≡ Ok out
 is_reply (Ok bytes) out h = ap Ok (sym h.1)
@@ -137,7 +152,8 @@ is_drop (Err other) why out h = let same : why ≡ other = let e : Err why ≡ E
 
 module _ (k : ℕ) (w new : WorldValue) (p : CircuitPart) (l : Leases) (j now fault : ℕ) (d : Datagram) (result : Result (Unit {0}) Discard) (reply : List ℕ)
     (there : slice_get (datagrams w.net k dir.Up) j ≡ Some d) (answer : IsAnswer (its_answer p now d.bytes fault l.book) result reply)
-    (quota : new.net.quota ≡ w.net.quota) (ups : datagrams new.net k dir.Up ≡ datagrams w.net k dir.Up) where
+    (quota : new.net.quota ≡ w.net.quota) (ups : datagrams new.net k dir.Up ≡ datagrams w.net k dir.Up)
+    (stays : book_writes (record { part = p; quota = w.net.quota }) now d l.book ≡ false → disk.state_of new.disk p.region ≡ disk.state_of w.disk p.region) where
   abbrev was : CircuitState
   was = state_of w k p l
 
@@ -160,6 +176,10 @@ module _ (k : ℕ) (w new : WorldValue) (p : CircuitPart) (l : Leases) (j now fa
   its_ups : (a : Alone) → Shows was was.setup a → is.up ≡ (next a).up
   its_ups a shown = ups ∙ shown.up ∙ sym (up_stays p now d.bytes fault a a.book)
 
+  its_region : (a : Alone) → Shows was was.setup a → writes was.setup (Up j now fault) a ≡ false → is.region ≡ was.region
+  its_region a shown nothing =
+      stays ((λ i. up_writes was.setup now (shown.book i) (sym (ap (λ ds. slice_get ds j) (sym shown.up) ∙ there) i)) ∙ nothing)
+
   pub reply_is : result ≡ Ok tt → its_answer p now d.bytes fault l.book ≡ Ok reply
   reply_is ok =
       let P : Result (Unit {0}) Discard → Type 0 = λ r. IsAnswer (its_answer p now d.bytes fault l.book) r reply in
@@ -174,6 +194,7 @@ module _ (k : ℕ) (w new : WorldValue) (p : CircuitPart) (l : Leases) (j now fa
       known_step was.setup (Up j now fault) a (SentDown len) is _ (its_step (Ok reply) (reply_is ok) a shown) (ap SentDown (sym size))
       (shows_as is was.setup (next a) (next a).up (newest (next a).down) (λ i. record { part = p; quota = quota i }) (its_ups a shown)
       (kept ∙ ap newest (shown.down ∙ sym (down_stays p now d.bytes fault a a.book))) (its_leases a shown)))
+      its_region
 
   pub up_dropped : (why : Discard) → result ≡ Err why → datagrams new.net k dir.Down ≡ datagrams w.net k dir.Down
       → StepsAs k (Up j now fault) was is (outcome.Dropped why) reply
@@ -184,6 +205,7 @@ module _ (k : ℕ) (w new : WorldValue) (p : CircuitPart) (l : Leases) (j now fa
       known_step was.setup (Up j now fault) a (Dropped why) is _ (its_step (Err why) dropped.0 a shown) refl
       (shows_as is was.setup (next a) (next a).up (next a).down (λ i. record { part = p; quota = quota i }) (its_ups a shown)
       (downs ∙ shown.down ∙ sym (down_stays p now d.bytes fault a a.book)) (its_leases a shown)))
+      its_region
 
 -- ---- a datagram at the relay
 
@@ -197,6 +219,7 @@ down_gone k w p l j out none empty =
     let was = state_of w k p l in
     steps_by k (Down j) was was outcome.Gone out Gone (refl, empty) (λ a shown.
     known_step was.setup (Down j) a Gone was _ (down_is was.setup a j None (ap (λ ds. slice_get ds j) (sym shown.down) ∙ none)) refl shown)
+    (λ a shown nothing. refl)
 
 for_ok : (k : ℕ) (r : Result SentFrame Discard) (sent : CircuitFrame) → for_circuit k r ≡ Ok sent → (sent.circuit ≡ k) × (r ≡ Ok sent.frame)
 for_ok k (Ok frame) sent h =
@@ -218,6 +241,7 @@ module _ (k : ℕ) (w : WorldValue) (p : CircuitPart) (l : Leases) (j : ℕ) (d 
       steps_by k (Down j) was was (outcome.Framed found dest) out (Framed sent) (ap (λ c. outcome.Framed c dest) frame.0, refl) (λ a shown.
       known_step was.setup (Down j) a (Framed sent) was _
       (down_is was.setup a j (Some d) (ap (λ ds. slice_get ds j) (sym shown.down) ∙ there) ∙ ap (reply_step a) frame.1) refl shown)
+      (λ a shown nothing. refl)
 
   pub down_dropped : (why : Discard) (out : List ℕ) → for_circuit k (relayed_down p d.proto d.bytes) ≡ Err why → out ≡ []
       → StepsAs k (Down j) (state_of w k p l) (state_of w k p l) (outcome.Dropped why) out
@@ -227,6 +251,7 @@ module _ (k : ℕ) (w : WorldValue) (p : CircuitPart) (l : Leases) (j : ℕ) (d 
       steps_by k (Down j) was was (outcome.Dropped why) out (Dropped why) (refl, empty) (λ a shown.
       known_step was.setup (Down j) a (Dropped why) was _
       (down_is was.setup a j (Some d) (ap (λ ds. slice_get ds j) (sym shown.down) ∙ there) ∙ ap (reply_step a) dropped) refl shown)
+      (λ a shown nothing. refl)
 
 -- ---- a moment
 
@@ -234,15 +259,16 @@ tick_is : (setup : Setup) (a : Alone) (now : ℕ) → alone_step setup (Tick now
 unfolding alone_step
 tick_is setup a now = refl
 
-pub tick_done : (k : ℕ) (w new : WorldValue) (p : CircuitPart) (l : Leases) (now : ℕ) (out : List ℕ) → new.net ≡ w.net → out ≡ []
+pub tick_done : (k : ℕ) (w new : WorldValue) (p : CircuitPart) (l : Leases) (now : ℕ) (out : List ℕ) → new.disk ≡ w.disk → new.net ≡ w.net → out ≡ []
     → StepsAs k (Tick now) (state_of w k p l) (state_of new k p (after_tick now l)) outcome.Done out
-tick_done k w new p l now out net empty =
+tick_done k w new p l now out same net empty =
     let was = state_of w k p l in
     let is = state_of new k p (after_tick now l) in
     steps_by k (Tick now) was is outcome.Done out Done (refl, empty) (λ a shown.
     known_step was.setup (Tick now) a Done is _ (tick_is was.setup a now) refl
     (shows_as is was.setup (record a { book = option_map (book_at now) a.book }) a.up a.down (λ i. record { part = p; quota = (net i).quota })
     (ap (λ n. datagrams n k dir.Up) net ∙ shown.up) (ap (λ n. datagrams n k dir.Down) net ∙ shown.down) (holds_tick now l a (holds was was.setup a shown))))
+    (λ a shown nothing. ap (λ d. disk.state_of d p.region) same)
 
 -- ---- a restart
 
@@ -261,6 +287,7 @@ restart_done k w new p l image out net empty =
     (shows_as is was.setup next next.up next.down (λ i. record { part = p; quota = (net i).quota })
     (ap (λ n. datagrams n k dir.Up) net ∙ shown.up ∙ sym (restart_ups image a)) (ap (λ n. datagrams n k dir.Down) net ∙ shown.down ∙ sym (restart_downs image a))
     (holds_restart image l a (holds was was.setup a shown))))
+    (λ a shown nothing. absurd cc)
 
 -- ---- one circuit of a world
 
@@ -362,9 +389,11 @@ all_at P xs n x all at = subst P (get_or_from_slice_get xs n x x at) (All-get_or
 -- ---- a state that another circuit's event leaves
 
 pub same_circuit : (w new : WorldValue) (c : ℕ) (p : CircuitPart) (l : Leases) → new.net.quota ≡ w.net.quota → datagrams new.net c dir.Up ≡ datagrams w.net c dir.Up
-    → datagrams new.net c dir.Down ≡ datagrams w.net c dir.Down → slice_index new.relays.discarded c ≡ slice_index w.relays.discarded c → state_of new c p l ≡ state_of w c p l
-same_circuit w new c p l quota ups downs counts =
-    λ i. record { setup = record { part = p; quota = quota i }; up = ups i; down = downs i; discarded = counts i; leases = l }
+    → datagrams new.net c dir.Down ≡ datagrams w.net c dir.Down → slice_index new.relays.discarded c ≡ slice_index w.relays.discarded c
+    → disk.state_of new.disk p.region ≡ disk.state_of w.disk p.region → disk.fuse_of new.disk p.region ≡ disk.fuse_of w.disk p.region
+    → state_of new c p l ≡ state_of w c p l
+same_circuit w new c p l quota ups downs counts region fuse =
+    λ i. record { setup = record { part = p; quota = quota i }; up = ups i; down = downs i; discarded = counts i; leases = l; region = region i; fuse = fuse i }
 
 -- only circuit k's counter is counted up
 pub other_count : (k c : ℕ) (counts : List ℕ) → eqb k c ≡ false → slice_index (one_more k counts) c ≡ slice_index counts c
@@ -399,13 +428,13 @@ all_move w new s after out parts size now steps = record { count = count; each =
         subst P (sym is.is) (steps c is.part is.leases),
       )
 
-pub all_tick : (w new : WorldValue) (now : ℕ) (out : List ℕ) → new.net ≡ w.net → out ≡ []
+pub all_tick : (w new : WorldValue) (now : ℕ) (out : List ℕ) → new.disk ≡ w.disk → new.net ≡ w.net → out ≡ []
     → parts_in new.server ≡ parts_in w.server → leases_now new ≡ map (after_tick now) (leases_now w)
     → AllMove (λ c. Tick now) (states w) (states new) outcome.Done out
-all_tick w new now out net empty parts leases =
+all_tick w new now out same net empty parts leases =
     all_move w new (λ c. Tick now) (λ c. after_tick now) out parts (ap length leases ∙ length-map (leases_now w) (after_tick now) ∙ whole w)
     (λ c part l there its. ap (λ ls. slice_get ls c) leases ∙ slice_get-map (after_tick now) (leases_now w) c ∙ ap (option_map (after_tick now)) its)
-    (λ c part l. tick_done c w new part l now out net empty)
+    (λ c part l. tick_done c w new part l now out same net empty)
 
 -- A restart, where each circuit's region is as its image says.
 pub all_restart : (w new : WorldValue) (images : ℕ → Image) (regions : ℕ → Region) (out : List ℕ) → new.net ≡ w.net → out ≡ []
@@ -436,6 +465,11 @@ are_synced parts images old new crash = λ k default within.
 
 -- ---- what the server made of a datagram that the network kept
 
+-- no region, or this one
+abbrev pub OneOf : ℕ → Option ℕ → Type 0
+OneOf r None = Unit {0}
+OneOf r (Some n) = n ≡ r
+
 circuit_fails_is : (part : CircuitPart) (now : ℕ) (bytes : List ℕ) (faults : ℕ → ℕ) (book : Option Book)
     → circuit_fails now bytes faults (Some part) (Some book) ≡ its_fails part now bytes (faults part.region) book
 circuit_fails_is part now bytes faults None = refl
@@ -452,6 +486,14 @@ module _ (relays : List Source) (parts : List CircuitPart) (now : ℕ) (p : Circ
 
   leases_are : received_leases relays parts now p.relay bytes faults all ≡ set all k (after_datagram p now bytes (faults p.region) l)
   leases_are = ap (addressee_leases parts now bytes faults all) found ∙ λ i. leases_with k now bytes faults all (there i) (its i)
+
+-- the region that a datagram of circuit k is saved to, if any is
+saves_own : (part : CircuitPart) (now : ℕ) (bytes : List ℕ) (book : Option Book) → OneOf part.region (circuit_saves now bytes (Some part) (Some book))
+saves_own part now bytes None = tt
+saves_own part now bytes (Some b) = either part.region (served part now bytes b).is_kept where
+  either : (r : ℕ) (is_kept : Bool) → OneOf r (if is_kept then Some r else None)
+  either r true = refl
+  either r false = tt
 
 pub record IsServed (w : WorldValue) (k : ℕ) (part : CircuitPart) (l : Leases) (now fault : ℕ) (d : Datagram) (result : Result (Unit {0}) Discard) (reply : List ℕ) (after : List Leases) : Type 0 where
   pub found : addressee w.relays.topology.relays w.relays.topology.circuits part.relay d.bytes ≡ Ok k
@@ -498,6 +540,96 @@ is_served w is k the j d now fault source given kept at from regions faults same
       others = λ c other. ap (λ ls. slice_get ls c) written ∙ get_set_other all k c done (eqb-false k c other);
       size = ap length written ∙ length-set all k done;
     }
+
+-- ---- what is written to the device
+
+-- every region but this one stays, and so does its fuse
+pub record Beside (r : ℕ) (old new : Device) : Type 0 where
+  pub region : (q : ℕ) → q ≢ r → new.region q ≡ old.region q
+  pub fuse : (q : ℕ) → q ≢ r → new.fuse q ≡ old.fuse q
+
+pub beside_then : (r : ℕ) (old middle new : Device) → Beside r old middle → Beside r middle new → Beside r old new
+beside_then r old middle new f g = record { region = λ q other. g.region q other ∙ f.region q other; fuse = λ q other. g.fuse q other ∙ f.fuse q other }
+
+pub beside_written : (r : ℕ) (x : Option ℕ) (old new : Device) → OneOf r x → WritesAt true x old new → Beside r old new
+beside_written r None old new one written = record { region = λ q other. ap (λ (d : Device). d.region q) written; fuse = λ q other. ap (λ (d : Device). d.fuse q) written }
+beside_written r (Some n) old new one written =
+    let P : ℕ → Type 0 = λ m. Beside m old new in
+    subst P one (record { region = written.region refl; fuse = written.fuse refl })
+
+pub beside_set : (r : ℕ) (old new : ModelDiskValue) → SameBut r old new → Beside r (disk.device_of old) (disk.device_of new)
+beside_set r old new same = record { region = λ q other. ap disk.region_of (same.others q other); fuse = λ q other. ap (λ s. s.fuse) (same.others q other) }
+
+pub spares_beside : (parts : List CircuitPart) (r : ℕ) (old new : Device) (k : ℕ) (part : CircuitPart) → slice_get parts k ≡ Some part → part.region ≡ r → Beside r old new → KeepsSpares parts old new
+spares_beside parts r old new k part there its beside = record {
+  region = λ q spare. beside.region q (λ same. spare k part there (its ∙ sym same));
+  fuse = λ q spare. beside.fuse q (λ same. spare k part there (its ∙ sym same));
+}
+
+pub spares_then : (parts : List CircuitPart) (old middle new : Device) → KeepsSpares parts old middle → KeepsSpares parts middle new → KeepsSpares parts old new
+spares_then parts old middle new f g = record { region = λ q spare. g.region q spare ∙ f.region q spare; fuse = λ q spare. g.fuse q spare ∙ f.fuse q spare }
+
+pub spares_stay : (parts : List CircuitPart) (old new : Device) → new ≡ old → KeepsSpares parts old new
+spares_stay parts old new same = record { region = λ q spare. ap (λ (d : Device). d.region q) same; fuse = λ q spare. ap (λ (d : Device). d.fuse q) same }
+
+pub same_device : (x : Option ℕ) (old new : Device) → x ≡ None → WritesAt true x old new → new ≡ old
+same_device None old new none same = same
+same_device (Some r) old new none writes = absurd cc
+
+none_saved : (setup : Setup) (now : ℕ) (d : Datagram) (book : Option Book) → book_writes setup now d book ≡ false → circuit_saves now d.bytes (Some setup.part) (Some book) ≡ None
+none_saved setup now d None nothing = refl
+none_saved setup now d (Some b) nothing = ap (λ (is_kept : Bool). if is_kept then Some setup.part.region else None) nothing
+
+its_saves : (w : WorldValue) → IsWorld w → (k : ℕ) (the : TheCircuit w k) (j : ℕ) (d : Datagram) (now : ℕ) (source : Source) (given : CircuitPart)
+    → slice_get (datagrams w.net k dir.Up) j ≡ Some d → slice_get (parts_in w.server) k ≡ Some given → source ≡ given.relay
+    → received_saves w.server.relays (parts_in w.server) now source d.bytes (books_in w.server) ≡ circuit_saves now d.bytes (Some the.part) (Some the.leases.book)
+its_saves w is k the j d now source given kept at from =
+    let same : given ≡ the.part = same_Some given the.part (sym at ∙ the.served) in
+    let comes : source ≡ the.part.relay = from ∙ ap (λ p. p.relay) same in
+    let found = each_at (IsFor w.relays.topology k the.part) (datagrams w.net k dir.Up) j d (is.addressed k the.part the.there) kept in
+    let here = (λ i. addressee (is.sources i) (is.parts i) (comes i) d.bytes) ∙ found in
+    ap (addressee_saves (parts_in w.server) now d.bytes (books_in w.server)) here ∙ (λ i. circuit_saves now d.bytes (the.served i) (the.book i))
+
+-- what a datagram of circuit k writes is its region, if anything
+saves_its : (w : WorldValue) → IsWorld w → (k : ℕ) (the : TheCircuit w k) (j : ℕ) (d : Datagram) (now : ℕ) (source : Source) (given : CircuitPart)
+    → slice_get (datagrams w.net k dir.Up) j ≡ Some d → slice_get (parts_in w.server) k ≡ Some given → source ≡ given.relay
+    → OneOf given.region (received_saves w.server.relays (parts_in w.server) now source d.bytes (books_in w.server))
+saves_its w is k the j d now source given kept at from =
+    let same : given ≡ the.part = same_Some given the.part (sym at ∙ the.served) in
+    let saves = its_saves w is k the j d now source given kept at from in
+    subst (λ (p : CircuitPart). OneOf p.region (received_saves w.server.relays (parts_in w.server) now source d.bytes (books_in w.server))) (sym same)
+    (subst (OneOf the.part.region) (sym saves) (saves_own the.part now d.bytes the.leases.book))
+
+-- A datagram of circuit k: its fuse is set, the server takes it, and the fuse is put out.
+pub beside_up : (w : WorldValue) → IsWorld w → (k : ℕ) (the : TheCircuit w k) (j : ℕ) (d : Datagram) (now : ℕ) (source : Source) (given : CircuitPart) (region : ℕ)
+    → slice_get (datagrams w.net k dir.Up) j ≡ Some d → slice_get (parts_in w.server) k ≡ Some given → source ≡ given.relay → region ≡ given.region
+    → (set served new : ModelDiskValue) → SameBut region w.disk set
+    → WritesAt true (received_saves w.server.relays (parts_in w.server) now source d.bytes (books_in w.server)) (disk.device_of set) (disk.device_of served)
+    → SameBut region served new → Beside region (disk.device_of w.disk) (disk.device_of new)
+beside_up w is k the j d now source given region kept at from its set served new first writes last =
+    let one = subst (λ r. OneOf r (received_saves w.server.relays (parts_in w.server) now source d.bytes (books_in w.server))) (sym its) (saves_its w is k the j d now source given kept at from) in
+    let before = beside_set region w.disk set first in
+    let while = beside_written region _ (disk.device_of set) (disk.device_of served) one writes in
+    let after = beside_set region served new last in
+    beside_then region (disk.device_of w.disk) (disk.device_of served) (disk.device_of new)
+    (beside_then region (disk.device_of w.disk) (disk.device_of set) (disk.device_of served) before while) after
+
+-- where a datagram of circuit k has nothing saved, every region stays
+pub quiet_up : (w : WorldValue) → IsWorld w → (k : ℕ) (the : TheCircuit w k) (j : ℕ) (d : Datagram) (now : ℕ) (source : Source) (given : CircuitPart)
+    → slice_get (datagrams w.net k dir.Up) j ≡ Some d → slice_get (parts_in w.server) k ≡ Some given → source ≡ given.relay
+    → (set served : ModelDiskValue) → WritesAt true (received_saves w.server.relays (parts_in w.server) now source d.bytes (books_in w.server)) (disk.device_of set) (disk.device_of served)
+    → book_writes (record { part = the.part; quota = w.net.quota }) now d the.leases.book ≡ false → disk.state_of served ≡ disk.state_of set
+quiet_up w is k the j d now source given kept at from set served writes nothing =
+    let saves = its_saves w is k the j d now source given kept at from in
+    ap (λ (device : Device). device.region)
+    (same_device (received_saves w.server.relays (parts_in w.server) now source d.bytes (books_in w.server)) (disk.device_of set) (disk.device_of served)
+    (saves ∙ none_saved (record { part = the.part; quota = w.net.quota }) now d the.leases.book nothing) writes)
+
+-- another circuit's region is another one
+pub elsewhere : (w : WorldValue) → IsWorld w → (k n : ℕ) (mine p : CircuitPart) → slice_get (parts_in w.server) k ≡ Some mine → slice_get (parts_in w.server) n ≡ Some p → eqb k n ≡ false
+    → (region : ℕ) → region ≡ mine.region → p.region ≢ region
+elsewhere w is k n mine p here there other region its same =
+    eqb-false k n other (is.differ k n mine p (ap (λ xs. slice_get xs k) (sym is.parts) ∙ here) (ap (λ xs. slice_get xs n) (sym is.parts) ∙ there) (sym its ∙ sym same))
 
 -- ---- a device of which only the fuse of a region was set
 

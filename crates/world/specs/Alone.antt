@@ -1,5 +1,5 @@
 -- The machine of one circuit that has relay, network and server for itself.
-use Rattle.std.specs.Prelude.{ℕ, ◌==◌, ◌&&◌, nat_le, Bool, not, List, [], ◌∷◌, ◌++◌, length, take, slice_get, Option, Some, None, option_map, Result, Ok, Err, if◌then◌else◌}
+use Rattle.std.specs.Prelude.{ℕ, ◌==◌, ◌&&◌, nat_le, Bool, true, false, not, List, [], ◌∷◌, ◌++◌, length, take, slice_get, Option, Some, None, option_map, Result, Ok, Err, if◌then◌else◌}
 use Rattle.types.specs.declared.dest.Proto.{Proto}
 use Rattle.types.specs.declared.discard.Discard.{Discard}
 use Rattle.types.specs.declared.discard.Discard.TheVariants.{CircuitClosed, DiskFault}
@@ -7,6 +7,7 @@ use Rattle.config.specs.CircuitPart.{CircuitPart}
 use Rattle.dispatch.specs.Server.{Book, Served, book_at, kept_book, served}
 use Rattle.lease_disk.specs.declared.image.Image.{Image}
 use Rattle.lease_disk.specs.declared.image.Image.TheVariants.{Byte, Unreadable}
+use Rattle.lease_disk.specs.Layout.{gate_open}
 use Rattle.lossy_net.specs.Net.{Datagram}
 use Rattle.relay.specs.SentFrame.{SentFrame}
 use Rattle.relay.specs.Relays.{relayed_up, relayed_down}
@@ -102,9 +103,9 @@ or_kept None kept = kept
 or_kept (Some doubt) kept = Some doubt
 
 -- What a restart finds where each unsynced byte became this one: the book in doubt where its gate then
--- reads open, which is 0xA5, and else the kept one.
+-- reads open, and else the kept one.
 abbrev pub found : ℕ → Alone → Option Book
-found byte a = if byte == 0xa5 then or_kept a.doubt a.kept else a.kept
+found byte a = if byte == gate_open then or_kept a.doubt a.kept else a.kept
 
 -- A region that cannot be read closes the circuit, and what was in doubt stays so.
 abbrev pub after_restart : Image → Alone → Alone
@@ -118,6 +119,24 @@ alone_step setup (Up j now fault) a = up_step setup now fault a (slice_get a.up 
 alone_step setup (Down j) a = down_step setup a (slice_get a.down j)
 alone_step setup (Tick now) a = record { effect = Done; next = record a { book = option_map (book_at now) a.book } }
 alone_step setup (Restart image) a = record { effect = Done; next = after_restart image a }
+
+-- Whether an event writes to the circuit's region: by a save, whether it fails or not, or by the crash of
+-- a restart.
+
+abbrev pub book_writes : Setup → ℕ → Datagram → Option Book → Bool
+book_writes setup now d None = false
+book_writes setup now d (Some b) = (served setup.part now d.bytes b).is_kept
+
+abbrev pub up_writes : Setup → ℕ → Option Book → Option Datagram → Bool
+up_writes setup now book None = false
+up_writes setup now book (Some d) = book_writes setup now d book
+
+abbrev pub writes : Setup → Seen → Alone → Bool
+writes setup (Frame proto frame) a = false
+writes setup (Up j now fault) a = up_writes setup now a.book (slice_get a.up j)
+writes setup (Down j) a = false
+writes setup (Tick now) a = false
+writes setup (Restart image) a = true
 
 -- the frame that leaves with an effect, if one does
 abbrev pub sent_frame : Effect → List SentFrame

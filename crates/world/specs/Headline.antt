@@ -1,9 +1,12 @@
 -- The words of the headline: when the state of a circuit in the world represents the circuit's machine,
 -- what a step and a run of the world do, and which frames leave towards a circuit.
-use Rattle.std.specs.Prelude.{◌≡◌, ℕ, ◌+◌, ◌<◌, ◌≤◌, List, [], ◌∷◌, ◌++◌, length, take, slice_get, Option, Some, None, true, ◌==◌, if◌then◌else◌}
+use Rattle.std.specs.Prelude.{◌≡◌, ◌≢◌, ℕ, ◌+◌, ◌<◌, ◌≤◌, List, [], ◌∷◌, ◌++◌, length, take, slice_get, Option, Some, None, option_map, true, false, ◌==◌, if◌then◌else◌}
 use Rattle.std.specs.List.{filter_map}
+use Rattle.config.specs.CircuitPart.{CircuitPart}
 use Rattle.dispatch.specs.Leases.{Leases}
 use Rattle.dispatch.specs.Server.{Book}
+use Rattle.lease_disk.specs.Device.{Device}
+use Rattle.lease_disk.specs.Region.{Region}
 use Rattle.lossy_net.specs.Net.{Datagram}
 use Rattle.relay.specs.SentFrame.{SentFrame}
 use Rattle.relay.specs.Relays.{CircuitFrame}
@@ -11,18 +14,21 @@ use Rattle.world.specs.declared.event.Event.{Event}
 use Rattle.world.specs.declared.event.Event.TheVariants as event
 use Rattle.world.specs.declared.outcome.Outcome.{Outcome}
 use Rattle.world.specs.declared.outcome.Outcome.TheVariants as outcome
-use Rattle.world.specs.Alone.{Setup, Alone, Effect, Dropped, Gone, SentUp, SentDown, Framed, Done, alone_step, after_all, found, frames}
+use Rattle.world.specs.Alone.{Setup, Alone, Effect, Dropped, Gone, SentUp, SentDown, Framed, Done, alone_step, after_all, found, frames, writes}
 use Rattle.world.specs.Seen.{Seen, seen_of, seen_by, named_by, is_restart}
 use Rattle.world.specs.Stray.{is_stray}
 
 -- All that the world has of one circuit: its part of the configuration and the quota, what the network
--- keeps of it, how many of its frames the relay discarded, and what its server and its region hold.
+-- keeps of it, how many of its frames the relay discarded, what its server and its region hold, and which
+-- call of the device from now on fails for its region.
 pub record CircuitState : Type 0 where
   pub setup : Setup
   pub up : List Datagram
   pub down : List Datagram
   pub discarded : ℕ
   pub leases : Leases
+  pub region : Region
+  pub fuse : ℕ
 
 -- A circuit's state shows this machine, set up like this.
 pub record Shows (state : CircuitState) (setup : Setup) (a : Alone) : Type 0 where
@@ -76,6 +82,9 @@ abbrev pub after_seen : Setup → Option Seen → Alone → Alone
 after_seen setup None a = a
 after_seen setup (Some s) a = (alone_step setup s a).next
 
+abbrev pub region_at : ℕ → List CircuitState → Option Region
+region_at c states = option_map (λ (state : CircuitState). state.region) (slice_get states c)
+
 -- One event, taken whole.
 pub record Steps (e : Event) (old new : List CircuitState) (o : Outcome) (out : List ℕ) : Type 0 where
   pub count : length new ≡ length old
@@ -83,6 +92,8 @@ pub record Steps (e : Event) (old new : List CircuitState) (o : Outcome) (out : 
   pub each : (c : ℕ) (setup : Setup) (a : Alone) → Represents c old setup a → Represents c new setup (after_seen setup (seen_of c e) a)
   -- and the outcome is the machine's
   pub answers : (c : ℕ) (setup : Setup) (a : Alone) → Represents c old setup a → Answers c setup (seen_of c e) a o out
+  -- a circuit that sees an event that saves nothing keeps its region byte for byte
+  pub quiet : (c : ℕ) (setup : Setup) (a : Alone) (s : Seen) → Represents c old setup a → seen_of c e ≡ Some s → writes setup s a ≡ false → region_at c new ≡ region_at c old
   -- what a circuit doesn't see leaves its state as it was
   pub others : (c : ℕ) → seen_of c e ≡ None → slice_get new c ≡ slice_get old c
   -- and no frame leaves towards it
@@ -95,6 +106,15 @@ pub record Steps (e : Event) (old new : List CircuitState) (o : Outcome) (out : 
   pub restarted : is_restart e ≡ true → (o ≡ outcome.Done) × (out ≡ [])
   -- a stray changes nothing, and nothing leaves with it
   pub stray : is_stray e ≡ true → (frame_of o out ≡ []) × (out ≡ []) × (new ≡ old)
+
+-- no circuit's region
+abbrev pub IsSpare : List CircuitPart → ℕ → Type 0
+IsSpare parts r = (c : ℕ) (part : CircuitPart) → slice_get parts c ≡ Some part → part.region ≢ r
+
+-- The regions of no circuit stay as they were, and so do their fuses.
+pub record KeepsSpares (parts : List CircuitPart) (old new : Device) : Type 0 where
+  pub region : (r : ℕ) → IsSpare parts r → new.region r ≡ old.region r
+  pub fuse : (r : ℕ) → IsSpare parts r → new.fuse r ≡ old.fuse r
 
 -- A run reaches these states: each represents its machine after all that its circuit saw.
 pub record Reaches (events : List Event) (start now : List CircuitState) : Type 0 where

@@ -10,7 +10,7 @@ use Rattle.lease_disk.specs.Model as disk
 use Rattle.lossy_net.specs.Net.{Datagram, datagrams}
 use Rattle.lossy_net.specs.declared.dir.Dir.TheVariants.{Up, Down}
 use Rattle.relay.specs.Relays.{Topology, for_circuit, relayed_down, relayed_down_in}
-use Rattle.world.specs.Alone.{Alone, Effect, Setup, alone_step}
+use Rattle.world.specs.Alone.{Alone, Effect, Setup, alone_step, writes}
 use Rattle.world.specs.Headline.{CircuitState, IsOutcome, Shows}
 use Rattle.world.specs.Seen.{Seen}
 use Rattle.world.specs.World.{WorldValue}
@@ -23,6 +23,7 @@ pub record StepsAs (c : ℕ) (s : Seen) (old new : CircuitState) (o : Outcome) (
   pub outcome : IsOutcome c effect o out
   pub effect_is : (setup : Setup) (a : Alone) → Shows old setup a → (alone_step setup s a).effect ≡ effect
   pub next : (setup : Setup) (a : Alone) → Shows old setup a → Shows new setup (alone_step setup s a).next
+  pub quiet : (setup : Setup) (a : Alone) → Shows old setup a → writes setup s a ≡ false → new.region ≡ old.region
 
 -- Circuit k's state moves so, and every other one stays.
 pub record Moves (k : ℕ) (s : Seen) (old new : List CircuitState) (o : Outcome) (out : List ℕ) : Type 0 where

@@ -26,6 +26,8 @@ state_of w c part leases = record {
   down = datagrams w.net c Down;
   discarded = slice_index w.relays.discarded c;
   leases = leases;
+  region = disk.state_of w.disk part.region;
+  fuse = disk.fuse_of w.disk part.region;
 }
 
 -- a state for each part and leases, in order

@@ -1,7 +1,8 @@
 //! A run: one event after the other, each frame delivered as it leaves.
 ghost use Rattle.std.specs.Prelude.{◌≡◌, ℕ, ◌+◌, ◌<◌, List, [], ◌++◌, length, take, true, false, IfErr, IfSome, OnOk};
+ghost use Rattle.lease_disk.specs.Device.{Device};
 ghost use Rattle.relay.specs.Relays.{Topology};
-ghost use Rattle.world.specs.Headline.{CircuitState, EmitsAt, Emits, Reaches, Steps, frame_of};
+ghost use Rattle.world.specs.Headline.{CircuitState, EmitsAt, Emits, KeepsSpares, Reaches, Steps, frame_of};
 ghost use Rattle.world.specs.Stray.{stray_outcome};
 
 use crate::event::Event;
@@ -17,11 +18,15 @@ pub trait Machine {
     /// What the relays know of the configuration.
     ghost topology: { Self → Topology };
 
+    /// The device of the circuits' regions.
+    ghost device: { Self → Device };
+
     /// Takes one event. A frame that leaves is in `out`, which is empty after every other outcome.
     fn step(&mut self, event: &Event<'_>, out: &mut PacketBuf) -> Outcome
         ensures steps { Steps event.now (states self.old) (states self.new) result out.new }
         ensures stray { IfSome (stray_outcome (topology self.old) event.now) (λ expected. result ≡ expected) }
-        ensures topology { topology self.new ≡ topology self.old };
+        ensures topology { topology self.new ≡ topology self.old }
+        ensures spares { KeepsSpares (topology self.old).circuits (device self.old) (device self.new) };
 }
 
 /// Hands the frame of an outcome to the sink, if there is one.
@@ -52,6 +57,7 @@ pub fn run<M: Machine, S: Sink>(
 ) -> Result<(), usize>
     ensures frames { OnOk result (Emits events.now (M.states machine.old) (S.taken sink.old) (S.taken sink.new)) }
     ensures reaches { OnOk result (Reaches events.now (M.states machine.old) (M.states machine.new)) }
+    ensures spares { KeepsSpares (M.topology machine.old).circuits (M.device machine.old) (M.device machine.new) }
     ensures quiet { OnOk result (S.refusals sink.new ≡ S.refusals sink.old) }
 
     // The sink refused the frame of event n: it has those of the events before, and the machine has

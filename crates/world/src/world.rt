@@ -5,9 +5,9 @@ ghost use Rattle.dispatch.specs.Leases.{AreSynced, HasRegions};
 ghost use Rattle.dispatch.specs.ServerValue.{RegionsDiffer, parts_in};
 ghost use Rattle.dispatch.specs.declared.server.OpenFault.TheVariants as fault;
 ghost use Rattle.lease_disk.specs.Crash.{crashed};
-ghost use Rattle.lease_disk.specs.Model.{state_of};
+ghost use Rattle.lease_disk.specs.Model.{device_of, state_of};
 ghost use Rattle.relay.specs.Relays.{topology_of};
-ghost use Rattle.world.specs.Headline.{EmitsAt, Emits, Reaches, Steps, frame_of};
+ghost use Rattle.world.specs.Headline.{EmitsAt, Emits, KeepsSpares, Reaches, Steps, frame_of};
 ghost use Rattle.world.specs.Seen.{Frame, Up, Down, Tick, Restart, image_at};
 ghost use Rattle.world.specs.declared.outcome.Outcome.TheVariants as outcome;
 ghost use Rattle.world.specs.Start.{Starts};
@@ -88,6 +88,7 @@ fn crash_all(server: &Server, disk: &mut ModelDisk, images: &[Image])
     ensures crashed { (c : ℕ) (part : CircuitPart) → slice_get (parts_in server.now) c ≡ Some part
         → state_of disk.new part.region ≡ crashed (image_at c images.now) (state_of disk.old part.region) }
     ensures count { length disk.new.regions ≡ length disk.old.regions }
+    ensures spares { KeepsSpares (parts_in server.now) (device_of disk.old) (device_of disk.new) }
 {
     'circuits: for index in 0..server.circuit_count() {
         let Some(circuit) = Circuit::new(index) else {
@@ -165,6 +166,7 @@ impl World {
         requires { circuit < length self.old.net.circuits }
         ensures moves { Moves circuit (Frame proto frame.now) (states self.old) (states self.new) result out.new }
         ensures topology { self.new.relays.topology ≡ self.old.relays.topology }
+        ensures disk { self.new.disk ≡ self.old.disk }
     {
         comes_to_its_circuit();
         match self.relays.up(circuit, proto, frame, out) {
@@ -190,6 +192,7 @@ impl World {
         requires { circuit < length self.old.net.circuits }
         ensures moves { Moves circuit (Up number now fault) (states self.old) (states self.new) result out.new }
         ensures topology { self.new.relays.topology ≡ self.old.relays.topology }
+        ensures spares { KeepsSpares self.old.relays.topology.circuits (device_of self.old.disk) (device_of self.new.disk) }
     {
         reply_comes_to_its_circuit();
         out.clear();
@@ -220,6 +223,7 @@ impl World {
         requires { circuit < length self.old.net.circuits }
         ensures moves { Moves circuit (Down number) (states self.old) (states self.new) result out.new }
         ensures topology { self.new.relays.topology ≡ self.old.relays.topology }
+        ensures disk { self.new.disk ≡ self.old.disk }
     {
         out.clear();
         let Some((proto, datagram)) = self.net.deliver(circuit, Dir::Down, number) else {
@@ -240,6 +244,7 @@ impl World {
         ensures moves { AllMove (λ c. Tick now) (states self.old) (states self.new) result out.new }
         ensures done { result ≡ outcome.Done }
         ensures topology { self.new.relays.topology ≡ self.old.relays.topology }
+        ensures disk { self.new.disk ≡ self.old.disk }
         ensures empty { out.new ≡ [] }
     {
         out.clear();
@@ -252,6 +257,7 @@ impl World {
         ensures moves { AllMove (λ c. Restart (image_at c images.now)) (states self.old) (states self.new) result out.new }
         ensures done { result ≡ outcome.Done }
         ensures topology { self.new.relays.topology ≡ self.old.relays.topology }
+        ensures spares { KeepsSpares self.old.relays.topology.circuits (device_of self.old.disk) (device_of self.new.disk) }
         ensures empty { out.new ≡ [] }
     {
         out.clear();
@@ -273,6 +279,7 @@ impl World {
         ensures empty { out.new ≡ [] }
         ensures states { states self.new ≡ states self.old }
         ensures topology { self.new.relays.topology ≡ self.old.relays.topology }
+        ensures device { device_of self.new.disk ≡ device_of self.old.disk }
     {
         out.clear();
         if self.relays.is_relay(source) {
@@ -317,6 +324,7 @@ impl World {
         ensures steps { Steps event.now (states self.old) (states self.new) result out.new }
         ensures stray { IfSome (stray_outcome self.old.relays.topology event.now) (λ expected. result ≡ expected) }
         ensures topology { self.new.relays.topology ≡ self.old.relays.topology }
+        ensures spares { KeepsSpares self.old.relays.topology.circuits (device_of self.old.disk) (device_of self.new.disk) }
     {
         match *event {
             Event::Frame(circuit, proto, frame) => {
@@ -351,6 +359,7 @@ impl World {
     pub fn run<S: Sink>(&mut self, events: &[Event<'_>], sink: &mut S) -> Result<(), usize>
         ensures frames { OnOk result (Emits events.now (states self.old) (S.taken sink.old) (S.taken sink.new)) }
         ensures reaches { OnOk result (Reaches events.now (states self.old) (states self.new)) }
+        ensures spares { KeepsSpares self.old.relays.topology.circuits (device_of self.old.disk) (device_of self.new.disk) }
         ensures quiet { OnOk result (S.refusals sink.new ≡ S.refusals sink.old) }
 
         // The sink refused the frame of event n: it has those of the events before, and the world has
@@ -366,12 +375,15 @@ impl World {
 }
 
 impl Machine for World {
+    ghost use Rattle.lease_disk.specs.Model.{device_of};
     ghost use Rattle.world.specs.World.{states};
     ghost use Rattle.wire.specs.Bytes.{AreBytes};
 
     ghost states = { λ world. states world };
 
     ghost topology = { λ world. world.relays.topology };
+
+    ghost device = { λ world. device_of world.disk };
 
     fn step(&mut self, event: &Event<'_>, out: &mut PacketBuf) -> Outcome {
         World::step(self, event, out)

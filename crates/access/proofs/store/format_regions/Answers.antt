@@ -13,9 +13,9 @@ circuits-preserved g c =
       index = omega (arith, c.circuits-test.true);
       end = loop.end;
       sound = loop.sound;
-      count = done.count ∙ loop.count;
+      count = done.frame.count ∙ loop.count;
       writes = omega (arith, done.writes, loop.writes);
-      formatted = λ tells. one_more (g.D.Disk.state c.circuits.disk) (g.D.Disk.state c.format.new.disk) c.at.result.now.region (done.ok tells) (done.others tells) c.args.config.now.circuits c.circuits.index c.at.result.now here refl (loop.formatted tells);
+      formatted = λ tells. one_more (g.D.Disk.device c.circuits.disk).region (g.D.Disk.device c.format.new.disk).region c.at.result.now.region (done.ok tells) (done.frame.region tells) c.args.config.now.circuits c.circuits.index c.at.result.now here refl (loop.formatted tells);
     }
 
 pub returns-clause-formatted : goal.returns-clause-formatted

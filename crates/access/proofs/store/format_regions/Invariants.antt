@@ -10,7 +10,7 @@ invariant-circuits g l = record {
   index : l.index ≤ l.index-end;
   end : l.index-end ≡ length l.config.circuits;
   sound : IsSound l.config;
-  count : g.D.Disk.count l.disk ≡ g.D.Disk.count l.fn.disk;
-  writes : g.D.Disk.writes l.disk ≡ g.D.Disk.writes l.fn.disk + 2 * l.index;
-  formatted : g.D.Disk.tells ≡ true → (c : ℕ) (circuit : CircuitConfig) → c < l.index → slice_get l.config.circuits c ≡ Some circuit → IsFormatted (g.D.Disk.state l.disk circuit.region);
+  count : (g.D.Disk.device l.disk).count ≡ (g.D.Disk.device l.fn.disk).count;
+  writes : (g.D.Disk.device l.disk).writes ≡ (g.D.Disk.device l.fn.disk).writes + 2 * l.index;
+  formatted : g.D.Disk.tells ≡ true → (c : ℕ) (circuit : CircuitConfig) → c < l.index → slice_get l.config.circuits c ≡ Some circuit → IsFormatted ((g.D.Disk.device l.disk).region circuit.region);
 }

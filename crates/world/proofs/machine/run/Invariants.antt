@@ -1,5 +1,5 @@
 use Rattle.std.proofs.Common.{◌≡◌, take}
-use Rattle.world.specs.Headline.{Emits, Reaches}
+use Rattle.world.specs.Headline.{Emits, KeepsSpares, Reaches}
 use Rattle.world.proofs.machine.run.Given as goal
 
 -- so far the run is that of the events so far
@@ -9,6 +9,8 @@ invariant-events g l =
     let taken = g.S.Sink.taken in
     record {
       emits : Emits (take l.n l.events) (states l.fn.machine) (taken l.fn.sink) (taken l.sink);
+      topology : g.M.Machine.topology l.machine ≡ g.M.Machine.topology l.fn.machine;
+      spares : KeepsSpares (g.M.Machine.topology l.fn.machine).circuits (g.M.Machine.device l.fn.machine) (g.M.Machine.device l.machine);
       reaches : Reaches (take l.n l.events) (states l.fn.machine) (states l.machine);
       quiet : g.S.Sink.refusals l.sink ≡ g.S.Sink.refusals l.fn.sink;
     }

@@ -6,6 +6,13 @@ use Rattle.bindings_v4.proofs.RowLemmas.{decision_is, answer_is, keep_is, book_i
 use Rattle.bindings_v4.proofs.LimitLemmas.{decided_in_time}
 use Rattle.bindings_v4.proofs.book4.Book4.decide.Goals as goal
 
+pub returns-clause-exact : goal.returns-clause-exact
+returns-clause-exact c =
+    let v = c.args.self.now in
+    let m = c.args.request.now in
+    let are = c.look_up-found.ensures.slots in
+    decision_is v c.args.clock m are c.pool.result (lookup_of c.look_up-found.result) c.decision_for.result c.pool.ensures c.look_up-found.ensures.found c.decision_for.ensures
+
 pub returns-clause-answer : goal.returns-clause-answer
 returns-clause-answer c =
     let v = c.args.self.now in

@@ -1,16 +1,19 @@
 use Rattle.std.proofs.Common.{◌≡◌, ℕ, List, not, true, false, refl, sym, ap, subst, ◌∙◌, Ok, Err, Result, is_ok}
-use Rattle.std.specs.Prelude.{Some}
+use Rattle.std.specs.Prelude.{Option, Some, IfSome, is_some}
 use Rattle.types.specs.declared.discard.Discard.{Discard}
 use Rattle.types.specs.declared.discard.Discard.TheVariants.{DiskFault}
 use Rattle.v4_message.specs.Reading.{message_of}
+use Rattle.bindings_v4.specs.Slots4 as slots
 use Rattle.bindings_v4.specs.Table4.{answer4}
 use Rattle.config.specs.CircuitPart.{pool4_of}
+use Rattle.lease_disk.specs.Device.{Device}
+use Rattle.lease_disk.proofs.Frames.{touches_none}
 use Rattle.dispatch.specs.Received.{IsAnswer}
-use Rattle.dispatch.specs.Server.{decision_served, drop, reply_to}
-use Rattle.dispatch.specs.ServerValue.{open_book}
-use Rattle.dispatch.proofs.AnswerLemmas.{IsServed, refused, decided, counted, fails_by, not_more, held, failed, fails_as, leases_as}
+use Rattle.dispatch.specs.Server.{drop, reply_to}
+use Rattle.dispatch.specs.ServerValue.{OpenCircuitValue, open_book}
+use Rattle.dispatch.proofs.AnswerLemmas.{IsServed, refused, decided, served_as, counted, fails_by, not_more, held, failed, fails_as, leases_as, writes_as}
 use Rattle.dispatch.proofs.circuit_server.CircuitServer.answer.Given as given
-use Rattle.dispatch.proofs.circuit_server.CircuitServer.answer.Goals.{In-Err, After-serve}
+use Rattle.dispatch.proofs.circuit_server.CircuitServer.answer.Goals.{In-Err, After-keep}
 use Rattle.dispatch.proofs.circuit_server.CircuitServer.answer.Goals as goal
 
 -- ---- the two cases of an open circuit
@@ -24,15 +27,34 @@ refusal g c datagram read = record {
       (sym c.request_in.ensures ∙ c.in-Err.is);
 }
 
-decision : (g : given.Over) (c : goal.After-serve g) (datagram : List ℕ) → message_of datagram ≡ Ok c.args.message.now
-    → IsServed c.args.self.now c.args.now datagram c.self.inside.part c.in-Some.circuit
-    (decision_served c.self.inside.part c.args.message.now c.tick.new.self.clock (answer4 (pool4_of c.self.inside.part) c.tick.new.self.clock (open_book c.tick.new.self).four c.in-Ok.request))
-decision g c datagram read = record {
-  was = sym c.self.view_is ∙ (λ i. record { part = c.self.inside.part; state = c.in-Some.is i });
-  served_so =
-      decided c.self.inside.part c.args.now datagram c.args.message.now read (open_book c.in-Some.circuit) (open_book c.tick.new.self) c.tick.ensures.book c.in-Ok.request
-      (sym c.request_in.ensures ∙ c.in-Ok.is);
-}
+-- the pool is the circuit's
+pool_is : (g : given.Over) (c : goal.After-keep g) → c.tick.new.self.slots.pool ≡ pool4_of c.self.inside.part
+pool_is g c =
+    let P : Option OpenCircuitValue → Type 0 = λ state. IfSome state (λ o. o.slots.pool ≡ pool4_of c.self.inside.part) in
+    c.tick.ensures.pool ∙ subst P c.in-Some.is c.self.invariant
+
+decision : (g : given.Over) (c : goal.After-keep g) (datagram : List ℕ) → message_of datagram ≡ Ok c.args.message.now
+    → IsServed c.args.self.now c.args.now datagram c.self.inside.part c.in-Some.circuit (record {
+      answer = reply_to c.self.inside.part c.args.message.now c.decide-decision.result.answer;
+      book = record { clock = c.tick.new.self.clock; four = slots.book_of c.tick.new.self.clock (slots.with_decision c.decide-decision.result c.tick.new.self.slots) };
+      is_kept = is_some c.decide-decision.result.keep;
+    })
+decision g c datagram read =
+    let part = c.self.inside.part in
+    let clock = c.tick.new.self.clock in
+    let b = open_book c.tick.new.self in
+    let m = c.in-Ok.request in
+    let pool = pool_is g c in
+    record {
+      was = sym c.self.view_is ∙ (λ i. record { part = part; state = c.in-Some.is i });
+      served_so =
+          decided part c.args.now datagram c.args.message.now read (open_book c.in-Some.circuit) b c.tick.ensures.book m (sym c.request_in.ensures ∙ c.in-Ok.is)
+          ∙ served_as part c.args.message.now clock (answer4 (pool4_of part) clock b.four m) c.decide-decision.result.answer
+          (slots.book_of clock (slots.with_decision c.decide-decision.result c.tick.new.self.slots)) (is_some c.decide-decision.result.keep)
+          (c.decide-decision.ensures.answer ∙ ap (λ p. (answer4 p clock b.four m).answer) pool)
+          (c.decide-decision.ensures.book ∙ ap (λ p. (answer4 p clock b.four m).book) pool)
+          (c.decide-decision.ensures.keep ∙ ap (λ p. (answer4 p clock b.four m).is_kept) pool);
+    }
 
 -- ---- the request is refused
 
@@ -47,69 +69,62 @@ returns-in-Err-clause-book g c datagram read =
 
 pub returns-in-Err-clause-fails : goal.returns-in-Err-clause-fails
 returns-in-Err-clause-fails g c tells datagram read =
-    fails_as (refusal g (goal.at.returns-in-Err-clause-fails g c).In-Err datagram read) (g.D.Disk.fuse c.args.disk.now) _ (not_more _)
+    fails_as (refusal g (goal.at.returns-in-Err-clause-fails g c).In-Err datagram read) (g.D.Disk.device c.args.disk.now).fuse _ (not_more _)
 
 pub returns-in-Err-clause-leases : goal.returns-in-Err-clause-leases
 returns-in-Err-clause-leases g c tells datagram read =
-    let regions = g.D.Disk.state c.args.disk.now in
-    leases_as (refusal g (goal.at.returns-in-Err-clause-leases g c).In-Err datagram read) regions regions (g.D.Disk.fuse c.args.disk.now) (open_book c.tick.new.self) true refl (λ keeps. absurd cc) (λ changes. refl) refl
+    let regions = (g.D.Disk.device c.args.disk.now).region in
+    leases_as (refusal g (goal.at.returns-in-Err-clause-leases g c).In-Err datagram read) regions regions (g.D.Disk.device c.args.disk.now).fuse (open_book c.tick.new.self) true refl (λ keeps. absurd cc) (λ changes. refl) refl
 
--- ---- the reply is written
+pub returns-in-Err-clause-writes : goal.returns-in-Err-clause-writes
+returns-in-Err-clause-writes g c datagram read =
+    let device = g.D.Disk.device c.args.disk.now in
+    writes_as (refusal g (goal.at.returns-in-Err-clause-writes g c).In-Err datagram read) g.D.Disk.tells device device (λ nothing. refl) (touches_none g.D.Disk.tells c.self.inside.part.region device)
 
-pub returns-in-Ok-Ok-clause-answer : goal.returns-in-Ok-Ok-clause-answer
-returns-in-Ok-Ok-clause-answer g c datagram read =
-    let answer : Result (List ℕ) Discard → Type 0 = λ x. IsAnswer x (Ok tt) c.write4.new.out in
-    subst answer (ap (reply_to c.self.inside.part c.args.message.now) (sym c.in-Ok-Ok.field-0-is ∙ c.in-Ok-Ok.ensures.answer) ∙ sym (ap (λ a. a.answer) (held (decision g (goal.at.returns-in-Ok-Ok-clause-answer g c).After-serve datagram read) _ (counted c.serve.result _ _ c.serve.ensures.failures ∙ ap (λ r. not (is_ok r)) c.in-Ok-Ok.is)))) (refl, c.write4.ensures.bytes)
+-- ---- the decision is kept
 
-pub returns-in-Ok-Ok-clause-book : goal.returns-in-Ok-Ok-clause-book
-returns-in-Ok-Ok-clause-book g c datagram read =
-    ap Some c.serve.ensures.book ∙ ap (λ a. a.book) (sym (held (decision g (goal.at.returns-in-Ok-Ok-clause-book g c).After-serve datagram read) _ (counted c.serve.result _ _ c.serve.ensures.failures ∙ ap (λ r. not (is_ok r)) c.in-Ok-Ok.is)))
+pub returns-in-Ok-keep-clause-answer : goal.returns-in-Ok-keep-clause-answer
+returns-in-Ok-keep-clause-answer g c datagram read =
+    let answer : Result (List ℕ) Discard → Type 0 = λ x. IsAnswer x c.reply.result c.reply.new.out in
+    subst answer (sym (ap (λ a. a.answer) (held (decision g (goal.at.returns-in-Ok-keep-clause-answer g c).After-keep datagram read) _ (counted c.keep.result _ _ c.keep.ensures.failures ∙ ap (λ r. not (is_ok r)) c.in-Ok-keep.is)))) c.reply.ensures
 
-pub returns-in-Ok-Ok-clause-fails : goal.returns-in-Ok-Ok-clause-fails
-returns-in-Ok-Ok-clause-fails g c tells datagram read =
-    fails_as (decision g (goal.at.returns-in-Ok-Ok-clause-fails g c).After-serve datagram read) (g.D.Disk.fuse c.args.disk.now) _ (fails_by c.serve.result _ _ _ c.serve.ensures.failures (c.serve.ensures.fails tells))
+pub returns-in-Ok-keep-clause-book : goal.returns-in-Ok-keep-clause-book
+returns-in-Ok-keep-clause-book g c datagram read =
+    ap Some c.keep.ensures.book ∙ ap (λ a. a.book) (sym (held (decision g (goal.at.returns-in-Ok-keep-clause-book g c).After-keep datagram read) _ (counted c.keep.result _ _ c.keep.ensures.failures ∙ ap (λ r. not (is_ok r)) c.in-Ok-keep.is)))
 
-pub returns-in-Ok-Ok-clause-leases : goal.returns-in-Ok-Ok-clause-leases
-returns-in-Ok-Ok-clause-leases g c tells datagram read =
-    leases_as (decision g (goal.at.returns-in-Ok-Ok-clause-leases g c).After-serve datagram read) (g.D.Disk.state c.args.disk.now) (g.D.Disk.state c.serve.new.disk) (g.D.Disk.fuse c.args.disk.now) (open_book c.serve.new.self) true c.serve.ensures.book
-    (c.serve.ensures.kept tells) (c.serve.ensures.stays tells) (sym (ap is_ok c.in-Ok-Ok.is) ∙ c.serve.ensures.fails tells)
+pub returns-in-Ok-keep-clause-fails : goal.returns-in-Ok-keep-clause-fails
+returns-in-Ok-keep-clause-fails g c tells datagram read =
+    fails_as (decision g (goal.at.returns-in-Ok-keep-clause-fails g c).After-keep datagram read) (g.D.Disk.device c.args.disk.now).fuse _ (fails_by c.keep.result _ _ _ c.keep.ensures.failures (c.keep.ensures.fails tells))
 
--- ---- the table has no reply
+pub returns-in-Ok-keep-clause-leases : goal.returns-in-Ok-keep-clause-leases
+returns-in-Ok-keep-clause-leases g c tells datagram read =
+    leases_as (decision g (goal.at.returns-in-Ok-keep-clause-leases g c).After-keep datagram read) (g.D.Disk.device c.args.disk.now).region (g.D.Disk.device c.keep.new.disk).region (g.D.Disk.device c.args.disk.now).fuse (open_book c.keep.new.self) true c.keep.ensures.book
+    (c.keep.ensures.kept tells) (λ nothing. ap (λ (d : Device). d.region) (c.keep.ensures.stays nothing)) (sym (ap is_ok c.in-Ok-keep.is) ∙ c.keep.ensures.fails tells)
 
-pub returns-in-Ok-Err-clause-answer : goal.returns-in-Ok-Err-clause-answer
-returns-in-Ok-Err-clause-answer g c datagram read =
-    let answer : Result (List ℕ) Discard → Type 0 = λ x. IsAnswer x (Err c.in-Ok-Err.why) c.args.out.now in
-    subst answer (ap (reply_to c.self.inside.part c.args.message.now) (sym c.in-Ok-Err.field-0-is ∙ c.in-Ok-Err.ensures.answer) ∙ sym (ap (λ a. a.answer) (held (decision g (goal.at.returns-in-Ok-Err-clause-answer g c).After-serve datagram read) _ (counted c.serve.result _ _ c.serve.ensures.failures ∙ ap (λ r. not (is_ok r)) c.in-Ok-Err.is)))) (refl, c.requires.empty)
-
-pub returns-in-Ok-Err-clause-book : goal.returns-in-Ok-Err-clause-book
-returns-in-Ok-Err-clause-book g c datagram read =
-    ap Some c.serve.ensures.book ∙ ap (λ a. a.book) (sym (held (decision g (goal.at.returns-in-Ok-Err-clause-book g c).After-serve datagram read) _ (counted c.serve.result _ _ c.serve.ensures.failures ∙ ap (λ r. not (is_ok r)) c.in-Ok-Err.is)))
-
-pub returns-in-Ok-Err-clause-fails : goal.returns-in-Ok-Err-clause-fails
-returns-in-Ok-Err-clause-fails g c tells datagram read =
-    fails_as (decision g (goal.at.returns-in-Ok-Err-clause-fails g c).After-serve datagram read) (g.D.Disk.fuse c.args.disk.now) _ (fails_by c.serve.result _ _ _ c.serve.ensures.failures (c.serve.ensures.fails tells))
-
-pub returns-in-Ok-Err-clause-leases : goal.returns-in-Ok-Err-clause-leases
-returns-in-Ok-Err-clause-leases g c tells datagram read =
-    leases_as (decision g (goal.at.returns-in-Ok-Err-clause-leases g c).After-serve datagram read) (g.D.Disk.state c.args.disk.now) (g.D.Disk.state c.serve.new.disk) (g.D.Disk.fuse c.args.disk.now) (open_book c.serve.new.self) true c.serve.ensures.book
-    (c.serve.ensures.kept tells) (c.serve.ensures.stays tells) (sym (ap is_ok c.in-Ok-Err.is) ∙ c.serve.ensures.fails tells)
+pub returns-in-Ok-keep-clause-writes : goal.returns-in-Ok-keep-clause-writes
+returns-in-Ok-keep-clause-writes g c datagram read =
+    writes_as (decision g (goal.at.returns-in-Ok-keep-clause-writes g c).After-keep datagram read) g.D.Disk.tells (g.D.Disk.device c.args.disk.now) (g.D.Disk.device c.keep.new.disk) c.keep.ensures.stays c.keep.ensures.frame
 
 -- ---- the save fails
 
-pub returns-in-Err-serve-clause-answer : goal.returns-in-Err-serve-clause-answer
-returns-in-Err-serve-clause-answer g c datagram read =
+pub returns-in-Err-keep-clause-answer : goal.returns-in-Err-keep-clause-answer
+returns-in-Err-keep-clause-answer g c datagram read =
     let answer : Result (List ℕ) Discard → Type 0 = λ x. IsAnswer x (Err DiskFault) c.args.out.now in
-    subst answer (sym (ap (λ a. a.answer) (failed (decision g (goal.at.returns-in-Err-serve-clause-answer g c).After-serve datagram read) _ (counted c.serve.result _ _ c.serve.ensures.failures ∙ ap (λ r. not (is_ok r)) c.in-Err-serve.is) c.in-Err-serve.ensures.cause))) (refl, c.requires.empty)
+    subst answer (sym (ap (λ a. a.answer) (failed (decision g (goal.at.returns-in-Err-keep-clause-answer g c).After-keep datagram read) _ (counted c.keep.result _ _ c.keep.ensures.failures ∙ ap (λ r. not (is_ok r)) c.in-Err-keep.is) c.in-Err-keep.ensures.cause))) (refl, c.requires.empty)
 
-pub returns-in-Err-serve-clause-book : goal.returns-in-Err-serve-clause-book
-returns-in-Err-serve-clause-book g c datagram read =
-    ap (λ a. a.book) (sym (failed (decision g (goal.at.returns-in-Err-serve-clause-book g c).After-serve datagram read) _ (counted c.serve.result _ _ c.serve.ensures.failures ∙ ap (λ r. not (is_ok r)) c.in-Err-serve.is) c.in-Err-serve.ensures.cause))
+pub returns-in-Err-keep-clause-book : goal.returns-in-Err-keep-clause-book
+returns-in-Err-keep-clause-book g c datagram read =
+    ap (λ a. a.book) (sym (failed (decision g (goal.at.returns-in-Err-keep-clause-book g c).After-keep datagram read) _ (counted c.keep.result _ _ c.keep.ensures.failures ∙ ap (λ r. not (is_ok r)) c.in-Err-keep.is) c.in-Err-keep.ensures.cause))
 
-pub returns-in-Err-serve-clause-fails : goal.returns-in-Err-serve-clause-fails
-returns-in-Err-serve-clause-fails g c tells datagram read =
-    fails_as (decision g (goal.at.returns-in-Err-serve-clause-fails g c).After-serve datagram read) (g.D.Disk.fuse c.args.disk.now) _ (fails_by c.serve.result _ _ _ c.serve.ensures.failures (c.serve.ensures.fails tells))
+pub returns-in-Err-keep-clause-fails : goal.returns-in-Err-keep-clause-fails
+returns-in-Err-keep-clause-fails g c tells datagram read =
+    fails_as (decision g (goal.at.returns-in-Err-keep-clause-fails g c).After-keep datagram read) (g.D.Disk.device c.args.disk.now).fuse _ (fails_by c.keep.result _ _ _ c.keep.ensures.failures (c.keep.ensures.fails tells))
 
-pub returns-in-Err-serve-clause-leases : goal.returns-in-Err-serve-clause-leases
-returns-in-Err-serve-clause-leases g c tells datagram read =
-    leases_as (decision g (goal.at.returns-in-Err-serve-clause-leases g c).After-serve datagram read) (g.D.Disk.state c.args.disk.now) (g.D.Disk.state c.serve.new.disk) (g.D.Disk.fuse c.args.disk.now) (open_book c.serve.new.self) false c.serve.ensures.book
-    (c.serve.ensures.kept tells) (c.serve.ensures.stays tells) (sym (ap is_ok c.in-Err-serve.is) ∙ c.serve.ensures.fails tells)
+pub returns-in-Err-keep-clause-leases : goal.returns-in-Err-keep-clause-leases
+returns-in-Err-keep-clause-leases g c tells datagram read =
+    leases_as (decision g (goal.at.returns-in-Err-keep-clause-leases g c).After-keep datagram read) (g.D.Disk.device c.args.disk.now).region (g.D.Disk.device c.keep.new.disk).region (g.D.Disk.device c.args.disk.now).fuse (open_book c.keep.new.self) false c.keep.ensures.book
+    (c.keep.ensures.kept tells) (λ nothing. ap (λ (d : Device). d.region) (c.keep.ensures.stays nothing)) (sym (ap is_ok c.in-Err-keep.is) ∙ c.keep.ensures.fails tells)
+
+pub returns-in-Err-keep-clause-writes : goal.returns-in-Err-keep-clause-writes
+returns-in-Err-keep-clause-writes g c datagram read =
+    writes_as (decision g (goal.at.returns-in-Err-keep-clause-writes g c).After-keep datagram read) g.D.Disk.tells (g.D.Disk.device c.args.disk.now) (g.D.Disk.device c.keep.new.disk) c.keep.ensures.stays c.keep.ensures.frame

@@ -1,5 +1,5 @@
-use Rattle.std.proofs.Common.{◌≡◌, ◌<◌, ◌↔◌, ◌∙◌, ℕ, List, map, length, true, sym, subst, ap, arith}
-use Rattle.std.specs.Prelude.{Some, is_some, nat_lt, slice_get, slice_index_or}
+use Rattle.std.proofs.Common.{◌≡◌, ◌↔◌, List, map, length, true, subst, ap, arith}
+use Rattle.std.specs.Prelude.{Some, is_some, nat_lt, slice_get}
 use Rattle.dispatch.specs.ServerValue.{CircuitServerValue, book_of}
 use Rattle.dispatch.proofs.ServerLemmas.{open_at, none_past}
 use Rattle.dispatch.proofs.server.Server.is_open.Goals as goal

@@ -1,13 +1,14 @@
 use Rattle.std.proofs.Common.{◌≡◌, ◌<◌, ℕ, nat_lt, List, map, set, length, sym, ap, subst, ◌∙◌}
-use Rattle.std.specs.Prelude.{Some, Ok, slice_get, option_map, All}
+use Rattle.std.specs.Prelude.{Option, Some, Ok, slice_get, option_map, All}
 use Rattle.std.proofs.lemmas.List.{map-set}
 use Rattle.std.proofs.lemmas.Option.{slice_get-map, slice_get-get_or}
 use Rattle.config.specs.CircuitPart.{CircuitPart}
+use Rattle.lease_disk.specs.Device.{WritesAt}
 use Rattle.dispatch.specs.Addressee.{addressee}
 use Rattle.dispatch.specs.Leases.{received_leases, restarts_of}
-use Rattle.dispatch.specs.Received.{Received, IsAnswer, received, received_fails}
+use Rattle.dispatch.specs.Received.{Received, IsAnswer, received, received_fails, received_saves}
 use Rattle.dispatch.specs.ServerValue.{CircuitServerValue, IsReady, IsReadyFor, RegionsDiffer, ServerValue, book_of, books_in, leases_in, leases_of, part_of, parts_in}
-use Rattle.dispatch.proofs.ReceivedLemmas.{received_at, fails_at, leases_at}
+use Rattle.dispatch.proofs.ReceivedLemmas.{received_at, fails_at, leases_at, saves_at}
 use Rattle.dispatch.proofs.ServerLemmas.{all_moved, at_part, one_moved, same_seen}
 use Rattle.dispatch.proofs.server.Server.receive.Given as given
 use Rattle.dispatch.proofs.server.Server.receive.Goals as goal
@@ -34,10 +35,10 @@ elsewhere g c k x there apart same =
 pub answer-requires-clause-exists : goal.answer-requires-clause-exists
 answer-requires-clause-exists g c =
     let items = c.self.inside.circuits.items in
-    let P : CircuitPart → Type 0 = λ part. part.region < g.D.Disk.count c.args.disk.now in
+    let P : CircuitPart → Type 0 = λ part. part.region < (g.D.Disk.device c.args.disk.now).count in
     let has : All P (map part_of items) = subst (λ (s : ServerValue). All P (parts_in s)) (sym c.self.view_is) c.requires.regions in
     let within = subst (λ (xs : List CircuitServerValue). c.in-Ok.found.0 < length xs) c.deref-2.ensures.value c.in-Ok.ensures.within in
-    subst (λ (s : CircuitServerValue). s.part.region < g.D.Disk.count c.args.disk.now) (sym c.index_mut.ensures.value) (at_part P items c.in-Ok.found.0 c.index_mut.result.now within has)
+    subst (λ (s : CircuitServerValue). s.part.region < (g.D.Disk.device c.args.disk.now).count) (sym c.index_mut.ensures.value) (at_part P items c.in-Ok.found.0 c.index_mut.result.now within has)
 
 pub invariant_of-self : goal.invariant_of-self
 invariant_of-self g c =
@@ -52,7 +53,7 @@ returns-clause-parts g c =
 
 pub returns-clause-answer : goal.returns-clause-answer
 returns-clause-answer g c =
-    let fails = nat_lt (g.D.Disk.failures c.args.disk.now) (g.D.Disk.failures c.answer.new.disk) in
+    let fails = nat_lt (g.D.Disk.device c.args.disk.now).failures (g.D.Disk.device c.answer.new.disk).failures in
     let x = c.index_mut.result.now in
     let items = c.self.inside.circuits.items in
     let P : ServerValue → Type 0 = λ s. IsAnswer (received s.relays (parts_in s) c.args.now c.args.source c.args.datagram.now fails (books_in s)).answer c.answer.result c.answer.new.out in
@@ -63,7 +64,7 @@ returns-clause-answer g c =
 
 pub returns-clause-books : goal.returns-clause-books
 returns-clause-books g c =
-    let fails = nat_lt (g.D.Disk.failures c.args.disk.now) (g.D.Disk.failures c.answer.new.disk) in
+    let fails = nat_lt (g.D.Disk.device c.args.disk.now).failures (g.D.Disk.device c.answer.new.disk).failures in
     let x = c.index_mut.result.now in
     let items = c.self.inside.circuits.items in
     let P : ServerValue → Type 0 = λ s. map book_of (set items c.in-Ok.found.0 c.answer.new.self) ≡ (received s.relays (parts_in s) c.args.now c.args.source c.args.datagram.now fails (books_in s)).books in
@@ -74,8 +75,8 @@ returns-clause-books g c =
 
 pub returns-clause-fails : goal.returns-clause-fails
 returns-clause-fails g c tells =
-    let fails = nat_lt (g.D.Disk.failures c.args.disk.now) (g.D.Disk.failures c.answer.new.disk) in
-    let faults = g.D.Disk.fuse c.args.disk.now in
+    let fails = nat_lt (g.D.Disk.device c.args.disk.now).failures (g.D.Disk.device c.answer.new.disk).failures in
+    let faults = (g.D.Disk.device c.args.disk.now).fuse in
     let x = c.index_mut.result.now in
     let items = c.self.inside.circuits.items in
     let P : ServerValue → Type 0 = λ s. fails ≡ received_fails s.relays (parts_in s) c.args.now c.args.source c.args.datagram.now faults (books_in s) in
@@ -83,26 +84,38 @@ returns-clause-fails g c tells =
     (c.answer.ensures.fails tells c.args.datagram.now c.in-Ok.ensures.message
     ∙ sym (fails_at c.self.inside.relays.items (map part_of items) c.args.now c.args.source c.args.datagram.now c.in-Ok.found.0 x.part (found g c) (its part_of g c) faults (map book_of items) (book_of x) (its book_of g c)))
 
+pub returns-clause-frame : goal.returns-clause-frame
+returns-clause-frame g c =
+    let old = g.D.Disk.device c.args.disk.now in
+    let new = g.D.Disk.device c.answer.new.disk in
+    let x = c.index_mut.result.now in
+    let items = c.self.inside.circuits.items in
+    let P : ServerValue → Type 0 = λ s. WritesAt g.D.Disk.tells (received_saves s.relays (parts_in s) c.args.now c.args.source c.args.datagram.now (books_in s)) old new in
+    let Q : Option ℕ → Type 0 = λ region. WritesAt g.D.Disk.tells region old new in
+    subst P c.self.view_is
+    (subst Q (sym (saves_at c.self.inside.relays.items (map part_of items) c.args.now c.args.source c.args.datagram.now c.in-Ok.found.0 x.part (found g c) (its part_of g c) (map book_of items) (book_of x) (its book_of g c)))
+    (c.answer.ensures.writes c.args.datagram.now c.in-Ok.ensures.message))
+
 pub returns-clause-leases : goal.returns-clause-leases
 returns-clause-leases g c tells =
-    let regions = g.D.Disk.state c.args.disk.now in
-    let later = g.D.Disk.state c.answer.new.disk in
-    let faults = g.D.Disk.fuse c.args.disk.now in
+    let regions = (g.D.Disk.device c.args.disk.now).region in
+    let later = (g.D.Disk.device c.answer.new.disk).region in
+    let faults = (g.D.Disk.device c.args.disk.now).fuse in
     let x = c.index_mut.result.now in
     let items = c.self.inside.circuits.items in
     let k = c.in-Ok.found.0 in
     let P : ServerValue → Type 0 = λ s. map (leases_of later) (set items k c.answer.new.self) ≡ received_leases s.relays (parts_in s) c.args.now c.args.source c.args.datagram.now faults (leases_in regions s) in
     subst P c.self.view_is
     (one_moved (leases_of regions) (leases_of later) items k c.answer.new.self
-    (λ n y there apart. λ i. record { book = book_of y; restarts = restarts_of y.part (c.answer.ensures.others tells y.part.region (elsewhere g c n y there apart) i) })
+    (λ n y there apart. λ i. record { book = book_of y; restarts = restarts_of y.part (c.answer.ensures.frame.region tells y.part.region (elsewhere g c n y there apart) i) })
     ∙ ap (set (map (leases_of regions) items) k) (c.answer.ensures.leases tells c.args.datagram.now c.in-Ok.ensures.message)
     ∙ sym (leases_at c.self.inside.relays.items (map part_of items) c.args.now c.args.source c.args.datagram.now k x.part (found g c) (its part_of g c) faults (map (leases_of regions) items) (leases_of regions x) (its (leases_of regions) g c)))
 
 pub returns-clause-ready : goal.returns-clause-ready
 returns-clause-ready g c tells =
-    let regions = g.D.Disk.state c.args.disk.now in
-    let later = g.D.Disk.state c.answer.new.disk in
+    let regions = (g.D.Disk.device c.args.disk.now).region in
+    let later = (g.D.Disk.device c.answer.new.disk).region in
     let items = c.self.inside.circuits.items in
     let was : All (IsReady regions) items = subst (λ (s : ServerValue). All (IsReady regions) s.circuits) (sym c.self.view_is) (c.requires.ready tells) in
     all_moved (IsReady regions) (IsReady later) items c.in-Ok.found.0 c.answer.new.self (c.answer.ensures.ready tells) was
-    (λ n y there apart. subst (λ r. IsReadyFor r y.state) (sym (c.answer.ensures.others tells y.part.region (elsewhere g c n y there apart))))
+    (λ n y there apart. subst (λ r. IsReadyFor r y.state) (sym (c.answer.ensures.frame.region tells y.part.region (elsewhere g c n y there apart))))

@@ -22,7 +22,7 @@ returns-in_default-clause-moves c =
     let the = the_circuit w c.self.invariant k within in
     let P : WorldValue → Type 0 = λ v. Moves k (Down c.args.number) (states v) (states v) outcome.Gone c.clear.new.self in
     subst P c.self.view_is (
-    moves k (Down c.args.number) w w the.part the.leases the.leases outcome.Gone c.clear.new.self refl (whole w) refl the.served the.its the.its (λ n other. refl) (λ n other p l. refl)
+    moves k (Down c.args.number) w w the.part the.leases the.leases outcome.Gone c.clear.new.self refl (whole w) refl the.served the.its the.its (λ n other. refl) (λ n other p l there. refl)
     (down_gone k w the.part the.leases c.args.number c.clear.new.self (sym c.in_default.ensures) c.clear.ensures)
     )
 
@@ -65,7 +65,7 @@ returns-clause-moves c =
     let P : WorldValue → Type 0 = λ v. Moves k (Down c.args.number) (states v) (states v) c.match-down.result c.down.new.out in
     let O : Outcome → Type 0 = λ o. StepsAs k (Down c.args.number) (state_of w k the.part the.leases) (state_of w k the.part the.leases) o c.down.new.out in
     subst P c.self.view_is (
-    moves k (Down c.args.number) w w the.part the.leases the.leases c.match-down.result c.down.new.out refl (whole w) refl the.served the.its the.its (λ n other. refl) (λ n other p l. refl)
+    moves k (Down c.args.number) w w the.part the.leases the.leases c.match-down.result c.down.new.out refl (whole w) refl the.served the.its the.its (λ n other. refl) (λ n other p l there. refl)
     (elim c.match-down.branch [
       | in-Ok v ↦ subst O (sym v.result-is) (down_framed k w the.part the.leases c.args.number d there v.in-Ok.sent.0 v.in-Ok.sent.1 c.down.new.out (result ∙ v.in-Ok.ensures.ok))
       | in-Err v ↦ subst O (sym v.result-is) (down_dropped k w the.part the.leases c.args.number d there v.in-Err.why c.down.new.out (result ∙ v.in-Err.ensures.err) v.in-Err.ensures.empty)

@@ -42,10 +42,10 @@ returns-in-Ok-clause-moves c =
     let P : WorldValue → Type 0 = λ v. Moves k (Frame c.args.proto c.args.frame.now) (states v) (states new) (outcome.SentUp c.len-len.result) c.clear.new.self in
     subst P c.self.view_is (
     moves k (Frame c.args.proto c.args.frame.now) w new the.part the.leases the.leases (outcome.SentUp c.len-len.result) c.clear.new.self refl (whole w) refl the.served the.its the.its (λ n other. refl)
-    (λ n other p l.
+    (λ n other p l there.
     same_circuit w new n p l c.send.ensures.quota (c.send.ensures.other_circuits n dir.Up (apart k n other)) (c.send.ensures.other_circuits n dir.Down (apart k n other))
-    (ap (λ r. slice_index r.discarded n) c.in-Ok.ensures.kept))
-    (frame_sent k w new the.part the.leases c.args.proto c.args.frame.now c.up.new.out c.len-len.result c.clear.new.self (c.in-Ok.ensures.ok the.part the.there) c.send.ensures.quota
+    (ap (λ r. slice_index r.discarded n) c.in-Ok.ensures.kept) refl refl)
+    (frame_sent k w new the.part the.leases c.args.proto c.args.frame.now c.up.new.out c.len-len.result c.clear.new.self (c.in-Ok.ensures.ok the.part the.there) refl c.send.ensures.quota
     c.send.ensures.kept c.send.ensures.other_direction c.len-len.ensures.value c.clear.ensures)
     )
 
@@ -59,6 +59,6 @@ returns-in-Err-clause-moves c =
     let P : WorldValue → Type 0 = λ v. Moves k (Frame c.args.proto c.args.frame.now) (states v) (states new) (outcome.Dropped c.in-Err.why) c.up.new.out in
     subst P c.self.view_is (
     moves k (Frame c.args.proto c.args.frame.now) w new the.part the.leases the.leases (outcome.Dropped c.in-Err.why) c.up.new.out refl (whole w) refl the.served the.its the.its (λ n other. refl)
-    (λ n other p l. same_circuit w new n p l refl refl refl (ap (λ r. slice_index r.discarded n) c.in-Err.ensures.counted ∙ other_count k n w.relays.discarded other))
-    (frame_dropped k w new the.part the.leases c.args.proto c.args.frame.now c.in-Err.why c.up.new.out (c.in-Err.ensures.err the.part the.there) refl c.in-Err.ensures.empty)
+    (λ n other p l there. same_circuit w new n p l refl refl refl (ap (λ r. slice_index r.discarded n) c.in-Err.ensures.counted ∙ other_count k n w.relays.discarded other) refl refl)
+    (frame_dropped k w new the.part the.leases c.args.proto c.args.frame.now c.in-Err.why c.up.new.out (c.in-Err.ensures.err the.part the.there) refl refl c.in-Err.ensures.empty)
     )

@@ -1,11 +1,13 @@
-use Rattle.std.proofs.Common.{refl, subst, ◌∙◌}
+use Rattle.std.proofs.Common.{List, refl, ap, subst, ◌∙◌}
+use Rattle.config.specs.CircuitPart.{CircuitPart}
 use Rattle.dispatch.specs.ServerValue.{parts_in}
 use Rattle.lease_disk.specs.Model as disk
+use Rattle.world.specs.Headline.{KeepsSpares}
 use Rattle.world.specs.Seen.{Restart, image_at}
 use Rattle.world.specs.StepsAs.{AllMove}
 use Rattle.world.specs.World.{WorldValue, states}
 use Rattle.world.specs.declared.outcome.Outcome.TheVariants as outcome
-use Rattle.world.proofs.WorldLemmas.{all_restart, are_synced, still_world}
+use Rattle.world.proofs.WorldLemmas.{all_restart, are_synced, spares_then, still_world}
 use Rattle.world.proofs.world.World.restart.Goals as goal
 
 pub returns-clause-moves : goal.returns-clause-moves
@@ -27,4 +29,15 @@ invariant_of-self c =
     let w : WorldValue = record { relays = c.self.inside.relays; behind = c.self.inside.behind.items; net = c.self.inside.net; server = c.self.inside.server; disk = c.self.inside.disk } in
     let new : WorldValue = record w { server = c.restart.new.self; disk = c.restart.new.disk } in
     let is = c.self.invariant in
-    still_world w new is refl refl c.restart.ensures.parts c.restart.ensures.relays refl (c.restart.ensures.count ∙ c.crash_all.ensures.count) (c.restart.ensures.ready refl) is.addressed is.returned
+    still_world w new is refl refl c.restart.ensures.parts c.restart.ensures.relays refl (c.restart.ensures.frame.count ∙ c.crash_all.ensures.count) (c.restart.ensures.ready refl) is.addressed is.returned
+
+pub returns-clause-spares : goal.returns-clause-spares
+returns-clause-spares c =
+    let w : WorldValue = record { relays = c.self.inside.relays; behind = c.self.inside.behind.items; net = c.self.inside.net; server = c.self.inside.server; disk = c.self.inside.disk } in
+    let middle = disk.device_of c.crash_all.new.disk in
+    let new = disk.device_of c.restart.new.disk in
+    let P : WorldValue → Type 0 = λ v. KeepsSpares v.relays.topology.circuits (disk.device_of v.disk) new in
+    subst P c.self.view_is
+    (subst (λ (parts : List CircuitPart). KeepsSpares parts (disk.device_of w.disk) new) c.self.invariant.parts
+    (spares_then (parts_in w.server) (disk.device_of w.disk) middle new c.crash_all.ensures.spares
+    (record { region = λ r spare. ap (λ regions. regions r) (c.restart.ensures.frame.region refl); fuse = λ r spare. ap (λ fuses. fuses r) (c.restart.ensures.frame.fuse refl) })))

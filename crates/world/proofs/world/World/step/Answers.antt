@@ -3,6 +3,8 @@ use Rattle.world.specs.Seen.{Frame, Up, Down, Tick, Restart, image_at, seen_of, 
 use Rattle.world.specs.Stray.{is_stray}
 use Rattle.world.specs.World.{states}
 use Rattle.world.proofs.CircuitSteps.{named_steps, missing, gone_steps, all_steps, stray_steps}
+use Rattle.lease_disk.specs.Model as disk
+use Rattle.world.proofs.WorldLemmas.{spares_stay}
 use Rattle.world.proofs.world.World.step.Goals as goal
 
 pub returns-then-not-exists-clause-steps : goal.returns-then-not-exists-clause-steps
@@ -62,3 +64,27 @@ pub returns-in-StrayDown-clause-steps : goal.returns-in-StrayDown-clause-steps
 returns-in-StrayDown-clause-steps c =
     stray_steps c.args.event.now (states c.args.self.now) (states c.args.self.now) c.stray_down.result c.stray_down.new.out (ap is_stray c.in-StrayDown.is)
     c.stray_down.ensures.frame c.stray_down.ensures.empty refl
+
+pub returns-then-not-exists-clause-spares : goal.returns-then-not-exists-clause-spares
+returns-then-not-exists-clause-spares c = spares_stay c.args.self.now.relays.topology.circuits (disk.device_of c.args.self.now.disk) (disk.device_of c.args.self.now.disk) refl
+
+pub returns-then-not-exists-2-clause-spares : goal.returns-then-not-exists-2-clause-spares
+returns-then-not-exists-2-clause-spares c = spares_stay c.args.self.now.relays.topology.circuits (disk.device_of c.args.self.now.disk) (disk.device_of c.args.self.now.disk) refl
+
+pub returns-then-not-exists-3-clause-spares : goal.returns-then-not-exists-3-clause-spares
+returns-then-not-exists-3-clause-spares c = spares_stay c.args.self.now.relays.topology.circuits (disk.device_of c.args.self.now.disk) (disk.device_of c.args.self.now.disk) refl
+
+pub returns-else-not-exists-clause-spares : goal.returns-else-not-exists-clause-spares
+returns-else-not-exists-clause-spares c = spares_stay c.args.self.now.relays.topology.circuits (disk.device_of c.args.self.now.disk) (disk.device_of c.frame.new.self.disk) (ap (λ d. disk.device_of d) c.frame.ensures.disk)
+
+pub returns-else-not-exists-3-clause-spares : goal.returns-else-not-exists-3-clause-spares
+returns-else-not-exists-3-clause-spares c = spares_stay c.args.self.now.relays.topology.circuits (disk.device_of c.args.self.now.disk) (disk.device_of c.down.new.self.disk) (ap (λ d. disk.device_of d) c.down.ensures.disk)
+
+pub returns-in-Tick-clause-spares : goal.returns-in-Tick-clause-spares
+returns-in-Tick-clause-spares c = spares_stay c.args.self.now.relays.topology.circuits (disk.device_of c.args.self.now.disk) (disk.device_of c.tick.new.self.disk) (ap (λ d. disk.device_of d) c.tick.ensures.disk)
+
+pub returns-in-StrayDown-clause-spares : goal.returns-in-StrayDown-clause-spares
+returns-in-StrayDown-clause-spares c = spares_stay c.args.self.now.relays.topology.circuits (disk.device_of c.args.self.now.disk) (disk.device_of c.args.self.now.disk) refl
+
+pub returns-in-StrayUp-clause-spares : goal.returns-in-StrayUp-clause-spares
+returns-in-StrayUp-clause-spares c = spares_stay c.args.self.now.relays.topology.circuits (disk.device_of c.args.self.now.disk) (disk.device_of c.stray_up.new.self.disk) c.stray_up.ensures.device

@@ -1,14 +1,15 @@
-use Rattle.std.proofs.Common.{◌≡◌, false, refl, sym, ap, subst, ◌∙◌}
+use Rattle.std.proofs.Common.{◌≡◌, true, false, refl, sym, ap, subst, ◌∙◌}
 use Rattle.std.specs.List.{list_any}
 use Rattle.types.specs.Addr.{same_source}
 use Rattle.types.specs.declared.discard.Discard.TheVariants.{UnknownSource}
 use Rattle.dispatch.specs.ServerValue.{books_in, leases_in, parts_in}
 use Rattle.lease_disk.specs.Model as disk
-use Rattle.world.specs.World.{WorldValue, each_state, state_of, states}
+use Rattle.world.specs.World.{WorldValue, each_state, states}
 use Rattle.world.specs.Stray.{stray_up_outcome}
 use Rattle.world.specs.declared.outcome.Outcome.TheVariants as outcome
-use Rattle.world.proofs.StrayLemmas.{stray_received, stray_leases, refusal_is, no_ok, same_reason}
-use Rattle.world.proofs.WorldLemmas.{still_world}
+use Rattle.lease_disk.proofs.Frames.{writes_count}
+use Rattle.world.proofs.StrayLemmas.{states_over, stray_received, stray_leases, stray_saves, refusal_is, no_ok, same_reason}
+use Rattle.world.proofs.WorldLemmas.{same_device, still_world}
 use Rattle.world.proofs.world.World.stray_up.Goals as goal
 
 pub unreachable-requires : goal.unreachable-requires
@@ -37,11 +38,20 @@ returns-clause-states c =
     let apart : list_any (same_source c.args.source) w.server.relays ≡ false = ap (list_any (same_source c.args.source)) c.self.invariant.sources ∙ sym c.is_relay.ensures ∙ c.if-is_relay.false in
     let leases = c.receive.ensures.leases refl ∙ stray_leases w.server.relays (parts_in w.server) c.args.now c.args.source c.args.datagram.now (disk.fuse_of w.disk) (leases_in (disk.state_of w.disk) w.server) apart in
     let P : WorldValue → Type 0 = λ v. states new ≡ states v in
-    subst P c.self.view_is (λ i. each_state (state_of w) (c.receive.ensures.parts i) (leases i))
+    let device = same_device _ (disk.device_of w.disk) (disk.device_of c.receive.new.disk) (stray_saves w.server.relays (parts_in w.server) c.args.now c.args.source c.args.datagram.now (books_in w.server) apart) c.receive.ensures.frame in
+    subst P c.self.view_is (λ i. each_state (states_over w.net w.relays (device i)) (c.receive.ensures.parts i) (leases i))
 
 pub invariant_of-self : goal.invariant_of-self
 invariant_of-self c =
     let w : WorldValue = record { relays = c.self.inside.relays; behind = c.self.inside.behind.items; net = c.self.inside.net; server = c.self.inside.server; disk = c.self.inside.disk } in
     let new : WorldValue = record w { server = c.receive.new.self; disk = c.receive.new.disk } in
     let is = c.self.invariant in
-    still_world w new is refl refl c.receive.ensures.parts c.receive.ensures.relays refl c.receive.ensures.count (c.receive.ensures.ready refl) is.addressed is.returned
+    still_world w new is refl refl c.receive.ensures.parts c.receive.ensures.relays refl (writes_count true _ (disk.device_of w.disk) (disk.device_of c.receive.new.disk) c.receive.ensures.frame) (c.receive.ensures.ready refl) is.addressed is.returned
+
+pub returns-clause-device : goal.returns-clause-device
+returns-clause-device c =
+    let w : WorldValue = record { relays = c.self.inside.relays; behind = c.self.inside.behind.items; net = c.self.inside.net; server = c.self.inside.server; disk = c.self.inside.disk } in
+    let apart : list_any (same_source c.args.source) w.server.relays ≡ false = ap (list_any (same_source c.args.source)) c.self.invariant.sources ∙ sym c.is_relay.ensures ∙ c.if-is_relay.false in
+    let P : WorldValue → Type 0 = λ v. disk.device_of c.receive.new.disk ≡ disk.device_of v.disk in
+    subst P c.self.view_is
+    (same_device _ (disk.device_of w.disk) (disk.device_of c.receive.new.disk) (stray_saves w.server.relays (parts_in w.server) c.args.now c.args.source c.args.datagram.now (books_in w.server) apart) c.receive.ensures.frame)

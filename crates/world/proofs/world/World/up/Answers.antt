@@ -1,4 +1,4 @@
-use Rattle.std.proofs.Common.{◌<◌, length, refl, sym, ap, subst, ◌∙◌, arith}
+use Rattle.std.proofs.Common.{ℕ, ◌<◌, true, length, refl, sym, ap, subst, ◌∙◌, arith}
 use Rattle.std.specs.Prelude.{Result, slice_get}
 use Rattle.types.specs.declared.discard.Discard.{Discard}
 use Rattle.dispatch.specs.Received.{IsAnswer}
@@ -6,16 +6,19 @@ use Rattle.config.specs.CircuitPart.{CircuitPart}
 use Rattle.dispatch.specs.Leases.{after_datagram}
 use Rattle.dispatch.specs.ServerValue.{AreReady, leases_in, parts_in}
 use Rattle.lease_disk.specs.Model as disk
+use Rattle.lease_disk.specs.Region.{Region}
 use Rattle.lossy_net.specs.Net.{Datagram}
 use Rattle.lossy_net.specs.declared.dir.Dir.TheVariants as dir
 use Rattle.relay.specs.Relays.{relayed_down_in}
+use Rattle.world.specs.Headline.{KeepsSpares}
 use Rattle.world.specs.Seen.{Up}
 use Rattle.world.specs.StepsAs.{IsFor, Returns, Moves}
 use Rattle.world.specs.World.{WorldValue, states}
 use Rattle.world.specs.declared.outcome.Outcome.TheVariants as outcome
+use Rattle.lease_disk.proofs.Frames.{writes_count}
 use Rattle.world.proofs.ShownLemmas.{its_answer, its_fails, reply_of}
 use Rattle.world.proofs.StateLemmas.{moves}
-use Rattle.world.proofs.WorldLemmas.{TheCircuit, IsServed, all_at, the_circuit, is_served, is_reply, of_proto, whole, each_sent, each_kept, has_regions, other_way, state_stays, still_world, same_circuit, apart, up_gone, up_sent, up_dropped}
+use Rattle.world.proofs.WorldLemmas.{TheCircuit, IsServed, all_at, beside_up, elsewhere, quiet_up, the_circuit, is_served, is_reply, of_proto, whole, each_sent, each_kept, has_regions, other_way, state_stays, still_world, same_circuit, apart, spares_beside, spares_stay, up_gone, up_sent, up_dropped}
 use Rattle.world.proofs.world.World.up.Goals as goal
 
 pub receive-result-requires-clause-ready : goal.receive-result-requires-clause-ready
@@ -28,7 +31,7 @@ pub fail_at-requires-2 : goal.fail_at-requires-2
 fail_at-requires-2 c =
     let w : WorldValue = record { relays = c.self.inside.relays; behind = c.self.inside.behind.items; net = c.self.inside.net; server = c.self.inside.server; disk = c.self.inside.disk } in
     let own = all_at (λ (part : CircuitPart). part.region < length w.disk.regions) (parts_in w.server) c.args.circuit c.part-part.result.now (has_regions w c.self.invariant) c.part-part.ensures in
-    omega (arith, own, c.region-region.ensures, c.fail_at.ensures.others.count, c.receive-result.ensures.count)
+    omega (arith, own, c.region-region.ensures, c.fail_at.ensures.others.count, (writes_count true _ (disk.device_of c.fail_at.new.self) (disk.device_of c.receive-result.new.disk) c.receive-result.ensures.frame))
 
 pub returns-in_default-clause-moves : goal.returns-in_default-clause-moves
 returns-in_default-clause-moves c =
@@ -38,7 +41,7 @@ returns-in_default-clause-moves c =
     let the = the_circuit w c.self.invariant k within in
     let P : WorldValue → Type 0 = λ v. Moves k (Up c.args.number c.args.now c.args.fault) (states v) (states v) outcome.Gone c.clear.new.self in
     subst P c.self.view_is (
-    moves k (Up c.args.number c.args.now c.args.fault) w w the.part the.leases the.leases outcome.Gone c.clear.new.self refl (whole w) refl the.served the.its the.its (λ n other. refl) (λ n other p l. refl)
+    moves k (Up c.args.number c.args.now c.args.fault) w w the.part the.leases the.leases outcome.Gone c.clear.new.self refl (whole w) refl the.served the.its the.its (λ n other. refl) (λ n other p l there. refl)
     (up_gone k w the.part the.leases c.args.number c.args.now c.args.fault c.clear.new.self (sym c.in_default.ensures) c.clear.ensures)
     )
 
@@ -57,7 +60,7 @@ invariant_of-self c =
     let after = state_stays region c.receive-result.new.disk c.fail_at-2.new.self c.fail_at-2.ensures.state c.fail_at-2.ensures.others in
     let sent : Datagram = record { proto = d.proto; bytes = c.receive-result.new.out } in
     let fuse = ap (disk.fuse_of c.fail_at.new.self) (sym c.region-region.ensures) ∙ c.fail_at.ensures.fuse in
-    let count = c.fail_at-2.ensures.others.count ∙ c.receive-result.ensures.count ∙ c.fail_at.ensures.others.count in
+    let count = c.fail_at-2.ensures.others.count ∙ (writes_count true _ (disk.device_of c.fail_at.new.self) (disk.device_of c.receive-result.new.disk) c.receive-result.ensures.frame) ∙ c.fail_at.ensures.others.count in
     let done : (known : TheCircuit w k) → IsServed w k known.part known.leases c.args.now c.args.fault d c.receive-result.result sent.bytes (leases_in (disk.state_of new.disk) new.server) =
     λ known. is_served w is k known c.args.number d c.args.now c.args.fault c.relay-source.result c.part-part.result.now (sym c.in-Some.ensures) c.part-part.ensures c.relay-source.ensures
     (disk.state_of c.fail_at.new.self) (disk.fuse_of c.fail_at.new.self) before fuse c.receive-result.result sent.bytes _ (leases_in (disk.state_of new.disk) new.server)
@@ -91,12 +94,18 @@ returns-in-Ok-clause-moves c =
     let r = is_served w c.self.invariant k the c.args.number d c.args.now c.args.fault c.relay-source.result c.part-part.result.now (sym c.in-Some.ensures) c.part-part.ensures c.relay-source.ensures
     (disk.state_of c.fail_at.new.self) (disk.fuse_of c.fail_at.new.self) before fuse c.receive-result.result c.receive-result.new.out _ (leases_in (disk.state_of new.disk) new.server)
     (c.receive-result.ensures.fails refl) c.receive-result.ensures.answer (ap (λ regions. leases_in regions new.server) after ∙ c.receive-result.ensures.leases refl) in
+    let beside = beside_up w c.self.invariant k the c.args.number d c.args.now c.relay-source.result c.part-part.result.now region (sym c.in-Some.ensures) c.part-part.ensures c.relay-source.ensures c.region-region.ensures
+    c.fail_at.new.self c.receive-result.new.disk c.fail_at-2.new.self c.fail_at.ensures.others c.receive-result.ensures.frame c.fail_at-2.ensures.others in
+    let quiet = quiet_up w c.self.invariant k the c.args.number d c.args.now c.relay-source.result c.part-part.result.now (sym c.in-Some.ensures) c.part-part.ensures c.relay-source.ensures
+    c.fail_at.new.self c.receive-result.new.disk c.receive-result.ensures.frame in
     let P : WorldValue → Type 0 = λ v. Moves k (Up c.args.number c.args.now c.args.fault) (states v) (states new) (outcome.SentDown c.len-len.result) c.clear-in-Ok.new.self in
     subst P c.self.view_is (
     moves k (Up c.args.number c.args.now c.args.fault) w new the.part the.leases (after_datagram the.part c.args.now d.bytes c.args.fault the.leases) (outcome.SentDown c.len-len.result) c.clear-in-Ok.new.self
     c.receive-result.ensures.parts (whole w) r.size the.served the.its r.leases r.others
-    (λ n other p l. same_circuit w new n p l c.send.ensures.quota (c.send.ensures.other_circuits n dir.Up (apart k n other)) (c.send.ensures.other_circuits n dir.Down (apart k n other)) refl)
+    (λ n other p l there. same_circuit w new n p l c.send.ensures.quota (c.send.ensures.other_circuits n dir.Up (apart k n other)) (c.send.ensures.other_circuits n dir.Down (apart k n other)) refl
+    (beside.region p.region (elsewhere w c.self.invariant k n c.part-part.result.now p c.part-part.ensures there other region c.region-region.ensures)) (beside.fuse p.region (elsewhere w c.self.invariant k n c.part-part.result.now p c.part-part.ensures there other region c.region-region.ensures)))
     (up_sent k w new the.part the.leases c.args.number c.args.now c.args.fault d c.receive-result.result c.receive-result.new.out (sym c.in-Some.ensures) r.answer c.send.ensures.quota c.send.ensures.other_direction
+    (λ nothing. ap (λ (regions : ℕ → Region). regions the.part.region) (after ∙ quiet nothing ∙ before))
     c.len-len.result c.clear-in-Ok.new.self c.in-Ok.is c.send.ensures.kept c.len-len.ensures.value c.clear-in-Ok.ensures)
     )
 
@@ -106,7 +115,7 @@ invariant_of-self-in-Err c =
     let new : WorldValue = record w { server = c.receive-result.new.self; disk = c.fail_at-2.new.self } in
     let is = c.self.invariant in
     let after = state_stays c.region-region.result c.receive-result.new.disk c.fail_at-2.new.self c.fail_at-2.ensures.state c.fail_at-2.ensures.others in
-    let count = c.fail_at-2.ensures.others.count ∙ c.receive-result.ensures.count ∙ c.fail_at.ensures.others.count in
+    let count = c.fail_at-2.ensures.others.count ∙ (writes_count true _ (disk.device_of c.fail_at.new.self) (disk.device_of c.receive-result.new.disk) c.receive-result.ensures.frame) ∙ c.fail_at.ensures.others.count in
     still_world w new is refl refl c.receive-result.ensures.parts c.receive-result.ensures.relays refl count
     (subst (λ regions. AreReady regions new.server) (sym after) (c.receive-result.ensures.ready refl)) is.addressed is.returned
 
@@ -125,9 +134,55 @@ returns-in-Err-clause-moves c =
     let r = is_served w c.self.invariant k the c.args.number d c.args.now c.args.fault c.relay-source.result c.part-part.result.now (sym c.in-Some.ensures) c.part-part.ensures c.relay-source.ensures
     (disk.state_of c.fail_at.new.self) (disk.fuse_of c.fail_at.new.self) before fuse c.receive-result.result c.receive-result.new.out _ (leases_in (disk.state_of new.disk) new.server)
     (c.receive-result.ensures.fails refl) c.receive-result.ensures.answer (ap (λ regions. leases_in regions new.server) after ∙ c.receive-result.ensures.leases refl) in
+    let beside = beside_up w c.self.invariant k the c.args.number d c.args.now c.relay-source.result c.part-part.result.now region (sym c.in-Some.ensures) c.part-part.ensures c.relay-source.ensures c.region-region.ensures
+    c.fail_at.new.self c.receive-result.new.disk c.fail_at-2.new.self c.fail_at.ensures.others c.receive-result.ensures.frame c.fail_at-2.ensures.others in
+    let quiet = quiet_up w c.self.invariant k the c.args.number d c.args.now c.relay-source.result c.part-part.result.now (sym c.in-Some.ensures) c.part-part.ensures c.relay-source.ensures
+    c.fail_at.new.self c.receive-result.new.disk c.receive-result.ensures.frame in
     let P : WorldValue → Type 0 = λ v. Moves k (Up c.args.number c.args.now c.args.fault) (states v) (states new) (outcome.Dropped c.in-Err.why) c.receive-result.new.out in
     subst P c.self.view_is (
     moves k (Up c.args.number c.args.now c.args.fault) w new the.part the.leases (after_datagram the.part c.args.now d.bytes c.args.fault the.leases) (outcome.Dropped c.in-Err.why) c.receive-result.new.out
-    c.receive-result.ensures.parts (whole w) r.size the.served the.its r.leases r.others (λ n other p l. refl)
-    (up_dropped k w new the.part the.leases c.args.number c.args.now c.args.fault d c.receive-result.result c.receive-result.new.out (sym c.in-Some.ensures) r.answer refl refl c.in-Err.why c.in-Err.is refl)
+    c.receive-result.ensures.parts (whole w) r.size the.served the.its r.leases r.others
+    (λ n other p l there. same_circuit w new n p l refl refl refl refl (beside.region p.region (elsewhere w c.self.invariant k n c.part-part.result.now p c.part-part.ensures there other region c.region-region.ensures))
+    (beside.fuse p.region (elsewhere w c.self.invariant k n c.part-part.result.now p c.part-part.ensures there other region c.region-region.ensures)))
+    (up_dropped k w new the.part the.leases c.args.number c.args.now c.args.fault d c.receive-result.result c.receive-result.new.out (sym c.in-Some.ensures) r.answer refl refl
+    (λ nothing. ap (λ (regions : ℕ → Region). regions the.part.region) (after ∙ quiet nothing ∙ before))
+    c.in-Err.why c.in-Err.is refl)
     )
+
+pub returns-in_default-clause-spares : goal.returns-in_default-clause-spares
+returns-in_default-clause-spares c =
+    let w = c.args.self.now in spares_stay w.relays.topology.circuits (disk.device_of w.disk) (disk.device_of w.disk) refl
+
+pub returns-in-Ok-clause-spares : goal.returns-in-Ok-clause-spares
+returns-in-Ok-clause-spares c =
+    let w : WorldValue = record { relays = c.self.inside.relays; behind = c.self.inside.behind.items; net = c.self.inside.net; server = c.self.inside.server; disk = c.self.inside.disk } in
+    let k = c.args.circuit in
+    let within = subst (λ (v : WorldValue). k < length v.net.circuits) (sym c.self.view_is) c.requires in
+    let is = c.self.invariant in
+    let the = the_circuit w is k within in
+    let d : Datagram = record { proto = c.in-Some.proto; bytes = c.in-Some.datagram.now } in
+    let region = c.region-region.result in
+    let given = c.part-part.result.now in
+    let beside = beside_up w is k the c.args.number d c.args.now c.relay-source.result given region (sym c.in-Some.ensures) c.part-part.ensures c.relay-source.ensures c.region-region.ensures
+    c.fail_at.new.self c.receive-result.new.disk c.fail_at-2.new.self c.fail_at.ensures.others c.receive-result.ensures.frame c.fail_at-2.ensures.others in
+    let P : WorldValue → Type 0 = λ v. KeepsSpares v.relays.topology.circuits (disk.device_of v.disk) (disk.device_of c.fail_at-2.new.self) in
+    subst P c.self.view_is
+    (spares_beside w.relays.topology.circuits region (disk.device_of w.disk) (disk.device_of c.fail_at-2.new.self) k given
+    (ap (λ xs. slice_get xs k) (sym is.parts) ∙ c.part-part.ensures) (sym c.region-region.ensures) beside)
+
+pub returns-in-Err-clause-spares : goal.returns-in-Err-clause-spares
+returns-in-Err-clause-spares c =
+    let w : WorldValue = record { relays = c.self.inside.relays; behind = c.self.inside.behind.items; net = c.self.inside.net; server = c.self.inside.server; disk = c.self.inside.disk } in
+    let k = c.args.circuit in
+    let within = subst (λ (v : WorldValue). k < length v.net.circuits) (sym c.self.view_is) c.requires in
+    let is = c.self.invariant in
+    let the = the_circuit w is k within in
+    let d : Datagram = record { proto = c.in-Some.proto; bytes = c.in-Some.datagram.now } in
+    let region = c.region-region.result in
+    let given = c.part-part.result.now in
+    let beside = beside_up w is k the c.args.number d c.args.now c.relay-source.result given region (sym c.in-Some.ensures) c.part-part.ensures c.relay-source.ensures c.region-region.ensures
+    c.fail_at.new.self c.receive-result.new.disk c.fail_at-2.new.self c.fail_at.ensures.others c.receive-result.ensures.frame c.fail_at-2.ensures.others in
+    let P : WorldValue → Type 0 = λ v. KeepsSpares v.relays.topology.circuits (disk.device_of v.disk) (disk.device_of c.fail_at-2.new.self) in
+    subst P c.self.view_is
+    (spares_beside w.relays.topology.circuits region (disk.device_of w.disk) (disk.device_of c.fail_at-2.new.self) k given
+    (ap (λ xs. slice_get xs k) (sym is.parts) ∙ c.part-part.ensures) (sym c.region-region.ensures) beside)

@@ -1,0 +1,47 @@
+-- A device of regions as contracts see it, and what a call leaves as it was. What is said of regions
+-- and fuses is said of a device that tells; of one that does not, the counts alone are.
+use Rattle.std.specs.Prelude.{◌≡◌, ◌≢◌, ℕ, ◌+◌, ◌-◌, ◌==◌, Bool, true, List, length, Option, Some, None, Result, is_ok, OnOk, OnErr}
+use Rattle.lease_disk.specs.Region.{Region, written, synced, IsTorn, effective, faults_after}
+
+pub record Device : Type 0 where
+  -- how many regions there are; the first is 0
+  pub count : ℕ
+  pub region : ℕ → Region
+  -- which of the writes and syncs of a region from now on fails: 1 the next one, 0 none
+  pub fuse : ℕ → ℕ
+  -- how many reads there were
+  pub reads : ℕ
+  -- how many writes and syncs there were
+  pub writes : ℕ
+  -- how many of these calls returned a fault
+  pub failures : ℕ
+
+-- nothing but the counts of reads and of failures
+pub record TouchesNothing (tells : Bool) (old new : Device) : Type 0 where
+  pub count : new.count ≡ old.count
+  pub writes : new.writes ≡ old.writes
+  pub region : tells ≡ true → new.region ≡ old.region
+  pub fuse : tells ≡ true → new.fuse ≡ old.fuse
+
+-- nothing but one region, and the counts of writes and of failures
+pub record Touches (tells : Bool) (r : ℕ) (old new : Device) : Type 0 where
+  pub count : new.count ≡ old.count
+  pub reads : new.reads ≡ old.reads
+  pub region : tells ≡ true → (q : ℕ) → q ≢ r → new.region q ≡ old.region q
+  pub fuse : tells ≡ true → (q : ℕ) → q ≢ r → new.fuse q ≡ old.fuse q
+
+-- writes one region, or nothing at all
+abbrev pub WritesAt : Bool → Option ℕ → Device → Device → Type 0
+WritesAt tells None old new = new ≡ old
+WritesAt tells (Some r) old new = Touches tells r old new
+
+-- Bytes of region r were written from an offset on and synced, by two calls; after a fault the range
+-- is in doubt.
+pub record IsWritten {T E : Type 0} (tells : Bool) (r at : ℕ) (bytes : List ℕ) (result : Result T E) (old new : Device) : Type 0 where
+  pub ok : tells ≡ true → OnOk result (new.region r ≡ synced (written at bytes (old.region r)))
+  pub err : tells ≡ true → OnErr result (IsTorn at (length bytes) (old.region r) (new.region r))
+  pub answer : tells ≡ true → is_ok result ≡ (effective 2 (old.fuse r) == 0)
+  pub fuse : tells ≡ true → OnOk result (new.fuse r ≡ old.fuse r - 2)
+  pub frame : Touches tells r old new
+  pub writes : OnOk result (new.writes ≡ old.writes + 2)
+  pub failures : new.failures ≡ faults_after result old.failures
