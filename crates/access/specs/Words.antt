@@ -4,7 +4,7 @@ use Rattle.clap.specs.Words.{App, Row, Rule, Text, new_app, new_rule, with_rule,
 use Rattle.clap.specs.Simple.{on_top}
 use Rattle.clap.specs.declared.builder.ArgAction.TheVariants.{Set, SetTrue}
 use Rattle.clap.specs.declared.builder.value_parser.ValueParser.TheVariants as parser
-use Rattle.programs.specs.CommandLine.{IsNumber, config_rule}
+use Rattle.command_line.specs.CommandLine.{IsNumber, config_rule}
 
 -- `--disk FILE`, which is required
 abbrev pub disk_rule : Rule

@@ -3,14 +3,14 @@
 #![tactic(auto)]
 
 mod access;
-mod command_line;
+mod arguments;
 mod counts;
 mod datagram_socket;
 mod sockets;
 mod store;
 
 pub use access::{Access, AccessFault};
-pub use command_line::{AccessWords, words};
+pub use arguments::{AccessWords, words};
 pub use counts::Counts;
 pub use sockets::MAX_SERVED;
 pub use store::{StoreFault, format_store, open_store};

@@ -8,7 +8,7 @@ use access::{Access, AccessFault, AccessWords, StoreFault, format_store, open_st
 use config::Config;
 use dispatch::region_count;
 use lease_disk::FileDisk;
-use programs::{REFUSED, UNOPENED, UNREADABLE, complain, read_configuration};
+use command_line::{REFUSED, UNOPENED, UNREADABLE, complain, read_configuration};
 use std::env;
 use std::process::ExitCode;
 use std::rt::Clock;

@@ -4,8 +4,8 @@
 ghost use Rattle.std.specs.Prelude.{◌≤◌};
 ghost use Rattle.accesslab.specs.Status.{IsExitStatus};
 
-use daemon::accesslab::{self, LabWords, StdReader, StdWriter};
-use programs::{FAILED, REFUSED, UNOPENED, complain, read_configuration};
+use lab::{LabWords, StdReader, StdWriter};
+use command_line::{FAILED, REFUSED, UNOPENED, complain, read_configuration};
 use std::env;
 use std::io::{self, BufWriter, Write};
 use std::process::ExitCode;
@@ -26,7 +26,7 @@ fn run(rt: &HostRuntime, values: LabWords<'_>) -> u8
     };
     let mut reader = StdReader::new(rt.reader());
     let mut writer = StdWriter::new(writer);
-    let status = accesslab::run(alloc, &config, values.quota, &mut reader, &mut writer);
+    let status = lab::run(alloc, &config, values.quota, &mut reader, &mut writer);
     if status == UNOPENED {
         return complain(rt, "open memory", UNOPENED);
     }
@@ -47,7 +47,7 @@ fn status(rt: &HostRuntime) -> u8
     let Ok(given) = given else {
         return complain(rt, "error: out of memory", REFUSED);
     };
-    match accesslab::words(alloc, &given) {
+    match lab::words(alloc, &given) {
         Ok(values) => run(rt, values),
         Err(refusal) => refusal.show(rt),
     }

@@ -2,9 +2,9 @@
 ghost use Rattle.std.specs.Prelude.{◌<◌};
 
 use config::Config;
-use daemon::accesslab::*;
+use lab::*;
 use fixtures::ONE_CIRCUIT;
-use programs::FAILED;
+use command_line::FAILED;
 use std::alloc::Global;
 use std::io::{self, ErrorKind, Read, Write};
 

@@ -1,0 +1,167 @@
+//! The command line.
+ghost use Rattle.std.specs.Prelude.{◌≡◌, ◌↔◌, ℕ, Bool, List, Some, false, true, codes, map};
+ghost use Rattle.std.specs.Prelude.{string_bytes, IfOk, IfErr, IfSome, IsNone};
+ghost use Rattle.clap.specs.Words.{app_of, rule_of, found_of, first_value, rows_of};
+ghost use Rattle.command_line.specs.CommandLine.{IsNumber, IsRefused};
+ghost use Rattle.access.specs.Words.{disk_rule, turns_rule, format_rule, port_rule};
+ghost use Rattle.access.specs.Words.{bare_app, access_app, HasValues, Spells, SpellsSomething};
+
+use clap::{Arg, ArgAction, ArgMatches, Command};
+use command_line::{Refusal, config_arg};
+use std::alloc::{AllocError, Global};
+
+const MAX_TURNS: u32 = 1_000_000;
+
+const MIN_PORT: u32 = 1024;
+
+const MAX_PORT: u32 = 65472;
+
+/// The values of the words after the program's name.
+#[derive(Clone, Copy, Debug, PartialEq, Eq)]
+pub struct AccessWords<'a> {
+    /// The path of the configuration.
+    pub config: &'a str,
+    /// The path of the file in which the leases are kept.
+    pub disk: &'a str,
+    /// How many turns the program makes, 1 to 1000000.
+    pub turns: u32,
+    /// Whether every configured region is formatted first.
+    pub format: bool,
+    /// The first port of the first circuit, 1024 to 65472.
+    pub port: u16,
+}
+
+fn disk_arg<'a>(alloc: Global) -> Arg<'a>
+    ensures rule { rule_of result ≡ disk_rule }
+    ensures local { result.global ≡ false }
+{
+    Arg::new(alloc, "disk")
+        .long("disk")
+        .value_name("FILE")
+        .action(ArgAction::Set)
+        .required(true)
+        .help("The file in which the leases are kept")
+}
+
+fn turns_arg<'a>(alloc: Global) -> Arg<'a>
+    ensures rule { rule_of result ≡ turns_rule }
+    ensures local { result.global ≡ false }
+{
+    Arg::new(alloc, "turns")
+        .long("turns")
+        .value_name("N")
+        .action(ArgAction::Set)
+        .required(true)
+        .value_parser(clap::value_parser!(u32).range(1..=i64::from(MAX_TURNS)))
+        .help("How many turns to make, 1 to 1000000; a turn tries each socket once")
+}
+
+fn format_arg<'a>(alloc: Global) -> Arg<'a>
+    ensures rule { rule_of result ≡ format_rule }
+    ensures local { result.global ≡ false }
+{
+    Arg::new(alloc, "format")
+        .long("format")
+        .action(ArgAction::SetTrue)
+        .help("Make the file and format every configured region first; leases in it are lost")
+}
+
+fn port_arg<'a>(alloc: Global) -> Arg<'a>
+    ensures rule { rule_of result ≡ port_rule }
+    ensures local { result.global ≡ false }
+{
+    Arg::new(alloc, "port")
+        .long("port")
+        .value_name("P")
+        .action(ArgAction::Set)
+        .value_parser(clap::value_parser!(u16).range(i64::from(MIN_PORT)..=i64::from(MAX_PORT)))
+        .default_value("20000")
+        .help("The first port of the first circuit, 1024 to 65472")
+}
+
+fn named<'a>(alloc: Global) -> Command<'a>
+    ensures { app_of result ≡ bare_app }
+{
+    Command::new(alloc, "accessd")
+        .no_binary_name(true)
+        .version("0.1.0")
+        .about("Relays and serves DHCP for circuits, each of which is four UDP ports on 127.0.0.1")
+        .after_help(
+            "Example:\n  accessd examples/one_circuit.toml --disk leases --format --turns 100000",
+        )
+}
+
+fn command<'a>(alloc: Global) -> Result<Command<'a>, AllocError>
+    ensures { IfOk result (λ command. app_of command ≡ access_app) }
+{
+    let config = config_arg(alloc);
+    let disk = disk_arg(alloc);
+    let turns = turns_arg(alloc);
+    let format = format_arg(alloc);
+    let port = port_arg(alloc);
+    let with_config = named(alloc).arg(config)?;
+    let with_disk = with_config.arg(disk)?;
+    let with_turns = with_disk.arg(turns)?;
+    let with_format = with_turns.arg(format)?;
+    with_format.arg(port)
+}
+
+/// The value of an argument, where it is a number within the limits.
+fn number<'a>(matches: &ArgMatches<'a>, id: &str, least: u32, most: u32) -> Option<u32>
+    ensures some { IfSome result (λ n. IsNumber (first_value (found_of matches.now) id.now) least most n) }
+    ensures none { IsNone result → (n : ℕ) → ¬ IsNumber (first_value (found_of matches.now) id.now) least most n }
+{
+    let number = matches.get_str(id)?.parse::<u32>().ok()?;
+    if number < least || most < number {
+        return None;
+    }
+    Some(number)
+}
+
+/// Whether a flag is there.
+fn is_set<'a>(matches: &ArgMatches<'a>, id: &str) -> bool
+    ensures { (result ≡ true) ↔ (first_value (found_of matches.now) id.now ≡ Some (codes "true")) }
+{
+    match matches.get_str(id) {
+        Some(text) => text == "true",
+        None => false,
+    }
+}
+
+/// The values that clap has read, where all are there and within their limits.
+fn values<'a>(matches: ArgMatches<'a>) -> Option<AccessWords<'a>>
+    ensures some { IfSome result (λ values. HasValues (rows_of (found_of matches.entry)) values.config.now values.disk.now values.turns values.format values.port) }
+    ensures none { IsNone result → (config disk : List ℕ) (turns : ℕ) (format : Bool) (port : ℕ) → ¬ HasValues (rows_of (found_of matches.entry)) config disk turns format port }
+{
+    let config = matches.get_str("CONFIG")?;
+    let disk = matches.get_str("disk")?;
+    let turns = number(&matches, "turns", 1, MAX_TURNS)?;
+    let format = is_set(&matches, "format");
+    let port = number(&matches, "port", MIN_PORT, MAX_PORT)?;
+    let port = u16::try_from(port).ok()?;
+    Some(AccessWords {
+        config,
+        disk,
+        turns,
+        format,
+        port,
+    })
+}
+
+/// The values of the words after the program's name.
+pub fn words<'a>(alloc: Global, words: &'a [String]) -> Result<AccessWords<'a>, Refusal>
+    ensures values { IfOk result (λ values. Spells (map string_bytes words.entry.now) values.config.now values.disk.now values.turns values.format values.port) }
+    ensures refused { IfErr result (IsRefused access_app SpellsSomething (map string_bytes words.entry.now)) }
+{
+    let Ok(command) = command(alloc) else {
+        return Err(Refusal::Memory);
+    };
+    let matches = match command.try_get_matches_from(words) {
+        Ok(matches) => matches,
+        Err(error) => return Err(Refusal::Usage(error)),
+    };
+    match values(matches) {
+        Some(values) => Ok(values),
+        None => Err(Refusal::BadValue),
+    }
+}

@@ -1,0 +1,27 @@
+-- What the command line of any program means by its configuration, by a number, and by a refusal.
+use Rattle.std.specs.Prelude.{◌≡◌, ℕ, ◌≤◌, true, List, Option, Some, codes, ⊤}
+use Rattle.std.specs.Str.Parse.{IsNumeral, digits_value, without_leading_plus}
+use Rattle.clap.specs.Words.{App, Rule, Text, new_rule, fault_of, HasKind}
+use Rattle.clap.specs.declared.builder.ArgAction.TheVariants.{Set}
+use Rattle.command_line.specs.declared.refusal.Refusal.{Refusal}
+use Rattle.command_line.specs.declared.refusal.Refusal.TheVariants.{Memory, Usage, BadValue}
+
+-- the path of the configuration, which is required
+abbrev pub config_rule : Rule
+config_rule = record (new_rule (codes "CONFIG")) { action = Some Set; required = true }
+
+-- The value that the words give an argument is the number n, and n is within its limits.
+pub record IsNumber (given : Option Text) (least most n : ℕ) : Type 0 where
+  pub text : Text
+  pub is_given : given ≡ Some text
+  -- decimal digits, with or without a plus before them
+  pub numeral : IsNumeral 10 (without_leading_plus text)
+  pub value : digits_value 10 (without_leading_plus text) ≡ n
+  pub at_least : least ≤ n
+  pub at_most : n ≤ most
+
+-- Why words are refused: out of memory, or clap finds this fault in them, or they spell no values.
+abbrev pub IsRefused : App → (List Text → Type 0) → List Text → Refusal → Type 0
+IsRefused app Spelled words Memory = ⊤
+IsRefused app Spelled words (Usage error) = HasKind (fault_of app words) error
+IsRefused app Spelled words BadValue = ¬ Spelled words

@@ -1,0 +1,58 @@
+-- A world over regions that can be read.
+use Rattle.std.proofs.Common.{◌≡◌, ℕ, ◌<◌, List, get_or, refl, sym, subst, ◌∙◌}
+use Rattle.std.specs.Prelude.{Option, Some, None, Result, Ok, Err, IfOk, IfErr, option_map, slice_get}
+use Rattle.std.proofs.lemmas.Option.{same_Some, slice_get-map, slice_get-get_or}
+use Rattle.config.specs.CircuitPart.{CircuitPart, part_in, part_of, parts_of, source_at}
+use Rattle.settings.specs.Settings.{Settings}
+use Rattle.settings.specs.declared.settings.CircuitConfig.{CircuitConfig}
+use Rattle.dispatch.specs.Leases.{AreSynced, HasRegions}
+use Rattle.dispatch.specs.declared.server.OpenFault.{OpenFault}
+use Rattle.dispatch.specs.declared.server.OpenFault.TheVariants.{Memory, DiskTooSmall}
+use Rattle.lease_disk.specs.Region.{Region}
+use Rattle.world.specs.Alone.{Alone}
+use Rattle.world.specs.Headline.{CircuitState, Represents}
+use Rattle.world.specs.Start.{Starts}
+use Rattle.world.specs.World.{WorldValue, states}
+use Rattle.lab.specs.Fills.{AreOver, AreReady, AreWithin}
+use Rattle.lab.specs.Follows.{AllRepresent}
+
+within_at : (settings : Settings) (count c : ℕ) (part : CircuitPart) (o : Option CircuitConfig) → AreWithin settings count → slice_get settings.circuits c ≡ o
+    → option_map (λ (x : CircuitConfig). part_of x (source_at settings.relays x.relay) settings.server.listen4 settings.server.listen6 settings.server.duid.items) o ≡ Some part → part.region < count
+within_at settings count c part None within there h = absurd (cc)
+within_at settings count c part (Some circuit) within there h = subst (λ (p : CircuitPart). p.region < count) (same_Some _ _ h) (within c circuit there)
+
+pub part_within : (settings : Settings) (count c : ℕ) (part : CircuitPart) → AreWithin settings count → part_in settings c ≡ Some part → part.region < count
+part_within settings count c part within h =
+    within_at settings count c part (slice_get settings.circuits c) within refl
+    (sym (slice_get-map (λ (x : CircuitConfig). part_of x (source_at settings.relays x.relay) settings.server.listen4 settings.server.listen6 settings.server.duid.items) settings.circuits c) ∙ h)
+
+-- it begins with the machines over these regions
+represents : (settings : Settings) (quota count : ℕ) (regions : ℕ → Region) (states : List CircuitState) → AreWithin settings count → AreReady count regions → Starts settings quota regions states
+    → (machines : ℕ → Alone) → AreOver settings regions machines → AllRepresent settings quota states machines
+represents settings quota count regions states within ready starts machines over = record {
+  each = λ c part h.
+      subst (Represents c states (record { part = part; quota = quota })) (sym (over.each c part h))
+      (starts.each c part h (ready part.region (part_within settings count c part within h)).readable);
+}
+
+pub represents_ok : (settings : Settings) (quota count : ℕ) (regions : ℕ → Region) (r : Result WorldValue OpenFault) → AreWithin settings count → AreReady count regions
+    → IfOk r (λ world. Starts settings quota regions (states world)) → IfOk r (λ world. (machines : ℕ → Alone) → AreOver settings regions machines → AllRepresent settings quota (states world) machines)
+represents_ok settings quota count regions (Ok world) within ready starts = represents settings quota count regions (states world) within ready starts
+represents_ok settings quota count regions (Err why) within ready starts = tt
+
+-- what an opening asks of the device
+pub are_synced : (settings : Settings) (count : ℕ) (regions : ℕ → Region) → AreWithin settings count → AreReady count regions → AreSynced (parts_of settings) regions
+are_synced settings count regions within ready = λ k d inside readable.
+    let part : CircuitPart = get_or (parts_of settings) k d in
+    (ready part.region (part_within settings count k part within (slice_get-get_or (parts_of settings) k d inside))).clean
+
+has_regions : (settings : Settings) (count : ℕ) → AreWithin settings count → HasRegions (parts_of settings) count
+has_regions settings count within = λ k d inside.
+    part_within settings count k (get_or (parts_of settings) k d) within (slice_get-get_or (parts_of settings) k d inside)
+
+-- The device has each circuit's region, so that only memory may lack.
+pub memory_lacks : (settings : Settings) (count n : ℕ) (r : Result WorldValue OpenFault) → AreWithin settings count → n ≡ count
+    → IfErr r (λ why. why ≡ DiskTooSmall → HasRegions (parts_of settings) n → ⊥) → IfErr r (λ why. why ≡ Memory)
+memory_lacks settings count n (Ok world) within same small = tt
+memory_lacks settings count n (Err Memory) within same small = refl
+memory_lacks settings count n (Err DiskTooSmall) within same small = absurd (small refl (subst (HasRegions (parts_of settings)) (sym same) (has_regions settings count within)))

@@ -1,0 +1,99 @@
+use Rattle.std.proofs.Common.{◌+◌, ◌∙◌, true, false, length, take, refl, ap, sym, subst, arith, length-drop}
+use Rattle.std.proofs.KnownBytes.{Keeps-refl}
+use Rattle.std.specs.Io.KnownBytes.{prepend_known}
+use Rattle.lease_disk.specs.Model.{state_of}
+use Rattle.lab.specs.Fills.{FilledSoFar}
+use Rattle.lab_text.specs.declared.line.LineEnd.TheVariants.{Newline}
+use Rattle.lab.specs.Lab.{is_event}
+use Rattle.lab_text.specs.Line.{line_of_text}
+use Rattle.lab_text.specs.LineEnd.{Fits}
+use Rattle.lab_text.specs.ReadAhead.{held}
+use Rattle.lab_text.proofs.AheadLemmas.{line_consumed}
+use Rattle.lab.proofs.FillLemmas.{IsBegun, begun_long, begun_newline, filled_begun, filled_first, filled_kept, filled_next, formatted_are_ready, formatted_over, is_false, is_true, nothing_held}
+use Rattle.lab_text.proofs.ReadLemmas.{counted_none, counted_more}
+use Rattle.lab.proofs.StartLemmas.{part_within}
+use Rattle.lab.proofs.fills.apply_fills.Goals as goal
+
+pub lines-init : goal.lines-init
+lines-init g c = record {
+  regions = refl;
+  ready = formatted_are_ready _ (state_of c.args.disk.now) c.requires.formatted;
+  lines = omega (arith, c.requires.count, ap length c.requires.held);
+  below = omega (arith, c.requires.count);
+  quiet = refl;
+  counted = rw c.requires.count (counted_none _ 0);
+  so_far = λ quota.
+      nothing_held c.args.config.now quota _ (held c.args.ahead.now) (state_of c.args.disk.now) c.requires.held
+      (filled_first c.args.config.now quota _ (state_of c.args.disk.now)
+      (formatted_over c.args.config.now (length c.args.disk.now.regions) (state_of c.args.disk.now) (λ n part h. part_within c.args.config.now (length c.args.disk.now.regions) n part c.requires.regions h) c.requires.formatted));
+}
+
+pub returns-in_default-clause-counted : goal.returns-in_default-clause-counted
+returns-in_default-clause-counted g c = counted_more _ _ _ _ _ _ c.lines.invariant.counted c.read_line.ensures.counted
+
+pub returns-in-TooLong-clause-filled : goal.returns-in-TooLong-clause-filled
+returns-in-TooLong-clause-filled g c = λ quota.
+    filled_begun c.args.config.now quota (c.lines.earlier + 1) _ _ (state_of c.lines.disk) _
+    (filled_kept c.args.config.now quota (c.lines.earlier + 1) false _ _ _ (state_of c.lines.disk) _ (c.lines.invariant.so_far quota) c.read_line.ensures.kept)
+    (subst (λ e. IsBegun c.args.config.now quota (c.lines.earlier + 1) (Fits (held c.read_line.new.ahead) e)) (sym c.in-TooLong.is)
+    (begun_long c.args.config.now quota (c.lines.earlier + 1) (held c.read_line.new.ahead) (rw c.in-TooLong.is at c.in-Ok.ensures.end)))
+
+pub returns-in-TooLong-clause-counted : goal.returns-in-TooLong-clause-counted
+returns-in-TooLong-clause-counted g c = counted_more _ _ _ _ _ _ c.lines.invariant.counted c.read_line.ensures.counted
+
+pub apply_fill-requires-clause-regions : goal.apply_fill-requires-clause-regions
+apply_fill-requires-clause-regions g c = λ n circuit there. let e = c.lines.invariant.regions in let w = c.requires.regions n circuit there in omega arith
+
+pub apply_last_fill-end-requires-clause-regions : goal.apply_last_fill-end-requires-clause-regions
+apply_last_fill-end-requires-clause-regions g c = λ n circuit there. let e = c.lines.invariant.regions in let w = c.requires.regions n circuit there in omega arith
+
+pub returns-in-EndOfInput-clause-filled : goal.returns-in-EndOfInput-clause-filled
+returns-in-EndOfInput-clause-filled g c = λ quota.
+    c.apply_last_fill-end.ensures.filled quota (c.lines.earlier + 1) _ _ (rw c.in-EndOfInput.is at c.in-Ok.ensures.end)
+    (filled_kept c.args.config.now quota (c.lines.earlier + 1) false _ _ _ (state_of c.lines.disk) _ (c.lines.invariant.so_far quota) c.read_line.ensures.kept)
+
+pub returns-in-EndOfInput-clause-end : goal.returns-in-EndOfInput-clause-end
+returns-in-EndOfInput-clause-end g c = c.apply_last_fill-end.ensures.end _ (rw c.in-EndOfInput.is at c.in-Ok.ensures.end)
+
+pub returns-in-EndOfInput-clause-lines : goal.returns-in-EndOfInput-clause-lines
+returns-in-EndOfInput-clause-lines g c =
+    omega (arith, c.apply_last_fill-end.ensures.shorter, c.apply_last_fill-end.ensures.count, c.read_line.ensures.grown, c.lines.invariant.lines)
+
+pub returns-in-EndOfInput-clause-counted : goal.returns-in-EndOfInput-clause-counted
+returns-in-EndOfInput-clause-counted g c = rw c.apply_last_fill-end.ensures.count (counted_more _ _ _ _ _ _ c.lines.invariant.counted c.read_line.ensures.counted)
+
+pub returns-then-not-apply_fill-clause-filled : goal.returns-then-not-apply_fill-clause-filled
+returns-then-not-apply_fill-clause-filled g c = λ quota.
+    let feeds = rw c.in-Newline.is at c.in-Ok.ensures.end in
+    let line = take c.in-Newline.len c.as_slice.result.now in
+    let e = is_true (is_event (line_of_text c.args.config.now line)) c.apply_fill.result c.apply_fill.ensures.no_event c.if-not-apply_fill.true in
+    subst (λ d. FilledSoFar c.args.config.now quota (c.lines.earlier + 1) true (g.R.ByteReader.remaining c.args.reader.now) (prepend_known (held c.read_line.new.ahead) (g.R.ByteReader.remaining c.read_line.new.reader)) (state_of d) (Fits (held c.read_line.new.ahead) (Newline c.in-Newline.len)))
+    (sym (c.apply_fill.ensures.same c.if-not-apply_fill.true))
+    (filled_begun c.args.config.now quota (c.lines.earlier + 1) _ _ (state_of c.lines.disk) _
+    (filled_kept c.args.config.now quota (c.lines.earlier + 1) false _ _ _ (state_of c.lines.disk) _ (c.lines.invariant.so_far quota) c.read_line.ensures.kept)
+    (begun_newline c.args.config.now quota (c.lines.earlier + 1) (held c.read_line.new.ahead) c.in-Newline.len feeds
+    (ap (λ text. is_event (line_of_text c.args.config.now (take c.in-Newline.len text))) (sym c.as_slice.ensures) ∙ e)))
+
+pub returns-then-not-apply_fill-clause-counted : goal.returns-then-not-apply_fill-clause-counted
+returns-then-not-apply_fill-clause-counted g c = counted_more _ _ _ _ _ _ c.lines.invariant.counted c.read_line.ensures.counted
+
+pub lines-preserved : goal.lines-preserved
+lines-preserved g c =
+    let feeds = rw c.in-Newline.is at c.in-Ok.ensures.end in
+    let inside = feeds.inside in
+    let text = c.as_slice.result.now in
+    let left = ap length c.consume.ensures.held ∙ length-drop (c.in-Newline.len + 1) (held c.read_line.new.ahead) in
+    record {
+      regions = c.apply_fill.ensures.count ∙ c.lines.invariant.regions;
+      ready = c.apply_fill.ensures.ready;
+      lines = omega (arith, inside, left, c.consume.ensures.count, c.read_line.ensures.grown, c.lines.invariant.lines);
+      below = omega (arith, c.consume.ensures.count, c.in-Ok.ensures.below);
+      quiet = c.in-Ok.ensures.quiet ∙ c.lines.invariant.quiet;
+      counted = rw c.consume.ensures.count (counted_more _ _ _ _ _ _ c.lines.invariant.counted c.read_line.ensures.counted);
+      so_far = λ quota.
+          filled_next c.args.config.now quota (c.lines.earlier + 1) _ _ _ (state_of c.lines.disk) (state_of c.apply_fill.new.disk) (take c.in-Newline.len text)
+          (filled_kept c.args.config.now quota (c.lines.earlier + 1) false _ _ _ (state_of c.lines.disk) _ (c.lines.invariant.so_far quota) c.read_line.ensures.kept)
+          (line_consumed _ _ (held c.read_line.new.ahead) text _ c.in-Newline.len c.as_slice.ensures c.consume.ensures.held (Keeps-refl _) feeds)
+          (is_false (is_event (line_of_text c.args.config.now (take c.in-Newline.len text))) c.apply_fill.result c.apply_fill.ensures.no_event c.if-not-apply_fill.false)
+          (λ machines over. c.apply_fill.ensures.filled quota machines c.if-not-apply_fill.false over);
+    }

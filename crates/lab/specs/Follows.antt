@@ -1,0 +1,68 @@
+-- What a line and a run of lines do to the world and to the writer. Only proofs need these.
+use Rattle.std.specs.Prelude.{◌≡◌, ℕ, ◌⊎◌, ◌==◌, if◌then◌else◌, true, List, ◌++◌, length, Option, Some, None}
+use Rattle.std.specs.Io.KnownBytes.{Appends, Consumes}
+use Rattle.config.specs.CircuitPart.{CircuitPart, part_in}
+use Rattle.settings.specs.Settings.{Settings}
+use Rattle.world.specs.Alone.{Alone}
+use Rattle.world.specs.Headline.{CircuitState, Represents}
+use Rattle.world.specs.Seen.{Seen, seen_of}
+use Rattle.world.specs.declared.event.Event.{Event}
+use Rattle.lab.specs.Lab.{Output, LineResult, Refused, Applied, lab_from}
+use Rattle.lab_text.specs.Lines.{lines_of}
+use Rattle.lab.specs.Output.{bad_text}
+use Rattle.lab_text.specs.Writing.{AppendsPrefix}
+
+-- each circuit's state represents its machine
+pub record AllRepresent (settings : Settings) (quota : ℕ) (states : List CircuitState) (machines : ℕ → Alone) : Type 0 where
+  pub each : (c : ℕ) (part : CircuitPart) → part_in settings c ≡ Some part → Represents c states (record { part = part; quota = quota }) (machines c)
+
+-- The event is this one, seen by this circuit alone.
+abbrev pub Names : ℕ → Seen → Event → Type 0
+Names circuit seen event = (c : ℕ) → seen_of c event ≡ (if circuit == c then Some seen else None)
+
+-- A line was applied, and its output was written.
+pub record IsApplied (settings : Settings) (quota : ℕ) (written : List ℕ) (machines : ℕ → Alone) (states : List CircuitState) (held holds : Option (List ℕ)) : Type 0 where
+  pub appended : Appends held holds written
+  pub represents : AllRepresent settings quota states machines
+
+-- The last line of the output was written, or, where the writer failed, a prefix of it.
+abbrev pub IsRefusal : ℕ → Option (List ℕ) → Option (List ℕ) → ℕ → Type 0
+IsRefusal number held holds status =
+    ((status ≡ 3) × Appends held holds (bad_text number)) ⊎ ((status ≡ 6) × AppendsPrefix held holds (bad_text number))
+
+-- World and writer follow the result of a line: the run goes on where no status is returned, and else
+-- it ends.
+abbrev pub Follows : Settings → ℕ → ℕ → LineResult → List CircuitState → Option (List ℕ) → Option (List ℕ) → Option ℕ → Type 0
+Follows settings quota number (Applied written machines) states held holds None = IsApplied settings quota written machines states held holds
+Follows settings quota number (Applied written machines) states held holds (Some status) = (status ≡ 6) × AppendsPrefix held holds written
+Follows settings quota number Refused states held holds None = ⊥
+Follows settings quota number Refused states held holds (Some status) = IsRefusal number held holds status
+
+-- The line that lacks its line feed: an empty one ends the run with status 0, and so does one that is
+-- not bad.
+abbrev pub FollowsLast : Settings → ℕ → ℕ → List ℕ → LineResult → List CircuitState → Option (List ℕ) → Option (List ℕ) → ℕ → Type 0
+FollowsLast settings quota number line result states held holds status =
+    ((length line ≡ 0) × (status ≡ 0) × (holds ≡ held))
+    ⊎ ((length line ≡ 0 → ⊥) × (((status ≡ 0) × Follows settings quota number result states held holds None) ⊎ Follows settings quota number result states held holds (Some status)))
+
+-- the output that follows what was written
+abbrev pub after : List ℕ → Output → Output
+after written o = record { text = written ++ o.text; status = o.status }
+
+-- A run that is about to apply the line with this number, and what is known of the rest of the text.
+pub record SoFar (settings : Settings) (quota number : ℕ) (output : List ℕ → Output) (given left held holds : Option (List ℕ)) (states : List CircuitState) (Known : List ℕ → Type 0) : Type 0 where
+  pub machines : ℕ → Alone
+  pub represents : AllRepresent settings quota states machines
+  pub read : List ℕ
+  pub consumed : Consumes given left read
+  pub written : List ℕ
+  pub appended : Appends held holds written
+  pub whole : (rest : List ℕ) → Known rest → output (read ++ rest) ≡ after written (lab_from settings quota number true machines (lines_of rest))
+
+-- A run that has read these bytes and ended with this status.
+pub record Ends (output : List ℕ → Output) (given left held holds : Option (List ℕ)) (status : ℕ) : Type 0 where
+  pub read : List ℕ
+  pub consumed : Consumes given left read
+  -- whatever is left of the text, what was written is the output of all of it
+  pub exact : (status ≡ 6 → ⊥) → (rest : List ℕ) → left ≡ Some rest → Appends held holds (output (read ++ rest)).text × (status ≡ (output (read ++ rest)).status)
+  pub partial : status ≡ 6 → AppendsPrefix held holds (output read).text

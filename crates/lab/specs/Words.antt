@@ -1,0 +1,40 @@
+-- The command line of `accesslab`, and the values that its words spell.
+use Rattle.std.specs.Prelude.{◌≡◌, ℕ, pos, ◌≤◌, true, List, [], ◌∷◌, Some, codes}
+use Rattle.std.specs.Str.Parse.{IsNumeral, digits_value, without_leading_plus}
+use Rattle.clap.specs.Words.{App, Row, Rule, Text, new_app, new_rule, with_rule, matches_of, first_of, fault_of}
+use Rattle.clap.specs.Simple.{on_top}
+use Rattle.clap.specs.declared.builder.ArgAction.TheVariants.{Set}
+use Rattle.clap.specs.declared.builder.value_parser.ValueParser.TheVariants as parser
+use Rattle.command_line.specs.CommandLine.{config_rule}
+
+-- `--quota Q`, 1 to 256, 16 by default
+abbrev pub quota_rule : Rule
+quota_rule = record (new_rule (codes "quota")) { long = Some (codes "quota"); action = Some Set; parser = Some (parser.Signed (pos 1) (pos 256)); defaults = codes "16" ∷ [] }
+
+-- the command without its arguments; the program's name is not one of its words
+abbrev pub bare_app : App
+bare_app = on_top (λ s. record s { no_binary_name = true; has_version = true }) (new_app (codes "accesslab"))
+
+abbrev pub lab_app : App
+lab_app = with_rule (with_rule bare_app config_rule) quota_rule
+
+-- the value that the words give each argument
+abbrev pub given : List Text → List Row
+given words = matches_of lab_app words
+
+-- The words spell these values.
+pub record Spells (words : List Text) (config : List ℕ) (quota : ℕ) : Type 0 where
+  -- clap finds no fault in them
+  pub right : fault_of lab_app words ≡ []
+  pub config_is : first_of (codes "CONFIG") (given words) ≡ Some config
+  pub text : Text
+  pub quota_text : first_of (codes "quota") (given words) ≡ Some text
+  -- decimal digits, with or without a plus before them
+  pub numeral : IsNumeral 10 (without_leading_plus text)
+  pub value : digits_value 10 (without_leading_plus text) ≡ quota
+  pub least : 1 ≤ quota
+  pub most : quota ≤ 256
+
+-- The words spell values.
+abbrev pub SpellsSomething : List Text → Type 0
+SpellsSomething words = (config : List ℕ) × (quota : ℕ) × Spells words config quota

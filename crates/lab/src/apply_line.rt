@@ -1,0 +1,224 @@
+//! One line of events, applied to the machine.
+ghost use Rattle.std.specs.Prelude.{◌≡◌, ◌+◌, ◌<◌, ◌≤◌, ℕ, true, length, Some, IfSome};
+ghost use Rattle.config.specs.CircuitPart.{part_in};
+ghost use Rattle.settings.specs.Settings.{Settings};
+ghost use Rattle.relay.specs.Relays.{topology_of};
+ghost use Rattle.types.specs.declared.discard.Discard.{Discard};
+ghost use Rattle.world.specs.Alone.{Alone};
+ghost use Rattle.world.specs.Seen.{Seen};
+ghost use Rattle.world.specs.Stray.{is_stray, stray_outcome};
+ghost use Rattle.world.specs.declared.outcome.Outcome.TheVariants as outcome;
+ghost use Rattle.lab.specs.Lab.{part_result, line_result};
+ghost use Rattle.lab_text.specs.Line.{Line, line_of_text, Tick, Stray};
+ghost use Rattle.lab_text.specs.ParsedLine.{line_of, IsRestart, IsWithin};
+ghost use Rattle.lab.specs.Follows.{AllRepresent, Names, IsRefusal, Follows, FollowsLast};
+ghost use Rattle.lab.specs.Run.{IsEnd, IsStatus};
+
+use crate::buffers::Buffers;
+use crate::output::{write_bad_line, write_done, write_outcome};
+use crate::status::{BAD_LINE, DONE, FAILED};
+use config::Config;
+use lab_text::parse_line::{Parsed, ParsedLine, parse_line};
+use lab_text::{ByteWriter, MAX_LINE};
+use lease_disk::Image;
+use types::{Circuit, Moment, Proto};
+use wire::PacketBuf;
+use world::{Event, Machine};
+
+/// Writes that the line is bad, and returns the status.
+pub(crate) fn refuse<W: ByteWriter>(number: u64, writer: &mut W) -> u8
+    ensures refusal { IsRefusal number (W.contents writer.old) (W.contents writer.new) result }
+    ensures status { IsEnd result }
+    ensures quiet { ¬ (result ≡ 6) → W.failures writer.new ≡ W.failures writer.old }
+    ensures cause { result ≡ 6 → W.failures writer.new ≡ W.failures writer.old + 1 }
+{
+    match write_bad_line(writer, number) {
+        Ok(()) => BAD_LINE,
+        Err(_) => FAILED,
+    }
+}
+
+/// Applies an event of a circuit. Returns a status where the run ends with it.
+fn apply_event<M: Machine, W: ByteWriter>(
+    machine: &mut M,
+    config: &Config,
+    circuit: Circuit,
+    event: &Event<'_>,
+    out: &mut PacketBuf,
+    writer: &mut W,
+) -> Option<u8>
+    requires { circuit < length config.now.circuits }
+    ensures follows { (quota number : ℕ) (machines : ℕ → Alone) (seen : Seen) → Names circuit seen event.now → AllRepresent config.now quota (M.states machine.old) machines
+        → Follows config.now quota number (part_result quota circuit seen machines (part_in config.now circuit)) (M.states machine.new) (W.contents writer.old) (W.contents writer.new) result }
+    ensures topology { M.topology machine.new ≡ M.topology machine.old }
+    ensures status { IfSome result IsEnd }
+    ensures quiet { ¬ (result ≡ Some 6) → W.failures writer.new ≡ W.failures writer.old }
+    ensures cause { result ≡ Some 6 → W.failures writer.new ≡ W.failures writer.old + 1 }
+{
+    let outcome = machine.step(event, out);
+    let named = config.at(circuit);
+    match write_outcome(writer, named.id.as_bytes(), outcome, out) {
+        Ok(()) => None,
+        Err(_) => Some(FAILED),
+    }
+}
+
+/// Applies a moment to all circuits. Returns a status where the run ends with it.
+fn apply_tick<M: Machine, W: ByteWriter>(
+    machine: &mut M,
+    now: Moment,
+    out: &mut PacketBuf,
+    writer: &mut W,
+) -> Option<u8>
+    ensures follows { (settings : Settings) (quota number : ℕ) (machines : ℕ → Alone) → AllRepresent settings quota (M.states machine.old) machines
+        → Follows settings quota number (line_result settings quota machines (Tick now)) (M.states machine.new) (W.contents writer.old) (W.contents writer.new) result }
+    ensures topology { M.topology machine.new ≡ M.topology machine.old }
+    ensures status { IfSome result IsEnd }
+    ensures quiet { ¬ (result ≡ Some 6) → W.failures writer.new ≡ W.failures writer.old }
+    ensures cause { result ≡ Some 6 → W.failures writer.new ≡ W.failures writer.old + 1 }
+{
+    let _ = machine.step(&Event::Tick(now), out);
+    match write_done(writer) {
+        Ok(()) => None,
+        Err(_) => Some(FAILED),
+    }
+}
+
+/// Starts the server and the disk again. Returns a status where the run ends with it.
+fn apply_restart<M: Machine, W: ByteWriter>(
+    machine: &mut M,
+    images: &[Image],
+    out: &mut PacketBuf,
+    writer: &mut W,
+) -> Option<u8>
+    ensures follows { (settings : Settings) (quota number : ℕ) (line : Line) (machines : ℕ → Alone) → IsRestart images.now line → AllRepresent settings quota (M.states machine.old) machines
+        → Follows settings quota number (line_result settings quota machines line) (M.states machine.new) (W.contents writer.old) (W.contents writer.new) result }
+    ensures topology { M.topology machine.new ≡ M.topology machine.old }
+    ensures status { IfSome result IsEnd }
+    ensures quiet { ¬ (result ≡ Some 6) → W.failures writer.new ≡ W.failures writer.old }
+    ensures cause { result ≡ Some 6 → W.failures writer.new ≡ W.failures writer.old + 1 }
+{
+    let _ = machine.step(&Event::Restart(images), out);
+    match write_done(writer) {
+        Ok(()) => None,
+        Err(_) => Some(FAILED),
+    }
+}
+
+/// Applies a stray. Returns a status where the run ends with it.
+fn apply_stray<M: Machine, W: ByteWriter>(
+    machine: &mut M,
+    event: &Event<'_>,
+    out: &mut PacketBuf,
+    writer: &mut W,
+) -> Option<u8>
+    requires { is_stray event.now ≡ true }
+    ensures follows { (settings : Settings) (quota number : ℕ) (why : Discard) (machines : ℕ → Alone) → AllRepresent settings quota (M.states machine.old) machines
+        → stray_outcome (M.topology machine.old) event.now ≡ Some (outcome.Dropped why)
+        → Follows settings quota number (line_result settings quota machines (Stray why)) (M.states machine.new) (W.contents writer.old) (W.contents writer.new) result }
+    ensures topology { M.topology machine.new ≡ M.topology machine.old }
+    ensures status { IfSome result IsEnd }
+    ensures quiet { ¬ (result ≡ Some 6) → W.failures writer.new ≡ W.failures writer.old }
+    ensures cause { result ≡ Some 6 → W.failures writer.new ≡ W.failures writer.old + 1 }
+{
+    let outcome = machine.step(event, out);
+    match write_outcome(writer, &[], outcome, out) {
+        Ok(()) => None,
+        Err(_) => Some(FAILED),
+    }
+}
+
+/// Applies a parsed line, whose frame is the first bytes of the buffer. Returns a status where the run
+/// ends with it.
+fn apply<M: Machine, W: ByteWriter>(
+    machine: &mut M,
+    config: &Config,
+    number: u64,
+    parsed: ParsedLine,
+    buffers: &mut Buffers,
+    writer: &mut W,
+) -> Option<u8>
+    requires { IsWithin config.now parsed }
+    ensures follows { (quota : ℕ) (machines : ℕ → Alone) → AllRepresent config.now quota (M.states machine.old) machines → M.topology machine.old ≡ topology_of config.now
+        → Follows config.now quota number (line_result config.now quota machines (line_of parsed buffers.old.bytes)) (M.states machine.new) (W.contents writer.old) (W.contents writer.new) result }
+    ensures topology { M.topology machine.new ≡ M.topology machine.old }
+    ensures status { IfSome result IsEnd }
+    ensures quiet { ¬ (result ≡ Some 6) → W.failures writer.new ≡ W.failures writer.old }
+    ensures cause { result ≡ Some 6 → W.failures writer.new ≡ W.failures writer.old + 1 }
+{
+    match parsed {
+        ParsedLine::Ignored => None,
+        // an event came before this fill
+        ParsedLine::Bad | ParsedLine::Fill(_, _) => Some(refuse(number, writer)),
+        ParsedLine::Frame(circuit, len) => {
+            let event = Event::Frame(circuit, Proto::V4, &buffers.bytes[..len]);
+            apply_event(machine, config, circuit, &event, &mut buffers.out, writer)
+        }
+        ParsedLine::Up(circuit, j, now, fault) => {
+            let event = Event::Up(circuit, j, now, fault);
+            apply_event(machine, config, circuit, &event, &mut buffers.out, writer)
+        }
+        ParsedLine::Down(circuit, j) => {
+            let event = Event::Down(circuit, j);
+            apply_event(machine, config, circuit, &event, &mut buffers.out, writer)
+        }
+        ParsedLine::Tick(now) => apply_tick(machine, now, &mut buffers.out, writer),
+        ParsedLine::StrayUp(source, len, now) => {
+            let event = Event::StrayUp(Proto::V4, source, &buffers.bytes[..len], now);
+            apply_stray(machine, &event, &mut buffers.out, writer)
+        }
+        ParsedLine::StrayDown(relay, source, len) => {
+            let event = Event::StrayDown(relay, source, &buffers.bytes[..len]);
+            apply_stray(machine, &event, &mut buffers.out, writer)
+        }
+    }
+}
+
+/// Applies the line with this number. Returns a status where the run ends with it.
+pub(crate) fn apply_line<M: Machine, W: ByteWriter>(
+    machine: &mut M,
+    config: &Config,
+    number: u64,
+    line: &[u8],
+    buffers: &mut Buffers,
+    writer: &mut W,
+) -> Option<u8>
+    requires { length line.now ≤ 8192 }
+    ensures follows { (quota : ℕ) (machines : ℕ → Alone) → AllRepresent config.now quota (M.states machine.old) machines → M.topology machine.old ≡ topology_of config.now
+        → Follows config.now quota number (line_result config.now quota machines (line_of_text config.now line.now)) (M.states machine.new) (W.contents writer.old) (W.contents writer.new) result }
+    ensures topology { M.topology machine.new ≡ M.topology machine.old }
+    ensures status { IfSome result IsEnd }
+    ensures quiet { ¬ (result ≡ Some 6) → W.failures writer.new ≡ W.failures writer.old }
+    ensures cause { result ≡ Some 6 → W.failures writer.new ≡ W.failures writer.old + 1 }
+{
+    match parse_line(config, line, &mut buffers.bytes, &mut buffers.images) {
+        Parsed::Event(parsed) => apply(machine, config, number, parsed, buffers, writer),
+        Parsed::Restart => apply_restart(machine, &buffers.images, &mut buffers.out, writer),
+    }
+}
+
+/// Applies the line with this number, which lacks its line feed, and returns the status. An empty one is
+/// no line.
+pub(crate) fn apply_last_line<M: Machine, W: ByteWriter>(
+    machine: &mut M,
+    config: &Config,
+    number: u64,
+    line: &[u8],
+    buffers: &mut Buffers,
+    writer: &mut W,
+) -> u8
+    requires { length line.now ≤ 8192 }
+    ensures follows { (quota : ℕ) (machines : ℕ → Alone) → AllRepresent config.now quota (M.states machine.old) machines → M.topology machine.old ≡ topology_of config.now
+        → FollowsLast config.now quota number line.now (line_result config.now quota machines (line_of_text config.now line.now)) (M.states machine.new) (W.contents writer.old) (W.contents writer.new) result }
+    ensures status { IsStatus result }
+    ensures quiet { ¬ (result ≡ 6) → W.failures writer.new ≡ W.failures writer.old }
+    ensures cause { result ≡ 6 → W.failures writer.new ≡ W.failures writer.old + 1 }
+{
+    if line.is_empty() {
+        return DONE;
+    }
+    match apply_line(machine, config, number, line, buffers, writer) {
+        Some(status) => status,
+        None => DONE,
+    }
+}

@@ -1,0 +1,17 @@
+//! The engine of `accesslab`: events as lines of text, and their outcomes, one line per event.
+#![tactic(auto)]
+
+mod apply_line;
+mod arguments;
+mod buffers;
+mod engine;
+mod fills;
+mod opening;
+mod output;
+mod status;
+
+pub use arguments::{LabWords, words};
+pub use engine::lab;
+pub use lab_text::{ByteReader, ByteWriter, Failed, MAX_LINE, MAX_TEXT, StdReader, StdWriter};
+pub use opening::run;
+pub use status::{BAD_LINE, DONE};
