@@ -2,7 +2,7 @@
 use Rattle.std.specs.Prelude.{◌≡◌, ◌≤◌, ℕ, Some, slice_get}
 use Rattle.dispatch.specs.Server.{Book}
 use Rattle.dispatch.specs.ServerValue.{ServerValue, books_in}
-use Rattle.relay.specs.Relays.{Topology}
+use Rattle.config.specs.Topology.{Topology}
 use Rattle.access.specs.declared.counts.Counts.{Counts}
 
 pub record AccessValue : Type 0 where

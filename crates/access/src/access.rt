@@ -7,7 +7,7 @@ ghost use Rattle.access.specs.declared.access.AccessFault.TheVariants as fault;
 ghost use Rattle.config.specs.CircuitPart.{parts_of};
 ghost use Rattle.dispatch.specs.Leases.{HasRegions};
 ghost use Rattle.dispatch.specs.ServerValue.{books_in, parts_in};
-ghost use Rattle.relay.specs.Relays.{topology_of};
+ghost use Rattle.config.specs.Topology.{topology_of};
 
 use crate::counts::Counts;
 use crate::datagram_socket::{BUFFER_LEN, DatagramSocket};

@@ -4,7 +4,7 @@ use Rattle.std.specs.Prelude.{None, Some, All, slice_get, option_map}
 use Rattle.std.specs.Int.{w32, from_be_bytes}
 use Rattle.std.proofs.Math.Nat.{zero-mod}
 use Rattle.std.proofs.lemmas.List.{take_more}
-use Rattle.std.proofs.lemmas.List.Elements.{All-get_or}
+use Rattle.std.proofs.lemmas.List.Elements.{All-append, All-cons, All-get_or, All-nil}
 use Rattle.std.proofs.lemmas.Option.{slice_get-map, slice_get_within, get_or_from_slice_get}
 use Rattle.std.proofs.lemmas.Slice.Eq.{bytes_eq-Decides}
 use Rattle.types.specs.Addr.{number4, is_unspecified}
@@ -74,9 +74,16 @@ is_part settings c circuit copy relay listen4 listen6 duid there copied limits s
     })
 
 -- one part more
+next_part : (settings : Settings) (c : ℕ) (part : CircuitPart) → part_in settings c ≡ Some part → take (c + 1) (parts_of settings) ≡ take c (parts_of settings) ++ part ∷ []
+next_part settings c part there =
+    take_more (parts_of settings) c part (slice_get_within (parts_of settings) c part there)
+    ∙ ap (λ x. take c (parts_of settings) ++ x ∷ []) (get_or_from_slice_get (parts_of settings) c part part there)
+
 pub one_part_more : (settings : Settings) (c : ℕ) (parts new : List CircuitPart) (part : CircuitPart)
     → parts ≡ take c (parts_of settings) → part_in settings c ≡ Some part → new ≡ parts ++ part ∷ [] → new ≡ take (c + 1) (parts_of settings)
-one_part_more settings c parts new part before there pushed =
-    let next = get_or_from_slice_get (parts_of settings) c part part there in
-    let more = take_more (parts_of settings) c part (slice_get_within (parts_of settings) c part there) in
-    pushed ∙ ap (λ ps. ps ++ part ∷ []) before ∙ sym (more ∙ ap (λ x. take c (parts_of settings) ++ x ∷ []) next)
+one_part_more settings c parts new part before there pushed = pushed ∙ ap (λ ps. ps ++ part ∷ []) before ∙ sym (next_part settings c part there)
+
+pub one_sound_more : (settings : Settings) (c : ℕ) (part : CircuitPart)
+    → part_in settings c ≡ Some part → IsPart part → All IsPart (take c (parts_of settings)) → All IsPart (take (c + 1) (parts_of settings))
+one_sound_more settings c part there sound before =
+    subst (All IsPart) (sym (next_part settings c part there)) (All-append IsPart (take c (parts_of settings)) (part ∷ []) before (All-cons IsPart part [] sound (All-nil IsPart)))

@@ -1,13 +1,12 @@
 //! One circuit's part of a configuration, as its relay and its server keep it.
-ghost use Rattle.std.specs.Prelude.{◌≡◌, ◌<◌, [], ◌∷◌, length, false, take, Some, IfOk};
+ghost use Rattle.std.specs.Prelude.{◌≡◌, ◌<◌, [], ◌∷◌, length, false, take, Some};
 ghost use Rattle.types.specs.Addr.{is_unspecified};
 ghost use Rattle.types.specs.Pool4.{IsPool4};
-ghost use Rattle.config.specs.CircuitPart.{IsPart, part_in, parts_of, pool4_of};
+ghost use Rattle.config.specs.CircuitPart.{IsPart, part_in, pool4_of};
 
 use crate::config::Config;
 use arrayvec::ArrayVec;
 use settings::{CircuitConfig, MAX_DNS, copy_of};
-use std::alloc::{AllocError, Global};
 use std::marker::Model;
 use types::{Addr4, Circuit, CircuitId, MAX_DUID, Pool4, Source};
 
@@ -50,20 +49,6 @@ impl CircuitPart {
             listen6: server.listen6,
             duid: copy_of(&server.duid),
         }
-    }
-
-    /// The parts of all circuits, in the order of the configuration.
-    pub fn all_of(alloc: Global, config: &Config) -> Result<Vec<CircuitPart>, AllocError>
-        ensures { IfOk result (λ parts. parts.items ≡ parts_of config.now) }
-    {
-        let mut parts = Vec::with_capacity(alloc, config.circuit_count())?;
-        'circuits: for index in 0..config.circuit_count() {
-            let Some(circuit) = Circuit::new(index) else {
-                unreachable!()
-            };
-            parts.push(CircuitPart::of(config, circuit))?;
-        }
-        Ok(parts)
     }
 
     pub fn id(&self) -> &CircuitId

@@ -2,6 +2,7 @@
 #![tactic(auto)]
 
 mod circuit_part;
+mod circuits;
 mod config;
 mod laws;
 mod pairs;
@@ -10,6 +11,7 @@ mod rules;
 mod subnets;
 
 pub use circuit_part::CircuitPart;
+pub use circuits::Circuits;
 pub use config::Config;
 pub use laws::{no_fault, one_configuration, one_number};
 pub use settings::{

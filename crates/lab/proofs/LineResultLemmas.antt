@@ -15,7 +15,7 @@ use Rattle.world.specs.declared.event.Event.TheVariants as event
 use Rattle.world.specs.declared.outcome.Outcome.{Outcome}
 use Rattle.world.specs.declared.outcome.Outcome.TheVariants as outcome
 use Rattle.world.specs.Stray.{is_stray, stray_up_outcome, stray_down_outcome}
-use Rattle.relay.specs.Relays.{Topology, topology_of, is_relay, is_server}
+use Rattle.config.specs.Topology.{Topology, topology_of, is_relay, is_server}
 use Rattle.types.specs.declared.addr.Source.{Source}
 use Rattle.types.specs.declared.discard.Discard.TheVariants.{UnknownSource, NotServer}
 use Rattle.types.specs.declared.discard.Discard.{Discard}

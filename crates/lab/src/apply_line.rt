@@ -2,7 +2,7 @@
 ghost use Rattle.std.specs.Prelude.{◌≡◌, ◌+◌, ◌<◌, ◌≤◌, ℕ, true, length, Some, IfSome};
 ghost use Rattle.config.specs.CircuitPart.{part_in};
 ghost use Rattle.settings.specs.Settings.{Settings};
-ghost use Rattle.relay.specs.Relays.{topology_of};
+ghost use Rattle.config.specs.Topology.{topology_of};
 ghost use Rattle.types.specs.declared.discard.Discard.{Discard};
 ghost use Rattle.world.specs.Alone.{Alone};
 ghost use Rattle.world.specs.Seen.{Seen};

@@ -1,7 +1,7 @@
 //! A run over the lines of a text.
 ghost use Rattle.std.specs.Prelude.{◌≡◌, ◌+◌, ◌<◌, ◌≤◌, ℕ, List, Option, Some, length};
 ghost use Rattle.std.specs.Io.KnownBytes.{Appends, prepend_known};
-ghost use Rattle.relay.specs.Relays.{topology_of};
+ghost use Rattle.config.specs.Topology.{topology_of};
 ghost use Rattle.world.specs.Alone.{Alone};
 ghost use Rattle.lab.specs.Lab.{Output, events_output};
 ghost use Rattle.lab.specs.Follows.{AllRepresent, Ends, SoFar};

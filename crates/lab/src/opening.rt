@@ -4,7 +4,7 @@ ghost use Rattle.std.specs.Io.KnownBytes.{Appends};
 ghost use Rattle.dispatch.specs.declared.server.OpenFault.TheVariants as fault;
 ghost use Rattle.lab.specs.Lab.{lab_output};
 ghost use Rattle.lab.specs.Run.{IsPartial, IsStatus, HasCause, HasNoCause};
-ghost use Rattle.relay.specs.Relays.{topology_of};
+ghost use Rattle.config.specs.Topology.{topology_of};
 ghost use Rattle.lab.specs.Fills.{AreOver, AreReady, AreWithin};
 ghost use Rattle.lab.specs.Follows.{AllRepresent};
 ghost use Rattle.lease_disk.specs.Model.{state_of};

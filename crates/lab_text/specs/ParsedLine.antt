@@ -3,7 +3,7 @@ use Rattle.std.specs.Prelude.{◌≡◌, ℕ, ◌<◌, ◌≤◌, Bool, true, fa
 use Rattle.settings.specs.Settings.{Settings}
 use Rattle.types.specs.declared.dest.Proto.TheVariants.{V4}
 use Rattle.types.specs.declared.discard.Discard.TheVariants.{UnknownSource, NotServer}
-use Rattle.relay.specs.Relays.{topology_of, is_relay, is_server}
+use Rattle.config.specs.Topology.{topology_of, is_relay, is_server}
 use Rattle.world.specs.Seen.{Frame, Up, Down}
 use Rattle.lab_text.specs.declared.parse_line.ParsedLine.{ParsedLine}
 use Rattle.lab_text.specs.declared.parse_line.ParsedLine.TheVariants as parsed

@@ -1,6 +1,6 @@
 //! Circuits and relays by name.
 ghost use Rattle.std.specs.Prelude.{◌≡◌, ◌<◌, length, IfSome};
-ghost use Rattle.relay.specs.Relays.{topology_of, is_relay, is_server};
+ghost use Rattle.config.specs.Topology.{topology_of, is_relay, is_server};
 ghost use Rattle.lab_text.specs.Fields.{circuit_named, relay_named};
 
 use config::Config;

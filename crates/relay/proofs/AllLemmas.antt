@@ -19,7 +19,8 @@ use Rattle.v4_options.specs.Spelling.{look_up}
 use Rattle.v4_message.specs.Agent.{agent_of, is_value}
 use Rattle.v4_message.specs.Reading.{message_of}
 use Rattle.relay.specs.Down4.{◌>>=◌, is_named, message_in_reply, reply_of, suboptions_in, reply_on_link, reply_to_circuit, relayed_down4}
-use Rattle.relay.specs.Relays.{Topology, CircuitFrame, for_circuit, is_behind, reply_to_found, reply_at_index, relayed_down_in, relayed_down4_in}
+use Rattle.config.specs.Topology.{Topology}
+use Rattle.relay.specs.Relays.{CircuitFrame, for_circuit, is_behind, reply_to_found, reply_at_index, relayed_down_in, relayed_down4_in}
 use Rattle.relay.proofs.RelaysLemmas.{from_listen4}
 
 -- ---- what comes out for a circuit is its own

@@ -13,7 +13,8 @@ use Rattle.config.specs.CircuitPart.{CircuitPart}
 use Rattle.types.specs.Addr.{same_source}
 use Rattle.v4_message.specs.Agent.{agent_of, is_value}
 use Rattle.relay.specs.Down4.{is_named, reply_of, suboptions_in, reply_on_link}
-use Rattle.relay.specs.Relays.{Topology, for_circuit, is_behind, reply_at_index, relayed_down_in, relayed_down4_in}
+use Rattle.config.specs.Topology.{Topology}
+use Rattle.relay.specs.Relays.{for_circuit, is_behind, reply_at_index, relayed_down_in, relayed_down4_in}
 
 -- ---- by the source
 

@@ -1,6 +1,6 @@
 -- The relays of a configuration with all their circuits, in both protocols.
-use Rattle.std.specs.Prelude.{ℕ, ◌+◌, min, Bool, false, ◌||◌, List, map, Option, Some, None, slice_get, slice_index, slice_set, Result, Ok, Err, if◌then◌else◌}
-use Rattle.std.specs.List.{list_any, position}
+use Rattle.std.specs.Prelude.{ℕ, ◌+◌, min, Bool, false, List, Option, Some, None, slice_get, slice_index, slice_set, Result, Ok, Err, if◌then◌else◌}
+use Rattle.std.specs.List.{position}
 use Rattle.types.specs.Addr.{same_source}
 use Rattle.types.specs.declared.addr.Source.{Source}
 use Rattle.types.specs.declared.dest.Proto.{Proto}
@@ -9,8 +9,8 @@ use Rattle.types.specs.declared.discard.Discard.{Discard}
 use Rattle.types.specs.declared.discard.Discard.TheVariants as reason
 use Rattle.v4_message.specs.Agent.{agent_of}
 use Rattle.v4_message.specs.Spelling.{MessageValue}
-use Rattle.config.specs.CircuitPart.{CircuitPart, parts_of}
-use Rattle.settings.specs.Settings.{Settings}
+use Rattle.config.specs.CircuitPart.{CircuitPart}
+use Rattle.config.specs.Topology.{Topology}
 use Rattle.relay.specs.SentFrame.{SentFrame}
 use Rattle.relay.specs.Up4.{relayed_up4}
 use Rattle.relay.specs.Down4.{◌>>=◌, is_named, reply_of, suboptions_in, reply_on_link, relayed_down4}
@@ -24,29 +24,6 @@ abbrev pub relayed_down : CircuitPart → Proto → List ℕ → Result SentFram
 relayed_down part V4 datagram = relayed_down4 part datagram
 
 -- ---- all circuits
-
--- What the relays know of a configuration: the server's addresses, where each relay's datagrams come
--- from, and each circuit's part.
-pub record Topology : Type 0 where
-  pub listen4 : Source
-  pub listen6 : Source
-  pub relays : List Source
-  pub circuits : List CircuitPart
-
-abbrev pub topology_of : Settings → Topology
-topology_of settings = record {
-  listen4 = settings.server.listen4;
-  listen6 = settings.server.listen6;
-  relays = map (λ relay. relay.source) settings.relays;
-  circuits = parts_of settings;
-}
-
--- whether datagrams from this source are a relay's, or the server's
-abbrev pub is_relay : Topology → Source → Bool
-is_relay topology source = list_any (same_source source) topology.relays
-
-abbrev pub is_server : Topology → Source → Bool
-is_server topology source = same_source source topology.listen4 || same_source source topology.listen6
 
 -- A frame for the circuit of this index.
 pub record CircuitFrame : Type 0 where

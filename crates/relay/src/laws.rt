@@ -7,7 +7,8 @@ ghost use Rattle.v4_message.specs.Agent.{agent_of};
 ghost use Rattle.v4_message.specs.Reading.{message_of};
 ghost use Rattle.v4_message.specs.Spelling.{MessageValue};
 ghost use Rattle.relay.specs.Down4.{is_named};
-ghost use Rattle.relay.specs.Relays.{CircuitFrame, Topology, for_circuit, relayed_down, relayed_down_in};
+ghost use Rattle.config.specs.Topology.{Topology};
+ghost use Rattle.relay.specs.Relays.{CircuitFrame, for_circuit, relayed_down, relayed_down_in};
 
 /// A frame for a circuit is the one that the circuit's own part makes of the datagram.
 pub fn agrees()

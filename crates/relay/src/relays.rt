@@ -1,14 +1,14 @@
 //! All relays of a configuration.
-ghost use Rattle.std.specs.Prelude.{◌≡◌, ◌≤◌, ◌<◌, nat_lt, [], length, map, replicate, Ok, Err, Some, IfOk, IfErr, OnOk, OnErr, slice_get};
+ghost use Rattle.std.specs.Prelude.{◌≡◌, ◌<◌, nat_lt, [], length, replicate, Ok, Err, Some, IfOk, IfErr, OnOk, OnErr, slice_get};
 ghost use Rattle.std.specs.List.{position};
-ghost use Rattle.std.specs.Str.{bytes_eq};
 ghost use Rattle.config.specs.CircuitPart as parts;
+ghost use Rattle.config.specs.Topology.{is_relay, is_server, topology_of};
 ghost use Rattle.relay.specs.Down4.{is_named};
-ghost use Rattle.relay.specs.Relays.{is_behind, is_relay, is_server, one_more, relayed_down_in, relayed_down4_in, relayed_up, topology_of};
+ghost use Rattle.relay.specs.Relays.{is_behind, one_more, relayed_down_in, relayed_down4_in, relayed_up};
 
 use crate::down4::{read_reply, read_suboptions, relay_down4};
 use crate::up4::relay_up4;
-use config::{CircuitPart, Config};
+use config::{CircuitPart, Circuits, Config};
 use std::alloc::{AllocError, Global};
 use std::marker::Model;
 use thiserror::Error;
@@ -24,22 +24,19 @@ pub struct Memory;
 /// The relays of a configuration: a copy of what they need of it, and a counter for each circuit.
 #[derive(Debug, Drop)]
 pub struct Relays {
-    listen4: Source,
-    listen6: Source,
-    sources: Vec<Source>,
-    circuits: Vec<CircuitPart>,
+    circuits: Circuits,
     discarded: Vec<u32>,
 }
 
 impl Model for Relays {
-    ghost use Rattle.std.specs.Prelude.{◌≡◌, ◌≤◌, length};
+    ghost use Rattle.std.specs.Prelude.{◌≡◌, length};
     ghost use Rattle.relay.specs.Relays.{RelaysValue};
 
     ghost Value = { RelaysValue };
 
-    ghost view = { λ r. record { topology = record { listen4 = r.listen4; listen6 = r.listen6; relays = r.sources.items; circuits = r.circuits.items }; discarded = r.discarded.items } };
+    ghost view = { λ r. record { topology = r.circuits; discarded = r.discarded.items } };
 
-    ghost invariant = { λ r. (length r.discarded.items ≡ length r.circuits.items) × (length r.circuits.items ≤ 1024) };
+    ghost invariant = { λ r. length r.discarded.items ≡ length r.circuits.circuits };
 }
 
 impl Relays {
@@ -55,14 +52,9 @@ impl Relays {
         ensures topology { IfOk result (λ relays. relays.topology ≡ topology_of config.now) }
         ensures discarded { IfOk result (λ relays. relays.discarded ≡ replicate (length config.now.circuits) 0) }
     {
-        let server = config.server();
-        let sources = sources_of(alloc, config)?;
-        let circuits = CircuitPart::all_of(alloc, config)?;
-        let discarded = vec![in alloc; 0; config.circuit_count()]?;
+        let circuits = Circuits::of(alloc, config)?;
+        let discarded = vec![in alloc; 0; circuits.count()]?;
         Ok(Relays {
-            listen4: server.listen4,
-            listen6: server.listen6,
-            sources,
             circuits,
             discarded,
         })
@@ -85,7 +77,7 @@ impl Relays {
         ensures counted { OnErr result (self.new ≡ record self.old { discarded = one_more circuit self.old.discarded }) }
         ensures topology { self.new.topology ≡ self.old.topology }
     {
-        match relay_up(self.part(circuit), proto, frame, out) {
+        match relay_up(self.circuits.part(circuit), proto, frame, out) {
             Ok(()) => Ok(()),
             Err(why) => {
                 self.count_discarded(circuit);
@@ -119,10 +111,10 @@ impl Relays {
         ensures exists { IfOk result (λ sent. sent.0 < length self.now.topology.circuits) }
     {
         out.clear();
-        if source == self.listen4 {
+        if source == self.circuits.listen4() {
             return self.down4(relay, bytes, out);
         }
-        if source == self.listen6 {
+        if source == self.circuits.listen6() {
             return Err(Discard::MalformedDown);
         }
         Err(Discard::NotServer)
@@ -147,7 +139,7 @@ impl Relays {
         let Some(circuit) = self.circuit_named(&suboptions) else {
             return Err(Discard::UnknownCircuitDown);
         };
-        let part = self.part(circuit);
+        let part = self.circuits.part(circuit);
         if !self.is_behind(relay, part) {
             return Err(Discard::UnknownCircuitDown);
         }
@@ -160,15 +152,7 @@ impl Relays {
         ensures { result ≡ position (is_named suboptions.now) self.now.topology.circuits }
     {
         let id = suboptions.get(code::CIRCUIT_ID)?;
-        let index = index_of(&self.circuits, id)?;
-        Circuit::new(index)
-    }
-
-    fn part(&self, circuit: Circuit) -> &CircuitPart
-        requires { circuit < length self.now.topology.circuits }
-        ensures { slice_get self.now.topology.circuits circuit ≡ Some result.now }
-    {
-        &self.circuits[circuit.index()]
+        self.circuits.find(id)
     }
 
     /// Whether a circuit is this relay's, by where the relay's datagrams come from.
@@ -176,28 +160,28 @@ impl Relays {
         requires { relay < length self.now.topology.relays }
         ensures { result ≡ is_behind (slice_get self.now.topology.relays relay) part.now }
     {
-        self.sources[relay.index()] == part.relay()
+        self.circuits.relay(relay) == part.relay()
     }
 
     /// Whether there is a relay of this index.
     pub fn exists(&self, relay: RelayNo) -> bool
         ensures { result ≡ nat_lt relay (length self.now.topology.relays) }
     {
-        relay.index() < self.sources.len()
+        relay.index() < self.circuits.relay_count()
     }
 
     /// Whether one of the relays sends its datagrams from here.
     pub fn is_relay(&self, source: Source) -> bool
         ensures { result ≡ is_relay self.now.topology source }
     {
-        self.sources.iter().any(|relay| source == *relay)
+        self.circuits.is_relay(source)
     }
 
     /// Whether the server sends its datagrams from here, in either protocol.
     pub fn is_server(&self, source: Source) -> bool
         ensures { result ≡ is_server self.now.topology source }
     {
-        source == self.listen4 || source == self.listen6
+        self.circuits.is_server(source)
     }
 
     /// How many frames of a circuit were discarded, at most 4294967295.
@@ -207,27 +191,6 @@ impl Relays {
     {
         self.discarded[circuit.index()]
     }
-}
-
-/// The index of the first circuit with exactly this id.
-fn index_of(circuits: &[CircuitPart], id: &[u8]) -> Option<usize>
-    ensures { result ≡ position (λ part. bytes_eq id.now part.id) circuits.now }
-{
-    circuits.iter().position(|part| id == part.id().as_bytes())
-}
-
-/// Where the datagrams of each relay come from, in the order of the configuration.
-fn sources_of(alloc: Global, config: &Config) -> Result<Vec<Source>, AllocError>
-    ensures { IfOk result (λ sources. sources.items ≡ map (λ relay. relay.source) config.now.relays) }
-{
-    let mut sources = Vec::with_capacity(alloc, config.relay_count())?;
-    'relays: for index in 0..config.relay_count() {
-        let Some(no) = RelayNo::new(index) else {
-            unreachable!()
-        };
-        sources.push(config.relay(no).source)?;
-    }
-    Ok(sources)
 }
 
 /// What one circuit's relay makes of a frame, in its protocol.

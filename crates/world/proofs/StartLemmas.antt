@@ -20,7 +20,7 @@ use Rattle.lease_disk.specs.Region.{IsClean, Region}
 use Rattle.lossy_net.specs.Net.{datagrams}
 use Rattle.lossy_net.specs.declared.dir.Dir.{Dir}
 use Rattle.lossy_net.specs.declared.dir.Dir.TheVariants as dir
-use Rattle.relay.specs.Relays.{Topology, topology_of}
+use Rattle.config.specs.Topology.{Topology, topology_of}
 use Rattle.relay.proofs.AllLemmas.{same_source_self}
 use Rattle.world.specs.Alone.{start}
 use Rattle.world.specs.Headline.{Represents}

@@ -15,7 +15,8 @@ use Rattle.lease_disk.specs.Device.{Device}
 use Rattle.lossy_net.specs.Net.{NetValue, datagrams}
 use Rattle.lossy_net.specs.declared.dir.Dir.TheVariants.{Up, Down}
 use Rattle.world.specs.Headline.{CircuitState}
-use Rattle.relay.specs.Relays.{CircuitFrame, RelaysValue, Topology, is_server, relayed_down_in}
+use Rattle.config.specs.Topology.{Topology, is_server}
+use Rattle.relay.specs.Relays.{CircuitFrame, RelaysValue, relayed_down_in}
 
 either_false : (a b : Bool) → (a || b) ≡ false → (a ≡ false) × (b ≡ false)
 either_false true b h = absurd cc

@@ -9,7 +9,8 @@ use Rattle.dispatch.specs.ServerValue.{AreReady, RegionsDiffer, parts_in}
 use Rattle.lease_disk.specs.Model as disk
 use Rattle.lossy_net.specs.Net.{Datagram, datagrams}
 use Rattle.lossy_net.specs.declared.dir.Dir.TheVariants.{Up, Down}
-use Rattle.relay.specs.Relays.{Topology, for_circuit, relayed_down, relayed_down_in}
+use Rattle.config.specs.Topology.{Topology}
+use Rattle.relay.specs.Relays.{for_circuit, relayed_down, relayed_down_in}
 use Rattle.world.specs.Alone.{Alone, Effect, Setup, alone_step, writes}
 use Rattle.world.specs.Headline.{CircuitState, IsOutcome, Shows}
 use Rattle.world.specs.Seen.{Seen}

@@ -3,7 +3,7 @@
 use Rattle.std.specs.Prelude.{ℕ, Bool, true, false, nat_lt, length, Option, Some, None, if◌then◌else◌}
 use Rattle.types.specs.declared.addr.Source.{Source}
 use Rattle.types.specs.declared.discard.Discard.TheVariants.{UnknownSource, NotServer}
-use Rattle.relay.specs.Relays.{Topology, is_relay, is_server}
+use Rattle.config.specs.Topology.{Topology, is_relay, is_server}
 use Rattle.world.specs.declared.event.Event.{Event}
 use Rattle.world.specs.declared.event.Event.TheVariants as event
 use Rattle.world.specs.declared.outcome.Outcome.{Outcome}

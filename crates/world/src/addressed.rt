@@ -7,7 +7,8 @@ ghost use Rattle.types.specs.declared.dest.Proto.{Proto};
 ghost use Rattle.config.specs.CircuitPart.{CircuitPart, IsPart};
 ghost use Rattle.dispatch.specs.Addressee.{addressee};
 ghost use Rattle.dispatch.specs.Server.{Book, served};
-ghost use Rattle.relay.specs.Relays.{Topology, for_circuit, relayed_down, relayed_down_in, relayed_up};
+ghost use Rattle.config.specs.Topology.{Topology};
+ghost use Rattle.relay.specs.Relays.{for_circuit, relayed_down, relayed_down_in, relayed_up};
 ghost use Rattle.types.specs.declared.dest.Proto.TheVariants.{V4};
 ghost use Rattle.wire.specs.Bytes.{AreBytes};
 

@@ -6,7 +6,7 @@ ghost use Rattle.dispatch.specs.ServerValue.{RegionsDiffer, parts_in};
 ghost use Rattle.dispatch.specs.declared.server.OpenFault.TheVariants as fault;
 ghost use Rattle.lease_disk.specs.Crash.{crashed};
 ghost use Rattle.lease_disk.specs.Model.{device_of, state_of};
-ghost use Rattle.relay.specs.Relays.{topology_of};
+ghost use Rattle.config.specs.Topology.{topology_of};
 ghost use Rattle.world.specs.Headline.{EmitsAt, Emits, KeepsSpares, Reaches, Steps, frame_of};
 ghost use Rattle.world.specs.Seen.{Frame, Up, Down, Tick, Restart, image_at};
 ghost use Rattle.world.specs.declared.outcome.Outcome.TheVariants as outcome;

@@ -1,7 +1,7 @@
 use Rattle.std.proofs.Common.{◌≡◌, ℕ, ◌+◌, ◌≤◌, ◌<◌, List, length}
 use Rattle.std.specs.Prelude.{Option}
 use Rattle.std.specs.Io.KnownBytes.{prepend_known}
-use Rattle.relay.specs.Relays.{topology_of}
+use Rattle.config.specs.Topology.{topology_of}
 use Rattle.lab.specs.Follows.{SoFar}
 use Rattle.lab.specs.Lab.{Output}
 use Rattle.lab_text.specs.LineEnd.{Fits, IsCounted, IsLineEnd, len_of, feeds_of}

@@ -1,5 +1,5 @@
 use Rattle.std.proofs.Common.{refl, subst, ◌∙◌}
-use Rattle.relay.specs.Relays.{Topology}
+use Rattle.config.specs.Topology.{Topology}
 use Rattle.world.specs.Headline.{KeepsSpares}
 use Rattle.world.proofs.Runs.{reaches_nothing, emits_nothing, reaches_next, emits_next, emits_at}
 use Rattle.world.proofs.WorldLemmas.{spares_stay, spares_then}

@@ -1,4 +1,5 @@
 use Rattle.std.proofs.Common.{Some, None, sym, ap, ◌∙◌}
+use Rattle.std.specs.Prelude.{slice_get}
 use Rattle.std.proofs.lemmas.Result.{err_from_is_err_and}
 use Rattle.relay.specs.Relays.{for_circuit}
 use Rattle.relay.proofs.RelaysLemmas.{no_reply, no_suboptions, at_index, other_relay, own_relay}
@@ -25,7 +26,7 @@ returns-then-not-is_behind-clause-err c =
     let topology = c.args.self.now.topology in
     at_index topology c.args.relay c.args.datagram.now c.in_ok-reply.reply c.in_ok-suboptions.suboptions (Some c.in-Some.circuit)
     c.in_ok-reply.ensures.value c.in_ok-suboptions.ensures c.in-Some.ensures
-    ∙ other_relay topology c.args.relay c.in-Some.circuit c.in_ok-reply.reply c.part-part.result.now c.part-part.ensures (sym c.if-not-is_behind.ensures)
+    ∙ other_relay topology c.args.relay c.in-Some.circuit c.in_ok-reply.reply c.part-part.result.now (ap (λ v. slice_get v.topology.circuits c.in-Some.circuit) (sym c.self.view_is) ∙ c.part-part.ensures) (sym c.if-not-is_behind.ensures)
 
 pub returns-in_err-dest-clause-err : goal.returns-in_err-dest-clause-err
 returns-in_err-dest-clause-err c =
@@ -34,7 +35,7 @@ returns-in_err-dest-clause-err c =
     rw (p.1, p.2)
     (at_index topology c.args.relay c.args.datagram.now c.in_ok-reply.reply c.in_ok-suboptions.suboptions (Some c.in-Some.circuit)
     c.in_ok-reply.ensures.value c.in_ok-suboptions.ensures c.in-Some.ensures
-    ∙ own_relay topology c.args.relay c.in-Some.circuit c.in_ok-reply.reply c.part-part.result.now c.part-part.ensures (sym c.if-not-is_behind.ensures)
+    ∙ own_relay topology c.args.relay c.in-Some.circuit c.in_ok-reply.reply c.part-part.result.now (ap (λ v. slice_get v.topology.circuits c.in-Some.circuit) (sym c.self.view_is) ∙ c.part-part.ensures) (sym c.if-not-is_behind.ensures)
     ∙ ap (for_circuit c.in-Some.circuit) c.in_err-dest.ensures.err)
 
 pub returns-clause-ok : goal.returns-clause-ok
@@ -42,5 +43,5 @@ returns-clause-ok c =
     let topology = c.args.self.now.topology in
     at_index topology c.args.relay c.args.datagram.now c.in_ok-reply.reply c.in_ok-suboptions.suboptions (Some c.in-Some.circuit)
     c.in_ok-reply.ensures.value c.in_ok-suboptions.ensures c.in-Some.ensures
-    ∙ own_relay topology c.args.relay c.in-Some.circuit c.in_ok-reply.reply c.part-part.result.now c.part-part.ensures (sym c.if-not-is_behind.ensures)
+    ∙ own_relay topology c.args.relay c.in-Some.circuit c.in_ok-reply.reply c.part-part.result.now (ap (λ v. slice_get v.topology.circuits c.in-Some.circuit) (sym c.self.view_is) ∙ c.part-part.ensures) (sym c.if-not-is_behind.ensures)
     ∙ ap (for_circuit c.in-Some.circuit) c.in_ok-dest.ensures.ok

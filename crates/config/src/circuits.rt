@@ -1,0 +1,166 @@
+//! What relays and server keep of a configuration: its addresses and the parts of its circuits.
+ghost use Rattle.std.specs.Prelude.{◌≡◌, ◌<◌, ◌≤◌, length, map, All, Some, IfOk, IfSome, slice_get};
+ghost use Rattle.std.specs.List.{position};
+ghost use Rattle.std.specs.Str.{bytes_eq};
+ghost use Rattle.config.specs.CircuitPart.{IsPart, parts_of};
+ghost use Rattle.config.specs.Rules.{IsSound};
+ghost use Rattle.config.specs.Topology.{is_relay, is_server, topology_of};
+
+use crate::circuit_part::CircuitPart;
+use crate::config::Config;
+use std::alloc::{AllocError, Global};
+use std::marker::Model;
+use types::{Circuit, RelayNo, Source};
+
+/// The server's addresses, where each relay's datagrams come from, and the parts of all circuits. It
+/// is a copy, made once, in which circuits and relays are found.
+#[derive(Debug, Drop)]
+pub struct Circuits {
+    listen4: Source,
+    listen6: Source,
+    relays: Vec<Source>,
+    parts: Vec<CircuitPart>,
+}
+
+impl Model for Circuits {
+    ghost use Rattle.std.specs.Prelude.{◌≤◌, length};
+    ghost use Rattle.config.specs.Topology.{Topology};
+
+    ghost Value = { Topology };
+
+    ghost view = { λ c. record { listen4 = c.listen4; listen6 = c.listen6; relays = c.relays.items; circuits = c.parts.items } };
+
+    ghost invariant = { λ c. length c.parts.items ≤ 1024 };
+}
+
+impl Circuits {
+    /// The circuits of a configuration, in its order. All memory is taken here; an error where some is
+    /// refused.
+    pub fn of(alloc: Global, config: &Config) -> Result<Circuits, AllocError>
+        ensures topology { IfOk result (λ circuits. circuits ≡ topology_of config.now) }
+        ensures parts { IfOk result (λ circuits. All IsPart (parts_of config.now)) }
+        ensures sound { IsSound config.now }
+    {
+        let server = config.server();
+        let relays = relays_of(alloc, config)?;
+        let parts = parts_of(alloc, config)?;
+        Ok(Circuits {
+            listen4: server.listen4,
+            listen6: server.listen6,
+            relays,
+            parts,
+        })
+    }
+
+    /// The circuit with exactly these bytes as its id.
+    pub fn find(&self, id: &[u8]) -> Option<Circuit>
+        ensures found { result ≡ position (λ part. bytes_eq id.now part.id) self.now.circuits }
+        ensures within { IfSome result (λ circuit. circuit < length self.now.circuits) }
+    {
+        match index_of(&self.parts, id) {
+            Some(index) => Circuit::new(index),
+            None => None,
+        }
+    }
+
+    pub fn part(&self, circuit: Circuit) -> &CircuitPart
+        requires { circuit < length self.now.circuits }
+        ensures { slice_get self.now.circuits circuit ≡ Some result.now }
+    {
+        &self.parts[circuit.index()]
+    }
+
+    /// The parts of all circuits, in the order of the configuration.
+    pub fn parts(&self) -> &[CircuitPart]
+        ensures { result.now ≡ self.now.circuits }
+    {
+        &self.parts
+    }
+
+    /// How many circuits there are, at most 1024.
+    pub fn count(&self) -> usize
+        ensures value { result ≡ length self.now.circuits }
+        ensures most { length self.now.circuits ≤ 1024 }
+    {
+        self.parts.len()
+    }
+
+    /// How many relays there are.
+    pub fn relay_count(&self) -> usize
+        ensures { result ≡ length self.now.relays }
+    {
+        self.relays.len()
+    }
+
+    /// Where the datagrams of a relay come from.
+    pub fn relay(&self, relay: RelayNo) -> Source
+        requires { relay < length self.now.relays }
+        ensures { slice_get self.now.relays relay ≡ Some result }
+    {
+        self.relays[relay.index()]
+    }
+
+    /// Where the server receives DHCPv4 datagrams.
+    pub fn listen4(&self) -> Source
+        ensures { result ≡ self.now.listen4 }
+    {
+        self.listen4
+    }
+
+    /// Where the server receives DHCPv6 datagrams.
+    pub fn listen6(&self) -> Source
+        ensures { result ≡ self.now.listen6 }
+    {
+        self.listen6
+    }
+
+    /// Whether one of the relays sends its datagrams from here.
+    pub fn is_relay(&self, source: Source) -> bool
+        ensures { result ≡ is_relay self.now source }
+    {
+        self.relays.iter().any(|relay| source == *relay)
+    }
+
+    /// Whether the server sends its datagrams from here, in either protocol.
+    pub fn is_server(&self, source: Source) -> bool
+        ensures { result ≡ is_server self.now source }
+    {
+        source == self.listen4 || source == self.listen6
+    }
+}
+
+/// The index of the first circuit with exactly this id.
+fn index_of(parts: &[CircuitPart], id: &[u8]) -> Option<usize>
+    ensures { result ≡ position (λ part. bytes_eq id.now part.id) parts.now }
+{
+    parts.iter().position(|part| id == part.id().as_bytes())
+}
+
+/// Where the datagrams of each relay come from, in the order of the configuration.
+fn relays_of(alloc: Global, config: &Config) -> Result<Vec<Source>, AllocError>
+    ensures { IfOk result (λ sources. sources.items ≡ map (λ relay. relay.source) config.now.relays) }
+{
+    let mut sources = Vec::with_capacity(alloc, config.relay_count())?;
+    'relays: for index in 0..config.relay_count() {
+        let Some(no) = RelayNo::new(index) else {
+            unreachable!()
+        };
+        sources.push(config.relay(no).source)?;
+    }
+    Ok(sources)
+}
+
+/// The parts of all circuits, in the order of the configuration.
+fn parts_of(alloc: Global, config: &Config) -> Result<Vec<CircuitPart>, AllocError>
+    ensures value { IfOk result (λ parts. parts.items ≡ parts_of config.now) }
+    ensures sound { IfOk result (λ parts. All IsPart (parts_of config.now)) }
+{
+    let mut parts = Vec::with_capacity(alloc, config.circuit_count())?;
+    'circuits: for index in 0..config.circuit_count() {
+        let Some(circuit) = Circuit::new(index) else {
+            unreachable!()
+        };
+        parts.push(CircuitPart::of(config, circuit))?;
+    }
+    Ok(parts)
+}
