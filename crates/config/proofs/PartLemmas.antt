@@ -1,8 +1,10 @@
 -- A circuit's part, from the values that a configuration keeps.
 use Rattle.std.proofs.Common.{◌≡◌, ◌<◌, ◌+◌, ◌-◌, ◌%◌, ◌^◌, ℕ, zero, suc, Bool, true, false, List, [], ◌∷◌, ◌++◌, length, take, refl, sym, ap, subst, ◌∙◌, arith}
-use Rattle.std.specs.Prelude.{None, Some, All, slice_get, option_map}
+use Rattle.std.specs.Prelude.{Option, None, Some, All, slice_get, option_map}
 use Rattle.std.specs.Int.{w32, from_be_bytes}
 use Rattle.std.proofs.Math.Nat.{zero-mod}
+use Rattle.std.specs.List.{position}
+use Rattle.std.proofs.lemmas.List.Quantifiers.{position-Some}
 use Rattle.std.proofs.lemmas.List.{take_more}
 use Rattle.std.proofs.lemmas.List.Elements.{All-append, All-cons, All-get_or, All-nil}
 use Rattle.std.proofs.lemmas.Option.{slice_get-map, slice_get_within, get_or_from_slice_get}
@@ -87,3 +89,13 @@ pub one_sound_more : (settings : Settings) (c : ℕ) (part : CircuitPart)
     → part_in settings c ≡ Some part → IsPart part → All IsPart (take c (parts_of settings)) → All IsPart (take (c + 1) (parts_of settings))
 one_sound_more settings c part there sound before =
     subst (All IsPart) (sym (next_part settings c part there)) (All-append IsPart (take c (parts_of settings)) (part ∷ []) before (All-cons IsPart part [] sound (All-nil IsPart)))
+
+-- ---- finding a circuit
+
+pub never : {X : Type 0} (xs : List X) → position (λ x. false) xs ≡ None
+never [] = refl
+never (x ∷ xs) = by_result (position (λ y. false) (x ∷ xs)) refl
+  where
+    by_result : (r : Option ℕ) → position (λ y. false) (x ∷ xs) ≡ r → r ≡ None
+    by_result None same = refl
+    by_result (Some i) same = let h = (position-Some (λ y. false) (x ∷ xs) i x same).1 in absurd cc

@@ -5,3 +5,4 @@ pub mod ReceivedLemmas
 pub mod RegionLemmas
 pub mod SaveLemmas
 pub mod ServerLemmas
+pub mod WithStates

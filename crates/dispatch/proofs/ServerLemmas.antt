@@ -5,7 +5,6 @@ use Rattle.std.specs.Prelude.{Some, None, is_some, option_map, nat_lt, slice_get
 use Rattle.std.proofs.lemmas.Bool.{ltb-true}
 use Rattle.std.proofs.lemmas.Option.{same_Some, none-some, slice_get-map, slice_get_past, slice_get_read}
 use Rattle.std.proofs.lemmas.List.Elements.{All-nil, All-cons, All-head, All-tail}
-use Rattle.config.specs.CircuitPart.{CircuitPart}
 use Rattle.lease_disk.specs.Region.{Region}
 use Rattle.dispatch.specs.Leases.{found_leases}
 use Rattle.dispatch.specs.ServerValue.{CircuitServerValue, book_of, leases_of, part_of}
@@ -84,10 +83,6 @@ all_moved P Q (x ∷ xs) zero y q all h = All-cons Q y xs q (all_kept P Q xs (Al
 all_moved P Q (x ∷ xs) (suc c) y q all h =
     All-cons Q x (set xs c y) (h 0 x refl (λ same. absurd (omega (arith, same))) (All-head P x xs all))
     (all_moved P Q xs c y q (All-tail P x xs all) (λ k z e apart. h (suc k) z e (λ same. apart (omega (arith, same)))))
-
--- what holds of each part holds of a circuit's
-pub at_part : (P : CircuitPart → Type 0) (xs : List CircuitServerValue) (i : ℕ) (x : CircuitServerValue) → i < length xs → All P (map part_of xs) → P (get_or xs i x).part
-at_part P xs i x within all = subst P (get_or-map part_of xs i x (part_of x) within) (all i (part_of x) (subst (λ n. i < n) (sym (length-map xs part_of)) within))
 
 -- circuits that all begin with what their regions hold
 pub all_found : (regions : ℕ → Region) (xs : List CircuitServerValue) → All (λ s. leases_of regions s ≡ found_leases regions s.part) xs

@@ -1,7 +1,7 @@
 -- What shows of the server in the code.
-use Rattle.std.specs.Prelude.{◌≡◌, ℕ, List, map, Option, Some, None, option_map, All, slice_get}
+use Rattle.std.specs.Prelude.{◌≡◌, ℕ, List, [], ◌∷◌, length, map, Option, Some, None, IfSome, option_map, All, slice_get}
 use Rattle.types.specs.declared.addr.Source.{Source}
-use Rattle.config.specs.CircuitPart.{CircuitPart}
+use Rattle.config.specs.CircuitPart.{CircuitPart, pool4_of}
 use Rattle.lease_disk.specs.declared.bank.Marks.{Marks}
 use Rattle.lease_disk.specs.Region.{Region, IsClean}
 use Rattle.lease_disk.specs.Save.{AreMarks}
@@ -21,6 +21,12 @@ pub record CircuitServerValue : Type 0 where
   pub part : CircuitPart
   pub state : Option OpenCircuitValue
 
+-- Each part with what its circuit has, in order. A circuit that has nothing is closed.
+abbrev pub with_states : List CircuitPart → List (Option OpenCircuitValue) → List CircuitServerValue
+with_states [] states = []
+with_states (part ∷ parts) [] = record { part = part; state = None } ∷ with_states parts []
+with_states (part ∷ parts) (state ∷ states) = record { part = part; state = state } ∷ with_states parts states
+
 -- its book, by what the slots of its pool hold
 abbrev pub open_book : OpenCircuitValue → Book
 open_book o = record { clock = o.clock; four = slots.book_of o.clock o.slots }
@@ -34,6 +40,13 @@ part_of s = s.part
 -- its leases, by its book and its region
 abbrev pub leases_of : (ℕ → Region) → CircuitServerValue → Leases
 leases_of regions s = record { book = book_of s; restarts = restarts_of s.part (regions s.part.region) }
+
+-- the slots of an open circuit are those of its pool
+abbrev pub HasPool : CircuitPart → Option OpenCircuitValue → Type 0
+HasPool part state = IfSome state (λ o. o.slots.pool ≡ pool4_of part)
+
+abbrev pub HasItsPool : CircuitServerValue → Type 0
+HasItsPool s = HasPool s.part s.state
 
 -- an open circuit's region can be saved to
 abbrev pub IsReadyFor : Region → Option OpenCircuitValue → Type 0
@@ -66,3 +79,9 @@ AreReady regions s = All (IsReady regions) s.circuits
 abbrev pub RegionsDiffer : List CircuitPart → Type 0
 RegionsDiffer parts =
     (c d : ℕ) (one other : CircuitPart) → slice_get parts c ≡ Some one → slice_get parts d ≡ Some other → one.region ≡ other.region → c ≡ d
+
+-- what the fields of a server keep: a state for each part, with the slots of its pool
+pub record IsServer (parts : List CircuitPart) (states : List (Option OpenCircuitValue)) : Type 0 where
+  pub size : length states ≡ length parts
+  pub regions : RegionsDiffer parts
+  pub pools : All HasItsPool (with_states parts states)

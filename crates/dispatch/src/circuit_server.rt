@@ -1,11 +1,11 @@
 //! The server of one circuit: what it has while it is open, and what it makes of a message.
-ghost use Rattle.std.specs.Prelude.{◌≡◌, ◌<◌, ◌≤◌, ◌+◌, ℕ, [], List, Ok, Some, true, is_some, nat_lt, IfSome};
+ghost use Rattle.std.specs.Prelude.{◌≡◌, ◌<◌, ◌≤◌, ◌+◌, ℕ, [], List, Ok, Some, None, true, is_some, nat_lt, option_map};
 ghost use Rattle.v4_message.specs.Reading.{message_of};
-ghost use Rattle.config.specs.CircuitPart.{pool4_of};
-ghost use Rattle.dispatch.specs.Leases.{after_datagram, after_tick, found_book};
+ghost use Rattle.config.specs.CircuitPart as parts;
+ghost use Rattle.dispatch.specs.Leases.{after_datagram, found_book};
 ghost use Rattle.dispatch.specs.Received.{IsAnswer, answered, circuit_fails, circuit_saves};
-ghost use Rattle.dispatch.specs.Server.{reply_to};
-ghost use Rattle.dispatch.specs.ServerValue.{IsReady, book_of, leases_of};
+ghost use Rattle.dispatch.specs.Server.{book_at, reply_to};
+ghost use Rattle.dispatch.specs.ServerValue.{HasPool, IsReadyFor, leases_of, open_book};
 ghost use Rattle.lease_disk.specs.Device.{Touches, TouchesNothing, WritesAt};
 ghost use Rattle.lease_disk.specs.Region.{IsClean, Region};
 
@@ -19,85 +19,76 @@ use types::{Discard, Moment, Reply4};
 use v4_message::Message;
 use wire::PacketBuf;
 
-/// The server of one circuit. It holds all that it needs of the configuration, and none of its calls
-/// allocates.
+/// The server of one circuit: what it has while the circuit is open.
 #[derive(Drop)]
 pub(crate) struct CircuitServer {
-    part: CircuitPart,
     state: Option<OpenCircuit>,
 }
 
 impl Model for CircuitServer {
-    ghost use Rattle.std.specs.Prelude.{◌≡◌, IfSome};
-    ghost use Rattle.config.specs.CircuitPart.{pool4_of};
-    ghost use Rattle.dispatch.specs.ServerValue.{CircuitServerValue};
+    ghost use Rattle.std.specs.Prelude.{Option};
+    ghost use Rattle.dispatch.specs.ServerValue.{OpenCircuitValue};
 
-    ghost Value = { CircuitServerValue };
+    ghost Value = { Option OpenCircuitValue };
 
-    ghost view = { λ s. record { part = s.part; state = s.state } };
-
-    ghost invariant = { λ s. IfSome s.state (λ o. o.slots.pool ≡ pool4_of s.part) };
+    ghost view = { λ s. s.state };
 }
 
 impl CircuitServer {
-    /// The server of this circuit, which is closed until its region is recovered.
-    pub(crate) fn closed(part: CircuitPart) -> CircuitServer
-        ensures { result.part ≡ part }
+    /// The server of a closed circuit.
+    pub(crate) fn closed() -> CircuitServer
+        ensures { result ≡ None }
     {
-        CircuitServer { part, state: None }
-    }
-
-    /// The circuit's part of the configuration.
-    pub(crate) fn part(&self) -> &CircuitPart
-        ensures { result.now ≡ self.now.part }
-    {
-        &self.part
+        CircuitServer { state: None }
     }
 
     /// Whether the circuit is open.
     pub(crate) fn is_open(&self) -> bool
-        ensures { result ≡ is_some (book_of self.now) }
+        ensures { result ≡ is_some (option_map open_book self.now) }
     {
         self.state.is_some()
     }
 
     /// Begins with what the circuit's region holds. The circuit is closed where the region cannot be
     /// read or is damaged.
-    pub(crate) fn restart<D: Disk>(&mut self, disk: &mut D)
-        requires { self.old.part.region < (D.device disk.old).count }
-        ensures part { self.new.part ≡ self.old.part }
-        ensures book { D.tells ≡ true → book_of self.new ≡ found_book self.old.part ((D.device disk.old).region self.old.part.region) }
-        ensures ready { D.tells ≡ true → (((D.device disk.old).region self.old.part.region).readable ≡ true → IsClean ((D.device disk.old).region self.old.part.region)) → IsReady (D.device disk.old).region self.new }
+    pub(crate) fn restart<D: Disk>(&mut self, part: &CircuitPart, disk: &mut D)
+        requires { part.now.region < (D.device disk.old).count }
+        ensures pool { HasPool part.now self.new }
+        ensures book { D.tells ≡ true → option_map open_book self.new ≡ found_book part.now ((D.device disk.old).region part.now.region) }
+        ensures ready { D.tells ≡ true → (((D.device disk.old).region part.now.region).readable ≡ true → IsClean ((D.device disk.old).region part.now.region)) → IsReadyFor ((D.device disk.old).region part.now.region) self.new }
         ensures frame { TouchesNothing D.tells (D.device disk.old) (D.device disk.new) }
         ensures reads { (D.device disk.new).reads ≤ (D.device disk.old).reads + 4 }
     {
-        self.state = OpenCircuit::recover(&self.part, disk);
+        self.state = OpenCircuit::recover(part, disk);
     }
 
     /// Answers a message of the circuit at this moment. A save that fails closes the circuit.
     pub(crate) fn answer<D: Disk>(
         &mut self,
+        part: &CircuitPart,
         message: &Message<'_>,
         now: Moment,
         disk: &mut D,
         out: &mut PacketBuf,
     ) -> Result<(), Discard>
         requires empty { out.old ≡ [] }
-        requires exists { self.old.part.region < (D.device disk.old).count }
-        requires ready { D.tells ≡ true → IsReady (D.device disk.old).region self.old }
-        ensures part { self.new.part ≡ self.old.part }
+        requires exists { part.now.region < (D.device disk.old).count }
+        requires pool { HasPool part.now self.old }
+        requires ready { D.tells ≡ true → IsReadyFor ((D.device disk.old).region part.now.region) self.old }
+        ensures pool { HasPool part.now self.new }
         ensures answer { (datagram : List ℕ) → message_of datagram ≡ Ok message.now
-            → IsAnswer (answered self.old.part now datagram (nat_lt (D.device disk.old).failures (D.device disk.new).failures) (book_of self.old)).answer result out.new }
+            → IsAnswer (answered part.now now datagram (nat_lt (D.device disk.old).failures (D.device disk.new).failures) (option_map open_book self.old)).answer result out.new }
         ensures book { (datagram : List ℕ) → message_of datagram ≡ Ok message.now
-            → book_of self.new ≡ (answered self.old.part now datagram (nat_lt (D.device disk.old).failures (D.device disk.new).failures) (book_of self.old)).book }
+            → option_map open_book self.new ≡ (answered part.now now datagram (nat_lt (D.device disk.old).failures (D.device disk.new).failures) (option_map open_book self.old)).book }
         ensures fails { D.tells ≡ true → (datagram : List ℕ) → message_of datagram ≡ Ok message.now
-            → nat_lt (D.device disk.old).failures (D.device disk.new).failures ≡ circuit_fails now datagram (D.device disk.old).fuse (Some self.old.part) (Some (book_of self.old)) }
+            → nat_lt (D.device disk.old).failures (D.device disk.new).failures ≡ circuit_fails now datagram (D.device disk.old).fuse (Some part.now) (Some (option_map open_book self.old)) }
         ensures leases { D.tells ≡ true → (datagram : List ℕ) → message_of datagram ≡ Ok message.now
-            → leases_of (D.device disk.new).region self.new ≡ after_datagram self.old.part now datagram ((D.device disk.old).fuse self.old.part.region) (leases_of (D.device disk.old).region self.old) }
-        ensures ready { D.tells ≡ true → IsReady (D.device disk.new).region self.new }
+            → leases_of (D.device disk.new).region (record { part = part.now; state = self.new })
+            ≡ after_datagram part.now now datagram ((D.device disk.old).fuse part.now.region) (leases_of (D.device disk.old).region (record { part = part.now; state = self.old })) }
+        ensures ready { D.tells ≡ true → IsReadyFor ((D.device disk.new).region part.now.region) self.new }
         ensures writes { (datagram : List ℕ) → message_of datagram ≡ Ok message.now
-            → WritesAt D.tells (circuit_saves now datagram (Some self.old.part) (Some (book_of self.old))) (D.device disk.old) (D.device disk.new) }
-        ensures frame { Touches D.tells self.old.part.region (D.device disk.old) (D.device disk.new) }
+            → WritesAt D.tells (circuit_saves now datagram (Some part.now) (Some (option_map open_book self.old))) (D.device disk.old) (D.device disk.new) }
+        ensures frame { Touches D.tells part.now.region (D.device disk.old) (D.device disk.new) }
     {
         let Some(circuit) = &mut self.state else {
             return Err(Discard::CircuitClosed);
@@ -108,8 +99,8 @@ impl CircuitServer {
             Err(why) => return Err(why),
         };
         let decision = circuit.decide(&request);
-        match circuit.keep(&self.part, &decision, disk) {
-            Ok(()) => reply(&self.part, message, decision.answer, out),
+        match circuit.keep(part, &decision, disk) {
+            Ok(()) => reply(part, message, decision.answer, out),
             Err(_) => {
                 self.state = None;
                 Err(Discard::DiskFault)
@@ -119,9 +110,9 @@ impl CircuitServer {
 
     /// Moves the clock of an open circuit to this moment, where it is a later one.
     pub(crate) fn tick(&mut self, now: Moment)
-        ensures part { self.new.part ≡ self.old.part }
-        ensures leases { (regions : ℕ → Region) → leases_of regions self.new ≡ after_tick now (leases_of regions self.old) }
-        ensures ready { (regions : ℕ → Region) → IsReady regions self.old → IsReady regions self.new }
+        ensures book { option_map open_book self.new ≡ option_map (book_at now) (option_map open_book self.old) }
+        ensures pool { (part : parts.CircuitPart) → HasPool part self.old → HasPool part self.new }
+        ensures ready { (region : Region) → IsReadyFor region self.old → IsReadyFor region self.new }
     {
         if let Some(circuit) = &mut self.state {
             circuit.tick(now);

@@ -1,21 +1,22 @@
 //! The server of all circuits, over a device that keeps their leases.
-ghost use Rattle.std.specs.Prelude.{◌≡◌, ◌<◌, ◌≤◌, ◌+◌, ◌*◌, ◌↔◌, [], ℕ, length, map, slice_get, All, Some, true, false, is_some, nat_lt, IfOk, IfErr};
+ghost use Rattle.std.specs.Prelude.{◌≡◌, ◌<◌, ◌≤◌, ◌+◌, ◌*◌, ◌↔◌, [], ℕ, List, length, map, slice_get, All, Some, true, false, is_some, nat_lt, IfOk, IfErr};
+ghost use Rattle.config.specs.CircuitPart as parts;
 ghost use Rattle.config.specs.CircuitPart.{IsPart, parts_of};
 ghost use Rattle.dispatch.specs.Leases.{AreSynced, HasRegions, after_tick, found_leases, received_leases};
 ghost use Rattle.dispatch.specs.Received.{IsAnswer, received, received_fails, received_saves};
-ghost use Rattle.dispatch.specs.ServerValue.{AreReady, IsReady, RegionsDiffer, books_in, leases_in, leases_of, part_of, parts_in};
+ghost use Rattle.dispatch.specs.ServerValue.{AreReady, HasItsPool, IsReady, RegionsDiffer, books_in, leases_in, leases_of, parts_in, with_states};
 ghost use Rattle.dispatch.specs.declared.server.OpenFault.TheVariants as fault;
 ghost use Rattle.lease_disk.specs.Device.{TouchesNothing, WritesAt};
 ghost use Rattle.lease_disk.specs.Region.{Region};
 
 use crate::addressee::addressee;
 use crate::circuit_server::CircuitServer;
-use config::{CircuitPart, Config};
+use config::{CircuitPart, Circuits, Config};
 use lease_disk::Disk;
 use std::alloc::{AllocError, Global};
 use std::marker::Model;
 use thiserror::Error;
-use types::{Circuit, Discard, Moment, RelayNo, Source};
+use types::{Circuit, Discard, Moment, Source};
 use wire::PacketBuf;
 
 /// Why a server was not opened.
@@ -34,58 +35,38 @@ pub enum OpenFault {
 /// nobody else writes to meanwhile.
 #[derive(Drop)]
 pub struct Server {
-    relays: Vec<Source>,
-    circuits: Vec<CircuitServer>,
+    circuits: Circuits,
+    servers: Vec<CircuitServer>,
 }
 
 impl Model for Server {
-    ghost use Rattle.std.specs.Prelude.{map};
-    ghost use Rattle.dispatch.specs.ServerValue.{RegionsDiffer, ServerValue, part_of};
+    ghost use Rattle.dispatch.specs.ServerValue.{IsServer, ServerValue, with_states};
 
     ghost Value = { ServerValue };
 
-    ghost view = { λ s. record { relays = s.relays.items; circuits = s.circuits.items } };
+    ghost view = { λ s. record { relays = s.circuits.relays; circuits = with_states s.circuits.circuits s.servers.items } };
 
-    ghost invariant = { λ s. RegionsDiffer (map part_of s.circuits.items) };
+    ghost invariant = { λ s. IsServer s.circuits.circuits s.servers.items };
 }
 
-/// Where the datagrams of each relay come from, in the order of the configuration.
-fn relay_sources(alloc: Global, config: &Config) -> Result<Vec<Source>, AllocError>
-    ensures { IfOk result (λ sources. sources.items ≡ map (λ relay. relay.source) config.now.relays) }
+/// A server for each of so many circuits. Each is closed.
+fn closed_servers(alloc: Global, count: usize) -> Result<Vec<CircuitServer>, AllocError>
+    ensures { IfOk result (λ servers. length servers.items ≡ count) }
 {
-    let mut sources = Vec::with_capacity(alloc, config.relay_count())?;
-    'relays: for index in 0..config.relay_count() {
-        let Some(no) = RelayNo::new(index) else {
-            unreachable!()
-        };
-        sources.push(config.relay(no).source)?;
+    let mut servers = Vec::with_capacity(alloc, count)?;
+    'servers: for _ in 0..count {
+        servers.push(CircuitServer::closed())?;
     }
-    Ok(sources)
-}
-
-/// A server for each circuit, in the order of the configuration. Each is closed.
-fn circuit_servers(alloc: Global, config: &Config) -> Result<Vec<CircuitServer>, AllocError>
-    ensures parts { IfOk result (λ circuits. map part_of circuits.items ≡ parts_of config.now) }
-    ensures sound { IfOk result (λ circuits. All IsPart (parts_of config.now)) }
-    ensures differ { IfOk result (λ circuits. RegionsDiffer (parts_of config.now)) }
-{
-    let mut circuits = Vec::with_capacity(alloc, config.circuit_count())?;
-    'circuits: for index in 0..config.circuit_count() {
-        let Some(circuit) = Circuit::new(index) else {
-            unreachable!()
-        };
-        circuits.push(CircuitServer::closed(CircuitPart::of(config, circuit)))?;
-    }
-    Ok(circuits)
+    Ok(servers)
 }
 
 /// Whether the device has the region of each circuit.
-fn has_regions(circuits: &[CircuitServer], count: u16) -> bool
-    ensures yes { result ≡ true → HasRegions (map part_of circuits.now) count }
-    ensures no { result ≡ false → ¬ HasRegions (map part_of circuits.now) count }
+fn has_regions(parts: &[CircuitPart], count: u16) -> bool
+    ensures yes { result ≡ true → HasRegions parts.now count }
+    ensures no { result ≡ false → ¬ HasRegions parts.now count }
 {
-    'circuits: for circuit in circuits {
-        if circuit.part().region() >= count {
+    'circuits: for part in parts {
+        if part.region() >= count {
             return false;
         }
     }
@@ -93,27 +74,33 @@ fn has_regions(circuits: &[CircuitServer], count: u16) -> bool
 }
 
 /// Moves the clock of each to this moment, where it is a later one.
-fn tick_all(circuits: &mut [CircuitServer], now: Moment)
-    ensures parts { map part_of circuits.new ≡ map part_of circuits.old }
-    ensures leases { (regions : ℕ → Region) → map (leases_of regions) circuits.new ≡ map (after_tick now) (map (leases_of regions) circuits.old) }
-    ensures ready { (regions : ℕ → Region) → All (IsReady regions) circuits.old → All (IsReady regions) circuits.new }
+fn tick_all(servers: &mut [CircuitServer], now: Moment)
+    ensures size { length servers.new ≡ length servers.old }
+    ensures leases { (parts : List parts.CircuitPart) (regions : ℕ → Region) → length parts ≡ length servers.old
+        → map (leases_of regions) (with_states parts servers.new) ≡ map (after_tick now) (map (leases_of regions) (with_states parts servers.old)) }
+    ensures ready { (parts : List parts.CircuitPart) (regions : ℕ → Region) → length parts ≡ length servers.old
+        → All (IsReady regions) (with_states parts servers.old) → All (IsReady regions) (with_states parts servers.new) }
+    ensures pools { (parts : List parts.CircuitPart) → length parts ≡ length servers.old
+        → All HasItsPool (with_states parts servers.old) → All HasItsPool (with_states parts servers.new) }
 {
-    'circuits: for index in 0..circuits.len() {
-        circuits[index].tick(now);
+    'servers: for index in 0..servers.len() {
+        servers[index].tick(now);
     }
 }
 
 /// Begins each with what its region holds.
-fn restart_all<D: Disk>(circuits: &mut [CircuitServer], disk: &mut D)
-    requires { HasRegions (map part_of circuits.old) (D.device disk.old).count }
-    ensures parts { map part_of circuits.new ≡ map part_of circuits.old }
-    ensures leases { D.tells ≡ true → map (leases_of (D.device disk.new).region) circuits.new ≡ map (found_leases (D.device disk.old).region) (map part_of circuits.old) }
-    ensures ready { D.tells ≡ true → AreSynced (map part_of circuits.old) (D.device disk.old).region → All (IsReady (D.device disk.new).region) circuits.new }
+fn restart_all<D: Disk>(parts: &[CircuitPart], servers: &mut [CircuitServer], disk: &mut D)
+    requires size { length servers.old ≡ length parts.now }
+    requires regions { HasRegions parts.now (D.device disk.old).count }
+    ensures size { length servers.new ≡ length servers.old }
+    ensures leases { D.tells ≡ true → map (leases_of (D.device disk.new).region) (with_states parts.now servers.new) ≡ map (found_leases (D.device disk.old).region) parts.now }
+    ensures ready { D.tells ≡ true → AreSynced parts.now (D.device disk.old).region → All (IsReady (D.device disk.new).region) (with_states parts.now servers.new) }
+    ensures pools { All HasItsPool (with_states parts.now servers.new) }
     ensures frame { TouchesNothing D.tells (D.device disk.old) (D.device disk.new) }
-    ensures reads { (D.device disk.new).reads ≤ (D.device disk.old).reads + 4 * length circuits.old }
+    ensures reads { (D.device disk.new).reads ≤ (D.device disk.old).reads + 4 * length parts.now }
 {
-    'circuits: for index in 0..circuits.len() {
-        circuits[index].restart(disk);
+    'circuits: for index in 0..parts.len() {
+        servers[index].restart(&parts[index], disk);
     }
 }
 
@@ -134,24 +121,24 @@ impl Server {
         ensures frame { TouchesNothing D.tells (D.device disk.old) (D.device disk.new) }
         ensures reads { (D.device disk.new).reads ≤ (D.device disk.old).reads + 4 * length config.now.circuits }
     {
-        let Ok(relays) = relay_sources(alloc, config) else {
+        let Ok(circuits) = Circuits::of(alloc, config) else {
             return Err(OpenFault::Memory);
         };
-        let Ok(mut circuits) = circuit_servers(alloc, config) else {
+        let Ok(mut servers) = closed_servers(alloc, circuits.count()) else {
             return Err(OpenFault::Memory);
         };
-        if !has_regions(&circuits, disk.regions()) {
+        if !has_regions(circuits.parts(), disk.regions()) {
             return Err(OpenFault::DiskTooSmall);
         }
-        restart_all(&mut circuits, disk);
-        Ok(Server { relays, circuits })
+        restart_all(circuits.parts(), &mut servers, disk);
+        Ok(Server { circuits, servers })
     }
 
     /// How many circuits there are.
     pub fn circuit_count(&self) -> usize
         ensures { result ≡ length self.now.circuits }
     {
-        self.circuits.len()
+        self.circuits.count()
     }
 
     /// A circuit's part of the configuration.
@@ -159,7 +146,7 @@ impl Server {
         requires { circuit < length self.now.circuits }
         ensures { slice_get (parts_in self.now) circuit ≡ Some result.now }
     {
-        self.circuits[circuit.index()].part()
+        self.circuits.part(circuit)
     }
 
     /// Whether there is a circuit of this index that is open: its region was read and is not damaged, and
@@ -168,7 +155,7 @@ impl Server {
         ensures { (result ≡ true) ↔ (slice_get (map is_some (books_in self.now)) circuit ≡ Some true) }
     {
         let index = circuit.index();
-        index < self.circuits.len() && self.circuits[index].is_open()
+        index < self.servers.len() && self.servers[index].is_open()
     }
 
     /// Takes a datagram from this source at this moment, for the circuit that it is of. What the answer
@@ -200,11 +187,12 @@ impl Server {
         ensures frame { WritesAt D.tells (received_saves self.old.relays (parts_in self.old) now source datagram.now (books_in self.old)) (D.device disk.old) (D.device disk.new) }
     {
         out.clear();
-        let (index, message) = match addressee(&self.relays, &self.circuits, source, datagram) {
+        let (circuit, message) = match addressee(&self.circuits, source, datagram) {
             Ok(found) => found,
             Err(why) => return Err(why),
         };
-        self.circuits[index].answer(&message, now, disk, out)
+        let part = self.circuits.part(circuit);
+        self.servers[circuit.index()].answer(part, &message, now, disk, out)
     }
 
     /// Moves the clock of every open circuit to this moment, where it is a later one.
@@ -214,7 +202,7 @@ impl Server {
         ensures leases { (regions : ℕ → Region) → leases_in regions self.new ≡ map (after_tick now) (leases_in regions self.old) }
         ensures ready { (regions : ℕ → Region) → AreReady regions self.old → AreReady regions self.new }
     {
-        tick_all(&mut self.circuits, now);
+        tick_all(&mut self.servers, now);
     }
 
     /// Begins each circuit anew with what its region holds, without offers. One whose region cannot be
@@ -229,6 +217,6 @@ impl Server {
         ensures frame { TouchesNothing D.tells (D.device disk.old) (D.device disk.new) }
         ensures reads { (D.device disk.new).reads ≤ (D.device disk.old).reads + 4 * length self.old.circuits }
     {
-        restart_all(&mut self.circuits, disk);
+        restart_all(self.circuits.parts(), &mut self.servers, disk);
     }
 }

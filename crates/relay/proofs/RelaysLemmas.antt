@@ -1,8 +1,7 @@
 -- All relays, on the way down: what each step of a datagram comes to.
-use Rattle.std.proofs.Common.{◌≡◌, ℕ, true, false, List, [], ◌∷◌, Option, Some, None, Ok, Err, refl, sym, ap, ◌∙◌}
+use Rattle.std.proofs.Common.{◌≡◌, ℕ, true, false, List, Option, Some, None, Ok, Err, refl, sym, ap, ◌∙◌}
 use Rattle.std.specs.Prelude.{slice_get}
 use Rattle.std.specs.List.{position}
-use Rattle.std.proofs.lemmas.List.Quantifiers.{position-Some}
 use Rattle.types.specs.declared.addr.Source.{Source}
 use Rattle.types.specs.declared.discard.Discard.{Discard}
 use Rattle.types.specs.declared.discard.Discard.TheVariants as reason
@@ -10,6 +9,7 @@ use Rattle.v4_options.specs.Codes.{CIRCUIT_ID}
 use Rattle.v4_options.specs.Spelling.{look_up}
 use Rattle.v4_message.specs.Spelling.{MessageValue}
 use Rattle.config.specs.CircuitPart.{CircuitPart}
+use Rattle.config.proofs.PartLemmas.{never}
 use Rattle.types.specs.Addr.{same_source}
 use Rattle.v4_message.specs.Agent.{agent_of, is_value}
 use Rattle.relay.specs.Down4.{is_named, reply_of, suboptions_in, reply_on_link}
@@ -66,14 +66,6 @@ pub own_relay : (topology : Topology) (relay c : ℕ) (m : MessageValue) (part :
 own_relay topology relay c m part there own = rw (there, own) refl
 
 -- ---- without a circuit id no circuit is named
-
-never : {X : Type 0} (xs : List X) → position (λ x. false) xs ≡ None
-never [] = refl
-never (x ∷ xs) = by_result (position (λ y. false) (x ∷ xs)) refl
-  where
-    by_result : (r : Option ℕ) → position (λ y. false) (x ∷ xs) ≡ r → r ≡ None
-    by_result None same = refl
-    by_result (Some i) same = let h = (position-Some (λ y. false) (x ∷ xs) i x same).1 in absurd cc
 
 pub not_named : (suboptions : List (ℕ × List ℕ)) (circuits : List CircuitPart) → look_up CIRCUIT_ID suboptions ≡ None → position (is_named suboptions) circuits ≡ None
 not_named suboptions circuits none = ap (λ id. position (λ part. is_value part.id id) circuits) none ∙ never circuits

@@ -1,23 +1,54 @@
-use Rattle.std.proofs.Common.{map, length, ◌<◌, sym, ◌∙◌, arith}
-use Rattle.std.proofs.lemmas.List.{length-map, length-set}
+use Rattle.std.proofs.Common.{map, length, ◌<◌, ◌≤◌, ◌++◌, sym, ap, subst, ◌∙◌, arith}
+use Rattle.std.specs.Prelude.{All}
+use Rattle.std.proofs.lemmas.List.{append-nil, drop_all, length-map, length-set, take_all}
 use Rattle.std.proofs.lemmas.List.Elements.{All-set}
-use Rattle.dispatch.specs.Leases.{after_tick}
-use Rattle.dispatch.specs.ServerValue.{IsReady, leases_of, part_of}
-use Rattle.dispatch.proofs.ServerLemmas.{one_changed, same_seen}
+use Rattle.dispatch.specs.Leases.{after_tick, restarts_of}
+use Rattle.dispatch.specs.ServerValue.{HasItsPool, IsReady, leases_of, with_states}
+use Rattle.dispatch.proofs.ServerLemmas.{one_changed}
+use Rattle.dispatch.proofs.WithStates.{get_with, server, set_with, size_with, there_is}
 use Rattle.dispatch.proofs.server.tick_all.Goals as goal
 
-pub circuits-preserved : goal.circuits-preserved
-circuits-preserved c =
-    let loop = c.circuits.invariant in
-    let xs = c.circuits.circuits in
-    let i = c.circuits.index in
-    let old = c.index-circuits-index.result in
+pub servers-preserved : goal.servers-preserved
+servers-preserved c =
+    let loop = c.servers.invariant in
+    let xs = c.servers.servers in
+    let i = c.servers.index in
+    let old = c.index-servers-index.result in
     let new = c.tick.new.self in
-    let within : i < length xs = omega (arith, c.circuits-test.true, loop.size) in
+    let within : i < length xs = omega (arith, c.servers-test.true, loop.size) in
     record {
-      parts = same_seen part_of xs i old new c.tick.ensures.part ∙ loop.parts;
-      leases = λ regions. one_changed (leases_of regions) (after_tick c.args.now) (map (leases_of regions) c.args.circuits.now) xs i old new within
-          (loop.size ∙ sym (length-map c.args.circuits.now (leases_of regions))) (c.tick.ensures.leases regions) (loop.leases regions);
-      ready = λ regions all. All-set (IsReady regions) xs i new (c.tick.ensures.ready regions (loop.ready regions all i old within)) (loop.ready regions all);
+      leases = λ parts regions size.
+          let at = there_is parts i (omega (arith, within, loop.size, size)) in
+          let before = with_states parts xs in
+          let its = get_with parts xs i at.0 old (server at.0 old) at.1 within in
+          ap (map (leases_of regions)) (set_with parts xs i at.0 new at.1 within)
+          ∙ one_changed (leases_of regions) (after_tick c.args.now) (map (leases_of regions) (with_states parts c.args.servers.now)) before i (server at.0 old) (server at.0 new)
+          (omega (arith, within, loop.size, size, size_with parts xs))
+          (omega (arith, size_with parts xs, size_with parts c.args.servers.now, length-map (with_states parts c.args.servers.now) (leases_of regions)))
+          ((λ j. record { book = c.tick.ensures.book j; restarts = restarts_of at.0 (regions at.0.region) }) ∙ ap (λ s. after_tick c.args.now (leases_of regions s)) (sym its))
+          (loop.leases parts regions size);
+      ready = λ parts regions size all.
+          let at = there_is parts i (omega (arith, within, loop.size, size)) in
+          let its = get_with parts xs i at.0 old (server at.0 old) at.1 within in
+          let was = loop.ready parts regions size all in
+          subst (All (IsReady regions)) (sym (set_with parts xs i at.0 new at.1 within))
+          (All-set (IsReady regions) (with_states parts xs) i (server at.0 new)
+          (c.tick.ensures.ready (regions at.0.region) (subst (IsReady regions) its (was i (server at.0 old) (omega (arith, within, loop.size, size, size_with parts xs))))) was);
+      pools = λ parts size all.
+          let at = there_is parts i (omega (arith, within, loop.size, size)) in
+          let its = get_with parts xs i at.0 old (server at.0 old) at.1 within in
+          let was = loop.pools parts size all in
+          subst (All HasItsPool) (sym (set_with parts xs i at.0 new at.1 within))
+          (All-set HasItsPool (with_states parts xs) i (server at.0 new)
+          (c.tick.ensures.pool at.0 (subst HasItsPool its (was i (server at.0 old) (omega (arith, within, loop.size, size, size_with parts xs))))) was);
       size = length-set xs i new ∙ loop.size;
     }
+
+pub returns-clause-leases : goal.returns-clause-leases
+returns-clause-leases c parts regions size =
+    let before = map (leases_of regions) (with_states parts c.args.servers.now) in
+    let past : length before ≤ c.servers.index =
+    omega (arith, c.servers-test.false, size, size_with parts c.args.servers.now, length-map (with_states parts c.args.servers.now) (leases_of regions)) in
+    c.servers.invariant.leases parts regions size
+    ∙ (λ j. map (after_tick c.args.now) (take_all c.servers.index before past j) ++ drop_all c.servers.index before past j)
+    ∙ append-nil (map (after_tick c.args.now) before)

@@ -1,5 +1,5 @@
 use Rattle.std.proofs.Common.{◌≡◌, ℕ, List, not, true, false, refl, sym, ap, subst, ◌∙◌, Ok, Err, Result, is_ok}
-use Rattle.std.specs.Prelude.{Option, Some, IfSome, is_some}
+use Rattle.std.specs.Prelude.{Some, is_some}
 use Rattle.types.specs.declared.discard.Discard.{Discard}
 use Rattle.types.specs.declared.discard.Discard.TheVariants.{DiskFault}
 use Rattle.v4_message.specs.Reading.{message_of}
@@ -10,7 +10,7 @@ use Rattle.lease_disk.specs.Device.{Device}
 use Rattle.lease_disk.proofs.Frames.{touches_none}
 use Rattle.dispatch.specs.Received.{IsAnswer}
 use Rattle.dispatch.specs.Server.{drop, reply_to}
-use Rattle.dispatch.specs.ServerValue.{OpenCircuitValue, open_book}
+use Rattle.dispatch.specs.ServerValue.{HasPool, open_book}
 use Rattle.dispatch.proofs.AnswerLemmas.{IsServed, refused, decided, served_as, counted, fails_by, not_more, held, failed, fails_as, leases_as, writes_as}
 use Rattle.dispatch.proofs.circuit_server.CircuitServer.answer.Given as given
 use Rattle.dispatch.proofs.circuit_server.CircuitServer.answer.Goals.{In-Err, After-keep}
@@ -19,34 +19,33 @@ use Rattle.dispatch.proofs.circuit_server.CircuitServer.answer.Goals as goal
 -- ---- the two cases of an open circuit
 
 refusal : (g : given.Over) (c : goal.In-Err g) (datagram : List ℕ) → message_of datagram ≡ Ok c.args.message.now
-    → IsServed c.args.self.now c.args.now datagram c.self.inside.part c.in-Some.circuit (drop c.in-Err.why (open_book c.tick.new.self))
+    → IsServed (record { part = c.args.part.now; state = c.args.self.now }) c.args.now datagram c.args.part.now c.in-Some.circuit (drop c.in-Err.why (open_book c.tick.new.self))
 refusal g c datagram read = record {
-  was = sym c.self.view_is ∙ (λ i. record { part = c.self.inside.part; state = c.in-Some.is i });
+  was = λ i. record { part = c.args.part.now; state = (sym c.self.view_is ∙ c.in-Some.is) i };
   served_so =
-      refused c.self.inside.part c.args.now datagram c.args.message.now read (open_book c.in-Some.circuit) (open_book c.tick.new.self) c.tick.ensures.book c.in-Err.why
+      refused c.args.part.now c.args.now datagram c.args.message.now read (open_book c.in-Some.circuit) (open_book c.tick.new.self) c.tick.ensures.book c.in-Err.why
       (sym c.request_in.ensures ∙ c.in-Err.is);
 }
 
 -- the pool is the circuit's
-pool_is : (g : given.Over) (c : goal.After-keep g) → c.tick.new.self.slots.pool ≡ pool4_of c.self.inside.part
+pool_is : (g : given.Over) (c : goal.After-keep g) → c.tick.new.self.slots.pool ≡ pool4_of c.args.part.now
 pool_is g c =
-    let P : Option OpenCircuitValue → Type 0 = λ state. IfSome state (λ o. o.slots.pool ≡ pool4_of c.self.inside.part) in
-    c.tick.ensures.pool ∙ subst P c.in-Some.is c.self.invariant
+    c.tick.ensures.pool ∙ subst (HasPool c.args.part.now) (sym c.self.view_is ∙ c.in-Some.is) c.requires.pool
 
 decision : (g : given.Over) (c : goal.After-keep g) (datagram : List ℕ) → message_of datagram ≡ Ok c.args.message.now
-    → IsServed c.args.self.now c.args.now datagram c.self.inside.part c.in-Some.circuit (record {
-      answer = reply_to c.self.inside.part c.args.message.now c.decide-decision.result.answer;
+    → IsServed (record { part = c.args.part.now; state = c.args.self.now }) c.args.now datagram c.args.part.now c.in-Some.circuit (record {
+      answer = reply_to c.args.part.now c.args.message.now c.decide-decision.result.answer;
       book = record { clock = c.tick.new.self.clock; four = slots.book_of c.tick.new.self.clock (slots.with_decision c.decide-decision.result c.tick.new.self.slots) };
       is_kept = is_some c.decide-decision.result.keep;
     })
 decision g c datagram read =
-    let part = c.self.inside.part in
+    let part = c.args.part.now in
     let clock = c.tick.new.self.clock in
     let b = open_book c.tick.new.self in
     let m = c.in-Ok.request in
     let pool = pool_is g c in
     record {
-      was = sym c.self.view_is ∙ (λ i. record { part = part; state = c.in-Some.is i });
+      was = λ i. record { part = part; state = (sym c.self.view_is ∙ c.in-Some.is) i };
       served_so =
           decided part c.args.now datagram c.args.message.now read (open_book c.in-Some.circuit) b c.tick.ensures.book m (sym c.request_in.ensures ∙ c.in-Ok.is)
           ∙ served_as part c.args.message.now clock (answer4 (pool4_of part) clock b.four m) c.decide-decision.result.answer
@@ -79,7 +78,7 @@ returns-in-Err-clause-leases g c tells datagram read =
 pub returns-in-Err-clause-writes : goal.returns-in-Err-clause-writes
 returns-in-Err-clause-writes g c datagram read =
     let device = g.D.Disk.device c.args.disk.now in
-    writes_as (refusal g (goal.at.returns-in-Err-clause-writes g c).In-Err datagram read) g.D.Disk.tells device device (λ nothing. refl) (touches_none g.D.Disk.tells c.self.inside.part.region device)
+    writes_as (refusal g (goal.at.returns-in-Err-clause-writes g c).In-Err datagram read) g.D.Disk.tells device device (λ nothing. refl) (touches_none g.D.Disk.tells c.args.part.now.region device)
 
 -- ---- the decision is kept
 

@@ -1,24 +1,29 @@
-use Rattle.std.proofs.Common.{◌≡◌, ◌↔◌, List, map, length, true, subst, ap, arith}
+use Rattle.std.proofs.Common.{◌≡◌, ◌<◌, ◌↔◌, map, length, true, sym, ap, subst, ◌∙◌, arith}
 use Rattle.std.specs.Prelude.{Some, is_some, nat_lt, slice_get}
-use Rattle.dispatch.specs.ServerValue.{CircuitServerValue, book_of}
+use Rattle.dispatch.specs.ServerValue.{ServerValue, books_in, with_states}
 use Rattle.dispatch.proofs.ServerLemmas.{open_at, none_past}
+use Rattle.dispatch.proofs.WithStates.{get_with, server, size_with, there_is}
 use Rattle.dispatch.proofs.server.Server.is_open.Goals as goal
 
 pub returns-then-index-len : goal.returns-then-index-len
 returns-then-index-len c =
-    let xs = c.self.inside.circuits.items in
-    let same : xs ≡ c.args.self.now.circuits = ap (λ s. s.circuits) c.self.view_is in
-    let at : c.index-index.result ≡ c.args.circuit = c.index-index.ensures.value in
-    let seen = open_at xs c.index-index.result c.index.result.now c.is_open.result (omega (arith, c.if-index-len.true, c.len.ensures)) c.index.ensures c.is_open.ensures in
-    subst (λ n. (c.is_open.result ≡ true) ↔ (slice_get (map is_some (map book_of c.args.self.now.circuits)) n ≡ Some true)) at
-    (subst (λ (ys : List CircuitServerValue). (c.is_open.result ≡ true) ↔ (slice_get (map is_some (map book_of ys)) c.index-index.result ≡ Some true)) same seen)
+    let parts = c.self.inside.circuits.circuits in
+    let states = c.self.inside.servers.items in
+    let k = c.index-index.result in
+    let within : k < length states = omega (arith, c.if-index-len.true, c.len.ensures) in
+    let at = there_is parts k (omega (arith, within, c.self.invariant.size)) in
+    let s = server at.0 c.index.result.now in
+    let its = get_with parts states k at.0 c.index.result.now s at.1 within in
+    let seen = open_at (with_states parts states) k s c.is_open.result (omega (arith, within, c.self.invariant.size, size_with parts states))
+    (sym (its ∙ ap (server at.0) (sym c.index.ensures))) c.is_open.ensures in
+    subst (λ n. (c.is_open.result ≡ true) ↔ (slice_get (map is_some (books_in c.args.self.now)) n ≡ Some true)) c.index-index.ensures.value
+    (subst (λ (v : ServerValue). (c.is_open.result ≡ true) ↔ (slice_get (map is_some (books_in v)) k ≡ Some true)) c.self.view_is seen)
 
 pub returns-else-index-len : goal.returns-else-index-len
 returns-else-index-len c =
-    let xs = c.self.inside.circuits.items in
-    let same : xs ≡ c.args.self.now.circuits = ap (λ s. s.circuits) c.self.view_is in
-    let at : c.index-index.result ≡ c.args.circuit = c.index-index.ensures.value in
-    let size : c.len.result ≡ length xs = omega (arith, c.len.ensures) in
-    let seen = none_past xs c.index-index.result c.len.result size c.if-index-len.false in
-    subst (λ n. (nat_lt c.index-index.result c.len.result ≡ true) ↔ (slice_get (map is_some (map book_of c.args.self.now.circuits)) n ≡ Some true)) at
-    (subst (λ (ys : List CircuitServerValue). (nat_lt c.index-index.result c.len.result ≡ true) ↔ (slice_get (map is_some (map book_of ys)) c.index-index.result ≡ Some true)) same seen)
+    let parts = c.self.inside.circuits.circuits in
+    let states = c.self.inside.servers.items in
+    let k = c.index-index.result in
+    let seen = none_past (with_states parts states) k c.len.result (omega (arith, c.len.ensures, c.self.invariant.size, size_with parts states)) c.if-index-len.false in
+    subst (λ n. (nat_lt k c.len.result ≡ true) ↔ (slice_get (map is_some (books_in c.args.self.now)) n ≡ Some true)) c.index-index.ensures.value
+    (subst (λ (v : ServerValue). (nat_lt k c.len.result ≡ true) ↔ (slice_get (map is_some (books_in v)) k ≡ Some true)) c.self.view_is seen)

@@ -1,99 +1,176 @@
-use Rattle.std.proofs.Common.{◌≡◌, ◌<◌, ℕ, nat_lt, List, map, set, length, sym, ap, subst, ◌∙◌}
+use Rattle.std.proofs.Common.{◌≡◌, ◌<◌, ℕ, nat_lt, List, map, set, length, sym, ap, subst, ◌∙◌, arith, Err, refl}
 use Rattle.std.specs.Prelude.{Option, Some, Ok, slice_get, option_map, All}
-use Rattle.std.proofs.lemmas.List.{map-set}
-use Rattle.std.proofs.lemmas.Option.{slice_get-map, slice_get-get_or}
+use Rattle.std.proofs.lemmas.List.{length-set, map-set}
+use Rattle.std.proofs.lemmas.List.Elements.{All-set}
+use Rattle.std.proofs.lemmas.Option.{slice_get-map, slice_get_within}
 use Rattle.config.specs.CircuitPart.{CircuitPart}
 use Rattle.lease_disk.specs.Device.{WritesAt}
 use Rattle.dispatch.specs.Addressee.{addressee}
-use Rattle.dispatch.specs.Leases.{received_leases, restarts_of}
-use Rattle.dispatch.specs.Received.{Received, IsAnswer, received, received_fails, received_saves}
-use Rattle.dispatch.specs.ServerValue.{CircuitServerValue, IsReady, IsReadyFor, RegionsDiffer, ServerValue, book_of, books_in, leases_in, leases_of, part_of, parts_in}
+use Rattle.dispatch.specs.Leases.{addressee_leases, received_leases, restarts_of}
+use Rattle.dispatch.specs.Received.{Received, IsAnswer, addressee_answered, addressee_fails, received, received_fails, received_saves}
+use Rattle.dispatch.specs.ServerValue.{CircuitServerValue, HasItsPool, IsReady, IsReadyFor, ServerValue, book_of, books_in, leases_in, leases_of, part_of, parts_in, with_states}
+use Rattle.dispatch.proofs.AnswerLemmas.{not_more}
 use Rattle.dispatch.proofs.ReceivedLemmas.{received_at, fails_at, leases_at, saves_at}
-use Rattle.dispatch.proofs.ServerLemmas.{all_moved, at_part, one_moved, same_seen}
+use Rattle.dispatch.proofs.ServerLemmas.{all_moved, one_moved}
+use Rattle.dispatch.proofs.WithStates.{at_index, parts_with, server, set_with, there_with}
 use Rattle.dispatch.proofs.server.Server.receive.Given as given
 use Rattle.dispatch.proofs.server.Server.receive.Goals as goal
 
--- the server of the datagram's circuit, before
-its_server : (g : given.Over) (c : goal.After-self-1 g) → slice_get c.self.inside.circuits.items c.in-Ok.found.0 ≡ Some c.index_mut.result.now
-its_server g c =
-    let within = subst (λ (xs : List CircuitServerValue). c.in-Ok.found.0 < length xs) c.deref-2.ensures.value c.in-Ok.ensures.within in
-    slice_get-get_or c.self.inside.circuits.items c.in-Ok.found.0 c.index_mut.result.now within
-    ∙ ap Some (sym c.index_mut.ensures.value)
+-- ---- a datagram of no circuit
 
-its : {B : Type 0} (f : CircuitServerValue → B) (g : given.Over) (c : goal.After-self-1 g) → slice_get (map f c.self.inside.circuits.items) c.in-Ok.found.0 ≡ Some (f c.index_mut.result.now)
-its f g c = slice_get-map f c.self.inside.circuits.items c.in-Ok.found.0 ∙ ap (option_map f) (its_server g c)
+none_of : (g : given.Over) (c : goal.In-Err g) → addressee c.args.self.now.relays (parts_in c.args.self.now) c.args.source c.args.datagram.now ≡ Err c.in-Err.why
+none_of g c =
+    ap (λ s. addressee s.relays (parts_in s) c.args.source c.args.datagram.now) (sym c.self.view_is)
+    ∙ ap (λ parts. addressee c.self.inside.circuits.relays parts c.args.source c.args.datagram.now) (parts_with c.self.inside.circuits.circuits c.self.inside.servers.items)
+    ∙ c.in-Err.ensures.err
 
-found : (g : given.Over) (c : goal.After-self-1 g) → addressee c.self.inside.relays.items (map part_of c.self.inside.circuits.items) c.args.source c.args.datagram.now ≡ Ok c.in-Ok.found.0
-found g c = (λ i. addressee (sym c.deref.ensures.value i) (map part_of (sym c.deref-2.ensures.value i)) c.args.source c.args.datagram.now) ∙ c.in-Ok.ensures.circuit
+pub returns-in-Err-clause-answer : goal.returns-in-Err-clause-answer
+returns-in-Err-clause-answer g c =
+    let s = c.args.self.now in
+    subst (λ r. IsAnswer (addressee_answered (parts_in s) c.args.now c.args.datagram.now (nat_lt (g.D.Disk.device c.args.disk.now).failures (g.D.Disk.device c.args.disk.now).failures) (books_in s) r).answer (Err c.in-Err.why) c.clear.new.self) (sym (none_of g c)) (refl, c.clear.ensures)
+
+pub returns-in-Err-clause-books : goal.returns-in-Err-clause-books
+returns-in-Err-clause-books g c =
+    let s = c.args.self.now in
+    ap (λ r. (addressee_answered (parts_in s) c.args.now c.args.datagram.now (nat_lt (g.D.Disk.device c.args.disk.now).failures (g.D.Disk.device c.args.disk.now).failures) (books_in s) r).books) (sym (none_of g c))
+
+pub returns-in-Err-clause-fails : goal.returns-in-Err-clause-fails
+returns-in-Err-clause-fails g c tells =
+    let s = c.args.self.now in
+    not_more _ ∙ ap (addressee_fails (parts_in s) c.args.now c.args.datagram.now (g.D.Disk.device c.args.disk.now).fuse (books_in s)) (sym (none_of g c))
+
+pub returns-in-Err-clause-leases : goal.returns-in-Err-clause-leases
+returns-in-Err-clause-leases g c tells =
+    let s = c.args.self.now in
+    let device = g.D.Disk.device c.args.disk.now in
+    ap (addressee_leases (parts_in s) c.args.now c.args.datagram.now device.fuse (leases_in device.region s)) (sym (none_of g c))
+
+-- ---- the server of the datagram's circuit, before
+
+there_in : (g : given.Over) (c : goal.After-self-1 g) → slice_get c.self.inside.circuits.circuits c.index.result ≡ Some c.part-part.result.now
+there_in g c = ap (slice_get c.self.inside.circuits.circuits) c.index.ensures.value ∙ c.part-part.ensures
+
+within : (g : given.Over) (c : goal.After-self-1 g) → c.index.result < length c.self.inside.servers.items
+within g c = omega (arith, c.self.invariant.size, c.index.ensures.value, slice_get_within c.self.inside.circuits.circuits c.in-Ok.found.0 c.part-part.result.now c.part-part.ensures)
+
+abbrev before : (g : given.Over) (c : goal.After-self-1 g) → List CircuitServerValue
+before g c = with_states c.self.inside.circuits.circuits c.self.inside.servers.items
+
+abbrev asked : (g : given.Over) (c : goal.After-self-1 g) → CircuitServerValue
+asked g c = server c.part-part.result.now c.index_mut.result.now
+
+its_server : (g : given.Over) (c : goal.After-self-1 g) → slice_get (before g c) c.index.result ≡ Some (asked g c)
+its_server g c = there_with c.self.inside.circuits.circuits c.self.inside.servers.items c.index.result c.part-part.result.now c.index_mut.result.now (there_in g c) (within g c) c.index_mut.ensures.value
+
+-- all servers, after
+written : (g : given.Over) (c : goal.After-self-1 g)
+    → with_states c.self.inside.circuits.circuits (set c.self.inside.servers.items c.index.result c.answer.new.self) ≡ set (before g c) c.index.result (server c.part-part.result.now c.answer.new.self)
+written g c = set_with c.self.inside.circuits.circuits c.self.inside.servers.items c.index.result c.part-part.result.now c.answer.new.self (there_in g c) (within g c)
+
+its : {B : Type 0} (f : CircuitServerValue → B) (g : given.Over) (c : goal.After-self-1 g) → slice_get (map f (before g c)) c.index.result ≡ Some (f (asked g c))
+its f g c = slice_get-map f (before g c) c.index.result ∙ ap (option_map f) (its_server g c)
+
+found : (g : given.Over) (c : goal.After-self-1 g) → addressee c.self.inside.circuits.relays (map part_of (before g c)) c.args.source c.args.datagram.now ≡ Ok c.index.result
+found g c =
+    ap (λ parts. addressee c.self.inside.circuits.relays parts c.args.source c.args.datagram.now) (parts_with c.self.inside.circuits.circuits c.self.inside.servers.items)
+    ∙ c.in-Ok.ensures.circuit ∙ ap Ok (sym c.index.ensures.value)
 
 -- another circuit's region is another one
-elsewhere : (g : given.Over) (c : goal.After-self-1 g) (k : ℕ) (x : CircuitServerValue) → slice_get c.self.inside.circuits.items k ≡ Some x → (k ≡ c.in-Ok.found.0 → ⊥)
-    → x.part.region ≡ c.index_mut.result.now.part.region → ⊥
+elsewhere : (g : given.Over) (c : goal.After-self-1 g) (k : ℕ) (x : CircuitServerValue) → slice_get (before g c) k ≡ Some x → (k ≡ c.index.result → ⊥)
+    → x.part.region ≡ c.part-part.result.now.region → ⊥
 elsewhere g c k x there apart same =
-    apart (c.self.invariant k c.in-Ok.found.0 x.part c.index_mut.result.now.part (slice_get-map part_of c.self.inside.circuits.items k ∙ ap (option_map part_of) there) (its part_of g c) same)
+    let of_part = ap (λ parts. slice_get parts k) (sym (parts_with c.self.inside.circuits.circuits c.self.inside.servers.items)) ∙ slice_get-map part_of (before g c) k ∙ ap (option_map part_of) there in
+    apart (c.self.invariant.regions k c.index.result x.part c.part-part.result.now of_part (there_in g c) same)
+
+-- ---- what the answer requires
 
 pub answer-requires-clause-exists : goal.answer-requires-clause-exists
 answer-requires-clause-exists g c =
-    let items = c.self.inside.circuits.items in
+    let parts = c.self.inside.circuits.circuits in
     let P : CircuitPart → Type 0 = λ part. part.region < (g.D.Disk.device c.args.disk.now).count in
-    let has : All P (map part_of items) = subst (λ (s : ServerValue). All P (parts_in s)) (sym c.self.view_is) c.requires.regions in
-    let within = subst (λ (xs : List CircuitServerValue). c.in-Ok.found.0 < length xs) c.deref-2.ensures.value c.in-Ok.ensures.within in
-    subst (λ (s : CircuitServerValue). s.part.region < (g.D.Disk.device c.args.disk.now).count) (sym c.index_mut.ensures.value) (at_part P items c.in-Ok.found.0 c.index_mut.result.now within has)
+    at_index P parts c.in-Ok.found.0 c.part-part.result.now c.part-part.ensures
+    (subst (All P) (parts_with parts c.self.inside.servers.items) (subst (λ (s : ServerValue). All P (parts_in s)) (sym c.self.view_is) c.requires.regions))
+
+pub answer-requires-clause-pool : goal.answer-requires-clause-pool
+answer-requires-clause-pool g c =
+    let parts = c.self.inside.circuits.circuits in
+    let states = c.self.inside.servers.items in
+    let there = ap (slice_get parts) c.index.ensures.value ∙ c.part-part.ensures in
+    let inside : c.index.result < length states = omega (arith, c.self.invariant.size, slice_get_within parts c.index.result c.part-part.result.now there) in
+    at_index HasItsPool (with_states parts states) c.index.result (server c.part-part.result.now c.index_mut.result.now)
+    (there_with parts states c.index.result c.part-part.result.now c.index_mut.result.now there inside c.index_mut.ensures.value) c.self.invariant.pools
+
+pub answer-requires-clause-ready : goal.answer-requires-clause-ready
+answer-requires-clause-ready g c tells =
+    let parts = c.self.inside.circuits.circuits in
+    let states = c.self.inside.servers.items in
+    let regions = (g.D.Disk.device c.args.disk.now).region in
+    let there = ap (slice_get parts) c.index.ensures.value ∙ c.part-part.ensures in
+    let inside : c.index.result < length states = omega (arith, c.self.invariant.size, slice_get_within parts c.index.result c.part-part.result.now there) in
+    at_index (IsReady regions) (with_states parts states) c.index.result (server c.part-part.result.now c.index_mut.result.now)
+    (there_with parts states c.index.result c.part-part.result.now c.index_mut.result.now there inside c.index_mut.ensures.value)
+    (subst (λ (s : ServerValue). All (IsReady regions) s.circuits) (sym c.self.view_is) (c.requires.ready tells))
+
+-- ---- after the answer
 
 pub invariant_of-self : goal.invariant_of-self
-invariant_of-self g c =
-    subst RegionsDiffer (sym (same_seen part_of c.self.inside.circuits.items c.in-Ok.found.0 c.index_mut.result.now c.answer.new.self
-    (c.answer.ensures.part ∙ ap part_of c.index_mut.ensures.value))) c.self.invariant
+invariant_of-self g c = record {
+  size = length-set c.self.inside.servers.items c.index.result c.answer.new.self ∙ c.self.invariant.size;
+  regions = c.self.invariant.regions;
+  pools =
+      subst (All HasItsPool) (sym (written g c))
+      (All-set HasItsPool (before g c) c.index.result (server c.part-part.result.now c.answer.new.self) c.answer.ensures.pool c.self.invariant.pools);
+}
 
 pub returns-clause-parts : goal.returns-clause-parts
 returns-clause-parts g c =
-    same_seen part_of c.self.inside.circuits.items c.in-Ok.found.0 c.index_mut.result.now c.answer.new.self
-    (c.answer.ensures.part ∙ ap part_of c.index_mut.ensures.value)
-    ∙ ap parts_in c.self.view_is
+    parts_with c.self.inside.circuits.circuits _ ∙ sym (parts_with c.self.inside.circuits.circuits c.self.inside.servers.items) ∙ ap parts_in c.self.view_is
 
 pub returns-clause-answer : goal.returns-clause-answer
 returns-clause-answer g c =
     let fails = nat_lt (g.D.Disk.device c.args.disk.now).failures (g.D.Disk.device c.answer.new.disk).failures in
-    let x = c.index_mut.result.now in
-    let items = c.self.inside.circuits.items in
+    let x = asked g c in
     let P : ServerValue → Type 0 = λ s. IsAnswer (received s.relays (parts_in s) c.args.now c.args.source c.args.datagram.now fails (books_in s)).answer c.answer.result c.answer.new.out in
     let Q : Received → Type 0 = λ r. IsAnswer r.answer c.answer.result c.answer.new.out in
     subst P c.self.view_is
-    (subst Q (sym (received_at c.self.inside.relays.items (map part_of items) c.args.now c.args.source c.args.datagram.now c.in-Ok.found.0 x.part (found g c) (its part_of g c) fails (map book_of items) (book_of x) (its book_of g c)))
+    (subst Q (sym (received_at c.self.inside.circuits.relays (map part_of (before g c)) c.args.now c.args.source c.args.datagram.now c.index.result x.part (found g c) (its part_of g c) fails (map book_of (before g c)) (book_of x) (its book_of g c)))
     (c.answer.ensures.answer c.args.datagram.now c.in-Ok.ensures.message))
 
 pub returns-clause-books : goal.returns-clause-books
 returns-clause-books g c =
     let fails = nat_lt (g.D.Disk.device c.args.disk.now).failures (g.D.Disk.device c.answer.new.disk).failures in
-    let x = c.index_mut.result.now in
-    let items = c.self.inside.circuits.items in
-    let P : ServerValue → Type 0 = λ s. map book_of (set items c.in-Ok.found.0 c.answer.new.self) ≡ (received s.relays (parts_in s) c.args.now c.args.source c.args.datagram.now fails (books_in s)).books in
-    subst P c.self.view_is
-    (map-set book_of items c.in-Ok.found.0 c.answer.new.self
-    ∙ ap (set (map book_of items) c.in-Ok.found.0) (c.answer.ensures.book c.args.datagram.now c.in-Ok.ensures.message)
-    ∙ ap (λ r. r.books) (sym (received_at c.self.inside.relays.items (map part_of items) c.args.now c.args.source c.args.datagram.now c.in-Ok.found.0 x.part (found g c) (its part_of g c) fails (map book_of items) (book_of x) (its book_of g c))))
+    let x = asked g c in
+    let items = before g c in
+    let k = c.index.result in
+    let new = server x.part c.answer.new.self in
+    let P : ServerValue → Type 0 = λ s. map book_of (set items k new) ≡ (received s.relays (parts_in s) c.args.now c.args.source c.args.datagram.now fails (books_in s)).books in
+    ap (map book_of) (written g c)
+    ∙ subst P c.self.view_is
+    (map-set book_of items k new
+    ∙ ap (set (map book_of items) k) (c.answer.ensures.book c.args.datagram.now c.in-Ok.ensures.message)
+    ∙ ap (λ r. r.books) (sym (received_at c.self.inside.circuits.relays (map part_of items) c.args.now c.args.source c.args.datagram.now k x.part (found g c) (its part_of g c) fails (map book_of items) (book_of x) (its book_of g c))))
 
 pub returns-clause-fails : goal.returns-clause-fails
 returns-clause-fails g c tells =
     let fails = nat_lt (g.D.Disk.device c.args.disk.now).failures (g.D.Disk.device c.answer.new.disk).failures in
     let faults = (g.D.Disk.device c.args.disk.now).fuse in
-    let x = c.index_mut.result.now in
-    let items = c.self.inside.circuits.items in
+    let x = asked g c in
+    let items = before g c in
     let P : ServerValue → Type 0 = λ s. fails ≡ received_fails s.relays (parts_in s) c.args.now c.args.source c.args.datagram.now faults (books_in s) in
     subst P c.self.view_is
     (c.answer.ensures.fails tells c.args.datagram.now c.in-Ok.ensures.message
-    ∙ sym (fails_at c.self.inside.relays.items (map part_of items) c.args.now c.args.source c.args.datagram.now c.in-Ok.found.0 x.part (found g c) (its part_of g c) faults (map book_of items) (book_of x) (its book_of g c)))
+    ∙ sym (fails_at c.self.inside.circuits.relays (map part_of items) c.args.now c.args.source c.args.datagram.now c.index.result x.part (found g c) (its part_of g c) faults (map book_of items) (book_of x) (its book_of g c)))
 
 pub returns-clause-frame : goal.returns-clause-frame
 returns-clause-frame g c =
     let old = g.D.Disk.device c.args.disk.now in
     let new = g.D.Disk.device c.answer.new.disk in
-    let x = c.index_mut.result.now in
-    let items = c.self.inside.circuits.items in
+    let x = asked g c in
+    let items = before g c in
     let P : ServerValue → Type 0 = λ s. WritesAt g.D.Disk.tells (received_saves s.relays (parts_in s) c.args.now c.args.source c.args.datagram.now (books_in s)) old new in
     let Q : Option ℕ → Type 0 = λ region. WritesAt g.D.Disk.tells region old new in
     subst P c.self.view_is
-    (subst Q (sym (saves_at c.self.inside.relays.items (map part_of items) c.args.now c.args.source c.args.datagram.now c.in-Ok.found.0 x.part (found g c) (its part_of g c) (map book_of items) (book_of x) (its book_of g c)))
+    (subst Q (sym (saves_at c.self.inside.circuits.relays (map part_of items) c.args.now c.args.source c.args.datagram.now c.index.result x.part (found g c) (its part_of g c) (map book_of items) (book_of x) (its book_of g c)))
     (c.answer.ensures.writes c.args.datagram.now c.in-Ok.ensures.message))
 
 pub returns-clause-leases : goal.returns-clause-leases
@@ -101,21 +178,23 @@ returns-clause-leases g c tells =
     let regions = (g.D.Disk.device c.args.disk.now).region in
     let later = (g.D.Disk.device c.answer.new.disk).region in
     let faults = (g.D.Disk.device c.args.disk.now).fuse in
-    let x = c.index_mut.result.now in
-    let items = c.self.inside.circuits.items in
-    let k = c.in-Ok.found.0 in
-    let P : ServerValue → Type 0 = λ s. map (leases_of later) (set items k c.answer.new.self) ≡ received_leases s.relays (parts_in s) c.args.now c.args.source c.args.datagram.now faults (leases_in regions s) in
-    subst P c.self.view_is
-    (one_moved (leases_of regions) (leases_of later) items k c.answer.new.self
+    let x = asked g c in
+    let items = before g c in
+    let k = c.index.result in
+    let new = server x.part c.answer.new.self in
+    let P : ServerValue → Type 0 = λ s. map (leases_of later) (set items k new) ≡ received_leases s.relays (parts_in s) c.args.now c.args.source c.args.datagram.now faults (leases_in regions s) in
+    ap (map (leases_of later)) (written g c)
+    ∙ subst P c.self.view_is
+    (one_moved (leases_of regions) (leases_of later) items k new
     (λ n y there apart. λ i. record { book = book_of y; restarts = restarts_of y.part (c.answer.ensures.frame.region tells y.part.region (elsewhere g c n y there apart) i) })
     ∙ ap (set (map (leases_of regions) items) k) (c.answer.ensures.leases tells c.args.datagram.now c.in-Ok.ensures.message)
-    ∙ sym (leases_at c.self.inside.relays.items (map part_of items) c.args.now c.args.source c.args.datagram.now k x.part (found g c) (its part_of g c) faults (map (leases_of regions) items) (leases_of regions x) (its (leases_of regions) g c)))
+    ∙ sym (leases_at c.self.inside.circuits.relays (map part_of items) c.args.now c.args.source c.args.datagram.now k x.part (found g c) (its part_of g c) faults (map (leases_of regions) items) (leases_of regions x) (its (leases_of regions) g c)))
 
 pub returns-clause-ready : goal.returns-clause-ready
 returns-clause-ready g c tells =
     let regions = (g.D.Disk.device c.args.disk.now).region in
     let later = (g.D.Disk.device c.answer.new.disk).region in
-    let items = c.self.inside.circuits.items in
-    let was : All (IsReady regions) items = subst (λ (s : ServerValue). All (IsReady regions) s.circuits) (sym c.self.view_is) (c.requires.ready tells) in
-    all_moved (IsReady regions) (IsReady later) items c.in-Ok.found.0 c.answer.new.self (c.answer.ensures.ready tells) was
-    (λ n y there apart. subst (λ r. IsReadyFor r y.state) (sym (c.answer.ensures.frame.region tells y.part.region (elsewhere g c n y there apart))))
+    let was : All (IsReady regions) (before g c) = subst (λ (s : ServerValue). All (IsReady regions) s.circuits) (sym c.self.view_is) (c.requires.ready tells) in
+    subst (All (IsReady later)) (sym (written g c))
+    (all_moved (IsReady regions) (IsReady later) (before g c) c.index.result (server c.part-part.result.now c.answer.new.self) (c.answer.ensures.ready tells) was
+    (λ n y there apart. subst (λ r. IsReadyFor r y.state) (sym (c.answer.ensures.frame.region tells y.part.region (elsewhere g c n y there apart)))))

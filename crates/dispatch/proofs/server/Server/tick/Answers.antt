@@ -1,16 +1,47 @@
-use Rattle.std.proofs.Common.{◌≡◌, List, length, drop, sym, ap, subst, ◌∙◌, arith}
-use Rattle.std.specs.Prelude.{All}
-use Rattle.std.proofs.lemmas.List.{length-map}
-use Rattle.dispatch.specs.ServerValue.{CircuitServerValue, IsReady, ServerValue, part_of}
+use Rattle.std.proofs.Common.{◌≡◌, ◌++◌, List, map, take, length, drop, sym, ap, subst, ◌∙◌, arith}
+use Rattle.std.specs.Prelude.{All, Option}
+use Rattle.dispatch.specs.Leases.{after_tick}
+use Rattle.dispatch.specs.ServerValue.{HasItsPool, IsReady, OpenCircuitValue, ServerValue, leases_in, leases_of, parts_in, with_states}
 use Rattle.dispatch.proofs.ServerLemmas.{written_through}
+use Rattle.dispatch.proofs.WithStates.{parts_with}
 use Rattle.dispatch.proofs.server.Server.tick.Goals as goal
+
+-- the states that were written through the slice of all
+whole : (c : goal.After-self-1) → take c.self.inside.servers.len (c.tick_all.new.servers ++ drop (length c.tick_all.new.servers) c.self.inside.servers.items) ≡ c.tick_all.new.servers
+whole c =
+    written_through c.self.inside.servers.len c.tick_all.new.servers (drop (length c.tick_all.new.servers) c.self.inside.servers.items)
+    (omega (arith, c.tick_all.ensures.size, c.deref_mut.ensures.len, c.self.inside.servers.ok.0))
+
+-- as many as before
+size : (c : goal.After-self-1) → length c.self.inside.circuits.circuits ≡ length c.deref_mut.result.now
+size c = sym c.self.invariant.size ∙ ap (λ (xs : List (Option OpenCircuitValue)). length xs) (sym c.deref_mut.ensures.value)
+
+pub invariant_of-self : goal.invariant_of-self
+invariant_of-self c =
+    let parts = c.self.inside.circuits.circuits in
+    let states : List (Option OpenCircuitValue) → Type 0 = λ xs. All HasItsPool (with_states parts xs) in
+    record {
+      size = ap (λ (xs : List (Option OpenCircuitValue)). length xs) (whole c) ∙ c.tick_all.ensures.size ∙ sym (size c);
+      regions = c.self.invariant.regions;
+      pools = subst states (sym (whole c)) (c.tick_all.ensures.pools parts (size c) (subst states (sym c.deref_mut.ensures.value) c.self.invariant.pools));
+    }
+
+pub returns-clause-parts : goal.returns-clause-parts
+returns-clause-parts c =
+    let parts = c.self.inside.circuits.circuits in
+    parts_with parts _ ∙ sym (parts_with parts c.self.inside.servers.items) ∙ ap parts_in c.self.view_is
+
+pub returns-clause-leases : goal.returns-clause-leases
+returns-clause-leases c regions =
+    let parts = c.self.inside.circuits.circuits in
+    ap (λ xs. map (leases_of regions) (with_states parts xs)) (whole c)
+    ∙ c.tick_all.ensures.leases parts regions (size c)
+    ∙ ap (λ xs. map (after_tick c.args.now) (map (leases_of regions) (with_states parts xs))) c.deref_mut.ensures.value
+    ∙ ap (λ s. map (after_tick c.args.now) (leases_in regions s)) c.self.view_is
 
 pub returns-clause-ready : goal.returns-clause-ready
 returns-clause-ready c regions ready =
-    let new = c.tick_all.new.circuits in
-    let items = c.self.inside.circuits.items in
-    let same : length new ≡ length items =
-    sym (length-map new part_of) ∙ ap (λ parts. length parts) c.tick_all.ensures.parts ∙ length-map c.deref_mut.result.now part_of ∙ ap (λ (xs : List CircuitServerValue). length xs) c.deref_mut.ensures.value in
-    let whole = written_through c.self.inside.circuits.len new (drop (length new) items) (omega (arith, same, c.self.inside.circuits.ok.0)) in
-    subst (All (IsReady regions)) (sym whole)
-    (c.tick_all.ensures.ready regions (subst (All (IsReady regions)) (sym c.deref_mut.ensures.value) (subst (λ (s : ServerValue). All (IsReady regions) s.circuits) (sym c.self.view_is) ready)))
+    let parts = c.self.inside.circuits.circuits in
+    let states : List (Option OpenCircuitValue) → Type 0 = λ xs. All (IsReady regions) (with_states parts xs) in
+    subst states (sym (whole c))
+    (c.tick_all.ensures.ready parts regions (size c) (subst states (sym c.deref_mut.ensures.value) (subst (λ (s : ServerValue). All (IsReady regions) s.circuits) (sym c.self.view_is) ready)))

@@ -1,5 +1,0 @@
-use Rattle.std.proofs.Common.{◌≡◌, map, take}
-use Rattle.dispatch.proofs.server.relay_sources.Given as goal
-
-abbrev pub invariant-relays : goal.invariant-relays
-invariant-relays l = l.sources.items ≡ map (λ relay. relay.source) (take l.index l.config.relays)
