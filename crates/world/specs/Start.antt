@@ -4,8 +4,12 @@ use Rattle.config.specs.CircuitPart.{CircuitPart, part_in}
 use Rattle.settings.specs.Settings.{Settings}
 use Rattle.dispatch.specs.Leases.{recovered_book}
 use Rattle.lease_disk.specs.Region.{Region}
-use Rattle.world.specs.Alone.{start}
+use Rattle.world.specs.Alone.{Alone, Setup, start}
 use Rattle.world.specs.Headline.{CircuitState, Represents}
+
+-- A circuit's machine that begins with what these bytes of its region mean.
+abbrev pub opened : Setup → (ℕ → ℕ) → Alone
+opened setup bytes = start (recovered_book setup.part bytes)
 
 -- Every circuit's state represents its machine at the start, with the book that the circuit's region
 -- holds. Nothing is said of a circuit whose region cannot be read, which is closed.
