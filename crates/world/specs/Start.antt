@@ -7,7 +7,7 @@ use Rattle.lease_disk.specs.Region.{Region}
 use Rattle.world.specs.Alone.{Alone, Setup, start}
 use Rattle.world.specs.Headline.{CircuitState, Represents}
 
--- A circuit's machine that begins with what these bytes of its region mean.
+-- A circuit's machine at its start, with what these bytes of its region mean.
 abbrev pub opened : Setup → (ℕ → ℕ) → Alone
 opened setup bytes = start (recovered_book setup.part bytes)
 
@@ -16,4 +16,4 @@ opened setup bytes = start (recovered_book setup.part bytes)
 pub record Starts (settings : Settings) (quota : ℕ) (regions : ℕ → Region) (states : List CircuitState) : Type 0 where
   pub count : length states ≡ length settings.circuits
   pub each : (c : ℕ) (part : CircuitPart) → part_in settings c ≡ Some part → (regions part.region).readable ≡ true
-      → Represents c states (record { part = part; quota = quota }) (start (recovered_book part (regions part.region).byte))
+      → Represents c states (record { part = part; quota = quota }) (opened (record { part = part; quota = quota }) (regions part.region).byte)
