@@ -1,5 +1,5 @@
 //! The server of all circuits, over a device that keeps their leases.
-ghost use Rattle.std.specs.Prelude.{◌≡◌, ◌<◌, ◌≤◌, ◌+◌, ◌*◌, ◌↔◌, [], ℕ, List, length, map, slice_get, All, Some, true, false, is_some, nat_lt, IfOk, IfErr};
+ghost use Rattle.std.specs.Prelude.{◌≡◌, ◌<◌, ◌≤◌, ◌+◌, ◌*◌, ◌↔◌, [], ℕ, List, length, map, slice_get, All, Some, true, false, is_some, nat_lt, IfOk, IfErr, OnErr};
 ghost use Rattle.config.specs.CircuitPart as parts;
 ghost use Rattle.config.specs.CircuitPart.{IsPart, parts_of};
 ghost use Rattle.dispatch.specs.Leases.{AreSynced, HasRegions, after_tick, found_leases, received_leases};
@@ -118,6 +118,7 @@ impl Server {
         ensures ready { D.tells ≡ true → IfOk result (λ server. AreReady (D.device disk.new).region server) }
         ensures large { IfOk result (λ server. HasRegions (parts_of config.now) (D.device disk.new).count) }
         ensures small { IfErr result (λ why. why ≡ fault.DiskTooSmall → ¬ HasRegions (parts_of config.now) (D.device disk.old).count) }
+        ensures untouched { OnErr result (D.device disk.new ≡ D.device disk.old) }
         ensures frame { TouchesNothing D.tells (D.device disk.old) (D.device disk.new) }
         ensures reads { (D.device disk.new).reads ≤ (D.device disk.old).reads + 4 * length config.now.circuits }
     {

@@ -28,7 +28,7 @@ use Rattle.relay.specs.Down4.{reply_of, relayed_down4}
 use Rattle.replies.specs.Reply4.{reply4_bytes}
 use Rattle.world.specs.Alone.{Alone, Setup, Step, Dropped, Gone, SentUp, SentDown, Framed, alone_step, served_step, sent_frame, after_all, frames}
 use Rattle.world.specs.Examples.{part_a, part_a1, setup_a, setup_a1, ipv4, discover, discover_up, relayed_discover, offer, client, offers_at, one_offer, lease_until, datagram, with_up, begun, no_leases, request_up, asked, leased, closed, ack}
-use Rattle.world.specs.Granted.{Granted, lines, grant_of, message_lines, decision_lines}
+use Rattle.world.specs.Granted.{Granted, lines, message_lines, decision_lines}
 use Rattle.world.specs.Seen.{Seen, Frame, Up, Down, Restart}
 use Rattle.world.proofs.BookLemmas.{free-none, free-one, at-offers, live_none, live_one, get-one}
 
@@ -279,5 +279,4 @@ unfolding listed_from fault_from
 lease_granted =
     ap (λ e. message_lines part_a e (book_at 110 (offers_at 100 (one_offer (client 1) (lease_until 160)))) (message_of request_up)) lease_sent
     ∙ ap (λ b. message_lines part_a (SentDown 300) b (message_of request_up)) (one_at 110 100 (client 1) (lease_until 160))
-    ∙ ap (λ d. decision_lines (SentDown 300) (offers_at 110 (one_offer (client 1) (lease_until 160))) selects d) granted
-    ∙ ap (λ o. grant_of (client 1) 110 o ++ []) (get-one (client 1) (lease_until 710) (client 1))
+    ∙ ap (λ d. decision_lines part_a (SentDown 300) (offers_at 110 (one_offer (client 1) (lease_until 160))) selects d) granted

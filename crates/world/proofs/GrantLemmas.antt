@@ -4,6 +4,7 @@ use Rattle.std.specs.Prelude.{Option, Some, None, Result, Ok, Err, ◌==◌, if�
 use Rattle.std.specs.FinMap.{get}
 use Rattle.std.proofs.lemmas.Bool.{cases_lt}
 use Rattle.std.proofs.Math.Nat.{le-max_left}
+use Rattle.types.specs.Addr.{number4}
 use Rattle.types.specs.declared.addr.Addr4.{Addr4}
 use Rattle.types.specs.declared.discard.Discard.{Discard}
 use Rattle.types.specs.declared.kind4.Kind4.{Kind4}
@@ -21,11 +22,13 @@ use Rattle.bindings_v4.specs.declared.server4.Server4.TheVariants.{Anybody, This
 use Rattle.bindings_v4.specs.Table4.{Unchanged, Lookup, Row, is_kept, replies, grants, discover_row, other_server_row, selecting_row, known_address_row, no_server_row, decline_row, release_row, inform_row, server_of, lookup_in, row_of, answer4}
 use Rattle.bindings_v4.proofs.LawLemmas.{own_granted}
 use Rattle.bindings_v4.proofs.LeaseLemmas.{lease_kept, lease_lasts}
-use Rattle.config.specs.CircuitPart.{CircuitPart, IsPart, pool4_of}
+use Rattle.config.specs.CircuitPart.{CircuitPart, pool4_of}
 use Rattle.dispatch.specs.Request.{request_in}
 use Rattle.dispatch.specs.Server.{Book, IsBook, Served, book_at, request_served, message_served}
 use Rattle.world.specs.Alone.{Effect}
+use Rattle.world.specs.Books.{IsInPool, IsBookOf}
 use Rattle.world.specs.Granted.{Grant, Line, Granted, Ended, Stands, Knows, granted, end_of, ended, is_sent, request_lines, message_lines}
+use Rattle.world.proofs.PoolLemmas.{HasLimits, number_of_pool, bound_in_pool}
 
 -- ---- lists of lines
 
@@ -132,25 +135,21 @@ no_ended_grants g true Ack client found s = absurd s
 no_ended_grants g true Nak client found s = absurd s
 no_ended_grants g true Inform client found s = absurd s
 
-record IsGrant (g : Grant) (sent : Bool) (client : List ℕ) (clock : ℕ) (after : Option Lease) (answer : Result Reply4 Discard) : Type 0 where
+record IsGrant (part : CircuitPart) (g : Grant) (sent : Bool) (client : List ℕ) (clock : ℕ) (answer : Result Reply4 Discard) : Type 0 where
   is_sent : sent ≡ true
   address : Addr4
   is_ack : answer ≡ Ok (reply.Ack address)
-  lease : Lease
-  bound : after ≡ Some lease
-  is : g ≡ record { client = client; address = lease.address; until = lease.until; clock = clock }
+  is : g ≡ record { client = client; address = number4 address; until = clock + part.lease; clock = clock }
 
-the_grant : (g : Grant) (sent : Bool) (client : List ℕ) (clock : ℕ) (after : Option Lease) (answer : Result Reply4 Discard)
-    → Stands (Granted g) (if sent then granted client clock after answer else []) → IsGrant g sent client clock after answer
-the_grant g false client clock after answer s = absurd s
-the_grant g true client clock after (Err why) s = absurd s
-the_grant g true client clock None (Ok (reply.Ack address)) s = absurd s
-the_grant g true client clock (Some lease) (Ok (reply.Ack address)) (inl e) =
-    record { is_sent = refl; address = address; is_ack = refl; lease = lease; bound = refl; is = cc }
-the_grant g true client clock (Some lease) (Ok (reply.Ack address)) (inr s) = absurd s
-the_grant g true client clock after (Ok (reply.Offer address)) s = absurd s
-the_grant g true client clock after (Ok reply.Inform) s = absurd s
-the_grant g true client clock after (Ok reply.Nak) s = absurd s
+the_grant : (part : CircuitPart) (g : Grant) (sent : Bool) (client : List ℕ) (clock : ℕ) (answer : Result Reply4 Discard)
+    → Stands (Granted g) (if sent then granted part client clock answer else []) → IsGrant part g sent client clock answer
+the_grant part g false client clock answer s = absurd s
+the_grant part g true client clock (Err why) s = absurd s
+the_grant part g true client clock (Ok (reply.Ack address)) (inl e) = record { is_sent = refl; address = address; is_ack = refl; is = cc }
+the_grant part g true client clock (Ok (reply.Ack address)) (inr s) = absurd s
+the_grant part g true client clock (Ok (reply.Offer address)) s = absurd s
+the_grant part g true client clock (Ok reply.Inform) s = absurd s
+the_grant part g true client clock (Ok reply.Nak) s = absurd s
 
 entry_is : (client key : List ℕ) → (TheBinding client ≡ TheBinding key) ⊎ (TheBinding client ≡ TheOffer key) → client ≡ key
 entry_is client key (inl e) = cc
@@ -163,30 +162,41 @@ pub record IsGranted (part : CircuitPart) (b : Book) (done : Served) (effect : E
   pub bound : get done.book.four.bindings g.client ≡ Some (record { address = g.address; until = g.until })
   pub same_clock : done.book.clock ≡ b.clock
   pub own : (client : List ℕ) → address_of (get b.four.bindings client) ≡ Some g.address → client ≡ g.client
+  pub in_pool : IsInPool part g.address
   pub is_kept : done.is_kept ≡ true
   pub sent : is_sent effect ≡ true
 
-pub is_granted : (part : CircuitPart) → IsPart part → (b : Book) → IsBook b → (g : Grant) (effect : Effect) (message : Result MessageValue MessageFault)
+pub is_granted : (part : CircuitPart) → HasLimits part → (b : Book) → IsBookOf part b → (g : Grant) (effect : Effect) (message : Result MessageValue MessageFault)
     → Stands (Granted g) (message_lines part effect b message) → IsGranted part b (message_served part b message) effect g
-is_granted part sound b book g effect (Err fault) s = absurd s
-is_granted part sound b book g effect (Ok m) s = by (request_in m) s where
+is_granted part limits b book g effect (Err fault) s = absurd s
+is_granted part limits b book g effect (Ok m) s = by (request_in m) s where
   by : (request : Result Request4 Discard) → Stands (Granted g) (request_lines part effect b request) → IsGranted part b (request_served part m b request) effect g
   by (Err why) s = absurd s
   by (Ok q) s = by_lines (stands_either (Granted g) _ _ s) where
-    by_lines : Stands (Granted g) (if is_sent effect then granted q.key b.clock (get (answer4 (pool4_of part) b.clock b.four q).book.bindings q.key) (answer4 (pool4_of part) b.clock b.four q).answer else [])
+    by_lines : Stands (Granted g) (if is_sent effect then granted part q.key b.clock (answer4 (pool4_of part) b.clock b.four q).answer else [])
         ⊎ Stands (Granted g) (if (answer4 (pool4_of part) b.clock b.four q).is_kept then ended q.kind q.key (get b.four.bindings q.key) else [])
         → IsGranted part b (request_served part m b (Ok q)) effect g
     by_lines (inr s) = absurd (no_ended_grants g _ q.kind q.key _ s)
     by_lines (inl s) =
-        let i = the_grant g (is_sent effect) q.key b.clock _ (answer4 (pool4_of part) b.clock b.four q).answer s in
-        let own = own_granted (pool4_of part) sound.pool4 b.clock q b.four book i.address i.is_ack in
-        let lease : i.lease ≡ record { address = own.0; until = b.clock + part.lease } = (let both : Some i.lease ≡ Some (record { address = own.0; until = b.clock + part.lease }) = sym i.bound ∙ own.2 in cc) in
+        let i = the_grant part g (is_sent effect) q.key b.clock (answer4 (pool4_of part) b.clock b.four q).answer s in
+        let own = own_granted (pool4_of part) limits b.clock q b.four book.book i.address i.is_ack in
+        let inside = bound_in_pool part b.clock q b.four (record { bindings = book.bindings; offers = book.offers }) own.0 (b.clock + part.lease) own.2 in
+        let address : number4 i.address ≡ own.0 = ap number4 own.1 ∙ number_of_pool part limits own.0 inside in
         let whole : g ≡ record { client = q.key; address = own.0; until = b.clock + part.lease; clock = b.clock } =
-        i.is ∙ ap (λ (l : Lease). record { client = q.key; address = l.address; until = l.until; clock = b.clock }) lease in
+        i.is ∙ ap (λ (n : ℕ). record { client = q.key; address = n; until = b.clock + part.lease; clock = b.clock }) address in
         let mine : (client : List ℕ) → address_of (get b.four.bindings client) ≡ Some own.0 → client ≡ q.key =
         λ client e. entry_is client q.key (own.3 (TheBinding client) e) in
         let fits : IsGranted part b (request_served part m b (Ok q)) effect (record { client = q.key; address = own.0; until = b.clock + part.lease; clock = b.clock }) =
-        record { clock = refl; until = refl; bound = own.2; same_clock = refl; own = mine; is_kept = ack_kept (pool4_of part) b.clock b.four q i.address i.is_ack; sent = i.is_sent } in
+        record {
+          clock = refl;
+          until = refl;
+          bound = own.2;
+          same_clock = refl;
+          own = mine;
+          in_pool = inside;
+          is_kept = ack_kept (pool4_of part) b.clock b.four q i.address i.is_ack;
+          sent = i.is_sent;
+        } in
         subst (IsGranted part b (request_served part m b (Ok q)) effect) (sym whole) fits
 
 -- ---- what books know of a grant
@@ -240,7 +250,7 @@ keeps_served part b book g effect (Ok m) keeps = by (request_in m) where
 
       by_end : (kind : (q.kind ≡ Decline) ⊎ (q.kind ≡ Release)) → q.key ≡ g.client → (answer4 (pool4_of part) b.clock b.four q).is_kept ≡ true → Stands (Ended g.client g.address) (request_lines part effect b (Ok q))
       by_end kind key kept =
-          stands_right _ (if is_sent effect then granted q.key b.clock (get (answer4 (pool4_of part) b.clock b.four q).book.bindings q.key) (answer4 (pool4_of part) b.clock b.four q).answer else []) _
+          stands_right _ (if is_sent effect then granted part q.key b.clock (answer4 (pool4_of part) b.clock b.four q).answer else []) _
           (subst (λ (line : Line). Stands line (if (answer4 (pool4_of part) b.clock b.four q).is_kept then ended q.kind q.key (get b.four.bindings q.key) else [])) (λ i. Ended (key i) (address i))
           (end_stands (answer4 (pool4_of part) b.clock b.four q).is_kept q.kind q.key (get b.four.bindings q.key) l kept kind (ap (λ (k : List ℕ). get b.four.bindings k) key ∙ is)))
 

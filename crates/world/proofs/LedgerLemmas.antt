@@ -1,24 +1,23 @@
 -- What a circuit's machine knows of a grant, from step to step.
-use Rattle.std.proofs.Common.{◌≡◌, ◌⊎◌, inl, inr, ℕ, ◌≤◌, Bool, true, false, not, List, [], ◌∷◌, refl, sym, ap, subst, ◌∙◌, max}
+use Rattle.std.proofs.Common.{◌≡◌, ◌⊎◌, inl, inr, ℕ, ◌≤◌, Bool, true, false, not, List, [], ◌∷◌, refl, sym, ap, subst, ◌∙◌}
 use Rattle.std.specs.Prelude.{Option, Some, None, option_map, Result, Ok, Err, slice_get, nat_le, IfSome, ◌==◌, if◌then◌else◌}
 use Rattle.std.specs.FinMap.{get}
 use Rattle.types.specs.declared.dest.Proto.{Proto}
 use Rattle.types.specs.declared.discard.Discard.{Discard}
 use Rattle.v4_message.specs.Reading.{message_of}
 use Rattle.bindings_v4.specs.Book4.{address_of}
-use Rattle.bindings_v4.proofs.LaterBook.{later_is_a_book}
-use Rattle.config.specs.CircuitPart.{IsPart}
-use Rattle.dispatch.specs.Server.{Book, IsBook, Served, book_at, kept_book, message_served, served}
+use Rattle.dispatch.specs.Server.{Book, Served, book_at, kept_book, message_served, served}
 use Rattle.lease_disk.specs.declared.image.Image.{Image}
 use Rattle.lease_disk.specs.declared.image.Image.TheVariants.{Byte, Unreadable}
 use Rattle.lossy_net.specs.Net.{Datagram}
 use Rattle.relay.specs.SentFrame.{SentFrame}
 use Rattle.relay.specs.Relays.{relayed_up, relayed_down}
 use Rattle.world.specs.Alone.{Alone, Setup, Step, Effect, frame_step, answer_step, served_step, book_step, up_step, reply_step, down_step, is_fault, or_kept, found, after_restart, alone_step, after_all, start}
-use Rattle.world.specs.Books.{HasBooks}
+use Rattle.world.specs.Books.{HasBooks, IsInPool, IsBookOf}
 use Rattle.world.specs.Granted.{Grant, Granted, Ended, Stands, Knows, is_sent, datagram_lines, lines, ledger}
 use Rattle.world.specs.Seen.{Seen, Frame, Up, Down, Tick, Restart}
 use Rattle.world.proofs.GrantLemmas.{stands_left, stands_right, is_granted, Keeps, keeps_new, keeps_later, keeps_served}
+use Rattle.world.proofs.PoolLemmas.{HasLimits, later_of, own_step}
 
 pub record HoldsIn (lease : ℕ) (g : Grant) (a : Alone) : Type 0 where
   pub book : IfSome a.book (Keeps lease g)
@@ -48,9 +47,6 @@ found_in P false doubt kept unsure sure = sure
 
 if_some : (P : Book → Type 0) (o : Option Book) → ((k : Book) × (o ≡ Some k) × P k) → IfSome o P
 if_some P o (k, is, p) = subst (λ (o : Option Book). IfSome o P) (sym is) p
-
-later_book : (now : ℕ) (b : Book) → IsBook b → IsBook (book_at now b)
-later_book now b book = later_is_a_book (max b.clock now) b.four b.clock book
 
 module _ (lease : ℕ) (g : Grant) where
   framed : (setup : Setup) (a : Alone) (proto : Proto) (sent : Result (List ℕ) Discard) → HoldsIn lease g a → HoldsIn lease g (frame_step setup a proto sent).next
@@ -95,9 +91,9 @@ module _ (lease : ℕ) (g : Grant) where
   by_sent true true one two three kept unsent sent h = absurd cc
   by_sent true false one two three kept unsent sent h = h
 
-module _ (setup : Setup) (sound : IsPart setup.part) (g : Grant) where
+module _ (setup : Setup) (limits : HasLimits setup.part) (g : Grant) where
   -- a step keeps it, or its client ends it
-  step_holds : (s : Seen) (a : Alone) → HasBooks a → HoldsIn setup.part.lease g a
+  step_holds : (s : Seen) (a : Alone) → HasBooks (IsBookOf setup.part) a → HoldsIn setup.part.lease g a
       → HoldsIn setup.part.lease g (alone_step setup s a).next ⊎ Stands (Ended g.client g.address) (lines setup s a)
   unfolding alone_step served
   step_holds (Frame proto frame) a books h = inl (framed setup.part.lease g setup a proto (relayed_up setup.part proto frame) h)
@@ -108,11 +104,11 @@ module _ (setup : Setup) (sound : IsPart setup.part) (g : Grant) where
     by d b effect (inl keeps) = inl (served_holds setup.part.lease g setup fault a d.proto (served setup.part now d.bytes b) keeps h)
     by d b effect (inr ended) = inr ended
 
-    opened : (d : Datagram) (b : Option Book) (effect : Effect) → IfSome b IsBook → IfSome b (Keeps setup.part.lease g)
+    opened : (d : Datagram) (b : Option Book) (effect : Effect) → IfSome b (IsBookOf setup.part) → IfSome b (Keeps setup.part.lease g)
         → HoldsIn setup.part.lease g (book_step setup now fault a d b).next ⊎ Stands (Ended g.client g.address) (datagram_lines setup.part effect now b (Some d))
     opened d None effect book keeps = inl h
     opened d (Some b) effect book keeps =
-        by d b effect (keeps_served setup.part (book_at now b) (later_book now b book) g effect (message_of d.bytes) (keeps_later setup.part.lease now g b keeps))
+        by d b effect (keeps_served setup.part (book_at now b) (later_of setup.part now b book).book g effect (message_of d.bytes) (keeps_later setup.part.lease now g b keeps))
 
     went_up : (d : Option Datagram) → HoldsIn setup.part.lease g (up_step setup now fault a d).next ⊎ Stands (Ended g.client g.address) (datagram_lines setup.part (up_step setup now fault a d).effect now a.book d)
     went_up None = inl h
@@ -125,16 +121,16 @@ module _ (setup : Setup) (sound : IsPart setup.part) (g : Grant) where
   step_holds (Restart image) a books h = inl (restarted setup.part.lease g image a h)
 
   -- whoever grants holds
-  grant_holds : (s : Seen) (a : Alone) → HasBooks a → IsSure a → Stands (Granted g) (lines setup s a) → HoldsIn setup.part.lease g (alone_step setup s a).next
+  grant_holds : (s : Seen) (a : Alone) → HasBooks (IsBookOf setup.part) a → IsSure a → Stands (Granted g) (lines setup s a) → HoldsIn setup.part.lease g (alone_step setup s a).next
   unfolding alone_step served
   grant_holds (Frame proto frame) a books sure s = absurd s
   grant_holds (Up j now fault) a books sure s = went_up (slice_get a.up j) s where
-    opened : (d : Datagram) (b : Option Book) → IfSome b IsBook → IfSome b (λ b. a.doubt ≡ None)
+    opened : (d : Datagram) (b : Option Book) → IfSome b (IsBookOf setup.part) → IfSome b (λ b. a.doubt ≡ None)
         → Stands (Granted g) (datagram_lines setup.part (book_step setup now fault a d b).effect now b (Some d)) → HoldsIn setup.part.lease g (book_step setup now fault a d b).next
     opened d None book none s = absurd s
     opened d (Some b) book none s =
         let done = message_served setup.part (book_at now b) (message_of d.bytes) in
-        let i = is_granted setup.part sound (book_at now b) (later_book now b book) g (served_step setup fault a d.proto done).effect (message_of d.bytes) s in
+        let i = is_granted setup.part limits (book_at now b) (later_of setup.part now b book) g (served_step setup fault a d.proto done).effect (message_of d.bytes) s in
         by_sent setup.part.lease g done.is_kept (is_fault fault) _ _ _ i.is_kept refl i.sent
         (saved setup.part.lease g setup a d.proto done (keeps_new setup.part (book_at now b) done _ g i) (subst (λ (o : Option Book). IfSome o (Keeps setup.part.lease g)) (sym none) tt))
 
@@ -146,7 +142,7 @@ module _ (setup : Setup) (sound : IsPart setup.part) (g : Grant) where
   grant_holds (Restart image) a books sure s = absurd s
 
   -- who grants the address to another client knows of the first grant
-  grants_another : (s : Seen) (a : Alone) (h : Grant) → HasBooks a → HoldsIn setup.part.lease g a → Stands (Granted h) (lines setup s a)
+  grants_another : (s : Seen) (a : Alone) (h : Grant) → HasBooks (IsBookOf setup.part) a → HoldsIn setup.part.lease g a → Stands (Granted h) (lines setup s a)
       → h.address ≡ g.address → (g.client ≡ h.client → ⊥) → g.until ≤ h.clock
   unfolding alone_step
   grants_another (Frame proto frame) a h books holds s same apart = absurd s
@@ -155,10 +151,10 @@ module _ (setup : Setup) (sound : IsPart setup.part) (g : Grant) where
     by b clock own (inl past) = subst (λ t. g.until ≤ t) (sym clock) past
     by b clock own (inr (l, is, address, more)) = absurd (apart (own g.client (ap address_of is ∙ ap Some (address ∙ sym same))))
 
-    opened : (d : Datagram) (b : Option Book) (effect : Effect) → IfSome b IsBook → IfSome b (Keeps setup.part.lease g) → Stands (Granted h) (datagram_lines setup.part effect now b (Some d)) → g.until ≤ h.clock
+    opened : (d : Datagram) (b : Option Book) (effect : Effect) → IfSome b (IsBookOf setup.part) → IfSome b (Keeps setup.part.lease g) → Stands (Granted h) (datagram_lines setup.part effect now b (Some d)) → g.until ≤ h.clock
     opened d None effect book keeps s = absurd s
     opened d (Some b) effect book keeps s =
-        let i = is_granted setup.part sound (book_at now b) (later_book now b book) h effect (message_of d.bytes) s in
+        let i = is_granted setup.part limits (book_at now b) (later_of setup.part now b book) h effect (message_of d.bytes) s in
         by (book_at now b) i.clock i.own (keeps_later setup.part.lease now g b keeps).1
 
     went_up : (d : Option Datagram) (effect : Effect) → Stands (Granted h) (datagram_lines setup.part effect now a.book d) → g.until ≤ h.clock
@@ -167,6 +163,22 @@ module _ (setup : Setup) (sound : IsPart setup.part) (g : Grant) where
   grants_another (Down j) a h books holds s same apart = absurd s
   grants_another (Tick now) a h books holds s same apart = absurd s
   grants_another (Restart image) a h books holds s same apart = absurd s
+
+  -- what is granted is in the pool
+  grants_pooled : (s : Seen) (a : Alone) → HasBooks (IsBookOf setup.part) a → Stands (Granted g) (lines setup s a) → IsInPool setup.part g.address
+  unfolding alone_step
+  grants_pooled (Frame proto frame) a books s = absurd s
+  grants_pooled (Up j now fault) a books s = went_up (slice_get a.up j) _ s where
+    opened : (d : Datagram) (b : Option Book) (effect : Effect) → IfSome b (IsBookOf setup.part) → Stands (Granted g) (datagram_lines setup.part effect now b (Some d)) → IsInPool setup.part g.address
+    opened d None effect book s = absurd s
+    opened d (Some b) effect book s = (is_granted setup.part limits (book_at now b) (later_of setup.part now b book) g effect (message_of d.bytes) s).in_pool
+
+    went_up : (d : Option Datagram) (effect : Effect) → Stands (Granted g) (datagram_lines setup.part effect now a.book d) → IsInPool setup.part g.address
+    went_up None effect s = absurd s
+    went_up (Some d) effect s = opened d a.book effect books.book s
+  grants_pooled (Down j) a books s = absurd s
+  grants_pooled (Tick now) a books s = absurd s
+  grants_pooled (Restart image) a books s = absurd s
 
 -- ---- an open circuit has nothing in doubt
 
@@ -224,17 +236,20 @@ sure_after setup (s ∷ seen) a sure = sure_after setup seen (alone_step setup s
 
 -- ---- a run
 
-module _ (setup : Setup) (sound : IsPart setup.part) (books_step : (s : Seen) (a : Alone) → HasBooks a → HasBooks (alone_step setup s a).next) where
-  books_after : (seen : List Seen) (a : Alone) → HasBooks a → HasBooks (after_all setup seen a)
+module _ (setup : Setup) (limits : HasLimits setup.part) where
+  books_step : (s : Seen) (a : Alone) → HasBooks (IsBookOf setup.part) a → HasBooks (IsBookOf setup.part) (alone_step setup s a).next
+  books_step = own_step setup limits
+
+  books_after : (seen : List Seen) (a : Alone) → HasBooks (IsBookOf setup.part) a → HasBooks (IsBookOf setup.part) (after_all setup seen a)
   unfolding after_all
   books_after [] a books = books
   books_after (s ∷ seen) a books = books_after seen (alone_step setup s a).next (books_step s a books)
 
-  run_holds : (g : Grant) (seen : List Seen) (a : Alone) → HasBooks a → HoldsIn setup.part.lease g a
+  run_holds : (g : Grant) (seen : List Seen) (a : Alone) → HasBooks (IsBookOf setup.part) a → HoldsIn setup.part.lease g a
       → HoldsIn setup.part.lease g (after_all setup seen a) ⊎ Stands (Ended g.client g.address) (ledger setup seen a)
   unfolding after_all ledger
   run_holds g [] a books h = inl h
-  run_holds g (s ∷ seen) a books h = by (step_holds setup sound g s a books h) (λ next. run_holds g seen (alone_step setup s a).next (books_step s a books) next) where
+  run_holds g (s ∷ seen) a books h = by (step_holds setup limits g s a books h) (λ next. run_holds g seen (alone_step setup s a).next (books_step s a books) next) where
     rest : HoldsIn setup.part.lease g (after_all setup seen (alone_step setup s a).next) ⊎ Stands (Ended g.client g.address) (ledger setup seen (alone_step setup s a).next)
         → HoldsIn setup.part.lease g (after_all setup seen (alone_step setup s a).next) ⊎ Stands (Ended g.client g.address) (ledger setup (s ∷ seen) a)
     rest (inl holds) = inl holds
@@ -247,11 +262,11 @@ module _ (setup : Setup) (sound : IsPart setup.part) (books_step : (s : Seen) (a
     by (inl holds) on = rest (on holds)
     by (inr ended) on = inr (stands_left (Ended g.client g.address) (lines setup s a) _ ended)
 
-  module _ (kept : Option Book) (is_book : IfSome kept IsBook) (before : List Seen) (s : Seen) (g : Grant) where
+  module _ (kept : Option Book) (is_book : IfSome kept (IsBookOf setup.part)) (before : List Seen) (s : Seen) (g : Grant) where
     abbrev reached : Alone
     reached = after_all setup before (start kept)
 
-    reached_books : HasBooks reached
+    reached_books : HasBooks (IsBookOf setup.part) reached
     reached_books = books_after before (start kept) (record { book = is_book; kept = is_book; doubt = tt })
 
     reached_sure : IsSure reached
@@ -260,7 +275,10 @@ module _ (setup : Setup) (sound : IsPart setup.part) (books_step : (s : Seen) (a
     after_grant : (seen : List Seen) → Stands (Granted g) (lines setup s reached)
         → HoldsIn setup.part.lease g (after_all setup seen (alone_step setup s reached).next) ⊎ Stands (Ended g.client g.address) (ledger setup seen (alone_step setup s reached).next)
     after_grant seen grants =
-        run_holds g seen (alone_step setup s reached).next (books_step s reached reached_books) (grant_holds setup sound g s reached reached_books reached_sure grants)
+        run_holds g seen (alone_step setup s reached).next (books_step s reached reached_books) (grant_holds setup limits g s reached reached_books reached_sure grants)
+
+    pub grants_inside : Stands (Granted g) (lines setup s (after_all setup before (start kept))) → IsInPool setup.part g.address
+    grants_inside = grants_pooled setup limits g s reached reached_books
 
     pub forgets_none : (seen : List Seen) (byte : ℕ) → Stands (Granted g) (lines setup s (after_all setup before (start kept)))
         → ((b : Book) × ((alone_step setup (Restart (Byte byte)) (after_all setup (s ∷ seen) (after_all setup before (start kept)))).next.book ≡ Some b) × Knows g b)
@@ -281,10 +299,10 @@ module _ (setup : Setup) (sound : IsPart setup.part) (books_step : (s : Seen) (a
         → (g.until ≤ h.clock) ⊎ Stands (Ended g.client g.address) (ledger setup between (alone_step setup s (after_all setup before (start kept))).next)
     unfolding after_all
     leases_once between t h grants again same apart = by (after_grant between grants) where
-      there : HasBooks (after_all setup between (alone_step setup s reached).next)
+      there : HasBooks (IsBookOf setup.part) (after_all setup between (alone_step setup s reached).next)
       there = books_after between (alone_step setup s reached).next (books_step s reached reached_books)
 
       by : HoldsIn setup.part.lease g (after_all setup between (alone_step setup s reached).next) ⊎ Stands (Ended g.client g.address) (ledger setup between (alone_step setup s reached).next)
           → (g.until ≤ h.clock) ⊎ Stands (Ended g.client g.address) (ledger setup between (alone_step setup s reached).next)
-      by (inl holds) = inl (grants_another setup sound g t (after_all setup between (alone_step setup s reached).next) h there holds again same apart)
+      by (inl holds) = inl (grants_another setup limits g t (after_all setup between (alone_step setup s reached).next) h there holds again same apart)
       by (inr ended) = inr ended

@@ -9,5 +9,8 @@ pub mod CircuitSteps
 pub mod StateLemmas
 pub mod StrayLemmas
 pub mod ShownLemmas
+pub mod HeldBooks
+pub mod PoolLemmas
+pub mod ConfigLemmas
 pub mod GrantLemmas
 pub mod LedgerLemmas

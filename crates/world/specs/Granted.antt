@@ -1,7 +1,8 @@
 -- Who was leased which address, and until when: what a circuit's machine grants and ends, read off its
 -- steps.
-use Rattle.std.specs.Prelude.{◌≡◌, ◌≤◌, ◌⊎◌, ℕ, Bool, true, false, List, [], ◌∷◌, ◌++◌, Option, Some, None, Result, Ok, Err, slice_get, if◌then◌else◌}
+use Rattle.std.specs.Prelude.{◌≡◌, ◌≤◌, ◌⊎◌, ℕ, ◌+◌, Bool, true, false, List, [], ◌∷◌, ◌++◌, Option, Some, None, Result, Ok, Err, slice_get, if◌then◌else◌}
 use Rattle.std.specs.FinMap.{get}
+use Rattle.types.specs.Addr.{number4}
 use Rattle.types.specs.declared.discard.Discard.{Discard}
 use Rattle.types.specs.declared.kind4.Kind4.{Kind4}
 use Rattle.types.specs.declared.kind4.Kind4.TheVariants as kind
@@ -20,7 +21,8 @@ use Rattle.lossy_net.specs.Net.{Datagram}
 use Rattle.world.specs.Alone.{Alone, Setup, Effect, Dropped, Gone, SentUp, SentDown, Framed, Done, alone_step}
 use Rattle.world.specs.Seen.{Seen, Frame, Up, Down, Tick, Restart}
 
--- A lease as it was granted, and the circuit's clock then.
+-- A lease as a DHCPACK grants it: the client, the address as a number, and until when, by the circuit's
+-- clock then.
 pub record Grant : Type 0 where
   pub client : List ℕ
   pub address : ℕ
@@ -38,17 +40,15 @@ abbrev pub Stands : Line → List Line → Type 0
 Stands line [] = ⊥
 Stands line (x ∷ lines) = (x ≡ line) ⊎ Stands line lines
 
-abbrev pub grant_of : List ℕ → ℕ → Option Lease → List Line
-grant_of client clock None = []
-grant_of client clock (Some lease) = Granted (record { client = client; address = lease.address; until = lease.until; clock = clock }) ∷ []
-
--- by the client, the clock, its lease after the decision, and the answer
-abbrev pub granted : List ℕ → ℕ → Option Lease → Result Reply4 Discard → List Line
-granted client clock lease (Err why) = []
-granted client clock lease (Ok (reply.Ack address)) = grant_of client clock lease
-granted client clock lease (Ok (reply.Offer address)) = []
-granted client clock lease (Ok reply.Inform) = []
-granted client clock lease (Ok reply.Nak) = []
+-- By the circuit's part, the client, the clock, and the answer: a DHCPACK grants its address for the
+-- lease time that it carries (RFC 2131, section 3.1, step 4). That of a DHCPINFORM grants nothing.
+abbrev pub granted : CircuitPart → List ℕ → ℕ → Result Reply4 Discard → List Line
+granted part client clock (Err why) = []
+granted part client clock (Ok (reply.Ack address)) =
+    Granted (record { client = client; address = number4 address; until = clock + part.lease; clock = clock }) ∷ []
+granted part client clock (Ok (reply.Offer address)) = []
+granted part client clock (Ok reply.Inform) = []
+granted part client clock (Ok reply.Nak) = []
 
 abbrev pub end_of : List ℕ → Option Lease → List Line
 end_of client None = []
@@ -73,14 +73,14 @@ is_sent (SentDown len) = true
 is_sent (Framed frame) = false
 is_sent Done = false
 
-abbrev pub decision_lines : Effect → Book → Request4 → Decision → List Line
-decision_lines effect b m d =
-    (if is_sent effect then granted m.key b.clock (get d.book.bindings m.key) d.answer else [])
+abbrev pub decision_lines : CircuitPart → Effect → Book → Request4 → Decision → List Line
+decision_lines part effect b m d =
+    (if is_sent effect then granted part m.key b.clock d.answer else [])
     ++ (if d.is_kept then ended m.kind m.key (get b.four.bindings m.key) else [])
 
 abbrev pub request_lines : CircuitPart → Effect → Book → Result Request4 Discard → List Line
 request_lines part effect b (Err why) = []
-request_lines part effect b (Ok m) = decision_lines effect b m (answer4 (pool4_of part) b.clock b.four m)
+request_lines part effect b (Ok m) = decision_lines part effect b m (answer4 (pool4_of part) b.clock b.four m)
 
 abbrev pub message_lines : CircuitPart → Effect → Book → Result MessageValue MessageFault → List Line
 message_lines part effect b (Err fault) = []

@@ -17,7 +17,9 @@ pub use addressed::{comes_to_its_circuit, reply_comes_to_its_circuit};
 pub use books::leaves_a_book;
 pub use dispatch::OpenFault;
 pub use event::Event;
-pub use leases::{forgets_no_lease, leases_no_address_twice};
+pub use leases::{
+    forgets_no_lease, grants_from_the_pool, leases_no_address_twice, leases_of_configurations,
+};
 pub use machine::{Machine, run};
 pub use outcome::Outcome;
 pub use sink::Sink;

@@ -3,4 +3,4 @@ use Rattle.world.proofs.leases.forgets_no_lease.Goals as goal
 
 pub returns : goal.returns
 returns c setup kept before s after byte g sound book grants =
-    forgets_none setup sound (λ s a books. c.leaves_a_book.ensures.step setup s a sound books) kept book before s g after byte grants
+    forgets_none setup sound.pool4 kept book before s g after byte grants

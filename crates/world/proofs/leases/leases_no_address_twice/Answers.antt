@@ -3,4 +3,4 @@ use Rattle.world.proofs.leases.leases_no_address_twice.Goals as goal
 
 pub returns : goal.returns
 returns c setup kept before s between t g h sound book grants again same apart =
-    leases_once setup sound (λ s a books. c.leaves_a_book.ensures.step setup s a sound books) kept book before s g between t h grants again same apart
+    leases_once setup sound.pool4 kept book before s g between t h grants again same apart
