@@ -3,7 +3,7 @@ use Rattle.std.proofs.Common.{◌≡◌, ◌<◌, ◌≤◌, ◌⊎◌, inl, inr
 use Rattle.std.specs.Prelude.{if◌then◌else◌}
 use Rattle.std.proofs.lemmas.Bool.{cases_lt}
 use Rattle.std.proofs.lemmas.List.{get_or_past}
-use Rattle.lease_disk.specs.declared.bank.Marks.{Marks}
+use Rattle.lease_disk.specs.declared.format1.bank.Marks.{Marks}
 use Rattle.lease_disk.specs.declared.image.Image.TheVariants.{Byte}
 use Rattle.lease_disk.specs.Crash.{formatted_region, crashed}
 use Rattle.lease_disk.specs.Layout.{formatted}
