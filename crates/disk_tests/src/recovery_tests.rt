@@ -3,7 +3,7 @@ ghost use Rattle.lease_disk.specs.Model.{state_of};
 ghost use Rattle.lease_disk.specs.Region.{IsClean};
 ghost use Rattle.lease_disk.specs.Save.{AreMarks};
 
-use crate::save_tests::{first_lease, formatted_disk};
+use crate::save_tests::{first_lease, formatted_disk, has, read_back};
 use lease_disk::*;
 use std::alloc::{AllocError, Global};
 use std::test::Fail;
@@ -36,11 +36,11 @@ fn fault_of(disk: &mut ModelDisk, region: u16) -> Option<RecoverFault>
     }
 }
 
-/// The bank that counts in a formatted region with these bytes changed.
-fn bank_with(alloc: Global, bytes: &[(usize, u8)]) -> Result<Option<Bank>, AllocError> {
+/// The clock that is recovered from a formatted region with these bytes changed.
+fn clock_with(alloc: Global, bytes: &[(usize, u8)]) -> Result<Option<u64>, AllocError> {
     let mut disk = disk_with(alloc, bytes)?;
     match recover(0, &mut disk, [16, 16]) {
-        Ok((_, marks)) => Ok(Some(marks.bank)),
+        Ok((slots, _)) => Ok(Some(slots.clock.seconds())),
         Err(_) => Ok(None),
     }
 }
@@ -98,9 +98,13 @@ fn the_bytes_of_a_first_lease(rt: HostRuntime) -> Result<(), Fail> {
         (4150, 1),
     ];
     let mut disk = disk_with(rt.alloc(), &bytes)?;
-    if let Ok((slots, marks)) = recover(0, &mut disk, [1, 1]) {
+    settle(&mut disk, None)?;
+    if let Ok((slots, mut marks)) = read_back(&mut disk) {
         assert!(rt; are_same(&slots, &first_lease()));
-        assert!(rt; marks.bank == Bank::Second && marks.sequence == 1 && marks.other_open);
+        // bank 1 counts, with sequence 1: the next save writes bank 0, with sequence 2
+        assert!(rt; save(0, &mut disk, &mut marks, &slots).is_ok());
+        assert!(rt; has(disk.bytes(0), 0, &[0xa5, 2]));
+        assert!(rt; has(disk.bytes(0), 4096, &[0xa5, 1]));
         return Ok(());
     }
     assert!(rt; false);
@@ -110,12 +114,12 @@ fn the_bytes_of_a_first_lease(rt: HostRuntime) -> Result<(), Fail> {
 #[test]
 fn the_open_bank_that_follows_counts(rt: HostRuntime) -> Result<(), Fail> {
     let rows = [
-        (0, 1, Some(Bank::Second)),
-        (1, 2, Some(Bank::Second)),
-        (2, 0, Some(Bank::Second)),
-        (1, 0, Some(Bank::First)),
-        (2, 1, Some(Bank::First)),
-        (0, 2, Some(Bank::First)),
+        (0, 1, Some(20)),
+        (1, 2, Some(20)),
+        (2, 0, Some(20)),
+        (1, 0, Some(10)),
+        (2, 1, Some(10)),
+        (0, 2, Some(10)),
         (0, 0, None),
         (1, 1, None),
         (2, 2, None),
@@ -125,9 +129,16 @@ fn the_open_bank_that_follows_counts(rt: HostRuntime) -> Result<(), Fail> {
         (0, 3, None),
         (3, 0, None),
     ];
-    for (first, second, bank) in rows {
-        let bytes = [(1, first), (4096, 0xa5), (4097, second)];
-        assert!(rt; bank_with(rt.alloc(), &bytes)? == bank);
+    for (first, second, clock) in rows {
+        // bank 0 has clock 10, bank 1 clock 20
+        let bytes = [
+            (1, first),
+            (15, 10),
+            (4096, 0xa5),
+            (4097, second),
+            (4111, 20),
+        ];
+        assert!(rt; clock_with(rt.alloc(), &bytes)? == clock);
     }
     Ok(())
 }
@@ -192,7 +203,7 @@ fn stop(disk: &mut ModelDisk, marks: &mut Marks, slots: &Slots, n: u8) -> Option
     let Ok(()) = settle(disk, byte) else {
         return None;
     };
-    let Ok((slots, found)) = recover(0, disk, [1, 1]) else {
+    let Ok((slots, found)) = read_back(disk) else {
         return None;
     };
     *marks = found;
@@ -221,17 +232,15 @@ fn two_stops(mut disk: ModelDisk, mut marks: Marks, before: &Slots, first: u8, s
     are_same(&found, &kept)
 }
 
-fn two_stops_formatted(alloc: Global, first: u8, second: u8) -> Result<bool, AllocError> {
+fn two_stops_formatted(alloc: Global, first: u8, second: u8) -> Result<bool, Fail> {
     let (disk, marks) = formatted_disk(alloc)?;
     Ok(two_stops(disk, marks, &empty(), first, second))
 }
 
-fn two_stops_saved(alloc: Global, first: u8, second: u8) -> Result<bool, AllocError> {
+fn two_stops_saved(alloc: Global, first: u8, second: u8) -> Result<bool, Fail> {
     let (mut disk, mut marks) = formatted_disk(alloc)?;
     let slots = lease_at(100);
-    if save(0, &mut disk, &mut marks, &slots).is_err() {
-        return Ok(false);
-    }
+    save(0, &mut disk, &mut marks, &slots)?;
     Ok(two_stops(disk, marks, &slots, first, second))
 }
 

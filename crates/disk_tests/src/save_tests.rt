@@ -4,7 +4,7 @@ ghost use Rattle.lease_disk.specs.Region.{IsClean};
 ghost use Rattle.lease_disk.specs.Save.{AreMarks};
 
 use lease_disk::*;
-use std::alloc::{AllocError, Global};
+use std::alloc::Global;
 use std::test::Fail;
 use types::{Key4, Key6, Moment, Slot4, Slot6, Slots};
 
@@ -20,7 +20,7 @@ pub fn first_lease() -> Slots {
 }
 
 /// Whether a region's bytes have these at an offset.
-fn has(bytes: &[u8], at: usize, expected: &[u8]) -> bool {
+pub fn has(bytes: &[u8], at: usize, expected: &[u8]) -> bool {
     bytes
         .iter()
         .skip(at)
@@ -28,19 +28,28 @@ fn has(bytes: &[u8], at: usize, expected: &[u8]) -> bool {
         .all(|(byte, other)| *byte == *other)
 }
 
+/// What the region of a device recovers to, and the marks that the next save wants.
+pub fn read_back(disk: &mut ModelDisk) -> Result<(Slots, Marks), RecoverFault>
+    requires count { length disk.old.regions ≡ 1 }
+    requires clean { IsClean (state_of disk.old 0) }
+    ensures count { length disk.new.regions ≡ 1 }
+    ensures clean { IsClean (state_of disk.new 0) }
+    ensures marks { IfOk result (λ found. AreMarks (state_of disk.new 0).byte found.1) }
+{
+    recover(0, disk, [1, 1])
+}
+
 /// A device of one formatted region, and its marks.
-pub fn formatted_disk(alloc: Global) -> Result<(ModelDisk, Marks), AllocError>
+pub fn formatted_disk(alloc: Global) -> Result<(ModelDisk, Marks), Fail>
     ensures count { IfOk result (λ r. length r.0.regions ≡ 1) }
     ensures clean { IfOk result (λ r. IsClean (state_of r.0 0)) }
     ensures marks { IfOk result (λ r. AreMarks (state_of r.0 0).byte r.1) }
 {
-    let disk = ModelDisk::new(alloc, 1)?;
-    let marks = Marks {
-        bank: Bank::First,
-        sequence: 0,
-        other_open: false,
-    };
-    Ok((disk, marks))
+    let mut disk = ModelDisk::new(alloc, 1)?;
+    match read_back(&mut disk) {
+        Ok((_, marks)) => Ok((disk, marks)),
+        Err(fault) => Err(Fail::from(fault)),
+    }
 }
 
 #[test]
@@ -121,14 +130,11 @@ fn the_bytes_of_a_first_save(rt: HostRuntime) -> Result<(), Fail> {
     assert!(rt; has(bytes, 4136, &[0, 0, 0, 0, 0, 0, 2, 0xbd]));
     assert!(rt; has(bytes, 4144, &[1, 2, 0, 0, 0, 0, 1, 0]));
     assert!(rt; has(bytes, 8192, &[1]));
-    assert!(rt;
-        marks
-            == Marks {
-                bank: Bank::Second,
-                sequence: 1,
-                other_open: true
-            }
-    );
+    if let Ok((_, found)) = recover(0, &mut disk, [1, 1]) {
+        assert!(rt; marks == found);
+        return Ok(());
+    }
+    assert!(rt; false);
     Ok(())
 }
 
@@ -179,20 +185,16 @@ fn stop(mut disk: ModelDisk, mut marks: Marks, k: u8, byte: u8) -> Option<(u8, u
     Some((bytes[4096], bytes[4097]))
 }
 
-fn stop_first(alloc: Global, k: u8, byte: u8) -> Result<Option<(u8, u8)>, AllocError> {
+fn stop_first(alloc: Global, k: u8, byte: u8) -> Result<Option<(u8, u8)>, Fail> {
     let (disk, marks) = formatted_disk(alloc)?;
     Ok(stop(disk, marks, k, byte))
 }
 
-fn stop_third(alloc: Global, k: u8, byte: u8) -> Result<Option<(u8, u8)>, AllocError> {
+fn stop_third(alloc: Global, k: u8, byte: u8) -> Result<Option<(u8, u8)>, Fail> {
     let (mut disk, mut marks) = formatted_disk(alloc)?;
     let slots = first_lease();
-    if save(0, &mut disk, &mut marks, &slots).is_err() {
-        return Ok(None);
-    }
-    if save(0, &mut disk, &mut marks, &slots).is_err() {
-        return Ok(None);
-    }
+    save(0, &mut disk, &mut marks, &slots)?;
+    save(0, &mut disk, &mut marks, &slots)?;
     Ok(stop(disk, marks, k, byte))
 }
 

@@ -15,7 +15,7 @@ use Rattle.lease_disk.specs.Layout.{gate_at}
 use Rattle.lease_disk.specs.Recovered.{recovered, is_open}
 use Rattle.lease_disk.specs.Region.{Region, IsClean, IsCrash, image, effective}
 use Rattle.lease_disk.specs.Save.{IsSaved, IsLeft}
-use Rattle.lease_disk.specs.declared.bank.Bank.{Bank}
+use Rattle.lease_disk.specs.declared.format1.bank.Bank.{Bank}
 use Rattle.lease_disk.specs.declared.device.Fault.{Fault}
 use Rattle.dispatch.specs.Leases.{book_in, counts_of, recovered_book, restarts_of, restarts_after}
 use Rattle.dispatch.specs.Server.{Book, kept_book}

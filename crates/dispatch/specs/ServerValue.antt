@@ -2,7 +2,7 @@
 use Rattle.std.specs.Prelude.{◌≡◌, ℕ, List, [], ◌∷◌, length, map, Option, Some, None, IfSome, option_map, All, slice_get}
 use Rattle.types.specs.declared.addr.Source.{Source}
 use Rattle.config.specs.CircuitPart.{CircuitPart, pool4_of}
-use Rattle.lease_disk.specs.declared.bank.Marks.{Marks}
+use Rattle.lease_disk.specs.declared.format1.bank.Marks.{Marks}
 use Rattle.lease_disk.specs.Region.{Region, IsClean}
 use Rattle.lease_disk.specs.Save.{AreMarks}
 use Rattle.bindings_v4.specs.Slots4.{PoolSlots}

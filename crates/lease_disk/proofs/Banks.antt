@@ -1,8 +1,8 @@
 -- Which bank counts after each step of a save, over regions as functions of the offset.
 use Rattle.std.proofs.Common.{◌≡◌, ℕ, ◌+◌, ◌<◌, ◌≤◌, ◌%◌, Bool, true, false, not, ◌&&◌, ◌||◌, nat_le, List, refl, sym, ap, ◌∙◌, arith}
 use Rattle.std.specs.Prelude.{if◌then◌else◌, ◌==◌}
-use Rattle.lease_disk.specs.declared.bank.Bank.{Bank}
-use Rattle.lease_disk.specs.declared.bank.Bank.TheVariants.{First, Second}
+use Rattle.lease_disk.specs.declared.format1.bank.Bank.{Bank}
+use Rattle.lease_disk.specs.declared.format1.bank.Bank.TheVariants.{First, Second}
 use Rattle.lease_disk.specs.Layout.{gate_open, gate_at, bank_at, format_at}
 use Rattle.lease_disk.specs.Recovered.{other, is_format2, is_open, sequence, is_valid, next, is_counting, body, book_of, recovered}
 use Rattle.lease_disk.specs.Region.{is_within}

@@ -10,7 +10,7 @@ use Rattle.types.specs.declared.slots.Slot6.{Slot6}
 use Rattle.types.specs.declared.slots.Slot6.TheVariants as S6
 use Rattle.types.specs.declared.slots.Slots.{Slots}
 use Rattle.types.specs.Slots.{IsWithin4, IsWithin6, live4, live6, same_client4, same_client6, none_twice, last_until}
-use Rattle.lease_disk.specs.declared.bank.Bank.TheVariants.{First, Second}
+use Rattle.lease_disk.specs.declared.format1.bank.Bank.TheVariants.{First, Second}
 use Rattle.lease_disk.specs.Book.{IsBook, empty_book}
 use Rattle.lease_disk.specs.Crash.{IsFormatted}
 use Rattle.lease_disk.specs.Region.{Region}

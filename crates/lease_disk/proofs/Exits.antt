@@ -3,8 +3,8 @@ use Rattle.std.proofs.Common.{◌≡◌, ℕ, ◌+◌, ◌-◌, ◌≤◌, Bool,
 use Rattle.std.specs.Prelude.{if◌then◌else◌, ◌==◌, drop, suc}
 use Rattle.std.proofs.Math.Seq.{take-length}
 use Rattle.types.specs.declared.slots.Slots.{Slots}
-use Rattle.lease_disk.specs.declared.bank.Bank.{Bank}
-use Rattle.lease_disk.specs.declared.bank.Marks.{Marks}
+use Rattle.lease_disk.specs.declared.format1.bank.Bank.{Bank}
+use Rattle.lease_disk.specs.declared.format1.bank.Marks.{Marks}
 use Rattle.lease_disk.specs.Layout.{gate_open, gate_at, bank_at}
 use Rattle.lease_disk.specs.Recovered.{other, next, sequence as sequence_of, book_of, recovered}
 use Rattle.lease_disk.specs.Region.{Region, written, synced, effective, IsClean, IsTorn}

@@ -3,19 +3,13 @@ use Rattle.std.proofs.Common.{◌≡◌, ◌<◌, ◌≤◌, ◌⊎◌, inl, inr
 use Rattle.std.specs.Prelude.{if◌then◌else◌}
 use Rattle.std.proofs.lemmas.Bool.{cases_lt}
 use Rattle.std.proofs.lemmas.List.{get_or_past}
-use Rattle.lease_disk.specs.declared.bank.Marks.{Marks}
 use Rattle.lease_disk.specs.declared.image.Image.TheVariants.{Byte}
 use Rattle.lease_disk.specs.Crash.{formatted_region, crashed}
-use Rattle.lease_disk.specs.Layout.{formatted}
 use Rattle.lease_disk.specs.Model.{ModelDiskValue, absent, region_of, state_of}
 use Rattle.lease_disk.specs.Region.{Region, synced, image, IsClean}
-use Rattle.lease_disk.specs.Save.{AreMarks}
 
 pub fresh_clean : (r : Region) → r ≡ formatted_region → IsClean r
 fresh_clean r e = let c : IsClean formatted_region = record { each = λ i. refl } in subst (λ (x : Region). IsClean x) (sym e) c
-
-pub fresh_marks : (r : Region) (marks : Marks) → r ≡ formatted_region → AreMarks formatted marks → AreMarks r.byte marks
-fresh_marks r marks e m = subst (λ (x : Region). AreMarks x.byte marks) (sym e) m
 
 pub none_unsynced : (r : Region) → r.unsynced ≡ (λ i. false) → IsClean r
 none_unsynced r e = record { each = λ i. λ j. e j i }

@@ -3,9 +3,9 @@ use Rattle.std.proofs.Common.{◌≡◌, ℕ, ◌+◌, ◌-◌, ◌<◌, ◌≤�
 use Rattle.std.specs.Prelude.{if◌then◌else◌, ◌==◌}
 use Rattle.std.proofs.lemmas.List.{get_or_past}
 use Rattle.types.specs.declared.slots.Slots.{Slots}
-use Rattle.lease_disk.specs.declared.bank.Bank.{Bank}
-use Rattle.lease_disk.specs.declared.bank.Bank.TheVariants.{First, Second}
-use Rattle.lease_disk.specs.declared.bank.Marks.{Marks}
+use Rattle.lease_disk.specs.declared.format1.bank.Bank.{Bank}
+use Rattle.lease_disk.specs.declared.format1.bank.Bank.TheVariants.{First, Second}
+use Rattle.lease_disk.specs.declared.format1.bank.Marks.{Marks}
 use Rattle.lease_disk.specs.Layout.{gate_open, gate_at, bank_at}
 use Rattle.lease_disk.specs.Recovered.{other, is_format2, is_open, sequence, next, is_counting, body, book_of, recovered}
 use Rattle.lease_disk.specs.Region.{Region, is_within, written, synced, effective, IsCrash, IsClean, IsTorn}

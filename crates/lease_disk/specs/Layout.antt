@@ -1,7 +1,7 @@
 -- Where a region of format 1 keeps what, and its formatted bytes. Numbers are big-endian.
 use Rattle.std.specs.Prelude.{ℕ, ◌+◌, ◌*◌, ◌==◌, if◌then◌else◌}
-use Rattle.lease_disk.specs.declared.bank.Bank.{Bank}
-use Rattle.lease_disk.specs.declared.bank.Bank.TheVariants.{First, Second}
+use Rattle.lease_disk.specs.declared.format1.bank.Bank.{Bank}
+use Rattle.lease_disk.specs.declared.format1.bank.Bank.TheVariants.{First, Second}
 
 -- the byte of a gate that is open; any other is closed
 abbrev pub gate_open : ℕ

@@ -1,11 +1,11 @@
 -- What recovering a region answers.
 use Rattle.std.specs.Prelude.{◌≡◌, ℕ, ◌+◌, true, false, List, Some, None, Result, Ok, Err}
 use Rattle.types.specs.declared.slots.Slots.{Slots}
-use Rattle.lease_disk.specs.declared.bank.Bank.{Bank}
-use Rattle.lease_disk.specs.declared.bank.Marks.{Marks}
-use Rattle.lease_disk.specs.declared.recovering.Head.{Head}
-use Rattle.lease_disk.specs.declared.recovering.RecoverFault.{RecoverFault}
-use Rattle.lease_disk.specs.declared.recovering.RecoverFault.TheVariants.{DiskFault, Damaged}
+use Rattle.lease_disk.specs.declared.format1.bank.Bank.{Bank}
+use Rattle.lease_disk.specs.declared.format1.bank.Marks.{Marks}
+use Rattle.lease_disk.specs.declared.format1.recovering.Head.{Head}
+use Rattle.lease_disk.specs.declared.format1.recovering.RecoverFault.{RecoverFault}
+use Rattle.lease_disk.specs.declared.format1.recovering.RecoverFault.TheVariants.{DiskFault, Damaged}
 use Rattle.lease_disk.specs.Recovered.{is_open, sequence, recovered}
 use Rattle.lease_disk.specs.Region.{Region}
 use Rattle.lease_disk.specs.Save.{AreMarks}

@@ -8,8 +8,8 @@ use Rattle.types.specs.declared.slots.Slot6.{Slot6}
 use Rattle.types.specs.declared.slots.Slot6.TheVariants as S6
 use Rattle.types.specs.declared.slots.Slots.{Slots}
 use Rattle.types.specs.Slots.{last_until, live4, live6, none_twice, same_client4, same_client6}
-use Rattle.lease_disk.specs.declared.bank.Bank.{Bank}
-use Rattle.lease_disk.specs.declared.bank.Bank.TheVariants.{First, Second}
+use Rattle.lease_disk.specs.declared.format1.bank.Bank.{Bank}
+use Rattle.lease_disk.specs.declared.format1.bank.Bank.TheVariants.{First, Second}
 use Rattle.lease_disk.specs.Layout.{gate_open, format_at, gate_at, bank_at, bank_size, sequence_at, clock_at, four_at, six_at, state_at, length_at, iaid_at, until_at, key_at}
 
 -- Which bank counts

@@ -1,8 +1,8 @@
 -- What a save leaves.
 use Rattle.std.specs.Prelude.{◌≡◌, ℕ, ◌+◌, ◌-◌, ◌==◌, ◌≤◌, true, false, ◌&&◌, nat_le, if◌then◌else◌, List, slice_index, Option, Some}
 use Rattle.types.specs.declared.slots.Slots.{Slots}
-use Rattle.lease_disk.specs.declared.bank.Bank.{Bank}
-use Rattle.lease_disk.specs.declared.bank.Marks.{Marks}
+use Rattle.lease_disk.specs.declared.format1.bank.Bank.{Bank}
+use Rattle.lease_disk.specs.declared.format1.bank.Marks.{Marks}
 use Rattle.lease_disk.specs.Book.{bank_bytes}
 use Rattle.lease_disk.specs.Layout.{gate_open, gate_at, bank_at}
 use Rattle.lease_disk.specs.Recovered.{other, is_format2, is_open, sequence, next, is_counting, recovered}

@@ -1,7 +1,7 @@
 //! What holds of every region: functions that do nothing, for their contracts.
 ghost use Rattle.std.specs.Prelude.{◌≡◌, ℕ, List, Some, false};
 ghost use Rattle.types.specs.declared.slots.Slots.{Slots};
-ghost use Rattle.lease_disk.specs.declared.bank.Bank.TheVariants.{First};
+ghost use Rattle.lease_disk.specs.declared.format1.bank.Bank.TheVariants.{First};
 ghost use Rattle.lease_disk.specs.Book.{IsBook, empty_book};
 ghost use Rattle.lease_disk.specs.Crash.{IsFormatted};
 ghost use Rattle.lease_disk.specs.Recovered.{recovered};

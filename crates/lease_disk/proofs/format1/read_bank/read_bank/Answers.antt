@@ -1,0 +1,27 @@
+use Rattle.std.proofs.Common.{refl, ◌∙◌, slice_index}
+use Rattle.lease_disk.proofs.Reading.{no_four, no_six, book_is, book_late, book_twice4, book_twice6, book_whole}
+use Rattle.lease_disk.proofs.format1.read_bank.read_bank.Goals as goal
+
+pub returns-in_err-four : goal.returns-in_err-four
+returns-in_err-four c = c.from_residual.ensures ∙ no_four c.args.counts (slice_index c.args.bank.now) c.in_err-four.ensures
+
+pub returns-in_err-six : goal.returns-in_err-six
+returns-in_err-six c = c.from_residual-in_err-six.ensures ∙ no_six c.args.counts (slice_index c.args.bank.now) c.in_err-six.ensures
+
+pub returns-in_err-clock : goal.returns-in_err-clock
+returns-in_err-clock c = c.from_residual-in_err-clock.ensures
+    ∙ book_late c.number8-seconds.result c.in_ok-four.four c.in_ok-six.six (λ h. let e = c.in_err-clock.ensures.within.1 h in cc)
+    ∙ book_is c.args.counts (slice_index c.args.bank.now) c.number8-seconds.result _ _ c.number8-seconds.ensures c.in_ok-four.ensures c.in_ok-six.ensures
+
+pub returns-then-not-no_client_twice4 : goal.returns-then-not-no_client_twice4
+returns-then-not-no_client_twice4 c = book_twice4 c.args.counts (slice_index c.args.bank.now) c.number8-seconds.result c.in_ok-four.four c.in_ok-six.six _
+    c.number8-seconds.ensures c.in_ok-four.ensures c.in_ok-six.ensures c.no_client_twice4.ensures c.if-not-no_client_twice4.true
+
+pub returns-then-not-no_client_twice6 : goal.returns-then-not-no_client_twice6
+returns-then-not-no_client_twice6 c = book_twice6 c.args.counts (slice_index c.args.bank.now) c.number8-seconds.result c.in_ok-four.four c.in_ok-six.six _
+    c.number8-seconds.ensures c.in_ok-four.ensures c.in_ok-six.ensures c.no_client_twice6.ensures c.if-not-no_client_twice6.true
+
+pub returns : goal.returns
+returns c = book_whole c.args.counts (slice_index c.args.bank.now) c.number8-seconds.result c.in_ok-clock.clock c.in_ok-four.four c.in_ok-six.six c.no_client_twice4.result c.no_client_twice6.result
+    c.number8-seconds.ensures c.in_ok-four.ensures c.in_ok-six.ensures c.in_ok-clock.ensures.value (c.in_ok-clock.ensures.within.0 refl) c.no_client_twice4.ensures c.no_client_twice6.ensures
+    c.if-not-no_client_twice4.false c.if-not-no_client_twice6.false
