@@ -2,6 +2,7 @@ pub mod Broken
 pub mod Fault
 pub mod Field
 pub mod Keys
+pub mod Names
 pub mod Read
 pub mod Settings
 pub mod Tables

@@ -19,27 +19,30 @@ use crate::values::{address_at, address6_at, id_at, name_at, number_at, source_a
 use toml::Table;
 use types::{Addr4, Addr6, MAX_LEASE, MAX_POOL, MAX_REGION, MIN_LEASE};
 
-/// What was found, or this fault if nothing was.
-macro_rules! found {
-    ($found:expr, $fault:expr) => {
-        match $found {
+/// The value at a key of the server or of a relay, or the key if the value is malformed.
+macro_rules! value {
+    ($value_at:ident, $table:ident, $key:path) => {
+        match $value_at($table, $key) {
             Some(value) => value,
-            None => return Err($fault),
+            None => return Err($key),
         }
     };
 }
 
-/// What was found at a key of a circuit, or the fault that it is malformed.
+/// The value at a key of a circuit, or the fault that it is malformed.
 macro_rules! formed {
-    ($found:expr, $key:ident) => {
-        found!($found, CircuitLimit::Form(CircuitKey::$key))
+    ($value_at:ident, $table:ident, $key:ident) => {
+        match $value_at($table, CircuitKey::$key) {
+            Some(value) => value,
+            None => return Err(CircuitLimit::Form(CircuitKey::$key)),
+        }
     };
 }
 
 /// The number at a key of a circuit, or the fault that it is outside its limits.
 macro_rules! number {
-    ($found:expr, $key:ident) => {
-        match $found {
+    ($table:ident, $key:ident, $least:expr, $most:expr) => {
+        match number_at($table, CircuitKey::$key, $least, $most) {
             Ok(number) => number,
             Err(outside) => return Err(CircuitLimit::Number(CircuitKey::$key, outside)),
         }
@@ -51,9 +54,9 @@ pub fn server_of(table: &Table) -> Result<ServerConfig, ServerKey>
     ensures ok { IfOk result (IsServer (server_keys (table_view table.now))) }
     ensures err { IfErr result (IsServerUnfit (server_keys (table_view table.now))) }
 {
-    let listen4 = found!(source_at(table, "listen4"), ServerKey::Listen4);
-    let listen6 = found!(source_at(table, "listen6"), ServerKey::Listen6);
-    let duid = found!(duid_at(table, "duid"), ServerKey::Duid);
+    let listen4 = value!(source_at, table, ServerKey::Listen4);
+    let listen6 = value!(source_at, table, ServerKey::Listen6);
+    let duid = value!(duid_at, table, ServerKey::Duid);
     Ok(ServerConfig {
         listen4,
         listen6,
@@ -66,8 +69,8 @@ pub fn relay_of(table: &Table) -> Result<RelayConfig, RelayKey>
     ensures ok { IfOk result (IsRelay (relay_keys (table_view table.now))) }
     ensures err { IfErr result (IsRelayUnfit (relay_keys (table_view table.now))) }
 {
-    let name = found!(name_at(table, "name"), RelayKey::Name);
-    let source = found!(source_at(table, "source"), RelayKey::Source);
+    let name = value!(name_at, table, RelayKey::Name);
+    let source = value!(source_at, table, RelayKey::Source);
     Ok(RelayConfig { name, source })
 }
 
@@ -78,18 +81,17 @@ pub fn circuit_of(table: &Table, relays: &[RelayConfig]) -> Result<CircuitConfig
     ensures ok { IfOk result (IsCircuit relays.now (circuit_keys (table_view table.now))) }
     ensures err { IfErr result (IsCircuitUnfit (circuit_keys (table_view table.now))) }
 {
-    let id = formed!(id_at(table, "id"), Id);
-    let Some(relay) = relay_at(table, "relay", relays) else {
+    let id = formed!(id_at, table, Id);
+    let Some(relay) = relay_at(table, CircuitKey::Relay, relays) else {
         unreachable!()
     };
-    let region = number!(number_at(table, "region", 0, MAX_REGION), Region);
-    let lease = number!(number_at(table, "lease", MIN_LEASE, MAX_LEASE), Lease);
-    let gateway4 = formed!(address_at(table, "gateway4"), Gateway4);
-    let prefix4 = number_at(table, "prefix4", MIN_PREFIX4, MAX_PREFIX4);
-    let prefix4 = number!(prefix4, Prefix4);
+    let region = number!(table, Region, 0, MAX_REGION);
+    let lease = number!(table, Lease, MIN_LEASE, MAX_LEASE);
+    let gateway4 = formed!(address_at, table, Gateway4);
+    let prefix4 = number!(table, Prefix4, MIN_PREFIX4, MAX_PREFIX4);
     let (first4, count4) = pool4_of(table)?;
-    let dns = formed!(addresses_at(table, "dns"), Dns);
-    let link6 = formed!(address6_at(table, "link6"), Link6);
+    let dns = formed!(addresses_at, table, Dns);
+    let link6 = formed!(address6_at, table, Link6);
     let (first6, count6) = pool6_of(table)?;
     Ok(CircuitConfig {
         id,
@@ -113,8 +115,8 @@ fn pool4_of(table: &Table) -> Result<(Addr4, u8), CircuitLimit>
     ensures ok { IfOk result (λ p. HasValue (circuit_keys (table_view table.now)).first4 (λ text. IsAddress text p.0) × IsNumber (circuit_keys (table_view table.now)).count4 1 16 p.1 × (number4 p.0 + p.1 ≤ 2 ^ 32)) }
     ensures err { IfErr result (IsCircuitUnfit (circuit_keys (table_view table.now))) }
 {
-    let first = formed!(address_at(table, "first4"), First4);
-    let count = number!(number_at(table, "count4", 1, MAX_POOL as u32), Count4);
+    let first = formed!(address_at, table, First4);
+    let count = number!(table, Count4, 1, MAX_POOL as u32);
     if !is_within4(first, count as u8) {
         return Err(CircuitLimit::PastLast4);
     }
@@ -127,8 +129,8 @@ fn pool6_of(table: &Table) -> Result<(Addr6, u8), CircuitLimit>
     ensures ok { IfOk result (λ p. HasValue (circuit_keys (table_view table.now)).first6 (λ text. IsAddress6 text p.0) × IsNumber (circuit_keys (table_view table.now)).count6 1 16 p.1 × (number6 p.0 + p.1 ≤ 2 ^ 128)) }
     ensures err { IfErr result (IsCircuitUnfit (circuit_keys (table_view table.now))) }
 {
-    let first = formed!(address6_at(table, "first6"), First6);
-    let count = number!(number_at(table, "count6", 1, MAX_POOL as u32), Count6);
+    let first = formed!(address6_at, table, First6);
+    let count = number!(table, Count6, 1, MAX_POOL as u32);
     if !is_within6(first, count as u8) {
         return Err(CircuitLimit::PastLast6);
     }

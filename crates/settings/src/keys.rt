@@ -12,20 +12,23 @@ use crate::values::id_at;
 use toml::{Table, Value};
 use types::CircuitId;
 
+/// Returns this key if the table has no value of its type at it.
+macro_rules! lacks {
+    ($table:ident, $key:path, $type_at:ident) => {
+        if $type_at($table, $key).is_none() {
+            return Some($key);
+        }
+    };
+}
+
 /// A key of the server that is missing or of the wrong type.
 pub fn server_lacks(server: &Table) -> Option<ServerKey>
     ensures none { IsNone result ↔ HasServerKeys (server_keys (table_view server.now)) }
     ensures some { IfSome result (λ key. ¬ HasServerKey (server_keys (table_view server.now)) key) }
 {
-    if text_at(server, "listen4").is_none() {
-        return Some(ServerKey::Listen4);
-    }
-    if text_at(server, "listen6").is_none() {
-        return Some(ServerKey::Listen6);
-    }
-    if text_at(server, "duid").is_none() {
-        return Some(ServerKey::Duid);
-    }
+    lacks!(server, ServerKey::Listen4, text_at);
+    lacks!(server, ServerKey::Listen6, text_at);
+    lacks!(server, ServerKey::Duid, text_at);
     None
 }
 
@@ -34,12 +37,8 @@ fn relay_lacks(relay: &Table) -> Option<RelayKey>
     ensures none { IsNone result ↔ HasRelayKeys (relay_keys (table_view relay.now)) }
     ensures some { IfSome result (λ key. ¬ HasRelayKey (relay_keys (table_view relay.now)) key) }
 {
-    if text_at(relay, "name").is_none() {
-        return Some(RelayKey::Name);
-    }
-    if text_at(relay, "source").is_none() {
-        return Some(RelayKey::Source);
-    }
+    lacks!(relay, RelayKey::Name, text_at);
+    lacks!(relay, RelayKey::Source, text_at);
     None
 }
 
@@ -84,7 +83,7 @@ fn has_name(entry: &Value, name: &str) -> bool
     ensures { IsTrue result ↔ HasValue (relay_entry (Some (view entry.now))) (λ relay. relay.name ≡ Told name.now) }
 {
     match entry.as_table() {
-        Some(relay) => text_at(relay, "name") == Some(name),
+        Some(relay) => text_at(relay, RelayKey::Name) == Some(name),
         None => false,
     }
 }
@@ -105,7 +104,7 @@ fn are_texts(entries: &[Value]) -> bool
 fn has_dns(circuit: &Table) -> bool
     ensures { IsTrue result ↔ HasValue (circuit_keys (table_view circuit.now)).dns (AllThere (λ _. ⊤)) }
 {
-    match list_at(circuit, "dns") {
+    match list_at(circuit, CircuitKey::Dns) {
         Some(entries) => are_texts(entries),
         None => false,
     }
@@ -115,7 +114,7 @@ fn has_dns(circuit: &Table) -> bool
 fn has_relay(circuit: &Table, relays: &[Value]) -> bool
     ensures { IsTrue result ↔ HasValue (circuit_keys (table_view circuit.now)).relay (IsRelayName (each relay_entry (items_view relays.now))) }
 {
-    match text_at(circuit, "relay") {
+    match text_at(circuit, CircuitKey::Relay) {
         Some(name) => is_relay_name(relays, name),
         None => false,
     }
@@ -126,42 +125,22 @@ fn circuit_lacks(circuit: &Table, relays: &[Value]) -> Option<CircuitKey>
     ensures none { IsNone result ↔ HasCircuitKeys (each relay_entry (items_view relays.now)) (circuit_keys (table_view circuit.now)) }
     ensures some { IfSome result (λ key. ¬ HasCircuitKey (each relay_entry (items_view relays.now)) (circuit_keys (table_view circuit.now)) key) }
 {
-    if text_at(circuit, "id").is_none() {
-        return Some(CircuitKey::Id);
-    }
+    lacks!(circuit, CircuitKey::Id, text_at);
     if !has_relay(circuit, relays) {
         return Some(CircuitKey::Relay);
     }
-    if integer_at(circuit, "region").is_none() {
-        return Some(CircuitKey::Region);
-    }
-    if integer_at(circuit, "lease").is_none() {
-        return Some(CircuitKey::Lease);
-    }
-    if text_at(circuit, "gateway4").is_none() {
-        return Some(CircuitKey::Gateway4);
-    }
-    if integer_at(circuit, "prefix4").is_none() {
-        return Some(CircuitKey::Prefix4);
-    }
-    if text_at(circuit, "first4").is_none() {
-        return Some(CircuitKey::First4);
-    }
-    if integer_at(circuit, "count4").is_none() {
-        return Some(CircuitKey::Count4);
-    }
+    lacks!(circuit, CircuitKey::Region, integer_at);
+    lacks!(circuit, CircuitKey::Lease, integer_at);
+    lacks!(circuit, CircuitKey::Gateway4, text_at);
+    lacks!(circuit, CircuitKey::Prefix4, integer_at);
+    lacks!(circuit, CircuitKey::First4, text_at);
+    lacks!(circuit, CircuitKey::Count4, integer_at);
     if !has_dns(circuit) {
         return Some(CircuitKey::Dns);
     }
-    if text_at(circuit, "link6").is_none() {
-        return Some(CircuitKey::Link6);
-    }
-    if text_at(circuit, "first6").is_none() {
-        return Some(CircuitKey::First6);
-    }
-    if integer_at(circuit, "count6").is_none() {
-        return Some(CircuitKey::Count6);
-    }
+    lacks!(circuit, CircuitKey::Link6, text_at);
+    lacks!(circuit, CircuitKey::First6, text_at);
+    lacks!(circuit, CircuitKey::Count6, integer_at);
     None
 }
 
@@ -182,7 +161,7 @@ pub fn entry_id(entry: &Value) -> Option<CircuitId>
     ensures none { IfNone result ((id : List ℕ) → ¬ HasId (circuit_entry (Some (view entry.now))) id) }
 {
     match entry.as_table() {
-        Some(circuit) => id_at(circuit, "id"),
+        Some(circuit) => id_at(circuit, CircuitKey::Id),
         None => None,
     }
 }

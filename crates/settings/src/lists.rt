@@ -8,6 +8,7 @@ ghost use Rattle.settings.specs.Values.{IsDuid, AreAddresses, IsNameAt};
 
 use crate::limits::MAX_DNS;
 use crate::lookup::{list_at, text_at};
+use crate::names::Key;
 use crate::settings::RelayConfig;
 use crate::text_forms::address;
 use arrayvec::ArrayVec;
@@ -15,9 +16,9 @@ use toml::{Table, Value};
 use types::{Addr4, MAX_DUID, MIN_DUID, RelayNo};
 
 /// The DUID at a key.
-pub fn duid_at(table: &Table, key: &str) -> Option<ArrayVec<u8, MAX_DUID>>
-    ensures some { IfSome result (λ duid. HasValue (text_at key.now (table_view table.now)) (λ text. IsDuid text duid.items)) }
-    ensures none { IfNone result ((duid : List ℕ) → ¬ HasValue (text_at key.now (table_view table.now)) (λ text. IsDuid text duid)) }
+pub fn duid_at<K: Key>(table: &Table, key: K) -> Option<ArrayVec<u8, MAX_DUID>>
+    ensures some { IfSome result (λ duid. HasValue (text_at (K.spelling key) (table_view table.now)) (λ text. IsDuid text duid.items)) }
+    ensures none { IfNone result ((duid : List ℕ) → ¬ HasValue (text_at (K.spelling key) (table_view table.now)) (λ text. IsDuid text duid)) }
 {
     match text_at(table, key) {
         Some(text) => duid(text),
@@ -76,10 +77,10 @@ fn address_of(entry: &Value) -> Option<Addr4>
 }
 
 /// The name servers at a key.
-pub fn addresses_at(table: &Table, key: &str) -> Option<ArrayVec<Addr4, MAX_DNS>>
-    ensures some { IfSome result (λ found. HasValue (field_map (each text_of) (list_at key.now (table_view table.now))) (λ texts. AreAddresses texts found.items)) }
+pub fn addresses_at<K: Key>(table: &Table, key: K) -> Option<ArrayVec<Addr4, MAX_DNS>>
+    ensures some { IfSome result (λ found. HasValue (field_map (each text_of) (list_at (K.spelling key) (table_view table.now))) (λ texts. AreAddresses texts found.items)) }
     ensures few { IfSome result (λ found. length found.items ≤ MAX_DNS) }
-    ensures none { IfNone result ((found : List Addr4) → length found ≤ MAX_DNS → ¬ HasValue (field_map (each text_of) (list_at key.now (table_view table.now))) (λ texts. AreAddresses texts found)) }
+    ensures none { IfNone result ((found : List Addr4) → length found ≤ MAX_DNS → ¬ HasValue (field_map (each text_of) (list_at (K.spelling key) (table_view table.now))) (λ texts. AreAddresses texts found)) }
 {
     match list_at(table, key) {
         Some(texts) => addresses(texts),
@@ -88,9 +89,9 @@ pub fn addresses_at(table: &Table, key: &str) -> Option<ArrayVec<Addr4, MAX_DNS>
 }
 
 /// The first relay with the name at a key.
-pub fn relay_at(table: &Table, key: &str, relays: &[RelayConfig]) -> Option<RelayNo>
-    ensures some { IfSome result (λ n. HasValue (text_at key.now (table_view table.now)) (IsNameAt relays.now n)) }
-    ensures none { IfNone result ((n : ℕ) → n < MAX_RELAYS → ¬ HasValue (text_at key.now (table_view table.now)) (IsNameAt relays.now n)) }
+pub fn relay_at<K: Key>(table: &Table, key: K, relays: &[RelayConfig]) -> Option<RelayNo>
+    ensures some { IfSome result (λ n. HasValue (text_at (K.spelling key) (table_view table.now)) (IsNameAt relays.now n)) }
+    ensures none { IfNone result ((n : ℕ) → n < MAX_RELAYS → ¬ HasValue (text_at (K.spelling key) (table_view table.now)) (IsNameAt relays.now n)) }
 {
     match text_at(table, key) {
         Some(name) => relay_named(relays, name),

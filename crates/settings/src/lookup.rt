@@ -4,20 +4,21 @@ ghost use Rattle.toml.specs.Data.{get_member};
 ghost use Rattle.toml.specs.View.{view, table_view, array_view};
 ghost use Rattle.settings.specs.Field.{Value as Told, IsThere, text_at, integer_at, table_at, list_at};
 
+use crate::names::Key;
 use toml::value::Array;
 use toml::{Table, Value};
 
 /// The value at a key.
-fn value_at<'a>(table: &'a Table, key: &str) -> Option<&'a Value>
-    ensures { option_map (λ v. view v.now) result ≡ get_member key.now (table_view table.now) }
+fn value_at<'a, K: Key>(table: &'a Table, key: K) -> Option<&'a Value>
+    ensures { option_map (λ v. view v.now) result ≡ get_member (K.spelling key) (table_view table.now) }
 {
-    table.get(key)
+    table.get(key.name())
 }
 
 /// The string at a key.
-pub fn text_at<'a>(table: &'a Table, key: &str) -> Option<&'a str>
-    ensures some { IfSome result (λ text. text_at key.now (table_view table.now) ≡ Told text.now) }
-    ensures none { IfNone result (¬ IsThere (text_at key.now (table_view table.now))) }
+pub fn text_at<'a, K: Key>(table: &'a Table, key: K) -> Option<&'a str>
+    ensures some { IfSome result (λ text. text_at (K.spelling key) (table_view table.now) ≡ Told text.now) }
+    ensures none { IfNone result (¬ IsThere (text_at (K.spelling key) (table_view table.now))) }
 {
     match value_at(table, key) {
         Some(Value::String(text)) => Some(text.as_str()),
@@ -26,9 +27,9 @@ pub fn text_at<'a>(table: &'a Table, key: &str) -> Option<&'a str>
 }
 
 /// The integer at a key.
-pub fn integer_at(table: &Table, key: &str) -> Option<i64>
-    ensures some { IfSome result (λ n. integer_at key.now (table_view table.now) ≡ Told n) }
-    ensures none { IfNone result (¬ IsThere (integer_at key.now (table_view table.now))) }
+pub fn integer_at<K: Key>(table: &Table, key: K) -> Option<i64>
+    ensures some { IfSome result (λ n. integer_at (K.spelling key) (table_view table.now) ≡ Told n) }
+    ensures none { IfNone result (¬ IsThere (integer_at (K.spelling key) (table_view table.now))) }
 {
     match value_at(table, key) {
         Some(Value::Integer(n)) => Some(*n),
@@ -37,9 +38,9 @@ pub fn integer_at(table: &Table, key: &str) -> Option<i64>
 }
 
 /// The table at a key.
-pub fn table_at<'a>(table: &'a Table, key: &str) -> Option<&'a Table>
-    ensures some { IfSome result (λ t. table_at key.now (table_view table.now) ≡ Told (table_view t.now)) }
-    ensures none { IfNone result (¬ IsThere (table_at key.now (table_view table.now))) }
+pub fn table_at<'a, K: Key>(table: &'a Table, key: K) -> Option<&'a Table>
+    ensures some { IfSome result (λ t. table_at (K.spelling key) (table_view table.now) ≡ Told (table_view t.now)) }
+    ensures none { IfNone result (¬ IsThere (table_at (K.spelling key) (table_view table.now))) }
 {
     match value_at(table, key) {
         Some(Value::Table(keys)) => Some(keys),
@@ -48,9 +49,9 @@ pub fn table_at<'a>(table: &'a Table, key: &str) -> Option<&'a Table>
 }
 
 /// The array at a key.
-pub fn list_at<'a>(table: &'a Table, key: &str) -> Option<&'a Array>
-    ensures some { IfSome result (λ a. list_at key.now (table_view table.now) ≡ Told (array_view a.now)) }
-    ensures none { IfNone result (¬ IsThere (list_at key.now (table_view table.now))) }
+pub fn list_at<'a, K: Key>(table: &'a Table, key: K) -> Option<&'a Array>
+    ensures some { IfSome result (λ a. list_at (K.spelling key) (table_view table.now) ≡ Told (array_view a.now)) }
+    ensures none { IfNone result (¬ IsThere (list_at (K.spelling key) (table_view table.now))) }
 {
     match value_at(table, key) {
         Some(Value::Array(entries)) => Some(entries),

@@ -1,6 +1,18 @@
 //! The names of a configuration's tables and keys, and of its circuits.
+ghost use Rattle.std.specs.Prelude.{◌≡◌, ℕ, List};
+ghost use Rattle.settings.specs.Names.{table_name, server_key, relay_key, circuit_key};
+
 use std::fmt;
 use types::CircuitId;
+
+/// What a value of a table is found by.
+pub trait Key: Copy {
+    ghost spelling: { Self → List ℕ };
+
+    /// The key as it stands in the text.
+    fn name(self) -> &'static str
+        ensures { result.now ≡ spelling self };
+}
 
 /// A table of the text, or an array of tables.
 #[derive(Clone, Copy, Debug, PartialEq, Eq)]
@@ -49,38 +61,64 @@ pub struct CircuitRef {
     pub id: Option<CircuitId>,
 }
 
-impl fmt::Display for TableName {
-    fn fmt<W: fmt::Write>(&self, f: &mut fmt::Formatter<W>) -> fmt::Result {
-        f.write_str(match self {
+impl Key for TableName {
+    ghost spelling = { table_name };
+
+    fn name(self) -> &'static str {
+        match self {
             TableName::Server => "server",
             TableName::Relay => "relay",
             TableName::Circuit => "circuit",
-        })
+        }
+    }
+}
+
+impl fmt::Display for TableName {
+    fn fmt<W: fmt::Write>(&self, f: &mut fmt::Formatter<W>) -> fmt::Result {
+        f.write_str(self.name())
+    }
+}
+
+impl Key for ServerKey {
+    ghost spelling = { server_key };
+
+    fn name(self) -> &'static str {
+        match self {
+            ServerKey::Listen4 => "listen4",
+            ServerKey::Listen6 => "listen6",
+            ServerKey::Duid => "duid",
+        }
     }
 }
 
 impl fmt::Display for ServerKey {
     fn fmt<W: fmt::Write>(&self, f: &mut fmt::Formatter<W>) -> fmt::Result {
-        f.write_str(match self {
-            ServerKey::Listen4 => "listen4",
-            ServerKey::Listen6 => "listen6",
-            ServerKey::Duid => "duid",
-        })
+        f.write_str(self.name())
+    }
+}
+
+impl Key for RelayKey {
+    ghost spelling = { relay_key };
+
+    fn name(self) -> &'static str {
+        match self {
+            RelayKey::Name => "name",
+            RelayKey::Source => "source",
+        }
     }
 }
 
 impl fmt::Display for RelayKey {
     fn fmt<W: fmt::Write>(&self, f: &mut fmt::Formatter<W>) -> fmt::Result {
-        f.write_str(match self {
-            RelayKey::Name => "name",
-            RelayKey::Source => "source",
-        })
+        f.write_str(self.name())
     }
 }
 
-impl fmt::Display for CircuitKey {
-    fn fmt<W: fmt::Write>(&self, f: &mut fmt::Formatter<W>) -> fmt::Result {
-        f.write_str(match self {
+impl Key for CircuitKey {
+    ghost spelling = { circuit_key };
+
+    fn name(self) -> &'static str {
+        match self {
             CircuitKey::Id => "id",
             CircuitKey::Relay => "relay",
             CircuitKey::Region => "region",
@@ -93,7 +131,13 @@ impl fmt::Display for CircuitKey {
             CircuitKey::Link6 => "link6",
             CircuitKey::First6 => "first6",
             CircuitKey::Count6 => "count6",
-        })
+        }
+    }
+}
+
+impl fmt::Display for CircuitKey {
+    fn fmt<W: fmt::Write>(&self, f: &mut fmt::Formatter<W>) -> fmt::Result {
+        f.write_str(self.name())
     }
 }
 

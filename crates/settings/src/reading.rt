@@ -36,20 +36,20 @@ pub fn tables_in<'a>(doc: &'a Table) -> Result<TextTables<'a>, Location>
     ensures all { IfOk result (λ _. HasAll (tables_of (table_view doc.now))) }
     ensures lacks { IfErr result (IsMissing (tables_of (table_view doc.now))) }
 {
-    let Some(server) = table_at(doc, "server") else {
+    let Some(server) = table_at(doc, TableName::Server) else {
         return Err(Location::Table(TableName::Server));
     };
     if let Some(key) = server_lacks(server) {
         return Err(Location::Server(key));
     }
-    let Some(relays) = list_at(doc, "relay") else {
+    let Some(relays) = list_at(doc, TableName::Relay) else {
         return Err(Location::Table(TableName::Relay));
     };
     let relays = relays.as_slice();
     if let Some((number, key)) = relays_lack(relays) {
         return Err(Location::Relay(number, key));
     }
-    let Some(circuits) = list_at(doc, "circuit") else {
+    let Some(circuits) = list_at(doc, TableName::Circuit) else {
         return Err(Location::Table(TableName::Circuit));
     };
     let circuits = circuits.as_slice();

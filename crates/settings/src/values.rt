@@ -10,16 +10,17 @@ ghost use Rattle.settings.specs.Values.{IsNumber, IsName, IsDuid, IsId};
 use crate::limit_fault::Outside;
 use crate::limits::MAX_NAME;
 use crate::lookup::{integer_at, text_at};
+use crate::names::Key;
 use crate::text_forms::{address, address6, source};
 use arrayvec::ArrayVec;
 use toml::Table;
 use types::{Addr4, Addr6, CircuitId, Source};
 
 /// The integer at a key if it is from `least` to `most`, or else the one that was found.
-pub fn number_at(table: &Table, key: &str, least: u32, most: u32) -> Result<u32, Outside>
-    requires { IsThere (integer_at key.now (table_view table.now)) }
-    ensures ok { IfOk result (IsNumber (integer_at key.now (table_view table.now)) least most) }
-    ensures err { IfErr result (IsOutside (integer_at key.now (table_view table.now)) least most) }
+pub fn number_at<K: Key>(table: &Table, key: K, least: u32, most: u32) -> Result<u32, Outside>
+    requires { IsThere (integer_at (K.spelling key) (table_view table.now)) }
+    ensures ok { IfOk result (IsNumber (integer_at (K.spelling key) (table_view table.now)) least most) }
+    ensures err { IfErr result (IsOutside (integer_at (K.spelling key) (table_view table.now)) least most) }
 {
     let Some(found) = integer_at(table, key) else {
         unreachable!()
@@ -31,9 +32,9 @@ pub fn number_at(table: &Table, key: &str, least: u32, most: u32) -> Result<u32,
 }
 
 /// The IPv4 address at a key.
-pub fn address_at(table: &Table, key: &str) -> Option<Addr4>
-    ensures some { IfSome result (λ a. HasValue (text_at key.now (table_view table.now)) (λ text. IsAddress text a)) }
-    ensures none { IfNone result ((a : Addr4) → ¬ HasValue (text_at key.now (table_view table.now)) (λ text. IsAddress text a)) }
+pub fn address_at<K: Key>(table: &Table, key: K) -> Option<Addr4>
+    ensures some { IfSome result (λ a. HasValue (text_at (K.spelling key) (table_view table.now)) (λ text. IsAddress text a)) }
+    ensures none { IfNone result ((a : Addr4) → ¬ HasValue (text_at (K.spelling key) (table_view table.now)) (λ text. IsAddress text a)) }
 {
     match text_at(table, key) {
         Some(text) => address(text),
@@ -42,9 +43,9 @@ pub fn address_at(table: &Table, key: &str) -> Option<Addr4>
 }
 
 /// The IPv6 address at a key.
-pub fn address6_at(table: &Table, key: &str) -> Option<Addr6>
-    ensures some { IfSome result (λ a. HasValue (text_at key.now (table_view table.now)) (λ text. IsAddress6 text a)) }
-    ensures none { IfNone result ((a : Addr6) → ¬ HasValue (text_at key.now (table_view table.now)) (λ text. IsAddress6 text a)) }
+pub fn address6_at<K: Key>(table: &Table, key: K) -> Option<Addr6>
+    ensures some { IfSome result (λ a. HasValue (text_at (K.spelling key) (table_view table.now)) (λ text. IsAddress6 text a)) }
+    ensures none { IfNone result ((a : Addr6) → ¬ HasValue (text_at (K.spelling key) (table_view table.now)) (λ text. IsAddress6 text a)) }
 {
     match text_at(table, key) {
         Some(text) => address6(text),
@@ -53,9 +54,9 @@ pub fn address6_at(table: &Table, key: &str) -> Option<Addr6>
 }
 
 /// The address and port at a key.
-pub fn source_at(table: &Table, key: &str) -> Option<Source>
-    ensures some { IfSome result (λ s. HasValue (text_at key.now (table_view table.now)) (λ text. IsSource text s)) }
-    ensures none { IfNone result ((s : Source) → ¬ HasValue (text_at key.now (table_view table.now)) (λ text. IsSource text s)) }
+pub fn source_at<K: Key>(table: &Table, key: K) -> Option<Source>
+    ensures some { IfSome result (λ s. HasValue (text_at (K.spelling key) (table_view table.now)) (λ text. IsSource text s)) }
+    ensures none { IfNone result ((s : Source) → ¬ HasValue (text_at (K.spelling key) (table_view table.now)) (λ text. IsSource text s)) }
 {
     match text_at(table, key) {
         Some(text) => source(text),
@@ -64,9 +65,9 @@ pub fn source_at(table: &Table, key: &str) -> Option<Source>
 }
 
 /// The circuit id at a key.
-pub fn id_at(table: &Table, key: &str) -> Option<CircuitId>
-    ensures some { IfSome result (λ id. HasValue (text_at key.now (table_view table.now)) (λ text. IsId text id)) }
-    ensures none { IfNone result ((id : List ℕ) → ¬ HasValue (text_at key.now (table_view table.now)) (λ text. IsId text id)) }
+pub fn id_at<K: Key>(table: &Table, key: K) -> Option<CircuitId>
+    ensures some { IfSome result (λ id. HasValue (text_at (K.spelling key) (table_view table.now)) (λ text. IsId text id)) }
+    ensures none { IfNone result ((id : List ℕ) → ¬ HasValue (text_at (K.spelling key) (table_view table.now)) (λ text. IsId text id)) }
 {
     match text_at(table, key) {
         Some(text) => CircuitId::new(text.as_bytes()),
@@ -75,9 +76,9 @@ pub fn id_at(table: &Table, key: &str) -> Option<CircuitId>
 }
 
 /// The name of a relay at a key.
-pub fn name_at(table: &Table, key: &str) -> Option<ArrayVec<u8, MAX_NAME>>
-    ensures some { IfSome result (λ name. HasValue (text_at key.now (table_view table.now)) (λ text. IsName text name.items)) }
-    ensures none { IfNone result ((name : List ℕ) → ¬ HasValue (text_at key.now (table_view table.now)) (λ text. IsName text name)) }
+pub fn name_at<K: Key>(table: &Table, key: K) -> Option<ArrayVec<u8, MAX_NAME>>
+    ensures some { IfSome result (λ name. HasValue (text_at (K.spelling key) (table_view table.now)) (λ text. IsName text name.items)) }
+    ensures none { IfNone result ((name : List ℕ) → ¬ HasValue (text_at (K.spelling key) (table_view table.now)) (λ text. IsName text name)) }
 {
     let Some(text) = text_at(table, key) else {
         return None;

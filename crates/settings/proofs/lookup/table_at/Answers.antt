@@ -6,7 +6,7 @@ use Rattle.settings.specs.Field.{table_of}
 use Rattle.settings.proofs.lookup.table_at.Goals as goal
 
 pub returns-in-Some-Table-clause-some : goal.returns-in-Some-Table-clause-some
-returns-in-Some-Table-clause-some c =
+returns-in-Some-Table-clause-some g c =
     let w = c.in-Some-Table in
     let at_key = ap table_of (sym c.value_at.ensures) in
     let found = ap (λ r. table_of (option_map (λ v. view v.now) r)) w.is in
