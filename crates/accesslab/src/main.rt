@@ -4,8 +4,8 @@
 ghost use Rattle.std.specs.Prelude.{◌≤◌};
 ghost use Rattle.accesslab.specs.Status.{IsExitStatus};
 
-use lab::{LabWords, StdReader, StdWriter};
 use command_line::{FAILED, REFUSED, UNOPENED, complain, read_configuration};
+use lab::{LabWords, StdReader, StdWriter};
 use std::env;
 use std::io::{self, BufWriter, Write};
 use std::process::ExitCode;

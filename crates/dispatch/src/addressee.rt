@@ -63,7 +63,13 @@ fn message_check(
     let Some(circuit) = circuit_named(circuits, &suboptions) else {
         return Err(Discard::UnknownCircuit);
     };
-    circuit_check(circuit, circuits.part(circuit), source, message, &suboptions)
+    circuit_check(
+        circuit,
+        circuits.part(circuit),
+        source,
+        message,
+        &suboptions,
+    )
 }
 
 /// The circuit with exactly the id in option 82.
