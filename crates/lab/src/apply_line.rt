@@ -175,12 +175,7 @@ fn apply<M: Machine, W: ByteWriter>(
 }
 
 /// What the line says, where it was not parsed before.
-fn parsed_line(
-    config: &Config,
-    line: &[u8],
-    known: Option<Parsed>,
-    buffers: &mut Buffers,
-) -> Parsed
+fn parsed_line(config: &Config, line: &[u8], known: Option<Parsed>, buffers: &mut Buffers) -> Parsed
     requires short { length line.now ≤ 8192 }
     requires known { IfSome known (Says config.now buffers.old.bytes buffers.old.images line.now) }
     ensures { Says config.now buffers.new.bytes buffers.new.images line.now result }

@@ -5,8 +5,8 @@ ghost use Rattle.command_line.specs.CommandLine.{IsRefused};
 ghost use Rattle.lab.specs.Words.{quota_rule, bare_app, lab_app, Spells, SpellsSomething};
 
 use clap::{Arg, ArgAction, Command};
-use lossy_net::MAX_QUOTA;
 use command_line::{Refusal, config_arg};
+use lossy_net::MAX_QUOTA;
 use std::alloc::{AllocError, Global};
 
 /// The values of the words after the program's name.

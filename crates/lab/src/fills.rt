@@ -121,17 +121,29 @@ pub(crate) fn apply_fills<R: ByteReader>(
             LineEnd::Newline(len) => len,
             LineEnd::TooLong => {
                 let parsed = None;
-                return Ok(NextLine { earlier, end, parsed });
+                return Ok(NextLine {
+                    earlier,
+                    end,
+                    parsed,
+                });
             }
             LineEnd::EndOfInput(len) => {
                 let (end, parsed) = apply_last_fill(disk, config, len, ahead, buffers);
-                return Ok(NextLine { earlier, end, parsed });
+                return Ok(NextLine {
+                    earlier,
+                    end,
+                    parsed,
+                });
             }
         };
         let line = &ahead.as_slice()[..len];
         if let Some(event) = apply_fill(disk, config, line, buffers) {
             let parsed = Some(event);
-            return Ok(NextLine { earlier, end, parsed });
+            return Ok(NextLine {
+                earlier,
+                end,
+                parsed,
+            });
         }
         ahead.consume(len + 1);
     }
