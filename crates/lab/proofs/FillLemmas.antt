@@ -98,14 +98,6 @@ ignored_applied settings quota line regions machines is over = subst (λ l. AreF
 
 -- ---- a line that was parsed
 
-pub is_true : (b r : Bool) → r ≡ not b → r ≡ false → b ≡ true
-is_true true r is h = refl
-is_true false r is h = let f : true ≡ false = sym is ∙ h in absurd (cc)
-
-pub is_false : (b r : Bool) → r ≡ not b → r ≡ true → b ≡ false
-is_false true r is h = let f : false ≡ true = sym is ∙ h in absurd (cc)
-is_false false r is h = refl
-
 pub restart_is_event : (images : List Image) (line : Line) → IsRestart images line → is_event line ≡ true
 restart_is_event images line h = ap is_event h.is
 

@@ -3,12 +3,16 @@ use Rattle.std.specs.Prelude.{◌≡◌, ℕ, ◌⊎◌, ◌==◌, if◌then◌e
 use Rattle.std.specs.Io.KnownBytes.{Appends, Consumes}
 use Rattle.config.specs.CircuitPart.{CircuitPart, part_in}
 use Rattle.settings.specs.Settings.{Settings}
+use Rattle.lease_disk.specs.declared.image.Image.{Image}
 use Rattle.world.specs.Alone.{Alone}
 use Rattle.world.specs.Headline.{CircuitState, Represents}
 use Rattle.world.specs.Seen.{Seen, seen_of}
 use Rattle.world.specs.declared.event.Event.{Event}
 use Rattle.lab.specs.Lab.{Output, LineResult, Refused, Applied, lab_from}
+use Rattle.lab_text.specs.Line.{line_of_text}
 use Rattle.lab_text.specs.Lines.{lines_of}
+use Rattle.lab_text.specs.ParsedLine.{Means, ParsedWithin}
+use Rattle.lab_text.specs.declared.parse_line.Parsed.{Parsed}
 use Rattle.lab.specs.Output.{bad_text}
 use Rattle.lab_text.specs.Writing.{AppendsPrefix}
 
@@ -19,6 +23,11 @@ pub record AllRepresent (settings : Settings) (quota : ℕ) (states : List Circu
 -- The event is this one, seen by this circuit alone.
 abbrev pub Names : ℕ → Seen → Event → Type 0
 Names circuit seen event = (c : ℕ) → seen_of c event ≡ (if circuit == c then Some seen else None)
+
+-- This line was parsed to this, with its bytes and its images in these buffers.
+pub record Says (settings : Settings) (bytes : List ℕ) (images : List Image) (line : List ℕ) (parsed : Parsed) : Type 0 where
+  pub means : Means parsed bytes images (line_of_text settings line)
+  pub within : ParsedWithin settings parsed
 
 -- A line was applied, and its output was written.
 pub record IsApplied (settings : Settings) (quota : ℕ) (written : List ℕ) (machines : ℕ → Alone) (states : List CircuitState) (held holds : Option (List ℕ)) : Type 0 where

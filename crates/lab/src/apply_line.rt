@@ -11,14 +11,14 @@ ghost use Rattle.world.specs.declared.outcome.Outcome.TheVariants as outcome;
 ghost use Rattle.lab.specs.Lab.{part_result, line_result};
 ghost use Rattle.lab_text.specs.Line.{Line, line_of_text, Tick, Stray};
 ghost use Rattle.lab_text.specs.ParsedLine.{line_of, IsRestart, IsWithin};
-ghost use Rattle.lab.specs.Follows.{AllRepresent, Names, IsRefusal, Follows, FollowsLast};
+ghost use Rattle.lab.specs.Follows.{AllRepresent, Names, IsRefusal, Says, Follows, FollowsLast};
 ghost use Rattle.lab.specs.Run.{IsEnd, IsStatus};
 
 use crate::buffers::Buffers;
 use crate::output::{write_bad_line, write_done, write_outcome};
 use crate::status::{BAD_LINE, DONE, FAILED};
 use config::Config;
-use lab_text::parse_line::{Parsed, ParsedLine, parse_line};
+use lab_text::parse_line::{Parsed, ParsedLine};
 use lab_text::{ByteWriter, MAX_LINE};
 use lease_disk::Image;
 use types::{Circuit, Moment, Proto};
@@ -174,16 +174,31 @@ fn apply<M: Machine, W: ByteWriter>(
     }
 }
 
-/// Applies the line with this number. Returns a status where the run ends with it.
+/// What the line says, where it was not parsed before.
+fn parsed_line(config: &Config, line: &[u8], known: Option<Parsed>, buffers: &mut Buffers) -> Parsed
+    requires short { length line.now ≤ 8192 }
+    requires known { IfSome known (Says config.now buffers.old.bytes buffers.old.images line.now) }
+    ensures { Says config.now buffers.new.bytes buffers.new.images line.now result }
+{
+    match known {
+        Some(parsed) => parsed,
+        None => buffers.parse(config, line),
+    }
+}
+
+/// Applies the line with this number, which may have been parsed before. Returns a status where the run
+/// ends with it.
 pub(crate) fn apply_line<M: Machine, W: ByteWriter>(
     machine: &mut M,
     config: &Config,
     number: u64,
     line: &[u8],
+    known: Option<Parsed>,
     buffers: &mut Buffers,
     writer: &mut W,
 ) -> Option<u8>
-    requires { length line.now ≤ 8192 }
+    requires short { length line.now ≤ 8192 }
+    requires known { IfSome known (Says config.now buffers.old.bytes buffers.old.images line.now) }
     ensures follows { (quota : ℕ) (machines : ℕ → Alone) → AllRepresent config.now quota (M.states machine.old) machines → M.topology machine.old ≡ topology_of config.now
         → Follows config.now quota number (line_result config.now quota machines (line_of_text config.now line.now)) (M.states machine.new) (W.contents writer.old) (W.contents writer.new) result }
     ensures topology { M.topology machine.new ≡ M.topology machine.old }
@@ -191,23 +206,25 @@ pub(crate) fn apply_line<M: Machine, W: ByteWriter>(
     ensures quiet { ¬ (result ≡ Some 6) → W.failures writer.new ≡ W.failures writer.old }
     ensures cause { result ≡ Some 6 → W.failures writer.new ≡ W.failures writer.old + 1 }
 {
-    match parse_line(config, line, &mut buffers.bytes, &mut buffers.images) {
+    match parsed_line(config, line, known, buffers) {
         Parsed::Event(parsed) => apply(machine, config, number, parsed, buffers, writer),
         Parsed::Restart => apply_restart(machine, &buffers.images, &mut buffers.out, writer),
     }
 }
 
-/// Applies the line with this number, which lacks its line feed, and returns the status. An empty one is
-/// no line.
+/// Applies the line with this number, which lacks its line feed and may have been parsed before, and returns
+/// the status. An empty one is no line.
 pub(crate) fn apply_last_line<M: Machine, W: ByteWriter>(
     machine: &mut M,
     config: &Config,
     number: u64,
     line: &[u8],
+    known: Option<Parsed>,
     buffers: &mut Buffers,
     writer: &mut W,
 ) -> u8
-    requires { length line.now ≤ 8192 }
+    requires short { length line.now ≤ 8192 }
+    requires known { IfSome known (Says config.now buffers.old.bytes buffers.old.images line.now) }
     ensures follows { (quota : ℕ) (machines : ℕ → Alone) → AllRepresent config.now quota (M.states machine.old) machines → M.topology machine.old ≡ topology_of config.now
         → FollowsLast config.now quota number line.now (line_result config.now quota machines (line_of_text config.now line.now)) (M.states machine.new) (W.contents writer.old) (W.contents writer.new) result }
     ensures status { IsStatus result }
@@ -217,7 +234,7 @@ pub(crate) fn apply_last_line<M: Machine, W: ByteWriter>(
     if line.is_empty() {
         return DONE;
     }
-    match apply_line(machine, config, number, line, buffers, writer) {
+    match apply_line(machine, config, number, line, known, buffers, writer) {
         Some(status) => status,
         None => DONE,
     }

@@ -1,10 +1,10 @@
 //! A run over the lines of a text.
-ghost use Rattle.std.specs.Prelude.{◌≡◌, ◌+◌, ◌<◌, ◌≤◌, ℕ, List, Option, Some, length};
+ghost use Rattle.std.specs.Prelude.{◌≡◌, ◌+◌, ◌<◌, ◌≤◌, ℕ, List, Option, Some, length, take, IfSome};
 ghost use Rattle.std.specs.Io.KnownBytes.{Appends, prepend_known};
 ghost use Rattle.config.specs.Topology.{topology_of};
 ghost use Rattle.world.specs.Alone.{Alone};
 ghost use Rattle.lab.specs.Lab.{Output, events_output};
-ghost use Rattle.lab.specs.Follows.{AllRepresent, Ends, SoFar};
+ghost use Rattle.lab.specs.Follows.{AllRepresent, Ends, Says, SoFar};
 ghost use Rattle.lab_text.specs.LineEnd.{Fits, IsCounted, IsLineEnd, len_of, feeds_of};
 ghost use Rattle.lab_text.specs.ReadAhead.{held};
 ghost use Rattle.lab.specs.Run.{IsPartial, IsStatus, HasCause, HasNoCause};
@@ -31,6 +31,7 @@ pub(crate) fn apply_lines<M: Machine, R: ByteReader, W: ByteWriter>(
     requires end { IsLineEnd (held ahead.old) (R.remaining reader.old) next.end }
     requires within { len_of next.end ≤ 8192 }
     requires inside { len_of next.end + feeds_of next.end ≤ length (held ahead.old) }
+    requires parsed { IfSome next.parsed (Says config.now buffers.old.bytes buffers.old.images (take (len_of next.end) (held ahead.old))) }
     requires lines { next.earlier + length (held ahead.old) ≤ ahead.old.count }
     requires below { ahead.old.count < 18446744073709551615 }
     ensures ends { (quota : ℕ) (output : List ℕ → Output) (given holds : Option (List ℕ))
@@ -44,6 +45,7 @@ pub(crate) fn apply_lines<M: Machine, R: ByteReader, W: ByteWriter>(
         → HasNoCause given (R.remaining reader.new) (R.failures reader.old) (R.failures reader.new) (W.failures writer.old) (W.failures writer.new) }
 {
     let mut end = next.end;
+    let mut known = next.parsed;
     // each line before the last has a byte at least, its line feed
     'lines: for earlier in next.earlier..MAX_TEXT {
         let number = earlier + 1;
@@ -52,15 +54,16 @@ pub(crate) fn apply_lines<M: Machine, R: ByteReader, W: ByteWriter>(
             LineEnd::TooLong => return refuse(number, writer),
             LineEnd::EndOfInput(len) => {
                 let line = &ahead.as_slice()[..len];
-                return apply_last_line(machine, config, number, line, buffers, writer);
+                return apply_last_line(machine, config, number, line, known, buffers, writer);
             }
         };
         let line = &ahead.as_slice()[..len];
-        let ended = apply_line(machine, config, number, line, buffers, writer);
+        let ended = apply_line(machine, config, number, line, known, buffers, writer);
         if let Some(status) = ended {
             return status;
         }
         ahead.consume(len + 1);
+        known = None;
         let Ok(following) = flush_and_read_line(ahead, reader, writer) else {
             return FAILED;
         };
@@ -101,7 +104,11 @@ pub fn lab<M: Machine, R: ByteReader, W: ByteWriter>(
     let Ok(end) = flush_and_read_line(&mut ahead, reader, writer) else {
         return FAILED;
     };
-    let next = NextLine { earlier: 0, end };
+    let next = NextLine {
+        earlier: 0,
+        end,
+        parsed: None,
+    };
     apply_lines(
         machine,
         config,

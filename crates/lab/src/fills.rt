@@ -1,10 +1,11 @@
 //! The lines before all events, which say what the regions of the disk hold.
-ghost use Rattle.std.specs.Prelude.{◌≡◌, ◌+◌, ◌⊎◌, ◌<◌, ◌≤◌, ℕ, ⊤, List, Option, [], true, false, not, length, IfOk, OnOk, OnErr};
+ghost use Rattle.std.specs.Prelude.{◌≡◌, ◌+◌, ◌⊎◌, ◌<◌, ◌≤◌, ℕ, ⊤, List, Option, [], true, false, length, take, IfOk, IfSome, IfNone, OnOk, OnErr};
 ghost use Rattle.std.specs.Io.KnownBytes.{prepend_known};
 ghost use Rattle.lease_disk.specs.Crash.{formatted_region};
 ghost use Rattle.lease_disk.specs.Model.{state_of};
 ghost use Rattle.world.specs.Alone.{Alone};
 ghost use Rattle.lab.specs.Fills.{AreFilled, AreOver, AreReady, AreWithin, FilledSoFar};
+ghost use Rattle.lab.specs.Follows.{Says};
 ghost use Rattle.lab.specs.Lab.{is_event, result_of};
 ghost use Rattle.lab_text.specs.Line.{line_of_text};
 ghost use Rattle.lab_text.specs.LineEnd.{Fits, HoldsLast, IsCounted, IsLineEnd, len_of, feeds_of};
@@ -12,71 +13,80 @@ ghost use Rattle.lab_text.specs.ReadAhead.{held};
 
 use crate::buffers::Buffers;
 use config::Config;
-use lab_text::parse_line::{Parsed, ParsedLine, parse_line};
+use lab_text::parse_line::{Parsed, ParsedLine};
 use lab_text::{ByteReader, Failed, LineEnd, MAX_TEXT, NextLine, ReadAhead, read_line};
 use lease_disk::ModelDisk;
 
-/// Applies a line that may come before all events, and returns whether it is one.
-fn apply_fill(disk: &mut ModelDisk, config: &Config, line: &[u8], buffers: &mut Buffers) -> bool
+/// Applies a line that may come before all events, or returns the event that it says.
+fn apply_fill(
+    disk: &mut ModelDisk,
+    config: &Config,
+    line: &[u8],
+    buffers: &mut Buffers,
+) -> Option<Parsed>
     requires short { length line.now ≤ 8192 }
     requires regions { AreWithin config.now (length disk.old.regions) }
     requires ready { AreReady (length disk.old.regions) (state_of disk.old) }
-    ensures no_event { result ≡ not (is_event (line_of_text config.now line.now)) }
-    ensures filled { (quota : ℕ) (machines : ℕ → Alone) → result ≡ true → AreOver config.now (state_of disk.old) machines
-        → AreFilled config.now (state_of disk.new) (result_of config.now quota false machines (line_of_text config.now line.now)) }
-    ensures same { result ≡ false → disk.new ≡ disk.old }
+    ensures event { IfSome result (λ _. is_event (line_of_text config.now line.now) ≡ true) }
+    ensures parsed { IfSome result (Says config.now buffers.new.bytes buffers.new.images line.now) }
+    ensures no_event { IfNone result (is_event (line_of_text config.now line.now) ≡ false) }
+    ensures filled { IfNone result ((quota : ℕ) (machines : ℕ → Alone) → AreOver config.now (state_of disk.old) machines
+        → AreFilled config.now (state_of disk.new) (result_of config.now quota false machines (line_of_text config.now line.now))) }
+    ensures same { IfSome result (λ _. disk.new ≡ disk.old) }
     ensures count { length disk.new.regions ≡ length disk.old.regions }
     ensures ready { AreReady (length disk.new.regions) (state_of disk.new) }
 {
-    let parsed = match parse_line(config, line, &mut buffers.bytes, &mut buffers.images) {
+    let parsed = match buffers.parse(config, line) {
         Parsed::Event(parsed) => parsed,
-        Parsed::Restart => return false,
+        Parsed::Restart => return Some(Parsed::Restart),
     };
     match parsed {
-        ParsedLine::Ignored => true,
+        ParsedLine::Ignored => None,
         ParsedLine::Fill(circuit, byte) => {
             let region = config.at(circuit).region;
             disk.fill(region, byte);
-            true
+            None
         }
-        _ => false,
+        _ => Some(Parsed::Event(parsed)),
     }
 }
 
 /// Applies the last line of the text, which lacks its line feed, where it may come before all events, and
-/// consumes it. Returns how the line of the first event ends, or an empty one where there is none.
+/// consumes it. Returns how the line of the first event ends, and the event, or the end of an empty line
+/// where there is none.
 fn apply_last_fill(
     disk: &mut ModelDisk,
     config: &Config,
     len: usize,
     ahead: &mut ReadAhead,
     buffers: &mut Buffers,
-) -> LineEnd
+) -> (LineEnd, Option<Parsed>)
     requires short { len ≤ 8192 }
     requires inside { len ≤ length (held ahead.old) }
     requires regions { AreWithin config.now (length disk.old.regions) }
     requires ready { AreReady (length disk.old.regions) (state_of disk.old) }
     ensures filled { (quota number : ℕ) (given left : Option (List ℕ)) → HoldsLast (held ahead.old) left len
         → FilledSoFar config.now quota number false given (prepend_known (held ahead.old) left) (state_of disk.old) (λ rest. ⊤)
-        → FilledSoFar config.now quota number true given (prepend_known (held ahead.new) left) (state_of disk.new) (Fits (held ahead.new) result) }
-    ensures end { (left : Option (List ℕ)) → HoldsLast (held ahead.old) left len → IsLineEnd (held ahead.new) left result }
-    ensures within { len_of result ≤ 8192 }
-    ensures inside { len_of result + feeds_of result ≤ length (held ahead.new) }
+        → FilledSoFar config.now quota number true given (prepend_known (held ahead.new) left) (state_of disk.new) (Fits (held ahead.new) result.0) }
+    ensures end { (left : Option (List ℕ)) → HoldsLast (held ahead.old) left len → IsLineEnd (held ahead.new) left result.0 }
+    ensures within { len_of result.0 ≤ 8192 }
+    ensures inside { len_of result.0 + feeds_of result.0 ≤ length (held ahead.new) }
+    ensures parsed { IfSome result.1 (Says config.now buffers.new.bytes buffers.new.images (take (len_of result.0) (held ahead.new))) }
     ensures shorter { length (held ahead.new) ≤ length (held ahead.old) }
     ensures count { ahead.new.count ≡ ahead.old.count }
     ensures regions { length disk.new.regions ≡ length disk.old.regions }
     ensures ready { AreReady (length disk.new.regions) (state_of disk.new) }
 {
     let line = &ahead.as_slice()[..len];
-    if !apply_fill(disk, config, line, buffers) {
-        return LineEnd::EndOfInput(len);
+    if let Some(parsed) = apply_fill(disk, config, line, buffers) {
+        return (LineEnd::EndOfInput(len), Some(parsed));
     }
     ahead.consume(len);
-    LineEnd::EndOfInput(0)
+    (LineEnd::EndOfInput(0), None)
 }
 
-/// Applies the lines before the first event, and returns that event's line, or an empty one at the end of
-/// the text. Writes nothing.
+/// Applies the lines before the first event, and returns that event's line, parsed, or an empty one at the
+/// end of the text. Writes nothing.
 pub(crate) fn apply_fills<R: ByteReader>(
     disk: &mut ModelDisk,
     config: &Config,
@@ -93,6 +103,7 @@ pub(crate) fn apply_fills<R: ByteReader>(
     ensures end { IfOk result (λ next. IsLineEnd (held ahead.new) (R.remaining reader.new) next.end) }
     ensures within { IfOk result (λ next. len_of next.end ≤ 8192) }
     ensures inside { IfOk result (λ next. len_of next.end + feeds_of next.end ≤ length (held ahead.new)) }
+    ensures parsed { IfOk result (λ next. IfSome next.parsed (Says config.now buffers.new.bytes buffers.new.images (take (len_of next.end) (held ahead.new)))) }
     ensures lines { IfOk result (λ next. next.earlier + length (held ahead.new) ≤ ahead.new.count) }
     ensures below { OnOk result (ahead.new.count < 18446744073709551615) }
     ensures regions { length disk.new.regions ≡ length disk.old.regions }
@@ -108,15 +119,31 @@ pub(crate) fn apply_fills<R: ByteReader>(
         };
         let len = match end {
             LineEnd::Newline(len) => len,
-            LineEnd::TooLong => return Ok(NextLine { earlier, end }),
+            LineEnd::TooLong => {
+                let parsed = None;
+                return Ok(NextLine {
+                    earlier,
+                    end,
+                    parsed,
+                });
+            }
             LineEnd::EndOfInput(len) => {
-                let end = apply_last_fill(disk, config, len, ahead, buffers);
-                return Ok(NextLine { earlier, end });
+                let (end, parsed) = apply_last_fill(disk, config, len, ahead, buffers);
+                return Ok(NextLine {
+                    earlier,
+                    end,
+                    parsed,
+                });
             }
         };
         let line = &ahead.as_slice()[..len];
-        if !apply_fill(disk, config, line, buffers) {
-            return Ok(NextLine { earlier, end });
+        if let Some(event) = apply_fill(disk, config, line, buffers) {
+            let parsed = Some(event);
+            return Ok(NextLine {
+                earlier,
+                end,
+                parsed,
+            });
         }
         ahead.consume(len + 1);
     }

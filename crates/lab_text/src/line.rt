@@ -5,6 +5,7 @@ ghost use Rattle.lab_text.specs.LineEnd.{IsCounted, IsLineEnd, IsFirstEnd, len_o
 ghost use Rattle.lab_text.specs.Lines.{lacks};
 ghost use Rattle.lab_text.specs.ReadAhead.{held};
 
+use crate::parse_line::Parsed;
 use crate::read_ahead::ReadAhead;
 use crate::streams::{ByteReader, ByteWriter, Failed};
 use memchr::memchr;
@@ -32,6 +33,8 @@ pub struct NextLine {
     /// How many lines of the text come before it.
     pub earlier: u64,
     pub end: LineEnd,
+    /// What it says, where it was parsed.
+    pub parsed: Option<Parsed>,
 }
 
 /// How the first line of the text ends, `None` where the text has no line feed and may be too short.

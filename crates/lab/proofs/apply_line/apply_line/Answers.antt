@@ -1,19 +1,16 @@
-use Rattle.std.proofs.Common.{subst, ◌∙◌}
+use Rattle.std.proofs.Common.{subst}
 use Rattle.lab.specs.Lab.{line_result}
 use Rattle.lab_text.specs.Line.{line_of_text}
 use Rattle.lab.specs.Follows.{Follows}
-use Rattle.lab_text.specs.ParsedLine.{IsRestart}
-use Rattle.lab.proofs.LineResultLemmas.{short_is}
 use Rattle.lab.proofs.apply_line.apply_line.Goals as goal
 
 pub returns-in-Event-clause-follows : goal.returns-in-Event-clause-follows
 returns-in-Event-clause-follows g c = λ quota machines represents knows.
     let settings = c.args.config.now in
     subst (λ line. Follows settings quota c.args.number (line_result settings quota machines line) (g.M.Machine.states c.apply.new.machine) (g.W.ByteWriter.contents c.args.writer.now) (g.W.ByteWriter.contents c.apply.new.writer) c.apply.result)
-    (c.in-Event.ensures.value ∙ short_is settings c.args.line.now c.requires) (c.apply.ensures.follows quota machines represents knows)
+    c.in-Event.ensures.means (c.apply.ensures.follows quota machines represents knows)
 
 pub returns-in-Restart-clause-follows : goal.returns-in-Restart-clause-follows
 returns-in-Restart-clause-follows g c = λ quota machines represents knows.
     let settings = c.args.config.now in
-    c.apply_restart.ensures.follows settings quota c.args.number (line_of_text settings c.args.line.now) machines
-    (subst (IsRestart c.parse_line.new.images) (short_is settings c.args.line.now c.requires) c.in-Restart.ensures.value) represents
+    c.apply_restart.ensures.follows settings quota c.args.number (line_of_text settings c.args.line.now) machines c.in-Restart.ensures.means represents

@@ -1,6 +1,7 @@
-use Rattle.std.proofs.Common.{◌≡◌, ◌+◌, ◌++◌, ◌∷◌, [], ◌∙◌, length, refl, take, drop, arith, length-drop, ap}
-use Rattle.std.specs.Prelude.{Some}
+use Rattle.std.proofs.Common.{◌≡◌, ◌+◌, ◌++◌, ◌∷◌, [], ◌∙◌, length, refl, take, drop, arith, length-drop, ap, sym, subst}
+use Rattle.std.specs.Prelude.{Some, IfSome}
 use Rattle.std.proofs.KnownBytes.{Keeps-refl}
+use Rattle.lab.specs.Follows.{Says}
 use Rattle.lab_text.specs.ReadAhead.{held}
 use Rattle.lab_text.proofs.AheadLemmas.{line_consumed, last_consumed, cut_consumed}
 use Rattle.lab.proofs.CauseLemmas.{read_failed, still_none_failed, write_failed}
@@ -14,6 +15,7 @@ lines-init g c = record {
   end = c.requires.end;
   within = c.requires.within;
   inside = c.requires.inside;
+  known = c.requires.parsed;
   lines = c.requires.lines;
   below = c.requires.below;
   reader_quiet = refl;
@@ -35,6 +37,16 @@ pub returns-in-TooLong-clause-quiet : goal.returns-in-TooLong-clause-quiet
 returns-in-TooLong-clause-quiet g c = λ given counted fine.
     still_none_failed _ _ _ _ _ _ _ _ c.lines.invariant.reader_quiet c.lines.invariant.writer_quiet (c.refuse.ensures.quiet fine)
     (counted_more _ _ _ _ _ _ counted c.lines.invariant.counted) c.lines.invariant.below
+
+pub apply_last_line-requires-clause-known : goal.apply_last_line-requires-clause-known
+apply_last_line-requires-clause-known g c =
+    let known = rw c.in-EndOfInput.is at c.lines.invariant.known in
+    subst (λ text. IfSome c.lines.known (Says c.args.config.now c.lines.buffers.bytes c.lines.buffers.images (take c.in-EndOfInput.len text))) (sym c.as_slice.ensures) known
+
+pub apply_line-ended-requires-clause-known : goal.apply_line-ended-requires-clause-known
+apply_line-ended-requires-clause-known g c =
+    let known = rw c.in-Newline.is at c.lines.invariant.known in
+    subst (λ text. IfSome c.lines.known (Says c.args.config.now c.lines.buffers.bytes c.lines.buffers.images (take c.in-Newline.len text))) (sym c.as_slice-in-lines.ensures) known
 
 pub returns-in-EndOfInput-clause-ends : goal.returns-in-EndOfInput-clause-ends
 returns-in-EndOfInput-clause-ends g c = λ quota output given holds start knows.
@@ -103,6 +115,7 @@ lines-preserved g c =
       end = c.in-Ok.ensures.end;
       within = c.in-Ok.ensures.within;
       inside = c.in-Ok.ensures.inside;
+      known = tt;
       lines = omega (arith, inside, left, c.consume.ensures.count, c.flush_and_read_line.ensures.grown, c.lines.invariant.lines);
       below = c.in-Ok.ensures.below;
       reader_quiet = c.in-Ok.ensures.quiet ∙ c.lines.invariant.reader_quiet;

@@ -1,8 +1,8 @@
-use Rattle.std.proofs.Common.{◌≡◌, ℕ, ◌+◌, ◌≤◌, ◌<◌, List, length}
-use Rattle.std.specs.Prelude.{Option}
+use Rattle.std.proofs.Common.{◌≡◌, ℕ, ◌+◌, ◌≤◌, ◌<◌, List, length, take}
+use Rattle.std.specs.Prelude.{Option, IfSome}
 use Rattle.std.specs.Io.KnownBytes.{prepend_known}
 use Rattle.config.specs.Topology.{topology_of}
-use Rattle.lab.specs.Follows.{SoFar}
+use Rattle.lab.specs.Follows.{Says, SoFar}
 use Rattle.lab.specs.Lab.{Output}
 use Rattle.lab_text.specs.LineEnd.{Fits, IsCounted, IsLineEnd, len_of, feeds_of}
 use Rattle.lab_text.specs.ReadAhead.{held}
@@ -14,6 +14,7 @@ invariant-lines g l = record {
   end : IsLineEnd (held l.ahead) (g.R.ByteReader.remaining l.reader) l.end;
   within : len_of l.end ≤ 8192;
   inside : len_of l.end + feeds_of l.end ≤ length (held l.ahead);
+  known : IfSome l.known (Says l.fn.config l.buffers.bytes l.buffers.images (take (len_of l.end) (held l.ahead)));
   lines : l.earlier + length (held l.ahead) ≤ l.ahead.count;
   below : l.ahead.count < 18446744073709551615;
   reader_quiet : g.R.ByteReader.failures l.reader ≡ g.R.ByteReader.failures l.fn.reader;

@@ -3,13 +3,14 @@ use Rattle.std.proofs.KnownBytes.{Keeps-refl}
 use Rattle.std.specs.Io.KnownBytes.{prepend_known}
 use Rattle.lease_disk.specs.Model.{state_of}
 use Rattle.lab.specs.Fills.{FilledSoFar}
+use Rattle.lab.specs.Follows.{Says}
 use Rattle.lab_text.specs.declared.line.LineEnd.TheVariants.{Newline}
 use Rattle.lab.specs.Lab.{is_event}
 use Rattle.lab_text.specs.Line.{line_of_text}
 use Rattle.lab_text.specs.LineEnd.{Fits}
 use Rattle.lab_text.specs.ReadAhead.{held}
 use Rattle.lab_text.proofs.AheadLemmas.{line_consumed}
-use Rattle.lab.proofs.FillLemmas.{IsBegun, begun_long, begun_newline, filled_begun, filled_first, filled_kept, filled_next, formatted_are_ready, formatted_over, is_false, is_true, nothing_held}
+use Rattle.lab.proofs.FillLemmas.{IsBegun, begun_long, begun_newline, filled_begun, filled_first, filled_kept, filled_next, formatted_are_ready, formatted_over, nothing_held}
 use Rattle.lab_text.proofs.ReadLemmas.{counted_none, counted_more}
 use Rattle.lab.proofs.StartLemmas.{part_within}
 use Rattle.lab.proofs.fills.apply_fills.Goals as goal
@@ -62,20 +63,22 @@ returns-in-EndOfInput-clause-lines g c =
 pub returns-in-EndOfInput-clause-counted : goal.returns-in-EndOfInput-clause-counted
 returns-in-EndOfInput-clause-counted g c = rw c.apply_last_fill-end.ensures.count (counted_more _ _ _ _ _ _ c.lines.invariant.counted c.read_line.ensures.counted)
 
-pub returns-then-not-apply_fill-clause-filled : goal.returns-then-not-apply_fill-clause-filled
-returns-then-not-apply_fill-clause-filled g c = λ quota.
+pub returns-in-Some-clause-filled : goal.returns-in-Some-clause-filled
+returns-in-Some-clause-filled g c = λ quota.
     let feeds = rw c.in-Newline.is at c.in-Ok.ensures.end in
-    let line = take c.in-Newline.len c.as_slice.result.now in
-    let e = is_true (is_event (line_of_text c.args.config.now line)) c.apply_fill.result c.apply_fill.ensures.no_event c.if-not-apply_fill.true in
     subst (λ d. FilledSoFar c.args.config.now quota (c.lines.earlier + 1) true (g.R.ByteReader.remaining c.args.reader.now) (prepend_known (held c.read_line.new.ahead) (g.R.ByteReader.remaining c.read_line.new.reader)) (state_of d) (Fits (held c.read_line.new.ahead) (Newline c.in-Newline.len)))
-    (sym (c.apply_fill.ensures.same c.if-not-apply_fill.true))
+    (sym c.in-Some.ensures.same)
     (filled_begun c.args.config.now quota (c.lines.earlier + 1) _ _ (state_of c.lines.disk) _
     (filled_kept c.args.config.now quota (c.lines.earlier + 1) false _ _ _ (state_of c.lines.disk) _ (c.lines.invariant.so_far quota) c.read_line.ensures.kept)
     (begun_newline c.args.config.now quota (c.lines.earlier + 1) (held c.read_line.new.ahead) c.in-Newline.len feeds
-    (ap (λ text. is_event (line_of_text c.args.config.now (take c.in-Newline.len text))) (sym c.as_slice.ensures) ∙ e)))
+    (ap (λ text. is_event (line_of_text c.args.config.now (take c.in-Newline.len text))) (sym c.as_slice.ensures) ∙ c.in-Some.ensures.event)))
 
-pub returns-then-not-apply_fill-clause-counted : goal.returns-then-not-apply_fill-clause-counted
-returns-then-not-apply_fill-clause-counted g c = counted_more _ _ _ _ _ _ c.lines.invariant.counted c.read_line.ensures.counted
+pub returns-in-Some-clause-counted : goal.returns-in-Some-clause-counted
+returns-in-Some-clause-counted g c = counted_more _ _ _ _ _ _ c.lines.invariant.counted c.read_line.ensures.counted
+
+pub returns-in-Some-clause-parsed : goal.returns-in-Some-clause-parsed
+returns-in-Some-clause-parsed g c =
+    subst (λ text. Says c.args.config.now c.apply_fill.new.buffers.bytes c.apply_fill.new.buffers.images (take c.in-Newline.len text) c.in-Some.event) c.as_slice.ensures c.in-Some.ensures.parsed
 
 pub lines-preserved : goal.lines-preserved
 lines-preserved g c =
@@ -94,6 +97,6 @@ lines-preserved g c =
           filled_next c.args.config.now quota (c.lines.earlier + 1) _ _ _ (state_of c.lines.disk) (state_of c.apply_fill.new.disk) (take c.in-Newline.len text)
           (filled_kept c.args.config.now quota (c.lines.earlier + 1) false _ _ _ (state_of c.lines.disk) _ (c.lines.invariant.so_far quota) c.read_line.ensures.kept)
           (line_consumed _ _ (held c.read_line.new.ahead) text _ c.in-Newline.len c.as_slice.ensures c.consume.ensures.held (Keeps-refl _) feeds)
-          (is_false (is_event (line_of_text c.args.config.now (take c.in-Newline.len text))) c.apply_fill.result c.apply_fill.ensures.no_event c.if-not-apply_fill.false)
-          (λ machines over. c.apply_fill.ensures.filled quota machines c.if-not-apply_fill.false over);
+          c.in_default-apply_fill.ensures.no_event
+          (λ machines over. c.in_default-apply_fill.ensures.filled quota machines over);
     }

@@ -3,24 +3,27 @@ use Rattle.std.proofs.KnownBytes.{Keeps-refl}
 use Rattle.std.specs.Io.KnownBytes.{prepend_known}
 use Rattle.lease_disk.specs.Model.{state_of}
 use Rattle.lab.specs.Fills.{FilledSoFar}
+use Rattle.lab.specs.Follows.{Says}
 use Rattle.lab_text.specs.declared.line.LineEnd.TheVariants.{EndOfInput}
 use Rattle.lab.specs.Lab.{is_event}
 use Rattle.lab_text.specs.Line.{line_of_text}
 use Rattle.lab_text.specs.LineEnd.{Fits}
 use Rattle.lab_text.specs.ReadAhead.{held}
 use Rattle.lab_text.proofs.AheadLemmas.{last_consumed}
-use Rattle.lab.proofs.FillLemmas.{begun_last, filled_begun, filled_last, is_false, is_true, none_left, nothing_more}
+use Rattle.lab.proofs.FillLemmas.{begun_last, filled_begun, filled_last, none_left, nothing_more}
 use Rattle.lab.proofs.fills.apply_last_fill.Goals as goal
 
-pub returns-then-not-apply_fill-clause-filled : goal.returns-then-not-apply_fill-clause-filled
-returns-then-not-apply_fill-clause-filled c = λ quota number given left last so_far.
-    let line = take c.args.len c.as_slice.result.now in
-    let e = is_true (is_event (line_of_text c.args.config.now line)) c.apply_fill.result c.apply_fill.ensures.no_event c.if-not-apply_fill.true in
+pub returns-in-Some-clause-filled : goal.returns-in-Some-clause-filled
+returns-in-Some-clause-filled c = λ quota number given left last so_far.
     subst (λ d. FilledSoFar c.args.config.now quota number true given (prepend_known (held c.args.ahead.now) left) (state_of d) (Fits (held c.args.ahead.now) (EndOfInput c.args.len)))
-    (sym (c.apply_fill.ensures.same c.if-not-apply_fill.true))
+    (sym c.in-Some.ensures.same)
     (filled_begun c.args.config.now quota number _ _ (state_of c.args.disk.now) _ so_far
     (begun_last c.args.config.now quota number (held c.args.ahead.now) _ c.args.len last
-    (ap (λ text. is_event (line_of_text c.args.config.now (take c.args.len text))) (sym c.as_slice.ensures) ∙ e)))
+    (ap (λ text. is_event (line_of_text c.args.config.now (take c.args.len text))) (sym c.as_slice.ensures) ∙ c.in-Some.ensures.event)))
+
+pub returns-in-Some-clause-parsed : goal.returns-in-Some-clause-parsed
+returns-in-Some-clause-parsed c =
+    subst (λ text. Says c.args.config.now c.apply_fill.new.buffers.bytes c.apply_fill.new.buffers.images (take c.args.len text) c.in-Some.parsed) c.as_slice.ensures c.in-Some.ensures.parsed
 
 pub returns-clause-filled : goal.returns-clause-filled
 returns-clause-filled c = λ quota number given left last so_far.
@@ -29,8 +32,8 @@ returns-clause-filled c = λ quota number given left last so_far.
     (none_left _ (let e = last.size in omega (arith, gone, e)))
     so_far
     (last_consumed _ _ (held c.args.ahead.now) c.as_slice.result.now c.args.len c.as_slice.ensures (Keeps-refl _) last)
-    (is_false (is_event (line_of_text c.args.config.now (take c.args.len c.as_slice.result.now))) c.apply_fill.result c.apply_fill.ensures.no_event c.if-not-apply_fill.false)
-    (λ machines over. c.apply_fill.ensures.filled quota machines c.if-not-apply_fill.false over)
+    c.in_default.ensures.no_event
+    (λ machines over. c.in_default.ensures.filled quota machines over)
 
 pub returns-clause-end : goal.returns-clause-end
 returns-clause-end c = λ left last.

@@ -1,6 +1,6 @@
 use Rattle.std.proofs.Common.{◌+◌, refl}
 use Rattle.lab.specs.Lab.{lab_output}
-use Rattle.lab.proofs.CauseLemmas.{cause_from, none_from}
+use Rattle.lab.proofs.CauseLemmas.{cause_from, has_read, none_from}
 use Rattle.lab.proofs.FillLemmas.{opened_so_far}
 use Rattle.lab.proofs.RunLemmas.{ended_written}
 use Rattle.lab.proofs.opening.run.Goals as goal
@@ -26,3 +26,13 @@ returns-clause-cause g c = λ failed.
 pub returns-clause-quiet : goal.returns-clause-quiet
 returns-clause-quiet g c = λ fine.
     none_from _ _ _ _ _ _ _ _ c.in-Ok-apply_fills.ensures.quiet refl (c.apply_lines.ensures.quiet _ c.apply_fills.ensures.counted fine)
+
+-- the world was not opened: nothing more was read, and nothing written
+pub returns-in_default-opened-clause-quiet : goal.returns-in_default-opened-clause-quiet
+returns-in_default-opened-clause-quiet g c = λ fine. record {
+  reader_quiet = c.in-Ok-apply_fills.ensures.quiet;
+  writer_quiet = refl;
+  count = c.apply_fills.new.ahead.count;
+  few = c.in-Ok-apply_fills.ensures.below;
+  read = has_read _ _ _ c.apply_fills.ensures.counted;
+}
