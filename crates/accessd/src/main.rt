@@ -5,10 +5,10 @@ ghost use Rattle.std.specs.Prelude.{◌≡◌, ◌≤◌, ◌⊎◌, IfErr};
 ghost use Rattle.accessd.specs.Status.{IsExitStatus, status_of, store_status};
 
 use access::{Access, AccessFault, AccessWords, StoreFault, format_store, open_store};
+use command_line::{REFUSED, UNOPENED, UNREADABLE, complain, read_configuration};
 use config::Config;
 use dispatch::region_count;
 use lease_disk::FileDisk;
-use command_line::{REFUSED, UNOPENED, UNREADABLE, complain, read_configuration};
 use std::env;
 use std::process::ExitCode;
 use std::rt::Clock;

@@ -1,10 +1,10 @@
 //! Readers and writers that no shell gives: of few bytes at a time, interrupted, or failing on the way.
 ghost use Rattle.std.specs.Prelude.{◌<◌};
 
-use config::Config;
-use lab::*;
-use fixtures::ONE_CIRCUIT;
 use command_line::FAILED;
+use config::Config;
+use fixtures::ONE_CIRCUIT;
+use lab::*;
 use std::alloc::Global;
 use std::io::{self, ErrorKind, Read, Write};
 
