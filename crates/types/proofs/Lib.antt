@@ -1,2 +1,3 @@
 pub mod Key4Lemmas
 pub mod Key6Lemmas
+pub mod NumberLemmas

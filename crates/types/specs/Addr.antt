@@ -16,6 +16,9 @@ addr4 n = record { 0 = to_be_bytes w32 n }
 abbrev pub number6 : Addr6 → ℕ
 number6 a = from_be_bytes w128 a.0
 
+abbrev pub addr6 : ℕ → Addr6
+addr6 n = record { 0 = to_be_bytes w128 n }
+
 -- the bytes of 0.0.0.0, an address that is not given
 abbrev pub is_unspecified : List ℕ → Bool
 is_unspecified address = bytes_eq address (0 ∷ 0 ∷ 0 ∷ 0 ∷ [])

@@ -1,8 +1,11 @@
 pub mod Addr
 pub mod CircuitId
+pub mod Delivered
 pub mod Discard
 pub mod Key4
 pub mod Key6
 pub mod Kind4
+pub mod Kind6
 pub mod Pool4
+pub mod Pool6
 pub mod Slots

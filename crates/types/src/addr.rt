@@ -1,6 +1,6 @@
 //! Addresses of both protocols, and where a datagram came from.
 ghost use Rattle.std.specs.Prelude.{◌≡◌, ◌<◌, ◌^◌, length};
-ghost use Rattle.types.specs.Addr.{number4, addr4, number6, is_unspecified};
+ghost use Rattle.types.specs.Addr.{number4, addr4, number6, addr6, is_unspecified};
 
 /// An IPv4 address, its first byte first.
 #[derive(Clone, Copy, Debug, Default, PartialEq, Eq)]
@@ -53,5 +53,13 @@ impl Addr6 {
         ensures within { result < 2 ^ 128 }
     {
         u128::from_be_bytes(self.0)
+    }
+
+    /// The address of a number.
+    pub fn from_number(number: u128) -> Addr6
+        ensures address { result ≡ addr6 number }
+        ensures number { number6 result ≡ number }
+    {
+        Addr6(number.to_be_bytes())
     }
 }

@@ -1,0 +1,11 @@
+-- What reaches the server.
+use Rattle.std.specs.Prelude.{ℕ, List}
+use Rattle.types.specs.declared.addr.Source.{Source}
+use Rattle.types.specs.declared.dest.Proto.{Proto}
+
+-- a datagram, where it came from, and when
+pub record Delivered : Type 0 where
+  pub proto : Proto
+  pub source : Source
+  pub now : ℕ
+  pub bytes : List ℕ

@@ -1,0 +1,21 @@
+//! What reaches the server.
+use crate::addr::Source;
+use crate::dest::Proto;
+use crate::moment::Moment;
+use std::marker::Model;
+
+/// A datagram that reaches the server, with where it came from and when. It lends its bytes.
+pub struct Delivery<'a> {
+    pub proto: Proto,
+    pub source: Source,
+    pub now: Moment,
+    pub bytes: &'a [u8],
+}
+
+impl<'a> Model for Delivery<'a> {
+    ghost use Rattle.types.specs.Delivered.{Delivered};
+
+    ghost Value = { Delivered };
+
+    ghost view = { λ d. record { proto = d.proto; source = d.source; now = d.now; bytes = d.bytes.now } };
+}

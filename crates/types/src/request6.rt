@@ -1,0 +1,67 @@
+//! What a circuit's DHCPv6 book is asked, and what it answers.
+use crate::addr::Addr6;
+use crate::key6::Key6;
+use crate::kind6::Kind6;
+use arrayvec::ArrayVec;
+
+/// The most addresses that a client lists in an IA_NA.
+pub const MAX_LISTED: usize = 4;
+
+/// The server that a client speaks to (RFC 8415, section 21.3).
+#[derive(Clone, Copy, Debug, PartialEq, Eq)]
+pub enum ServerId {
+    /// There is no server identifier.
+    None,
+    /// This server's DUID.
+    Ours,
+    Other,
+}
+
+/// A client's message, as far as leases depend on it.
+#[derive(Debug, Drop)]
+pub struct Request6 {
+    /// The first byte of the message.
+    pub kind: Kind6,
+    /// The client's DUID (option 1) and the IAID of its IA_NA.
+    pub key: Key6,
+    /// Option 2.
+    pub server: ServerId,
+    /// The addresses in the IA_NA, in order; the same one may be there twice.
+    pub listed: ArrayVec<Addr6, MAX_LISTED>,
+}
+
+/// The type of a reply (RFC 8415, section 7.3).
+#[derive(Clone, Copy, Debug, PartialEq, Eq)]
+pub enum ReplyKind6 {
+    Advertise,
+    Reply,
+}
+
+/// A status code (RFC 8415, section 21.13).
+#[derive(Clone, Copy, Debug, PartialEq, Eq)]
+pub enum Status6 {
+    Success,
+    NoAddrsAvail,
+    NoBinding,
+    NotOnLink,
+}
+
+/// The IA_NA of a reply.
+#[derive(Debug, Drop)]
+pub enum ReplyIa {
+    /// There is none.
+    None,
+    /// No address, and a status.
+    Status(Status6),
+    /// These addresses with lifetimes of 0, in order, and then the one that is leased.
+    Given(ArrayVec<Addr6, MAX_LISTED>, Addr6),
+}
+
+/// A reply, before it has bytes.
+#[derive(Debug, Drop)]
+pub struct Reply6 {
+    pub kind: ReplyKind6,
+    /// The status of the whole message, where it has one.
+    pub status: Option<Status6>,
+    pub ia: ReplyIa,
+}
