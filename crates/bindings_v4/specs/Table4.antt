@@ -46,12 +46,10 @@ with_change client (Frees address) b = record b { bindings = remove b.bindings c
 
 -- Offers are in memory only; all else is kept on the disk.
 abbrev pub is_kept : Change → Bool
-is_kept Unchanged = false
-is_kept (Offers address until) = false
-is_kept (Withdraws address) = false
 is_kept (Binds address until) = true
 is_kept (Bars address until) = true
 is_kept (Frees address) = true
+is_kept change = false
 
 pub record Row : Type 0 where
   -- a reply, or why there is none

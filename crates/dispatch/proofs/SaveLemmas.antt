@@ -11,7 +11,7 @@ use Rattle.types.specs.Slots.{live4, live6, none_twice, same_client4, same_clien
 use Rattle.config.specs.CircuitPart.{CircuitPart}
 use Rattle.lease_disk.proofs.Fresh.{clean_image}
 use Rattle.lease_disk.specs.Book.{IsBook}
-use Rattle.lease_disk.specs.Layout.{gate_at}
+use Rattle.lease_disk.specs.Layout.{bank_at}
 use Rattle.lease_disk.specs.Recovered.{recovered, is_open}
 use Rattle.lease_disk.specs.Region.{Region, IsClean, IsCrash, image, effective}
 use Rattle.lease_disk.specs.Save.{IsSaved, IsLeft}
@@ -31,7 +31,7 @@ module _ (part : CircuitPart) (b : Book) (slots : Slots) (old new : Region) (mea
 
     by_gate : (byte : ℕ) (late : Bool) → nat_le 5 fuse ≡ late → (late && is_open (image byte new) gate) ≡ (late && byte == 165)
     by_gate byte false is = refl
-    by_gate byte true is = ap (λ u. cond u byte (new.byte (gate_at gate)) == 165) (left.doubt (leb-true 5 fuse is))
+    by_gate byte true is = ap (λ u. cond u byte (new.byte (bank_at gate)) == 165) (left.doubt (leb-true 5 fuse is))
 
     either : (byte : ℕ) (there : Bool)
         → option_map (book_in part) (if there then Some slots else recovered (counts_of part) old.byte) ≡ (if there then Some (kept_book b) else restarts_of part old byte)

@@ -5,7 +5,7 @@ use Rattle.types.specs.declared.addr.Addr4.{Addr4}
 use Rattle.types.specs.declared.discard.Discard.{Discard}
 use Rattle.types.specs.declared.discard.Discard.TheVariants as reason
 use Rattle.types.specs.declared.kind4.Kind4.{Kind4}
-use Rattle.types.specs.declared.kind4.Kind4.TheVariants.{Discover, Offer, Request, Decline, Ack, Nak, Release, Inform}
+use Rattle.types.specs.declared.kind4.Kind4.TheVariants.{Offer, Ack, Nak}
 use Rattle.types.specs.declared.request4.Request4.{Request4}
 use Rattle.v4_options.specs.Codes.{MESSAGE_TYPE, REQUESTED_ADDRESS, SERVER_IDENTIFIER, CLIENT_IDENTIFIER}
 use Rattle.v4_options.specs.Spelling.{look_up}
@@ -35,14 +35,10 @@ request_of m kind = record {
 
 -- what only a server sends
 abbrev pub is_from_server : Kind4 → Bool
-is_from_server Discover = false
 is_from_server Offer = true
-is_from_server Request = false
-is_from_server Decline = false
 is_from_server Ack = true
 is_from_server Nak = true
-is_from_server Release = false
-is_from_server Inform = false
+is_from_server kind = false
 
 abbrev pub kind_of : Option ℕ → Option Kind4
 kind_of None = None

@@ -9,19 +9,19 @@ use Rattle.settings.specs.declared.settings.CircuitConfig.{CircuitConfig}
 use Rattle.world.specs.Alone.{Alone, Setup, Effect, Dropped, Gone, SentUp, SentDown, Framed, Done, alone_step}
 use Rattle.config.specs.CircuitPart.{CircuitPart, part_in, part_of, source_at}
 use Rattle.world.specs.Headline.{CircuitState, Represents, Steps, IsOutcome, Answers, after_seen}
-use Rattle.world.specs.Seen.{Seen, seen_of}
-use Rattle.world.specs.declared.event.Event.{Event}
-use Rattle.world.specs.declared.event.Event.TheVariants as event
-use Rattle.world.specs.declared.outcome.Outcome.{Outcome}
-use Rattle.world.specs.declared.outcome.Outcome.TheVariants as outcome
-use Rattle.world.specs.Stray.{is_stray, stray_up_outcome, stray_down_outcome}
+use Rattle.events.specs.Seen.{Seen, seen_of}
+use Rattle.events.specs.declared.event.Event.{Event}
+use Rattle.events.specs.declared.event.Event.TheVariants as event
+use Rattle.events.specs.declared.outcome.Outcome.{Outcome}
+use Rattle.events.specs.declared.outcome.Outcome.TheVariants as outcome
+use Rattle.events.specs.Stray.{is_stray, stray_up_outcome, stray_down_outcome}
 use Rattle.config.specs.Topology.{Topology, topology_of, is_relay, is_server}
 use Rattle.types.specs.declared.addr.Source.{Source}
 use Rattle.types.specs.declared.discard.Discard.TheVariants.{UnknownSource, NotServer}
 use Rattle.types.specs.declared.discard.Discard.{Discard}
 use Rattle.std.specs.Borrow.{Bor}
 use Rattle.lease_disk.specs.declared.image.Image.{Image}
-use Rattle.world.specs.Seen as sees
+use Rattle.events.specs.Seen as sees
 use Rattle.lab_text.specs.Fields.{image_in}
 use Rattle.lab_text.specs.ParsedLine.{IsRestart}
 use Rattle.lab.specs.Lab.{part_result, line_result, moved, ticked, restarted}

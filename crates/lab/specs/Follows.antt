@@ -6,8 +6,8 @@ use Rattle.settings.specs.Settings.{Settings}
 use Rattle.lease_disk.specs.declared.image.Image.{Image}
 use Rattle.world.specs.Alone.{Alone}
 use Rattle.world.specs.Headline.{CircuitState, Represents}
-use Rattle.world.specs.Seen.{Seen, seen_of}
-use Rattle.world.specs.declared.event.Event.{Event}
+use Rattle.events.specs.Seen.{Seen, seen_of}
+use Rattle.events.specs.declared.event.Event.{Event}
 use Rattle.lab.specs.Lab.{Output, LineResult, Refused, Applied, lab_from}
 use Rattle.lab_text.specs.Line.{line_of_text}
 use Rattle.lab_text.specs.Lines.{lines_of}

@@ -7,8 +7,8 @@ use Rattle.lease_disk.specs.declared.image.Image.{Image}
 use Rattle.lease_disk.specs.Crash.{filled, formatted_region}
 use Rattle.lease_disk.specs.Region.{Region}
 use Rattle.world.specs.Alone.{Alone, Step, Dropped, Done, start, alone_step}
-use Rattle.world.specs.Seen.{Seen}
-use Rattle.world.specs.Seen as sees
+use Rattle.events.specs.Seen.{Seen}
+use Rattle.events.specs.Seen as sees
 use Rattle.lab_text.specs.Fields.{image_in}
 use Rattle.lab_text.specs.Line.{Line, Ignored, Bad, Fill, Named, Tick, Restart, Stray, line_of_text}
 use Rattle.lab_text.specs.Lines.{lines_of}

@@ -4,8 +4,8 @@ use Rattle.hex.specs.Hex.{encode_lower}
 use Rattle.types.specs.Discard.{number_of}
 use Rattle.types.specs.declared.dest.Dest.{Dest}
 use Rattle.types.specs.declared.dest.Dest.TheVariants.{Broadcast, Unicast, Peer}
-use Rattle.world.specs.declared.outcome.Outcome.{Outcome}
-use Rattle.world.specs.declared.outcome.Outcome.TheVariants as outcome
+use Rattle.events.specs.declared.outcome.Outcome.{Outcome}
+use Rattle.events.specs.declared.outcome.Outcome.TheVariants as outcome
 use Rattle.world.specs.Alone.{Effect, Dropped, Gone, SentUp, SentDown, Framed, Done}
 
 -- an address in dotted decimal

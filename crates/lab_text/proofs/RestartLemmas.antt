@@ -5,7 +5,7 @@ use Rattle.std.proofs.lemmas.List.{get_or-set_same, get_or-set_other}
 use Rattle.settings.specs.Settings.{Settings}
 use Rattle.lease_disk.specs.declared.image.Image.{Image}
 use Rattle.lease_disk.specs.declared.image.Image.TheVariants.{Byte}
-use Rattle.world.specs.Seen.{image_at}
+use Rattle.events.specs.Seen.{image_at}
 use Rattle.lab_text.specs.Fields.{named_image, is_named, image_in}
 use Rattle.lab_text.specs.Line.{Line, Bad, Restart, ◌>>=◌, restart_line}
 use Rattle.lab_text.specs.ParsedLine.{IsRestart}

@@ -7,7 +7,7 @@ use Rattle.types.specs.declared.dest.Proto.TheVariants.{V4}
 use Rattle.types.specs.declared.discard.Discard.{Discard}
 use Rattle.types.specs.declared.discard.Discard.TheVariants.{UnknownSource, NotServer}
 use Rattle.config.specs.Topology.{topology_of, is_relay, is_server}
-use Rattle.world.specs.Seen.{Seen, Frame, Up, Down}
+use Rattle.events.specs.Seen.{Seen, Frame, Up, Down}
 use Rattle.lab_text.specs.Fields.{number_to, bytes_of, byte_of, circuit_named, relay_named, source_of, named_image, is_named}
 use Rattle.lab_text.specs.Lines.{fields_of}
 

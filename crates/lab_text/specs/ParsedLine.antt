@@ -4,10 +4,10 @@ use Rattle.settings.specs.Settings.{Settings}
 use Rattle.types.specs.declared.dest.Proto.TheVariants.{V4}
 use Rattle.types.specs.declared.discard.Discard.TheVariants.{UnknownSource, NotServer}
 use Rattle.config.specs.Topology.{topology_of, is_relay, is_server}
-use Rattle.world.specs.Seen.{Frame, Up, Down}
+use Rattle.events.specs.Seen.{Frame, Up, Down}
 use Rattle.lab_text.specs.declared.parse_line.ParsedLine.{ParsedLine}
 use Rattle.lab_text.specs.declared.parse_line.ParsedLine.TheVariants as parsed
-use Rattle.world.specs.Seen.{image_at}
+use Rattle.events.specs.Seen.{image_at}
 use Rattle.lease_disk.specs.declared.image.Image.{Image}
 use Rattle.lab_text.specs.declared.parse_line.Parsed.{Parsed}
 use Rattle.lab_text.specs.declared.parse_line.Parsed.TheVariants.{Event, Restart}

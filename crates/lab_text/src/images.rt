@@ -1,7 +1,7 @@
 //! The images of a restart.
 ghost use Rattle.std.specs.Prelude.{◌≡◌, ◌<◌, ℕ, false, length, option_map, slice_index_or, IfSome};
 ghost use Rattle.lease_disk.specs.declared.image.Image.TheVariants.{Byte};
-ghost use Rattle.world.specs.Seen.{image_at};
+ghost use Rattle.events.specs.Seen.{image_at};
 ghost use Rattle.lab_text.specs.Fields.{image_of, named_image, parted_last};
 
 use crate::circuits::circuit_named;

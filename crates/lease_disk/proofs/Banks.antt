@@ -3,14 +3,14 @@ use Rattle.std.proofs.Common.{◌≡◌, ℕ, ◌+◌, ◌<◌, ◌≤◌, ◌%�
 use Rattle.std.specs.Prelude.{if◌then◌else◌, ◌==◌}
 use Rattle.lease_disk.specs.declared.format1.bank.Bank.{Bank}
 use Rattle.lease_disk.specs.declared.format1.bank.Bank.TheVariants.{First, Second}
-use Rattle.lease_disk.specs.Layout.{gate_open, gate_at, bank_at, format_at}
+use Rattle.lease_disk.specs.Layout.{gate_open, bank_at}
 use Rattle.lease_disk.specs.Recovered.{other, is_format2, is_open, sequence, is_valid, next, is_counting, body, book_of, recovered}
 use Rattle.lease_disk.specs.Region.{is_within}
 
 -- two regions have one format and the same bytes in a bank
 pub record SameIn (bank : Bank) (f g : ℕ → ℕ) : Type 0 where
   pub each : (i : ℕ) → i < 4096 → g (bank_at bank + i) ≡ f (bank_at bank + i)
-  pub format : g format_at ≡ f format_at
+  pub format : g 8192 ≡ f 8192
 
 pub is_below : (at n i : ℕ) → i < at → is_within at n i ≡ false
 is_below at n i h = grind arith
@@ -21,7 +21,7 @@ is_above at n i h = grind arith
 pub is_inside : (at n i : ℕ) → at ≤ i → i < at + n → is_within at n i ≡ true
 is_inside at n i h k = grind arith
 
-pub same_gate : (bank : Bank) (f g : ℕ → ℕ) → SameIn bank f g → g (gate_at bank) ≡ f (gate_at bank)
+pub same_gate : (bank : Bank) (f g : ℕ → ℕ) → SameIn bank f g → g (bank_at bank) ≡ f (bank_at bank)
 same_gate First f g s = s.each 0 (omega arith)
 same_gate Second f g s = s.each 0 (omega arith)
 
@@ -93,7 +93,7 @@ by_gate o false q a b e h = counting_valid (o && nat_le a 2) _ h
 
 -- what is outside a gate
 pub record SameButGate (bank : Bank) (n : ℕ) (f g : ℕ → ℕ) : Type 0 where
-  pub each : (i : ℕ) → is_within (gate_at bank) n i ≡ false → g i ≡ f i
+  pub each : (i : ℕ) → is_within (bank_at bank) n i ≡ false → g i ≡ f i
 
 pub beside_gate : (bank : Bank) (n : ℕ) (f g : ℕ → ℕ) → n ≤ 1 → SameButGate (other bank) n f g → SameIn bank f g
 beside_gate First n f g h s = record { each = λ i k. s.each (0 + i) (is_below 4096 n (0 + i) (omega arith)); format = s.each 8192 (is_above 4096 n 8192 (omega arith)) }

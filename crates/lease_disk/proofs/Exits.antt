@@ -5,7 +5,7 @@ use Rattle.std.proofs.Math.Seq.{take-length}
 use Rattle.types.specs.declared.slots.Slots.{Slots}
 use Rattle.lease_disk.specs.declared.format1.bank.Bank.{Bank}
 use Rattle.lease_disk.specs.declared.format1.bank.Marks.{Marks}
-use Rattle.lease_disk.specs.Layout.{gate_open, gate_at, bank_at}
+use Rattle.lease_disk.specs.Layout.{gate_open, bank_at}
 use Rattle.lease_disk.specs.Recovered.{other, next, sequence as sequence_of, book_of, recovered}
 use Rattle.lease_disk.specs.Region.{Region, written, synced, effective, IsClean, IsTorn}
 use Rattle.lease_disk.specs.Save.{AreMarks, IsSaved, IsLeft}
@@ -34,15 +34,15 @@ front_zero (x ∷ xs) e size = rw e refl
 
 pub exit_closing : (counts : List ℕ) (after : Option Slots) (marks : Marks) (bank : Bank) (r0 r : Region) (k : ℕ)
     → bank ≡ other marks.bank → AreMarks r0.byte marks → IsClean r0
-    → IsTorn (gate_at bank) (length {A = ℕ} (if marks.other_open then 0 ∷ [] else [])) r0 r → false ≡ (effective 2 k == 0)
+    → IsTorn (bank_at bank) (length {A = ℕ} (if marks.other_open then 0 ∷ [] else [])) r0 r → false ≡ (effective 2 k == 0)
     → IsLeft k (other marks.bank) (recovered counts r0.byte) after counts r
 exit_closing counts after marks bank r0 r k b m clean torn answer =
     left_closing k counts after marks r0 r m clean (rw (b, closed_size marks.other_open) at torn) (early k answer)
 
 is_shut : (marks : Marks) (bank : Bank) (r0 r1 : Region) → bank ≡ other marks.bank → AreMarks r0.byte marks
-    → r1 ≡ synced (written (gate_at bank) (if marks.other_open then 0 ∷ [] else []) r0) → IsShut marks.bank r0.byte r1.byte
+    → r1 ≡ synced (written (bank_at bank) (if marks.other_open then 0 ∷ [] else []) r0) → IsShut marks.bank r0.byte r1.byte
 is_shut marks bank r0 r1 b m e =
-    let e' : r1 ≡ synced (written (gate_at (other marks.bank)) (if marks.other_open then 0 ∷ [] else []) r0) = rw b at e in
+    let e' : r1 ≡ synced (written (bank_at (other marks.bank)) (if marks.other_open then 0 ∷ [] else []) r0) = rw b at e in
     subst (λ (r : Region). IsShut marks.bank r0.byte r.byte) (sym e') (shut marks.bank marks.other_open r0 m.other_open)
 
 is_clean : (r r1 : Region) → r1 ≡ synced r → IsClean r1
@@ -50,17 +50,17 @@ is_clean r r1 e = subst (λ (x : Region). IsClean x) (sym e) (clean_synced r)
 
 pub exit_writing : (counts : List ℕ) (after : Option Slots) (marks : Marks) (bank : Bank) (bytes : List ℕ) (r0 r1 r : Region) (k k1 : ℕ)
     → bank ≡ other marks.bank → AreMarks r0.byte marks
-    → r1 ≡ synced (written (gate_at bank) (if marks.other_open then 0 ∷ [] else []) r0) → k1 ≡ k - 2
+    → r1 ≡ synced (written (bank_at bank) (if marks.other_open then 0 ∷ [] else []) r0) → k1 ≡ k - 2
     → length bytes ≡ 4095 → IsTorn (bank_at bank + 1) (length bytes) r1 r → false ≡ (effective 2 k1 == 0)
     → IsLeft k (other marks.bank) (recovered counts r0.byte) after counts r
 exit_writing counts after marks bank bytes r0 r1 r k k1 b m e f size torn answer =
-    left_writing k counts after marks r0 r1 r m (is_shut marks bank r0 r1 b m e) (is_clean (written (gate_at bank) (if marks.other_open then 0 ∷ [] else []) r0) r1 e) (rw (b, size) at torn) (middle k (rw f at answer))
+    left_writing k counts after marks r0 r1 r m (is_shut marks bank r0 r1 b m e) (is_clean (written (bank_at bank) (if marks.other_open then 0 ∷ [] else []) r0) r1 e) (rw (b, size) at torn) (middle k (rw f at answer))
 
 -- what the three functions are given, and what the first two left
 pub record AreFilled (marks : Marks) (bank : Bank) (sequence : ℕ) (bytes whole : List ℕ) (r0 r1 r2 : Region) : Type 0 where
   pub bank_is : bank ≡ other marks.bank
   pub marks_are : AreMarks r0.byte marks
-  pub closed : r1 ≡ synced (written (gate_at bank) (if marks.other_open then 0 ∷ [] else []) r0)
+  pub closed : r1 ≡ synced (written (bank_at bank) (if marks.other_open then 0 ∷ [] else []) r0)
   pub filled : r2 ≡ synced (written (bank_at bank + 1) bytes r1)
   pub bytes_are : bytes ≡ drop 1 whole
   pub size : length whole ≡ 4096
@@ -105,7 +105,7 @@ is_filled marks bank sequence bytes whole r0 r1 r2 h =
 pub exit_opening : (counts : List ℕ) (after : Option Slots) (marks : Marks) (bank : Bank) (sequence : ℕ) (bytes whole : List ℕ) (r0 r1 r2 r : Region) (k k1 k2 : ℕ)
     → AreFilled marks bank sequence bytes whole r0 r1 r2 → k1 ≡ k - 2 → k2 ≡ k1 - 2
     → book_of counts (slice_index whole) ≡ after
-    → IsTorn (gate_at bank) 1 r2 r → false ≡ (effective 2 k2 == 0)
+    → IsTorn (bank_at bank) 1 r2 r → false ≡ (effective 2 k2 == 0)
     → IsLeft k (other marks.bank) (recovered counts r0.byte) after counts r
 exit_opening counts after marks bank sequence bytes whole r0 r1 r2 r k k1 k2 h e f book torn answer =
     left_opening k counts after marks (slice_index whole) r0 r2 r h.marks_are (is_filled marks bank sequence bytes whole r0 r1 r2 h) (is_clean (written (bank_at bank + 1) bytes r1) r2 h.filled) book (rw h.bank_is at torn)
@@ -113,23 +113,23 @@ exit_opening counts after marks bank sequence bytes whole r0 r1 r2 r k k1 k2 h e
 
 pub exit_saved : (counts : List ℕ) (slots : Slots) (marks : Marks) (bank : Bank) (sequence : ℕ) (bytes whole : List ℕ) (r0 r1 r2 r3 : Region)
     → AreFilled marks bank sequence bytes whole r0 r1 r2
-    → r3 ≡ synced (written (gate_at bank) (gate_open ∷ []) r2)
+    → r3 ≡ synced (written (bank_at bank) (gate_open ∷ []) r2)
     → book_of counts (slice_index whole) ≡ Some slots
     → IsSaved counts slots r3
 exit_saved counts slots marks bank sequence bytes whole r0 r1 r2 r3 h e book =
-    let e' : r3 ≡ synced (written (gate_at (other marks.bank)) (gate_open ∷ []) r2) = rw h.bank_is at e in
+    let e' : r3 ≡ synced (written (bank_at (other marks.bank)) (gate_open ∷ []) r2) = rw h.bank_is at e in
     record {
-      clean = is_clean (written (gate_at bank) (gate_open ∷ []) r2) r3 e;
+      clean = is_clean (written (bank_at bank) (gate_open ∷ []) r2) r3 e;
       kept = subst (λ (r : Region). recovered counts r.byte ≡ Some slots) (sym e')
           (saved_book counts (Some slots) marks (slice_index whole) r0 r2 h.marks_are (is_filled marks bank sequence bytes whole r0 r1 r2 h) book);
     }
 
 pub exit_marks : (marks : Marks) (bank : Bank) (sequence : ℕ) (bytes whole : List ℕ) (r0 r1 r2 r3 : Region)
     → AreFilled marks bank sequence bytes whole r0 r1 r2
-    → r3 ≡ synced (written (gate_at bank) (gate_open ∷ []) r2)
+    → r3 ≡ synced (written (bank_at bank) (gate_open ∷ []) r2)
     → AreMarks r3.byte (record { bank = bank; sequence = sequence; other_open = true })
 exit_marks marks bank sequence bytes whole r0 r1 r2 r3 h e =
     let m = saved_marks marks (slice_index whole) r0 r2 h.marks_are (is_filled marks bank sequence bytes whole r0 r1 r2 h) in
-    let e' : r3 ≡ synced (written (gate_at (other marks.bank)) (gate_open ∷ []) r2) = rw h.bank_is at e in
+    let e' : r3 ≡ synced (written (bank_at (other marks.bank)) (gate_open ∷ []) r2) = rw h.bank_is at e in
     let n : AreMarks r3.byte (record { bank = other marks.bank; sequence = next marks.sequence; other_open = true }) = subst (λ (r : Region). AreMarks r.byte (record { bank = other marks.bank; sequence = next marks.sequence; other_open = true })) (sym e') m in
     rw (h.bank_is, next_marks marks bank sequence bytes whole r0 r1 r2 h) n

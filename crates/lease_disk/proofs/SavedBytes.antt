@@ -5,7 +5,7 @@ use Rattle.types.specs.declared.slots.Slots.{Slots}
 use Rattle.lease_disk.specs.declared.format1.bank.Bank.{Bank}
 use Rattle.lease_disk.specs.declared.format1.bank.Marks.{Marks}
 use Rattle.lease_disk.specs.Book.{bank_bytes}
-use Rattle.lease_disk.specs.Layout.{gate_open, gate_at, bank_at}
+use Rattle.lease_disk.specs.Layout.{gate_open, bank_at}
 use Rattle.lease_disk.specs.Recovered.{next}
 use Rattle.lease_disk.specs.Region.{Region, is_within, written, synced}
 use Rattle.lease_disk.specs.Save.{byte_in, saved_byte}
@@ -15,9 +15,9 @@ use Rattle.lease_disk.proofs.Exits.{AreFilled, size_behind, next_marks}
 -- a region after the three steps of a save
 abbrev saved : Bank → Bool → List ℕ → Region → Region
 saved bank was_open whole r =
-    synced (written (gate_at bank) (gate_open ∷ [])
+    synced (written (bank_at bank) (gate_open ∷ [])
     (synced (written (bank_at bank + 1) (drop 1 whole)
-    (synced (written (gate_at bank) (if was_open then 0 ∷ [] else []) r)))))
+    (synced (written (bank_at bank) (if was_open then 0 ∷ [] else []) r)))))
 
 index_behind : (xs : List ℕ) (j : ℕ) → slice_index (drop 1 xs) j ≡ slice_index xs (suc j)
 index_behind [] zero = refl
@@ -42,26 +42,26 @@ closing true at r i e = rw (beside i at e) refl
 closing false at r i e = rw (none_within i at) refl
 
 by_place : (bank : Bank) (was_open : Bool) (whole : List ℕ) (r : Region) (i : ℕ) → length whole ≡ 4096
-    → (is_gate inside : Bool) → (i == gate_at bank) ≡ is_gate → is_within (bank_at bank + 1) 4095 i ≡ inside
+    → (is_gate inside : Bool) → (i == bank_at bank) ≡ is_gate → is_within (bank_at bank + 1) 4095 i ≡ inside
     → (saved bank was_open whole r).byte i ≡ byte_in bank whole r.byte i
 by_place bank was_open whole r i size true inside e f =
-    let here : i ≡ gate_at bank = is_at i (gate_at bank) e in
-    let none : i - gate_at bank ≡ 0 = omega arith in
-    rw (e, is_inside (gate_at bank) 1 i (omega arith) (omega arith), none) refl
+    let here : i ≡ bank_at bank = is_at i (bank_at bank) e in
+    let none : i - bank_at bank ≡ 0 = omega arith in
+    rw (e, is_inside (bank_at bank) 1 i (omega arith) (omega arith), none) refl
 by_place bank was_open whole r i size false true e f =
-    rw (e, beside i (gate_at bank) e, size_behind whole size, f, index_behind whole (i - (bank_at bank + 1)), is_behind i (bank_at bank) 4095 f) refl
+    rw (e, beside i (bank_at bank) e, size_behind whole size, f, index_behind whole (i - (bank_at bank + 1)), is_behind i (bank_at bank) 4095 f) refl
 by_place bank was_open whole r i size false false e f =
-    rw (e, beside i (gate_at bank) e, size_behind whole size, f) (closing was_open (gate_at bank) r i e)
+    rw (e, beside i (bank_at bank) e, size_behind whole size, f) (closing was_open (bank_at bank) r i e)
 
 pub exit_bytes : (slots : Slots) (marks : Marks) (bank : Bank) (sequence : ℕ) (bytes whole : List ℕ) (r0 r1 r2 r3 : Region)
     → AreFilled marks bank sequence bytes whole r0 r1 r2
-    → r3 ≡ synced (written (gate_at bank) (gate_open ∷ []) r2)
+    → r3 ≡ synced (written (bank_at bank) (gate_open ∷ []) r2)
     → whole ≡ bank_bytes sequence slots
     → (i : ℕ) → r3.byte i ≡ saved_byte marks slots r0.byte i
 exit_bytes slots marks bank sequence bytes whole r0 r1 r2 r3 h e w i =
-    let body : r2 ≡ synced (written (bank_at bank + 1) (drop 1 whole) (synced (written (gate_at bank) (if marks.other_open then 0 ∷ [] else []) r0))) =
+    let body : r2 ≡ synced (written (bank_at bank + 1) (drop 1 whole) (synced (written (bank_at bank) (if marks.other_open then 0 ∷ [] else []) r0))) =
     h.filled ∙ (λ j. synced (written (bank_at bank + 1) (h.bytes_are j) (h.closed j))) in
-    let all : r3 ≡ saved bank marks.other_open whole r0 = e ∙ ap (λ r. synced (written (gate_at bank) (gate_open ∷ []) r)) body in
+    let all : r3 ≡ saved bank marks.other_open whole r0 = e ∙ ap (λ r. synced (written (bank_at bank) (gate_open ∷ []) r)) body in
     let slots_are : whole ≡ bank_bytes (next marks.sequence) slots = w ∙ ap (λ s. bank_bytes s slots) (next_marks marks bank sequence bytes whole r0 r1 r2 h) in
     ap (λ (r : Region). r.byte i) all
     ∙ by_place bank marks.other_open whole r0 i h.size _ _ refl refl

@@ -6,7 +6,7 @@ use Rattle.types.specs.declared.slots.Slots.{Slots}
 use Rattle.lease_disk.specs.declared.format1.bank.Bank.{Bank}
 use Rattle.lease_disk.specs.declared.format1.bank.Bank.TheVariants.{First, Second}
 use Rattle.lease_disk.specs.declared.format1.bank.Marks.{Marks}
-use Rattle.lease_disk.specs.Layout.{gate_open, gate_at, bank_at}
+use Rattle.lease_disk.specs.Layout.{gate_open, bank_at}
 use Rattle.lease_disk.specs.Recovered.{other, is_format2, is_open, sequence, next, is_counting, body, book_of, recovered}
 use Rattle.lease_disk.specs.Region.{Region, is_within, written, synced, effective, IsCrash, IsClean, IsTorn}
 use Rattle.lease_disk.specs.Save.{AreMarks, IsLeft}
@@ -58,15 +58,15 @@ pub record IsFilled (bank : Bank) (whole f g : ℕ → ℕ) : Type 0 where
   pub sequence : sequence g (other bank) ≡ next (sequence f bank)
   pub body : body g (other bank) ≡ whole
 
-closes : (bank : Bank) (was_open : Bool) (r : Region) → SameButGate bank (if was_open then 1 else 0) r.byte (written (gate_at bank) (if was_open then 0 ∷ [] else []) r).byte
+closes : (bank : Bank) (was_open : Bool) (r : Region) → SameButGate bank (if was_open then 1 else 0) r.byte (written (bank_at bank) (if was_open then 0 ∷ [] else []) r).byte
 closes bank true r = record { each = λ i h. rw h refl }
 closes bank false r = record { each = λ i h. rw h refl }
 
-closed_to : (bank : Bank) (r : Region) → is_open (written (gate_at bank) (0 ∷ []) r).byte bank ≡ false
+closed_to : (bank : Bank) (r : Region) → is_open (written (bank_at bank) (0 ∷ []) r).byte bank ≡ false
 closed_to First r = refl
 closed_to Second r = refl
 
-pub shut : (bank : Bank) (was_open : Bool) (r : Region) → was_open ≡ is_open r.byte (other bank) → IsShut bank r.byte (synced (written (gate_at (other bank)) (if was_open then 0 ∷ [] else []) r)).byte
+pub shut : (bank : Bank) (was_open : Bool) (r : Region) → was_open ≡ is_open r.byte (other bank) → IsShut bank r.byte (synced (written (bank_at (other bank)) (if was_open then 0 ∷ [] else []) r)).byte
 shut bank true r e = record { same = beside_gate bank 1 _ _ (omega arith) (closes (other bank) true r); shut = closed_to (other bank) r }
 shut bank false r e = record { same = beside_gate bank 0 _ _ (omega arith) (closes (other bank) false r); shut = same_open (other bank) _ _ (closes (other bank) false r) ∙ sym e }
 
@@ -163,17 +163,17 @@ fills bank bytes f r size same e = record {
   body = body_written (other bank) bytes r size;
 }
 
-opens : (bank : Bank) (r : Region) → SameButGate bank 1 r.byte (written (gate_at bank) (gate_open ∷ []) r).byte
+opens : (bank : Bank) (r : Region) → SameButGate bank 1 r.byte (written (bank_at bank) (gate_open ∷ []) r).byte
 opens bank r = record { each = λ i h. rw h refl }
 
-opened_to : (bank : Bank) (r : Region) → is_open (written (gate_at bank) (gate_open ∷ []) r).byte bank ≡ true
+opened_to : (bank : Bank) (r : Region) → is_open (written (bank_at bank) (gate_open ∷ []) r).byte bank ≡ true
 opened_to First r = refl
 opened_to Second r = refl
 
 -- The exits of a save
 
 pub left_closing : (k : ℕ) (counts : List ℕ) (after : Option Slots) (marks : Marks) (old new : Region) → AreMarks old.byte marks → IsClean old
-    → IsTorn (gate_at (other marks.bank)) (if marks.other_open then 1 else 0) old new → nat_le 5 k ≡ false
+    → IsTorn (bank_at (other marks.bank)) (if marks.other_open then 1 else 0) old new → nat_le 5 k ≡ false
     → IsLeft k (other marks.bank) (recovered counts old.byte) after counts new
 left_closing k counts after marks old new m clean torn e = record {
   crash = λ f crash.
@@ -197,23 +197,23 @@ left_writing k counts after marks first old new m s clean torn e = record {
 
 pub left_opening : (k : ℕ) (counts : List ℕ) (after : Option Slots) (marks : Marks) (whole : ℕ → ℕ) (first old new : Region) → AreMarks first.byte marks → IsFilled marks.bank whole first.byte old.byte → IsClean old
     → book_of counts whole ≡ after
-    → IsTorn (gate_at (other marks.bank)) 1 old new → nat_le 5 k ≡ true
+    → IsTorn (bank_at (other marks.bank)) 1 old new → nat_le 5 k ≡ true
     → IsLeft k (other marks.bank) (recovered counts first.byte) after counts new
 left_opening k counts after marks whole first old new m s clean book torn e = record {
   crash = λ f crash.
       let t : SameButGate (other marks.bank) 1 old.byte f = record { each = outside _ _ old new f clean torn crash } in
       rw (e, ← book) (by_open counts marks.bank whole first.byte f (is_open f (other marks.bank)) refl m.format m.counting (still_filled marks.bank whole first.byte old.byte f s t));
-  doubt = λ h. torn.unsynced (gate_at (other marks.bank)) ∙ rw (is_inside (gate_at (other marks.bank)) 1 (gate_at (other marks.bank)) (omega arith) (omega arith)) refl;
+  doubt = λ h. torn.unsynced (bank_at (other marks.bank)) ∙ rw (is_inside (bank_at (other marks.bank)) 1 (bank_at (other marks.bank)) (omega arith) (omega arith)) refl;
 }
 
 pub saved_book : (counts : List ℕ) (after : Option Slots) (marks : Marks) (whole : ℕ → ℕ) (first old : Region) → AreMarks first.byte marks → IsFilled marks.bank whole first.byte old.byte
     → book_of counts whole ≡ after
-    → recovered counts (written (gate_at (other marks.bank)) (gate_open ∷ []) old).byte ≡ after
+    → recovered counts (written (bank_at (other marks.bank)) (gate_open ∷ []) old).byte ≡ after
 saved_book counts after marks whole first old m s book =
     by_open counts marks.bank whole first.byte _ true (opened_to (other marks.bank) old) m.format m.counting (still_filled marks.bank whole first.byte old.byte _ s (opens (other marks.bank) old)) ∙ book
 
 pub saved_marks : (marks : Marks) (whole : ℕ → ℕ) (first old : Region) → AreMarks first.byte marks → IsFilled marks.bank whole first.byte old.byte
-    → AreMarks (written (gate_at (other marks.bank)) (gate_open ∷ []) old).byte (record { bank = other marks.bank; sequence = next marks.sequence; other_open = true })
+    → AreMarks (written (bank_at (other marks.bank)) (gate_open ∷ []) old).byte (record { bank = other marks.bank; sequence = next marks.sequence; other_open = true })
 saved_marks marks whole first old m s =
     let t = still_filled marks.bank whole first.byte old.byte _ s (opens (other marks.bank) old) in
     record {

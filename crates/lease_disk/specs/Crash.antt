@@ -2,7 +2,7 @@
 use Rattle.std.specs.Prelude.{◌≡◌, ◌<◌, ℕ, true, false, nat_lt, if◌then◌else◌}
 use Rattle.lease_disk.specs.declared.image.Image.{Image}
 use Rattle.lease_disk.specs.declared.image.Image.TheVariants.{Byte, Unreadable}
-use Rattle.lease_disk.specs.Layout.{formatted, region_size}
+use Rattle.lease_disk.specs.Layout.{formatted}
 use Rattle.lease_disk.specs.Region.{Region, image, IsClean}
 
 -- an unreadable region keeps its bytes and what is in doubt
@@ -20,5 +20,5 @@ formatted_region = record { byte = formatted; unsynced = λ i. false; readable =
 
 -- its bytes, of which a crash changes none
 pub record IsFormatted (r : Region) : Type 0 where
-  pub byte : (i : ℕ) → i < region_size → r.byte i ≡ formatted i
+  pub byte : (i : ℕ) → i < 32768 → r.byte i ≡ formatted i
   pub clean : IsClean r

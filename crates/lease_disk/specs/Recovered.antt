@@ -10,23 +10,24 @@ use Rattle.types.specs.declared.slots.Slots.{Slots}
 use Rattle.types.specs.Slots.{last_until, live4, live6, none_twice, same_client4, same_client6}
 use Rattle.lease_disk.specs.declared.format1.bank.Bank.{Bank}
 use Rattle.lease_disk.specs.declared.format1.bank.Bank.TheVariants.{First, Second}
-use Rattle.lease_disk.specs.Layout.{gate_open, format_at, gate_at, bank_at, bank_size, sequence_at, clock_at, four_at, six_at, state_at, length_at, iaid_at, until_at, key_at}
+use Rattle.lease_disk.specs.Layout.{gate_open, bank_at, four_at, six_at}
 
 -- Which bank counts
 
--- the region has format 2, and its banks hold no book
+-- byte 8192 is the format: 2 means format 2, whose banks hold no book; any other value is format 1
 abbrev pub is_format2 : (ℕ → ℕ) → Bool
-is_format2 region = region format_at == 2
+is_format2 region = region 8192 == 2
 
 abbrev pub other : Bank → Bank
 other First = Second
 other Second = First
 
 abbrev pub is_open : (ℕ → ℕ) → Bank → Bool
-is_open region bank = region (gate_at bank) == gate_open
+is_open region bank = region (bank_at bank) == gate_open
 
+-- behind the gate
 abbrev pub sequence : (ℕ → ℕ) → Bank → ℕ
-sequence region bank = region (bank_at bank + sequence_at)
+sequence region bank = region (bank_at bank + 1)
 
 -- open, with a sequence from 0 to 2
 abbrev pub is_valid : (ℕ → ℕ) → Bank → Bool
@@ -45,9 +46,11 @@ is_counting region bank =
 
 -- the bytes behind a bank's gate, by their offset in the bank
 abbrev pub body : (ℕ → ℕ) → Bank → ℕ → ℕ
-body region bank i = if nat_lt 0 i && nat_lt i bank_size then region (bank_at bank + i) else 0
+body region bank i = if nat_lt 0 i && nat_lt i 4096 then region (bank_at bank + i) else 0
 
--- What a bank holds. Below, `bank` and `slot` are bytes by their offset in a bank and in a slot.
+-- What a bank holds. Below, `bank` and `slot` are bytes by their offset in a bank and in a slot. In a bank
+-- byte 8 begins the clock; in a slot byte 0 is the state, 1 the length of the key or DUID, 4 begins the IAID
+-- (DHCPv6 only), 8 until, and 16 the key or DUID.
 
 -- the n bytes from an offset on
 abbrev pub bytes_at : (ℕ → ℕ) → ℕ → ℕ → List ℕ
@@ -58,10 +61,10 @@ abbrev pub from : ℕ → (ℕ → ℕ) → ℕ → ℕ
 from at bytes i = bytes (at + i)
 
 abbrev pub clock_of : (ℕ → ℕ) → ℕ
-clock_of bank = from_be_bytes w64 (bytes_at bank clock_at 8)
+clock_of bank = from_be_bytes w64 (bytes_at bank 8 8)
 
 abbrev pub until_of : (ℕ → ℕ) → ℕ
-until_of slot = from_be_bytes w64 (bytes_at slot until_at 8)
+until_of slot = from_be_bytes w64 (bytes_at slot 8 8)
 
 -- 2^40 - 1
 abbrev pub last_clock : ℕ
@@ -71,25 +74,25 @@ last_clock = 1099511627775
 -- of a bound slot has not 2 to 64 bytes
 abbrev pub slot4_of : (ℕ → ℕ) → Option Slot4
 slot4_of slot =
-    if slot state_at == 0 then Some S4.Free
+    if slot 0 == 0 then Some S4.Free
     else if nat_lt last_until (until_of slot) then None
-    else if slot state_at == 1 then
-    (if nat_le 2 (slot length_at) && nat_le (slot length_at) 64
-    then Some (S4.Bound (bytes_at slot key_at (slot length_at)) (until_of slot))
+    else if slot 0 == 1 then
+    (if nat_le 2 (slot 1) && nat_le (slot 1) 64
+    then Some (S4.Bound (bytes_at slot 16 (slot 1)) (until_of slot))
     else None)
-    else if slot state_at == 2 then Some (S4.Barred (until_of slot))
+    else if slot 0 == 2 then Some (S4.Barred (until_of slot))
     else None
 
 -- the same with a DUID of 3 to 130 bytes and an IAID
 abbrev pub slot6_of : (ℕ → ℕ) → Option Slot6
 slot6_of slot =
-    if slot state_at == 0 then Some S6.Free
+    if slot 0 == 0 then Some S6.Free
     else if nat_lt last_until (until_of slot) then None
-    else if slot state_at == 1 then
-    (if nat_le 3 (slot length_at) && nat_le (slot length_at) 130
-    then Some (S6.Bound (record { duid = bytes_at slot key_at (slot length_at); iaid = from_be_bytes w32 (bytes_at slot iaid_at 4) }) (until_of slot))
+    else if slot 0 == 1 then
+    (if nat_le 3 (slot 1) && nat_le (slot 1) 130
+    then Some (S6.Bound (record { duid = bytes_at slot 16 (slot 1); iaid = from_be_bytes w32 (bytes_at slot 4 4) }) (until_of slot))
     else None)
-    else if slot state_at == 2 then Some (S6.Barred (until_of slot))
+    else if slot 0 == 2 then Some (S6.Barred (until_of slot))
     else None
 
 abbrev pub cons_some : {A : Type 0} → Option A → Option (List A) → Option (List A)

@@ -4,7 +4,7 @@ use Rattle.types.specs.declared.slots.Slots.{Slots}
 use Rattle.lease_disk.specs.declared.format1.bank.Bank.{Bank}
 use Rattle.lease_disk.specs.declared.format1.bank.Marks.{Marks}
 use Rattle.lease_disk.specs.Book.{bank_bytes}
-use Rattle.lease_disk.specs.Layout.{gate_open, gate_at, bank_at}
+use Rattle.lease_disk.specs.Layout.{gate_open, bank_at}
 use Rattle.lease_disk.specs.Recovered.{other, is_format2, is_open, sequence, next, is_counting, recovered}
 use Rattle.lease_disk.specs.Region.{Region, is_within, IsCrash, IsClean}
 
@@ -24,7 +24,7 @@ pub record IsSaved (counts : List ℕ) (slots : Slots) (r : Region) : Type 0 whe
 -- was elsewhere.
 abbrev pub byte_in : Bank → List ℕ → (ℕ → ℕ) → ℕ → ℕ
 byte_in bank bytes region i =
-    if i == gate_at bank then gate_open
+    if i == bank_at bank then gate_open
     else if is_within (bank_at bank + 1) 4095 i then slice_index bytes (i - bank_at bank)
     else region i
 
@@ -36,4 +36,4 @@ saved_byte marks slots region i = byte_in (other marks.bank) (bank_bytes (next m
 -- to what it was before, but from the fifth call on to the new slots where the gate is open.
 pub record IsLeft (k : ℕ) (gate : Bank) (before after : Option Slots) (counts : List ℕ) (r : Region) : Type 0 where
   pub crash : (f : ℕ → ℕ) → IsCrash r f → recovered counts f ≡ (if nat_le 5 k && is_open f gate then after else before)
-  pub doubt : 5 ≤ k → r.unsynced (gate_at gate) ≡ true
+  pub doubt : 5 ≤ k → r.unsynced (bank_at gate) ≡ true

@@ -8,7 +8,7 @@ use Rattle.types.specs.declared.discard.Discard.TheVariants as reason
 use Rattle.v4_options.specs.Codes.{RELAY_AGENT_INFORMATION, END}
 use Rattle.v4_options.specs.Spelling.{option, spelling}
 use Rattle.v4_options.proofs.Left.{spelling-append}
-use Rattle.v4_message.specs.Layout.{OPTIONS, MAGIC_COOKIE}
+use Rattle.v4_message.specs.Layout.{MAGIC_COOKIE}
 use Rattle.v4_message.specs.Header.{HeaderValue, IsSized, header_bytes}
 use Rattle.v4_message.specs.Reading.{message_of}
 use Rattle.v4_message.specs.Spelling.{MessageValue, message_bytes}
@@ -30,7 +30,7 @@ at_ok (Ok x) h p = p
 at_ok (Err e) h p = absurd cc
 
 -- A header and the cookie.
-pub length-front : (h : HeaderValue) → IsSized h → length (header_bytes h ++ MAGIC_COOKIE) ≡ OPTIONS
+pub length-front : (h : HeaderValue) → IsSized h → length (header_bytes h ++ MAGIC_COOKIE) ≡ 240
 length-front h s = omega (arith, length-append (header_bytes h) MAGIC_COOKIE, length-header_bytes h s)
 
 regroup : (header cookie options last end : List ℕ) → (((header ++ cookie) ++ options) ++ last) ++ end ≡ header ++ (cookie ++ ((options ++ (last ++ [])) ++ end))

@@ -15,24 +15,20 @@ use Rattle.config.specs.CircuitPart.{CircuitPart}
 
 -- a NAK has the broadcast flag (RFC 2131, section 4.3.2)
 abbrev pub flags_in : MessageValue → Reply4 → ℕ
-flags_in request (Offer address) = request.header.flags
-flags_in request (Ack address) = request.header.flags
-flags_in request Inform = request.header.flags
 flags_in request Nak = bit_or request.header.flags 32768
+flags_in request reply = request.header.flags
 
 -- ciaddr is the client's in an ACK
 abbrev pub ciaddr_in : MessageValue → Reply4 → List ℕ
-ciaddr_in request (Offer address) = replicate 4 0
 ciaddr_in request (Ack address) = request.header.ciaddr
 ciaddr_in request Inform = request.header.ciaddr
-ciaddr_in request Nak = replicate 4 0
+ciaddr_in request reply = replicate 4 0
 
 -- yiaddr is the address that is offered or leased
 abbrev pub yiaddr_in : Reply4 → List ℕ
 yiaddr_in (Offer address) = address.0
 yiaddr_in (Ack address) = address.0
-yiaddr_in Inform = replicate 4 0
-yiaddr_in Nak = replicate 4 0
+yiaddr_in reply = replicate 4 0
 
 abbrev pub reply_header : MessageValue → Reply4 → HeaderValue
 reply_header request reply = record {

@@ -7,8 +7,7 @@ use Rattle.std.proofs.lemmas.Bool.Decides.{Decides-eqb, Decides-and, Decides-or,
 use Rattle.std.proofs.lemmas.Slice.Eq.{bytes_eq-Decides}
 use Rattle.v4_options.specs.Codes.{REQUESTED_ADDRESS, OPTION_OVERLOAD, MESSAGE_TYPE, SERVER_IDENTIFIER}
 use Rattle.v4_options.specs.Spelling.{look_up}
-use Rattle.v4_message.specs.Layout.{HTYPE, HLEN, COOKIE, COOKIE_LEN, ADDR_LEN, ETHERNET, ETHERNET_LEN, MAGIC_COOKIE}
-use Rattle.v4_message.specs.Layout.{OP_REQUEST, OP_REPLY}
+use Rattle.v4_message.specs.Layout.{MAGIC_COOKIE}
 use Rattle.v4_message.specs.Header.{part}
 use Rattle.v4_message.specs.Spelling.{IsOp, HasKind, AreAllowed, HasCookie, IsEthernet}
 use Rattle.v4_message.specs.Reading.{has_cookie, is_ethernet, may_be_addr, are_allowed, is_op, kind_in, has_kind}
@@ -21,18 +20,18 @@ Decides-leb : (a b : ℕ) → Decides (leb a b) (a ≤ b)
 Decides-leb a b = (leb-true a b, le-leb a b)
 
 pub cookie : (bytes : List ℕ) → Decides (has_cookie bytes) (HasCookie bytes)
-cookie bytes = bytes_eq-Decides (part bytes COOKIE COOKIE_LEN) MAGIC_COOKIE
+cookie bytes = bytes_eq-Decides (part bytes 236 4) MAGIC_COOKIE
 
 pub ethernet : (bytes : List ℕ) → Decides (is_ethernet bytes) (IsEthernet bytes)
-ethernet bytes = Decides-and _ _ (Decides-eqb (get_or bytes HTYPE 0) ETHERNET) (Decides-eqb (get_or bytes HLEN 0) ETHERNET_LEN)
+ethernet bytes = Decides-and _ _ (Decides-eqb (get_or bytes 1 0) 1) (Decides-eqb (get_or bytes 2 0) 6)
 
 absent : (found : Option (List ℕ)) → Decides (is_none found) (found ≡ None)
 absent None = (λ e. refl, λ e. refl)
 absent (Some value) = (λ e. absurd cc, λ e. absurd cc)
 
-addr : (found : Option (List ℕ)) → Decides (may_be_addr found) (IfSome found (λ value. length value ≡ ADDR_LEN))
+addr : (found : Option (List ℕ)) → Decides (may_be_addr found) (IfSome found (λ value. length value ≡ 4))
 addr None = (λ e. tt, λ e. refl)
-addr (Some value) = Decides-eqb (length value) ADDR_LEN
+addr (Some value) = Decides-eqb (length value) 4
 
 pub allowed : (list : List (ℕ × List ℕ)) → Decides (are_allowed list) (AreAllowed list)
 allowed list =
@@ -42,7 +41,7 @@ allowed list =
     (Decides-and _ _ (absent (look_up OPTION_OVERLOAD list)) (Decides-and _ _ (addr (look_up REQUESTED_ADDRESS list)) (addr (look_up SERVER_IDENTIFIER list))))
 
 pub op : (n : ℕ) → Decides (is_op n) (IsOp n)
-op n = Decides-or _ _ (Decides-eqb n OP_REQUEST) (Decides-eqb n OP_REPLY)
+op n = Decides-or _ _ (Decides-eqb n 1) (Decides-eqb n 2)
 
 abbrev KindIs : Option (List ℕ) → Type 0
 KindIs found = (code : ℕ) × (found ≡ Some (code ∷ [])) × (1 ≤ code) × (code ≤ 8)

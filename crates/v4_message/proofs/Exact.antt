@@ -12,7 +12,6 @@ use Rattle.v4_options.specs.Spelling as lists
 use Rattle.v4_options.specs.Reading.{options_of}
 use Rattle.v4_options.proofs.Exact as lists_exact
 use Rattle.v4_options.proofs.Results.{one_ok, one_err, ok_or_err}
-use Rattle.v4_message.specs.Layout.{OP, OPTIONS}
 use Rattle.v4_message.specs.declared.fault.MessageFault.{MessageFault}
 use Rattle.v4_message.specs.declared.fault.MessageFault.TheVariants.{Short, Cookie, Hardware, Options, Kind}
 use Rattle.v4_message.specs.Header.{IsSized, header_at}
@@ -33,13 +32,13 @@ message_at bytes list = record { header = header_at bytes; options = list }
 -- The results of the first three tests.
 record Head (bytes : List ℕ) : Type 0 where
   fits : AreBytes bytes
-  long : OPTIONS ≤ length bytes
+  long : 240 ≤ length bytes
   cookie : HasCookie bytes
   ethernet : IsEthernet bytes
 
-by_kind : (bytes : List ℕ) (list : List (ℕ × List ℕ)) (b : Bool) → Head bytes → HasOptions bytes list → Decides b (IsOp (get_or bytes OP 0) × HasKind list) → Is bytes (cond b (Ok (message_at bytes list)) (Err Kind))
+by_kind : (bytes : List ℕ) (list : List (ℕ × List ℕ)) (b : Bool) → Head bytes → HasOptions bytes list → Decides b (IsOp (get_or bytes 0 0) × HasKind list) → Is bytes (cond b (Ok (message_at bytes list)) (Err Kind))
 by_kind bytes list true h o d = record {
-  tail = drop OPTIONS bytes;
+  tail = drop 240 bytes;
   whole = whole bytes h.fits h.long h.cookie h.ethernet;
   options = o.spelled;
   sized = sized_at bytes h.fits h.long;
@@ -47,67 +46,67 @@ by_kind bytes list true h o d = record {
 }
 by_kind bytes list false h o d = (h.long, h.cookie, h.ethernet, (list, o, λ p. absurd (cc (d.1 p))))
 
-by_allowed : (bytes : List ℕ) (list : List (ℕ × List ℕ)) (b : Bool) → Head bytes → lists.Spells (drop OPTIONS bytes) list → Decides b (AreAllowed list)
-    → Is bytes (cond b (cond (is_op (get_or bytes OP 0) && has_kind list) (Ok (message_at bytes list)) (Err Kind)) (Err Options))
+by_allowed : (bytes : List ℕ) (list : List (ℕ × List ℕ)) (b : Bool) → Head bytes → lists.Spells (drop 240 bytes) list → Decides b (AreAllowed list)
+    → Is bytes (cond b (cond (is_op (get_or bytes 0 0) && has_kind list) (Ok (message_at bytes list)) (Err Kind)) (Err Options))
 by_allowed bytes list true h s d =
-    by_kind bytes list (is_op (get_or bytes OP 0) && has_kind list) h (record { spelled = s; allowed = d.0 refl }) (Decides-and _ _ (op (get_or bytes OP 0)) (kind list))
+    by_kind bytes list (is_op (get_or bytes 0 0) && has_kind list) h (record { spelled = s; allowed = d.0 refl }) (Decides-and _ _ (op (get_or bytes 0 0)) (kind list))
 by_allowed bytes list false h s d = (
   h.long,
   h.cookie,
   h.ethernet,
   λ other o.
-      let same = lists_exact.one_list (drop OPTIONS bytes) other list o.spelled s in
+      let same = lists_exact.one_list (drop 240 bytes) other list o.spelled s in
       absurd (cc (d.1 (rw same at o.allowed))),
 )
 
-by_options : (bytes : List ℕ) (read : Result (List (ℕ × List ℕ)) OptFault) → Head bytes → options_of (drop OPTIONS bytes) ≡ read → Is bytes (with_options bytes read)
-by_options bytes (Ok list) h e = by_allowed bytes list (are_allowed list) h ((lists_exact.spelled (drop OPTIONS bytes) list).0 e) (allowed list)
+by_options : (bytes : List ℕ) (read : Result (List (ℕ × List ℕ)) OptFault) → Head bytes → options_of (drop 240 bytes) ≡ read → Is bytes (with_options bytes read)
+by_options bytes (Ok list) h e = by_allowed bytes list (are_allowed list) h ((lists_exact.spelled (drop 240 bytes) list).0 e) (allowed list)
 by_options bytes (Err fault) h e =
-    (h.long, h.cookie, h.ethernet, λ list o. absurd (cc (e, lists_exact.read_spells (drop OPTIONS bytes) list o.spelled)))
+    (h.long, h.cookie, h.ethernet, λ list o. absurd (cc (e, lists_exact.read_spells (drop 240 bytes) list o.spelled)))
 
-by_ethernet : (bytes : List ℕ) (b : Bool) → AreBytes bytes → OPTIONS ≤ length bytes → HasCookie bytes → Decides b (IsEthernet bytes) → Is bytes (cond b (with_options bytes (options_of (drop OPTIONS bytes))) (Err Hardware))
-by_ethernet bytes true fits long has d = by_options bytes (options_of (drop OPTIONS bytes)) (record { fits = fits; long = long; cookie = has; ethernet = d.0 refl }) refl
+by_ethernet : (bytes : List ℕ) (b : Bool) → AreBytes bytes → 240 ≤ length bytes → HasCookie bytes → Decides b (IsEthernet bytes) → Is bytes (cond b (with_options bytes (options_of (drop 240 bytes))) (Err Hardware))
+by_ethernet bytes true fits long has d = by_options bytes (options_of (drop 240 bytes)) (record { fits = fits; long = long; cookie = has; ethernet = d.0 refl }) refl
 by_ethernet bytes false fits long has d = (long, has, λ p. absurd (cc (d.1 p)))
 
-by_cookie : (bytes : List ℕ) (b : Bool) → AreBytes bytes → OPTIONS ≤ length bytes → Decides b (HasCookie bytes)
-    → Is bytes (cond b (cond (is_ethernet bytes) (with_options bytes (options_of (drop OPTIONS bytes))) (Err Hardware)) (Err Cookie))
+by_cookie : (bytes : List ℕ) (b : Bool) → AreBytes bytes → 240 ≤ length bytes → Decides b (HasCookie bytes)
+    → Is bytes (cond b (cond (is_ethernet bytes) (with_options bytes (options_of (drop 240 bytes))) (Err Hardware)) (Err Cookie))
 by_cookie bytes true fits long d = by_ethernet bytes (is_ethernet bytes) fits long (d.0 refl) (ethernet bytes)
 by_cookie bytes false fits long d = (long, λ p. absurd (cc (d.1 p)))
 
-by_length : (bytes : List ℕ) (b : Bool) → AreBytes bytes → leb OPTIONS (length bytes) ≡ b
-    → Is bytes (cond b (cond (has_cookie bytes) (cond (is_ethernet bytes) (with_options bytes (options_of (drop OPTIONS bytes))) (Err Hardware)) (Err Cookie)) (Err Short))
-by_length bytes true fits e = by_cookie bytes (has_cookie bytes) fits (leb-true OPTIONS (length bytes) e) (cookie bytes)
-by_length bytes false fits e = leb-false OPTIONS (length bytes) e
+by_length : (bytes : List ℕ) (b : Bool) → AreBytes bytes → leb 240 (length bytes) ≡ b
+    → Is bytes (cond b (cond (has_cookie bytes) (cond (is_ethernet bytes) (with_options bytes (options_of (drop 240 bytes))) (Err Hardware)) (Err Cookie)) (Err Short))
+by_length bytes true fits e = by_cookie bytes (has_cookie bytes) fits (leb-true 240 (length bytes) e) (cookie bytes)
+by_length bytes false fits e = leb-false 240 (length bytes) e
 
 pub read_is : (bytes : List ℕ) → AreBytes bytes → Is bytes (message_of bytes)
-read_is bytes fits = by_length bytes (leb OPTIONS (length bytes)) fits refl
+read_is bytes fits = by_length bytes (leb 240 (length bytes)) fits refl
 
 -- ---- from what bytes spell to the result
 
 pub read_spells : (bytes : List ℕ) (m : MessageValue) → Spells bytes m → message_of bytes ≡ Ok m
 read_spells bytes m s =
     let b = begins bytes m.header s.tail s.sized s.whole in
-    let options : options_of (drop OPTIONS bytes) ≡ Ok m.options = ap options_of b.behind ∙ lists_exact.read_spells s.tail m.options s.options in
-    let is_known : is_op (get_or bytes OP 0) ≡ true = (op (get_or bytes OP 0)).1 (rw (ap (λ h. h.op) b.header) s.valid.op) in
-    rw (le-leb OPTIONS (length bytes) b.long, (cookie bytes).1 b.cookie, (ethernet bytes).1 b.ethernet, options, (allowed m.options).1 s.valid.allowed, is_known, (kind m.options).1 s.valid.kind, b.header) refl
+    let options : options_of (drop 240 bytes) ≡ Ok m.options = ap options_of b.behind ∙ lists_exact.read_spells s.tail m.options s.options in
+    let is_known : is_op (get_or bytes 0 0) ≡ true = (op (get_or bytes 0 0)).1 (rw (ap (λ h. h.op) b.header) s.valid.op) in
+    rw (le-leb 240 (length bytes) b.long, (cookie bytes).1 b.cookie, (ethernet bytes).1 b.ethernet, options, (allowed m.options).1 s.valid.allowed, is_known, (kind m.options).1 s.valid.kind, b.header) refl
 
 pub read_fails : (bytes : List ℕ) (fault : MessageFault) → Fails fault bytes → message_of bytes ≡ Err fault
-read_fails bytes Short f = rw (lt-leb OPTIONS (length bytes) f) refl
-read_fails bytes Cookie f = rw (le-leb OPTIONS (length bytes) f.0, refused (has_cookie bytes) (cookie bytes) f.1) refl
-read_fails bytes Hardware f = rw (le-leb OPTIONS (length bytes) f.0, (cookie bytes).1 f.1, refused (is_ethernet bytes) (ethernet bytes) f.2) refl
-read_fails bytes Options f = rw (le-leb OPTIONS (length bytes) f.0, (cookie bytes).1 f.1, (ethernet bytes).1 f.2) (by_read (options_of (drop OPTIONS bytes)) refl)
+read_fails bytes Short f = rw (lt-leb 240 (length bytes) f) refl
+read_fails bytes Cookie f = rw (le-leb 240 (length bytes) f.0, refused (has_cookie bytes) (cookie bytes) f.1) refl
+read_fails bytes Hardware f = rw (le-leb 240 (length bytes) f.0, (cookie bytes).1 f.1, refused (is_ethernet bytes) (ethernet bytes) f.2) refl
+read_fails bytes Options f = rw (le-leb 240 (length bytes) f.0, (cookie bytes).1 f.1, (ethernet bytes).1 f.2) (by_read (options_of (drop 240 bytes)) refl)
   where
-    by_read : (read : Result (List (ℕ × List ℕ)) OptFault) → options_of (drop OPTIONS bytes) ≡ read → with_options bytes read ≡ Err Options
+    by_read : (read : Result (List (ℕ × List ℕ)) OptFault) → options_of (drop 240 bytes) ≡ read → with_options bytes read ≡ Err Options
     by_read (Ok list) e =
-        let s = (lists_exact.spelled (drop OPTIONS bytes) list).0 e in
+        let s = (lists_exact.spelled (drop 240 bytes) list).0 e in
         rw (refused (are_allowed list) (allowed list) (λ a. f.3 list (record { spelled = s; allowed = a }))) refl
     by_read (Err fault) e = refl
 read_fails bytes Kind f =
     let list = f.3.0 in
     let o = f.3.1 in
-    let options : options_of (drop OPTIONS bytes) ≡ Ok list = lists_exact.read_spells (drop OPTIONS bytes) list o.spelled in
-    let neither : (is_op (get_or bytes OP 0) && has_kind list) ≡ false = refused _ (Decides-and _ _ (op (get_or bytes OP 0)) (kind list)) f.3.2 in
-    rw (le-leb OPTIONS (length bytes) f.0, (cookie bytes).1 f.1, (ethernet bytes).1 f.2, options, (allowed list).1 o.allowed, neither) refl
+    let options : options_of (drop 240 bytes) ≡ Ok list = lists_exact.read_spells (drop 240 bytes) list o.spelled in
+    let neither : (is_op (get_or bytes 0 0) && has_kind list) ≡ false = refused _ (Decides-and _ _ (op (get_or bytes 0 0)) (kind list)) f.3.2 in
+    rw (le-leb 240 (length bytes) f.0, (cookie bytes).1 f.1, (ethernet bytes).1 f.2, options, (allowed list).1 o.allowed, neither) refl
 
 -- ---- both ways
 

@@ -6,7 +6,7 @@ use Rattle.std.proofs.lemmas.List.{append-nil, take_at, drop_at, take-append-dro
 use Rattle.std.proofs.lemmas.Nat.{be_bytes_2, from_be_bytes-to_be_bytes_2}
 use Rattle.std.specs.Int.{w16, from_be_bytes, to_be_bytes}
 use Rattle.wire.specs.Bytes.{AreBytes}
-use Rattle.v4_message.specs.Layout.{OP, HTYPE, HLEN, HOPS, XID, SECS, FLAGS, CIADDR, YIADDR, SIADDR, GIADDR, CHADDR, SNAME, FILE, COOKIE, OPTIONS, XID_LEN, SECS_LEN, FLAGS_LEN, ADDR_LEN, CHADDR_LEN, SNAME_LEN, FILE_LEN, COOKIE_LEN, ETHERNET, ETHERNET_LEN, MAGIC_COOKIE}
+use Rattle.v4_message.specs.Layout.{MAGIC_COOKIE}
 use Rattle.v4_message.specs.Header.{HeaderValue, IsSized, joined, fields_of, header_bytes, part, header_at}
 use Rattle.v4_message.specs.Spelling.{HasCookie, IsEthernet}
 
@@ -66,12 +66,12 @@ joined-cut at (n ∷ ns) bytes =
 -- ---- the header's fields
 
 abbrev sizes : List ℕ
-sizes = 1 ∷ 1 ∷ 1 ∷ 1 ∷ XID_LEN ∷ SECS_LEN ∷ FLAGS_LEN ∷ ADDR_LEN ∷ ADDR_LEN ∷ ADDR_LEN ∷ ADDR_LEN ∷ CHADDR_LEN ∷ SNAME_LEN ∷ FILE_LEN ∷ []
+sizes = 1 ∷ 1 ∷ 1 ∷ 1 ∷ 4 ∷ 2 ∷ 2 ∷ 4 ∷ 4 ∷ 4 ∷ 4 ∷ 16 ∷ 64 ∷ 128 ∷ []
 
 sized_fields : (h : HeaderValue) → IsSized h → AreSized sizes (fields_of h)
 sized_fields h s = (refl, (refl, (refl, (refl, (s.xid, (s.secs, (refl, (s.ciaddr, (s.yiaddr, (s.siaddr, (s.giaddr, (s.chaddr, (s.sname, (s.file, tt))))))))))))))
 
-pub length-header_bytes : (h : HeaderValue) → IsSized h → length (header_bytes h) ≡ COOKIE
+pub length-header_bytes : (h : HeaderValue) → IsSized h → length (header_bytes h) ≡ 236
 length-header_bytes h s = omega (arith, length-joined 0 sizes (fields_of h) (sized_fields h s))
 
 pub length-part : (bytes : List ℕ) (at len : ℕ) → at + len ≤ length bytes → length (part bytes at len) ≡ len
@@ -86,43 +86,43 @@ one_byte bytes at h = ap (take 1) (drop-cons bytes at 0 h)
 
 -- Bytes that begin with a header have that header.
 pub record Begins (bytes : List ℕ) (h : HeaderValue) (tail : List ℕ) : Type 0 where
-  pub long : OPTIONS ≤ length bytes
+  pub long : 240 ≤ length bytes
   pub cookie : HasCookie bytes
   pub ethernet : IsEthernet bytes
   pub header : header_at bytes ≡ h
-  pub behind : drop OPTIONS bytes ≡ tail
+  pub behind : drop 240 bytes ≡ tail
 
 pub begins : (bytes : List ℕ) (h : HeaderValue) (tail : List ℕ) → IsSized h → bytes ≡ header_bytes h ++ (MAGIC_COOKIE ++ tail) → Begins bytes h tail
 begins bytes h tail s whole =
     let front = length-header_bytes h s in
-    let behind_header : drop COOKIE bytes ≡ MAGIC_COOKIE ++ tail = ap (drop COOKIE) whole ∙ drop_at (header_bytes h) (MAGIC_COOKIE ++ tail) COOKIE front in
+    let behind_header : drop 236 bytes ≡ MAGIC_COOKIE ++ tail = ap (drop 236) whole ∙ drop_at (header_bytes h) (MAGIC_COOKIE ++ tail) 236 front in
     let parts : cut 0 sizes bytes ≡ fields_of h = ap (cut 0 sizes) whole ∙ cut-joined 0 sizes [] (fields_of h) (MAGIC_COOKIE ++ tail) refl (sized_fields h s) in
-    let long : OPTIONS ≤ length bytes = omega (arith, ap length whole, length-append (header_bytes h) (MAGIC_COOKIE ++ tail), front, length-append MAGIC_COOKIE tail) in
-    let op_byte : part bytes OP 1 ≡ get_or bytes OP 0 ∷ [] = one_byte bytes OP (omega arith) in
-    let htype_byte : part bytes HTYPE 1 ≡ get_or bytes HTYPE 0 ∷ [] = one_byte bytes HTYPE (omega arith) in
-    let hlen_byte : part bytes HLEN 1 ≡ get_or bytes HLEN 0 ∷ [] = one_byte bytes HLEN (omega arith) in
-    let hops_byte : part bytes HOPS 1 ≡ get_or bytes HOPS 0 ∷ [] = one_byte bytes HOPS (omega arith) in
-    let op : get_or bytes OP 0 ≡ h.op = cc in
-    let htype : get_or bytes HTYPE 0 ≡ ETHERNET = cc in
-    let hlen : get_or bytes HLEN 0 ≡ ETHERNET_LEN = cc in
-    let hops : get_or bytes HOPS 0 ≡ h.hops = cc in
-    let xid : part bytes XID XID_LEN ≡ h.xid = cc in
-    let secs : part bytes SECS SECS_LEN ≡ h.secs = cc in
-    let flag_bytes : part bytes FLAGS FLAGS_LEN ≡ to_be_bytes w16 h.flags = cc in
-    let flags : from_be_bytes w16 (part bytes FLAGS FLAGS_LEN) ≡ h.flags = ap (from_be_bytes w16) flag_bytes ∙ from_be_bytes-to_be_bytes_2 h.flags s.flags in
-    let ciaddr : part bytes CIADDR ADDR_LEN ≡ h.ciaddr = cc in
-    let yiaddr : part bytes YIADDR ADDR_LEN ≡ h.yiaddr = cc in
-    let siaddr : part bytes SIADDR ADDR_LEN ≡ h.siaddr = cc in
-    let giaddr : part bytes GIADDR ADDR_LEN ≡ h.giaddr = cc in
-    let chaddr : part bytes CHADDR CHADDR_LEN ≡ h.chaddr = cc in
-    let sname : part bytes SNAME SNAME_LEN ≡ h.sname = cc in
-    let file : part bytes FILE FILE_LEN ≡ h.file = cc in
+    let long : 240 ≤ length bytes = omega (arith, ap length whole, length-append (header_bytes h) (MAGIC_COOKIE ++ tail), front, length-append MAGIC_COOKIE tail) in
+    let op_byte : part bytes 0 1 ≡ get_or bytes 0 0 ∷ [] = one_byte bytes 0 (omega arith) in
+    let htype_byte : part bytes 1 1 ≡ get_or bytes 1 0 ∷ [] = one_byte bytes 1 (omega arith) in
+    let hlen_byte : part bytes 2 1 ≡ get_or bytes 2 0 ∷ [] = one_byte bytes 2 (omega arith) in
+    let hops_byte : part bytes 3 1 ≡ get_or bytes 3 0 ∷ [] = one_byte bytes 3 (omega arith) in
+    let op : get_or bytes 0 0 ≡ h.op = cc in
+    let htype : get_or bytes 1 0 ≡ 1 = cc in
+    let hlen : get_or bytes 2 0 ≡ 6 = cc in
+    let hops : get_or bytes 3 0 ≡ h.hops = cc in
+    let xid : part bytes 4 4 ≡ h.xid = cc in
+    let secs : part bytes 8 2 ≡ h.secs = cc in
+    let flag_bytes : part bytes 10 2 ≡ to_be_bytes w16 h.flags = cc in
+    let flags : from_be_bytes w16 (part bytes 10 2) ≡ h.flags = ap (from_be_bytes w16) flag_bytes ∙ from_be_bytes-to_be_bytes_2 h.flags s.flags in
+    let ciaddr : part bytes 12 4 ≡ h.ciaddr = cc in
+    let yiaddr : part bytes 16 4 ≡ h.yiaddr = cc in
+    let siaddr : part bytes 20 4 ≡ h.siaddr = cc in
+    let giaddr : part bytes 24 4 ≡ h.giaddr = cc in
+    let chaddr : part bytes 28 16 ≡ h.chaddr = cc in
+    let sname : part bytes 44 64 ≡ h.sname = cc in
+    let file : part bytes 108 128 ≡ h.file = cc in
     record {
       long = long;
-      cookie = ap (take COOKIE_LEN) behind_header ∙ take_at MAGIC_COOKIE tail COOKIE_LEN refl;
+      cookie = ap (take 4) behind_header ∙ take_at MAGIC_COOKIE tail 4 refl;
       ethernet = (htype, hlen);
       header = λ i. record { op = op i; hops = hops i; xid = xid i; secs = secs i; flags = flags i; ciaddr = ciaddr i; yiaddr = yiaddr i; siaddr = siaddr i; giaddr = giaddr i; chaddr = chaddr i; sname = sname i; file = file i };
-      behind = sym (drop-drop COOKIE_LEN COOKIE bytes) ∙ ap (drop COOKIE_LEN) behind_header ∙ drop_at MAGIC_COOKIE tail COOKIE_LEN refl;
+      behind = sym (drop-drop 4 236 bytes) ∙ ap (drop 4) behind_header ∙ drop_at MAGIC_COOKIE tail 4 refl;
     }
 
 part_fits : (bytes : List ℕ) (at len i : ℕ) → AreBytes bytes → get_or (part bytes at len) i 0 < 256
@@ -138,40 +138,40 @@ part_fits bytes at len i fits =
         rw (get_or_past (take len bytes) i 0 short) (lit< tt)
 
 -- The fields of bytes are sized.
-pub sized_from_flags : (bytes : List ℕ) → OPTIONS ≤ length bytes → from_be_bytes w16 (part bytes FLAGS FLAGS_LEN) < 2 ^ 16 → IsSized (header_at bytes)
+pub sized_from_flags : (bytes : List ℕ) → 240 ≤ length bytes → from_be_bytes w16 (part bytes 10 2) < 2 ^ 16 → IsSized (header_at bytes)
 sized_from_flags bytes long flags = record {
-  xid = length-part bytes XID XID_LEN (omega arith);
-  secs = length-part bytes SECS SECS_LEN (omega arith);
+  xid = length-part bytes 4 4 (omega arith);
+  secs = length-part bytes 8 2 (omega arith);
   flags = flags;
-  ciaddr = length-part bytes CIADDR ADDR_LEN (omega arith);
-  yiaddr = length-part bytes YIADDR ADDR_LEN (omega arith);
-  siaddr = length-part bytes SIADDR ADDR_LEN (omega arith);
-  giaddr = length-part bytes GIADDR ADDR_LEN (omega arith);
-  chaddr = length-part bytes CHADDR CHADDR_LEN (omega arith);
-  sname = length-part bytes SNAME SNAME_LEN (omega arith);
-  file = length-part bytes FILE FILE_LEN (omega arith);
+  ciaddr = length-part bytes 12 4 (omega arith);
+  yiaddr = length-part bytes 16 4 (omega arith);
+  siaddr = length-part bytes 20 4 (omega arith);
+  giaddr = length-part bytes 24 4 (omega arith);
+  chaddr = length-part bytes 28 16 (omega arith);
+  sname = length-part bytes 44 64 (omega arith);
+  file = length-part bytes 108 128 (omega arith);
 }
 
-pub sized_at : (bytes : List ℕ) → AreBytes bytes → OPTIONS ≤ length bytes → IsSized (header_at bytes)
-sized_at bytes fits long = sized_from_flags bytes long (omega (arith, part_fits bytes FLAGS FLAGS_LEN 0 fits, part_fits bytes FLAGS FLAGS_LEN 1 fits))
+pub sized_at : (bytes : List ℕ) → AreBytes bytes → 240 ≤ length bytes → IsSized (header_at bytes)
+sized_at bytes fits long = sized_from_flags bytes long (omega (arith, part_fits bytes 10 2 0 fits, part_fits bytes 10 2 1 fits))
 
 -- Bytes with a cookie are their header, the cookie, and the bytes after it.
-pub whole : (bytes : List ℕ) → AreBytes bytes → OPTIONS ≤ length bytes → HasCookie bytes → IsEthernet bytes → bytes ≡ header_bytes (header_at bytes) ++ (MAGIC_COOKIE ++ drop OPTIONS bytes)
+pub whole : (bytes : List ℕ) → AreBytes bytes → 240 ≤ length bytes → HasCookie bytes → IsEthernet bytes → bytes ≡ header_bytes (header_at bytes) ++ (MAGIC_COOKIE ++ drop 240 bytes)
 whole bytes fits long cookie ethernet =
-    let op : part bytes OP 1 ≡ get_or bytes OP 0 ∷ [] = one_byte bytes OP (omega arith) in
-    let htype : part bytes HTYPE 1 ≡ ETHERNET ∷ [] = one_byte bytes HTYPE (omega arith) ∙ ap (λ (n : ℕ). n ∷ []) ethernet.0 in
-    let hlen : part bytes HLEN 1 ≡ ETHERNET_LEN ∷ [] = one_byte bytes HLEN (omega arith) ∙ ap (λ (n : ℕ). n ∷ []) ethernet.1 in
-    let hops : part bytes HOPS 1 ≡ get_or bytes HOPS 0 ∷ [] = one_byte bytes HOPS (omega arith) in
-    let flags : to_be_bytes w16 (from_be_bytes w16 (part bytes FLAGS FLAGS_LEN)) ≡ part bytes FLAGS FLAGS_LEN =
-    be_bytes_2 (part bytes FLAGS FLAGS_LEN) _ (length-part bytes FLAGS FLAGS_LEN (omega arith)) (λ i. part_fits bytes FLAGS FLAGS_LEN i fits) refl in
+    let op : part bytes 0 1 ≡ get_or bytes 0 0 ∷ [] = one_byte bytes 0 (omega arith) in
+    let htype : part bytes 1 1 ≡ 1 ∷ [] = one_byte bytes 1 (omega arith) ∙ ap (λ (n : ℕ). n ∷ []) ethernet.0 in
+    let hlen : part bytes 2 1 ≡ 6 ∷ [] = one_byte bytes 2 (omega arith) ∙ ap (λ (n : ℕ). n ∷ []) ethernet.1 in
+    let hops : part bytes 3 1 ≡ get_or bytes 3 0 ∷ [] = one_byte bytes 3 (omega arith) in
+    let flags : to_be_bytes w16 (from_be_bytes w16 (part bytes 10 2)) ≡ part bytes 10 2 =
+    be_bytes_2 (part bytes 10 2) _ (length-part bytes 10 2 (omega arith)) (λ i. part_fits bytes 10 2 i fits) refl in
     let parts : cut 0 sizes bytes ≡ fields_of (header_at bytes) =
-    λ i. op i ∷ htype i ∷ hlen i ∷ hops i ∷ part bytes XID XID_LEN ∷ part bytes SECS SECS_LEN ∷ sym flags i
-    ∷ part bytes CIADDR ADDR_LEN ∷ part bytes YIADDR ADDR_LEN ∷ part bytes SIADDR ADDR_LEN ∷ part bytes GIADDR ADDR_LEN
-    ∷ part bytes CHADDR CHADDR_LEN ∷ part bytes SNAME SNAME_LEN ∷ part bytes FILE FILE_LEN ∷ [] in
-    let tail : drop COOKIE bytes ≡ MAGIC_COOKIE ++ drop OPTIONS bytes =
-    sym (take-append-drop COOKIE_LEN (drop COOKIE bytes))
-    ∙ ap (λ (t : List ℕ). t ++ drop COOKIE_LEN (drop COOKIE bytes)) cookie
-    ∙ ap (λ (t : List ℕ). MAGIC_COOKIE ++ t) (drop-drop COOKIE_LEN COOKIE bytes) in
+    λ i. op i ∷ htype i ∷ hlen i ∷ hops i ∷ part bytes 4 4 ∷ part bytes 8 2 ∷ sym flags i
+    ∷ part bytes 12 4 ∷ part bytes 16 4 ∷ part bytes 20 4 ∷ part bytes 24 4
+    ∷ part bytes 28 16 ∷ part bytes 44 64 ∷ part bytes 108 128 ∷ [] in
+    let tail : drop 236 bytes ≡ MAGIC_COOKIE ++ drop 240 bytes =
+    sym (take-append-drop 4 (drop 236 bytes))
+    ∙ ap (λ (t : List ℕ). t ++ drop 4 (drop 236 bytes)) cookie
+    ∙ ap (λ (t : List ℕ). MAGIC_COOKIE ++ t) (drop-drop 4 236 bytes) in
     sym (joined-cut 0 sizes bytes)
-    ∙ ap (λ (fields : List (List ℕ)). joined fields ++ drop COOKIE bytes) parts
+    ∙ ap (λ (fields : List (List ℕ)). joined fields ++ drop 236 bytes) parts
     ∙ ap (λ (t : List ℕ). header_bytes (header_at bytes) ++ t) tail

@@ -4,12 +4,12 @@ use Rattle.std.proofs.lemmas.List.{length-append}
 use Rattle.v4_options.specs.Codes.{END}
 use Rattle.v4_options.specs.Spelling.{spelling}
 use Rattle.v4_options.proofs.Lengths.{length-spelled}
-use Rattle.v4_message.specs.Layout.{OPTIONS, MAGIC_COOKIE}
+use Rattle.v4_message.specs.Layout.{MAGIC_COOKIE}
 use Rattle.v4_message.specs.Header.{IsSized, header_bytes}
 use Rattle.v4_message.specs.Spelling.{MessageValue, Spells, message_bytes}
 use Rattle.v4_message.proofs.Headers.{length-header_bytes}
 
-pub length-message_bytes : (m : MessageValue) → IsSized m.header → length (message_bytes m) ≡ OPTIONS + length (spelling m.options) + 1
+pub length-message_bytes : (m : MessageValue) → IsSized m.header → length (message_bytes m) ≡ 240 + length (spelling m.options) + 1
 length-message_bytes m s =
     omega (arith, length-header_bytes m.header s, length-append (header_bytes m.header) (MAGIC_COOKIE ++ (spelling m.options ++ END ∷ [])), length-append (spelling m.options) (END ∷ []))
 

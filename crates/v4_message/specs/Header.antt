@@ -1,7 +1,6 @@
 -- A message's header: its fields as values, and their bytes in order (RFC 2131, section 2).
 use Rattle.std.specs.Prelude.{◌≡◌, ℕ, ◌<◌, ◌^◌, List, [], ◌∷◌, ◌++◌, length, take, drop, slice_index}
 use Rattle.std.specs.Int.{w16, to_be_bytes, from_be_bytes}
-use Rattle.v4_message.specs.Layout.{OP, HOPS, XID, SECS, FLAGS, CIADDR, YIADDR, SIADDR, GIADDR, CHADDR, SNAME, FILE, XID_LEN, SECS_LEN, FLAGS_LEN, ADDR_LEN, CHADDR_LEN, SNAME_LEN, FILE_LEN, ETHERNET, ETHERNET_LEN}
 
 -- op, hops and flags are numbers; every other field is a list of bytes.
 pub record HeaderValue : Type 0 where
@@ -20,26 +19,26 @@ pub record HeaderValue : Type 0 where
 
 -- Each field has its length, and flags fits two bytes.
 pub record IsSized (h : HeaderValue) : Type 0 where
-  pub xid : length h.xid ≡ XID_LEN
-  pub secs : length h.secs ≡ SECS_LEN
+  pub xid : length h.xid ≡ 4
+  pub secs : length h.secs ≡ 2
   pub flags : h.flags < 2 ^ 16
-  pub ciaddr : length h.ciaddr ≡ ADDR_LEN
-  pub yiaddr : length h.yiaddr ≡ ADDR_LEN
-  pub siaddr : length h.siaddr ≡ ADDR_LEN
-  pub giaddr : length h.giaddr ≡ ADDR_LEN
-  pub chaddr : length h.chaddr ≡ CHADDR_LEN
-  pub sname : length h.sname ≡ SNAME_LEN
-  pub file : length h.file ≡ FILE_LEN
+  pub ciaddr : length h.ciaddr ≡ 4
+  pub yiaddr : length h.yiaddr ≡ 4
+  pub siaddr : length h.siaddr ≡ 4
+  pub giaddr : length h.giaddr ≡ 4
+  pub chaddr : length h.chaddr ≡ 16
+  pub sname : length h.sname ≡ 64
+  pub file : length h.file ≡ 128
 
 -- The bytes of some fields, concatenated.
 abbrev pub joined : List (List ℕ) → List ℕ
 joined [] = []
 joined (field ∷ fields) = field ++ joined fields
 
--- The fields as bytes, in order. The hardware is Ethernet.
+-- The fields as bytes, in order. The hardware is Ethernet: htype 1, hlen 6 (RFC 1700, "Hardware Type").
 abbrev pub fields_of : HeaderValue → List (List ℕ)
 fields_of h =
-    (h.op ∷ []) ∷ (ETHERNET ∷ []) ∷ (ETHERNET_LEN ∷ []) ∷ (h.hops ∷ [])
+    (h.op ∷ []) ∷ (1 ∷ []) ∷ (6 ∷ []) ∷ (h.hops ∷ [])
     ∷ h.xid ∷ h.secs ∷ to_be_bytes w16 h.flags
     ∷ h.ciaddr ∷ h.yiaddr ∷ h.siaddr ∷ h.giaddr
     ∷ h.chaddr ∷ h.sname ∷ h.file ∷ []
@@ -51,19 +50,19 @@ header_bytes h = joined (fields_of h)
 abbrev pub part : List ℕ → ℕ → ℕ → List ℕ
 part bytes at len = take len (drop at bytes)
 
--- The fields at their offsets in a message's bytes.
+-- The fields at their offsets in a message's bytes (RFC 2131, section 2, figure 1).
 abbrev pub header_at : List ℕ → HeaderValue
 header_at bytes = record {
-  op = slice_index bytes OP;
-  hops = slice_index bytes HOPS;
-  xid = part bytes XID XID_LEN;
-  secs = part bytes SECS SECS_LEN;
-  flags = from_be_bytes w16 (part bytes FLAGS FLAGS_LEN);
-  ciaddr = part bytes CIADDR ADDR_LEN;
-  yiaddr = part bytes YIADDR ADDR_LEN;
-  siaddr = part bytes SIADDR ADDR_LEN;
-  giaddr = part bytes GIADDR ADDR_LEN;
-  chaddr = part bytes CHADDR CHADDR_LEN;
-  sname = part bytes SNAME SNAME_LEN;
-  file = part bytes FILE FILE_LEN;
+  op = slice_index bytes 0;
+  hops = slice_index bytes 3;
+  xid = part bytes 4 4;
+  secs = part bytes 8 2;
+  flags = from_be_bytes w16 (part bytes 10 2);
+  ciaddr = part bytes 12 4;
+  yiaddr = part bytes 16 4;
+  siaddr = part bytes 20 4;
+  giaddr = part bytes 24 4;
+  chaddr = part bytes 28 16;
+  sname = part bytes 44 64;
+  file = part bytes 108 128;
 }

@@ -5,29 +5,31 @@ use Rattle.v4_options.specs.Codes.{REQUESTED_ADDRESS, OPTION_OVERLOAD, MESSAGE_T
 use Rattle.v4_options.specs.declared.fault.OptFault.{OptFault}
 use Rattle.v4_options.specs.Spelling.{look_up}
 use Rattle.v4_options.specs.Reading.{options_of}
-use Rattle.v4_message.specs.Layout.{OP, HTYPE, HLEN, COOKIE, OPTIONS, COOKIE_LEN, ADDR_LEN, ETHERNET, ETHERNET_LEN, MAGIC_COOKIE}
-use Rattle.v4_message.specs.Layout.{OP_REQUEST, OP_REPLY}
+use Rattle.v4_message.specs.Layout.{MAGIC_COOKIE}
 use Rattle.v4_message.specs.declared.fault.MessageFault.{MessageFault}
 use Rattle.v4_message.specs.declared.fault.MessageFault.TheVariants.{Short, Cookie, Hardware, Options, Kind}
 use Rattle.v4_message.specs.Header.{header_at, part}
 use Rattle.v4_message.specs.Spelling.{MessageValue}
 
+-- The cookie stands behind the 236 bytes of the header, and the options from 240 on.
 abbrev pub has_cookie : List ℕ → Bool
-has_cookie bytes = bytes_eq (part bytes COOKIE COOKIE_LEN) MAGIC_COOKIE
+has_cookie bytes = bytes_eq (part bytes 236 4) MAGIC_COOKIE
 
+-- htype 1, hlen 6
 abbrev pub is_ethernet : List ℕ → Bool
-is_ethernet bytes = slice_index bytes HTYPE == ETHERNET && slice_index bytes HLEN == ETHERNET_LEN
+is_ethernet bytes = slice_index bytes 1 == 1 && slice_index bytes 2 == 6
 
 -- An address, or absent.
 abbrev pub may_be_addr : Option (List ℕ) → Bool
 may_be_addr None = true
-may_be_addr (Some value) = length value == ADDR_LEN
+may_be_addr (Some value) = length value == 4
 
 abbrev pub are_allowed : List (ℕ × List ℕ) → Bool
 are_allowed list = is_none (look_up OPTION_OVERLOAD list) && (may_be_addr (look_up REQUESTED_ADDRESS list) && may_be_addr (look_up SERVER_IDENTIFIER list))
 
+-- a request or a reply
 abbrev pub is_op : ℕ → Bool
-is_op op = op == OP_REQUEST || op == OP_REPLY
+is_op op = op == 1 || op == 2
 
 -- The message type in option 53.
 abbrev pub kind_in : Option (List ℕ) → Option ℕ
@@ -42,7 +44,7 @@ has_kind list = is_some (kind_in (look_up MESSAGE_TYPE list))
 abbrev pub judged : List ℕ → List (ℕ × List ℕ) → Result MessageValue MessageFault
 judged bytes list =
     if are_allowed list then
-    (if is_op (slice_index bytes OP) && has_kind list then Ok (record { header = header_at bytes; options = list }) else Err Kind)
+    (if is_op (slice_index bytes 0) && has_kind list then Ok (record { header = header_at bytes; options = list }) else Err Kind)
     else Err Options
 
 abbrev pub with_options : List ℕ → Result (List (ℕ × List ℕ)) OptFault → Result MessageValue MessageFault
@@ -52,8 +54,8 @@ with_options bytes (Err fault) = Err Options
 -- The result of reading.
 abbrev pub message_of : List ℕ → Result MessageValue MessageFault
 message_of bytes =
-    if nat_le OPTIONS (length bytes) then
+    if nat_le 240 (length bytes) then
     (if has_cookie bytes then
-    (if is_ethernet bytes then with_options bytes (options_of (drop OPTIONS bytes)) else Err Hardware)
+    (if is_ethernet bytes then with_options bytes (options_of (drop 240 bytes)) else Err Hardware)
     else Err Cookie)
     else Err Short

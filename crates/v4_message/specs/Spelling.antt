@@ -3,8 +3,7 @@ use Rattle.std.specs.Prelude.{◌≡◌, ℕ, ◌<◌, ◌≤◌, ◌⊎◌, Lis
 use Rattle.v4_options.specs.Codes.{REQUESTED_ADDRESS, OPTION_OVERLOAD, MESSAGE_TYPE, SERVER_IDENTIFIER, END}
 use Rattle.v4_options.specs.Spelling.{look_up, spelling}
 use Rattle.v4_options.specs.Spelling as lists
-use Rattle.v4_message.specs.Layout.{OP, HTYPE, HLEN, COOKIE, OPTIONS, COOKIE_LEN, ADDR_LEN, ETHERNET, ETHERNET_LEN, MAGIC_COOKIE}
-use Rattle.v4_message.specs.Layout.{OP_REQUEST, OP_REPLY}
+use Rattle.v4_message.specs.Layout.{MAGIC_COOKIE}
 use Rattle.v4_message.specs.declared.fault.MessageFault.{MessageFault}
 use Rattle.v4_message.specs.declared.fault.MessageFault.TheVariants.{Short, Cookie, Hardware, Options, Kind}
 use Rattle.v4_message.specs.Header.{HeaderValue, IsSized, header_bytes, part}
@@ -14,9 +13,9 @@ pub record MessageValue : Type 0 where
   pub header : HeaderValue
   pub options : List (ℕ × List ℕ)
 
--- op is a request or a reply.
+-- op is a request (1) or a reply (2).
 abbrev pub IsOp : ℕ → Type 0
-IsOp op = (op ≡ OP_REQUEST) ⊎ (op ≡ OP_REPLY)
+IsOp op = (op ≡ 1) ⊎ (op ≡ 2)
 
 -- Option 53 is one byte, a message type (RFC 2132, section 9.6).
 abbrev pub HasKind : List (ℕ × List ℕ) → Type 0
@@ -26,8 +25,8 @@ HasKind list = (code : ℕ) × (look_up MESSAGE_TYPE list ≡ Some (code ∷ [])
 -- 2132, sections 9.1 and 9.7).
 pub record AreAllowed (list : List (ℕ × List ℕ)) : Type 0 where
   pub overload : look_up OPTION_OVERLOAD list ≡ None
-  pub requested : IfSome (look_up REQUESTED_ADDRESS list) (λ value. length value ≡ ADDR_LEN)
-  pub server : IfSome (look_up SERVER_IDENTIFIER list) (λ value. length value ≡ ADDR_LEN)
+  pub requested : IfSome (look_up REQUESTED_ADDRESS list) (λ value. length value ≡ 4)
+  pub server : IfSome (look_up SERVER_IDENTIFIER list) (λ value. length value ≡ 4)
 
 pub record IsValid (m : MessageValue) : Type 0 where
   pub op : IsOp m.header.op
@@ -49,23 +48,23 @@ message_bytes m = header_bytes m.header ++ (MAGIC_COOKIE ++ (spelling m.options 
 
 -- The cookie stands before the options.
 abbrev pub HasCookie : List ℕ → Type 0
-HasCookie bytes = part bytes COOKIE COOKIE_LEN ≡ MAGIC_COOKIE
+HasCookie bytes = part bytes 236 4 ≡ MAGIC_COOKIE
 
--- htype and hlen are those of an Ethernet address.
+-- htype and hlen are those of an Ethernet address: 1 and 6.
 abbrev pub IsEthernet : List ℕ → Type 0
-IsEthernet bytes = (slice_index bytes HTYPE ≡ ETHERNET) × (slice_index bytes HLEN ≡ ETHERNET_LEN)
+IsEthernet bytes = (slice_index bytes 1 ≡ 1) × (slice_index bytes 2 ≡ 6)
 
 -- The bytes after the cookie spell this list, which is allowed in a message.
 pub record HasOptions (bytes : List ℕ) (list : List (ℕ × List ℕ)) : Type 0 where
-  pub spelled : lists.Spells (drop OPTIONS bytes) list
+  pub spelled : lists.Spells (drop 240 bytes) list
   pub allowed : AreAllowed list
 
 -- A fault applies where none before it does: fewer bytes than a header and a cookie, another cookie,
 -- other hardware than Ethernet, no options that are allowed in a message, or not both a known op and
 -- a known type.
 abbrev pub Fails : MessageFault → List ℕ → Type 0
-Fails Short bytes = length bytes < OPTIONS
-Fails Cookie bytes = (OPTIONS ≤ length bytes) × (¬ HasCookie bytes)
-Fails Hardware bytes = (OPTIONS ≤ length bytes) × HasCookie bytes × (¬ IsEthernet bytes)
-Fails Options bytes = (OPTIONS ≤ length bytes) × HasCookie bytes × IsEthernet bytes × ((list : List (ℕ × List ℕ)) → ¬ HasOptions bytes list)
-Fails Kind bytes = (OPTIONS ≤ length bytes) × HasCookie bytes × IsEthernet bytes × ((list : List (ℕ × List ℕ)) × HasOptions bytes list × (¬ (IsOp (slice_index bytes OP) × HasKind list)))
+Fails Short bytes = length bytes < 240
+Fails Cookie bytes = (240 ≤ length bytes) × (¬ HasCookie bytes)
+Fails Hardware bytes = (240 ≤ length bytes) × HasCookie bytes × (¬ IsEthernet bytes)
+Fails Options bytes = (240 ≤ length bytes) × HasCookie bytes × IsEthernet bytes × ((list : List (ℕ × List ℕ)) → ¬ HasOptions bytes list)
+Fails Kind bytes = (240 ≤ length bytes) × HasCookie bytes × IsEthernet bytes × ((list : List (ℕ × List ℕ)) × HasOptions bytes list × (¬ (IsOp (slice_index bytes 0) × HasKind list)))

@@ -3,7 +3,6 @@ ghost use Rattle.std.specs.Prelude.{◌≡◌, ◌≤◌, ◌<◌, ◌+◌, ◌�
 ghost use Rattle.types.specs.Kind4.{code_of_kind};
 ghost use Rattle.v4_options.specs.Codes.{REQUESTED_ADDRESS, MESSAGE_TYPE, SERVER_IDENTIFIER, CLIENT_IDENTIFIER, RELAY_AGENT_INFORMATION};
 ghost use Rattle.v4_options.specs.Spelling.{look_up};
-ghost use Rattle.v4_message.specs.Layout.{OPTIONS};
 ghost use Rattle.v4_message.specs.Header.{IsSized};
 ghost use Rattle.v4_message.specs.Reading.{are_allowed, has_cookie, is_ethernet, is_op, kind_in, may_be_addr, message_of};
 ghost use Rattle.v4_message.specs.Spelling.{MessageValue, IsValid, Spells, Fails, message_bytes};

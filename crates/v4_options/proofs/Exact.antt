@@ -9,7 +9,7 @@ use Rattle.v4_options.specs.declared.fault.OptFault.{OptFault}
 use Rattle.v4_options.specs.declared.fault.OptFault.TheVariants.{NoEnd, Cut, Twice}
 use Rattle.v4_options.specs.declared.token.Syntax.TheVariants.{Options}
 use Rattle.v4_options.specs.Spelling.{spelling, row, options, Piece, Pad, Whole, AreOptions, Spells, Stops, Fails}
-use Rattle.v4_options.specs.Reading.{listed, first_fault, no_code, read_or, options_of}
+use Rattle.v4_options.specs.Reading.{listed_from, fault_from, no_code, read_or, options_of}
 use Rattle.v4_options.specs.Suboptions.{AreDistinct}
 use Rattle.v4_options.proofs.Steps.{listed_end}
 use Rattle.v4_options.proofs.Distinct.{after, after_is, distinct-new, new-distinct}
@@ -29,9 +29,9 @@ front_options [] is d = tt
 front_options (Pad ∷ front) is d = front_options front is.1 d
 front_options (Whole code v ∷ front) is d = (eqb-false code PAD is.0.0, eqb-false code END is.0.1, d.0, front_options front is.1 d.1)
 
-listed_whole_front : (bytes : List ℕ) (front : List Piece) (rest : List ℕ) → bytes ≡ row front ++ END ∷ rest → IsFront Options front → listed bytes ≡ options front
+listed_whole_front : (bytes : List ℕ) (front : List Piece) (rest : List ℕ) → bytes ≡ row front ++ END ∷ rest → IsFront Options front → listed_from Options 0 bytes ≡ options front
 listed_whole_front bytes front rest whole is =
-    ap listed whole
+    ap (listed_from Options 0) whole
     ∙ listed_front Options front (END ∷ rest) is
     ∙ ap (λ (os : List (ℕ × List ℕ)). options front ++ os) (listed_end Options rest refl refl)
     ∙ append-nil (options front)
@@ -76,8 +76,8 @@ read_is bytes =
 pub read_spells : (bytes : List ℕ) (list : List (ℕ × List ℕ)) → Spells bytes list → options_of bytes ≡ Ok list
 read_spells bytes list s =
     let is = options_front s.front s.distinct in
-    let fault : first_fault bytes ≡ None = fault_longest Options bytes None (record { front = s.front; rest = END ∷ s.rest; whole = s.whole; is_front = is.0; new = distinct-new (options s.front) is.1; ends = (s.rest, refl, refl, refl) }) in
-    let all : listed bytes ≡ list = listed_whole_front bytes s.front s.rest s.whole is.0 ∙ sym s.in_order in
+    let fault : fault_from Options no_code 0 bytes ≡ None = fault_longest Options bytes None (record { front = s.front; rest = END ∷ s.rest; whole = s.whole; is_front = is.0; new = distinct-new (options s.front) is.1; ends = (s.rest, refl, refl, refl) }) in
+    let all : listed_from Options 0 bytes ≡ list = listed_whole_front bytes s.front s.rest s.whole is.0 ∙ sym s.in_order in
     rw (fault, all) refl
 
 ends : (fault : OptFault) (list : List (ℕ × List ℕ)) (rest : List ℕ) → Stops fault list rest → Ends Options (after no_code list) (Some fault) rest
@@ -88,7 +88,7 @@ ends Twice list rest h = (h.0, h.1, h.2, h.3, (ne_eqb h.0 PAD h.4, ne_eqb h.0 EN
 pub read_fails : (bytes : List ℕ) (fault : OptFault) → Fails fault bytes → options_of bytes ≡ Err fault
 read_fails bytes fault f =
     let is = options_front f.front f.distinct in
-    let first : first_fault bytes ≡ Some fault = fault_longest Options bytes (Some fault) (record { front = f.front; rest = f.rest; whole = f.whole; is_front = is.0; new = distinct-new (options f.front) is.1; ends = ends fault (options f.front) f.rest f.stops }) in
+    let first : fault_from Options no_code 0 bytes ≡ Some fault = fault_longest Options bytes (Some fault) (record { front = f.front; rest = f.rest; whole = f.whole; is_front = is.0; new = distinct-new (options f.front) is.1; ends = ends fault (options f.front) f.rest f.stops }) in
     rw first refl
 
 -- ---- both ways

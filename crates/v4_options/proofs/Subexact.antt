@@ -9,9 +9,9 @@ use Rattle.v4_options.specs.declared.fault.SuboptFault.{SuboptFault}
 use Rattle.v4_options.specs.declared.fault.SuboptFault.TheVariants.{Cut, Twice}
 use Rattle.v4_options.specs.declared.token.Syntax.TheVariants.{Suboptions}
 use Rattle.v4_options.specs.Spelling.{spelling, row, options, option, Piece, Pad, Whole}
-use Rattle.v4_options.specs.Reading.{no_code}
+use Rattle.v4_options.specs.Reading.{listed_from, no_code}
 use Rattle.v4_options.specs.Suboptions.{AreDistinct, SpellsSuboptions, StopsSub, FailsSuboptions}
-use Rattle.v4_options.specs.Subreading.{sublisted, subfault, subread_or, suboptions_of, sublisted_from, subfault_from}
+use Rattle.v4_options.specs.Subreading.{subfault, subread_or, suboptions_of}
 use Rattle.v4_options.proofs.Steps.{listed_nothing}
 use Rattle.v4_options.proofs.Distinct.{after, after_is, distinct-new, new-distinct}
 use Rattle.v4_options.proofs.Fronts.{IsFront, Ends, Longest, longest, fault_longest, listed_front, pieces, row-pieces, options-pieces}
@@ -27,17 +27,15 @@ is_front : (list : List (ℕ × List ℕ)) → IsFront Suboptions (pieces list)
 is_front [] = tt
 is_front (o ∷ os) = ((refl, refl), is_front os)
 
-sublisted_spelling : (list : List (ℕ × List ℕ)) → sublisted (spelling list) ≡ list
-unfolding sublisted_from
+sublisted_spelling : (list : List (ℕ × List ℕ)) → listed_from Suboptions 0 (spelling list) ≡ list
 sublisted_spelling list =
-    ap sublisted (sym (append-nil (spelling list)) ∙ ap (λ (t : List ℕ). t ++ []) (sym (row-pieces list)))
+    ap (listed_from Suboptions 0) (sym (append-nil (spelling list)) ∙ ap (λ (t : List ℕ). t ++ []) (sym (row-pieces list)))
     ∙ listed_front Suboptions (pieces list) [] (is_front list)
     ∙ ap (λ (os : List (ℕ × List ℕ)). options (pieces list) ++ os) (listed_nothing Suboptions)
     ∙ append-nil (options (pieces list))
     ∙ options-pieces list
 
 read_as : (bytes : List ℕ) (found : Option OptFault) → Longest Suboptions no_code bytes found → suboptions_of bytes ≡ subread_or (subfault found) bytes
-unfolding subfault_from
 read_as bytes found l = ap (λ (f : Option OptFault). subread_or (subfault f) bytes) (fault_longest Suboptions bytes found l)
 
 -- ---- from bytes to the result
@@ -59,7 +57,7 @@ is_read : (bytes : List ℕ) (found : Option OptFault) → Longest Suboptions no
 is_read bytes None l = absurd (cc l.ends.3)
 is_read bytes (Some faults.NoEnd) l =
     let all : bytes ≡ spelling (options l.front) = l.whole ∙ ap (λ (t : List ℕ). row l.front ++ t) l.ends ∙ append-nil (row l.front) ∙ row_spelling l.front l.is_front in
-    let list : sublisted bytes ≡ options l.front = ap sublisted all ∙ sublisted_spelling (options l.front) in
+    let list : listed_from Suboptions 0 bytes ≡ options l.front = ap (listed_from Suboptions 0) all ∙ sublisted_spelling (options l.front) in
     rw list (record { whole = all; distinct = new-distinct (options l.front) l.new })
 is_read bytes (Some faults.Cut) l = fails_as bytes (Some faults.Cut) Cut l (l.ends.0, l.ends.1, l.ends.2, l.ends.4)
 is_read bytes (Some faults.Twice) l =
@@ -86,7 +84,7 @@ longest_list bytes list rest found whole distinct ends = record {
 pub read_spells : (bytes : List ℕ) (list : List (ℕ × List ℕ)) → SpellsSuboptions bytes list → suboptions_of bytes ≡ Ok list
 read_spells bytes list s =
     let l = longest_list bytes list [] (Some faults.NoEnd) (s.whole ∙ sym (append-nil (spelling list))) s.distinct refl in
-    let listed : sublisted bytes ≡ list = ap sublisted s.whole ∙ sublisted_spelling list in
+    let listed : listed_from Suboptions 0 bytes ≡ list = ap (listed_from Suboptions 0) s.whole ∙ sublisted_spelling list in
     read_as bytes (Some faults.NoEnd) l ∙ rw listed refl
 
 pub read_fails : (bytes : List ℕ) (fault : SuboptFault) → FailsSuboptions fault bytes → suboptions_of bytes ≡ Err fault

@@ -36,9 +36,6 @@ listed_from syntax zero (code ∷ bytes) =
     else if is_cut bytes then []
     else (code, value bytes) ∷ listed_from syntax (suc (length (value bytes))) bytes
 
-abbrev pub listed : List ℕ → List (ℕ × List ℕ)
-listed bytes = listed_from Options 0 bytes
-
 -- A set of codes is a test. The empty set, and a set with one more code:
 abbrev pub no_code : ℕ → Bool
 no_code code = false
@@ -61,13 +58,10 @@ fault_from syntax seen zero (code ∷ bytes) =
     else if seen code then Some Twice
     else fault_from syntax (with_code code seen) (suc (length (value bytes))) bytes
 
-abbrev pub first_fault : List ℕ → Option OptFault
-first_fault bytes = fault_from Options no_code 0 bytes
-
 abbrev pub read_or : Option OptFault → List ℕ → Result (List (ℕ × List ℕ)) OptFault
-read_or None bytes = Ok (listed bytes)
+read_or None bytes = Ok (listed_from Options 0 bytes)
 read_or (Some fault) bytes = Err fault
 
 -- The result of reading.
 abbrev pub options_of : List ℕ → Result (List (ℕ × List ℕ)) OptFault
-options_of bytes = read_or (first_fault bytes) bytes
+options_of bytes = read_or (fault_from Options no_code 0 bytes) bytes

@@ -19,11 +19,12 @@ pub struct Options<'a> {
 
 impl<'a> Model for Options<'a> {
     ghost use Rattle.std.specs.Prelude.{ℕ, List};
-    ghost use Rattle.v4_options.specs.Reading.{listed};
+    ghost use Rattle.v4_options.specs.Reading.{listed_from};
+    ghost use Rattle.v4_options.specs.declared.token.Syntax.TheVariants as syntax;
 
     ghost Value = { List (ℕ × List ℕ) };
 
-    ghost view = { λ o. listed o.bytes.now };
+    ghost view = { λ o. listed_from syntax.Options 0 o.bytes.now };
 }
 
 impl<'a> Options<'a> {

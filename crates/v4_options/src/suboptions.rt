@@ -2,7 +2,9 @@
 ghost use Rattle.std.specs.Prelude.{◌≡◌, ◌↔◌, ℕ, List, Ok, Err, option_map};
 ghost use Rattle.v4_options.specs.Spelling.{look_up};
 ghost use Rattle.v4_options.specs.Suboptions.{SpellsSuboptions, FailsSuboptions};
-ghost use Rattle.v4_options.specs.Subreading.{first_subfault, suboptions_of};
+ghost use Rattle.v4_options.specs.Reading.{fault_from, no_code};
+ghost use Rattle.v4_options.specs.Subreading.{subfault, suboptions_of};
+ghost use Rattle.v4_options.specs.declared.token.Syntax.TheVariants as syntax;
 
 use crate::fault::{OptFault, SuboptFault, fault_in};
 use crate::iter::Iter;
@@ -17,11 +19,12 @@ pub struct Suboptions<'a> {
 
 impl<'a> Model for Suboptions<'a> {
     ghost use Rattle.std.specs.Prelude.{ℕ, List};
-    ghost use Rattle.v4_options.specs.Subreading.{sublisted};
+    ghost use Rattle.v4_options.specs.Reading.{listed_from};
+    ghost use Rattle.v4_options.specs.declared.token.Syntax.TheVariants as syntax;
 
     ghost Value = { List (ℕ × List ℕ) };
 
-    ghost view = { λ s. sublisted s.bytes.now };
+    ghost view = { λ s. listed_from syntax.Suboptions 0 s.bytes.now };
 }
 
 impl<'a> Suboptions<'a> {
@@ -38,7 +41,6 @@ impl<'a> Suboptions<'a> {
     }
 
     /// The value of the suboption with this code, `None` where there is none.
-    #[tactic(auto, unfolding(crate::specs::Subreading::sublisted_from))]
     pub fn get(&self, code: u8) -> Option<&'a [u8]>
         ensures { option_map (λ value. value.now) result ≡ look_up code self.now }
     {
@@ -47,9 +49,8 @@ impl<'a> Suboptions<'a> {
 }
 
 /// The first fault from the left. The list ends with its bytes, so a missing end is no fault.
-#[tactic(auto, unfolding(crate::specs::Subreading::subfault_from))]
 fn subfault_in(bytes: &[u8]) -> Option<SuboptFault>
-    ensures { result ≡ first_subfault bytes.now }
+    ensures { result ≡ subfault (fault_from syntax.Suboptions no_code 0 bytes.now) }
 {
     match fault_in(bytes, Syntax::Suboptions) {
         None | Some(OptFault::NoEnd) => None,

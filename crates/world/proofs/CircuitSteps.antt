@@ -5,15 +5,15 @@ use Rattle.std.proofs.lemmas.Bool.{eqb-true, ltb-false}
 use Rattle.std.proofs.lemmas.Option.{same_Some, slice_get_within}
 use Rattle.lease_disk.specs.Region.{Region}
 use Rattle.world.specs.Alone.{Setup, Alone, Effect, alone_step, writes}
-use Rattle.world.specs.Seen.{Seen, Tick, seen_of, named_by, is_restart}
+use Rattle.events.specs.Seen.{Seen, Tick, seen_of, named_by, is_restart}
 use Rattle.world.specs.Headline.{CircuitState, Shows, Represents, frames_to, frame_of, IsOutcome, Answers, after_seen, region_at, Steps}
 use Rattle.world.specs.StepsAs.{StepsAs, AllMove}
-use Rattle.world.specs.Stray.{is_stray}
+use Rattle.events.specs.Stray.{is_stray}
 use Rattle.world.proofs.Runs.{away_from}
-use Rattle.world.specs.declared.event.Event.{Event}
-use Rattle.world.specs.declared.event.Event.TheVariants as event
-use Rattle.world.specs.declared.outcome.Outcome.{Outcome}
-use Rattle.world.specs.declared.outcome.Outcome.TheVariants as outcome
+use Rattle.events.specs.declared.event.Event.{Event}
+use Rattle.events.specs.declared.event.Event.TheVariants as event
+use Rattle.events.specs.declared.outcome.Outcome.{Outcome}
+use Rattle.events.specs.declared.outcome.Outcome.TheVariants as outcome
 
 -- there is no such circuit
 pub missing : (k n : ℕ) (exists : Bool) → exists ≡ nat_lt k n → exists ≡ false → n ≤ k

@@ -13,7 +13,6 @@ use Rattle.types.specs.declared.kind4.Kind4.TheVariants.{Discover, Request}
 use Rattle.types.specs.declared.request4.Request4.{Request4}
 use Rattle.types.specs.declared.request4.Reply4.TheVariants as reply
 use Rattle.v4_options.specs.Reading.{listed_from, fault_from}
-use Rattle.v4_options.specs.Subreading.{sublisted_from, subfault_from}
 use Rattle.v4_message.specs.Reading.{message_of}
 use Rattle.v4_message.specs.Spelling.{MessageValue}
 use Rattle.bindings_v4.specs.Book4.{Book4, Lease, Clients, in_pool, lowest_free, or_else, address_of, is_live}
@@ -29,7 +28,7 @@ use Rattle.replies.specs.Reply4.{reply4_bytes}
 use Rattle.world.specs.Alone.{Alone, Setup, Step, Dropped, Gone, SentUp, SentDown, Framed, alone_step, served_step, sent_frame, after_all, frames}
 use Rattle.world.specs.Examples.{part_a, part_a1, setup_a, setup_a1, ipv4, discover, discover_up, relayed_discover, offer, client, offers_at, one_offer, lease_until, datagram, with_up, begun, no_leases, request_up, asked, leased, closed, ack}
 use Rattle.world.specs.Granted.{Granted, lines, message_lines, decision_lines}
-use Rattle.world.specs.Seen.{Seen, Frame, Up, Down, Restart}
+use Rattle.events.specs.Seen.{Seen, Frame, Up, Down, Restart}
 use Rattle.world.proofs.BookLemmas.{free-none, free-one, at-offers, live_none, live_one, get-one}
 
 abbrev no_offers : Clients
@@ -203,7 +202,7 @@ unfolding alone_step relayed_up4 listed_from fault_from
 sent_a = refl
 
 pub offer_a : (frames setup_a (Frame V4 (discover 1 []) ∷ Up 0 100 0 ∷ Down 0 ∷ []) begun ≡ offer 0 ∷ [])
-unfolding alone_step relayed_down4 reply_of reply4_bytes listed_from fault_from sublisted_from subfault_from
+unfolding alone_step relayed_down4 reply_of reply4_bytes listed_from fault_from
 offer_a =
     three setup_a (discover 1 []) (discover_up 1 []) (offer 0) (with_up (discover_up 1 []) 0 empty) _ sent_a
     (decided_by setup_a 100 0 (discover_up 1 []) 0 no_offers _ (asks (client 1)) _ refl refl (none_at 100 0) (fresh (pool4_of part_a) 100 (client 1) 167772170 refl)) refl refl
@@ -216,7 +215,7 @@ unfolding alone_step relayed_up4 listed_from fault_from
 sent_a1 = refl
 
 pub offer_a1 : (frames setup_a1 (Frame V4 (discover 1 []) ∷ Up 0 100 0 ∷ Down 0 ∷ []) begun ≡ offer 1 ∷ [])
-unfolding alone_step relayed_down4 reply_of reply4_bytes listed_from fault_from sublisted_from subfault_from
+unfolding alone_step relayed_down4 reply_of reply4_bytes listed_from fault_from
 offer_a1 =
     three setup_a1 (discover 1 []) up_a1 (offer 1) (with_up up_a1 0 empty) _ sent_a1
     (decided_by setup_a1 100 0 up_a1 0 no_offers _ (asks (client 1)) _ refl refl (none_at 100 0) (fresh (pool4_of part_a1) 100 (client 1) 167772426 refl)) refl refl
@@ -236,7 +235,7 @@ lease_sure =
     (one_at 110 100 (client 1) (lease_until 160)) granted)
 
 pub ack_a : (frames setup_a (Up 0 110 0 ∷ Down 0 ∷ []) asked ≡ ack 0 ∷ [])
-unfolding alone_step frames relayed_down4 reply_of reply4_bytes listed_from fault_from sublisted_from subfault_from
+unfolding alone_step frames relayed_down4 reply_of reply4_bytes listed_from fault_from
 ack_a =
     two setup_a (ack 0) asked _
     (decided_by setup_a 110 0 request_up 100 (one_offer (client 1) (lease_until 160)) _ selects _ refl refl

@@ -12,7 +12,7 @@ use Rattle.relay.specs.SentFrame.{SentFrame}
 use Rattle.relay.specs.Relays.{relayed_up, relayed_down}
 use Rattle.world.specs.Alone.{Alone, Setup, Step, frame_step, answer_step, served_step, book_step, up_step, reply_step, down_step, is_fault, or_kept, after_restart, alone_step, after_all}
 use Rattle.world.specs.Books.{HasBooks}
-use Rattle.world.specs.Seen.{Seen, Frame, Up, Down, Tick, Restart}
+use Rattle.events.specs.Seen.{Seen, Frame, Up, Down, Tick, Restart}
 
 module _ (P : Book → Type 0) where
   -- what is sent, and what leaves, changes no book

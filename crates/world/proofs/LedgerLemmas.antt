@@ -15,7 +15,7 @@ use Rattle.relay.specs.Relays.{relayed_up, relayed_down}
 use Rattle.world.specs.Alone.{Alone, Setup, Step, Effect, frame_step, answer_step, served_step, book_step, up_step, reply_step, down_step, is_fault, or_kept, found, after_restart, alone_step, after_all, start}
 use Rattle.world.specs.Books.{HasBooks, IsInPool, IsBookOf}
 use Rattle.world.specs.Granted.{Grant, Granted, Ended, Stands, Knows, is_sent, datagram_lines, lines, ledger}
-use Rattle.world.specs.Seen.{Seen, Frame, Up, Down, Tick, Restart}
+use Rattle.events.specs.Seen.{Seen, Frame, Up, Down, Tick, Restart}
 use Rattle.world.proofs.GrantLemmas.{stands_left, stands_right, is_granted, Keeps, keeps_new, keeps_later, keeps_served}
 use Rattle.world.proofs.PoolLemmas.{HasLimits, later_of, own_step}
 

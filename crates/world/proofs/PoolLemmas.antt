@@ -44,7 +44,7 @@ use Rattle.dispatch.specs.Request.{request_in}
 use Rattle.dispatch.specs.Server.{Book, IsBook, book_at, kept_book, request_served, message_served, served}
 use Rattle.world.specs.Alone.{Alone, Setup, alone_step}
 use Rattle.world.specs.Books.{HasBooks, IsInPool, IsBookOf}
-use Rattle.world.specs.Seen.{Seen}
+use Rattle.events.specs.Seen.{Seen}
 use Rattle.world.proofs.HeldBooks.{held_step}
 
 -- the limits of a circuit's pool

@@ -10,13 +10,13 @@ use Rattle.std.proofs.Math.Seq.{take-nil}
 use Rattle.relay.specs.SentFrame.{SentFrame}
 use Rattle.relay.specs.Relays.{CircuitFrame}
 use Rattle.world.specs.Alone.{Setup, Alone, Effect, Dropped, Gone, SentUp, SentDown, Framed, Done, alone_step, sent_frame, after_all, frames}
-use Rattle.world.specs.Seen.{Seen, Frame, Up, Down, seen_of, seen_by, named_by, is_restart}
+use Rattle.events.specs.Seen.{Seen, Frame, Up, Down, seen_of, seen_by, named_by, is_restart}
 use Rattle.world.specs.Headline.{CircuitState, Represents, towards, frames_to, frame_of, IsOutcome, Answers, after_seen, Steps, Reaches, AreFrames, BeginsWith, Emits, EmitsAt}
-use Rattle.world.specs.Stray.{is_stray}
-use Rattle.world.specs.declared.event.Event.{Event}
-use Rattle.world.specs.declared.event.Event.TheVariants as event
-use Rattle.world.specs.declared.outcome.Outcome.{Outcome}
-use Rattle.world.specs.declared.outcome.Outcome.TheVariants as outcome
+use Rattle.events.specs.Stray.{is_stray}
+use Rattle.events.specs.declared.event.Event.{Event}
+use Rattle.events.specs.declared.event.Event.TheVariants as event
+use Rattle.events.specs.declared.outcome.Outcome.{Outcome}
+use Rattle.events.specs.declared.outcome.Outcome.TheVariants as outcome
 
 -- what a circuit sees of one event, as a list
 abbrev seen_list : Option Seen → List Seen

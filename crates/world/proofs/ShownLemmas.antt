@@ -17,7 +17,7 @@ use Rattle.types.specs.declared.dest.Proto.{Proto}
 use Rattle.world.specs.Alone.{Alone, Dropped, Setup, answer_step, alone_step, book_step, found, is_fault, or_kept, served_step, start, up_step}
 use Rattle.world.specs.Alone as alone
 use Rattle.world.specs.Headline.{CircuitState, Shows}
-use Rattle.world.specs.Seen.{Up}
+use Rattle.events.specs.Seen.{Up}
 
 -- A circuit's leases are those of its machine.
 pub record Holds (l : Leases) (a : Alone) : Type 0 where

@@ -6,11 +6,11 @@ use Rattle.config.specs.CircuitPart.{CircuitPart}
 use Rattle.dispatch.specs.Leases.{Leases}
 use Rattle.dispatch.specs.ServerValue.{leases_in, parts_in}
 use Rattle.world.specs.Headline.{CircuitState}
-use Rattle.world.specs.Seen.{Seen}
+use Rattle.events.specs.Seen.{Seen}
 use Rattle.world.specs.StepsAs.{StepsAs, Moves}
 use Rattle.world.specs.World.{WorldValue, each_state, state_of, states}
 use Rattle.lease_disk.specs.Model as disk
-use Rattle.world.specs.declared.outcome.Outcome.{Outcome}
+use Rattle.events.specs.declared.outcome.Outcome.{Outcome}
 
 -- ---- lists
 

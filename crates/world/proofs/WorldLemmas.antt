@@ -31,13 +31,13 @@ use Rattle.relay.specs.Relays.{CircuitFrame, for_circuit, one_more, relayed_up, 
 use Rattle.world.specs.Alone.{Setup, Alone, Effect, Step, Dropped, Gone, SentUp, SentDown, Framed, Done, alone_step, frame_step, up_step, answer_step, down_step, reply_step, book_writes, up_writes, writes}
 use Rattle.world.specs.Alone as alone
 use Rattle.world.specs.Headline.{CircuitState, IsOutcome, KeepsSpares, Shows}
-use Rattle.world.specs.Seen.{Seen, Frame, Up, Down, Tick, Restart}
+use Rattle.events.specs.Seen.{Seen, Frame, Up, Down, Tick, Restart}
 use Rattle.world.specs.StepsAs.{StepsAs, Each, IsFor, Returns, IsWorldOf, IsWorld, AllMove}
 use Rattle.world.specs.World.{WorldValue, each_state, state_of, states}
 use Rattle.world.proofs.ShownLemmas.{Holds, after_up, down_stays, found_crashed, holds, holds_datagram, holds_restart, holds_tick, its_answer, its_fails, restart_downs, restart_ups, up_stays, up_step_is}
 use Rattle.world.proofs.StateLemmas.{is_there, is_state, leases_now, state_at, state_count, get_set, get_set_other}
-use Rattle.world.specs.declared.outcome.Outcome.{Outcome}
-use Rattle.world.specs.declared.outcome.Outcome.TheVariants as outcome
+use Rattle.events.specs.declared.outcome.Outcome.{Outcome}
+use Rattle.events.specs.declared.outcome.Outcome.TheVariants as outcome
 
 -- ---- each datagram of a list
 

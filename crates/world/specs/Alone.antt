@@ -11,7 +11,7 @@ use Rattle.lease_disk.specs.Layout.{gate_open}
 use Rattle.lossy_net.specs.Net.{Datagram}
 use Rattle.relay.specs.SentFrame.{SentFrame}
 use Rattle.relay.specs.Relays.{relayed_up, relayed_down}
-use Rattle.world.specs.Seen.{Seen, Frame, Up, Down, Tick, Restart}
+use Rattle.events.specs.Seen.{Seen, Frame, Up, Down, Tick, Restart}
 
 -- What the machine knows: the circuit's part of the configuration, and how many datagrams the network
 -- keeps in each direction.
@@ -140,12 +140,8 @@ writes setup (Restart image) a = true
 
 -- the frame that leaves with an effect, if one does
 abbrev pub sent_frame : Effect → List SentFrame
-sent_frame (Dropped why) = []
-sent_frame Gone = []
-sent_frame (SentUp len) = []
-sent_frame (SentDown len) = []
 sent_frame (Framed frame) = frame ∷ []
-sent_frame Done = []
+sent_frame effect = []
 
 -- the machine after what it sees
 unfoldable pub after_all : Setup → List Seen → Alone → Alone

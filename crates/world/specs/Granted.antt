@@ -19,7 +19,7 @@ use Rattle.dispatch.specs.Request.{request_in}
 use Rattle.dispatch.specs.Server.{Book, book_at}
 use Rattle.lossy_net.specs.Net.{Datagram}
 use Rattle.world.specs.Alone.{Alone, Setup, Effect, Dropped, Gone, SentUp, SentDown, Framed, Done, alone_step}
-use Rattle.world.specs.Seen.{Seen, Frame, Up, Down, Tick, Restart}
+use Rattle.events.specs.Seen.{Seen, Frame, Up, Down, Tick, Restart}
 
 -- A lease as a DHCPACK grants it: the client, the address as a number, and until when, by the circuit's
 -- clock then.

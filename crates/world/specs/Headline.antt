@@ -10,13 +10,13 @@ use Rattle.lease_disk.specs.Region.{Region}
 use Rattle.lossy_net.specs.Net.{Datagram}
 use Rattle.relay.specs.SentFrame.{SentFrame}
 use Rattle.relay.specs.Relays.{CircuitFrame}
-use Rattle.world.specs.declared.event.Event.{Event}
-use Rattle.world.specs.declared.event.Event.TheVariants as event
-use Rattle.world.specs.declared.outcome.Outcome.{Outcome}
-use Rattle.world.specs.declared.outcome.Outcome.TheVariants as outcome
+use Rattle.events.specs.declared.event.Event.{Event}
+use Rattle.events.specs.declared.event.Event.TheVariants as event
+use Rattle.events.specs.declared.outcome.Outcome.{Outcome}
+use Rattle.events.specs.declared.outcome.Outcome.TheVariants as outcome
 use Rattle.world.specs.Alone.{Setup, Alone, Effect, Dropped, Gone, SentUp, SentDown, Framed, Done, alone_step, after_all, found, frames, writes}
-use Rattle.world.specs.Seen.{Seen, seen_of, seen_by, named_by, is_restart}
-use Rattle.world.specs.Stray.{is_stray}
+use Rattle.events.specs.Seen.{Seen, seen_of, seen_by, named_by, is_restart}
+use Rattle.events.specs.Stray.{is_stray}
 
 -- All that the world has of one circuit: its part of the configuration and the quota, what the network
 -- keeps of it, how many of its frames the relay discarded, what its server and its region hold, and which

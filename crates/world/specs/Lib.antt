@@ -2,9 +2,7 @@ pub mod Alone
 pub mod Books
 pub mod Examples
 pub mod Headline
-pub mod Seen
 pub mod Start
 pub mod StepsAs
-pub mod Stray
 pub mod World
 pub mod Granted

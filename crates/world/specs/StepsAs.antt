@@ -13,9 +13,9 @@ use Rattle.config.specs.Topology.{Topology}
 use Rattle.relay.specs.Relays.{for_circuit, relayed_down, relayed_down_in}
 use Rattle.world.specs.Alone.{Alone, Effect, Setup, alone_step, writes}
 use Rattle.world.specs.Headline.{CircuitState, IsOutcome, Shows}
-use Rattle.world.specs.Seen.{Seen}
+use Rattle.events.specs.Seen.{Seen}
 use Rattle.world.specs.World.{WorldValue}
-use Rattle.world.specs.declared.outcome.Outcome.{Outcome}
+use Rattle.events.specs.declared.outcome.Outcome.{Outcome}
 
 -- What circuit c sees moves its state by the step of each machine that the state shows, and the outcome is
 -- the machine's.

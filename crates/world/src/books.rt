@@ -5,7 +5,7 @@ ghost use Rattle.dispatch.specs.Leases.{recovered_book};
 ghost use Rattle.dispatch.specs.Server.{IsBook};
 ghost use Rattle.world.specs.Alone.{Alone, Setup, after_all, alone_step};
 ghost use Rattle.world.specs.Books.{HasBooks, IsBookOf};
-ghost use Rattle.world.specs.Seen.{Seen};
+ghost use Rattle.events.specs.Seen.{Seen};
 
 /// A circuit's machine that begins with a book has one after each step, and so after everything that it
 /// sees: every entry is live, no address is named twice, and no client has both a binding and an offer.

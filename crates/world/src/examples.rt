@@ -10,7 +10,7 @@ ghost use Rattle.lease_disk.specs.declared.image.Image.TheVariants.{Byte, Unread
 ghost use Rattle.world.specs.Alone.{alone_step, after_all, frames, Dropped, Gone, SentUp, SentDown};
 ghost use Rattle.world.specs.Examples.{part_a, part_a1, setup_a, setup_a1, at_port, client_message, discover, discover_up, relayed_message, relayed_discover, offer, client, offers_at, one_offer, lease_until, datagram, with_up, begun, no_leases, asked, leased, closed, ack};
 ghost use Rattle.world.specs.Granted.{Granted, lines};
-ghost use Rattle.world.specs.Seen.{Frame, Up, Down, Tick, Restart};
+ghost use Rattle.events.specs.Seen.{Frame, Up, Down, Tick, Restart};
 
 /// What the relay sends up of a frame, and which frames it drops.
 pub fn frames_go_up()

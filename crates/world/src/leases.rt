@@ -8,7 +8,7 @@ ghost use Rattle.settings.specs.Settings.{Settings};
 ghost use Rattle.world.specs.Alone.{Setup, after_all, alone_step, start};
 ghost use Rattle.world.specs.Books.{IsInPool, IsBookOf};
 ghost use Rattle.world.specs.Granted.{Grant, Granted, Ended, Stands, Knows, lines, ledger};
-ghost use Rattle.world.specs.Seen.{Seen, Restart};
+ghost use Rattle.events.specs.Seen.{Seen, Restart};
 ghost use Rattle.world.specs.Start.{opened};
 
 /// No address is leased twice: where a machine grants an address and later grants it to another client,

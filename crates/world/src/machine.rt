@@ -3,11 +3,10 @@ ghost use Rattle.std.specs.Prelude.{◌≡◌, ℕ, ◌+◌, ◌<◌, List, [], 
 ghost use Rattle.lease_disk.specs.Device.{Device};
 ghost use Rattle.config.specs.Topology.{Topology};
 ghost use Rattle.world.specs.Headline.{CircuitState, EmitsAt, Emits, KeepsSpares, Reaches, Steps, frame_of};
-ghost use Rattle.world.specs.Stray.{stray_outcome};
+ghost use Rattle.events.specs.Stray.{stray_outcome};
 
-use crate::event::Event;
-use crate::outcome::Outcome;
 use crate::sink::Sink;
+use events::{Event, Outcome};
 use wire::PacketBuf;
 
 /// What takes events, one whole event a step.

@@ -8,9 +8,9 @@ ghost use Rattle.relay.specs.Relays.{CircuitFrame};
 ghost use Rattle.world.specs.Alone.{Alone, Setup, frames};
 ghost use Rattle.world.specs.Alone as alone;
 ghost use Rattle.world.specs.Headline.{AreFrames, CircuitState, Represents, frames_to};
-ghost use Rattle.world.specs.Seen.{seen_by};
+ghost use Rattle.events.specs.Seen.{seen_by};
 ghost use Rattle.world.specs.Start.{Starts};
-ghost use Rattle.world.specs.declared.event.Event.{Event};
+ghost use Rattle.events.specs.declared.event.Event.{Event};
 
 /// Isolation, for any two runs of any two worlds: a circuit that is c in the one and d in the other,
 /// with equal parts of the configuration, equal machines at the start and equal lists of what it sees,

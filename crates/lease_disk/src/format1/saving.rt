@@ -2,7 +2,7 @@
 ghost use Rattle.std.specs.Prelude.{◌≡◌, ℕ, true, ◌+◌, ◌==◌, ◌<◌, if◌then◌else◌, List, [], ◌∷◌, Some, length, is_ok, OnOk, OnErr};
 ghost use Rattle.lease_disk.specs.Book.{IsBook};
 ghost use Rattle.lease_disk.specs.Device.{IsWritten, Touches};
-ghost use Rattle.lease_disk.specs.Layout.{gate_open, gate_at, bank_at};
+ghost use Rattle.lease_disk.specs.Layout.{gate_open, bank_at};
 ghost use Rattle.lease_disk.specs.Recovered.{recovered, other};
 ghost use Rattle.lease_disk.specs.Region.{IsClean, effective, faults_after};
 ghost use Rattle.lease_disk.specs.Save.{AreMarks, IsSaved, IsLeft, saved_byte};
@@ -18,7 +18,7 @@ use types::Slots;
 /// byte is in doubt, it could become an open gate before a bank that must not count.
 fn close<D: Disk>(region: u16, disk: &mut D, bank: Bank, reads_open: bool) -> Result<(), Fault>
     requires { region < (D.device disk.old).count }
-    ensures { IsWritten D.tells region (gate_at bank) (if reads_open then 0 ∷ [] else []) result (D.device disk.old) (D.device disk.new) }
+    ensures { IsWritten D.tells region (bank_at bank) (if reads_open then 0 ∷ [] else []) result (D.device disk.old) (D.device disk.new) }
 {
     let closed: &[u8] = if reads_open { &[0] } else { &[] };
     write_synced(region, disk, bank.at(), closed)
@@ -36,7 +36,7 @@ fn write_body<D: Disk>(region: u16, disk: &mut D, bank: Bank, bytes: &[u8]) -> R
 /// Opens a bank's gate, and syncs.
 fn open_gate<D: Disk>(region: u16, disk: &mut D, bank: Bank) -> Result<(), Fault>
     requires { region < (D.device disk.old).count }
-    ensures { IsWritten D.tells region (gate_at bank) (gate_open ∷ []) result (D.device disk.old) (D.device disk.new) }
+    ensures { IsWritten D.tells region (bank_at bank) (gate_open ∷ []) result (D.device disk.old) (D.device disk.new) }
 {
     write_synced(region, disk, bank.at(), &[GATE_OPEN])
 }

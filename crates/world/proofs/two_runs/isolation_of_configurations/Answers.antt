@@ -2,7 +2,7 @@ use Rattle.std.proofs.Common.{ℕ, sym, ap, ◌∙◌}
 use Rattle.config.specs.CircuitPart.{CircuitPart}
 use Rattle.dispatch.specs.Leases.{recovered_book}
 use Rattle.world.specs.Alone.{Alone, Setup, start, frames}
-use Rattle.world.specs.Seen.{seen_by}
+use Rattle.events.specs.Seen.{seen_by}
 use Rattle.world.proofs.two_runs.isolation_of_configurations.Goals as goal
 
 -- the machine that begins with what these bytes hold

@@ -5,7 +5,7 @@ use Rattle.dispatch.specs.ServerValue.{parts_in}
 use Rattle.lease_disk.specs.Crash.{crashed}
 use Rattle.lease_disk.specs.Model.{device_of, state_of}
 use Rattle.world.specs.Headline.{KeepsSpares}
-use Rattle.world.specs.Seen.{image_at}
+use Rattle.events.specs.Seen.{image_at}
 use Rattle.world.proofs.world.crash_all.Given as goal
 
 -- the regions of the circuits so far are as their images say, and those of the others as they were

@@ -4,11 +4,11 @@ use Rattle.std.proofs.lemmas.Option.{same_Some, slice_get_within}
 use Rattle.lossy_net.specs.Net.{Datagram, datagrams}
 use Rattle.relay.specs.Relays.{relayed_down_in}
 use Rattle.lossy_net.specs.declared.dir.Dir.TheVariants as dir
-use Rattle.world.specs.Seen.{Down}
+use Rattle.events.specs.Seen.{Down}
 use Rattle.world.specs.StepsAs.{Moves, Returns, StepsAs}
 use Rattle.world.specs.World.{WorldValue, state_of, states}
-use Rattle.world.specs.declared.outcome.Outcome.{Outcome}
-use Rattle.world.specs.declared.outcome.Outcome.TheVariants as outcome
+use Rattle.events.specs.declared.outcome.Outcome.{Outcome}
+use Rattle.events.specs.declared.outcome.Outcome.TheVariants as outcome
 use Rattle.world.proofs.StateLemmas.{moves}
 use Rattle.world.proofs.WorldLemmas.{the_circuit, behind_is, whole, each_at, down_gone, down_framed, down_dropped}
 use Rattle.world.proofs.world.World.down.Goals.{in-Ok, in-Err}

@@ -2,10 +2,10 @@ use Rattle.std.proofs.Common.{◌<◌, length, refl, sym, ap, subst, ◌∙◌, 
 use Rattle.std.specs.Prelude.{slice_index}
 use Rattle.lossy_net.specs.Net.{Datagram}
 use Rattle.lossy_net.specs.declared.dir.Dir.TheVariants as dir
-use Rattle.world.specs.Seen.{Frame}
+use Rattle.events.specs.Seen.{Frame}
 use Rattle.world.specs.StepsAs.{IsFor, Returns, Moves}
 use Rattle.world.specs.World.{WorldValue, states}
-use Rattle.world.specs.declared.outcome.Outcome.TheVariants as outcome
+use Rattle.events.specs.declared.outcome.Outcome.TheVariants as outcome
 use Rattle.world.proofs.StateLemmas.{moves}
 use Rattle.world.proofs.WorldLemmas.{the_circuit, whole, each_sent, each_kept, other_way, still_world, same_circuit, other_count, apart, frame_sent, frame_dropped}
 use Rattle.world.proofs.world.World.frame.Goals as goal

@@ -3,10 +3,10 @@ use Rattle.config.specs.CircuitPart.{CircuitPart}
 use Rattle.dispatch.specs.ServerValue.{parts_in}
 use Rattle.lease_disk.specs.Model as disk
 use Rattle.world.specs.Headline.{KeepsSpares}
-use Rattle.world.specs.Seen.{Restart, image_at}
+use Rattle.events.specs.Seen.{Restart, image_at}
 use Rattle.world.specs.StepsAs.{AllMove}
 use Rattle.world.specs.World.{WorldValue, states}
-use Rattle.world.specs.declared.outcome.Outcome.TheVariants as outcome
+use Rattle.events.specs.declared.outcome.Outcome.TheVariants as outcome
 use Rattle.world.proofs.WorldLemmas.{all_restart, are_synced, spares_then, still_world}
 use Rattle.world.proofs.world.World.restart.Goals as goal
 

@@ -1,6 +1,6 @@
 use Rattle.std.proofs.Common.{length, refl, ap}
-use Rattle.world.specs.Seen.{Frame, Up, Down, Tick, Restart, image_at, seen_of, named_by}
-use Rattle.world.specs.Stray.{is_stray}
+use Rattle.events.specs.Seen.{Frame, Up, Down, Tick, Restart, image_at, seen_of, named_by}
+use Rattle.events.specs.Stray.{is_stray}
 use Rattle.world.specs.World.{states}
 use Rattle.world.proofs.CircuitSteps.{named_steps, missing, gone_steps, all_steps, stray_steps}
 use Rattle.lease_disk.specs.Model as disk

@@ -1,7 +1,7 @@
 use Rattle.std.proofs.Common.{◌≡◌, sym, ap, subst, ◌∙◌}
 use Rattle.world.specs.World.{WorldValue}
-use Rattle.world.specs.Stray.{stray_down_outcome}
-use Rattle.world.specs.declared.outcome.Outcome.TheVariants as outcome
+use Rattle.events.specs.Stray.{stray_down_outcome}
+use Rattle.events.specs.declared.outcome.Outcome.TheVariants as outcome
 use Rattle.world.proofs.StrayLemmas.{no_frame, relay_reason}
 use Rattle.world.proofs.world.World.stray_down.Goals as goal
 

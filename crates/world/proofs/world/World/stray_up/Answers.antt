@@ -5,8 +5,8 @@ use Rattle.types.specs.declared.discard.Discard.TheVariants.{UnknownSource}
 use Rattle.dispatch.specs.ServerValue.{books_in, leases_in, parts_in}
 use Rattle.lease_disk.specs.Model as disk
 use Rattle.world.specs.World.{WorldValue, each_state, states}
-use Rattle.world.specs.Stray.{stray_up_outcome}
-use Rattle.world.specs.declared.outcome.Outcome.TheVariants as outcome
+use Rattle.events.specs.Stray.{stray_up_outcome}
+use Rattle.events.specs.declared.outcome.Outcome.TheVariants as outcome
 use Rattle.lease_disk.proofs.Frames.{writes_count}
 use Rattle.world.proofs.StrayLemmas.{states_over, stray_received, stray_leases, stray_saves, refusal_is, no_ok, same_reason}
 use Rattle.world.proofs.WorldLemmas.{same_device, still_world}

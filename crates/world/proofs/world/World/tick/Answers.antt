@@ -1,9 +1,9 @@
 use Rattle.std.proofs.Common.{refl, subst}
 use Rattle.lease_disk.specs.Model as disk
-use Rattle.world.specs.Seen.{Tick}
+use Rattle.events.specs.Seen.{Tick}
 use Rattle.world.specs.StepsAs.{AllMove}
 use Rattle.world.specs.World.{WorldValue, states}
-use Rattle.world.specs.declared.outcome.Outcome.TheVariants as outcome
+use Rattle.events.specs.declared.outcome.Outcome.TheVariants as outcome
 use Rattle.world.proofs.WorldLemmas.{all_tick, still_world}
 use Rattle.world.proofs.world.World.tick.Goals as goal
 

@@ -11,10 +11,10 @@ use Rattle.lossy_net.specs.Net.{Datagram}
 use Rattle.lossy_net.specs.declared.dir.Dir.TheVariants as dir
 use Rattle.relay.specs.Relays.{relayed_down_in}
 use Rattle.world.specs.Headline.{KeepsSpares}
-use Rattle.world.specs.Seen.{Up}
+use Rattle.events.specs.Seen.{Up}
 use Rattle.world.specs.StepsAs.{IsFor, Returns, Moves}
 use Rattle.world.specs.World.{WorldValue, states}
-use Rattle.world.specs.declared.outcome.Outcome.TheVariants as outcome
+use Rattle.events.specs.declared.outcome.Outcome.TheVariants as outcome
 use Rattle.lease_disk.proofs.Frames.{writes_count}
 use Rattle.world.proofs.ShownLemmas.{its_answer, its_fails, reply_of}
 use Rattle.world.proofs.StateLemmas.{moves}

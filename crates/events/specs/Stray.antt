@@ -4,19 +4,15 @@ use Rattle.std.specs.Prelude.{ℕ, Bool, true, false, nat_lt, length, Option, So
 use Rattle.types.specs.declared.addr.Source.{Source}
 use Rattle.types.specs.declared.discard.Discard.TheVariants.{UnknownSource, NotServer}
 use Rattle.config.specs.Topology.{Topology, is_relay, is_server}
-use Rattle.world.specs.declared.event.Event.{Event}
-use Rattle.world.specs.declared.event.Event.TheVariants as event
-use Rattle.world.specs.declared.outcome.Outcome.{Outcome}
-use Rattle.world.specs.declared.outcome.Outcome.TheVariants.{Dropped, Gone, NotAStray}
+use Rattle.events.specs.declared.event.Event.{Event}
+use Rattle.events.specs.declared.event.Event.TheVariants as event
+use Rattle.events.specs.declared.outcome.Outcome.{Outcome}
+use Rattle.events.specs.declared.outcome.Outcome.TheVariants.{Dropped, Gone, NotAStray}
 
 abbrev pub is_stray : Event → Bool
-is_stray (event.Frame circuit proto bytes) = false
-is_stray (event.Up circuit j now fault) = false
-is_stray (event.Down circuit j) = false
-is_stray (event.Tick now) = false
-is_stray (event.Restart images) = false
 is_stray (event.StrayUp proto source bytes now) = true
 is_stray (event.StrayDown relay source bytes) = true
+is_stray event = false
 
 abbrev pub stray_up_outcome : Topology → Source → Outcome
 stray_up_outcome t source = if is_relay t source then NotAStray else Dropped UnknownSource
@@ -27,10 +23,6 @@ stray_down_outcome t relay source =
 
 -- What comes of a stray, whatever its bytes are.
 abbrev pub stray_outcome : Topology → Event → Option Outcome
-stray_outcome t (event.Frame circuit proto bytes) = None
-stray_outcome t (event.Up circuit j now fault) = None
-stray_outcome t (event.Down circuit j) = None
-stray_outcome t (event.Tick now) = None
-stray_outcome t (event.Restart images) = None
 stray_outcome t (event.StrayUp proto source bytes now) = Some (stray_up_outcome t source)
 stray_outcome t (event.StrayDown relay source bytes) = Some (stray_down_outcome t relay source)
+stray_outcome t event = None

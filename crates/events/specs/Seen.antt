@@ -4,8 +4,8 @@ use Rattle.std.specs.List.{filter_map}
 use Rattle.types.specs.declared.dest.Proto.{Proto}
 use Rattle.lease_disk.specs.declared.image.Image.{Image}
 use Rattle.lease_disk.specs.declared.image.Image.TheVariants.{Byte}
-use Rattle.world.specs.declared.event.Event.{Event}
-use Rattle.world.specs.declared.event.Event.TheVariants as event
+use Rattle.events.specs.declared.event.Event.{Event}
+use Rattle.events.specs.declared.event.Event.TheVariants as event
 
 -- An event as its circuit sees it. No circuit is named in it.
 pub data Seen : Type 0 where
@@ -32,8 +32,7 @@ seen_of c (event.Up circuit j now fault) = if circuit == c then Some (Up j now f
 seen_of c (event.Down circuit j) = if circuit == c then Some (Down j) else None
 seen_of c (event.Tick now) = Some (Tick now)
 seen_of c (event.Restart images) = Some (Restart (image_at c images.now))
-seen_of c (event.StrayUp proto source bytes now) = None
-seen_of c (event.StrayDown relay source bytes) = None
+seen_of c stray = None
 
 -- what circuit c sees of a run, in order
 abbrev pub seen_by : ℕ → List Event → List Seen
@@ -44,16 +43,8 @@ abbrev pub named_by : Event → Option ℕ
 named_by (event.Frame circuit proto bytes) = Some circuit
 named_by (event.Up circuit j now fault) = Some circuit
 named_by (event.Down circuit j) = Some circuit
-named_by (event.Tick now) = None
-named_by (event.Restart images) = None
-named_by (event.StrayUp proto source bytes now) = None
-named_by (event.StrayDown relay source bytes) = None
+named_by event = None
 
 abbrev pub is_restart : Event → Bool
-is_restart (event.Frame circuit proto bytes) = false
-is_restart (event.Up circuit j now fault) = false
-is_restart (event.Down circuit j) = false
-is_restart (event.Tick now) = false
 is_restart (event.Restart images) = true
-is_restart (event.StrayUp proto source bytes now) = false
-is_restart (event.StrayDown relay source bytes) = false
+is_restart event = false

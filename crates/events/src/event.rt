@@ -1,4 +1,4 @@
-//! What happens to a world.
+//! What happens to relay, network and server.
 use lease_disk::Image;
 use types::{Circuit, Moment, Proto, RelayNo, Source};
 

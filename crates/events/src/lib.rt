@@ -1,0 +1,8 @@
+//! What happens to relay, network and server, what comes of it, and what one circuit sees of it.
+#![tactic(auto)]
+
+mod event;
+mod outcome;
+
+pub use event::Event;
+pub use outcome::Outcome;
