@@ -1,7 +1,8 @@
 -- What a circuit answers to a message, by what its open circuit decides.
-use Rattle.std.proofs.Common.{◌≡◌, ℕ, ◌+◌, ◌==◌, ◌&&◌, nat_lt, Bool, true, false, not, List, refl, sym, ap, subst, ◌∙◌, Ok, Err, Result, is_ok, arith}
+use Rattle.std.proofs.Common.{◌≡◌, ℕ, ◌+◌, ◌==◌, ◌&&◌, nat_lt, Bool, true, false, not, refl, sym, ap, subst, ◌∙◌, Ok, Err, Result, is_ok, arith}
 use Rattle.std.specs.Prelude.{Option, Some, None, if◌then◌else◌}
 use Rattle.std.proofs.lemmas.Bool.{lt-ltb, le-ltb}
+use Rattle.types.specs.Delivered.{Delivered}
 use Rattle.types.specs.declared.discard.Discard.{Discard}
 use Rattle.types.specs.declared.discard.Discard.TheVariants.{DiskFault}
 use Rattle.types.specs.declared.request4.Request4.{Request4}
@@ -14,26 +15,26 @@ use Rattle.bindings_v4.specs.Table4.{Decision, answer4}
 use Rattle.lease_disk.specs.Device.{Device, Touches, WritesAt}
 use Rattle.lease_disk.specs.Region.{Region, effective, faults_after}
 use Rattle.dispatch.specs.Leases.{Leases, after_datagram, kept, restarts_of, restarts_after}
-use Rattle.dispatch.specs.Received.{after_save, answered, circuit_fails, circuit_saves, save_fails, saves}
+use Rattle.dispatch.specs.Received.{after_save, answered, circuit_saves, fails_at, saves}
 use Rattle.dispatch.specs.Request.{request_in}
 use Rattle.dispatch.specs.Server.{Book, Served, book_at, decision_served, drop, message_served, reply_to, request_served, served}
 use Rattle.dispatch.specs.ServerValue.{CircuitServerValue, OpenCircuitValue, book_of, leases_of, open_book}
 
 -- ---- what is decided
 
-unfolded : (part : CircuitPart) (now : ℕ) (datagram : List ℕ) (b : Book) → served part now datagram b ≡ message_served part (book_at now b) (message_of datagram)
+unfolded : (part : CircuitPart) (d : Delivered) (b : Book) → served part d b ≡ message_served part (book_at d.moment b) (message_of d.bytes)
 unfolding served
-unfolded part now datagram b = λ i. message_served part (book_at now b) (message_of datagram)
+unfolded part d b = λ i. message_served part (book_at d.moment b) (message_of d.bytes)
 
-module _ (part : CircuitPart) (now : ℕ) (datagram : List ℕ) (m : MessageValue) (read : message_of datagram ≡ Ok m) (b later : Book) (ticked : later ≡ book_at now b) where
-  of_message : served part now datagram b ≡ request_served part m later (request_in m)
-  of_message = unfolded part now datagram b ∙ ap (message_served part (book_at now b)) read ∙ ap (λ x. request_served part m x (request_in m)) (sym ticked)
+module _ (part : CircuitPart) (d : Delivered) (m : MessageValue) (read : message_of d.bytes ≡ Ok m) (b later : Book) (ticked : later ≡ book_at d.moment b) where
+  of_message : served part d b ≡ request_served part m later (request_in m)
+  of_message = unfolded part d b ∙ ap (message_served part (book_at d.moment b)) read ∙ ap (λ x. request_served part m x (request_in m)) (sym ticked)
 
-  pub refused : (why : Discard) → request_in m ≡ Err why → served part now datagram b ≡ drop why later
+  pub refused : (why : Discard) → request_in m ≡ Err why → served part d b ≡ drop why later
   refused why is = of_message ∙ ap (request_served part m later) is
 
   pub decided : (request : Request4) → request_in m ≡ Ok request
-      → served part now datagram b ≡ decision_served part m later.clock (answer4 (pool4_of part) later.clock later.four request)
+      → served part d b ≡ decision_served part m later.clock (answer4 (pool4_of part) later.clock later.four request)
   decided request is = of_message ∙ ap (request_served part m later) is
 
 -- what is served, by the decision as the code has it
@@ -69,6 +70,14 @@ save_held fails done held = rw held (rw (and_false done.is_kept) refl)
 pub save_failed : (fails : Bool) (done : Served) → fails ≡ true → done.is_kept ≡ true → after_save fails done ≡ record { answer = Err DiskFault; book = None }
 save_failed fails done failed is = rw failed (rw is refl)
 
+-- whether a decision's save fails, by the fuse of its region
+abbrev pub save_fails : ℕ → Served → Bool
+save_fails fuse done = done.is_kept && not (effective 6 fuse == 0)
+
+fails_where : (fuses : ℕ → ℕ) (region : ℕ) (is_kept : Bool) → (is_kept && not (effective 6 (fuses region) == 0)) ≡ fails_at fuses (if is_kept then Some region else None)
+fails_where fuses region true = refl
+fails_where fuses region false = refl
+
 -- whether the save fails, by the decision and the device
 pub fails_by : {T E : Type 0} (result : Result T E) (before after : ℕ) (x : Bool) → after ≡ faults_after result before → is_ok result ≡ not x → nat_lt before after ≡ x
 fails_by result before after x is ok = counted result before after is ∙ ap not ok ∙ not_not x
@@ -102,39 +111,42 @@ writes_if tells false region old new stays touches = stays refl
 -- ---- what the clauses say
 
 -- an open circuit was asked, and served the datagram so
-pub record IsServed (s : CircuitServerValue) (now : ℕ) (datagram : List ℕ) (part : CircuitPart) (o : OpenCircuitValue) (done : Served) : Type 0 where
+pub record IsServed (s : CircuitServerValue) (d : Delivered) (part : CircuitPart) (o : OpenCircuitValue) (done : Served) : Type 0 where
   pub was : s ≡ record { part = part; state = Some o }
-  pub served_so : served part now datagram (open_book o) ≡ done
+  pub served_so : served part d (open_book o) ≡ done
 
-module _ {s : CircuitServerValue} {now : ℕ} {datagram : List ℕ} {part : CircuitPart} {o : OpenCircuitValue} {done : Served} (case : IsServed s now datagram part o done) where
-  as_served : (fails : Bool) → answered s.part now datagram fails (book_of s) ≡ after_save fails done
-  as_served fails = ap (λ v. answered v.part now datagram fails (book_of v)) case.was ∙ ap (after_save fails) case.served_so
+module _ {s : CircuitServerValue} {d : Delivered} {part : CircuitPart} {o : OpenCircuitValue} {done : Served} (case : IsServed s d part o done) where
+  as_served : (fails : Bool) → answered s.part d fails (book_of s) ≡ after_save fails done
+  as_served fails = ap (λ v. answered v.part d fails (book_of v)) case.was ∙ ap (after_save fails) case.served_so
 
-  pub held : (fails : Bool) → fails ≡ false → answered s.part now datagram fails (book_of s) ≡ record { answer = done.answer; book = Some done.book }
+  pub held : (fails : Bool) → fails ≡ false → answered s.part d fails (book_of s) ≡ record { answer = done.answer; book = Some done.book }
   held fails saved = as_served fails ∙ save_held fails done saved
 
-  pub failed : (fails : Bool) → fails ≡ true → done.is_kept ≡ true → answered s.part now datagram fails (book_of s) ≡ record { answer = Err DiskFault; book = None }
+  pub failed : (fails : Bool) → fails ≡ true → done.is_kept ≡ true → answered s.part d fails (book_of s) ≡ record { answer = Err DiskFault; book = None }
   failed fails unsaved keeps = as_served fails ∙ save_failed fails done unsaved keeps
 
-  pub fails_as : (fuses : ℕ → ℕ) (fails : Bool) → fails ≡ save_fails (fuses part.region) done → fails ≡ circuit_fails now datagram fuses (Some s.part) (Some (book_of s))
-  fails_as fuses fails by_decision =
-      by_decision ∙ ap (save_fails (fuses part.region)) (sym case.served_so) ∙ sym (ap (λ v. circuit_fails now datagram fuses (Some v.part) (Some (book_of v))) case.was)
+  -- what is saved, and where
+  saves_so : circuit_saves d (Some s.part) (Some (book_of s)) ≡ saves part done
+  saves_so = ap (λ v. circuit_saves d (Some v.part) (Some (book_of v))) case.was ∙ ap (saves part) case.served_so
+
+  pub fails_as : (fuses : ℕ → ℕ) (fails : Bool) → fails ≡ save_fails (fuses part.region) done → fails ≡ fails_at fuses (circuit_saves d (Some s.part) (Some (book_of s)))
+  fails_as fuses fails by_decision = by_decision ∙ fails_where fuses part.region done.is_kept ∙ sym (ap (fails_at fuses) saves_so)
 
   pub writes_as : (tells : Bool) (old new : Device) → (done.is_kept ≡ false → new ≡ old) → Touches tells part.region old new
-      → WritesAt tells (circuit_saves now datagram (Some s.part) (Some (book_of s))) old new
+      → WritesAt tells (circuit_saves d (Some s.part) (Some (book_of s))) old new
   writes_as tells old new stays touches =
       subst (λ (region : Option ℕ). WritesAt tells region old new)
-      (sym (ap (λ v. circuit_saves now datagram (Some v.part) (Some (book_of v))) case.was ∙ ap (saves part) case.served_so))
+      (sym saves_so)
       (writes_if tells done.is_kept part.region old new stays touches)
 
   pub leases_as : (regions later : ℕ → Region) (fuses : ℕ → ℕ) (b : Book) (ok : Bool) → b ≡ done.book
       → (done.is_kept ≡ true → restarts_of part (later part.region) ≡ restarts_after (effective 6 (fuses part.region)) b (restarts_of part (regions part.region)))
       → (done.is_kept ≡ false → later ≡ regions)
       → ok ≡ not (save_fails (fuses part.region) done)
-      → left (if ok then Some b else None) (restarts_of part (later part.region)) ≡ after_datagram s.part now datagram (fuses s.part.region) (leases_of regions s)
+      → left (if ok then Some b else None) (restarts_of part (later part.region)) ≡ after_datagram s.part d (fuses s.part.region) (leases_of regions s)
   leases_as regions later fuses b ok book saves stays answer =
       let K : Book → Type 0 = λ x. restarts_of part (later part.region) ≡ restarts_after (effective 6 (fuses part.region)) x (restarts_of part (regions part.region)) in
       ap (λ x. left (if ok then Some x else None) (restarts_of part (later part.region))) book
       ∙ leases_after part regions later (open_book o) done (fuses part.region) ok done.is_kept refl (λ keeps. subst K book (saves keeps)) stays answer
       ∙ ap (λ d. kept (fuses part.region) d (before part regions (open_book o))) (sym case.served_so)
-      ∙ sym (ap (λ v. after_datagram v.part now datagram (fuses v.part.region) (leases_of regions v)) case.was)
+      ∙ sym (ap (λ v. after_datagram v.part d (fuses v.part.region) (leases_of regions v)) case.was)

@@ -1,6 +1,7 @@
 -- What a circuit's server and its region hold together, and what becomes of it. Whatever a decision
 -- changes but offers is saved in the region before the reply leaves.
 use Rattle.std.specs.Prelude.{◌≡◌, ℕ, ◌==◌, ◌&&◌, ◌||◌, nat_le, ◌<◌, true, List, [], ◌∷◌, Option, Some, None, option_map, All, slice_get, slice_set, Result, Ok, Err, if◌then◌else◌}
+use Rattle.types.specs.Delivered.{Delivered}
 use Rattle.types.specs.declared.addr.Source.{Source}
 use Rattle.types.specs.declared.discard.Discard.{Discard}
 use Rattle.types.specs.declared.slots.Slots.{Slots}
@@ -58,13 +59,13 @@ after_saving k b l = record { book = if k == 0 then Some b else None; restarts =
 abbrev pub kept : ℕ → Served → Leases → Leases
 kept fault done l = if done.is_kept then after_saving (effective 6 fault) done.book l else record l { book = Some done.book }
 
-abbrev pub served_leases : CircuitPart → ℕ → List ℕ → ℕ → Leases → Option Book → Leases
-served_leases part now datagram fault l None = l
-served_leases part now datagram fault l (Some b) = kept fault (served part now datagram b) l
+abbrev pub served_leases : CircuitPart → Delivered → ℕ → Leases → Option Book → Leases
+served_leases part d fault l None = l
+served_leases part d fault l (Some b) = kept fault (served part d b) l
 
 -- the leases of a circuit after one of its datagrams, where this call of the device fails in its save
-abbrev pub after_datagram : CircuitPart → ℕ → List ℕ → ℕ → Leases → Leases
-after_datagram part now datagram fault l = served_leases part now datagram fault l l.book
+abbrev pub after_datagram : CircuitPart → Delivered → ℕ → Leases → Leases
+after_datagram part d fault l = served_leases part d fault l l.book
 
 -- ---- a moment, a restart
 
@@ -82,19 +83,18 @@ found_leases regions part = record { book = found_book part (regions part.region
 
 -- ---- all circuits
 
-abbrev pub leases_with : ℕ → ℕ → List ℕ → (ℕ → ℕ) → List Leases → Option CircuitPart → Option Leases → List Leases
-leases_with c now datagram faults all (Some part) (Some l) = slice_set all c (after_datagram part now datagram (faults part.region) l)
-leases_with c now datagram faults all (Some part) None = all
-leases_with c now datagram faults all None l = all
+abbrev pub leases_with : ℕ → Delivered → (ℕ → ℕ) → List Leases → Option CircuitPart → Option Leases → List Leases
+leases_with c d faults all (Some part) (Some l) = slice_set all c (after_datagram part d (faults part.region) l)
+leases_with c d faults all part l = all
 
-abbrev pub addressee_leases : List CircuitPart → ℕ → List ℕ → (ℕ → ℕ) → List Leases → Result ℕ Discard → List Leases
-addressee_leases parts now datagram faults all (Err why) = all
-addressee_leases parts now datagram faults all (Ok c) = leases_with c now datagram faults all (slice_get parts c) (slice_get all c)
+abbrev pub addressee_leases : List CircuitPart → Delivered → (ℕ → ℕ) → List Leases → Result ℕ Discard → List Leases
+addressee_leases parts d faults all (Err why) = all
+addressee_leases parts d faults all (Ok c) = leases_with c d faults all (slice_get parts c) (slice_get all c)
 
 -- Only the leases of the datagram's circuit change. `faults` says for each region which of the device's
 -- next calls fails.
-abbrev pub received_leases : List Source → List CircuitPart → ℕ → Source → List ℕ → (ℕ → ℕ) → List Leases → List Leases
-received_leases relays parts now source datagram faults all = addressee_leases parts now datagram faults all (addressee relays parts source datagram)
+abbrev pub received_leases : List Source → List CircuitPart → Delivered → (ℕ → ℕ) → List Leases → List Leases
+received_leases relays parts d faults all = addressee_leases parts d faults all (addressee relays parts d.source d.bytes)
 
 -- ---- the device
 

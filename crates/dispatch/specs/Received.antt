@@ -1,5 +1,6 @@
 -- What the server makes of any datagram.
 use Rattle.std.specs.Prelude.{◌≡◌, ℕ, ◌==◌, ◌&&◌, Bool, not, false, List, [], Option, Some, None, slice_get, slice_set, Result, Ok, Err, if◌then◌else◌}
+use Rattle.types.specs.Delivered.{Delivered}
 use Rattle.types.specs.declared.addr.Source.{Source}
 use Rattle.types.specs.declared.discard.Discard.{Discard}
 use Rattle.types.specs.declared.discard.Discard.TheVariants.{UnknownCircuit, CircuitClosed, DiskFault}
@@ -22,9 +23,9 @@ after_save fails done =
     else record { answer = done.answer; book = Some done.book }
 
 -- A datagram of a circuit, where its save fails or does not. A closed circuit answers nothing.
-abbrev pub answered : CircuitPart → ℕ → List ℕ → Bool → Option Book → Answered
-answered part now datagram fails None = record { answer = Err CircuitClosed; book = None }
-answered part now datagram fails (Some b) = after_save fails (served part now datagram b)
+abbrev pub answered : CircuitPart → Delivered → Bool → Option Book → Answered
+answered part d fails None = record { answer = Err CircuitClosed; book = None }
+answered part d fails (Some b) = after_save fails (served part d b)
 
 -- ---- all circuits
 
@@ -39,38 +40,17 @@ drop_all why books = record { answer = Err why; books = books }
 abbrev pub with_answered : ℕ → List (Option Book) → Answered → Received
 with_answered c books done = record { answer = done.answer; books = slice_set books c done.book }
 
-abbrev pub circuit_answered : ℕ → ℕ → List ℕ → Bool → List (Option Book) → Option CircuitPart → Option (Option Book) → Received
-circuit_answered c now datagram fails books (Some part) (Some book) = with_answered c books (answered part now datagram fails book)
-circuit_answered c now datagram fails books (Some part) None = drop_all UnknownCircuit books
-circuit_answered c now datagram fails books None book = drop_all UnknownCircuit books
+abbrev pub circuit_answered : ℕ → Delivered → Bool → List (Option Book) → Option CircuitPart → Option (Option Book) → Received
+circuit_answered c d fails books (Some part) (Some book) = with_answered c books (answered part d fails book)
+circuit_answered c d fails books part book = drop_all UnknownCircuit books
 
 -- What is of no circuit changes nothing.
-abbrev pub addressee_answered : List CircuitPart → ℕ → List ℕ → Bool → List (Option Book) → Result ℕ Discard → Received
-addressee_answered parts now datagram fails books (Err why) = drop_all why books
-addressee_answered parts now datagram fails books (Ok c) = circuit_answered c now datagram fails books (slice_get parts c) (slice_get books c)
+abbrev pub addressee_answered : List CircuitPart → Delivered → Bool → List (Option Book) → Result ℕ Discard → Received
+addressee_answered parts d fails books (Err why) = drop_all why books
+addressee_answered parts d fails books (Ok c) = circuit_answered c d fails books (slice_get parts c) (slice_get books c)
 
-abbrev pub received : List Source → List CircuitPart → ℕ → Source → List ℕ → Bool → List (Option Book) → Received
-received relays parts now source datagram fails books = addressee_answered parts now datagram fails books (addressee relays parts source datagram)
-
--- ---- whether the save fails
-
-abbrev pub save_fails : ℕ → Served → Bool
-save_fails fault done = done.is_kept && not (effective 6 fault == 0)
-
-abbrev pub circuit_fails : ℕ → List ℕ → (ℕ → ℕ) → Option CircuitPart → Option (Option Book) → Bool
-circuit_fails now datagram faults (Some part) (Some (Some b)) = save_fails (faults part.region) (served part now datagram b)
-circuit_fails now datagram faults (Some part) (Some None) = false
-circuit_fails now datagram faults (Some part) None = false
-circuit_fails now datagram faults None book = false
-
-abbrev pub addressee_fails : List CircuitPart → ℕ → List ℕ → (ℕ → ℕ) → List (Option Book) → Result ℕ Discard → Bool
-addressee_fails parts now datagram faults books (Err why) = false
-addressee_fails parts now datagram faults books (Ok c) = circuit_fails now datagram faults (slice_get parts c) (slice_get books c)
-
--- Whether a datagram's save fails, where `faults` says for each region which of the device's next calls
--- fails.
-abbrev pub received_fails : List Source → List CircuitPart → ℕ → Source → List ℕ → (ℕ → ℕ) → List (Option Book) → Bool
-received_fails relays parts now source datagram faults books = addressee_fails parts now datagram faults books (addressee relays parts source datagram)
+abbrev pub received : List Source → List CircuitPart → Delivered → Bool → List (Option Book) → Received
+received relays parts d fails books = addressee_answered parts d fails books (addressee relays parts d.source d.bytes)
 
 -- ---- what is written
 
@@ -78,19 +58,23 @@ received_fails relays parts now source datagram faults books = addressee_fails p
 abbrev pub saves : CircuitPart → Served → Option ℕ
 saves part done = if done.is_kept then Some part.region else None
 
-abbrev pub circuit_saves : ℕ → List ℕ → Option CircuitPart → Option (Option Book) → Option ℕ
-circuit_saves now datagram (Some part) (Some (Some b)) = saves part (served part now datagram b)
-circuit_saves now datagram (Some part) (Some None) = None
-circuit_saves now datagram (Some part) None = None
-circuit_saves now datagram None book = None
+abbrev pub circuit_saves : Delivered → Option CircuitPart → Option (Option Book) → Option ℕ
+circuit_saves d (Some part) (Some (Some b)) = saves part (served part d b)
+circuit_saves d part book = None
 
-abbrev pub addressee_saves : List CircuitPart → ℕ → List ℕ → List (Option Book) → Result ℕ Discard → Option ℕ
-addressee_saves parts now datagram books (Err why) = None
-addressee_saves parts now datagram books (Ok c) = circuit_saves now datagram (slice_get parts c) (slice_get books c)
+abbrev pub addressee_saves : List CircuitPart → Delivered → List (Option Book) → Result ℕ Discard → Option ℕ
+addressee_saves parts d books (Err why) = None
+addressee_saves parts d books (Ok c) = circuit_saves d (slice_get parts c) (slice_get books c)
 
 -- The region that a datagram's save writes to, whether it fails or not; None where nothing is written.
-abbrev pub received_saves : List Source → List CircuitPart → ℕ → Source → List ℕ → List (Option Book) → Option ℕ
-received_saves relays parts now source datagram books = addressee_saves parts now datagram books (addressee relays parts source datagram)
+abbrev pub received_saves : List Source → List CircuitPart → Delivered → List (Option Book) → Option ℕ
+received_saves relays parts d books = addressee_saves parts d books (addressee relays parts d.source d.bytes)
+
+-- Whether a save to this region fails, where `faults` says for each region which of the device's next calls
+-- fails.
+abbrev pub fails_at : (ℕ → ℕ) → Option ℕ → Bool
+fails_at faults None = false
+fails_at faults (Some region) = not (effective 6 (faults region) == 0)
 
 -- A result with what `out` then holds is this answer.
 abbrev pub IsAnswer : Result (List ℕ) Discard → Result (Unit {0}) Discard → List ℕ → Type 0

@@ -8,7 +8,7 @@ ghost use Rattle.v4_message.specs.Reading.{message_of};
 ghost use Rattle.dispatch.specs.Addressee.{addressee, message_check, circuit_check, index_check};
 
 use config::{CircuitPart, Circuits};
-use types::{Circuit, Discard, MAX_DATAGRAM, Source};
+use types::{Circuit, Delivery, Discard, MAX_DATAGRAM, Source};
 use v4_message::{Message, OP_REQUEST};
 use v4_options::{Suboptions, code};
 
@@ -16,24 +16,23 @@ use v4_options::{Suboptions, code};
 /// of none.
 pub(crate) fn addressee<'a>(
     circuits: &Circuits,
-    source: Source,
-    datagram: &'a [u8],
+    delivery: &Delivery<'a>,
 ) -> Result<(Circuit, Message<'a>), Discard>
-    ensures circuit { IfOk result (λ found. addressee circuits.now.relays circuits.now.circuits source datagram.now ≡ Ok found.0) }
+    ensures circuit { IfOk result (λ found. addressee circuits.now.relays circuits.now.circuits delivery.now.source delivery.now.bytes ≡ Ok found.0) }
     ensures within { IfOk result (λ found. found.0 < length circuits.now.circuits) }
-    ensures message { IfOk result (λ found. message_of datagram.now ≡ Ok found.1) }
-    ensures err { IfErr result (λ why. addressee circuits.now.relays circuits.now.circuits source datagram.now ≡ Err why) }
+    ensures message { IfOk result (λ found. message_of delivery.now.bytes ≡ Ok found.1) }
+    ensures err { IfErr result (λ why. addressee circuits.now.relays circuits.now.circuits delivery.now.source delivery.now.bytes ≡ Err why) }
 {
-    if !circuits.is_relay(source) {
+    if !circuits.is_relay(delivery.source) {
         return Err(Discard::UnknownSource);
     }
-    if datagram.len() > MAX_DATAGRAM {
+    if delivery.bytes.len() > MAX_DATAGRAM {
         return Err(Discard::Malformed);
     }
-    let Ok(message) = Message::read(datagram) else {
+    let Ok(message) = Message::read(delivery.bytes) else {
         return Err(Discard::Malformed);
     };
-    match message_check(circuits, source, &message) {
+    match message_check(circuits, delivery.source, &message) {
         Ok(circuit) => Ok((circuit, message)),
         Err(why) => Err(why),
     }

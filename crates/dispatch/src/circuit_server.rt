@@ -1,9 +1,9 @@
 //! The server of one circuit: what it has while it is open, and what it makes of a message.
-ghost use Rattle.std.specs.Prelude.{◌≡◌, ◌<◌, ◌≤◌, ◌+◌, ℕ, [], List, Ok, Some, None, true, is_some, nat_lt, option_map};
+ghost use Rattle.std.specs.Prelude.{◌≡◌, ◌<◌, ◌≤◌, ◌+◌, [], Ok, Some, None, true, is_some, nat_lt, option_map};
 ghost use Rattle.v4_message.specs.Reading.{message_of};
 ghost use Rattle.config.specs.CircuitPart as parts;
 ghost use Rattle.dispatch.specs.Leases.{after_datagram, found_book};
-ghost use Rattle.dispatch.specs.Received.{IsAnswer, answered, circuit_fails, circuit_saves};
+ghost use Rattle.dispatch.specs.Received.{IsAnswer, answered, circuit_saves, fails_at};
 ghost use Rattle.dispatch.specs.Server.{book_at, reply_to};
 ghost use Rattle.dispatch.specs.ServerValue.{HasPool, IsReadyFor, leases_of, open_book};
 ghost use Rattle.lease_disk.specs.Device.{Touches, TouchesNothing, WritesAt};
@@ -15,7 +15,7 @@ use config::CircuitPart;
 use lease_disk::Disk;
 use replies::write4;
 use std::marker::Model;
-use types::{Discard, Moment, Reply4};
+use types::{Delivery, Discard, Moment, Reply4};
 use v4_message::Message;
 use wire::PacketBuf;
 
@@ -62,38 +62,35 @@ impl CircuitServer {
         self.state = OpenCircuit::recover(part, disk);
     }
 
-    /// Answers a message of the circuit at this moment. A save that fails closes the circuit.
+    /// Answers a datagram of the circuit, whose message this is. A save that fails closes the circuit.
     pub(crate) fn answer<D: Disk>(
         &mut self,
         part: &CircuitPart,
+        delivery: &Delivery<'_>,
         message: &Message<'_>,
-        now: Moment,
         disk: &mut D,
         out: &mut PacketBuf,
     ) -> Result<(), Discard>
+        requires read { message_of delivery.now.bytes ≡ Ok message.now }
         requires empty { out.old ≡ [] }
         requires exists { part.now.region < (D.device disk.old).count }
         requires pool { HasPool part.now self.old }
         requires ready { D.tells ≡ true → IsReadyFor ((D.device disk.old).region part.now.region) self.old }
         ensures pool { HasPool part.now self.new }
-        ensures answer { (datagram : List ℕ) → message_of datagram ≡ Ok message.now
-            → IsAnswer (answered part.now now datagram (nat_lt (D.device disk.old).failures (D.device disk.new).failures) (option_map open_book self.old)).answer result out.new }
-        ensures book { (datagram : List ℕ) → message_of datagram ≡ Ok message.now
-            → option_map open_book self.new ≡ (answered part.now now datagram (nat_lt (D.device disk.old).failures (D.device disk.new).failures) (option_map open_book self.old)).book }
-        ensures fails { D.tells ≡ true → (datagram : List ℕ) → message_of datagram ≡ Ok message.now
-            → nat_lt (D.device disk.old).failures (D.device disk.new).failures ≡ circuit_fails now datagram (D.device disk.old).fuse (Some part.now) (Some (option_map open_book self.old)) }
-        ensures leases { D.tells ≡ true → (datagram : List ℕ) → message_of datagram ≡ Ok message.now
+        ensures answer { IsAnswer (answered part.now delivery.now (nat_lt (D.device disk.old).failures (D.device disk.new).failures) (option_map open_book self.old)).answer result out.new }
+        ensures book { option_map open_book self.new ≡ (answered part.now delivery.now (nat_lt (D.device disk.old).failures (D.device disk.new).failures) (option_map open_book self.old)).book }
+        ensures fails { D.tells ≡ true → nat_lt (D.device disk.old).failures (D.device disk.new).failures ≡ fails_at (D.device disk.old).fuse (circuit_saves delivery.now (Some part.now) (Some (option_map open_book self.old))) }
+        ensures leases { D.tells ≡ true
             → leases_of (D.device disk.new).region (record { part = part.now; state = self.new })
-            ≡ after_datagram part.now now datagram ((D.device disk.old).fuse part.now.region) (leases_of (D.device disk.old).region (record { part = part.now; state = self.old })) }
+            ≡ after_datagram part.now delivery.now ((D.device disk.old).fuse part.now.region) (leases_of (D.device disk.old).region (record { part = part.now; state = self.old })) }
         ensures ready { D.tells ≡ true → IsReadyFor ((D.device disk.new).region part.now.region) self.new }
-        ensures writes { (datagram : List ℕ) → message_of datagram ≡ Ok message.now
-            → WritesAt D.tells (circuit_saves now datagram (Some part.now) (Some (option_map open_book self.old))) (D.device disk.old) (D.device disk.new) }
+        ensures writes { WritesAt D.tells (circuit_saves delivery.now (Some part.now) (Some (option_map open_book self.old))) (D.device disk.old) (D.device disk.new) }
         ensures frame { Touches D.tells part.now.region (D.device disk.old) (D.device disk.new) }
     {
         let Some(circuit) = &mut self.state else {
             return Err(Discard::CircuitClosed);
         };
-        circuit.tick(now);
+        circuit.tick(delivery.moment);
         let request = match request_in(message) {
             Ok(request) => request,
             Err(why) => return Err(why),

@@ -3,10 +3,11 @@ ghost use Rattle.std.specs.Prelude.{◌≡◌, ◌<◌, ◌≤◌, ◌+◌, ◌*
 ghost use Rattle.config.specs.CircuitPart as parts;
 ghost use Rattle.config.specs.CircuitPart.{IsPart, parts_of};
 ghost use Rattle.dispatch.specs.Leases.{AreSynced, HasRegions, after_tick, found_leases, received_leases};
-ghost use Rattle.dispatch.specs.Received.{IsAnswer, received, received_fails, received_saves};
+ghost use Rattle.dispatch.specs.Received.{IsAnswer, fails_at, received, received_saves};
 ghost use Rattle.dispatch.specs.ServerValue.{AreReady, HasItsPool, IsReady, RegionsDiffer, books_in, leases_in, leases_of, parts_in, with_states};
 ghost use Rattle.dispatch.specs.declared.server.OpenFault.TheVariants as fault;
 ghost use Rattle.lease_disk.specs.Device.{TouchesNothing, WritesAt};
+ghost use Rattle.types.specs.Delivered.{delivery};
 ghost use Rattle.lease_disk.specs.Region.{Region};
 
 use crate::addressee::addressee;
@@ -16,7 +17,7 @@ use lease_disk::Disk;
 use std::alloc::{AllocError, Global};
 use std::marker::Model;
 use thiserror::Error;
-use types::{Circuit, Discard, Moment, Source};
+use types::{Circuit, Delivery, Discard, Moment, Proto, Source};
 use wire::PacketBuf;
 
 /// Why a server was not opened.
@@ -159,11 +160,12 @@ impl Server {
         index < self.servers.len() && self.servers[index].is_open()
     }
 
-    /// Takes a datagram from this source at this moment, for the circuit that it is of. What the answer
+    /// Takes a datagram of this protocol from this source at this moment, for the circuit that it is of. What the answer
     /// changes but offers is saved before it leaves; where the save fails the circuit is closed, alone,
     /// until a restart. At `Ok` the reply's datagram is in `out`, which is empty otherwise.
     pub fn receive<D: Disk>(
         &mut self,
+        proto: Proto,
         source: Source,
         datagram: &[u8],
         now: Moment,
@@ -176,24 +178,30 @@ impl Server {
         ensures parts { parts_in self.new ≡ parts_in self.old }
 
         // Over every device: the save fails where the device counts a failure.
-        ensures answer { IsAnswer (received self.old.relays (parts_in self.old) now source datagram.now (nat_lt (D.device disk.old).failures (D.device disk.new).failures) (books_in self.old)).answer result out.new }
-        ensures books { books_in self.new ≡ (received self.old.relays (parts_in self.old) now source datagram.now (nat_lt (D.device disk.old).failures (D.device disk.new).failures) (books_in self.old)).books }
+        ensures answer { IsAnswer (received self.old.relays (parts_in self.old) (delivery proto source now datagram.now) (nat_lt (D.device disk.old).failures (D.device disk.new).failures) (books_in self.old)).answer result out.new }
+        ensures books { books_in self.new ≡ (received self.old.relays (parts_in self.old) (delivery proto source now datagram.now) (nat_lt (D.device disk.old).failures (D.device disk.new).failures) (books_in self.old)).books }
 
         // Over a device that tells its bytes: when the save fails, and what restarts then find.
-        ensures fails { D.tells ≡ true → nat_lt (D.device disk.old).failures (D.device disk.new).failures ≡ received_fails self.old.relays (parts_in self.old) now source datagram.now (D.device disk.old).fuse (books_in self.old) }
-        ensures leases { D.tells ≡ true → leases_in (D.device disk.new).region self.new ≡ received_leases self.old.relays (parts_in self.old) now source datagram.now (D.device disk.old).fuse (leases_in (D.device disk.old).region self.old) }
+        ensures fails { D.tells ≡ true → nat_lt (D.device disk.old).failures (D.device disk.new).failures ≡ fails_at (D.device disk.old).fuse (received_saves self.old.relays (parts_in self.old) (delivery proto source now datagram.now) (books_in self.old)) }
+        ensures leases { D.tells ≡ true → leases_in (D.device disk.new).region self.new ≡ received_leases self.old.relays (parts_in self.old) (delivery proto source now datagram.now) (D.device disk.old).fuse (leases_in (D.device disk.old).region self.old) }
         ensures ready { D.tells ≡ true → AreReady (D.device disk.new).region self.new }
 
         // What is written, over every device: the region of a circuit that has something saved, or nothing.
-        ensures frame { WritesAt D.tells (received_saves self.old.relays (parts_in self.old) now source datagram.now (books_in self.old)) (D.device disk.old) (D.device disk.new) }
+        ensures frame { WritesAt D.tells (received_saves self.old.relays (parts_in self.old) (delivery proto source now datagram.now) (books_in self.old)) (D.device disk.old) (D.device disk.new) }
     {
         out.clear();
-        let (circuit, message) = match addressee(&self.circuits, source, datagram) {
+        let delivery = Delivery {
+            proto,
+            source,
+            moment: now,
+            bytes: datagram,
+        };
+        let (circuit, message) = match addressee(&self.circuits, &delivery) {
             Ok(found) => found,
             Err(why) => return Err(why),
         };
         let part = self.circuits.part(circuit);
-        self.servers[circuit.index()].answer(part, &message, now, disk, out)
+        self.servers[circuit.index()].answer(part, &delivery, &message, disk, out)
     }
 
     /// Moves the clock of every open circuit to this moment, where it is a later one.

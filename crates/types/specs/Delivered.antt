@@ -7,5 +7,8 @@ use Rattle.types.specs.declared.dest.Proto.{Proto}
 pub record Delivered : Type 0 where
   pub proto : Proto
   pub source : Source
-  pub now : ℕ
+  pub moment : ℕ
   pub bytes : List ℕ
+
+abbrev pub delivery : Proto → Source → ℕ → List ℕ → Delivered
+delivery proto source now bytes = record { proto = proto; source = source; moment = now; bytes = bytes }

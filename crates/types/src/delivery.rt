@@ -5,10 +5,11 @@ use crate::moment::Moment;
 use std::marker::Model;
 
 /// A datagram that reaches the server, with where it came from and when. It lends its bytes.
+#[derive(Debug, Drop)]
 pub struct Delivery<'a> {
     pub proto: Proto,
     pub source: Source,
-    pub now: Moment,
+    pub moment: Moment,
     pub bytes: &'a [u8],
 }
 
@@ -17,5 +18,5 @@ impl<'a> Model for Delivery<'a> {
 
     ghost Value = { Delivered };
 
-    ghost view = { λ d. record { proto = d.proto; source = d.source; now = d.now; bytes = d.bytes.now } };
+    ghost view = { λ d. record { proto = d.proto; source = d.source; moment = d.moment; bytes = d.bytes.now } };
 }

@@ -1,10 +1,11 @@
 -- What an event does to the state of its circuit, as the circuit's machine's step.
 use Rattle.std.proofs.Common.{◌≡◌, ◌≢◌, ℕ, zero, suc, ◌<◌, Bool, true, false, eqb, List, [], ◌∷◌, length, map, take, get_or, set, refl, sym, ap, subst, ◌∙◌, arith}
-use Rattle.std.specs.Prelude.{All, if◌then◌else◌, Option, Some, None, Result, Ok, Err, option_map, slice_get, slice_index}
+use Rattle.std.specs.Prelude.{All, ◌&&◌, ◌==◌, not, if◌then◌else◌, Option, Some, None, Result, Ok, Err, option_map, slice_get, slice_index}
 use Rattle.std.proofs.lemmas.Option.{slice_get-map, slice_get_within, get_or_from_slice_get, same_Some}
 use Rattle.std.proofs.lemmas.Bool.{eqb-true, eqb-false}
 use Rattle.std.proofs.lemmas.List.{length-map, length-set, get_or-set_other}
 use Rattle.std.proofs.lemmas.List.Elements.{All-get_or}
+use Rattle.types.specs.Delivered.{Delivered, delivery}
 use Rattle.types.specs.declared.addr.Source.{Source}
 use Rattle.types.specs.declared.dest.Dest.{Dest}
 use Rattle.types.specs.declared.dest.Proto.{Proto}
@@ -13,14 +14,14 @@ use Rattle.types.specs.declared.discard.Discard.{Discard}
 use Rattle.config.specs.CircuitPart.{CircuitPart}
 use Rattle.dispatch.specs.Addressee.{addressee}
 use Rattle.dispatch.specs.Leases.{AreSynced, HasRegions, Leases, addressee_leases, after_datagram, after_restart, after_tick, found_leases, leases_with, received_leases, restarts_of}
-use Rattle.dispatch.specs.Received.{IsAnswer, Received, addressee_answered, addressee_fails, addressee_saves, answered, circuit_answered, circuit_fails, circuit_saves, received, received_fails, received_saves, with_answered}
+use Rattle.dispatch.specs.Received.{IsAnswer, Received, addressee_answered, addressee_saves, answered, circuit_answered, circuit_saves, fails_at, received, received_saves, with_answered}
 use Rattle.dispatch.specs.Server.{Book, book_at, served}
 use Rattle.dispatch.specs.ServerValue.{AreReady, CircuitServerValue, book_of, books_in, leases_in, leases_of, part_of, parts_in}
 use Rattle.lease_disk.specs.Crash.{crashed}
 use Rattle.lease_disk.specs.Device.{Device, WritesAt}
 use Rattle.lease_disk.specs.Model.{ModelDiskValue, SameBut}
 use Rattle.lease_disk.specs.Model as disk
-use Rattle.lease_disk.specs.Region.{IsClean, Region}
+use Rattle.lease_disk.specs.Region.{IsClean, Region, effective}
 use Rattle.lease_disk.specs.declared.image.Image.{Image}
 use Rattle.lease_disk.specs.declared.image.Image.TheVariants.{Byte, Unreadable}
 use Rattle.lossy_net.specs.Net.{Datagram, NetValue, datagrams}
@@ -28,7 +29,7 @@ use Rattle.lossy_net.specs.declared.dir.Dir.{Dir}
 use Rattle.lossy_net.specs.declared.dir.Dir.TheVariants as dir
 use Rattle.relay.specs.SentFrame.{SentFrame}
 use Rattle.relay.specs.Relays.{CircuitFrame, for_circuit, one_more, relayed_up, relayed_down}
-use Rattle.world.specs.Alone.{Setup, Alone, Effect, Step, Dropped, Gone, SentUp, SentDown, Framed, Done, alone_step, frame_step, up_step, answer_step, down_step, reply_step, book_writes, up_writes, writes}
+use Rattle.world.specs.Alone.{Setup, Alone, Effect, Step, Dropped, Gone, SentUp, SentDown, Framed, Done, alone_step, frame_step, up_step, answer_step, down_step, reply_step, delivered, book_writes, up_writes, writes}
 use Rattle.world.specs.Alone as alone
 use Rattle.world.specs.Headline.{CircuitState, IsOutcome, KeepsSpares, Shows}
 use Rattle.events.specs.Seen.{Seen, Frame, Up, Down, Tick, Restart}
@@ -151,39 +152,39 @@ is_drop (Ok bytes) why out h = let e : Err why ≡ Ok tt = h.0 in absurd cc
 is_drop (Err other) why out h = let same : why ≡ other = let e : Err why ≡ Err other = h.0 in cc in (ap Err (sym same), h.1)
 
 module _ (k : ℕ) (w new : WorldValue) (p : CircuitPart) (l : Leases) (j now fault : ℕ) (d : Datagram) (result : Result (Unit {0}) Discard) (reply : List ℕ)
-    (there : slice_get (datagrams w.net k dir.Up) j ≡ Some d) (answer : IsAnswer (its_answer p now d.bytes fault l.book) result reply)
+    (there : slice_get (datagrams w.net k dir.Up) j ≡ Some d) (answer : IsAnswer (its_answer p (delivered p now d) fault l.book) result reply)
     (quota : new.net.quota ≡ w.net.quota) (ups : datagrams new.net k dir.Up ≡ datagrams w.net k dir.Up)
     (stays : book_writes (record { part = p; quota = w.net.quota }) now d l.book ≡ false → disk.state_of new.disk p.region ≡ disk.state_of w.disk p.region) where
   abbrev was : CircuitState
   was = state_of w k p l
 
   abbrev is : CircuitState
-  is = state_of new k p (after_datagram p now d.bytes fault l)
+  is = state_of new k p (after_datagram p (delivered p now d) fault l)
 
   abbrev next : Alone → Alone
-  next a = after_up p now d.bytes fault a a.book
+  next a = after_up p (delivered p now d) fault a a.book
 
   -- the machine's step, where the answer is known
-  its_step : (r : Result (List ℕ) Discard) → its_answer p now d.bytes fault l.book ≡ r → (a : Alone) → Shows was was.setup a
+  its_step : (r : Result (List ℕ) Discard) → its_answer p (delivered p now d) fault l.book ≡ r → (a : Alone) → Shows was was.setup a
       → alone_step was.setup (Up j now fault) a ≡ answer_step was.setup (next a) d.proto r
   its_step r is_r a shown =
       up_step_is was.setup a j now fault d (ap (λ ds. slice_get ds j) (sym shown.up) ∙ there)
-      ∙ ap (answer_step was.setup (next a) d.proto) (ap (its_answer p now d.bytes fault) (sym shown.book) ∙ is_r)
+      ∙ ap (answer_step was.setup (next a) d.proto) (ap (its_answer p (delivered p now d) fault) (sym shown.book) ∙ is_r)
 
   its_leases : (a : Alone) → Shows was was.setup a → Holds is.leases (next a)
-  its_leases a shown = holds_datagram p now d.bytes fault l a (holds was was.setup a shown)
+  its_leases a shown = holds_datagram p (delivered p now d) fault l a (holds was was.setup a shown)
 
   its_ups : (a : Alone) → Shows was was.setup a → is.up ≡ (next a).up
-  its_ups a shown = ups ∙ shown.up ∙ sym (up_stays p now d.bytes fault a a.book)
+  its_ups a shown = ups ∙ shown.up ∙ sym (up_stays p (delivered p now d) fault a a.book)
 
   its_region : (a : Alone) → Shows was was.setup a → writes was.setup (Up j now fault) a ≡ false → is.region ≡ was.region
   its_region a shown nothing =
       stays ((λ i. up_writes was.setup now (shown.book i) (sym (ap (λ ds. slice_get ds j) (sym shown.up) ∙ there) i)) ∙ nothing)
 
-  pub reply_is : result ≡ Ok tt → its_answer p now d.bytes fault l.book ≡ Ok reply
+  pub reply_is : result ≡ Ok tt → its_answer p (delivered p now d) fault l.book ≡ Ok reply
   reply_is ok =
-      let P : Result (Unit {0}) Discard → Type 0 = λ r. IsAnswer (its_answer p now d.bytes fault l.book) r reply in
-      is_reply (its_answer p now d.bytes fault l.book) reply (subst P ok answer)
+      let P : Result (Unit {0}) Discard → Type 0 = λ r. IsAnswer (its_answer p (delivered p now d) fault l.book) r reply in
+      is_reply (its_answer p (delivered p now d) fault l.book) reply (subst P ok answer)
 
   pub up_sent : (len : ℕ) (out : List ℕ) → result ≡ Ok tt
       → datagrams new.net k dir.Down ≡ take w.net.quota (record { proto = d.proto; bytes = reply } ∷ datagrams w.net k dir.Down) → len ≡ length reply → out ≡ []
@@ -193,18 +194,18 @@ module _ (k : ℕ) (w new : WorldValue) (p : CircuitPart) (l : Leases) (j now fa
       steps_by k (Up j now fault) was is (outcome.SentDown len) out (SentDown len) (refl, empty) (λ a shown.
       known_step was.setup (Up j now fault) a (SentDown len) is _ (its_step (Ok reply) (reply_is ok) a shown) (ap SentDown (sym size))
       (shows_as is was.setup (next a) (next a).up (newest (next a).down) (λ i. record { part = p; quota = quota i }) (its_ups a shown)
-      (kept ∙ ap newest (shown.down ∙ sym (down_stays p now d.bytes fault a a.book))) (its_leases a shown)))
+      (kept ∙ ap newest (shown.down ∙ sym (down_stays p (delivered p now d) fault a a.book))) (its_leases a shown)))
       its_region
 
   pub up_dropped : (why : Discard) → result ≡ Err why → datagrams new.net k dir.Down ≡ datagrams w.net k dir.Down
       → StepsAs k (Up j now fault) was is (outcome.Dropped why) reply
   up_dropped why err downs =
-      let P : Result (Unit {0}) Discard → Type 0 = λ r. IsAnswer (its_answer p now d.bytes fault l.book) r reply in
-      let dropped = is_drop (its_answer p now d.bytes fault l.book) why reply (subst P err answer) in
+      let P : Result (Unit {0}) Discard → Type 0 = λ r. IsAnswer (its_answer p (delivered p now d) fault l.book) r reply in
+      let dropped = is_drop (its_answer p (delivered p now d) fault l.book) why reply (subst P err answer) in
       steps_by k (Up j now fault) was is (outcome.Dropped why) reply (Dropped why) (refl, dropped.1) (λ a shown.
       known_step was.setup (Up j now fault) a (Dropped why) is _ (its_step (Err why) dropped.0 a shown) refl
       (shows_as is was.setup (next a) (next a).up (next a).down (λ i. record { part = p; quota = quota i }) (its_ups a shown)
-      (downs ∙ shown.down ∙ sym (down_stays p now d.bytes fault a a.book)) (its_leases a shown)))
+      (downs ∙ shown.down ∙ sym (down_stays p (delivered p now d) fault a a.book)) (its_leases a shown)))
       its_region
 
 -- ---- a datagram at the relay
@@ -470,35 +471,39 @@ abbrev pub OneOf : ℕ → Option ℕ → Type 0
 OneOf r None = Unit {0}
 OneOf r (Some n) = n ≡ r
 
-circuit_fails_is : (part : CircuitPart) (now : ℕ) (bytes : List ℕ) (faults : ℕ → ℕ) (book : Option Book)
-    → circuit_fails now bytes faults (Some part) (Some book) ≡ its_fails part now bytes (faults part.region) book
-circuit_fails_is part now bytes faults None = refl
-circuit_fails_is part now bytes faults (Some b) = refl
+fails_here : (faults : ℕ → ℕ) (region : ℕ) (is_kept : Bool) → fails_at faults (if is_kept then Some region else None) ≡ (is_kept && not (effective 6 (faults region) == 0))
+fails_here faults region true = refl
+fails_here faults region false = refl
+
+circuit_fails_is : (part : CircuitPart) (e : Delivered) (faults : ℕ → ℕ) (book : Option Book)
+    → fails_at faults (circuit_saves e (Some part) (Some book)) ≡ its_fails part e (faults part.region) book
+circuit_fails_is part e faults None = refl
+circuit_fails_is part e faults (Some b) = fails_here faults part.region (served part e b).is_kept
 
 -- the parts, the books and the leases at circuit k
-module _ (relays : List Source) (parts : List CircuitPart) (now : ℕ) (p : CircuitPart) (bytes : List ℕ) (books : List (Option Book)) (all : List Leases) (faults : ℕ → ℕ) (k : ℕ) (l : Leases)
-    (found : addressee relays parts p.relay bytes ≡ Ok k) (there : slice_get parts k ≡ Some p) (book : slice_get books k ≡ Some l.book) (its : slice_get all k ≡ Some l) where
-  fails_is_its : received_fails relays parts now p.relay bytes faults books ≡ its_fails p now bytes (faults p.region) l.book
-  fails_is_its = ap (addressee_fails parts now bytes faults books) found ∙ (λ i. circuit_fails now bytes faults (there i) (book i)) ∙ circuit_fails_is p now bytes faults l.book
+module _ (relays : List Source) (parts : List CircuitPart) (p : CircuitPart) (e : Delivered) (books : List (Option Book)) (all : List Leases) (faults : ℕ → ℕ) (k : ℕ) (l : Leases)
+    (found : addressee relays parts e.source e.bytes ≡ Ok k) (there : slice_get parts k ≡ Some p) (book : slice_get books k ≡ Some l.book) (its : slice_get all k ≡ Some l) where
+  fails_is_its : fails_at faults (received_saves relays parts e books) ≡ its_fails p e (faults p.region) l.book
+  fails_is_its = ap (λ r. fails_at faults (addressee_saves parts e books r)) found ∙ (λ i. fails_at faults (circuit_saves e (there i) (book i))) ∙ circuit_fails_is p e faults l.book
 
-  received_is : (fails : Bool) → received relays parts now p.relay bytes fails books ≡ with_answered k books (answered p now bytes fails l.book)
-  received_is fails = ap (addressee_answered parts now bytes fails books) found ∙ λ i. circuit_answered k now bytes fails books (there i) (book i)
+  received_is : (fails : Bool) → received relays parts e fails books ≡ with_answered k books (answered p e fails l.book)
+  received_is fails = ap (addressee_answered parts e fails books) found ∙ λ i. circuit_answered k e fails books (there i) (book i)
 
-  leases_are : received_leases relays parts now p.relay bytes faults all ≡ set all k (after_datagram p now bytes (faults p.region) l)
-  leases_are = ap (addressee_leases parts now bytes faults all) found ∙ λ i. leases_with k now bytes faults all (there i) (its i)
+  leases_are : received_leases relays parts e faults all ≡ set all k (after_datagram p e (faults p.region) l)
+  leases_are = ap (addressee_leases parts e faults all) found ∙ λ i. leases_with k e faults all (there i) (its i)
 
 -- the region that a datagram of circuit k is saved to, if any is
-saves_own : (part : CircuitPart) (now : ℕ) (bytes : List ℕ) (book : Option Book) → OneOf part.region (circuit_saves now bytes (Some part) (Some book))
-saves_own part now bytes None = tt
-saves_own part now bytes (Some b) = either part.region (served part now bytes b).is_kept where
+saves_own : (part : CircuitPart) (e : Delivered) (book : Option Book) → OneOf part.region (circuit_saves e (Some part) (Some book))
+saves_own part e None = tt
+saves_own part e (Some b) = either part.region (served part e b).is_kept where
   either : (r : ℕ) (is_kept : Bool) → OneOf r (if is_kept then Some r else None)
   either r true = refl
   either r false = tt
 
 pub record IsServed (w : WorldValue) (k : ℕ) (part : CircuitPart) (l : Leases) (now fault : ℕ) (d : Datagram) (result : Result (Unit {0}) Discard) (reply : List ℕ) (after : List Leases) : Type 0 where
   pub found : addressee w.relays.topology.relays w.relays.topology.circuits part.relay d.bytes ≡ Ok k
-  pub answer : IsAnswer (its_answer part now d.bytes fault l.book) result reply
-  pub leases : slice_get after k ≡ Some (after_datagram part now d.bytes fault l)
+  pub answer : IsAnswer (its_answer part (delivered part now d) fault l.book) result reply
+  pub leases : slice_get after k ≡ Some (after_datagram part (delivered part now d) fault l)
   pub others : (c : ℕ) → eqb k c ≡ false → slice_get after c ≡ slice_get (leases_now w) c
   pub size : length after ≡ length (leases_now w)
 
@@ -506,9 +511,9 @@ pub is_served : (w : WorldValue) → IsWorld w → (k : ℕ) (the : TheCircuit w
     → slice_get (datagrams w.net k dir.Up) j ≡ Some d → slice_get (parts_in w.server) k ≡ Some given → source ≡ given.relay
     → (regions : ℕ → Region) (faults : ℕ → ℕ) → regions ≡ disk.state_of w.disk → faults given.region ≡ fault
     → (result : Result (Unit {0}) Discard) (reply : List ℕ) (fails : Bool) (after : List Leases)
-    → fails ≡ received_fails w.server.relays (parts_in w.server) now source d.bytes faults (books_in w.server)
-    → IsAnswer (received w.server.relays (parts_in w.server) now source d.bytes fails (books_in w.server)).answer result reply
-    → after ≡ received_leases w.server.relays (parts_in w.server) now source d.bytes faults (leases_in regions w.server)
+    → fails ≡ fails_at faults (received_saves w.server.relays (parts_in w.server) (delivery d.proto source now d.bytes) (books_in w.server))
+    → IsAnswer (received w.server.relays (parts_in w.server) (delivery d.proto source now d.bytes) fails (books_in w.server)).answer result reply
+    → after ≡ received_leases w.server.relays (parts_in w.server) (delivery d.proto source now d.bytes) faults (leases_in regions w.server)
     → IsServed w k the.part the.leases now fault d result reply after
 is_served w is k the j d now fault source given kept at from regions faults same_regions fuse result reply fails after failing answer leases =
     let same : given ≡ the.part = same_Some given the.part (sym at ∙ the.served) in
@@ -520,18 +525,18 @@ is_served w is k the j d now fault source given kept at from regions faults same
     let parts = parts_in w.server in
     let books = books_in w.server in
     let all = leases_now w in
-    let its_fault : fails ≡ its_fails the.part now d.bytes fault the.leases.book =
-    failing ∙ ap (λ s. received_fails relays parts now s d.bytes faults books) comes
-    ∙ fails_is_its relays parts now the.part d.bytes books all faults k the.leases here the.served the.book the.its
-    ∙ ap (λ f. its_fails the.part now d.bytes f the.leases.book) at_region in
-    let answers = ap (λ s. received relays parts now s d.bytes fails books) comes
-    ∙ received_is relays parts now the.part d.bytes books all faults k the.leases here the.served the.book the.its fails
-    ∙ ap (λ f. with_answered k books (answered the.part now d.bytes f the.leases.book)) its_fault in
-    let done = after_datagram the.part now d.bytes fault the.leases in
+    let its_fault : fails ≡ its_fails the.part (delivered the.part now d) fault the.leases.book =
+    failing ∙ ap (λ s. fails_at faults (received_saves relays parts (delivery d.proto s now d.bytes) books)) comes
+    ∙ fails_is_its relays parts the.part (delivered the.part now d) books all faults k the.leases here the.served the.book the.its
+    ∙ ap (λ f. its_fails the.part (delivered the.part now d) f the.leases.book) at_region in
+    let answers = ap (λ s. received relays parts (delivery d.proto s now d.bytes) fails books) comes
+    ∙ received_is relays parts the.part (delivered the.part now d) books all faults k the.leases here the.served the.book the.its fails
+    ∙ ap (λ f. with_answered k books (answered the.part (delivered the.part now d) f the.leases.book)) its_fault in
+    let done = after_datagram the.part (delivered the.part now d) fault the.leases in
     let written : after ≡ set all k done =
-    leases ∙ (λ i. received_leases relays parts now (comes i) d.bytes faults (leases_in (same_regions i) w.server))
-    ∙ leases_are relays parts now the.part d.bytes books all faults k the.leases here the.served the.book the.its
-    ∙ ap (λ f. set all k (after_datagram the.part now d.bytes f the.leases)) at_region in
+    leases ∙ (λ i. received_leases relays parts (delivery d.proto (comes i) now d.bytes) faults (leases_in (same_regions i) w.server))
+    ∙ leases_are relays parts the.part (delivered the.part now d) books all faults k the.leases here the.served the.book the.its
+    ∙ ap (λ f. set all k (after_datagram the.part (delivered the.part now d) f the.leases)) at_region in
     let P : Received → Type 0 = λ r. IsAnswer r.answer result reply in
     record {
       found = found;
@@ -576,38 +581,39 @@ pub same_device : (x : Option ℕ) (old new : Device) → x ≡ None → WritesA
 same_device None old new none same = same
 same_device (Some r) old new none writes = absurd cc
 
-none_saved : (setup : Setup) (now : ℕ) (d : Datagram) (book : Option Book) → book_writes setup now d book ≡ false → circuit_saves now d.bytes (Some setup.part) (Some book) ≡ None
+none_saved : (setup : Setup) (now : ℕ) (d : Datagram) (book : Option Book) → book_writes setup now d book ≡ false → circuit_saves (delivered setup.part now d) (Some setup.part) (Some book) ≡ None
 none_saved setup now d None nothing = refl
 none_saved setup now d (Some b) nothing = ap (λ (is_kept : Bool). if is_kept then Some setup.part.region else None) nothing
 
 its_saves : (w : WorldValue) → IsWorld w → (k : ℕ) (the : TheCircuit w k) (j : ℕ) (d : Datagram) (now : ℕ) (source : Source) (given : CircuitPart)
     → slice_get (datagrams w.net k dir.Up) j ≡ Some d → slice_get (parts_in w.server) k ≡ Some given → source ≡ given.relay
-    → received_saves w.server.relays (parts_in w.server) now source d.bytes (books_in w.server) ≡ circuit_saves now d.bytes (Some the.part) (Some the.leases.book)
+    → received_saves w.server.relays (parts_in w.server) (delivery d.proto source now d.bytes) (books_in w.server) ≡ circuit_saves (delivered the.part now d) (Some the.part) (Some the.leases.book)
 its_saves w is k the j d now source given kept at from =
     let same : given ≡ the.part = same_Some given the.part (sym at ∙ the.served) in
     let comes : source ≡ the.part.relay = from ∙ ap (λ p. p.relay) same in
     let found = each_at (IsFor w.relays.topology k the.part) (datagrams w.net k dir.Up) j d (is.addressed k the.part the.there) kept in
-    let here = (λ i. addressee (is.sources i) (is.parts i) (comes i) d.bytes) ∙ found in
-    ap (addressee_saves (parts_in w.server) now d.bytes (books_in w.server)) here ∙ (λ i. circuit_saves now d.bytes (the.served i) (the.book i))
+    let here = (λ i. addressee (is.sources i) (is.parts i) the.part.relay d.bytes) ∙ found in
+    ap (λ x. received_saves w.server.relays (parts_in w.server) (delivery d.proto x now d.bytes) (books_in w.server)) comes
+    ∙ ap (addressee_saves (parts_in w.server) (delivered the.part now d) (books_in w.server)) here ∙ (λ i. circuit_saves (delivered the.part now d) (the.served i) (the.book i))
 
 -- what a datagram of circuit k writes is its region, if anything
 saves_its : (w : WorldValue) → IsWorld w → (k : ℕ) (the : TheCircuit w k) (j : ℕ) (d : Datagram) (now : ℕ) (source : Source) (given : CircuitPart)
     → slice_get (datagrams w.net k dir.Up) j ≡ Some d → slice_get (parts_in w.server) k ≡ Some given → source ≡ given.relay
-    → OneOf given.region (received_saves w.server.relays (parts_in w.server) now source d.bytes (books_in w.server))
+    → OneOf given.region (received_saves w.server.relays (parts_in w.server) (delivery d.proto source now d.bytes) (books_in w.server))
 saves_its w is k the j d now source given kept at from =
     let same : given ≡ the.part = same_Some given the.part (sym at ∙ the.served) in
     let saves = its_saves w is k the j d now source given kept at from in
-    subst (λ (p : CircuitPart). OneOf p.region (received_saves w.server.relays (parts_in w.server) now source d.bytes (books_in w.server))) (sym same)
-    (subst (OneOf the.part.region) (sym saves) (saves_own the.part now d.bytes the.leases.book))
+    subst (λ (p : CircuitPart). OneOf p.region (received_saves w.server.relays (parts_in w.server) (delivery d.proto source now d.bytes) (books_in w.server))) (sym same)
+    (subst (OneOf the.part.region) (sym saves) (saves_own the.part (delivered the.part now d) the.leases.book))
 
 -- A datagram of circuit k: its fuse is set, the server takes it, and the fuse is put out.
 pub beside_up : (w : WorldValue) → IsWorld w → (k : ℕ) (the : TheCircuit w k) (j : ℕ) (d : Datagram) (now : ℕ) (source : Source) (given : CircuitPart) (region : ℕ)
     → slice_get (datagrams w.net k dir.Up) j ≡ Some d → slice_get (parts_in w.server) k ≡ Some given → source ≡ given.relay → region ≡ given.region
     → (set served new : ModelDiskValue) → SameBut region w.disk set
-    → WritesAt true (received_saves w.server.relays (parts_in w.server) now source d.bytes (books_in w.server)) (disk.device_of set) (disk.device_of served)
+    → WritesAt true (received_saves w.server.relays (parts_in w.server) (delivery d.proto source now d.bytes) (books_in w.server)) (disk.device_of set) (disk.device_of served)
     → SameBut region served new → Beside region (disk.device_of w.disk) (disk.device_of new)
 beside_up w is k the j d now source given region kept at from its set served new first writes last =
-    let one = subst (λ r. OneOf r (received_saves w.server.relays (parts_in w.server) now source d.bytes (books_in w.server))) (sym its) (saves_its w is k the j d now source given kept at from) in
+    let one = subst (λ r. OneOf r (received_saves w.server.relays (parts_in w.server) (delivery d.proto source now d.bytes) (books_in w.server))) (sym its) (saves_its w is k the j d now source given kept at from) in
     let before = beside_set region w.disk set first in
     let while = beside_written region _ (disk.device_of set) (disk.device_of served) one writes in
     let after = beside_set region served new last in
@@ -617,12 +623,12 @@ beside_up w is k the j d now source given region kept at from its set served new
 -- where a datagram of circuit k has nothing saved, every region stays
 pub quiet_up : (w : WorldValue) → IsWorld w → (k : ℕ) (the : TheCircuit w k) (j : ℕ) (d : Datagram) (now : ℕ) (source : Source) (given : CircuitPart)
     → slice_get (datagrams w.net k dir.Up) j ≡ Some d → slice_get (parts_in w.server) k ≡ Some given → source ≡ given.relay
-    → (set served : ModelDiskValue) → WritesAt true (received_saves w.server.relays (parts_in w.server) now source d.bytes (books_in w.server)) (disk.device_of set) (disk.device_of served)
+    → (set served : ModelDiskValue) → WritesAt true (received_saves w.server.relays (parts_in w.server) (delivery d.proto source now d.bytes) (books_in w.server)) (disk.device_of set) (disk.device_of served)
     → book_writes (record { part = the.part; quota = w.net.quota }) now d the.leases.book ≡ false → disk.state_of served ≡ disk.state_of set
 quiet_up w is k the j d now source given kept at from set served writes nothing =
     let saves = its_saves w is k the j d now source given kept at from in
     ap (λ (device : Device). device.region)
-    (same_device (received_saves w.server.relays (parts_in w.server) now source d.bytes (books_in w.server)) (disk.device_of set) (disk.device_of served)
+    (same_device (received_saves w.server.relays (parts_in w.server) (delivery d.proto source now d.bytes) (books_in w.server)) (disk.device_of set) (disk.device_of served)
     (saves ∙ none_saved (record { part = the.part; quota = w.net.quota }) now d the.leases.book nothing) writes)
 
 -- another circuit's region is another one

@@ -1,6 +1,7 @@
 //! Where what is sent arrives, among any circuits and relays.
 ghost use Rattle.std.specs.Prelude.{◌≡◌, ℕ, List, Some, Ok, true, slice_get};
 ghost use Rattle.std.specs.List.{list_any};
+ghost use Rattle.types.specs.Delivered.{Delivered};
 ghost use Rattle.types.specs.Addr.{same_source};
 ghost use Rattle.types.specs.declared.addr.Source.{Source};
 ghost use Rattle.types.specs.declared.dest.Proto.{Proto};
@@ -30,11 +31,11 @@ pub fn comes_to_its_circuit()
 /// What the server answers to a circuit's datagram comes down to that circuit, by the relay behind which
 /// it is, as the circuit's own part makes it.
 pub fn reply_comes_to_its_circuit()
-    ensures { (topology : Topology) (relay c : ℕ) (part : CircuitPart) (now : ℕ) (datagram bytes : List ℕ) (b : Book)
+    ensures { (topology : Topology) (relay c : ℕ) (part : CircuitPart) (d : Delivered) (bytes : List ℕ) (b : Book)
         → slice_get topology.circuits c ≡ Some part
         → ((d : ℕ) (other : CircuitPart) → slice_get topology.circuits d ≡ Some other → other.id ≡ part.id → d ≡ c)
-        → slice_get topology.relays relay ≡ Some part.relay → IsPart part → AreBytes datagram
-        → addressee topology.relays topology.circuits part.relay datagram ≡ Ok c → (served part now datagram b).answer ≡ Ok bytes
+        → slice_get topology.relays relay ≡ Some part.relay → IsPart part → AreBytes d.bytes
+        → addressee topology.relays topology.circuits part.relay d.bytes ≡ Ok c → (served part d b).answer ≡ Ok bytes
         → relayed_down_in topology relay topology.listen4 bytes ≡ for_circuit c (relayed_down part V4 bytes) }
 {
     gives_whole_addresses();

@@ -19,9 +19,9 @@ ghost use Rattle.wire.specs.Bytes.{AreBytes};
 use crate::addressed::{comes_to_its_circuit, reply_comes_to_its_circuit};
 use crate::machine::{Machine, run};
 use crate::sink::Sink;
-use events::{Event, Outcome};
 use config::Config;
 use dispatch::{OpenFault, Server};
+use events::{Event, Outcome};
 use lease_disk::{Image, ModelDisk};
 use lossy_net::{Dir, Net};
 use relay::Relays;
@@ -204,7 +204,7 @@ impl World {
         self.disk.fail_at(region, fault);
         let result = self
             .server
-            .receive(source, datagram, now, &mut self.disk, out);
+            .receive(proto, source, datagram, now, &mut self.disk, out);
         self.disk.fail_at(region, 0);
         match result {
             Ok(()) => {
@@ -268,6 +268,7 @@ impl World {
     /// A datagram at the server that no relay sent.
     fn stray_up(
         &mut self,
+        proto: Proto,
         source: Source,
         datagram: &[u8],
         now: Moment,
@@ -286,7 +287,7 @@ impl World {
         }
         match self
             .server
-            .receive(source, datagram, now, &mut self.disk, out)
+            .receive(proto, source, datagram, now, &mut self.disk, out)
         {
             Ok(()) => unreachable!(),
             Err(why) => Outcome::Dropped(why),
@@ -346,7 +347,9 @@ impl World {
             }
             Event::Tick(now) => self.tick(now, out),
             Event::Restart(images) => self.restart(images, out),
-            Event::StrayUp(_, source, datagram, now) => self.stray_up(source, datagram, now, out),
+            Event::StrayUp(proto, source, datagram, now) => {
+                self.stray_up(proto, source, datagram, now, out)
+            }
             Event::StrayDown(relay, source, datagram) => {
                 self.stray_down(relay, source, datagram, out)
             }

@@ -15,15 +15,15 @@ returns-clause-later c now b book = c.leaves_a_book.ensures.later b.clock (max b
 
 pub returns-clause-answered : goal.returns-clause-answered
 unfolding served
-returns-clause-answered c part now datagram b sound book = by_message (message_of datagram) where
-  before : IsBook (book_at now b)
-  before = c.leaves_a_book.ensures.later b.clock (max b.clock now) b.four book
+returns-clause-answered c part d b sound book = by_message (message_of d.bytes) where
+  before : IsBook (book_at d.moment b)
+  before = c.leaves_a_book.ensures.later b.clock (max b.clock d.moment) b.four book
 
-  by_request : (m : MessageValue) (request : Result Request4 Discard) → IsBook (request_served part m (book_at now b) request).book
+  by_request : (m : MessageValue) (request : Result Request4 Discard) → IsBook (request_served part m (book_at d.moment b) request).book
   by_request m (Err why) = before
-  by_request m (Ok request) = c.leaves_a_book.ensures.decided (pool4_of part) (book_at now b).clock request sound.pool4 (book_at now b).four before
+  by_request m (Ok request) = c.leaves_a_book.ensures.decided (pool4_of part) (book_at d.moment b).clock request sound.pool4 (book_at d.moment b).four before
 
-  by_message : (message : Result MessageValue MessageFault) → IsBook (message_served part (book_at now b) message).book
+  by_message : (message : Result MessageValue MessageFault) → IsBook (message_served part (book_at d.moment b) message).book
   by_message (Err fault) = before
   by_message (Ok m) = by_request m (request_in m)
 

@@ -20,12 +20,12 @@ whole x part b request Inform is = refl
 whole x part b request Nak is = refl
 
 pub returns : goal.returns
-returns x topology relay c part now datagram bytes b there alone behind sound fits found answered =
-    let of = is_of topology.circuits c part there part.relay datagram topology.relays found in
-    let sent = is_reply part now datagram bytes b of.message of.read answered in
-    let spelled = (x.exact_reading.ensures.message datagram of.message fits).0 of.read in
+returns x topology relay c part d bytes b there alone behind sound fits found answered =
+    let of = is_of topology.circuits c part there part.relay d.bytes topology.relays found in
+    let sent = is_reply part d bytes b of.message of.read answered in
+    let spelled = (x.exact_reading.ensures.message d.bytes of.message fits).0 of.read in
     let again = reply_message part of.message sent.reply in
-    let size = whole x part (book_at now b) sent.request sent.reply sent.answer in
+    let size = whole x part (book_at d.moment b) sent.request sent.reply sent.answer in
     let read : message_of bytes ≡ Ok again = ap message_of sent.written ∙ x.reply_is_read.ensures part of.message sent.reply sound spelled.sized size in
     let agent : agent_of again ≡ Some (Ok of.suboptions) = ap (option_map suboptions_of) (bears part of.message sent.reply of.information of.there) ∙ ap Some of.are_read in
     x.named_circuit.ensures topology relay topology.listen4 bytes c part again of.suboptions there alone behind refl read agent of.named

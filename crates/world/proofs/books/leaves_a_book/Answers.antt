@@ -6,12 +6,12 @@ use Rattle.world.proofs.books.leaves_a_book.Goals as goal
 pub returns-clause-step : goal.returns-clause-step
 returns-clause-step c setup s a sound books =
     let law = c.leaves_a_book.ensures in
-    held_step IsBook setup law.later law.kept (λ now datagram b book. law.answered setup.part now datagram b sound book) s a books
+    held_step IsBook setup law.later law.kept (λ e b book. law.answered setup.part e b sound book) s a books
 
 pub returns-clause-run : goal.returns-clause-run
 returns-clause-run c setup seen a sound books =
     let law = c.leaves_a_book.ensures in
-    held_after IsBook setup law.later law.kept (λ now datagram b book. law.answered setup.part now datagram b sound book) seen a books
+    held_after IsBook setup law.later law.kept (λ e b book. law.answered setup.part e b sound book) seen a books
 
 pub returns-clause-own : goal.returns-clause-own
 returns-clause-own c setup s a sound books = own_step setup sound.pool4 s a books

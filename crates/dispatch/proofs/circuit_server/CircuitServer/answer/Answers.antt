@@ -1,15 +1,14 @@
-use Rattle.std.proofs.Common.{◌≡◌, ℕ, List, not, true, false, refl, sym, ap, subst, ◌∙◌, Ok, Err, Result, is_ok}
+use Rattle.std.proofs.Common.{◌≡◌, ℕ, List, not, true, false, refl, sym, ap, subst, ◌∙◌, Err, Result, is_ok}
 use Rattle.std.specs.Prelude.{Some, is_some}
 use Rattle.types.specs.declared.discard.Discard.{Discard}
 use Rattle.types.specs.declared.discard.Discard.TheVariants.{DiskFault}
-use Rattle.v4_message.specs.Reading.{message_of}
 use Rattle.bindings_v4.specs.Slots4 as slots
 use Rattle.bindings_v4.specs.Table4.{answer4}
 use Rattle.config.specs.CircuitPart.{pool4_of}
 use Rattle.lease_disk.specs.Device.{Device}
 use Rattle.lease_disk.proofs.Frames.{touches_none}
 use Rattle.dispatch.specs.Received.{IsAnswer}
-use Rattle.dispatch.specs.Server.{drop, reply_to}
+use Rattle.dispatch.specs.Server.{book_at, drop, reply_to}
 use Rattle.dispatch.specs.ServerValue.{HasPool, open_book}
 use Rattle.dispatch.proofs.AnswerLemmas.{IsServed, refused, decided, served_as, counted, fails_by, not_more, held, failed, fails_as, leases_as, writes_as}
 use Rattle.dispatch.proofs.circuit_server.CircuitServer.answer.Given as given
@@ -18,12 +17,12 @@ use Rattle.dispatch.proofs.circuit_server.CircuitServer.answer.Goals as goal
 
 -- ---- the two cases of an open circuit
 
-refusal : (g : given.Over) (c : goal.In-Err g) (datagram : List ℕ) → message_of datagram ≡ Ok c.args.message.now
-    → IsServed (record { part = c.args.part.now; state = c.args.self.now }) c.args.now datagram c.args.part.now c.in-Some.circuit (drop c.in-Err.why (open_book c.tick.new.self))
-refusal g c datagram read = record {
+refusal : (g : given.Over) (c : goal.In-Err g)
+    → IsServed (record { part = c.args.part.now; state = c.args.self.now }) c.args.delivery.now c.args.part.now c.in-Some.circuit (drop c.in-Err.why (open_book c.tick.new.self))
+refusal g c = record {
   was = λ i. record { part = c.args.part.now; state = (sym c.self.view_is ∙ c.in-Some.is) i };
   served_so =
-      refused c.args.part.now c.args.now datagram c.args.message.now read (open_book c.in-Some.circuit) (open_book c.tick.new.self) c.tick.ensures.book c.in-Err.why
+      refused c.args.part.now c.args.delivery.now c.args.message.now c.requires.read (open_book c.in-Some.circuit) (open_book c.tick.new.self) (c.tick.ensures.book ∙ ap (λ d. book_at d.moment (open_book c.in-Some.circuit)) c.delivery.view_is) c.in-Err.why
       (sym c.request_in.ensures ∙ c.in-Err.is);
 }
 
@@ -32,13 +31,13 @@ pool_is : (g : given.Over) (c : goal.After-keep g) → c.tick.new.self.slots.poo
 pool_is g c =
     c.tick.ensures.pool ∙ subst (HasPool c.args.part.now) (sym c.self.view_is ∙ c.in-Some.is) c.requires.pool
 
-decision : (g : given.Over) (c : goal.After-keep g) (datagram : List ℕ) → message_of datagram ≡ Ok c.args.message.now
-    → IsServed (record { part = c.args.part.now; state = c.args.self.now }) c.args.now datagram c.args.part.now c.in-Some.circuit (record {
+decision : (g : given.Over) (c : goal.After-keep g)
+    → IsServed (record { part = c.args.part.now; state = c.args.self.now }) c.args.delivery.now c.args.part.now c.in-Some.circuit (record {
       answer = reply_to c.args.part.now c.args.message.now c.decide-decision.result.answer;
       book = record { clock = c.tick.new.self.clock; four = slots.book_of c.tick.new.self.clock (slots.with_decision c.decide-decision.result c.tick.new.self.slots) };
       is_kept = is_some c.decide-decision.result.keep;
     })
-decision g c datagram read =
+decision g c =
     let part = c.args.part.now in
     let clock = c.tick.new.self.clock in
     let b = open_book c.tick.new.self in
@@ -47,7 +46,7 @@ decision g c datagram read =
     record {
       was = λ i. record { part = part; state = (sym c.self.view_is ∙ c.in-Some.is) i };
       served_so =
-          decided part c.args.now datagram c.args.message.now read (open_book c.in-Some.circuit) b c.tick.ensures.book m (sym c.request_in.ensures ∙ c.in-Ok.is)
+          decided part c.args.delivery.now c.args.message.now c.requires.read (open_book c.in-Some.circuit) b (c.tick.ensures.book ∙ ap (λ d. book_at d.moment (open_book c.in-Some.circuit)) c.delivery.view_is) m (sym c.request_in.ensures ∙ c.in-Ok.is)
           ∙ served_as part c.args.message.now clock (answer4 (pool4_of part) clock b.four m) c.decide-decision.result.answer
           (slots.book_of clock (slots.with_decision c.decide-decision.result c.tick.new.self.slots)) (is_some c.decide-decision.result.keep)
           (c.decide-decision.ensures.answer ∙ ap (λ p. (answer4 p clock b.four m).answer) pool)
@@ -58,72 +57,72 @@ decision g c datagram read =
 -- ---- the request is refused
 
 pub returns-in-Err-clause-answer : goal.returns-in-Err-clause-answer
-returns-in-Err-clause-answer g c datagram read =
+returns-in-Err-clause-answer g c =
     let answer : Result (List ℕ) Discard → Type 0 = λ x. IsAnswer x (Err c.in-Err.why) c.args.out.now in
-    subst answer (sym (ap (λ a. a.answer) (held (refusal g (goal.at.returns-in-Err-clause-answer g c).In-Err datagram read) _ (not_more _)))) (refl, c.requires.empty)
+    subst answer (sym (ap (λ a. a.answer) (held (refusal g (goal.at.returns-in-Err-clause-answer g c).In-Err) _ (not_more _)))) (refl, c.requires.empty)
 
 pub returns-in-Err-clause-book : goal.returns-in-Err-clause-book
-returns-in-Err-clause-book g c datagram read =
-    ap (λ a. a.book) (sym (held (refusal g (goal.at.returns-in-Err-clause-book g c).In-Err datagram read) _ (not_more _)))
+returns-in-Err-clause-book g c =
+    ap (λ a. a.book) (sym (held (refusal g (goal.at.returns-in-Err-clause-book g c).In-Err) _ (not_more _)))
 
 pub returns-in-Err-clause-fails : goal.returns-in-Err-clause-fails
-returns-in-Err-clause-fails g c tells datagram read =
-    fails_as (refusal g (goal.at.returns-in-Err-clause-fails g c).In-Err datagram read) (g.D.Disk.device c.args.disk.now).fuse _ (not_more _)
+returns-in-Err-clause-fails g c tells =
+    fails_as (refusal g (goal.at.returns-in-Err-clause-fails g c).In-Err) (g.D.Disk.device c.args.disk.now).fuse _ (not_more _)
 
 pub returns-in-Err-clause-leases : goal.returns-in-Err-clause-leases
-returns-in-Err-clause-leases g c tells datagram read =
+returns-in-Err-clause-leases g c tells =
     let regions = (g.D.Disk.device c.args.disk.now).region in
-    leases_as (refusal g (goal.at.returns-in-Err-clause-leases g c).In-Err datagram read) regions regions (g.D.Disk.device c.args.disk.now).fuse (open_book c.tick.new.self) true refl (λ keeps. absurd cc) (λ changes. refl) refl
+    leases_as (refusal g (goal.at.returns-in-Err-clause-leases g c).In-Err) regions regions (g.D.Disk.device c.args.disk.now).fuse (open_book c.tick.new.self) true refl (λ keeps. absurd cc) (λ changes. refl) refl
 
 pub returns-in-Err-clause-writes : goal.returns-in-Err-clause-writes
-returns-in-Err-clause-writes g c datagram read =
+returns-in-Err-clause-writes g c =
     let device = g.D.Disk.device c.args.disk.now in
-    writes_as (refusal g (goal.at.returns-in-Err-clause-writes g c).In-Err datagram read) g.D.Disk.tells device device (λ nothing. refl) (touches_none g.D.Disk.tells c.args.part.now.region device)
+    writes_as (refusal g (goal.at.returns-in-Err-clause-writes g c).In-Err) g.D.Disk.tells device device (λ nothing. refl) (touches_none g.D.Disk.tells c.args.part.now.region device)
 
 -- ---- the decision is kept
 
 pub returns-in-Ok-keep-clause-answer : goal.returns-in-Ok-keep-clause-answer
-returns-in-Ok-keep-clause-answer g c datagram read =
+returns-in-Ok-keep-clause-answer g c =
     let answer : Result (List ℕ) Discard → Type 0 = λ x. IsAnswer x c.reply.result c.reply.new.out in
-    subst answer (sym (ap (λ a. a.answer) (held (decision g (goal.at.returns-in-Ok-keep-clause-answer g c).After-keep datagram read) _ (counted c.keep.result _ _ c.keep.ensures.failures ∙ ap (λ r. not (is_ok r)) c.in-Ok-keep.is)))) c.reply.ensures
+    subst answer (sym (ap (λ a. a.answer) (held (decision g (goal.at.returns-in-Ok-keep-clause-answer g c).After-keep) _ (counted c.keep.result _ _ c.keep.ensures.failures ∙ ap (λ r. not (is_ok r)) c.in-Ok-keep.is)))) c.reply.ensures
 
 pub returns-in-Ok-keep-clause-book : goal.returns-in-Ok-keep-clause-book
-returns-in-Ok-keep-clause-book g c datagram read =
-    ap Some c.keep.ensures.book ∙ ap (λ a. a.book) (sym (held (decision g (goal.at.returns-in-Ok-keep-clause-book g c).After-keep datagram read) _ (counted c.keep.result _ _ c.keep.ensures.failures ∙ ap (λ r. not (is_ok r)) c.in-Ok-keep.is)))
+returns-in-Ok-keep-clause-book g c =
+    ap Some c.keep.ensures.book ∙ ap (λ a. a.book) (sym (held (decision g (goal.at.returns-in-Ok-keep-clause-book g c).After-keep) _ (counted c.keep.result _ _ c.keep.ensures.failures ∙ ap (λ r. not (is_ok r)) c.in-Ok-keep.is)))
 
 pub returns-in-Ok-keep-clause-fails : goal.returns-in-Ok-keep-clause-fails
-returns-in-Ok-keep-clause-fails g c tells datagram read =
-    fails_as (decision g (goal.at.returns-in-Ok-keep-clause-fails g c).After-keep datagram read) (g.D.Disk.device c.args.disk.now).fuse _ (fails_by c.keep.result _ _ _ c.keep.ensures.failures (c.keep.ensures.fails tells))
+returns-in-Ok-keep-clause-fails g c tells =
+    fails_as (decision g (goal.at.returns-in-Ok-keep-clause-fails g c).After-keep) (g.D.Disk.device c.args.disk.now).fuse _ (fails_by c.keep.result _ _ _ c.keep.ensures.failures (c.keep.ensures.fails tells))
 
 pub returns-in-Ok-keep-clause-leases : goal.returns-in-Ok-keep-clause-leases
-returns-in-Ok-keep-clause-leases g c tells datagram read =
-    leases_as (decision g (goal.at.returns-in-Ok-keep-clause-leases g c).After-keep datagram read) (g.D.Disk.device c.args.disk.now).region (g.D.Disk.device c.keep.new.disk).region (g.D.Disk.device c.args.disk.now).fuse (open_book c.keep.new.self) true c.keep.ensures.book
+returns-in-Ok-keep-clause-leases g c tells =
+    leases_as (decision g (goal.at.returns-in-Ok-keep-clause-leases g c).After-keep) (g.D.Disk.device c.args.disk.now).region (g.D.Disk.device c.keep.new.disk).region (g.D.Disk.device c.args.disk.now).fuse (open_book c.keep.new.self) true c.keep.ensures.book
     (c.keep.ensures.kept tells) (λ nothing. ap (λ (d : Device). d.region) (c.keep.ensures.stays nothing)) (sym (ap is_ok c.in-Ok-keep.is) ∙ c.keep.ensures.fails tells)
 
 pub returns-in-Ok-keep-clause-writes : goal.returns-in-Ok-keep-clause-writes
-returns-in-Ok-keep-clause-writes g c datagram read =
-    writes_as (decision g (goal.at.returns-in-Ok-keep-clause-writes g c).After-keep datagram read) g.D.Disk.tells (g.D.Disk.device c.args.disk.now) (g.D.Disk.device c.keep.new.disk) c.keep.ensures.stays c.keep.ensures.frame
+returns-in-Ok-keep-clause-writes g c =
+    writes_as (decision g (goal.at.returns-in-Ok-keep-clause-writes g c).After-keep) g.D.Disk.tells (g.D.Disk.device c.args.disk.now) (g.D.Disk.device c.keep.new.disk) c.keep.ensures.stays c.keep.ensures.frame
 
 -- ---- the save fails
 
 pub returns-in-Err-keep-clause-answer : goal.returns-in-Err-keep-clause-answer
-returns-in-Err-keep-clause-answer g c datagram read =
+returns-in-Err-keep-clause-answer g c =
     let answer : Result (List ℕ) Discard → Type 0 = λ x. IsAnswer x (Err DiskFault) c.args.out.now in
-    subst answer (sym (ap (λ a. a.answer) (failed (decision g (goal.at.returns-in-Err-keep-clause-answer g c).After-keep datagram read) _ (counted c.keep.result _ _ c.keep.ensures.failures ∙ ap (λ r. not (is_ok r)) c.in-Err-keep.is) c.in-Err-keep.ensures.cause))) (refl, c.requires.empty)
+    subst answer (sym (ap (λ a. a.answer) (failed (decision g (goal.at.returns-in-Err-keep-clause-answer g c).After-keep) _ (counted c.keep.result _ _ c.keep.ensures.failures ∙ ap (λ r. not (is_ok r)) c.in-Err-keep.is) c.in-Err-keep.ensures.cause))) (refl, c.requires.empty)
 
 pub returns-in-Err-keep-clause-book : goal.returns-in-Err-keep-clause-book
-returns-in-Err-keep-clause-book g c datagram read =
-    ap (λ a. a.book) (sym (failed (decision g (goal.at.returns-in-Err-keep-clause-book g c).After-keep datagram read) _ (counted c.keep.result _ _ c.keep.ensures.failures ∙ ap (λ r. not (is_ok r)) c.in-Err-keep.is) c.in-Err-keep.ensures.cause))
+returns-in-Err-keep-clause-book g c =
+    ap (λ a. a.book) (sym (failed (decision g (goal.at.returns-in-Err-keep-clause-book g c).After-keep) _ (counted c.keep.result _ _ c.keep.ensures.failures ∙ ap (λ r. not (is_ok r)) c.in-Err-keep.is) c.in-Err-keep.ensures.cause))
 
 pub returns-in-Err-keep-clause-fails : goal.returns-in-Err-keep-clause-fails
-returns-in-Err-keep-clause-fails g c tells datagram read =
-    fails_as (decision g (goal.at.returns-in-Err-keep-clause-fails g c).After-keep datagram read) (g.D.Disk.device c.args.disk.now).fuse _ (fails_by c.keep.result _ _ _ c.keep.ensures.failures (c.keep.ensures.fails tells))
+returns-in-Err-keep-clause-fails g c tells =
+    fails_as (decision g (goal.at.returns-in-Err-keep-clause-fails g c).After-keep) (g.D.Disk.device c.args.disk.now).fuse _ (fails_by c.keep.result _ _ _ c.keep.ensures.failures (c.keep.ensures.fails tells))
 
 pub returns-in-Err-keep-clause-leases : goal.returns-in-Err-keep-clause-leases
-returns-in-Err-keep-clause-leases g c tells datagram read =
-    leases_as (decision g (goal.at.returns-in-Err-keep-clause-leases g c).After-keep datagram read) (g.D.Disk.device c.args.disk.now).region (g.D.Disk.device c.keep.new.disk).region (g.D.Disk.device c.args.disk.now).fuse (open_book c.keep.new.self) false c.keep.ensures.book
+returns-in-Err-keep-clause-leases g c tells =
+    leases_as (decision g (goal.at.returns-in-Err-keep-clause-leases g c).After-keep) (g.D.Disk.device c.args.disk.now).region (g.D.Disk.device c.keep.new.disk).region (g.D.Disk.device c.args.disk.now).fuse (open_book c.keep.new.self) false c.keep.ensures.book
     (c.keep.ensures.kept tells) (λ nothing. ap (λ (d : Device). d.region) (c.keep.ensures.stays nothing)) (sym (ap is_ok c.in-Err-keep.is) ∙ c.keep.ensures.fails tells)
 
 pub returns-in-Err-keep-clause-writes : goal.returns-in-Err-keep-clause-writes
-returns-in-Err-keep-clause-writes g c datagram read =
-    writes_as (decision g (goal.at.returns-in-Err-keep-clause-writes g c).After-keep datagram read) g.D.Disk.tells (g.D.Disk.device c.args.disk.now) (g.D.Disk.device c.keep.new.disk) c.keep.ensures.stays c.keep.ensures.frame
+returns-in-Err-keep-clause-writes g c =
+    writes_as (decision g (goal.at.returns-in-Err-keep-clause-writes g c).After-keep) g.D.Disk.tells (g.D.Disk.device c.args.disk.now) (g.D.Disk.device c.keep.new.disk) c.keep.ensures.stays c.keep.ensures.frame

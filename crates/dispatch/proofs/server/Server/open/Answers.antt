@@ -1,6 +1,5 @@
-use Rattle.std.proofs.Common.{◌≡◌, ◌++◌, List, map, take, length, drop, sym, ap, subst, ◌∙◌, arith}
+use Rattle.std.proofs.Common.{List, map, length, drop, sym, ap, subst, ◌∙◌, arith}
 use Rattle.std.specs.Prelude.{All, Option}
-use Rattle.config.specs.CircuitPart.{parts_of}
 use Rattle.dispatch.specs.Leases.{AreSynced, found_leases}
 use Rattle.dispatch.specs.ServerValue.{HasItsPool, IsReady, OpenCircuitValue, RegionsDiffer, leases_of, with_states}
 use Rattle.dispatch.proofs.IndexLemmas.{regions_differ}

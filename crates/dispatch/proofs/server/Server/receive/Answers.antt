@@ -3,14 +3,15 @@ use Rattle.std.specs.Prelude.{Option, Some, Ok, slice_get, option_map, All}
 use Rattle.std.proofs.lemmas.List.{length-set, map-set}
 use Rattle.std.proofs.lemmas.List.Elements.{All-set}
 use Rattle.std.proofs.lemmas.Option.{slice_get-map, slice_get_within}
+use Rattle.types.specs.Delivered.{delivery}
 use Rattle.config.specs.CircuitPart.{CircuitPart}
 use Rattle.lease_disk.specs.Device.{WritesAt}
 use Rattle.dispatch.specs.Addressee.{addressee}
 use Rattle.dispatch.specs.Leases.{addressee_leases, received_leases, restarts_of}
-use Rattle.dispatch.specs.Received.{Received, IsAnswer, addressee_answered, addressee_fails, received, received_fails, received_saves}
+use Rattle.dispatch.specs.Received.{Received, IsAnswer, addressee_answered, addressee_saves, fails_at, received, received_saves}
 use Rattle.dispatch.specs.ServerValue.{CircuitServerValue, HasItsPool, IsReady, IsReadyFor, ServerValue, book_of, books_in, leases_in, leases_of, part_of, parts_in, with_states}
 use Rattle.dispatch.proofs.AnswerLemmas.{not_more}
-use Rattle.dispatch.proofs.ReceivedLemmas.{received_at, fails_at, leases_at, saves_at}
+use Rattle.dispatch.proofs.ReceivedLemmas.{received_at, leases_at, saves_at}
 use Rattle.dispatch.proofs.ServerLemmas.{all_moved, one_moved}
 use Rattle.dispatch.proofs.WithStates.{at_index, parts_with, server, set_with, there_with}
 use Rattle.dispatch.proofs.server.Server.receive.Given as given
@@ -27,23 +28,23 @@ none_of g c =
 pub returns-in-Err-clause-answer : goal.returns-in-Err-clause-answer
 returns-in-Err-clause-answer g c =
     let s = c.args.self.now in
-    subst (λ r. IsAnswer (addressee_answered (parts_in s) c.args.now c.args.datagram.now (nat_lt (g.D.Disk.device c.args.disk.now).failures (g.D.Disk.device c.args.disk.now).failures) (books_in s) r).answer (Err c.in-Err.why) c.clear.new.self) (sym (none_of g c)) (refl, c.clear.ensures)
+    subst (λ r. IsAnswer (addressee_answered (parts_in s) (delivery c.args.proto c.args.source c.args.now c.args.datagram.now) (nat_lt (g.D.Disk.device c.args.disk.now).failures (g.D.Disk.device c.args.disk.now).failures) (books_in s) r).answer (Err c.in-Err.why) c.clear.new.self) (sym (none_of g c)) (refl, c.clear.ensures)
 
 pub returns-in-Err-clause-books : goal.returns-in-Err-clause-books
 returns-in-Err-clause-books g c =
     let s = c.args.self.now in
-    ap (λ r. (addressee_answered (parts_in s) c.args.now c.args.datagram.now (nat_lt (g.D.Disk.device c.args.disk.now).failures (g.D.Disk.device c.args.disk.now).failures) (books_in s) r).books) (sym (none_of g c))
+    ap (λ r. (addressee_answered (parts_in s) (delivery c.args.proto c.args.source c.args.now c.args.datagram.now) (nat_lt (g.D.Disk.device c.args.disk.now).failures (g.D.Disk.device c.args.disk.now).failures) (books_in s) r).books) (sym (none_of g c))
 
 pub returns-in-Err-clause-fails : goal.returns-in-Err-clause-fails
 returns-in-Err-clause-fails g c tells =
     let s = c.args.self.now in
-    not_more _ ∙ ap (addressee_fails (parts_in s) c.args.now c.args.datagram.now (g.D.Disk.device c.args.disk.now).fuse (books_in s)) (sym (none_of g c))
+    not_more _ ∙ ap (λ r. fails_at (g.D.Disk.device c.args.disk.now).fuse (addressee_saves (parts_in s) (delivery c.args.proto c.args.source c.args.now c.args.datagram.now) (books_in s) r)) (sym (none_of g c))
 
 pub returns-in-Err-clause-leases : goal.returns-in-Err-clause-leases
 returns-in-Err-clause-leases g c tells =
     let s = c.args.self.now in
     let device = g.D.Disk.device c.args.disk.now in
-    ap (addressee_leases (parts_in s) c.args.now c.args.datagram.now device.fuse (leases_in device.region s)) (sym (none_of g c))
+    ap (addressee_leases (parts_in s) (delivery c.args.proto c.args.source c.args.now c.args.datagram.now) device.fuse (leases_in device.region s)) (sym (none_of g c))
 
 -- ---- the server of the datagram's circuit, before
 
@@ -130,11 +131,11 @@ pub returns-clause-answer : goal.returns-clause-answer
 returns-clause-answer g c =
     let fails = nat_lt (g.D.Disk.device c.args.disk.now).failures (g.D.Disk.device c.answer.new.disk).failures in
     let x = asked g c in
-    let P : ServerValue → Type 0 = λ s. IsAnswer (received s.relays (parts_in s) c.args.now c.args.source c.args.datagram.now fails (books_in s)).answer c.answer.result c.answer.new.out in
+    let P : ServerValue → Type 0 = λ s. IsAnswer (received s.relays (parts_in s) (delivery c.args.proto c.args.source c.args.now c.args.datagram.now) fails (books_in s)).answer c.answer.result c.answer.new.out in
     let Q : Received → Type 0 = λ r. IsAnswer r.answer c.answer.result c.answer.new.out in
     subst P c.self.view_is
-    (subst Q (sym (received_at c.self.inside.circuits.relays (map part_of (before g c)) c.args.now c.args.source c.args.datagram.now c.index.result x.part (found g c) (its part_of g c) fails (map book_of (before g c)) (book_of x) (its book_of g c)))
-    (c.answer.ensures.answer c.args.datagram.now c.in-Ok.ensures.message))
+    (subst Q (sym (received_at c.self.inside.circuits.relays (map part_of (before g c)) (delivery c.args.proto c.args.source c.args.now c.args.datagram.now) c.index.result x.part (found g c) (its part_of g c) fails (map book_of (before g c)) (book_of x) (its book_of g c)))
+    c.answer.ensures.answer)
 
 pub returns-clause-books : goal.returns-clause-books
 returns-clause-books g c =
@@ -143,12 +144,12 @@ returns-clause-books g c =
     let items = before g c in
     let k = c.index.result in
     let new = server x.part c.answer.new.self in
-    let P : ServerValue → Type 0 = λ s. map book_of (set items k new) ≡ (received s.relays (parts_in s) c.args.now c.args.source c.args.datagram.now fails (books_in s)).books in
+    let P : ServerValue → Type 0 = λ s. map book_of (set items k new) ≡ (received s.relays (parts_in s) (delivery c.args.proto c.args.source c.args.now c.args.datagram.now) fails (books_in s)).books in
     ap (map book_of) (written g c)
     ∙ subst P c.self.view_is
     (map-set book_of items k new
-    ∙ ap (set (map book_of items) k) (c.answer.ensures.book c.args.datagram.now c.in-Ok.ensures.message)
-    ∙ ap (λ r. r.books) (sym (received_at c.self.inside.circuits.relays (map part_of items) c.args.now c.args.source c.args.datagram.now k x.part (found g c) (its part_of g c) fails (map book_of items) (book_of x) (its book_of g c))))
+    ∙ ap (set (map book_of items) k) c.answer.ensures.book
+    ∙ ap (λ r. r.books) (sym (received_at c.self.inside.circuits.relays (map part_of items) (delivery c.args.proto c.args.source c.args.now c.args.datagram.now) k x.part (found g c) (its part_of g c) fails (map book_of items) (book_of x) (its book_of g c))))
 
 pub returns-clause-fails : goal.returns-clause-fails
 returns-clause-fails g c tells =
@@ -156,10 +157,10 @@ returns-clause-fails g c tells =
     let faults = (g.D.Disk.device c.args.disk.now).fuse in
     let x = asked g c in
     let items = before g c in
-    let P : ServerValue → Type 0 = λ s. fails ≡ received_fails s.relays (parts_in s) c.args.now c.args.source c.args.datagram.now faults (books_in s) in
+    let P : ServerValue → Type 0 = λ s. fails ≡ fails_at faults (received_saves s.relays (parts_in s) (delivery c.args.proto c.args.source c.args.now c.args.datagram.now) (books_in s)) in
     subst P c.self.view_is
-    (c.answer.ensures.fails tells c.args.datagram.now c.in-Ok.ensures.message
-    ∙ sym (fails_at c.self.inside.circuits.relays (map part_of items) c.args.now c.args.source c.args.datagram.now c.index.result x.part (found g c) (its part_of g c) faults (map book_of items) (book_of x) (its book_of g c)))
+    (c.answer.ensures.fails tells
+    ∙ sym (ap (fails_at faults) (saves_at c.self.inside.circuits.relays (map part_of items) (delivery c.args.proto c.args.source c.args.now c.args.datagram.now) c.index.result x.part (found g c) (its part_of g c) (map book_of items) (book_of x) (its book_of g c))))
 
 pub returns-clause-frame : goal.returns-clause-frame
 returns-clause-frame g c =
@@ -167,11 +168,11 @@ returns-clause-frame g c =
     let new = g.D.Disk.device c.answer.new.disk in
     let x = asked g c in
     let items = before g c in
-    let P : ServerValue → Type 0 = λ s. WritesAt g.D.Disk.tells (received_saves s.relays (parts_in s) c.args.now c.args.source c.args.datagram.now (books_in s)) old new in
+    let P : ServerValue → Type 0 = λ s. WritesAt g.D.Disk.tells (received_saves s.relays (parts_in s) (delivery c.args.proto c.args.source c.args.now c.args.datagram.now) (books_in s)) old new in
     let Q : Option ℕ → Type 0 = λ region. WritesAt g.D.Disk.tells region old new in
     subst P c.self.view_is
-    (subst Q (sym (saves_at c.self.inside.circuits.relays (map part_of items) c.args.now c.args.source c.args.datagram.now c.index.result x.part (found g c) (its part_of g c) (map book_of items) (book_of x) (its book_of g c)))
-    (c.answer.ensures.writes c.args.datagram.now c.in-Ok.ensures.message))
+    (subst Q (sym (saves_at c.self.inside.circuits.relays (map part_of items) (delivery c.args.proto c.args.source c.args.now c.args.datagram.now) c.index.result x.part (found g c) (its part_of g c) (map book_of items) (book_of x) (its book_of g c)))
+    c.answer.ensures.writes)
 
 pub returns-clause-leases : goal.returns-clause-leases
 returns-clause-leases g c tells =
@@ -182,13 +183,13 @@ returns-clause-leases g c tells =
     let items = before g c in
     let k = c.index.result in
     let new = server x.part c.answer.new.self in
-    let P : ServerValue → Type 0 = λ s. map (leases_of later) (set items k new) ≡ received_leases s.relays (parts_in s) c.args.now c.args.source c.args.datagram.now faults (leases_in regions s) in
+    let P : ServerValue → Type 0 = λ s. map (leases_of later) (set items k new) ≡ received_leases s.relays (parts_in s) (delivery c.args.proto c.args.source c.args.now c.args.datagram.now) faults (leases_in regions s) in
     ap (map (leases_of later)) (written g c)
     ∙ subst P c.self.view_is
     (one_moved (leases_of regions) (leases_of later) items k new
     (λ n y there apart. λ i. record { book = book_of y; restarts = restarts_of y.part (c.answer.ensures.frame.region tells y.part.region (elsewhere g c n y there apart) i) })
-    ∙ ap (set (map (leases_of regions) items) k) (c.answer.ensures.leases tells c.args.datagram.now c.in-Ok.ensures.message)
-    ∙ sym (leases_at c.self.inside.circuits.relays (map part_of items) c.args.now c.args.source c.args.datagram.now k x.part (found g c) (its part_of g c) faults (map (leases_of regions) items) (leases_of regions x) (its (leases_of regions) g c)))
+    ∙ ap (set (map (leases_of regions) items) k) (c.answer.ensures.leases tells)
+    ∙ sym (leases_at c.self.inside.circuits.relays (map part_of items) (delivery c.args.proto c.args.source c.args.now c.args.datagram.now) k x.part (found g c) (its part_of g c) faults (map (leases_of regions) items) (leases_of regions x) (its (leases_of regions) g c)))
 
 pub returns-clause-ready : goal.returns-clause-ready
 returns-clause-ready g c tells =

@@ -1,5 +1,6 @@
 use Rattle.std.proofs.Common.{◌≡◌, true, false, refl, sym, ap, subst, ◌∙◌}
 use Rattle.std.specs.List.{list_any}
+use Rattle.types.specs.Delivered.{delivery}
 use Rattle.types.specs.Addr.{same_source}
 use Rattle.types.specs.declared.discard.Discard.TheVariants.{UnknownSource}
 use Rattle.dispatch.specs.ServerValue.{books_in, leases_in, parts_in}
@@ -16,7 +17,7 @@ pub unreachable-requires : goal.unreachable-requires
 unreachable-requires c =
     let w : WorldValue = record { relays = c.self.inside.relays; behind = c.self.inside.behind.items; net = c.self.inside.net; server = c.self.inside.server; disk = c.self.inside.disk } in
     let apart : list_any (same_source c.args.source) w.server.relays ≡ false = ap (list_any (same_source c.args.source)) c.self.invariant.sources ∙ sym c.is_relay.ensures ∙ c.if-is_relay.false in
-    let all = stray_received w.server.relays (parts_in w.server) c.args.now c.args.source c.args.datagram.now _ (books_in w.server) apart in
+    let all = stray_received w.server.relays (parts_in w.server) (delivery c.args.proto c.args.source c.args.now c.args.datagram.now) _ (books_in w.server) apart in
     no_ok c.receive.result c.in-Ok.field-0 UnknownSource c.in-Ok.is
     (refusal_is _ UnknownSource (books_in w.server) c.receive.result c.receive.new.out all (c.receive.ensures.answer))
 
@@ -24,7 +25,7 @@ pub returns-clause-outcome : goal.returns-clause-outcome
 returns-clause-outcome c =
     let w : WorldValue = record { relays = c.self.inside.relays; behind = c.self.inside.behind.items; net = c.self.inside.net; server = c.self.inside.server; disk = c.self.inside.disk } in
     let apart : list_any (same_source c.args.source) w.server.relays ≡ false = ap (list_any (same_source c.args.source)) c.self.invariant.sources ∙ sym c.is_relay.ensures ∙ c.if-is_relay.false in
-    let all = stray_received w.server.relays (parts_in w.server) c.args.now c.args.source c.args.datagram.now _ (books_in w.server) apart in
+    let all = stray_received w.server.relays (parts_in w.server) (delivery c.args.proto c.args.source c.args.now c.args.datagram.now) _ (books_in w.server) apart in
     let same = same_reason c.receive.result c.in-Err.why UnknownSource c.in-Err.is
     (refusal_is _ UnknownSource (books_in w.server) c.receive.result c.receive.new.out all (c.receive.ensures.answer)) in
     let known : false ≡ (c.is_relay.result) = sym c.if-is_relay.false in
@@ -36,9 +37,9 @@ returns-clause-states c =
     let w : WorldValue = record { relays = c.self.inside.relays; behind = c.self.inside.behind.items; net = c.self.inside.net; server = c.self.inside.server; disk = c.self.inside.disk } in
     let new : WorldValue = record w { server = c.receive.new.self; disk = c.receive.new.disk } in
     let apart : list_any (same_source c.args.source) w.server.relays ≡ false = ap (list_any (same_source c.args.source)) c.self.invariant.sources ∙ sym c.is_relay.ensures ∙ c.if-is_relay.false in
-    let leases = c.receive.ensures.leases refl ∙ stray_leases w.server.relays (parts_in w.server) c.args.now c.args.source c.args.datagram.now (disk.fuse_of w.disk) (leases_in (disk.state_of w.disk) w.server) apart in
+    let leases = c.receive.ensures.leases refl ∙ stray_leases w.server.relays (parts_in w.server) (delivery c.args.proto c.args.source c.args.now c.args.datagram.now) (disk.fuse_of w.disk) (leases_in (disk.state_of w.disk) w.server) apart in
     let P : WorldValue → Type 0 = λ v. states new ≡ states v in
-    let device = same_device _ (disk.device_of w.disk) (disk.device_of c.receive.new.disk) (stray_saves w.server.relays (parts_in w.server) c.args.now c.args.source c.args.datagram.now (books_in w.server) apart) c.receive.ensures.frame in
+    let device = same_device _ (disk.device_of w.disk) (disk.device_of c.receive.new.disk) (stray_saves w.server.relays (parts_in w.server) (delivery c.args.proto c.args.source c.args.now c.args.datagram.now) (books_in w.server) apart) c.receive.ensures.frame in
     subst P c.self.view_is (λ i. each_state (states_over w.net w.relays (device i)) (c.receive.ensures.parts i) (leases i))
 
 pub invariant_of-self : goal.invariant_of-self
@@ -54,4 +55,4 @@ returns-clause-device c =
     let apart : list_any (same_source c.args.source) w.server.relays ≡ false = ap (list_any (same_source c.args.source)) c.self.invariant.sources ∙ sym c.is_relay.ensures ∙ c.if-is_relay.false in
     let P : WorldValue → Type 0 = λ v. disk.device_of c.receive.new.disk ≡ disk.device_of v.disk in
     subst P c.self.view_is
-    (same_device _ (disk.device_of w.disk) (disk.device_of c.receive.new.disk) (stray_saves w.server.relays (parts_in w.server) c.args.now c.args.source c.args.datagram.now (books_in w.server) apart) c.receive.ensures.frame)
+    (same_device _ (disk.device_of w.disk) (disk.device_of c.receive.new.disk) (stray_saves w.server.relays (parts_in w.server) (delivery c.args.proto c.args.source c.args.now c.args.datagram.now) (books_in w.server) apart) c.receive.ensures.frame)
