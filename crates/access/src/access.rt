@@ -245,9 +245,14 @@ impl Access {
     {
         let datagram = &self.buffer[..len];
         self.counts.count_received();
-        let answer = self
-            .server
-            .receive(from, datagram, now, &mut self.disk, &mut self.out);
+        let answer = self.server.receive(
+            Proto::V4,
+            from,
+            datagram,
+            now,
+            &mut self.disk,
+            &mut self.out,
+        );
         match answer {
             Ok(()) => {
                 let sent = self.sockets.listen4.send(self.out.as_slice(), from);

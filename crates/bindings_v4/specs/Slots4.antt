@@ -23,22 +23,16 @@ pub record PoolSlots : Type 0 where
 
 -- whom a slot is bound or offered to and until when, and until when it is barred
 abbrev pub bound_to : Option Holder4 → Option (List ℕ × ℕ)
-bound_to None = None
 bound_to (Some (Bound key until)) = Some (key, until)
-bound_to (Some (Offered key until)) = None
-bound_to (Some (Barred until)) = None
+bound_to slot = None
 
 abbrev pub offered_to : Option Holder4 → Option (List ℕ × ℕ)
-offered_to None = None
-offered_to (Some (Bound key until)) = None
 offered_to (Some (Offered key until)) = Some (key, until)
-offered_to (Some (Barred until)) = None
+offered_to slot = None
 
 abbrev pub barred_until : Option Holder4 → Option ℕ
-barred_until None = None
-barred_until (Some (Bound key until)) = None
-barred_until (Some (Offered key until)) = None
 barred_until (Some (Barred until)) = Some until
+barred_until slot = None
 
 abbrev pub with_lease : ℕ → Option (List ℕ × ℕ) → Clients → Clients
 with_lease address None m = m

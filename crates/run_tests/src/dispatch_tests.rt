@@ -10,7 +10,7 @@ use lease_disk::ModelDisk;
 use std::alloc::{AllocError, Global};
 use std::marker::Model;
 use std::process::Abort;
-use types::{Addr4, Discard, Moment, Source};
+use types::{Addr4, Discard, Moment, Proto, Source};
 use wire::PacketBuf;
 
 /// Option 82 of circuit `a` with its gateway as server identifier override, and the end.
@@ -104,7 +104,14 @@ fn receive(
     let mut out = PacketBuf::new();
     let _ = out.push(7);
     let source = Source { addr, port };
-    let result = bench.server.receive(source, datagram.as_slice(), now, &mut bench.disk, &mut out);
+    let result = bench.server.receive(
+        Proto::V4,
+        source,
+        datagram.as_slice(),
+        now,
+        &mut bench.disk,
+        &mut out,
+    );
     match result {
         Ok(()) => assert!(rt; out.len() == 300),
         Err(_) => assert!(rt; out.is_empty()),
@@ -202,17 +209,27 @@ fn a_short_reply_after_a_long_one(rt: HostRuntime) {
     let relay = Source { addr, port: 6801 };
     let mut out = PacketBuf::new();
     let discover = message(1, 1, [10, 0, 0, 1], AGENT);
-    let offered = bench
-        .server
-        .receive(relay, discover.as_slice(), now, &mut bench.disk, &mut out);
+    let offered = bench.server.receive(
+        Proto::V4,
+        relay,
+        discover.as_slice(),
+        now,
+        &mut bench.disk,
+        &mut out,
+    );
     assert!(rt; offered == Ok(()));
     let wanted = [
         50, 4, 10, 0, 9, 9, 82, 10, 1, 2, 97, 49, 11, 4, 10, 0, 1, 1, 255,
     ];
     let request = message(3, 2, [10, 0, 1, 1], &wanted);
-    let refused = bench
-        .server
-        .receive(relay, request.as_slice(), now, &mut bench.disk, &mut out);
+    let refused = bench.server.receive(
+        Proto::V4,
+        relay,
+        request.as_slice(),
+        now,
+        &mut bench.disk,
+        &mut out,
+    );
     assert!(rt; refused == Ok(()));
     let datagram = out.as_slice();
     assert!(rt; datagram.len() == 300);
