@@ -8,18 +8,8 @@ use crate::holder4::Holder4;
 use arrayvec::ArrayVec;
 use types::{MAX_POOL, Slot4};
 
-/// The holder that a kept slot has at this clock. What has expired has none: a client that got
-/// another address since would else have two slots.
-fn live_holder(slot: Slot4, clock: u64) -> Option<Holder4>
-    ensures { result ≡ holder_of (live4 clock slot) }
-{
-    match slot {
-        Slot4::Bound(_, until) | Slot4::Barred(until) if until <= clock => None,
-        live => Holder4::of(live),
-    }
-}
-
-/// The holders that the first slots of a region have at this clock.
+/// The holders that the first slots of a region have at this clock. What has expired has none: a client
+/// that got another address since would else have two slots.
 pub fn live_holders(
     kept: &[Slot4; MAX_POOL],
     count: u8,
@@ -31,7 +21,7 @@ pub fn live_holders(
 {
     let mut holders = ArrayVec::new();
     for slot in &kept[..usize::from(count)] {
-        holders.push(live_holder(*slot, clock));
+        holders.push(Holder4::of(slot.live_at(clock)));
     }
     holders
 }
@@ -40,11 +30,12 @@ pub fn live_holders(
 fn kept_slot(holder: &Option<Holder4>, clock: u64) -> Slot4
     ensures { result ≡ kept_slot clock holder.now }
 {
-    match holder {
-        Some(Holder4::Bound(key, until)) if clock < *until => Slot4::Bound(*key, *until),
-        Some(Holder4::Barred(until)) if clock < *until => Slot4::Barred(*until),
+    let slot = match holder {
+        Some(Holder4::Bound(key, until)) => Slot4::Bound(*key, *until),
+        Some(Holder4::Barred(until)) => Slot4::Barred(*until),
         _ => Slot4::Free,
-    }
+    };
+    slot.live_at(clock)
 }
 
 /// What is kept of a pool's slots. Those past the pool are free.

@@ -1,4 +1,7 @@
 //! What a circuit's book and its region exchange.
+ghost use Rattle.std.specs.Prelude.{◌≡◌};
+ghost use Rattle.types.specs.Slots.{live6};
+
 use crate::key6::Key6;
 use crate::moment::Moment;
 use crate::slot4::Slot4;
@@ -12,6 +15,18 @@ pub enum Slot6 {
     Bound(Key6, u64),
     /// A client declined it: given to nobody until this moment.
     Barred(u64),
+}
+
+impl Slot6 {
+    /// The slot at a clock, in seconds: free where what it holds has expired.
+    pub fn live_at(self, clock: u64) -> Slot6
+        ensures { result ≡ live6 clock self }
+    {
+        match self {
+            Slot6::Bound(_, until) | Slot6::Barred(until) if until <= clock => Slot6::Free,
+            live => live,
+        }
+    }
 }
 
 /// One circuit's leases and bars, by address: a slot for each address that a pool can have, in the

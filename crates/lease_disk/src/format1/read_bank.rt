@@ -80,25 +80,6 @@ fn read_slot6(slot: &[u8]) -> Option<Slot6>
     }
 }
 
-/// The slot at a clock: free where it is no longer live.
-fn live_slot4(slot: Slot4, clock: u64) -> Slot4
-    ensures { result ≡ live4 clock slot }
-{
-    match slot {
-        Slot4::Bound(_, until) | Slot4::Barred(until) if until <= clock => Slot4::Free,
-        other => other,
-    }
-}
-
-fn live_slot6(slot: Slot6, clock: u64) -> Slot6
-    ensures { result ≡ live6 clock slot }
-{
-    match slot {
-        Slot6::Bound(_, until) | Slot6::Barred(until) if until <= clock => Slot6::Free,
-        other => other,
-    }
-}
-
 /// The i-th slot of a pool of so many addresses.
 fn four_slot(bank: &[u8], count: u8, clock: u64, i: usize) -> Option<Slot4>
     requires all { length bank.now ≡ 4096 }
@@ -111,7 +92,7 @@ fn four_slot(bank: &[u8], count: u8, clock: u64, i: usize) -> Option<Slot4>
     }
     let at = FOUR_AT + FOUR_SIZE * i;
     let slot = read_slot4(&bank[at..])?;
-    Some(live_slot4(slot, clock))
+    Some(slot.live_at(clock))
 }
 
 /// The i-th slot of a pool of so many addresses.
@@ -126,7 +107,7 @@ fn six_slot(bank: &[u8], count: u8, clock: u64, i: usize) -> Option<Slot6>
     }
     let at = SIX_AT + SIX_SIZE * i;
     let slot = read_slot6(&bank[at..])?;
-    Some(live_slot6(slot, clock))
+    Some(slot.live_at(clock))
 }
 
 fn read_four(bank: &[u8], count: u8, clock: u64) -> Option<[Slot4; 16]>

@@ -6,4 +6,4 @@ pub returns-in_err-slot : goal.returns-in_err-slot
 returns-in_err-slot c = c.from_residual.ensures ∙ six_none c.args.bank.now c.args.count c.args.i (omega arith) c.in_err-slot.ensures
 
 pub returns : goal.returns
-returns c = ap Some c.live_slot6.ensures ∙ six_some c.args.bank.now c.args.count c.args.clock c.args.i c.in_ok-slot.slot (omega arith) c.requires.clock c.in_ok-slot.ensures
+returns c = ap Some c.live_at.ensures ∙ six_some c.args.bank.now c.args.count c.args.clock c.args.i c.in_ok-slot.slot (omega arith) c.requires.clock c.in_ok-slot.ensures
