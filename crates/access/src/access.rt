@@ -1,7 +1,7 @@
 //! Relay and server over sockets.
 ghost use Rattle.std.specs.Prelude.{◌≡◌, ◌≤◌, ◌<◌, ◌+◌, ◌↔◌, length, map, true, is_some, Some, slice_get, Err, IfOk, IfErr};
-ghost use Rattle.access.specs.Access.{HasReached};
-ghost use Rattle.access.specs.Counts.{more_by, one_more};
+ghost use Rattle.access.specs.Access.{HasReached, HasReceived};
+ghost use Rattle.access.specs.Counts.{more_by};
 ghost use Rattle.access.specs.Sockets.{IsSocket, RefusesSocket};
 ghost use Rattle.access.specs.declared.access.AccessFault.TheVariants as fault;
 ghost use Rattle.config.specs.CircuitPart.{parts_of};
@@ -29,7 +29,7 @@ pub enum AccessFault {
     /// A request for memory was refused.
     #[error("out of memory")]
     Memory,
-    /// The store lacks the region of a circuit.
+    /// The device lacks the region of a circuit.
     #[error("the file has fewer regions than the circuits need")]
     Disk,
     /// No socket could be bound to this address and port.
@@ -40,7 +40,7 @@ pub enum AccessFault {
     TooManyCircuits,
 }
 
-/// The relays and the server of a configuration, with the sockets that they use and the store that
+/// The relays and the server of a configuration, with the sockets that they use and the device that
 /// keeps the leases. Clients and relays are reached by UDP on IPv4 alone; what comes in by DHCPv6 is
 /// not served.
 #[derive(Drop)]
@@ -70,12 +70,12 @@ impl Model for Access {
 }
 
 impl Access {
-    /// Opens relay and server of a configuration over a store, whatever that holds: a circuit whose
+    /// Opens relay and server of a configuration over a device, whatever that holds: a circuit whose
     /// region can't be read or is damaged is closed, alone. The first circuit listens on
     /// 127.0.0.1 at `port` for DHCPv4 frames and at the port after it for DHCPv6 frames, and frames
     /// towards it go to the two ports after these; the ports of each other circuit come 4 later.
     ///
-    /// More than 16 circuits are refused first, then a store without the region of a circuit, then
+    /// More than 16 circuits are refused first, then a device without the region of a circuit, then
     /// an address that no socket can be bound to.
     pub fn open<R: Net>(
         net: &R,
@@ -156,10 +156,7 @@ impl Access {
     /// Takes a frame from each of the circuits' sockets to its relay.
     fn receive_from_circuits(&mut self) -> u32
         ensures most { result ≤ 32 }
-        ensures topology { self.new.topology ≡ self.old.topology }
-        ensures parts { parts_in self.new.server ≡ parts_in self.old.server }
-        ensures regions { self.new.regions ≡ self.old.regions }
-        ensures received { self.new.counts.received ≡ more_by result self.old.counts.received }
+        ensures received { HasReceived result self.old self.new }
     {
         let mut received = 0;
         'circuits: for index in 0..self.sockets.circuits.len() {
@@ -172,10 +169,7 @@ impl Access {
     fn receive_from_circuit(&mut self, index: usize) -> u32
         requires { index < length self.old.topology.circuits }
         ensures most { result ≤ 2 }
-        ensures topology { self.new.topology ≡ self.old.topology }
-        ensures parts { parts_in self.new.server ≡ parts_in self.old.server }
-        ensures regions { self.new.regions ≡ self.old.regions }
-        ensures received { self.new.counts.received ≡ more_by result self.old.counts.received }
+        ensures received { HasReceived result self.old self.new }
     {
         let mut received = 0;
         let sockets = &self.sockets.circuits[index];
@@ -195,10 +189,7 @@ impl Access {
     fn relay_up(&mut self, index: usize, len: usize)
         requires index { index < length self.old.topology.circuits }
         requires len { len ≤ 1281 }
-        ensures topology { self.new.topology ≡ self.old.topology }
-        ensures parts { parts_in self.new.server ≡ parts_in self.old.server }
-        ensures regions { self.new.regions ≡ self.old.regions }
-        ensures received { self.new.counts.received ≡ one_more self.old.counts.received }
+        ensures { HasReceived 1 self.old self.new }
     {
         self.counts.count_received();
         let Some(circuit) = Circuit::new(index) else {
@@ -218,10 +209,7 @@ impl Access {
     /// Takes a datagram from each of the server's sockets to the server.
     fn receive_from_server(&mut self, now: Moment) -> u32
         ensures most { result ≤ 2 }
-        ensures topology { self.new.topology ≡ self.old.topology }
-        ensures parts { parts_in self.new.server ≡ parts_in self.old.server }
-        ensures regions { self.new.regions ≡ self.old.regions }
-        ensures received { self.new.counts.received ≡ more_by result self.old.counts.received }
+        ensures received { HasReceived result self.old self.new }
     {
         let mut received = 0;
         if let Some((len, from)) = self.sockets.listen4.receive(&mut self.buffer) {
@@ -238,10 +226,7 @@ impl Access {
     /// Answers a relay's datagram.
     fn answer(&mut self, len: usize, from: Source, now: Moment)
         requires { len ≤ 1281 }
-        ensures topology { self.new.topology ≡ self.old.topology }
-        ensures parts { parts_in self.new.server ≡ parts_in self.old.server }
-        ensures regions { self.new.regions ≡ self.old.regions }
-        ensures received { self.new.counts.received ≡ one_more self.old.counts.received }
+        ensures { HasReceived 1 self.old self.new }
     {
         let datagram = &self.buffer[..len];
         self.counts.count_received();
@@ -265,10 +250,7 @@ impl Access {
     /// Takes a datagram from each relay's socket to the circuit that it is for.
     fn receive_from_relays(&mut self) -> u32
         ensures most { result ≤ 8 }
-        ensures topology { self.new.topology ≡ self.old.topology }
-        ensures parts { parts_in self.new.server ≡ parts_in self.old.server }
-        ensures regions { self.new.regions ≡ self.old.regions }
-        ensures received { self.new.counts.received ≡ more_by result self.old.counts.received }
+        ensures received { HasReceived result self.old self.new }
     {
         let mut received = 0;
         'relays: for index in 0..self.sockets.relays.len() {
@@ -281,10 +263,7 @@ impl Access {
     fn receive_from_relay(&mut self, index: usize) -> u32
         requires { index < length self.old.topology.relays }
         ensures most { result ≤ 1 }
-        ensures topology { self.new.topology ≡ self.old.topology }
-        ensures parts { parts_in self.new.server ≡ parts_in self.old.server }
-        ensures regions { self.new.regions ≡ self.old.regions }
-        ensures received { self.new.counts.received ≡ more_by result self.old.counts.received }
+        ensures received { HasReceived result self.old self.new }
     {
         let Some((len, from)) = self.sockets.relays[index].receive(&mut self.buffer) else {
             return 0;
@@ -321,10 +300,7 @@ impl Access {
 
     /// Drops a DHCPv6 datagram, which is not served.
     fn drop_unserved(&mut self)
-        ensures topology { self.new.topology ≡ self.old.topology }
-        ensures parts { parts_in self.new.server ≡ parts_in self.old.server }
-        ensures regions { self.new.regions ≡ self.old.regions }
-        ensures received { self.new.counts.received ≡ one_more self.old.counts.received }
+        ensures { HasReceived 1 self.old self.new }
     {
         self.counts.count_received();
         self.counts.count_dropped(Discard::NotServed);

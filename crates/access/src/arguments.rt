@@ -2,12 +2,12 @@
 ghost use Rattle.std.specs.Prelude.{◌≡◌, ◌↔◌, ℕ, Bool, List, Some, false, true, codes, map};
 ghost use Rattle.std.specs.Prelude.{string_bytes, IfOk, IfErr, IfSome, IsNone};
 ghost use Rattle.clap.specs.Words.{app_of, rule_of, found_of, first_value, rows_of};
-ghost use Rattle.command_line.specs.CommandLine.{IsNumber, IsRefused};
+ghost use Rattle.command_line.specs.CommandLine.{IsRefused};
 ghost use Rattle.access.specs.Words.{disk_rule, turns_rule, format_rule, port_rule};
 ghost use Rattle.access.specs.Words.{bare_app, access_app, HasValues, Spells, SpellsSomething};
 
 use clap::{Arg, ArgAction, ArgMatches, Command};
-use command_line::{Refusal, config_arg};
+use command_line::{Refusal, config_arg, number};
 use std::alloc::{AllocError, Global};
 
 const MAX_TURNS: u32 = 1_000_000;
@@ -104,18 +104,6 @@ fn command<'a>(alloc: Global) -> Result<Command<'a>, AllocError>
     let with_turns = with_disk.arg(turns)?;
     let with_format = with_turns.arg(format)?;
     with_format.arg(port)
-}
-
-/// The value of an argument, where it is a number within the limits.
-fn number<'a>(matches: &ArgMatches<'a>, id: &str, least: u32, most: u32) -> Option<u32>
-    ensures some { IfSome result (λ n. IsNumber (first_value (found_of matches.now) id.now) least most n) }
-    ensures none { IsNone result → (n : ℕ) → ¬ IsNumber (first_value (found_of matches.now) id.now) least most n }
-{
-    let number = matches.get_str(id)?.parse::<u32>().ok()?;
-    if number < least || most < number {
-        return None;
-    }
-    Some(number)
 }
 
 /// Whether a flag is there.

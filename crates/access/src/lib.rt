@@ -1,4 +1,4 @@
-//! The engine of `accessd`: its command line, relay and server over UDP sockets on loopback, and a store
+//! The engine of `accessd`: its command line, relay and server over UDP sockets on loopback, and a device
 //! in a file.
 #![tactic(auto)]
 
@@ -6,11 +6,11 @@ mod access;
 mod arguments;
 mod counts;
 mod datagram_socket;
+mod device;
 mod sockets;
-mod store;
 
 pub use access::{Access, AccessFault};
 pub use arguments::{AccessWords, words};
 pub use counts::Counts;
+pub use device::{DeviceFault, format_device, open_device};
 pub use sockets::MAX_SERVED;
-pub use store::{StoreFault, format_store, open_store};

@@ -2,8 +2,8 @@
 use Rattle.std.specs.Prelude.{◌≡◌, ◌⊎◌, ℕ}
 use Rattle.access.specs.declared.access.AccessFault.{AccessFault}
 use Rattle.access.specs.declared.access.AccessFault.TheVariants as fault
-use Rattle.access.specs.declared.store.StoreFault.{StoreFault}
-use Rattle.access.specs.declared.store.StoreFault.TheVariants as store
+use Rattle.access.specs.declared.device.DeviceFault.{DeviceFault}
+use Rattle.access.specs.declared.device.DeviceFault.TheVariants as device
 
 -- why relay and server were not opened
 abbrev pub status_of : AccessFault → ℕ
@@ -13,10 +13,10 @@ status_of (fault.Socket at) = 5
 status_of fault.TooManyCircuits = 2
 
 -- why the file does not serve
-abbrev pub store_status : StoreFault → ℕ
-store_status store.File = 5
-store_status store.Memory = 4
-store_status store.Format = 4
+abbrev pub device_status : DeviceFault → ℕ
+device_status device.File = 5
+device_status device.Memory = 4
+device_status device.Format = 4
 
 -- 0 after all turns, 2 where words or configuration are refused, 4 where the opening is, 5 for a file or
 -- socket, 6 where help can't be written

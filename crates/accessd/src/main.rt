@@ -2,34 +2,33 @@
 #![tactic(auto)]
 
 ghost use Rattle.std.specs.Prelude.{◌≡◌, ◌≤◌, ◌⊎◌, IfErr};
-ghost use Rattle.accessd.specs.Status.{IsExitStatus, status_of, store_status};
+ghost use Rattle.accessd.specs.Status.{IsExitStatus, status_of, device_status};
 
-use access::{Access, AccessFault, AccessWords, StoreFault, format_store, open_store};
-use command_line::{REFUSED, UNOPENED, UNREADABLE, complain, read_configuration};
+use access::{Access, AccessFault, AccessWords, DeviceFault, format_device, open_device};
+use command_line::{REFUSED, UNOPENED, UNREADABLE, complain, given_words, read_configuration};
 use config::Config;
 use dispatch::region_count;
 use lease_disk::FileDisk;
-use std::env;
 use std::process::ExitCode;
 use std::rt::Clock;
 use types::{Addr4, Circuit, Moment, Source};
 
-/// The status of a store that does not serve.
-fn store_status(fault: StoreFault) -> u8
-    ensures { result ≡ store_status fault }
+/// The status of a device that does not serve.
+fn device_status(fault: DeviceFault) -> u8
+    ensures { result ≡ device_status fault }
 {
     match fault {
-        StoreFault::File => UNREADABLE,
-        StoreFault::Memory | StoreFault::Format => UNOPENED,
+        DeviceFault::File => UNREADABLE,
+        DeviceFault::Memory | DeviceFault::Format => UNOPENED,
     }
 }
 
-/// Reports that the store does not serve.
-fn report_store(rt: &HostRuntime, path: &str, fault: StoreFault) {
+/// Reports that the device does not serve.
+fn report_device(rt: &HostRuntime, path: &str, fault: DeviceFault) {
     let opening = match fault {
-        StoreFault::File => None,
-        StoreFault::Memory => Some("open memory"),
-        StoreFault::Format => Some("open disk"),
+        DeviceFault::File => None,
+        DeviceFault::Memory => Some("open memory"),
+        DeviceFault::Format => Some("open disk"),
     };
     if let Some(line) = opening {
         let _ = eprintln!(rt; "{line}");
@@ -37,20 +36,20 @@ fn report_store(rt: &HostRuntime, path: &str, fault: StoreFault) {
     let _ = eprintln!(rt; "{path}: {fault}");
 }
 
-/// The file with the leases, formatted where that is asked for.
-fn store(rt: &HostRuntime, config: &Config, values: &AccessWords<'_>) -> Result<FileDisk, u8>
+/// The device in the file with the leases, formatted where that is asked for.
+fn device(rt: &HostRuntime, config: &Config, values: &AccessWords<'_>) -> Result<FileDisk, u8>
     ensures { IfErr result (λ status. (status ≡ 4) ⊎ (status ≡ 5)) }
 {
     let disk = if values.format {
-        format_store(rt, values.disk, config)
+        format_device(rt, values.disk, config)
     } else {
-        open_store(rt, values.disk)
+        open_device(rt, values.disk)
     };
     match disk {
         Ok(disk) => Ok(disk),
         Err(fault) => {
-            report_store(rt, values.disk, fault);
-            Err(store_status(fault))
+            report_device(rt, values.disk, fault);
+            Err(device_status(fault))
         }
     }
 }
@@ -127,7 +126,7 @@ fn run(rt: &HostRuntime, values: AccessWords<'_>) -> u8
         Ok(config) => config,
         Err(status) => return status,
     };
-    let disk = match store(rt, &config, &values) {
+    let disk = match device(rt, &config, &values) {
         Ok(disk) => disk,
         Err(status) => return status,
     };
@@ -147,15 +146,11 @@ fn run(rt: &HostRuntime, values: AccessWords<'_>) -> u8
 fn status(rt: &HostRuntime) -> u8
     ensures { IsExitStatus result }
 {
-    let alloc = rt.alloc();
-    let Ok(given) = env::args(rt) else {
-        return complain(rt, "error: an argument is not UTF-8", REFUSED);
+    let given = match given_words(rt) {
+        Ok(given) => given,
+        Err(status) => return status,
     };
-    let given: Result<Vec<String>, _> = given.skip(1).collect(alloc);
-    let Ok(given) = given else {
-        return complain(rt, "error: out of memory", REFUSED);
-    };
-    match access::words(alloc, &given) {
+    match access::words(rt.alloc(), &given) {
         Ok(values) => run(rt, values),
         Err(refusal) => refusal.show(rt),
     }

@@ -4,9 +4,8 @@
 ghost use Rattle.std.specs.Prelude.{◌≤◌};
 ghost use Rattle.accesslab.specs.Status.{IsExitStatus};
 
-use command_line::{FAILED, REFUSED, UNOPENED, complain, read_configuration};
+use command_line::{FAILED, UNOPENED, complain, given_words, read_configuration};
 use lab::{LabWords, StdReader, StdWriter};
-use std::env;
 use std::io::{self, BufWriter, Write};
 use std::process::ExitCode;
 
@@ -39,15 +38,11 @@ fn run(rt: &HostRuntime, values: LabWords<'_>) -> u8
 fn status(rt: &HostRuntime) -> u8
     ensures { IsExitStatus result }
 {
-    let alloc = rt.alloc();
-    let Ok(given) = env::args(rt) else {
-        return complain(rt, "error: an argument is not UTF-8", REFUSED);
+    let given = match given_words(rt) {
+        Ok(given) => given,
+        Err(status) => return status,
     };
-    let given: Result<Vec<String>, _> = given.skip(1).collect(alloc);
-    let Ok(given) = given else {
-        return complain(rt, "error: out of memory", REFUSED);
-    };
-    match lab::words(alloc, &given) {
+    match lab::words(rt.alloc(), &given) {
         Ok(values) => run(rt, values),
         Err(refusal) => refusal.show(rt),
     }

@@ -1,9 +1,9 @@
-//! The arguments that the programs share.
-ghost use Rattle.std.specs.Prelude.{◌≡◌, false};
-ghost use Rattle.clap.specs.Words.{rule_of};
-ghost use Rattle.command_line.specs.CommandLine.{config_rule};
+//! What the programs share of their arguments.
+ghost use Rattle.std.specs.Prelude.{◌≡◌, ℕ, false, IfSome, IsNone};
+ghost use Rattle.clap.specs.Words.{rule_of, found_of, first_value};
+ghost use Rattle.command_line.specs.CommandLine.{IsNumber, config_rule};
 
-use clap::{Arg, ArgAction};
+use clap::{Arg, ArgAction, ArgMatches};
 use std::alloc::Global;
 
 /// The argument CONFIG, the path of the configuration.
@@ -15,4 +15,16 @@ pub fn config_arg<'a>(alloc: Global) -> Arg<'a>
         .action(ArgAction::Set)
         .required(true)
         .help("The configuration, a TOML file")
+}
+
+/// The value of an argument, where it is a number within the limits.
+pub fn number<'a>(matches: &ArgMatches<'a>, id: &str, least: u32, most: u32) -> Option<u32>
+    ensures some { IfSome result (λ n. IsNumber (first_value (found_of matches.now) id.now) least most n) }
+    ensures none { IsNone result → (n : ℕ) → ¬ IsNumber (first_value (found_of matches.now) id.now) least most n }
+{
+    let number = matches.get_str(id)?.parse::<u32>().ok()?;
+    if number < least || most < number {
+        return None;
+    }
+    Some(number)
 }

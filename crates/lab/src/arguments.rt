@@ -5,7 +5,7 @@ ghost use Rattle.command_line.specs.CommandLine.{IsRefused};
 ghost use Rattle.lab.specs.Words.{quota_rule, bare_app, lab_app, Spells, SpellsSomething};
 
 use clap::{Arg, ArgAction, Command};
-use command_line::{Refusal, config_arg};
+use command_line::{Refusal, config_arg, number};
 use lossy_net::MAX_QUOTA;
 use std::alloc::{AllocError, Global};
 
@@ -63,17 +63,11 @@ pub fn words<'a>(alloc: Global, words: &'a [String]) -> Result<LabWords<'a>, Ref
     let Some(config) = matches.get_str("CONFIG") else {
         return Err(Refusal::BadValue);
     };
-    let Some(text) = matches.get_str("quota") else {
+    let Some(quota) = number(&matches, "quota", 1, MAX_QUOTA as u32) else {
         return Err(Refusal::BadValue);
     };
-    let Ok(quota) = text.parse::<u16>() else {
+    let Ok(quota) = u16::try_from(quota) else {
         return Err(Refusal::BadValue);
     };
-    if quota < 1 {
-        return Err(Refusal::BadValue);
-    }
-    if usize::from(quota) > MAX_QUOTA {
-        return Err(Refusal::BadValue);
-    }
     Ok(LabWords { config, quota })
 }

@@ -119,31 +119,15 @@ pub(crate) fn apply_fills<R: ByteReader>(
         };
         let len = match end {
             LineEnd::Newline(len) => len,
-            LineEnd::TooLong => {
-                let parsed = None;
-                return Ok(NextLine {
-                    earlier,
-                    end,
-                    parsed,
-                });
-            }
+            LineEnd::TooLong => return Ok(NextLine::new(earlier, end, None)),
             LineEnd::EndOfInput(len) => {
                 let (end, parsed) = apply_last_fill(disk, config, len, ahead, buffers);
-                return Ok(NextLine {
-                    earlier,
-                    end,
-                    parsed,
-                });
+                return Ok(NextLine::new(earlier, end, parsed));
             }
         };
         let line = &ahead.as_slice()[..len];
         if let Some(event) = apply_fill(disk, config, line, buffers) {
-            let parsed = Some(event);
-            return Ok(NextLine {
-                earlier,
-                end,
-                parsed,
-            });
+            return Ok(NextLine::new(earlier, end, Some(event)));
         }
         ahead.consume(len + 1);
     }

@@ -37,6 +37,18 @@ pub struct NextLine {
     pub parsed: Option<Parsed>,
 }
 
+impl NextLine {
+    pub fn new(earlier: u64, end: LineEnd, parsed: Option<Parsed>) -> NextLine
+        ensures { result ≡ record { earlier = earlier; end = end; parsed = parsed } }
+    {
+        NextLine {
+            earlier,
+            end,
+            parsed,
+        }
+    }
+}
+
 /// How the first line of the text ends, `None` where the text has no line feed and may be too short.
 fn first_end(text: &[u8]) -> Option<LineEnd>
     ensures some { IfSome result (IsFirstEnd text.now) }

@@ -34,10 +34,11 @@ returns-in_default-clause-counted g c = counted_more _ _ _ _ _ _ c.lines.invaria
 
 pub returns-in-TooLong-clause-filled : goal.returns-in-TooLong-clause-filled
 returns-in-TooLong-clause-filled g c = λ quota.
-    filled_begun c.args.config.now quota (c.lines.earlier + 1) _ _ (state_of c.lines.disk) _
+    rw c.new.ensures
+    (filled_begun c.args.config.now quota (c.lines.earlier + 1) _ _ (state_of c.lines.disk) _
     (filled_kept c.args.config.now quota (c.lines.earlier + 1) false _ _ _ (state_of c.lines.disk) _ (c.lines.invariant.so_far quota) c.read_line.ensures.kept)
     (subst (λ e. IsBegun c.args.config.now quota (c.lines.earlier + 1) (Fits (held c.read_line.new.ahead) e)) (sym c.in-TooLong.is)
-    (begun_long c.args.config.now quota (c.lines.earlier + 1) (held c.read_line.new.ahead) (rw c.in-TooLong.is at c.in-Ok.ensures.end)))
+    (begun_long c.args.config.now quota (c.lines.earlier + 1) (held c.read_line.new.ahead) (rw c.in-TooLong.is at c.in-Ok.ensures.end))))
 
 pub returns-in-TooLong-clause-counted : goal.returns-in-TooLong-clause-counted
 returns-in-TooLong-clause-counted g c = counted_more _ _ _ _ _ _ c.lines.invariant.counted c.read_line.ensures.counted
@@ -50,15 +51,19 @@ apply_last_fill-end-requires-clause-regions g c = λ n circuit there. let e = c.
 
 pub returns-in-EndOfInput-clause-filled : goal.returns-in-EndOfInput-clause-filled
 returns-in-EndOfInput-clause-filled g c = λ quota.
-    c.apply_last_fill-end.ensures.filled quota (c.lines.earlier + 1) _ _ (rw c.in-EndOfInput.is at c.in-Ok.ensures.end)
-    (filled_kept c.args.config.now quota (c.lines.earlier + 1) false _ _ _ (state_of c.lines.disk) _ (c.lines.invariant.so_far quota) c.read_line.ensures.kept)
+    rw c.new-in-EndOfInput.ensures
+    (c.apply_last_fill-end.ensures.filled quota (c.lines.earlier + 1) _ _ (rw c.in-EndOfInput.is at c.in-Ok.ensures.end)
+    (filled_kept c.args.config.now quota (c.lines.earlier + 1) false _ _ _ (state_of c.lines.disk) _ (c.lines.invariant.so_far quota) c.read_line.ensures.kept))
 
 pub returns-in-EndOfInput-clause-end : goal.returns-in-EndOfInput-clause-end
-returns-in-EndOfInput-clause-end g c = c.apply_last_fill-end.ensures.end _ (rw c.in-EndOfInput.is at c.in-Ok.ensures.end)
+returns-in-EndOfInput-clause-end g c =
+    rw c.new-in-EndOfInput.ensures
+    (c.apply_last_fill-end.ensures.end _ (rw c.in-EndOfInput.is at c.in-Ok.ensures.end))
 
 pub returns-in-EndOfInput-clause-lines : goal.returns-in-EndOfInput-clause-lines
 returns-in-EndOfInput-clause-lines g c =
-    omega (arith, c.apply_last_fill-end.ensures.shorter, c.apply_last_fill-end.ensures.count, c.read_line.ensures.grown, c.lines.invariant.lines)
+    rw c.new-in-EndOfInput.ensures
+    (omega (arith, c.apply_last_fill-end.ensures.shorter, c.apply_last_fill-end.ensures.count, c.read_line.ensures.grown, c.lines.invariant.lines))
 
 pub returns-in-EndOfInput-clause-counted : goal.returns-in-EndOfInput-clause-counted
 returns-in-EndOfInput-clause-counted g c = rw c.apply_last_fill-end.ensures.count (counted_more _ _ _ _ _ _ c.lines.invariant.counted c.read_line.ensures.counted)
@@ -66,19 +71,20 @@ returns-in-EndOfInput-clause-counted g c = rw c.apply_last_fill-end.ensures.coun
 pub returns-in-Some-clause-filled : goal.returns-in-Some-clause-filled
 returns-in-Some-clause-filled g c = λ quota.
     let feeds = rw c.in-Newline.is at c.in-Ok.ensures.end in
-    subst (λ d. FilledSoFar c.args.config.now quota (c.lines.earlier + 1) true (g.R.ByteReader.remaining c.args.reader.now) (prepend_known (held c.read_line.new.ahead) (g.R.ByteReader.remaining c.read_line.new.reader)) (state_of d) (Fits (held c.read_line.new.ahead) (Newline c.in-Newline.len)))
+    rw c.new-in-Some.ensures (subst (λ d. FilledSoFar c.args.config.now quota (c.lines.earlier + 1) true (g.R.ByteReader.remaining c.args.reader.now) (prepend_known (held c.read_line.new.ahead) (g.R.ByteReader.remaining c.read_line.new.reader)) (state_of d) (Fits (held c.read_line.new.ahead) (Newline c.in-Newline.len)))
     (sym c.in-Some.ensures.same)
     (filled_begun c.args.config.now quota (c.lines.earlier + 1) _ _ (state_of c.lines.disk) _
     (filled_kept c.args.config.now quota (c.lines.earlier + 1) false _ _ _ (state_of c.lines.disk) _ (c.lines.invariant.so_far quota) c.read_line.ensures.kept)
     (begun_newline c.args.config.now quota (c.lines.earlier + 1) (held c.read_line.new.ahead) c.in-Newline.len feeds
-    (ap (λ text. is_event (line_of_text c.args.config.now (take c.in-Newline.len text))) (sym c.as_slice.ensures) ∙ c.in-Some.ensures.event)))
+    (ap (λ text. is_event (line_of_text c.args.config.now (take c.in-Newline.len text))) (sym c.as_slice.ensures) ∙ c.in-Some.ensures.event))))
 
 pub returns-in-Some-clause-counted : goal.returns-in-Some-clause-counted
 returns-in-Some-clause-counted g c = counted_more _ _ _ _ _ _ c.lines.invariant.counted c.read_line.ensures.counted
 
 pub returns-in-Some-clause-parsed : goal.returns-in-Some-clause-parsed
 returns-in-Some-clause-parsed g c =
-    subst (λ text. Says c.args.config.now c.apply_fill.new.buffers.bytes c.apply_fill.new.buffers.images (take c.in-Newline.len text) c.in-Some.event) c.as_slice.ensures c.in-Some.ensures.parsed
+    rw c.new-in-Some.ensures
+    (subst (λ text. Says c.args.config.now c.apply_fill.new.buffers.bytes c.apply_fill.new.buffers.images (take c.in-Newline.len text) c.in-Some.event) c.as_slice.ensures c.in-Some.ensures.parsed)
 
 pub lines-preserved : goal.lines-preserved
 lines-preserved g c =

@@ -1,6 +1,5 @@
 use Rattle.std.proofs.Common.{◌≡◌, ◌≤◌, ◌*◌, length}
-use Rattle.dispatch.specs.ServerValue.{parts_in}
-use Rattle.access.specs.Counts.{more_by}
+use Rattle.access.specs.Access.{HasReceived}
 use Rattle.access.proofs.access.Access.receive_from_circuits.Given as goal
 
 abbrev pub invariant-circuits : goal.invariant-circuits
@@ -9,8 +8,5 @@ invariant-circuits l = record {
   end : l.index-end ≡ length l.self.topology.circuits;
   few : l.index-end ≤ 16;
   received : l.received ≤ 2 * l.index;
-  topology : l.self.topology ≡ l.fn.self.topology;
-  parts : parts_in l.self.server ≡ parts_in l.fn.self.server;
-  regions : l.self.regions ≡ l.fn.self.regions;
-  counts : l.self.counts.received ≡ more_by l.received l.fn.self.counts.received;
+  so_far : HasReceived l.received l.fn.self l.self;
 }

@@ -3,7 +3,7 @@ use Rattle.std.specs.Prelude.{Some, slice_get}
 use Rattle.config.specs.Rules.{IsSound}
 use Rattle.settings.specs.declared.settings.CircuitConfig.{CircuitConfig}
 use Rattle.lease_disk.specs.Crash.{IsFormatted}
-use Rattle.access.proofs.store.format_regions.Given as goal
+use Rattle.access.proofs.device.format_regions.Given as goal
 
 abbrev pub invariant-circuits : goal.invariant-circuits
 invariant-circuits g l = record {

@@ -1,6 +1,6 @@
-//! The file that keeps the leases.
+//! The device in a file, which keeps the leases.
 ghost use Rattle.std.specs.Prelude.{◌≡◌, ◌≢◌, ◌≤◌, ◌<◌, ◌+◌, ◌*◌, ℕ, true, length, Some, IfOk, IfErr, OnOk, slice_get};
-ghost use Rattle.access.specs.declared.store.StoreFault.TheVariants as fault;
+ghost use Rattle.access.specs.declared.device.DeviceFault.TheVariants as fault;
 ghost use Rattle.settings.specs.declared.settings.CircuitConfig.{CircuitConfig};
 ghost use Rattle.lease_disk.specs.Crash.{IsFormatted};
 ghost use Rattle.lease_disk.specs.FileDisk.{uncalled};
@@ -14,9 +14,9 @@ use std::rt::Files;
 use thiserror::Error;
 use types::Circuit;
 
-/// Why a file does not serve as the store of a configuration.
+/// Why a file does not serve as the device of a configuration.
 #[derive(Clone, Copy, Debug, PartialEq, Eq, Error)]
-pub enum StoreFault {
+pub enum DeviceFault {
     #[error("the file can't be opened, made or lengthened, or is in use")]
     File,
     #[error("out of memory")]
@@ -27,7 +27,7 @@ pub enum StoreFault {
 }
 
 /// Formats the region of each circuit.
-fn format_regions<D: Disk>(config: &Config, disk: &mut D) -> Result<(), StoreFault>
+fn format_regions<D: Disk>(config: &Config, disk: &mut D) -> Result<(), DeviceFault>
     requires { (c : ℕ) (circuit : CircuitConfig) → slice_get config.now.circuits c ≡ Some circuit → circuit.region < (D.device disk.old).count }
     ensures formatted { D.tells ≡ true → OnOk result ((c : ℕ) (circuit : CircuitConfig) → slice_get config.now.circuits c ≡ Some circuit → IsFormatted ((D.device disk.new).region circuit.region)) }
     ensures count { (D.device disk.new).count ≡ (D.device disk.old).count }
@@ -38,23 +38,23 @@ fn format_regions<D: Disk>(config: &Config, disk: &mut D) -> Result<(), StoreFau
             unreachable!()
         };
         let Ok(()) = format(config.at(circuit).region, disk) else {
-            return Err(StoreFault::Format);
+            return Err(DeviceFault::Format);
         };
     }
     Ok(())
 }
 
-fn fault_of(why: FileFault) -> StoreFault
+fn fault_of(why: FileFault) -> DeviceFault
     ensures { result ≢ fault.Format }
 {
     match why {
-        FileFault::File => StoreFault::File,
-        FileFault::Memory => StoreFault::Memory,
+        FileFault::File => DeviceFault::File,
+        FileFault::Memory => DeviceFault::Memory,
     }
 }
 
-/// Opens the file with this path as the store of a configuration, as it is.
-pub fn open_store<R: Files<File = File>>(rt: &R, path: &str) -> Result<FileDisk, StoreFault>
+/// Opens the file with this path as the device of a configuration, as it is.
+pub fn open_device<R: Files<File = File>>(rt: &R, path: &str) -> Result<FileDisk, DeviceFault>
     ensures most { IfOk result (λ disk. disk.regions ≤ 1024) }
     ensures new { IfOk result (λ disk. disk ≡ uncalled disk.regions) }
     ensures refused { IfErr result (λ why. why ≢ fault.Format) }
@@ -64,11 +64,11 @@ pub fn open_store<R: Files<File = File>>(rt: &R, path: &str) -> Result<FileDisk,
 
 /// Makes the file, where there is none, or lengthens it, and formats the region of each circuit: all
 /// leases in these are lost. Formats none where there are more circuits than are served.
-pub fn format_store<R: Files<File = File>>(
+pub fn format_device<R: Files<File = File>>(
     rt: &R,
     path: &str,
     config: &Config,
-) -> Result<FileDisk, StoreFault>
+) -> Result<FileDisk, DeviceFault>
     ensures writes { length config.now.circuits ≤ 16 → IfOk result (λ disk. disk.writes ≡ 2 * length config.now.circuits) }
     ensures regions { IfOk result (λ disk. (c : ℕ) (circuit : CircuitConfig) → slice_get config.now.circuits c ≡ Some circuit → circuit.region < disk.regions) }
 {

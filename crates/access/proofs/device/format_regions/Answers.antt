@@ -2,7 +2,7 @@ use Rattle.std.proofs.Common.{◌≡◌, ◌<◌, ◌∙◌, length, refl, subst
 use Rattle.std.specs.Prelude.{Some, slice_get}
 use Rattle.std.proofs.lemmas.Option.{slice_get_within}
 use Rattle.access.proofs.FormatLemmas.{one_more}
-use Rattle.access.proofs.store.format_regions.Goals as goal
+use Rattle.access.proofs.device.format_regions.Goals as goal
 
 pub circuits-preserved : goal.circuits-preserved
 circuits-preserved g c =
