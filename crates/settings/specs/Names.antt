@@ -1,4 +1,4 @@
--- How the tables and keys of a configuration are spelled. Only proofs need these.
+-- How the tables and keys of a configuration are spelled.
 use Rattle.std.specs.Prelude.{ℕ, List, codes}
 use Rattle.settings.specs.declared.names.TableName.{TableName}
 use Rattle.settings.specs.declared.names.TableName.TheVariants as table

@@ -1,5 +1,5 @@
 //! The names of a configuration's tables and keys, and of its circuits.
-ghost use Rattle.std.specs.Prelude.{◌≡◌, ℕ, List};
+ghost use Rattle.std.specs.Prelude.{◌≡◌, ℕ, List, Some};
 ghost use Rattle.settings.specs.Names.{table_name, server_key, relay_key, circuit_key};
 
 use std::fmt;
@@ -74,6 +74,8 @@ impl Key for TableName {
 }
 
 impl fmt::Display for TableName {
+    ghost output = { λ table. Some (table_name table) };
+
     fn fmt<W: fmt::Write>(&self, f: &mut fmt::Formatter<W>) -> fmt::Result {
         f.write_str(self.name())
     }
@@ -92,6 +94,8 @@ impl Key for ServerKey {
 }
 
 impl fmt::Display for ServerKey {
+    ghost output = { λ key. Some (server_key key) };
+
     fn fmt<W: fmt::Write>(&self, f: &mut fmt::Formatter<W>) -> fmt::Result {
         f.write_str(self.name())
     }
@@ -109,6 +113,8 @@ impl Key for RelayKey {
 }
 
 impl fmt::Display for RelayKey {
+    ghost output = { λ key. Some (relay_key key) };
+
     fn fmt<W: fmt::Write>(&self, f: &mut fmt::Formatter<W>) -> fmt::Result {
         f.write_str(self.name())
     }
@@ -136,6 +142,8 @@ impl Key for CircuitKey {
 }
 
 impl fmt::Display for CircuitKey {
+    ghost output = { λ key. Some (circuit_key key) };
+
     fn fmt<W: fmt::Write>(&self, f: &mut fmt::Formatter<W>) -> fmt::Result {
         f.write_str(self.name())
     }
