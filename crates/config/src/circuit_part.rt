@@ -120,6 +120,13 @@ impl CircuitPart {
         &self.circuit.dns
     }
 
+    /// The server's DUID, at most 130 bytes.
+    pub fn duid(&self) -> &ArrayVec<u8, MAX_DUID>
+        ensures { result.now.items ≡ self.now.duid }
+    {
+        &self.duid
+    }
+
     pub fn pool4(&self) -> Pool4
         ensures { result ≡ pool4_of self.now }
     {

@@ -1,1 +1,2 @@
 pub mod Reply4
+pub mod Reply6

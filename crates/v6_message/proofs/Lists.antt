@@ -54,7 +54,7 @@ options_are s bytes options h e = by (rw (uncut s bytes h) at e) where
 
 -- ---- lists, concatenated
 
-spelling-append : (a b : List (ℕ × List ℕ)) → spelling (a ++ b) ≡ spelling a ++ spelling b
+pub spelling-append : (a b : List (ℕ × List ℕ)) → spelling (a ++ b) ≡ spelling a ++ spelling b
 spelling-append [] b = refl
 spelling-append (o ∷ os) b = ap (λ (t : List ℕ). option o.0 o.1 ++ t) (spelling-append os b) ∙ sym (append_assoc (option o.0 o.1) (spelling os) (spelling b))
 

@@ -1,0 +1,232 @@
+//! The datagrams of DHCPv6 replies (RFC 8415, sections 18.3 and 19.3).
+ghost use Rattle.std.specs.Prelude.{◌≡◌, ◌≤◌, ◌+◌, [], ◌∷◌, ◌++◌, length, map, None, option_map};
+ghost use Rattle.v6_options.specs.Codes.{IA_NA};
+ghost use Rattle.v6_options.specs.Spelling.{option, spelling};
+ghost use Rattle.v6_message.specs.Ia.{ia_header};
+ghost use Rattle.v6_message.specs.Message.{message_bytes};
+ghost use Rattle.v6_message.specs.Relay.{relay_header};
+ghost use Rattle.replies.specs.Reply6.{address_option, code_of_reply, code_of_status, echo, ia_options, ia_with_addresses, ia_with_status, reply6_bytes, reply_message, reply_options, status_option, status_options};
+
+use arrayvec::ArrayVec;
+use config::CircuitPart;
+use types::{Addr6, MAX_CIRCUIT_ID, MAX_DUID, MAX_LISTED, Reply6, ReplyIa, ReplyKind6, Status6};
+use v6_message::{IaAddress, IaHeader, Message6, MessageHeader, RELAY_REPLY, Relay6, RelayHeader};
+use v6_options::code;
+use wire::PacketBuf;
+
+/// Writes a reply to the message in this Relay-forward over whatever `out` held.
+pub fn write6(
+    part: &CircuitPart,
+    request: &Relay6<'_>,
+    message: &Message6<'_>,
+    reply: &Reply6,
+    out: &mut PacketBuf,
+)
+    ensures bytes { out.new ≡ reply6_bytes part.now request.now message.now reply.now }
+    ensures fits { length out.new ≤ 508 }
+    ensures without_status { reply.now.status ≡ None → length out.new ≤ 502 }
+{
+    let mut inside = PacketBuf::new();
+    put_message(part, message, reply, &mut inside);
+    put_header(request, out);
+    put_echo(
+        code::INTERFACE_ID,
+        request.interface_id(),
+        MAX_CIRCUIT_ID,
+        out,
+    );
+    put(code::RELAY_MESSAGE, inside.as_slice(), out);
+}
+
+/// The Relay-reply's header, over whatever `out` held.
+fn put_header(request: &Relay6<'_>, out: &mut PacketBuf)
+    ensures bytes { out.new ≡ relay_header 13 request.now.hop_count request.now.link_address request.now.peer_address }
+    ensures len { length out.new ≡ 34 }
+{
+    out.clear();
+    let header = RelayHeader {
+        kind: RELAY_REPLY,
+        hop_count: request.hop_count(),
+        link_address: request.link_address(),
+        peer_address: request.peer_address(),
+    };
+    let _ = header.write(out);
+}
+
+/// The client's reply: at most 434 bytes.
+fn put_message(part: &CircuitPart, message: &Message6<'_>, reply: &Reply6, out: &mut PacketBuf)
+    requires { length out.old + 434 ≤ 1280 }
+    ensures bytes { out.new ≡ out.old ++ message_bytes (reply_message part.now message.now reply.now) }
+    ensures len { length out.new ≤ length out.old + 434 }
+    ensures without_status { reply.now.status ≡ None → length out.new ≤ length out.old + 428 }
+{
+    let header = MessageHeader {
+        kind: code_of_reply(reply.kind),
+        transaction_id: message.transaction_id(),
+    };
+    let _ = header.write(out);
+    put_options(part, message, reply, out);
+}
+
+fn code_of_reply(kind: ReplyKind6) -> u8
+    ensures { result ≡ code_of_reply kind }
+{
+    match kind {
+        ReplyKind6::Advertise => 2,
+        ReplyKind6::Reply => 7,
+    }
+}
+
+/// The options in the order sent: at most 430 bytes.
+fn put_options(part: &CircuitPart, message: &Message6<'_>, reply: &Reply6, out: &mut PacketBuf)
+    requires { length out.old + 430 ≤ 1280 }
+    ensures bytes { out.new ≡ out.old ++ spelling (reply_options part.now message.now reply.now) }
+    ensures len { length out.new ≤ length out.old + 430 }
+    ensures without_status { reply.now.status ≡ None → length out.new ≤ length out.old + 424 }
+{
+    put_echo(code::CLIENT_ID, message.client_id(), MAX_DUID, out);
+    put(code::SERVER_ID, part.duid().as_slice(), out);
+    put_status_of_all(reply.status, out);
+    put_ia(part.lease(), message.ia().iaid(), &reply.ia, out);
+}
+
+/// The status of the whole message, if it has one: at most 6 bytes.
+fn put_status_of_all(status: Option<Status6>, out: &mut PacketBuf)
+    requires { length out.old + 6 ≤ 1280 }
+    ensures bytes { out.new ≡ out.old ++ spelling (status_options status) }
+    ensures len { length out.new ≤ length out.old + 6 }
+    ensures without_status { status ≡ None → length out.new ≤ length out.old }
+{
+    if let Some(status) = status {
+        put_status(status, out);
+    }
+}
+
+/// The IA_NA, if there is one: at most 156 bytes.
+fn put_ia(lease: u32, iaid: u32, ia: &ReplyIa, out: &mut PacketBuf)
+    requires { length out.old + 156 ≤ 1280 }
+    ensures bytes { out.new ≡ out.old ++ spelling (ia_options lease iaid ia.now) }
+    ensures len { length out.new ≤ length out.old + 156 }
+{
+    match ia {
+        ReplyIa::None => {}
+        ReplyIa::Status(status) => put_ia_without_address(iaid, *status, out),
+        ReplyIa::Given(zeroed, address) => put_ia_of(lease, iaid, zeroed, *address, out),
+    }
+}
+
+/// The IA_NA with a status and no address: 22 bytes.
+fn put_ia_without_address(iaid: u32, status: Status6, out: &mut PacketBuf)
+    requires { length out.old + 22 ≤ 1280 }
+    ensures bytes { out.new ≡ out.old ++ spelling (ia_with_status iaid status ∷ []) }
+    ensures len { length out.new ≡ length out.old + 22 }
+{
+    let mut inside = PacketBuf::new();
+    put_status(status, &mut inside);
+    put_ia_parts(iaid, 0, 0, &inside, out);
+}
+
+/// The IA_NA with addresses: at most 156 bytes.
+fn put_ia_of(
+    lease: u32,
+    iaid: u32,
+    zeroed: &ArrayVec<Addr6, MAX_LISTED>,
+    leased: Addr6,
+    out: &mut PacketBuf,
+)
+    requires { length out.old + 156 ≤ 1280 }
+    ensures bytes { out.new ≡ out.old ++ spelling (ia_with_addresses lease iaid zeroed.now.items leased ∷ []) }
+    ensures len { length out.new ≤ length out.old + 156 }
+{
+    let mut inside = PacketBuf::new();
+    put_addresses(lease, zeroed, leased, &mut inside);
+    let t2 = (4 * u64::from(lease) / 5) as u32;
+    put_ia_parts(iaid, lease / 2, t2, &inside, out);
+}
+
+/// The IA_NA with these numbers and the options that `inside` holds.
+fn put_ia_parts(iaid: u32, t1: u32, t2: u32, inside: &PacketBuf, out: &mut PacketBuf)
+    requires { length out.old + length inside.now + 16 ≤ 1280 }
+    ensures bytes { out.new ≡ out.old ++ option IA_NA (ia_header iaid t1 t2 ++ inside.now) }
+    ensures len { length out.new ≡ length out.old + length inside.now + 16 }
+{
+    let header = IaHeader { iaid, t1, t2 };
+    let _ = header.write(inside.as_slice(), out);
+}
+
+/// The zeroed addresses and the leased one: at most 140 bytes.
+fn put_addresses(
+    lease: u32,
+    zeroed: &ArrayVec<Addr6, MAX_LISTED>,
+    leased: Addr6,
+    out: &mut PacketBuf,
+)
+    requires { length out.old + 140 ≤ 1280 }
+    ensures bytes { out.new ≡ out.old ++ spelling (map (address_option 0) zeroed.now.items ++ address_option lease leased ∷ []) }
+    ensures len { length out.new ≤ length out.old + 140 }
+{
+    for address in zeroed.as_slice() {
+        put_address(*address, 0, out);
+    }
+    put_address(leased, lease, out);
+}
+
+/// An address with both lifetimes.
+fn put_address(address: Addr6, lifetime: u32, out: &mut PacketBuf)
+    requires { length out.old + 28 ≤ 1280 }
+    ensures bytes { out.new ≡ out.old ++ spelling (address_option lifetime address ∷ []) }
+    ensures len { length out.new ≡ length out.old + 28 }
+{
+    let address = IaAddress {
+        address,
+        preferred_lifetime: lifetime,
+        valid_lifetime: lifetime,
+    };
+    let _ = address.write(out);
+}
+
+/// A status without a text.
+fn put_status(status: Status6, out: &mut PacketBuf)
+    requires { length out.old + 6 ≤ 1280 }
+    ensures bytes { out.new ≡ out.old ++ spelling (status_option status ∷ []) }
+    ensures len { length out.new ≡ length out.old + 6 }
+{
+    put(
+        code::STATUS_CODE,
+        &code_of_status(status).to_be_bytes(),
+        out,
+    );
+}
+
+fn code_of_status(status: Status6) -> u16
+    ensures { result ≡ code_of_status status }
+{
+    match status {
+        Status6::Success => 0,
+        Status6::NoAddrsAvail => 2,
+        Status6::NoBinding => 3,
+        Status6::NotOnLink => 4,
+    }
+}
+
+/// An option of the request as it came, if there is one of at most so many bytes.
+fn put_echo(code: u16, value: Option<&[u8]>, most: usize, out: &mut PacketBuf)
+    requires { length out.old + most + 4 ≤ 1280 }
+    ensures bytes { out.new ≡ out.old ++ spelling (echo code most (option_map (λ value. value.now) value.entry)) }
+    ensures len { length out.new ≤ length out.old + most + 4 }
+{
+    if let Some(value) = value {
+        if value.len() <= most {
+            put(code, value, out);
+        }
+    }
+}
+
+/// Appends an option for which there is room.
+fn put(code: u16, value: &[u8], out: &mut PacketBuf)
+    requires { length out.old + length value.now + 4 ≤ 1280 }
+    ensures bytes { out.new ≡ out.old ++ option code value.now }
+    ensures len { length out.new ≡ length out.old + length value.now + 4 }
+{
+    let _ = v6_options::put(code, value, out);
+}
