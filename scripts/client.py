@@ -87,10 +87,10 @@ class Circuit:
 
 
 class Server:
-    """A run of `accessd` over a configuration and a store, from when it is ready to serve."""
+    """A run of `accessd` over a configuration and a file of leases, from when it is ready to serve."""
 
-    def __init__(self, program, config, store, *words, turns=1_000_000):
-        command = [program, config, "--disk", store, "--turns", str(turns), *words]
+    def __init__(self, program, config, leases, *words, turns=1_000_000):
+        command = [program, config, "--disk", leases, "--turns", str(turns), *words]
         self.process = subprocess.Popen(command, stderr=subprocess.PIPE, text=True)
         self.first_line = self.process.stderr.readline().rstrip("\n")
 
