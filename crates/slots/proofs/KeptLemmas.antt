@@ -260,7 +260,7 @@ module _ {K : Type 0} {eqk : K → K → Bool} {cmpk : K → K → Ordering} (la
   take_without q (suc n) [] w = tt
   take_without q (suc n) (s ∷ ss) w = (w.0, take_without q n ss w.1)
 
-  take_distinct : (n : ℕ) (ss : Slots K) → AreDistinct eqk ss → AreDistinct eqk (take n ss)
+  pub take_distinct : (n : ℕ) (ss : Slots K) → AreDistinct eqk ss → AreDistinct eqk (take n ss)
   take_distinct zero ss d = tt
   take_distinct (suc n) [] d = tt
   take_distinct (suc n) (s ∷ ss) d = (λ q own. take_without q n ss (d.0 q own), take_distinct n ss d.1)
