@@ -1,0 +1,4 @@
+pub mod ShownLemmas
+pub mod WriteLemmas
+pub mod FreeLemmas
+pub mod KeptLemmas

@@ -1,0 +1,6 @@
+pub mod Kept
+pub mod Key
+pub mod KeyLaws
+pub mod Lookup
+pub mod Maps
+pub mod Slots

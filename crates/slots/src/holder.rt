@@ -1,0 +1,104 @@
+//! What a slot of a pool holds.
+ghost use Rattle.std.specs.Prelude.{◌≡◌};
+ghost use Rattle.slots.specs.Kept.{kept};
+ghost use Rattle.slots.specs.Lookup.{until_of, live, is_vacant, is_bound_to, is_offered_to};
+ghost use Rattle.slots.specs.Slots.{client_of, is_clients};
+
+use crate::key::SlotKey;
+
+/// Who holds an address, and the moment until which it is held, in seconds.
+#[derive(Clone, Copy, Debug, PartialEq, Eq)]
+pub enum Holder<K> {
+    /// Leased to this client.
+    Bound(K, u64),
+    /// Offered to this client, which has not asked for it yet.
+    Offered(K, u64),
+    /// A client declined it: it is given to nobody.
+    Barred(u64),
+}
+
+impl<K> Holder<K> {
+    fn until(&self) -> u64
+        ensures { result ≡ until_of self.now }
+    {
+        match self {
+            Holder::Bound(_, until) => *until,
+            Holder::Offered(_, until) => *until,
+            Holder::Barred(until) => *until,
+        }
+    }
+}
+
+/// Whether nobody holds the slot any more.
+pub fn is_vacant<K>(slot: &Option<Holder<K>>, clock: u64) -> bool
+    ensures { result ≡ is_vacant clock slot.now }
+{
+    match slot {
+        None => true,
+        Some(holder) => holder.until() <= clock,
+    }
+}
+
+/// Whether this client has a live binding of the slot.
+pub fn is_bound_to<K: PartialEq>(slot: &Option<Holder<K>>, client: &K, clock: u64) -> bool
+    ensures { result ≡ is_bound_to K.eq clock client.now slot.now }
+{
+    match slot {
+        Some(Holder::Bound(key, until)) => clock < *until && client == key,
+        _ => false,
+    }
+}
+
+/// Whether this client has a live offer of the slot.
+pub fn is_offered_to<K: PartialEq>(slot: &Option<Holder<K>>, client: &K, clock: u64) -> bool
+    ensures { result ≡ is_offered_to K.eq clock client.now slot.now }
+{
+    match slot {
+        Some(Holder::Offered(key, until)) => clock < *until && client == key,
+        _ => false,
+    }
+}
+
+/// The client that the slot is bound or offered to, expired or not.
+pub fn client_of<K: Copy>(slot: &Option<Holder<K>>) -> Option<K>
+    ensures { result ≡ client_of slot.now }
+{
+    match slot {
+        Some(Holder::Bound(key, _)) => Some(*key),
+        Some(Holder::Offered(key, _)) => Some(*key),
+        _ => None,
+    }
+}
+
+/// Whether the slot is this client's, by a binding or an offer, expired or not.
+pub fn is_clients<K: PartialEq>(slot: &Option<Holder<K>>, client: &K) -> bool
+    ensures { result ≡ is_clients K.eq client.now slot.now }
+{
+    match slot {
+        Some(Holder::Bound(key, _)) => client == key,
+        Some(Holder::Offered(key, _)) => client == key,
+        _ => false,
+    }
+}
+
+/// The holder that a slot has at this clock: what has expired counts no longer.
+pub fn live<K: Copy>(slot: Option<Holder<K>>, clock: u64) -> Option<Holder<K>>
+    ensures { result ≡ live clock slot }
+{
+    let holder = slot?;
+    if clock < holder.until() {
+        Some(holder)
+    } else {
+        None
+    }
+}
+
+/// What is kept of a slot: an offer is in memory only, and what has expired counts no longer.
+pub fn kept<K: Copy>(slot: Option<Holder<K>>, clock: u64) -> Option<Holder<K>>
+    ensures { result ≡ kept clock slot }
+{
+    match live(slot, clock) {
+        Some(Holder::Offered(_, _)) => None,
+        lasting => lasting,
+    }
+}

@@ -1,0 +1,14 @@
+//! What each address of a circuit's pool is held for: a table of at most 16 slots by address, generic
+//! over the client's key, which the books of both protocols stand on.
+#![tactic(auto)]
+
+mod holder;
+mod key;
+mod lookup;
+mod table;
+mod write;
+
+pub use holder::{Holder, is_vacant, kept, live};
+pub use key::SlotKey;
+pub use lookup::{bound_slot, first_vacant_slot, offered_slot};
+pub use table::SlotTable;
