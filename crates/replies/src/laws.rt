@@ -1,13 +1,21 @@
-//! What holds of every reply: a function that does nothing, for its contract.
-ghost use Rattle.std.specs.Prelude.{◌≡◌, length, Ok};
+//! What holds of every reply: functions that do nothing, for their contracts.
+ghost use Rattle.std.specs.Prelude.{◌≡◌, ◌≤◌, ℕ, List, length, Ok, Some};
 ghost use Rattle.config.specs.CircuitPart.{CircuitPart, IsPart};
 ghost use Rattle.types.specs.declared.request4.Reply4.{Reply4};
+ghost use Rattle.types.specs.declared.request6.Reply6.{Reply6};
 ghost use Rattle.v4_message.specs.Header.{IsSized};
 ghost use Rattle.v4_message.specs.Reading.{message_of};
 ghost use Rattle.v4_message.specs.Spelling.{MessageValue};
+ghost use Rattle.v6_options.specs.Codes.{RELAY_MESSAGE, INTERFACE_ID};
+ghost use Rattle.v6_options.specs.Spelling.{look_up};
+ghost use Rattle.v6_message.specs.Message as message6;
+ghost use Rattle.v6_message.specs.Relay.{RelayValue};
+ghost use Rattle.v6_message.specs.RelayReading.{relay_of};
 ghost use Rattle.replies.specs.Reply4.{reply4_bytes, reply_message, yiaddr_in};
+ghost use Rattle.replies.specs.Reply6 as reply6;
 
 use v4_message::written_is_read;
+use v6_message::written_relay_is_read;
 
 /// What the server writes reads back as the reply that it is: its header, and its options in order, the
 /// request's option 82 among them.
@@ -16,4 +24,19 @@ pub fn reply_is_read()
         → message_of (reply4_bytes part request reply) ≡ Ok (reply_message part request reply) }
 {
     written_is_read();
+}
+
+/// What the server writes reads back as the Relay-reply that it is, with the request's interface id and
+/// the client's reply in it.
+pub fn reply6_is_read()
+    ensures read { (part : CircuitPart) (request : RelayValue) (message : message6.MessageValue) (reply : Reply6)
+        → length request.link_address ≡ 16 → length request.peer_address ≡ 16 → length (reply6.reply6_bytes part request message reply) ≤ 1280
+        → relay_of (reply6.reply6_bytes part request message reply) ≡ Ok (reply6.relay_reply part request message reply) }
+    ensures interface { (part : CircuitPart) (request : RelayValue) (message : message6.MessageValue) (reply : Reply6) (id : List ℕ)
+        → look_up INTERFACE_ID request.options ≡ Some id → length id ≤ 32
+        → look_up INTERFACE_ID (reply6.relay_reply part request message reply).options ≡ Some id }
+    ensures message { (part : CircuitPart) (request : RelayValue) (message : message6.MessageValue) (reply : Reply6)
+        → look_up RELAY_MESSAGE (reply6.relay_reply part request message reply).options ≡ Some (message6.message_bytes (reply6.reply_message part message reply)) }
+{
+    written_relay_is_read();
 }

@@ -6,6 +6,6 @@ mod laws;
 mod reply4;
 mod reply6;
 
-pub use laws::reply_is_read;
+pub use laws::{reply_is_read, reply6_is_read};
 pub use reply4::write4;
 pub use reply6::write6;

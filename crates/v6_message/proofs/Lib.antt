@@ -1,3 +1,4 @@
+pub mod Allowed
 pub mod Counts
 pub mod Decided
 pub mod Fronts
