@@ -4,6 +4,8 @@
 #[cfg(test)]
 mod duid_tests;
 #[cfg(test)]
+mod reply6_tests;
+#[cfg(test)]
 mod types_tests;
 #[cfg(test)]
 mod v4_message_tests;
