@@ -2,7 +2,7 @@
 use Rattle.std.proofs.Common.{◌≡◌, ℕ, ◌+◌, ◌==◌, ◌&&◌, nat_lt, Bool, true, false, not, refl, sym, ap, subst, ◌∙◌, Ok, Err, Result, is_ok, arith}
 use Rattle.std.specs.Prelude.{Option, Some, None, if◌then◌else◌}
 use Rattle.std.proofs.lemmas.Bool.{lt-ltb, le-ltb}
-use Rattle.types.specs.Delivered.{Delivered}
+use Rattle.types.specs.Delivery.{DeliveryValue}
 use Rattle.types.specs.declared.discard.Discard.{Discard}
 use Rattle.types.specs.declared.discard.Discard.TheVariants.{DiskFault}
 use Rattle.types.specs.declared.request4.Request4.{Request4}
@@ -22,11 +22,11 @@ use Rattle.dispatch.specs.ServerValue.{CircuitServerValue, OpenCircuitValue, boo
 
 -- ---- what is decided
 
-unfolded : (part : CircuitPart) (d : Delivered) (b : Book) → served part d b ≡ message_served part (book_at d.moment b) (message_of d.bytes)
+unfolded : (part : CircuitPart) (d : DeliveryValue) (b : Book) → served part d b ≡ message_served part (book_at d.moment b) (message_of d.bytes)
 unfolding served
 unfolded part d b = λ i. message_served part (book_at d.moment b) (message_of d.bytes)
 
-module _ (part : CircuitPart) (d : Delivered) (m : MessageValue) (read : message_of d.bytes ≡ Ok m) (b later : Book) (ticked : later ≡ book_at d.moment b) where
+module _ (part : CircuitPart) (d : DeliveryValue) (m : MessageValue) (read : message_of d.bytes ≡ Ok m) (b later : Book) (ticked : later ≡ book_at d.moment b) where
   of_message : served part d b ≡ request_served part m later (request_in m)
   of_message = unfolded part d b ∙ ap (message_served part (book_at d.moment b)) read ∙ ap (λ x. request_served part m x (request_in m)) (sym ticked)
 
@@ -111,11 +111,11 @@ writes_if tells false region old new stays touches = stays refl
 -- ---- what the clauses say
 
 -- an open circuit was asked, and served the datagram so
-pub record IsServed (s : CircuitServerValue) (d : Delivered) (part : CircuitPart) (o : OpenCircuitValue) (done : Served) : Type 0 where
+pub record IsServed (s : CircuitServerValue) (d : DeliveryValue) (part : CircuitPart) (o : OpenCircuitValue) (done : Served) : Type 0 where
   pub was : s ≡ record { part = part; state = Some o }
   pub served_so : served part d (open_book o) ≡ done
 
-module _ {s : CircuitServerValue} {d : Delivered} {part : CircuitPart} {o : OpenCircuitValue} {done : Served} (case : IsServed s d part o done) where
+module _ {s : CircuitServerValue} {d : DeliveryValue} {part : CircuitPart} {o : OpenCircuitValue} {done : Served} (case : IsServed s d part o done) where
   as_served : (fails : Bool) → answered s.part d fails (book_of s) ≡ after_save fails done
   as_served fails = ap (λ v. answered v.part d fails (book_of v)) case.was ∙ ap (after_save fails) case.served_so
 

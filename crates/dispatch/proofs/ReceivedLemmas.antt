@@ -1,7 +1,7 @@
 -- A datagram of a circuit is that circuit's to answer, and changes its leases alone.
 use Rattle.std.proofs.Common.{◌≡◌, ℕ, Bool, List, Ok, ap, ◌∙◌}
 use Rattle.std.specs.Prelude.{Option, Some, slice_get, slice_set}
-use Rattle.types.specs.Delivered.{Delivered}
+use Rattle.types.specs.Delivery.{DeliveryValue}
 use Rattle.types.specs.declared.addr.Source.{Source}
 use Rattle.config.specs.CircuitPart.{CircuitPart}
 use Rattle.dispatch.specs.Addressee.{addressee}
@@ -9,7 +9,7 @@ use Rattle.dispatch.specs.Leases.{Leases, leases_with, addressee_leases, receive
 use Rattle.dispatch.specs.Received.{received, with_answered, answered, circuit_answered, addressee_answered, circuit_saves, addressee_saves, received_saves}
 use Rattle.dispatch.specs.Server.{Book}
 
-module _ (relays : List Source) (parts : List CircuitPart) (d : Delivered) (c : ℕ) (part : CircuitPart)
+module _ (relays : List Source) (parts : List CircuitPart) (d : DeliveryValue) (c : ℕ) (part : CircuitPart)
     (found : addressee relays parts d.source d.bytes ≡ Ok c) (there : slice_get parts c ≡ Some part) where
   pub received_at : (fails : Bool) (books : List (Option Book)) (book : Option Book) → slice_get books c ≡ Some book
       → received relays parts d fails books ≡ with_answered c books (answered part d fails book)

@@ -1,7 +1,7 @@
 -- What a circuit's server and its region hold together, and what becomes of it. Whatever a decision
 -- changes but offers is saved in the region before the reply leaves.
 use Rattle.std.specs.Prelude.{◌≡◌, ℕ, ◌==◌, ◌&&◌, ◌||◌, nat_le, ◌<◌, true, List, [], ◌∷◌, Option, Some, None, option_map, All, slice_get, slice_set, Result, Ok, Err, if◌then◌else◌}
-use Rattle.types.specs.Delivered.{Delivered}
+use Rattle.types.specs.Delivery.{DeliveryValue}
 use Rattle.types.specs.declared.addr.Source.{Source}
 use Rattle.types.specs.declared.discard.Discard.{Discard}
 use Rattle.types.specs.declared.slots.Slots.{Slots}
@@ -59,12 +59,12 @@ after_saving k b l = record { book = if k == 0 then Some b else None; restarts =
 abbrev pub kept : ℕ → Served → Leases → Leases
 kept fault done l = if done.is_kept then after_saving (effective 6 fault) done.book l else record l { book = Some done.book }
 
-abbrev pub served_leases : CircuitPart → Delivered → ℕ → Leases → Option Book → Leases
+abbrev pub served_leases : CircuitPart → DeliveryValue → ℕ → Leases → Option Book → Leases
 served_leases part d fault l None = l
 served_leases part d fault l (Some b) = kept fault (served part d b) l
 
 -- the leases of a circuit after one of its datagrams, where this call of the device fails in its save
-abbrev pub after_datagram : CircuitPart → Delivered → ℕ → Leases → Leases
+abbrev pub after_datagram : CircuitPart → DeliveryValue → ℕ → Leases → Leases
 after_datagram part d fault l = served_leases part d fault l l.book
 
 -- ---- a moment, a restart
@@ -83,17 +83,17 @@ found_leases regions part = record { book = found_book part (regions part.region
 
 -- ---- all circuits
 
-abbrev pub leases_with : ℕ → Delivered → (ℕ → ℕ) → List Leases → Option CircuitPart → Option Leases → List Leases
+abbrev pub leases_with : ℕ → DeliveryValue → (ℕ → ℕ) → List Leases → Option CircuitPart → Option Leases → List Leases
 leases_with c d faults all (Some part) (Some l) = slice_set all c (after_datagram part d (faults part.region) l)
 leases_with c d faults all part l = all
 
-abbrev pub addressee_leases : List CircuitPart → Delivered → (ℕ → ℕ) → List Leases → Result ℕ Discard → List Leases
+abbrev pub addressee_leases : List CircuitPart → DeliveryValue → (ℕ → ℕ) → List Leases → Result ℕ Discard → List Leases
 addressee_leases parts d faults all (Err why) = all
 addressee_leases parts d faults all (Ok c) = leases_with c d faults all (slice_get parts c) (slice_get all c)
 
 -- Only the leases of the datagram's circuit change. `faults` says for each region which of the device's
 -- next calls fails.
-abbrev pub received_leases : List Source → List CircuitPart → Delivered → (ℕ → ℕ) → List Leases → List Leases
+abbrev pub received_leases : List Source → List CircuitPart → DeliveryValue → (ℕ → ℕ) → List Leases → List Leases
 received_leases relays parts d faults all = addressee_leases parts d faults all (addressee relays parts d.source d.bytes)
 
 -- ---- the device

@@ -1,6 +1,6 @@
 -- What the server makes of any datagram.
 use Rattle.std.specs.Prelude.{◌≡◌, ℕ, ◌==◌, ◌&&◌, Bool, not, false, List, [], Option, Some, None, slice_get, slice_set, Result, Ok, Err, if◌then◌else◌}
-use Rattle.types.specs.Delivered.{Delivered}
+use Rattle.types.specs.Delivery.{DeliveryValue}
 use Rattle.types.specs.declared.addr.Source.{Source}
 use Rattle.types.specs.declared.discard.Discard.{Discard}
 use Rattle.types.specs.declared.discard.Discard.TheVariants.{UnknownCircuit, CircuitClosed, DiskFault}
@@ -23,7 +23,7 @@ after_save fails done =
     else record { answer = done.answer; book = Some done.book }
 
 -- A datagram of a circuit, where its save fails or does not. A closed circuit answers nothing.
-abbrev pub answered : CircuitPart → Delivered → Bool → Option Book → Answered
+abbrev pub answered : CircuitPart → DeliveryValue → Bool → Option Book → Answered
 answered part d fails None = record { answer = Err CircuitClosed; book = None }
 answered part d fails (Some b) = after_save fails (served part d b)
 
@@ -40,16 +40,16 @@ drop_all why books = record { answer = Err why; books = books }
 abbrev pub with_answered : ℕ → List (Option Book) → Answered → Received
 with_answered c books done = record { answer = done.answer; books = slice_set books c done.book }
 
-abbrev pub circuit_answered : ℕ → Delivered → Bool → List (Option Book) → Option CircuitPart → Option (Option Book) → Received
+abbrev pub circuit_answered : ℕ → DeliveryValue → Bool → List (Option Book) → Option CircuitPart → Option (Option Book) → Received
 circuit_answered c d fails books (Some part) (Some book) = with_answered c books (answered part d fails book)
 circuit_answered c d fails books part book = drop_all UnknownCircuit books
 
 -- What is of no circuit changes nothing.
-abbrev pub addressee_answered : List CircuitPart → Delivered → Bool → List (Option Book) → Result ℕ Discard → Received
+abbrev pub addressee_answered : List CircuitPart → DeliveryValue → Bool → List (Option Book) → Result ℕ Discard → Received
 addressee_answered parts d fails books (Err why) = drop_all why books
 addressee_answered parts d fails books (Ok c) = circuit_answered c d fails books (slice_get parts c) (slice_get books c)
 
-abbrev pub received : List Source → List CircuitPart → Delivered → Bool → List (Option Book) → Received
+abbrev pub received : List Source → List CircuitPart → DeliveryValue → Bool → List (Option Book) → Received
 received relays parts d fails books = addressee_answered parts d fails books (addressee relays parts d.source d.bytes)
 
 -- ---- what is written
@@ -58,16 +58,16 @@ received relays parts d fails books = addressee_answered parts d fails books (ad
 abbrev pub saves : CircuitPart → Served → Option ℕ
 saves part done = if done.is_kept then Some part.region else None
 
-abbrev pub circuit_saves : Delivered → Option CircuitPart → Option (Option Book) → Option ℕ
+abbrev pub circuit_saves : DeliveryValue → Option CircuitPart → Option (Option Book) → Option ℕ
 circuit_saves d (Some part) (Some (Some b)) = saves part (served part d b)
 circuit_saves d part book = None
 
-abbrev pub addressee_saves : List CircuitPart → Delivered → List (Option Book) → Result ℕ Discard → Option ℕ
+abbrev pub addressee_saves : List CircuitPart → DeliveryValue → List (Option Book) → Result ℕ Discard → Option ℕ
 addressee_saves parts d books (Err why) = None
 addressee_saves parts d books (Ok c) = circuit_saves d (slice_get parts c) (slice_get books c)
 
 -- The region that a datagram's save writes to, whether it fails or not; None where nothing is written.
-abbrev pub received_saves : List Source → List CircuitPart → Delivered → List (Option Book) → Option ℕ
+abbrev pub received_saves : List Source → List CircuitPart → DeliveryValue → List (Option Book) → Option ℕ
 received_saves relays parts d books = addressee_saves parts d books (addressee relays parts d.source d.bytes)
 
 -- Whether a save to this region fails, where `faults` says for each region which of the device's next calls

@@ -1,6 +1,6 @@
 -- One circuit's server: its book, and what it makes of a DHCPv4 datagram of the circuit.
 use Rattle.std.specs.Prelude.{ℕ, Bool, false, max, List, Result, Ok, Err}
-use Rattle.types.specs.Delivered.{Delivered}
+use Rattle.types.specs.Delivery.{DeliveryValue}
 use Rattle.types.specs.declared.discard.Discard.{Discard}
 use Rattle.types.specs.declared.discard.Discard.TheVariants as reason
 use Rattle.types.specs.declared.request4.Request4.{Request4}
@@ -61,5 +61,5 @@ message_served part b (Err fault) = drop reason.Malformed b
 message_served part b (Ok m) = request_served part m b (request_in m)
 
 -- A datagram of the circuit.
-unfoldable pub served : CircuitPart → Delivered → Book → Served
+unfoldable pub served : CircuitPart → DeliveryValue → Book → Served
 served part d b = message_served part (book_at d.moment b) (message_of d.bytes)

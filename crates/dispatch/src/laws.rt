@@ -1,6 +1,6 @@
 //! What holds of every circuit's server: functions that do nothing, for their contracts.
 ghost use Rattle.std.specs.Prelude.{ℕ};
-ghost use Rattle.types.specs.Delivered.{Delivered};
+ghost use Rattle.types.specs.Delivery.{DeliveryValue};
 ghost use Rattle.bindings_v4.specs.Book4.{empty_book};
 ghost use Rattle.config.specs.CircuitPart.{CircuitPart, IsPart};
 ghost use Rattle.dispatch.specs.Server.{Book, IsBook, book_at, kept_book, served};
@@ -11,7 +11,7 @@ ghost use Rattle.dispatch.specs.Server.{Book, IsBook, book_at, kept_book, served
 pub fn leaves_a_book()
     ensures empty { (clock : ℕ) → IsBook (record { clock = clock; four = empty_book }) }
     ensures later { (now : ℕ) (b : Book) → IsBook b → IsBook (book_at now b) }
-    ensures answered { (part : CircuitPart) (d : Delivered) (b : Book) → IsPart part → IsBook b → IsBook (served part d b).book }
+    ensures answered { (part : CircuitPart) (d : DeliveryValue) (b : Book) → IsPart part → IsBook b → IsBook (served part d b).book }
     ensures kept { (b : Book) → IsBook b → IsBook (kept_book b) }
 {
     bindings_v4::leaves_a_book();

@@ -7,7 +7,7 @@ ghost use Rattle.dispatch.specs.Received.{IsAnswer, fails_at, received, received
 ghost use Rattle.dispatch.specs.ServerValue.{AreReady, HasItsPool, IsReady, RegionsDiffer, books_in, leases_in, leases_of, parts_in, with_states};
 ghost use Rattle.dispatch.specs.declared.server.OpenFault.TheVariants as fault;
 ghost use Rattle.lease_disk.specs.Device.{TouchesNothing, WritesAt};
-ghost use Rattle.types.specs.Delivered.{delivery};
+ghost use Rattle.types.specs.Delivery.{delivery};
 ghost use Rattle.lease_disk.specs.Region.{Region};
 
 use crate::addressee::addressee;

@@ -1,6 +1,6 @@
 pub mod Addr
 pub mod CircuitId
-pub mod Delivered
+pub mod Delivery
 pub mod Discard
 pub mod Key4
 pub mod Key6

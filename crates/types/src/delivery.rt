@@ -14,9 +14,9 @@ pub struct Delivery<'a> {
 }
 
 impl<'a> Model for Delivery<'a> {
-    ghost use Rattle.types.specs.Delivered.{Delivered};
+    ghost use Rattle.types.specs.Delivery.{DeliveryValue};
 
-    ghost Value = { Delivered };
+    ghost Value = { DeliveryValue };
 
     ghost view = { λ d. record { proto = d.proto; source = d.source; moment = d.moment; bytes = d.bytes.now } };
 }

@@ -2,7 +2,7 @@
 -- of a machine's books after every step.
 use Rattle.std.proofs.Common.{ℕ, List, [], ◌∷◌, Bool, true, false, not}
 use Rattle.std.specs.Prelude.{Option, Some, None, option_map, Result, Ok, Err, slice_get, nat_le, IfSome, ◌==◌, if◌then◌else◌}
-use Rattle.types.specs.Delivered.{Delivered}
+use Rattle.types.specs.Delivery.{DeliveryValue}
 use Rattle.types.specs.declared.dest.Proto.{Proto}
 use Rattle.types.specs.declared.discard.Discard.{Discard}
 use Rattle.dispatch.specs.Server.{Book, Served, book_at, kept_book, served}
@@ -11,7 +11,7 @@ use Rattle.lease_disk.specs.declared.image.Image.TheVariants.{Byte, Unreadable}
 use Rattle.lossy_net.specs.Net.{Datagram}
 use Rattle.relay.specs.SentFrame.{SentFrame}
 use Rattle.relay.specs.Relays.{relayed_up, relayed_down}
-use Rattle.world.specs.Alone.{Alone, Setup, Step, frame_step, answer_step, served_step, book_step, delivered, up_step, reply_step, down_step, is_fault, or_kept, after_restart, alone_step, after_all}
+use Rattle.world.specs.Alone.{Alone, Setup, Step, frame_step, answer_step, served_step, book_step, delivery_of, up_step, reply_step, down_step, is_fault, or_kept, after_restart, alone_step, after_all}
 use Rattle.world.specs.Books.{HasBooks}
 use Rattle.events.specs.Seen.{Seen, Frame, Up, Down, Tick, Restart}
 
@@ -53,7 +53,7 @@ module _ (P : Book → Type 0) where
   restarted Unreadable a books = record { book = tt; kept = books.kept; doubt = books.doubt }
 
   module _ (setup : Setup) (on_later : (now : ℕ) (b : Book) → P b → P (book_at now b)) (on_kept : (b : Book) → P b → P (kept_book b))
-      (on_served : (e : Delivered) (b : Book) → P b → P (served setup.part e b).book) where
+      (on_served : (e : DeliveryValue) (b : Book) → P b → P (served setup.part e b).book) where
     pub held_step : (s : Seen) (a : Alone) → HasBooks P a → HasBooks P (alone_step setup s a).next
     unfolding alone_step
     held_step (Frame proto frame) a books = framed setup a proto (relayed_up setup.part proto frame) books
@@ -68,7 +68,7 @@ module _ (P : Book → Type 0) where
 
       opened : (d : Datagram) (b : Option Book) → IfSome b P → HasBooks P (book_step setup now fault a d b).next
       opened d None book = books
-      opened d (Some b) book = saved d (served setup.part (delivered setup.part now d) b) (on_served (delivered setup.part now d) b book)
+      opened d (Some b) book = saved d (served setup.part (delivery_of setup.part now d) b) (on_served (delivery_of setup.part now d) b book)
 
       went_up : (d : Option Datagram) → HasBooks P (up_step setup now fault a d).next
       went_up None = books

@@ -12,7 +12,7 @@ use Rattle.lease_disk.specs.declared.image.Image.TheVariants.{Byte, Unreadable}
 use Rattle.lossy_net.specs.Net.{Datagram}
 use Rattle.relay.specs.SentFrame.{SentFrame}
 use Rattle.relay.specs.Relays.{relayed_up, relayed_down}
-use Rattle.world.specs.Alone.{Alone, Setup, Step, Effect, frame_step, answer_step, served_step, book_step, delivered, up_step, reply_step, down_step, is_fault, or_kept, found, after_restart, alone_step, after_all, start}
+use Rattle.world.specs.Alone.{Alone, Setup, Step, Effect, frame_step, answer_step, served_step, book_step, delivery_of, up_step, reply_step, down_step, is_fault, or_kept, found, after_restart, alone_step, after_all, start}
 use Rattle.world.specs.Books.{HasBooks, IsInPool, IsBookOf}
 use Rattle.world.specs.Granted.{Grant, Granted, Ended, Stands, Knows, is_sent, datagram_lines, lines, ledger}
 use Rattle.events.specs.Seen.{Seen, Frame, Up, Down, Tick, Restart}
@@ -101,7 +101,7 @@ module _ (setup : Setup) (limits : HasLimits setup.part) (g : Grant) where
     by : (d : Datagram) (b : Book) (effect : Effect)
         → Keeps setup.part.lease g (message_served setup.part (book_at now b) (message_of d.bytes)).book ⊎ Stands (Ended g.client g.address) (datagram_lines setup.part effect now (Some b) (Some d))
         → HoldsIn setup.part.lease g (book_step setup now fault a d (Some b)).next ⊎ Stands (Ended g.client g.address) (datagram_lines setup.part effect now (Some b) (Some d))
-    by d b effect (inl keeps) = inl (served_holds setup.part.lease g setup fault a d.proto (served setup.part (delivered setup.part now d) b) keeps h)
+    by d b effect (inl keeps) = inl (served_holds setup.part.lease g setup fault a d.proto (served setup.part (delivery_of setup.part now d) b) keeps h)
     by d b effect (inr ended) = inr ended
 
     opened : (d : Datagram) (b : Option Book) (effect : Effect) → IfSome b (IsBookOf setup.part) → IfSome b (Keeps setup.part.lease g)
@@ -217,7 +217,7 @@ sure_step setup (Frame proto frame) a sure = sure_framed setup a proto (relayed_
 sure_step setup (Up j now fault) a sure = went_up (slice_get a.up j) where
   opened : (d : Datagram) (b : Option Book) → IfSome b (λ b. a.doubt ≡ None) → IsSure (book_step setup now fault a d b).next
   opened d None none = sure
-  opened d (Some b) none = sure_served setup fault a d.proto (served setup.part (delivered setup.part now d) b) none
+  opened d (Some b) none = sure_served setup fault a d.proto (served setup.part (delivery_of setup.part now d) b) none
 
   went_up : (d : Option Datagram) → IsSure (up_step setup now fault a d).next
   went_up None = sure

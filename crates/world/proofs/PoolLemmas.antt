@@ -9,7 +9,7 @@ use Rattle.std.specs.Str.{bytes_eq}
 use Rattle.std.proofs.Math.ListN.{get_or-map}
 use Rattle.std.proofs.lemmas.Bool.Decides.{nat_tests}
 use Rattle.std.proofs.lemmas.Nat.{from_be_bytes-to_be_bytes_4}
-use Rattle.types.specs.Delivered.{Delivered}
+use Rattle.types.specs.Delivery.{DeliveryValue}
 use Rattle.types.specs.Addr.{number4, addr4}
 use Rattle.types.specs.declared.discard.Discard.{Discard}
 use Rattle.types.specs.declared.kind4.Kind4.{Kind4}
@@ -343,7 +343,7 @@ module _ (part : CircuitPart) where
     by (Err why) = book
     by (Ok q) = book_of _ (book_left (pool4_of part) limits b.clock q b.four book.book) (decided part b.clock q b.four (pooled_of b book))
 
-  pub served_of : HasLimits part → (e : Delivered) (b : Book) → IsBookOf part b → IsBookOf part (served part e b).book
+  pub served_of : HasLimits part → (e : DeliveryValue) (b : Book) → IsBookOf part b → IsBookOf part (served part e b).book
   unfolding served
   served_of limits e b book = message_of_part limits (book_at e.moment b) (later_of e.moment b book) (message_of e.bytes)
 

@@ -5,7 +5,7 @@ use Rattle.std.specs.List.{list_any, position}
 use Rattle.std.specs.Str.{bytes_eq}
 use Rattle.std.proofs.lemmas.List.Quantifiers.{position-Some}
 use Rattle.std.proofs.lemmas.Option.{get_or_from_slice_get}
-use Rattle.types.specs.Delivered.{Delivered}
+use Rattle.types.specs.Delivery.{DeliveryValue}
 use Rattle.types.specs.Addr.{is_unspecified, same_source}
 use Rattle.types.specs.declared.addr.Addr4.{Addr4}
 use Rattle.types.specs.declared.addr.Source.{Source}
@@ -124,7 +124,7 @@ by_request : (part : CircuitPart) (m : MessageValue) (b : Book) (bytes : List �
 by_request part m b bytes (Err why) e = absurd cc
 by_request part m b bytes (Ok request) e = by_answer part m b bytes request (answer4 (pool4_of part) b.clock b.four request).answer refl e
 
-pub is_reply : (part : CircuitPart) (e : Delivered) (bytes : List ℕ) (b : Book) (m : MessageValue) → message_of e.bytes ≡ Ok m → (served part e b).answer ≡ Ok bytes
+pub is_reply : (part : CircuitPart) (e : DeliveryValue) (bytes : List ℕ) (b : Book) (m : MessageValue) → message_of e.bytes ≡ Ok m → (served part e b).answer ≡ Ok bytes
     → IsReply part m (book_at e.moment b) bytes
 unfolding served
 is_reply part e bytes b m read answered =

@@ -2,7 +2,7 @@
 use Rattle.std.proofs.Common.{◌≡◌, ℕ, zero, suc, ◌⊎◌, inl, inr, Bool, true, false, leb, List, refl, sym, ap, subst, subst₂, ◌∙◌, arith, ne_eqb}
 use Rattle.std.proofs.lemmas.Bool.{le-leb}
 use Rattle.std.specs.Prelude.{◌==◌, ◌&&◌, ◌||◌, not, nat_le, if◌then◌else◌, slice_get, Option, Some, None, option_map, Result, Ok, Err}
-use Rattle.types.specs.Delivered.{Delivered}
+use Rattle.types.specs.Delivery.{DeliveryValue}
 use Rattle.types.specs.declared.discard.Discard.{Discard}
 use Rattle.types.specs.declared.discard.Discard.TheVariants.{CircuitClosed, DiskFault}
 use Rattle.config.specs.CircuitPart.{CircuitPart}
@@ -15,7 +15,7 @@ use Rattle.lease_disk.specs.declared.image.Image.{Image}
 use Rattle.lease_disk.specs.declared.image.Image.TheVariants.{Byte, Unreadable}
 use Rattle.lossy_net.specs.Net.{Datagram}
 use Rattle.types.specs.declared.dest.Proto.{Proto}
-use Rattle.world.specs.Alone.{Alone, Dropped, Setup, answer_step, alone_step, book_step, delivered, found, is_fault, or_kept, served_step, start, up_step}
+use Rattle.world.specs.Alone.{Alone, Dropped, Setup, answer_step, alone_step, book_step, delivery_of, found, is_fault, or_kept, served_step, start, up_step}
 use Rattle.world.specs.Alone as alone
 use Rattle.world.specs.Headline.{CircuitState, Shows}
 use Rattle.events.specs.Seen.{Up}
@@ -85,7 +85,7 @@ torn fault b a = record a { book = None; doubt = if nat_le 5 fault then Some (ke
 abbrev booked : ℕ → Served → Alone → Alone
 booked fault done a = if not done.is_kept then record a { book = Some done.book } else if is_fault fault then torn fault done.book a else saved done.book a
 
-abbrev pub after_up : CircuitPart → Delivered → ℕ → Alone → Option Book → Alone
+abbrev pub after_up : CircuitPart → DeliveryValue → ℕ → Alone → Option Book → Alone
 after_up part e fault a None = a
 after_up part e fault a (Some b) = booked fault (served part e b) a
 
@@ -93,7 +93,7 @@ after_up part e fault a (Some b) = booked fault (served part e b) a
 abbrev pub save_fails : ℕ → Served → Bool
 save_fails fault done = done.is_kept && not (effective 6 fault == 0)
 
-abbrev pub its_fails : CircuitPart → Delivered → ℕ → Option Book → Bool
+abbrev pub its_fails : CircuitPart → DeliveryValue → ℕ → Option Book → Bool
 its_fails part e fault None = false
 its_fails part e fault (Some b) = save_fails fault (served part e b)
 
@@ -163,7 +163,7 @@ module _ (fault : ℕ) (l : Leases) (a : Alone) (h : Holds l a) (was : Book) (op
   holds_kept answer b true = holds_after_saving b (classify fault)
   holds_kept answer b false = record { book = refl; restarts = h.restarts; sure = λ any now_open. h.sure was opened }
 
-pub holds_datagram : (part : CircuitPart) (e : Delivered) (fault : ℕ) (l : Leases) (a : Alone) → Holds l a
+pub holds_datagram : (part : CircuitPart) (e : DeliveryValue) (fault : ℕ) (l : Leases) (a : Alone) → Holds l a
     → Holds (after_datagram part e fault l) (after_up part e fault a a.book)
 holds_datagram part e fault l a h =
     let P : Option Book → Type 0 = λ book. Holds (served_leases part e fault l book) (after_up part e fault a a.book) in
@@ -175,7 +175,7 @@ holds_datagram part e fault l a h =
 
 -- ---- the machine's answer
 
-abbrev pub its_answer : CircuitPart → Delivered → ℕ → Option Book → Result (List ℕ) Discard
+abbrev pub its_answer : CircuitPart → DeliveryValue → ℕ → Option Book → Result (List ℕ) Discard
 its_answer part e fault book = (answered part e (its_fails part e fault book) book).answer
 
 module _ (setup : Setup) (fault : ℕ) (a : Alone) (proto : Proto) (answer : Result (List ℕ) Discard) (b : Book) where
@@ -195,12 +195,12 @@ module _ (setup : Setup) (fault : ℕ) (a : Alone) (proto : Proto) (answer : Res
 
 -- a closed circuit, or a datagram that is served
 book_step_is : (setup : Setup) (now fault : ℕ) (a : Alone) (d : Datagram) (book : Option Book)
-    → book_step setup now fault a d book ≡ answer_step setup (after_up setup.part (delivered setup.part now d) fault a book) d.proto (its_answer setup.part (delivered setup.part now d) fault book)
+    → book_step setup now fault a d book ≡ answer_step setup (after_up setup.part (delivery_of setup.part now d) fault a book) d.proto (its_answer setup.part (delivery_of setup.part now d) fault book)
 book_step_is setup now fault a d None = refl
-book_step_is setup now fault a d (Some b) = let done = served setup.part (delivered setup.part now d) b in served_step_is setup fault a d.proto done.answer done.book done.is_kept
+book_step_is setup now fault a d (Some b) = let done = served setup.part (delivery_of setup.part now d) b in served_step_is setup fault a d.proto done.answer done.book done.is_kept
 
 pub up_step_is : (setup : Setup) (a : Alone) (j now fault : ℕ) (d : Datagram) → slice_get a.up j ≡ Some d
-    → alone_step setup (Up j now fault) a ≡ answer_step setup (after_up setup.part (delivered setup.part now d) fault a a.book) d.proto (its_answer setup.part (delivered setup.part now d) fault a.book)
+    → alone_step setup (Up j now fault) a ≡ answer_step setup (after_up setup.part (delivery_of setup.part now d) fault a a.book) d.proto (its_answer setup.part (delivery_of setup.part now d) fault a.book)
 unfolding alone_step
 up_step_is setup a j now fault d is = ap (up_step setup now fault a) is ∙ book_step_is setup now fault a d a.book
 
@@ -217,11 +217,11 @@ booked_down fault b a true true = refl
 booked_down fault b a true false = refl
 booked_down fault b a false f = refl
 
-pub up_stays : (part : CircuitPart) (e : Delivered) (fault : ℕ) (a : Alone) (book : Option Book) → (after_up part e fault a book).up ≡ a.up
+pub up_stays : (part : CircuitPart) (e : DeliveryValue) (fault : ℕ) (a : Alone) (book : Option Book) → (after_up part e fault a book).up ≡ a.up
 up_stays part e fault a None = refl
 up_stays part e fault a (Some b) = let done = served part e b in booked_up fault done.book a done.is_kept (is_fault fault)
 
-pub down_stays : (part : CircuitPart) (e : Delivered) (fault : ℕ) (a : Alone) (book : Option Book) → (after_up part e fault a book).down ≡ a.down
+pub down_stays : (part : CircuitPart) (e : DeliveryValue) (fault : ℕ) (a : Alone) (book : Option Book) → (after_up part e fault a book).down ≡ a.down
 down_stays part e fault a None = refl
 down_stays part e fault a (Some b) = let done = served part e b in booked_down fault done.book a done.is_kept (is_fault fault)
 
@@ -236,7 +236,7 @@ restart_downs Unreadable a = refl
 -- ---- a reply
 
 -- a reply is what the server makes of an open circuit's book
-pub record IsReplyOf (part : CircuitPart) (e : Delivered) (reply : List ℕ) : Type 0 where
+pub record IsReplyOf (part : CircuitPart) (e : DeliveryValue) (reply : List ℕ) : Type 0 where
   pub book : Book
   pub answer : (served part e book).answer ≡ Ok reply
 
@@ -245,7 +245,7 @@ reply_by : (done : Served) (v : Bool) (reply : List ℕ) → (if◌then◌else�
 reply_by done true reply h = let e : Err DiskFault ≡ Ok reply = h in absurd cc
 reply_by done false reply h = h
 
-pub reply_of : (part : CircuitPart) (e : Delivered) (fails : Bool) (book : Option Book) (reply : List ℕ) → (answered part e fails book).answer ≡ Ok reply
+pub reply_of : (part : CircuitPart) (e : DeliveryValue) (fails : Bool) (book : Option Book) (reply : List ℕ) → (answered part e fails book).answer ≡ Ok reply
     → IsReplyOf part e reply
 reply_of part e fails None reply h = let e : Err CircuitClosed ≡ Ok reply = h in absurd cc
 reply_of part e fails (Some b) reply h =

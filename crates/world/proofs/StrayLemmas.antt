@@ -3,7 +3,7 @@ use Rattle.std.proofs.Common.{◌≡◌, ℕ, Bool, true, false, List, refl, sym
 use Rattle.std.specs.Prelude.{◌||◌, Option, None, Result, Ok, Err, slice_index}
 use Rattle.std.specs.List.{list_any}
 use Rattle.types.specs.Addr.{same_source}
-use Rattle.types.specs.Delivered.{Delivered}
+use Rattle.types.specs.Delivery.{DeliveryValue}
 use Rattle.types.specs.declared.addr.Source.{Source}
 use Rattle.types.specs.declared.discard.Discard.{Discard}
 use Rattle.types.specs.declared.discard.Discard.TheVariants.{UnknownSource, NotServer}
@@ -24,19 +24,19 @@ either_false true b h = absurd cc
 either_false false b h = (refl, h)
 
 -- the server drops what no relay sent, and every book stays
-pub stray_received : (relays : List Source) (parts : List CircuitPart) (e : Delivered) (fails : Bool) (books : List (Option Book))
+pub stray_received : (relays : List Source) (parts : List CircuitPart) (e : DeliveryValue) (fails : Bool) (books : List (Option Book))
     → list_any (same_source e.source) relays ≡ false → received relays parts e fails books ≡ drop_all UnknownSource books
 unfolding addressee
 stray_received relays parts e fails books h = rw h refl
 
 -- and so do all leases
-pub stray_leases : (relays : List Source) (parts : List CircuitPart) (e : Delivered) (faults : ℕ → ℕ) (all : List Leases)
+pub stray_leases : (relays : List Source) (parts : List CircuitPart) (e : DeliveryValue) (faults : ℕ → ℕ) (all : List Leases)
     → list_any (same_source e.source) relays ≡ false → received_leases relays parts e faults all ≡ all
 unfolding addressee
 stray_leases relays parts e faults all h = rw h refl
 
 -- and nothing is written
-pub stray_saves : (relays : List Source) (parts : List CircuitPart) (e : Delivered) (books : List (Option Book))
+pub stray_saves : (relays : List Source) (parts : List CircuitPart) (e : DeliveryValue) (books : List (Option Book))
     → list_any (same_source e.source) relays ≡ false → received_saves relays parts e books ≡ None
 unfolding addressee
 stray_saves relays parts e books h = rw h refl

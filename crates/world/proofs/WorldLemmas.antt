@@ -5,7 +5,7 @@ use Rattle.std.proofs.lemmas.Option.{slice_get-map, slice_get_within, get_or_fro
 use Rattle.std.proofs.lemmas.Bool.{eqb-true, eqb-false}
 use Rattle.std.proofs.lemmas.List.{length-map, length-set, get_or-set_other}
 use Rattle.std.proofs.lemmas.List.Elements.{All-get_or}
-use Rattle.types.specs.Delivered.{Delivered, delivery}
+use Rattle.types.specs.Delivery.{DeliveryValue, delivery}
 use Rattle.types.specs.declared.addr.Source.{Source}
 use Rattle.types.specs.declared.dest.Dest.{Dest}
 use Rattle.types.specs.declared.dest.Proto.{Proto}
@@ -29,7 +29,7 @@ use Rattle.lossy_net.specs.declared.dir.Dir.{Dir}
 use Rattle.lossy_net.specs.declared.dir.Dir.TheVariants as dir
 use Rattle.relay.specs.SentFrame.{SentFrame}
 use Rattle.relay.specs.Relays.{CircuitFrame, for_circuit, one_more, relayed_up, relayed_down}
-use Rattle.world.specs.Alone.{Setup, Alone, Effect, Step, Dropped, Gone, SentUp, SentDown, Framed, Done, alone_step, frame_step, up_step, answer_step, down_step, reply_step, delivered, book_writes, up_writes, writes}
+use Rattle.world.specs.Alone.{Setup, Alone, Effect, Step, Dropped, Gone, SentUp, SentDown, Framed, Done, alone_step, frame_step, up_step, answer_step, down_step, reply_step, delivery_of, book_writes, up_writes, writes}
 use Rattle.world.specs.Alone as alone
 use Rattle.world.specs.Headline.{CircuitState, IsOutcome, KeepsSpares, Shows}
 use Rattle.events.specs.Seen.{Seen, Frame, Up, Down, Tick, Restart}
@@ -152,39 +152,39 @@ is_drop (Ok bytes) why out h = let e : Err why ≡ Ok tt = h.0 in absurd cc
 is_drop (Err other) why out h = let same : why ≡ other = let e : Err why ≡ Err other = h.0 in cc in (ap Err (sym same), h.1)
 
 module _ (k : ℕ) (w new : WorldValue) (p : CircuitPart) (l : Leases) (j now fault : ℕ) (d : Datagram) (result : Result (Unit {0}) Discard) (reply : List ℕ)
-    (there : slice_get (datagrams w.net k dir.Up) j ≡ Some d) (answer : IsAnswer (its_answer p (delivered p now d) fault l.book) result reply)
+    (there : slice_get (datagrams w.net k dir.Up) j ≡ Some d) (answer : IsAnswer (its_answer p (delivery_of p now d) fault l.book) result reply)
     (quota : new.net.quota ≡ w.net.quota) (ups : datagrams new.net k dir.Up ≡ datagrams w.net k dir.Up)
     (stays : book_writes (record { part = p; quota = w.net.quota }) now d l.book ≡ false → disk.state_of new.disk p.region ≡ disk.state_of w.disk p.region) where
   abbrev was : CircuitState
   was = state_of w k p l
 
   abbrev is : CircuitState
-  is = state_of new k p (after_datagram p (delivered p now d) fault l)
+  is = state_of new k p (after_datagram p (delivery_of p now d) fault l)
 
   abbrev next : Alone → Alone
-  next a = after_up p (delivered p now d) fault a a.book
+  next a = after_up p (delivery_of p now d) fault a a.book
 
   -- the machine's step, where the answer is known
-  its_step : (r : Result (List ℕ) Discard) → its_answer p (delivered p now d) fault l.book ≡ r → (a : Alone) → Shows was was.setup a
+  its_step : (r : Result (List ℕ) Discard) → its_answer p (delivery_of p now d) fault l.book ≡ r → (a : Alone) → Shows was was.setup a
       → alone_step was.setup (Up j now fault) a ≡ answer_step was.setup (next a) d.proto r
   its_step r is_r a shown =
       up_step_is was.setup a j now fault d (ap (λ ds. slice_get ds j) (sym shown.up) ∙ there)
-      ∙ ap (answer_step was.setup (next a) d.proto) (ap (its_answer p (delivered p now d) fault) (sym shown.book) ∙ is_r)
+      ∙ ap (answer_step was.setup (next a) d.proto) (ap (its_answer p (delivery_of p now d) fault) (sym shown.book) ∙ is_r)
 
   its_leases : (a : Alone) → Shows was was.setup a → Holds is.leases (next a)
-  its_leases a shown = holds_datagram p (delivered p now d) fault l a (holds was was.setup a shown)
+  its_leases a shown = holds_datagram p (delivery_of p now d) fault l a (holds was was.setup a shown)
 
   its_ups : (a : Alone) → Shows was was.setup a → is.up ≡ (next a).up
-  its_ups a shown = ups ∙ shown.up ∙ sym (up_stays p (delivered p now d) fault a a.book)
+  its_ups a shown = ups ∙ shown.up ∙ sym (up_stays p (delivery_of p now d) fault a a.book)
 
   its_region : (a : Alone) → Shows was was.setup a → writes was.setup (Up j now fault) a ≡ false → is.region ≡ was.region
   its_region a shown nothing =
       stays ((λ i. up_writes was.setup now (shown.book i) (sym (ap (λ ds. slice_get ds j) (sym shown.up) ∙ there) i)) ∙ nothing)
 
-  pub reply_is : result ≡ Ok tt → its_answer p (delivered p now d) fault l.book ≡ Ok reply
+  pub reply_is : result ≡ Ok tt → its_answer p (delivery_of p now d) fault l.book ≡ Ok reply
   reply_is ok =
-      let P : Result (Unit {0}) Discard → Type 0 = λ r. IsAnswer (its_answer p (delivered p now d) fault l.book) r reply in
-      is_reply (its_answer p (delivered p now d) fault l.book) reply (subst P ok answer)
+      let P : Result (Unit {0}) Discard → Type 0 = λ r. IsAnswer (its_answer p (delivery_of p now d) fault l.book) r reply in
+      is_reply (its_answer p (delivery_of p now d) fault l.book) reply (subst P ok answer)
 
   pub up_sent : (len : ℕ) (out : List ℕ) → result ≡ Ok tt
       → datagrams new.net k dir.Down ≡ take w.net.quota (record { proto = d.proto; bytes = reply } ∷ datagrams w.net k dir.Down) → len ≡ length reply → out ≡ []
@@ -194,18 +194,18 @@ module _ (k : ℕ) (w new : WorldValue) (p : CircuitPart) (l : Leases) (j now fa
       steps_by k (Up j now fault) was is (outcome.SentDown len) out (SentDown len) (refl, empty) (λ a shown.
       known_step was.setup (Up j now fault) a (SentDown len) is _ (its_step (Ok reply) (reply_is ok) a shown) (ap SentDown (sym size))
       (shows_as is was.setup (next a) (next a).up (newest (next a).down) (λ i. record { part = p; quota = quota i }) (its_ups a shown)
-      (kept ∙ ap newest (shown.down ∙ sym (down_stays p (delivered p now d) fault a a.book))) (its_leases a shown)))
+      (kept ∙ ap newest (shown.down ∙ sym (down_stays p (delivery_of p now d) fault a a.book))) (its_leases a shown)))
       its_region
 
   pub up_dropped : (why : Discard) → result ≡ Err why → datagrams new.net k dir.Down ≡ datagrams w.net k dir.Down
       → StepsAs k (Up j now fault) was is (outcome.Dropped why) reply
   up_dropped why err downs =
-      let P : Result (Unit {0}) Discard → Type 0 = λ r. IsAnswer (its_answer p (delivered p now d) fault l.book) r reply in
-      let dropped = is_drop (its_answer p (delivered p now d) fault l.book) why reply (subst P err answer) in
+      let P : Result (Unit {0}) Discard → Type 0 = λ r. IsAnswer (its_answer p (delivery_of p now d) fault l.book) r reply in
+      let dropped = is_drop (its_answer p (delivery_of p now d) fault l.book) why reply (subst P err answer) in
       steps_by k (Up j now fault) was is (outcome.Dropped why) reply (Dropped why) (refl, dropped.1) (λ a shown.
       known_step was.setup (Up j now fault) a (Dropped why) is _ (its_step (Err why) dropped.0 a shown) refl
       (shows_as is was.setup (next a) (next a).up (next a).down (λ i. record { part = p; quota = quota i }) (its_ups a shown)
-      (downs ∙ shown.down ∙ sym (down_stays p (delivered p now d) fault a a.book)) (its_leases a shown)))
+      (downs ∙ shown.down ∙ sym (down_stays p (delivery_of p now d) fault a a.book)) (its_leases a shown)))
       its_region
 
 -- ---- a datagram at the relay
@@ -475,13 +475,13 @@ fails_here : (faults : ℕ → ℕ) (region : ℕ) (is_kept : Bool) → fails_at
 fails_here faults region true = refl
 fails_here faults region false = refl
 
-circuit_fails_is : (part : CircuitPart) (e : Delivered) (faults : ℕ → ℕ) (book : Option Book)
+circuit_fails_is : (part : CircuitPart) (e : DeliveryValue) (faults : ℕ → ℕ) (book : Option Book)
     → fails_at faults (circuit_saves e (Some part) (Some book)) ≡ its_fails part e (faults part.region) book
 circuit_fails_is part e faults None = refl
 circuit_fails_is part e faults (Some b) = fails_here faults part.region (served part e b).is_kept
 
 -- the parts, the books and the leases at circuit k
-module _ (relays : List Source) (parts : List CircuitPart) (p : CircuitPart) (e : Delivered) (books : List (Option Book)) (all : List Leases) (faults : ℕ → ℕ) (k : ℕ) (l : Leases)
+module _ (relays : List Source) (parts : List CircuitPart) (p : CircuitPart) (e : DeliveryValue) (books : List (Option Book)) (all : List Leases) (faults : ℕ → ℕ) (k : ℕ) (l : Leases)
     (found : addressee relays parts e.source e.bytes ≡ Ok k) (there : slice_get parts k ≡ Some p) (book : slice_get books k ≡ Some l.book) (its : slice_get all k ≡ Some l) where
   fails_is_its : fails_at faults (received_saves relays parts e books) ≡ its_fails p e (faults p.region) l.book
   fails_is_its = ap (λ r. fails_at faults (addressee_saves parts e books r)) found ∙ (λ i. fails_at faults (circuit_saves e (there i) (book i))) ∙ circuit_fails_is p e faults l.book
@@ -493,7 +493,7 @@ module _ (relays : List Source) (parts : List CircuitPart) (p : CircuitPart) (e 
   leases_are = ap (addressee_leases parts e faults all) found ∙ λ i. leases_with k e faults all (there i) (its i)
 
 -- the region that a datagram of circuit k is saved to, if any is
-saves_own : (part : CircuitPart) (e : Delivered) (book : Option Book) → OneOf part.region (circuit_saves e (Some part) (Some book))
+saves_own : (part : CircuitPart) (e : DeliveryValue) (book : Option Book) → OneOf part.region (circuit_saves e (Some part) (Some book))
 saves_own part e None = tt
 saves_own part e (Some b) = either part.region (served part e b).is_kept where
   either : (r : ℕ) (is_kept : Bool) → OneOf r (if is_kept then Some r else None)
@@ -502,8 +502,8 @@ saves_own part e (Some b) = either part.region (served part e b).is_kept where
 
 pub record IsServed (w : WorldValue) (k : ℕ) (part : CircuitPart) (l : Leases) (now fault : ℕ) (d : Datagram) (result : Result (Unit {0}) Discard) (reply : List ℕ) (after : List Leases) : Type 0 where
   pub found : addressee w.relays.topology.relays w.relays.topology.circuits part.relay d.bytes ≡ Ok k
-  pub answer : IsAnswer (its_answer part (delivered part now d) fault l.book) result reply
-  pub leases : slice_get after k ≡ Some (after_datagram part (delivered part now d) fault l)
+  pub answer : IsAnswer (its_answer part (delivery_of part now d) fault l.book) result reply
+  pub leases : slice_get after k ≡ Some (after_datagram part (delivery_of part now d) fault l)
   pub others : (c : ℕ) → eqb k c ≡ false → slice_get after c ≡ slice_get (leases_now w) c
   pub size : length after ≡ length (leases_now w)
 
@@ -525,18 +525,18 @@ is_served w is k the j d now fault source given kept at from regions faults same
     let parts = parts_in w.server in
     let books = books_in w.server in
     let all = leases_now w in
-    let its_fault : fails ≡ its_fails the.part (delivered the.part now d) fault the.leases.book =
+    let its_fault : fails ≡ its_fails the.part (delivery_of the.part now d) fault the.leases.book =
     failing ∙ ap (λ s. fails_at faults (received_saves relays parts (delivery d.proto s now d.bytes) books)) comes
-    ∙ fails_is_its relays parts the.part (delivered the.part now d) books all faults k the.leases here the.served the.book the.its
-    ∙ ap (λ f. its_fails the.part (delivered the.part now d) f the.leases.book) at_region in
+    ∙ fails_is_its relays parts the.part (delivery_of the.part now d) books all faults k the.leases here the.served the.book the.its
+    ∙ ap (λ f. its_fails the.part (delivery_of the.part now d) f the.leases.book) at_region in
     let answers = ap (λ s. received relays parts (delivery d.proto s now d.bytes) fails books) comes
-    ∙ received_is relays parts the.part (delivered the.part now d) books all faults k the.leases here the.served the.book the.its fails
-    ∙ ap (λ f. with_answered k books (answered the.part (delivered the.part now d) f the.leases.book)) its_fault in
-    let done = after_datagram the.part (delivered the.part now d) fault the.leases in
+    ∙ received_is relays parts the.part (delivery_of the.part now d) books all faults k the.leases here the.served the.book the.its fails
+    ∙ ap (λ f. with_answered k books (answered the.part (delivery_of the.part now d) f the.leases.book)) its_fault in
+    let done = after_datagram the.part (delivery_of the.part now d) fault the.leases in
     let written : after ≡ set all k done =
     leases ∙ (λ i. received_leases relays parts (delivery d.proto (comes i) now d.bytes) faults (leases_in (same_regions i) w.server))
-    ∙ leases_are relays parts the.part (delivered the.part now d) books all faults k the.leases here the.served the.book the.its
-    ∙ ap (λ f. set all k (after_datagram the.part (delivered the.part now d) f the.leases)) at_region in
+    ∙ leases_are relays parts the.part (delivery_of the.part now d) books all faults k the.leases here the.served the.book the.its
+    ∙ ap (λ f. set all k (after_datagram the.part (delivery_of the.part now d) f the.leases)) at_region in
     let P : Received → Type 0 = λ r. IsAnswer r.answer result reply in
     record {
       found = found;
@@ -581,20 +581,20 @@ pub same_device : (x : Option ℕ) (old new : Device) → x ≡ None → WritesA
 same_device None old new none same = same
 same_device (Some r) old new none writes = absurd cc
 
-none_saved : (setup : Setup) (now : ℕ) (d : Datagram) (book : Option Book) → book_writes setup now d book ≡ false → circuit_saves (delivered setup.part now d) (Some setup.part) (Some book) ≡ None
+none_saved : (setup : Setup) (now : ℕ) (d : Datagram) (book : Option Book) → book_writes setup now d book ≡ false → circuit_saves (delivery_of setup.part now d) (Some setup.part) (Some book) ≡ None
 none_saved setup now d None nothing = refl
 none_saved setup now d (Some b) nothing = ap (λ (is_kept : Bool). if is_kept then Some setup.part.region else None) nothing
 
 its_saves : (w : WorldValue) → IsWorld w → (k : ℕ) (the : TheCircuit w k) (j : ℕ) (d : Datagram) (now : ℕ) (source : Source) (given : CircuitPart)
     → slice_get (datagrams w.net k dir.Up) j ≡ Some d → slice_get (parts_in w.server) k ≡ Some given → source ≡ given.relay
-    → received_saves w.server.relays (parts_in w.server) (delivery d.proto source now d.bytes) (books_in w.server) ≡ circuit_saves (delivered the.part now d) (Some the.part) (Some the.leases.book)
+    → received_saves w.server.relays (parts_in w.server) (delivery d.proto source now d.bytes) (books_in w.server) ≡ circuit_saves (delivery_of the.part now d) (Some the.part) (Some the.leases.book)
 its_saves w is k the j d now source given kept at from =
     let same : given ≡ the.part = same_Some given the.part (sym at ∙ the.served) in
     let comes : source ≡ the.part.relay = from ∙ ap (λ p. p.relay) same in
     let found = each_at (IsFor w.relays.topology k the.part) (datagrams w.net k dir.Up) j d (is.addressed k the.part the.there) kept in
     let here = (λ i. addressee (is.sources i) (is.parts i) the.part.relay d.bytes) ∙ found in
     ap (λ x. received_saves w.server.relays (parts_in w.server) (delivery d.proto x now d.bytes) (books_in w.server)) comes
-    ∙ ap (addressee_saves (parts_in w.server) (delivered the.part now d) (books_in w.server)) here ∙ (λ i. circuit_saves (delivered the.part now d) (the.served i) (the.book i))
+    ∙ ap (addressee_saves (parts_in w.server) (delivery_of the.part now d) (books_in w.server)) here ∙ (λ i. circuit_saves (delivery_of the.part now d) (the.served i) (the.book i))
 
 -- what a datagram of circuit k writes is its region, if anything
 saves_its : (w : WorldValue) → IsWorld w → (k : ℕ) (the : TheCircuit w k) (j : ℕ) (d : Datagram) (now : ℕ) (source : Source) (given : CircuitPart)
@@ -604,7 +604,7 @@ saves_its w is k the j d now source given kept at from =
     let same : given ≡ the.part = same_Some given the.part (sym at ∙ the.served) in
     let saves = its_saves w is k the j d now source given kept at from in
     subst (λ (p : CircuitPart). OneOf p.region (received_saves w.server.relays (parts_in w.server) (delivery d.proto source now d.bytes) (books_in w.server))) (sym same)
-    (subst (OneOf the.part.region) (sym saves) (saves_own the.part (delivered the.part now d) the.leases.book))
+    (subst (OneOf the.part.region) (sym saves) (saves_own the.part (delivery_of the.part now d) the.leases.book))
 
 -- A datagram of circuit k: its fuse is set, the server takes it, and the fuse is put out.
 pub beside_up : (w : WorldValue) → IsWorld w → (k : ℕ) (the : TheCircuit w k) (j : ℕ) (d : Datagram) (now : ℕ) (source : Source) (given : CircuitPart) (region : ℕ)

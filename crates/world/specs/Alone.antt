@@ -1,6 +1,6 @@
 -- The machine of one circuit that has relay, network and server for itself.
 use Rattle.std.specs.Prelude.{ℕ, ◌==◌, ◌&&◌, nat_le, Bool, true, false, not, List, [], ◌∷◌, ◌++◌, length, take, slice_get, Option, Some, None, option_map, Result, Ok, Err, if◌then◌else◌}
-use Rattle.types.specs.Delivered.{Delivered}
+use Rattle.types.specs.Delivery.{DeliveryValue}
 use Rattle.types.specs.declared.dest.Proto.{Proto}
 use Rattle.types.specs.declared.discard.Discard.{Discard}
 use Rattle.types.specs.declared.discard.Discard.TheVariants.{CircuitClosed, DiskFault}
@@ -82,13 +82,13 @@ served_step setup fault a proto done =
     else answer_step setup (record a { book = Some done.book; kept = Some (kept_book done.book) }) proto done.answer
 
 -- a datagram that the network kept, as it reaches the server
-abbrev pub delivered : CircuitPart → ℕ → Datagram → Delivered
-delivered part now d = record { proto = d.proto; source = part.relay; moment = now; bytes = d.bytes }
+abbrev pub delivery_of : CircuitPart → ℕ → Datagram → DeliveryValue
+delivery_of part now d = record { proto = d.proto; source = part.relay; moment = now; bytes = d.bytes }
 
 -- a datagram at the server
 abbrev pub book_step : Setup → ℕ → ℕ → Alone → Datagram → Option Book → Step
 book_step setup now fault a d None = record { effect = Dropped CircuitClosed; next = a }
-book_step setup now fault a d (Some b) = served_step setup fault a d.proto (served setup.part (delivered setup.part now d) b)
+book_step setup now fault a d (Some b) = served_step setup fault a d.proto (served setup.part (delivery_of setup.part now d) b)
 
 abbrev pub up_step : Setup → ℕ → ℕ → Alone → Option Datagram → Step
 up_step setup now fault a None = record { effect = Gone; next = a }
@@ -130,7 +130,7 @@ alone_step setup (Restart image) a = record { effect = Done; next = after_restar
 
 abbrev pub book_writes : Setup → ℕ → Datagram → Option Book → Bool
 book_writes setup now d None = false
-book_writes setup now d (Some b) = (served setup.part (delivered setup.part now d) b).is_kept
+book_writes setup now d (Some b) = (served setup.part (delivery_of setup.part now d) b).is_kept
 
 abbrev pub up_writes : Setup → ℕ → Option Book → Option Datagram → Bool
 up_writes setup now book None = false

@@ -1,7 +1,7 @@
 //! Where what is sent arrives, among any circuits and relays.
 ghost use Rattle.std.specs.Prelude.{◌≡◌, ℕ, List, Some, Ok, true, slice_get};
 ghost use Rattle.std.specs.List.{list_any};
-ghost use Rattle.types.specs.Delivered.{Delivered};
+ghost use Rattle.types.specs.Delivery.{DeliveryValue};
 ghost use Rattle.types.specs.Addr.{same_source};
 ghost use Rattle.types.specs.declared.addr.Source.{Source};
 ghost use Rattle.types.specs.declared.dest.Proto.{Proto};
@@ -31,7 +31,7 @@ pub fn comes_to_its_circuit()
 /// What the server answers to a circuit's datagram comes down to that circuit, by the relay behind which
 /// it is, as the circuit's own part makes it.
 pub fn reply_comes_to_its_circuit()
-    ensures { (topology : Topology) (relay c : ℕ) (part : CircuitPart) (d : Delivered) (bytes : List ℕ) (b : Book)
+    ensures { (topology : Topology) (relay c : ℕ) (part : CircuitPart) (d : DeliveryValue) (bytes : List ℕ) (b : Book)
         → slice_get topology.circuits c ≡ Some part
         → ((d : ℕ) (other : CircuitPart) → slice_get topology.circuits d ≡ Some other → other.id ≡ part.id → d ≡ c)
         → slice_get topology.relays relay ≡ Some part.relay → IsPart part → AreBytes d.bytes

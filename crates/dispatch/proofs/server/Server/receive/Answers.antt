@@ -3,7 +3,7 @@ use Rattle.std.specs.Prelude.{Option, Some, Ok, slice_get, option_map, All}
 use Rattle.std.proofs.lemmas.List.{length-set, map-set}
 use Rattle.std.proofs.lemmas.List.Elements.{All-set}
 use Rattle.std.proofs.lemmas.Option.{slice_get-map, slice_get_within}
-use Rattle.types.specs.Delivered.{delivery}
+use Rattle.types.specs.Delivery.{delivery}
 use Rattle.config.specs.CircuitPart.{CircuitPart}
 use Rattle.lease_disk.specs.Device.{WritesAt}
 use Rattle.dispatch.specs.Addressee.{addressee}

@@ -1,6 +1,6 @@
 use Rattle.std.proofs.Common.{◌≡◌, true, false, refl, sym, ap, subst, ◌∙◌}
 use Rattle.std.specs.List.{list_any}
-use Rattle.types.specs.Delivered.{delivery}
+use Rattle.types.specs.Delivery.{delivery}
 use Rattle.types.specs.Addr.{same_source}
 use Rattle.types.specs.declared.discard.Discard.TheVariants.{UnknownSource}
 use Rattle.dispatch.specs.ServerValue.{books_in, leases_in, parts_in}

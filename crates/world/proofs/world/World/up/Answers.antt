@@ -10,7 +10,7 @@ use Rattle.lease_disk.specs.Region.{Region}
 use Rattle.lossy_net.specs.Net.{Datagram}
 use Rattle.lossy_net.specs.declared.dir.Dir.TheVariants as dir
 use Rattle.relay.specs.Relays.{relayed_down_in}
-use Rattle.world.specs.Alone.{delivered}
+use Rattle.world.specs.Alone.{delivery_of}
 use Rattle.world.specs.Headline.{KeepsSpares}
 use Rattle.events.specs.Seen.{Up}
 use Rattle.world.specs.StepsAs.{IsFor, Returns, Moves}
@@ -74,11 +74,11 @@ invariant_of-self c =
     (λ part there relay behind.
     let known : TheCircuit w k = record { part = part; leases = the.leases; there = there; served = ap (λ xs. slice_get xs k) is.parts ∙ there; its = the.its; book = the.book } in
     let r = done known in
-    let answer = its_answer part (delivered part c.args.now d) c.args.fault known.leases.book in
+    let answer = its_answer part (delivery_of part c.args.now d) c.args.fault known.leases.book in
     let P : Result (Unit {0}) Discard → Type 0 = λ result. IsAnswer answer result sent.bytes in
-    let reply = reply_of part (delivered part c.args.now d) (its_fails part (delivered part c.args.now d) c.args.fault known.leases.book) known.leases.book sent.bytes (is_reply answer sent.bytes (subst P c.in-Ok.is r.answer)) in
+    let reply = reply_of part (delivery_of part c.args.now d) (its_fails part (delivery_of part c.args.now d) c.args.fault known.leases.book) known.leases.book sent.bytes (is_reply answer sent.bytes (subst P c.in-Ok.is r.answer)) in
     of_proto part k sent.proto sent.bytes (relayed_down_in t relay t.listen4 sent.bytes)
-    (c.reply_comes_to_its_circuit.ensures t relay k part (delivered part c.args.now d) sent.bytes reply.book there (is.ids k part there) behind (is.each k part there) c.are_bytes.ensures r.found reply.answer)))
+    (c.reply_comes_to_its_circuit.ensures t relay k part (delivery_of part c.args.now d) sent.bytes reply.book there (is.ids k part there) behind (is.each k part there) c.are_bytes.ensures r.found reply.answer)))
 
 pub returns-in-Ok-clause-moves : goal.returns-in-Ok-clause-moves
 returns-in-Ok-clause-moves c =
@@ -101,7 +101,7 @@ returns-in-Ok-clause-moves c =
     c.fail_at.new.self c.receive-result.new.disk c.receive-result.ensures.frame in
     let P : WorldValue → Type 0 = λ v. Moves k (Up c.args.number c.args.now c.args.fault) (states v) (states new) (outcome.SentDown c.len-len.result) c.clear-in-Ok.new.self in
     subst P c.self.view_is (
-    moves k (Up c.args.number c.args.now c.args.fault) w new the.part the.leases (after_datagram the.part (delivered the.part c.args.now d) c.args.fault the.leases) (outcome.SentDown c.len-len.result) c.clear-in-Ok.new.self
+    moves k (Up c.args.number c.args.now c.args.fault) w new the.part the.leases (after_datagram the.part (delivery_of the.part c.args.now d) c.args.fault the.leases) (outcome.SentDown c.len-len.result) c.clear-in-Ok.new.self
     c.receive-result.ensures.parts (whole w) r.size the.served the.its r.leases r.others
     (λ n other p l there. same_circuit w new n p l c.send.ensures.quota (c.send.ensures.other_circuits n dir.Up (apart k n other)) (c.send.ensures.other_circuits n dir.Down (apart k n other)) refl
     (beside.region p.region (elsewhere w c.self.invariant k n c.part-part.result.now p c.part-part.ensures there other region c.region-region.ensures)) (beside.fuse p.region (elsewhere w c.self.invariant k n c.part-part.result.now p c.part-part.ensures there other region c.region-region.ensures)))
@@ -141,7 +141,7 @@ returns-in-Err-clause-moves c =
     c.fail_at.new.self c.receive-result.new.disk c.receive-result.ensures.frame in
     let P : WorldValue → Type 0 = λ v. Moves k (Up c.args.number c.args.now c.args.fault) (states v) (states new) (outcome.Dropped c.in-Err.why) c.receive-result.new.out in
     subst P c.self.view_is (
-    moves k (Up c.args.number c.args.now c.args.fault) w new the.part the.leases (after_datagram the.part (delivered the.part c.args.now d) c.args.fault the.leases) (outcome.Dropped c.in-Err.why) c.receive-result.new.out
+    moves k (Up c.args.number c.args.now c.args.fault) w new the.part the.leases (after_datagram the.part (delivery_of the.part c.args.now d) c.args.fault the.leases) (outcome.Dropped c.in-Err.why) c.receive-result.new.out
     c.receive-result.ensures.parts (whole w) r.size the.served the.its r.leases r.others
     (λ n other p l there. same_circuit w new n p l refl refl refl refl (beside.region p.region (elsewhere w c.self.invariant k n c.part-part.result.now p c.part-part.ensures there other region c.region-region.ensures))
     (beside.fuse p.region (elsewhere w c.self.invariant k n c.part-part.result.now p c.part-part.ensures there other region c.region-region.ensures)))
