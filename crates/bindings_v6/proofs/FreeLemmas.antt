@@ -1,5 +1,5 @@
 -- Look-ups by client, the addresses that are free, and the pick, by slots.
-use Rattle.std.proofs.Common.{◌≡◌, ℕ, ◌+◌, ◌-◌, ◌<◌, Bool, true, false, not, ◌&&◌, ◌||◌, cond, length, get_or, refl, sym, ap, ◌∙◌, arith}
+use Rattle.std.proofs.Common.{◌≡◌, ℕ, ◌+◌, ◌<◌, Bool, true, false, not, ◌&&◌, ◌||◌, cond, length, get_or, refl, sym, ap, ◌∙◌, arith}
 use Rattle.std.specs.Prelude.{Option, Some, None, is_some}
 use Rattle.std.specs.List.{find, range_with_len, position}
 use Rattle.std.specs.FinMap.{get}
@@ -16,7 +16,7 @@ use Rattle.slots.proofs.ShownLemmas.{live_slots, distinct_live, bound_sort, bars
 use Rattle.types.specs.Addr.{number6}
 use Rattle.types.specs.Key6.{Key6Value, same_key6}
 use Rattle.types.specs.Pool6.{Pool6Value}
-use Rattle.bindings_v6.specs.Book6.{Book6, in_pool, is_free, lowest_free, where_free, pick}
+use Rattle.bindings_v6.specs.Book6.{Book6, is_free, lowest_free, where_free, pick}
 use Rattle.bindings_v6.specs.Lookup6.{wanted_slot, picked_slot}
 use Rattle.bindings_v6.specs.Slots6.{Holders6, PoolSlots, book_of_slots, book_of, AreSlots}
 use Rattle.bindings_v6.proofs.ShownLemmas.{shown}

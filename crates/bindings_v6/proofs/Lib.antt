@@ -1,6 +1,10 @@
-pub mod ShownLemmas
 pub mod FreeLemmas
-pub mod RowLemmas
-pub mod TableLemmas
 pub mod KeptLemmas
+pub mod LaterBook
+pub mod LawLemmas
+pub mod LeaseLemmas
 pub mod LimitLemmas
+pub mod RowLemmas
+pub mod ShownBook
+pub mod ShownLemmas
+pub mod TableLemmas

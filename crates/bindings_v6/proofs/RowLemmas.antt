@@ -3,17 +3,16 @@ use Rattle.std.proofs.Common.{◌≡◌, ℕ, zero, suc, ◌+◌, ◌-◌, ◌<�
 use borrow.Author.Tests.{ltb-true}
 use Rattle.std.specs.Prelude.{Option, Some, None, nat_lt, is_some}
 use Rattle.std.specs.List.{position}
-use Rattle.std.specs.FinMap.{get}
 use Rattle.std.proofs.lemmas.Bool.Decides.{nat_tests}
 use Rattle.std.proofs.lemmas.List.Quantifiers.{position-Some}
 use Rattle.slots.specs.declared.holder.Holder.{Holder}
 use Rattle.slots.specs.declared.holder.Holder.TheVariants.{Bound, Offered, Barred}
 use Rattle.slots.specs.KeyLaws.{key6_is_key}
 use Rattle.slots.specs.Lookup.{until_of, live, is_vacant, is_bound_to}
-use Rattle.slots.specs.Maps.{Lease, is_live, address_of, or_else}
+use Rattle.slots.specs.Maps.{is_live, or_else}
 use Rattle.slots.specs.Slots.{bound_to, offered_to, barred_until, is_clients, with_vacancy, with_slot}
 use Rattle.slots.proofs.FreeLemmas.{from, bound_test}
-use Rattle.slots.proofs.ShownLemmas.{not_true, live_slots, bound_sort}
+use Rattle.slots.proofs.ShownLemmas.{live_slots, bound_sort}
 use Rattle.slots.proofs.WriteLemmas.{one_client, clients_no_bar, distinct_slot, length_slot, IsOpen, leases_with, leases_without, bars_kept, bars_same, bars_with}
 use Rattle.types.specs.Addr.{number6}
 use Rattle.types.specs.Key6.{Key6Value, same_key6}
@@ -27,7 +26,7 @@ use Rattle.bindings_v6.specs.declared.decision6.Decision6.{Decision6}
 use Rattle.bindings_v6.specs.Lookup6.{wanted_slot, picked_slot}
 use Rattle.bindings_v6.specs.Decision6.{keep_of, decision_of}
 use Rattle.bindings_v6.specs.Slots6.{Holders6, PoolSlots, book_of_slots, book_of, HaveNoOffers, AreSlots, with_decision}
-use Rattle.bindings_v6.specs.Table6.{Change, Unchanged, Binds, Bars, Frees, with_change, is_kept, Row, drops, grants, solicit_row, request_row, renew_row, confirm_row, release_row, decline_row, first_listed, where_listed, is_off_link, others, Lookup, lookup_in, row_of, is_for_us, row6, answer6}
+use Rattle.bindings_v6.specs.Table6.{Change, Unchanged, Binds, Bars, Frees, with_change, is_kept, Row, drops, grants, solicit_row, request_row, renew_row, confirm_row, release_row, decline_row, first_listed, where_listed, is_off_link, others, Lookup, lookup_in, row_of, is_for_us, answer6}
 use Rattle.bindings_v6.proofs.FreeLemmas.{pick_is, bound_is}
 use Rattle.bindings_v6.proofs.ShownLemmas.{shown}
 
