@@ -6,7 +6,6 @@
 mod book4;
 mod case4;
 mod decision4;
-mod holder4;
 mod kept;
 mod laws;
 mod lookup;
