@@ -9,17 +9,21 @@ use Rattle.slots.specs.declared.holder.Holder.{Holder}
 use Rattle.slots.specs.declared.holder.Holder.TheVariants.{Bound, Offered, Barred}
 use Rattle.slots.specs.Key.{key4_cmp}
 use Rattle.slots.specs.KeyLaws.{key4_is_key}
-use Rattle.slots.specs.Lookup.{until_of, live, is_vacant, is_bound_to, is_offered_to}
+use Rattle.slots.specs.Lookup.{until_of, live, is_vacant, is_bound_to, is_offered_to, slot_in, where_vacant, picked_slot}
 use Rattle.slots.specs.Maps.{is_live, names, in_range, address_of, or_else}
 use Rattle.slots.specs.Slots.{bound_to, offered_to, barred_until, leases, bars_of}
-use Rattle.slots.proofs.FreeLemmas.{from, from_or, inside, IsFreeBySlots, lowest_is, vacant_is, binding_is, offer_is, names_at}
+use Rattle.slots.proofs.FreeLemmas.{from, from_or, or_either, inside, IsFreeBySlots, lowest_is, vacant_is, binding_is, offer_is, names_at}
 use Rattle.slots.proofs.ShownLemmas.{live_slots, distinct_live, bound_sort, offered_sort, bars_at}
 use Rattle.types.specs.Addr.{number4}
 use Rattle.types.specs.Pool4.{PoolValue}
 use Rattle.bindings_v4.specs.Book4.{Book4, is_free, lowest_free, where_free, pick}
-use Rattle.bindings_v4.specs.Lookup4.{wanted_slot, picked_slot}
 use Rattle.bindings_v4.specs.Slots4.{Holders4, PoolSlots, book_of_slots, book_of, AreSlots}
 use Rattle.bindings_v4.proofs.ShownLemmas.{shown}
+
+-- the slot for a client
+abbrev pub picked : ℕ → PoolValue → Holders4 → List ℕ → Option ℕ → Option ℕ
+picked t pool ss k wanted =
+    picked_slot t ss (or_else (position (is_bound_to bytes_eq t k) ss) (position (is_offered_to bytes_eq t k) ss)) (slot_in (number4 pool.first) pool.count wanted)
 
 -- ---- free addresses
 
@@ -70,15 +74,15 @@ module _ (pool : PoolValue) (t : ℕ) (ss : Holders4) (are : AreSlots pool ss) w
 
   -- ---- the pick
 
-  wanted_is : (wanted : Option ℕ) → where_free pool b wanted ≡ from a (wanted_slot t a ss wanted)
+  wanted_is : (wanted : Option ℕ) → where_free pool b wanted ≡ from a (where_vacant t ss (slot_in a (length ss) wanted))
   wanted_is None = refl
   wanted_is (Some x) = vacant_is t a x ss (is_free pool b) by_slots
 
-  pick_of_live : (k : List ℕ) (wanted : Option ℕ) → pick pool b k wanted ≡ from a (picked_slot t a ss k wanted)
+  pick_of_live : (k : List ℕ) (wanted : Option ℕ) → pick pool b k wanted ≡ from a (picked t pool ss k wanted)
   pick_of_live k wanted =
       let bound = position (is_bound_to bytes_eq t k) ss in
       let offered = position (is_offered_to bytes_eq t k) ss in
-      let wish = wanted_slot t a ss wanted in
+      let wish = where_vacant t ss (slot_in a (length ss) wanted) in
       let vacant = position (is_vacant t) ss in
       ap (λ o. or_else o (or_else (address_of (get b.offers k)) (or_else (where_free pool b wanted) (lowest_free pool b)))) (binding_is key4_is_key t k a ss)
       ∙ ap (λ o. or_else (from a bound) (or_else o (or_else (where_free pool b wanted) (lowest_free pool b)))) (offer_is key4_is_key t k a ss)
@@ -87,11 +91,13 @@ module _ (pool : PoolValue) (t : ℕ) (ss : Holders4) (are : AreSlots pool ss) w
       ∙ ap (λ o. or_else (from a bound) (or_else (from a offered) o)) (sym (from_or a wish vacant))
       ∙ ap (or_else (from a bound)) (sym (from_or a offered (or_else wish vacant)))
       ∙ sym (from_or a bound (or_else offered (or_else wish vacant)))
+      ∙ ap (from a) (sym (or_either bound offered (or_else wish vacant)))
+      ∙ ap (λ n. from a (picked_slot t ss (or_else bound offered) (slot_in a n wanted))) are.size
 
 -- ---- of a book at a clock
 
 pub pick_is : (v : PoolSlots) (t : ℕ) (k : List ℕ) (wanted : Option ℕ) → AreSlots v.pool v.slots
-    → pick v.pool (book_of t v) k wanted ≡ from (number4 v.pool.first) (picked_slot t (number4 v.pool.first) v.slots k wanted)
+    → pick v.pool (book_of t v) k wanted ≡ from (number4 v.pool.first) (picked t v.pool v.slots k wanted)
 pick_is v t k wanted are =
     ap (λ b. pick v.pool b k wanted) (shown (number4 v.pool.first) t v.slots are.distinct) ∙ pick_of_live v.pool t v.slots are k wanted
 
@@ -118,7 +124,6 @@ offered_found v t k are ss now o same clock e =
     ap (from (number4 v.pool.first)) (e ∙ ap (λ n. position (is_offered_to bytes_eq n k) ss) clock ∙ ap (position (is_offered_to bytes_eq t k)) same) ∙ sym (offered_is v t k are)
 
 pub pick_found : (v : PoolSlots) (t : ℕ) (k : List ℕ) (wanted : Option ℕ) → AreSlots v.pool v.slots → (ss : Holders4) (now : ℕ) (o : Option ℕ) → ss ≡ v.slots → now ≡ t
-    → o ≡ picked_slot now (number4 v.pool.first) ss k wanted → from (number4 v.pool.first) o ≡ pick v.pool (book_of t v) k wanted
+    → o ≡ picked now v.pool ss k wanted → from (number4 v.pool.first) o ≡ pick v.pool (book_of t v) k wanted
 pick_found v t k wanted are ss now o same clock e =
-    let a = number4 v.pool.first in
-    ap (from a) (e ∙ ap (λ n. picked_slot n a ss k wanted) clock ∙ ap (λ xs. picked_slot t a xs k wanted) same) ∙ sym (pick_is v t k wanted are)
+    ap (from (number4 v.pool.first)) (e ∙ ap (λ n. picked n v.pool ss k wanted) clock ∙ ap (λ xs. picked t v.pool xs k wanted) same) ∙ sym (pick_is v t k wanted are)

@@ -1,9 +1,5 @@
--- How the code looks slots up. Only proofs need these.
-use Rattle.std.specs.Prelude.{◌≡◌, ℕ, ◌+◌, List, Option, Some, None, option_map, IfSome}
-use Rattle.std.specs.List.{position}
-use Rattle.std.specs.Str.{bytes_eq}
-use Rattle.slots.specs.Lookup.{is_vacant, is_bound_to, is_offered_to, vacant_slot}
-use Rattle.slots.specs.Maps.{or_else}
+-- What the code looked up, and its decisions. Only proofs need these.
+use Rattle.std.specs.Prelude.{◌≡◌, ℕ, ◌+◌, Option, option_map, IfSome}
 use Rattle.types.specs.Addr.{number4, addr4}
 use Rattle.types.specs.Pool4.{PoolValue}
 use Rattle.bindings_v4.specs.declared.decision4.Decision4.{Decision4}
@@ -11,18 +7,7 @@ use Rattle.bindings_v4.specs.declared.case4.Case4.{Case4}
 use Rattle.bindings_v4.specs.declared.table4.Lookup4.{Lookup4}
 use Rattle.bindings_v4.specs.declared.case4.SlotAddress.{SlotAddress}
 use Rattle.bindings_v4.specs.Decision4.{decision_of}
-use Rattle.bindings_v4.specs.Slots4.{Holders4}
 use Rattle.bindings_v4.specs.Table4.{Row, Lookup}
-
-abbrev pub wanted_slot : ℕ → ℕ → Holders4 → Option ℕ → Option ℕ
-wanted_slot clock first slots None = None
-wanted_slot clock first slots (Some address) = vacant_slot clock first slots address
-
-abbrev pub picked_slot : ℕ → ℕ → Holders4 → List ℕ → Option ℕ → Option ℕ
-picked_slot clock first slots client wanted =
-    or_else (position (is_bound_to bytes_eq clock client) slots)
-    (or_else (position (is_offered_to bytes_eq clock client) slots)
-    (or_else (wanted_slot clock first slots wanted) (position (is_vacant clock) slots)))
 
 -- a row as a decision, for the client of a case
 abbrev pub decision_in : Case4 → Row → Decision4

@@ -1,6 +1,7 @@
 //! The book of one circuit's DHCPv4 leases.
 ghost use Rattle.std.specs.Prelude.{◌≡◌, ◌+◌, ◌<◌, ◌≤◌, ℕ, true, is_some, option_map, map, slice_index_or, IfSome, All};
 ghost use Rattle.slots.specs.Kept.{AreWithin};
+ghost use Rattle.slots.specs.Lookup.{slot_in};
 ghost use Rattle.types.specs.Addr.{number4};
 ghost use Rattle.types.specs.Slots.{IsWithin4, live4, none_twice, same_client4};
 ghost use Rattle.types.specs.declared.slot4.Slot4.TheVariants.{Free};
@@ -13,12 +14,11 @@ ghost use Rattle.bindings_v4.specs.Table4.{answer4, lookup_in, row4};
 use crate::case4::{Case4, SlotAddress};
 use crate::decision4::Decision4;
 use crate::kept::{kept_slots, live_holders};
-use crate::lookup::picked_slot;
 use crate::table4::{Lookup4, decision_for};
 use crate::write::{write_kept, write_offer};
-use slots::{Holder, SlotTable, bound_slot, offered_slot};
+use slots::{Holder, SlotTable, bound_slot, offered_slot, picked_slot};
 use std::marker::Model;
-use types::{Key4, Moment, Pool4, Request4, Slots};
+use types::{Addr4, Key4, Moment, Pool4, Request4, Slots};
 
 /// The leases of one circuit's pool, by slot. It has no clock: what has expired counts no longer, and
 /// stays until its slot or its client gets something new.
@@ -106,11 +106,23 @@ impl Book4 {
         ensures slots { AreSlots self.now.pool self.now.slots }
     {
         let (slots, key, seconds) = (self.slots(), &request.key, clock.seconds());
+        let bound = bound_slot(slots, key, seconds);
+        let offered = offered_slot(slots, key, seconds);
+        let wanted = self.slot_of(request.wanted);
+        let picked = picked_slot(slots, bound.or(offered), wanted, seconds);
         Lookup4 {
-            binding: self.located(bound_slot(slots, key, seconds)),
-            offer: self.located(offered_slot(slots, key, seconds)),
-            pick: self.located(picked_slot(self.pool(), slots, key, request.wanted, seconds)),
+            binding: self.located(bound),
+            offer: self.located(offered),
+            pick: self.located(picked),
         }
+    }
+
+    /// The slot of the address that a client asks for.
+    fn slot_of(&self, wanted: Option<Addr4>) -> Option<usize>
+        ensures slot { result ≡ slot_in (number4 self.now.pool.first) self.now.pool.count (option_map number4 wanted) }
+        ensures below { IfSome result (λ slot. slot < self.now.pool.count) }
+    {
+        self.pool.slot(wanted?)
     }
 
     /// A slot of the pool with its address.

@@ -8,7 +8,6 @@ mod case4;
 mod decision4;
 mod kept;
 mod laws;
-mod lookup;
 mod server4;
 mod table4;
 mod write;
