@@ -1,23 +1,24 @@
 -- What a region keeps is a book.
 use Rattle.std.proofs.Common.{◌≡◌, ℕ, ◌+◌, ◌<◌, true, List, [], ◌∷◌, map, refl, sym, ap, ◌∙◌}
 use Rattle.std.specs.Prelude.{Option, Some, None, IfSome}
-use Rattle.std.specs.Ordering.{nat_cmp}
-use Rattle.std.specs.Cmp.Lexicographic.{slice_cmp, nat_list_cmp_total}
 use Rattle.std.specs.FinMap.{get, get-empty, same_map}
+use Rattle.slots.specs.Key.{key4_cmp}
+use Rattle.slots.specs.KeyLaws.{key4_is_key}
+use Rattle.slots.specs.Maps.{Lease, address_of, live_clients}
+use Rattle.slots.specs.Slots.{offered_to, with_lease, leases}
+use Rattle.slots.proofs.ShownLemmas.{keep, get-live_clients}
 use Rattle.types.specs.Addr.{number4}
 use Rattle.types.specs.Pool4.{PoolValue}
 use Rattle.types.specs.Slots.{live4, none_twice, same_client4}
 use Rattle.types.specs.declared.slot4.Slot4.{Slot4}
-use Rattle.types.specs.declared.slot4.Slot4.TheVariants as slot4
 use Rattle.types.specs.declared.slots.Slots.{Slots as RegionSlots}
-use Rattle.bindings_v4.specs.Book4.{Lease, Book4, empty_book, address_of, live_clients, book4_at}
+use Rattle.bindings_v4.specs.Book4.{Book4, empty_book, book4_at}
 use Rattle.bindings_v4.specs.IsBook4.{Entry, TheBinding, TheOffer, TheBar, Names, IsBook4}
 use Rattle.bindings_v4.specs.Kept4.{kept_book, book4_in}
-use Rattle.bindings_v4.specs.Slots4.{offered_to, with_lease, leases, book_of_slots, holder_of}
-use Rattle.bindings_v4.proofs.KeptLemmas.{held, held_distinct}
+use Rattle.bindings_v4.specs.Slots4.{book_of_slots}
+use Rattle.bindings_v4.proofs.KeptLemmas.{held, held_distinct, never_offered}
 use Rattle.bindings_v4.proofs.LaterBook.{if_none}
 use Rattle.bindings_v4.proofs.ShownBook.{slots_show_a_book}
-use Rattle.bindings_v4.proofs.ShownLemmas.{keep, same_bytes, get-live_clients}
 
 pub begun_is_a_book : (pool : PoolValue) (slots : RegionSlots) → none_twice same_client4 (map (live4 slots.clock) slots.four) ≡ true → IsBook4 slots.clock (book4_in pool slots)
 begun_is_a_book pool slots once =
@@ -26,7 +27,7 @@ begun_is_a_book pool slots once =
 -- ---- a book without its offers
 
 no_offer : (client : List ℕ) → get empty_book.offers client ≡ None
-no_offer client = get-empty (slice_cmp nat_cmp) client
+no_offer client = get-empty key4_cmp client
 
 kept_names : (b : Book4) (address : ℕ) (x : Entry) → Names (kept_book b) address x → Names b address x
 kept_names b address (TheBinding client) h = h
@@ -47,7 +48,7 @@ kept_is_a_book clock b book = record {
 }
 
 none_live : (t : ℕ) → live_clients t empty_book.offers ≡ empty_book.offers
-none_live t = same_map nat_list_cmp_total same_bytes _ _ (λ q. get-live_clients t empty_book.offers q ∙ ap (keep t) (no_offer q) ∙ sym (no_offer q))
+none_live t = same_map key4_is_key.total key4_is_key.exact _ _ (λ q. get-live_clients key4_is_key t empty_book.offers q ∙ ap (keep t) (no_offer q) ∙ sym (no_offer q))
 
 pub kept_later : (t : ℕ) (b : Book4) → kept_book (book4_at t b) ≡ book4_at t (kept_book b)
 unfolding book4_at
@@ -55,14 +56,9 @@ kept_later t b = λ i. record { bindings = live_clients t b.bindings; offers = s
 
 -- ---- slots have no offers
 
-never_offered : (slot : Slot4) → offered_to (holder_of slot) ≡ None
-never_offered slot4.Free = refl
-never_offered (slot4.Bound k u) = refl
-never_offered (slot4.Barred u) = refl
-
-without_offers : (t a : ℕ) (xs : List Slot4) → leases offered_to a (map (held t) xs) ≡ empty_book.offers
+without_offers : (t a : ℕ) (xs : List Slot4) → leases key4_cmp offered_to a (map (held t) xs) ≡ empty_book.offers
 without_offers t a [] = refl
-without_offers t a (x ∷ xs) = ap (λ l. with_lease a l (leases offered_to (a + 1) (map (held t) xs))) (never_offered (live4 t x)) ∙ without_offers t (a + 1) xs
+without_offers t a (x ∷ xs) = ap (λ l. with_lease a l (leases key4_cmp offered_to (a + 1) (map (held t) xs))) (never_offered (live4 t x)) ∙ without_offers t (a + 1) xs
 
 pub begun_no_offers : (pool : PoolValue) (slots : RegionSlots) → kept_book (book4_in pool slots) ≡ book4_in pool slots
 begun_no_offers pool slots =

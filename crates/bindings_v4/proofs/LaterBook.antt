@@ -3,16 +3,18 @@ use Rattle.std.proofs.Common.{◌≡◌, ℕ, ◌<◌, Bool, true, false, cond, 
 use borrow.Author.Tests.{ltb-true}
 use Rattle.std.specs.Prelude.{Option, Some, None, IfSome, is_some}
 use Rattle.std.specs.Ordering.{nat_cmp}
-use Rattle.std.specs.Cmp.Lexicographic.{slice_cmp}
 use Rattle.std.specs.FinMap.{get, get-empty}
-use Rattle.bindings_v4.specs.Book4.{Lease, Book4, empty_book, is_live, passes, address_of, live_clients, book4_at}
+use Rattle.slots.specs.Key.{key4_cmp}
+use Rattle.slots.specs.KeyLaws.{key4_is_key}
+use Rattle.slots.specs.Maps.{Lease, is_live, passes, address_of, live_clients}
+use Rattle.slots.proofs.ShownLemmas.{not_true, keep, get-live_clients, get-live_bars}
+use Rattle.bindings_v4.specs.Book4.{Book4, empty_book, book4_at}
 use Rattle.bindings_v4.specs.IsBook4.{Entry, TheBinding, TheOffer, TheBar, Names, IsBook4}
-use Rattle.bindings_v4.proofs.ShownLemmas.{not_true, keep, get-live_clients, get-live_bars}
 
 -- ---- an empty book
 
 no_lease : (client : List ℕ) → get empty_book.bindings client ≡ None
-no_lease client = get-empty (slice_cmp nat_cmp) client
+no_lease client = get-empty key4_cmp client
 
 nothing_named : (address : ℕ) (x : Entry) → Names empty_book address x → ⊥
 nothing_named address (TheBinding client) h = let none : None ≡ Some address = sym (ap address_of (no_lease client)) ∙ h in absurd cc
@@ -37,7 +39,7 @@ live_left : (t : ℕ) (lease : Lease) (live : Bool) → is_live t lease.until �
 live_left t lease true is = ltb-true t lease.until is
 live_left t lease false is = tt
 
-kept_is_live : (t : ℕ) (o : Option Lease) → IfSome (keep t o) (λ left. t < left.until)
+pub kept_is_live : (t : ℕ) (o : Option Lease) → IfSome (keep t o) (λ left. t < left.until)
 kept_is_live t None = tt
 kept_is_live t (Some lease) = live_left t lease (is_live t lease.until) refl
 
@@ -45,7 +47,7 @@ bar_left : (t until : ℕ) (live : Bool) → is_live t until ≡ live → IfSome
 bar_left t until true is = ltb-true t until is
 bar_left t until false is = tt
 
-bar_is_live : (t : ℕ) (o : Option ℕ) → IfSome (cond (passes (is_live t) o) o None) (λ left. t < left)
+pub bar_is_live : (t : ℕ) (o : Option ℕ) → IfSome (cond (passes (is_live t) o) o None) (λ left. t < left)
 bar_is_live t None = tt
 bar_is_live t (Some until) = bar_left t until (is_live t until) refl
 
@@ -66,20 +68,20 @@ apart_cond t true (Some lease) offer h = ap (keep t) h
 module _ (later : ℕ) (b : Book4) where
   named_before : (address : ℕ) (x : Entry) → Names (book4_at later b) address x → Names b address x
   unfolding book4_at
-  named_before address (TheBinding client) h = kept_cond _ _ address (sym (ap address_of (get-live_clients later b.bindings client)) ∙ h)
-  named_before address (TheOffer client) h = kept_cond _ _ address (sym (ap address_of (get-live_clients later b.offers client)) ∙ h)
+  named_before address (TheBinding client) h = kept_cond _ _ address (sym (ap address_of (get-live_clients key4_is_key later b.bindings client)) ∙ h)
+  named_before address (TheOffer client) h = kept_cond _ _ address (sym (ap address_of (get-live_clients key4_is_key later b.offers client)) ∙ h)
   named_before address TheBar h = bar_cond _ _ (sym (ap is_some (get-live_bars later b.bars address)) ∙ h)
 
   pub later_is_a_book : (clock : ℕ) → IsBook4 clock b → IsBook4 later (book4_at later b)
   unfolding book4_at
   later_is_a_book clock book = record {
-    bindings = λ client. subst (λ o. IfSome o (λ (left : Lease). later < left.until)) (sym (get-live_clients later b.bindings client)) (kept_is_live later (get b.bindings client));
-    offers = λ client. subst (λ o. IfSome o (λ (left : Lease). later < left.until)) (sym (get-live_clients later b.offers client)) (kept_is_live later (get b.offers client));
+    bindings = λ client. subst (λ o. IfSome o (λ (left : Lease). later < left.until)) (sym (get-live_clients key4_is_key later b.bindings client)) (kept_is_live later (get b.bindings client));
+    offers = λ client. subst (λ o. IfSome o (λ (left : Lease). later < left.until)) (sym (get-live_clients key4_is_key later b.offers client)) (kept_is_live later (get b.offers client));
     bars = λ address. subst (λ o. IfSome o (λ left. later < left)) (sym (get-live_bars later b.bars address)) (bar_is_live later (get b.bars address));
     once = λ address x y named again. book.once address x y (named_before address x named) (named_before address y again);
     apart = λ client.
         let offered : Option Lease → Option Lease → Type 0 = λ o offer. IfSome o (λ (lease : Lease). offer ≡ None) in
-        subst (λ o. offered o (get (live_clients later b.offers) client)) (sym (get-live_clients later b.bindings client))
-        (subst (λ offer. offered (keep later (get b.bindings client)) offer) (sym (get-live_clients later b.offers client))
+        subst (λ o. offered o (get (live_clients later b.offers) client)) (sym (get-live_clients key4_is_key later b.bindings client))
+        (subst (λ offer. offered (keep later (get b.bindings client)) offer) (sym (get-live_clients key4_is_key later b.offers client))
         (apart_cond later _ (get b.bindings client) (get b.offers client) (book.apart client)));
   }

@@ -4,12 +4,14 @@ use Rattle.std.specs.Prelude.{Option, Some, None, Ok, IfSome, ◌==◌, is_some,
 use Rattle.std.specs.List.{list_any, find, range_with_len}
 use Rattle.std.specs.Ordering.{nat_cmp, eq_by_cmp, is_eq}
 use Rattle.std.specs.Cmp.{nat_cmp_total}
-use Rattle.std.specs.Cmp.Lexicographic.{slice_cmp, nat_list_cmp_total}
 use Rattle.std.specs.FinMap.{get, insert, remove, contains_key, entries, get-entries, get-insert, get-remove}
 use Rattle.std.specs.FinMap.Entries as entry
 use Rattle.std.specs.Str.{bytes_eq}
 use Rattle.std.proofs.lemmas.Bool.Decides.{nat_tests}
-use Rattle.std.proofs.lemmas.Map.Text.{is_eq-slice_cmp}
+use Rattle.slots.specs.Key.{key4_cmp}
+use Rattle.slots.specs.KeyLaws.{key4_is_key}
+use Rattle.slots.specs.Maps.{Lease, Clients, names, address_of, or_else}
+use Rattle.slots.proofs.ShownLemmas.{not_true, at, same_is, itself}
 use Rattle.types.specs.Addr.{number4, addr4}
 use Rattle.types.specs.declared.addr.Addr4.{Addr4}
 use Rattle.types.specs.declared.discard.Discard.{Discard}
@@ -21,23 +23,22 @@ use Rattle.types.specs.declared.request4.Reply4.TheVariants as reply
 use Rattle.types.specs.declared.request4.Request4.{Request4}
 use Rattle.bindings_v4.specs.declared.server4.Server4.{Server4}
 use Rattle.bindings_v4.specs.declared.server4.Server4.TheVariants.{Anybody, This, Another}
-use Rattle.bindings_v4.specs.Book4.{Lease, Clients, Book4, names, in_pool, is_free, lowest_free, address_of, where_free, or_else, pick}
+use Rattle.bindings_v4.specs.Book4.{Book4, in_pool, is_free, lowest_free, where_free, pick}
 use Rattle.bindings_v4.specs.IsBook4.{Entry, TheBinding, TheOffer, TheBar, Names, IsBook4, LeavesABook, KeepsOthers, ChangesOffersAlone, GrantsItsOwn, RenewsInTime}
 use Rattle.bindings_v4.specs.Table4.{Change, Unchanged, Offers, Withdraws, Binds, Bars, Frees, with_change, is_kept, Row, replies, drops, grants, discover_row, other_server_row, selecting_row, known_address_row, no_server_row, decline_row, release_row, inform_row, where_is, where_specified, server_of, Lookup, lookup_in, row_of, answer4}
-use Rattle.bindings_v4.proofs.ShownLemmas.{not_true, at, same_is, itself}
 
 -- ---- maps with one client changed
 
-get_insert : (m : Clients) (k : List ℕ) (l : Lease) (q : List ℕ) → get (insert m k l) q ≡ cond (bytes_eq q k) (Some l) (get m q)
-get_insert m k l q = get-insert nat_list_cmp_total m k l q ∙ ap (λ b. cond b (Some l) (get m q)) (is_eq-slice_cmp q k)
+get_insert : (m : Clients key4_cmp) (k : List ℕ) (l : Lease) (q : List ℕ) → get (insert m k l) q ≡ cond (bytes_eq q k) (Some l) (get m q)
+get_insert m k l q = get-insert key4_is_key.total m k l q ∙ ap (λ b. cond b (Some l) (get m q)) (key4_is_key.agrees q k)
 
-get_remove : (m : Clients) (k q : List ℕ) → get (remove m k) q ≡ cond (bytes_eq q k) None (get m q)
-get_remove m k q = get-remove nat_list_cmp_total m k q ∙ ap (λ b. cond b None (get m q)) (is_eq-slice_cmp q k)
+get_remove : (m : Clients key4_cmp) (k q : List ℕ) → get (remove m k) q ≡ cond (bytes_eq q k) None (get m q)
+get_remove m k q = get-remove key4_is_key.total m k q ∙ ap (λ b. cond b None (get m q)) (key4_is_key.agrees q k)
 
 apart_is : (q k : List ℕ) → (q ≡ k → ⊥) → bytes_eq q k ≡ false
 apart_is q k other = by (bytes_eq q k) refl where
   by : (b : Bool) → bytes_eq q k ≡ b → bytes_eq q k ≡ false
-  by true is = absurd (other (same_is q k is))
+  by true is = absurd (other (same_is key4_is_key q k is))
   by false is = is
 
 -- ---- no decision changes another client's entries
@@ -83,7 +84,7 @@ renewed_row pool t found m address kind server wanted ciaddr inside bound =
     ∙ ap (λ r. cond r (grants address (t + pool.lease)) (replies reply.Nak Unchanged)) (eq-eqb address address refl)
 
 pub bound_after : (k : List ℕ) (a u : ℕ) (b : Book4) → get (with_change k (Binds a u) b).bindings k ≡ Some (at a u)
-bound_after k a u b = get_insert b.bindings k (at a u) k ∙ ap (λ r. cond r (Some (at a u)) (get b.bindings k)) (itself k)
+bound_after k a u b = get_insert b.bindings k (at a u) k ∙ ap (λ r. cond r (Some (at a u)) (get b.bindings k)) (itself key4_is_key k)
 
 pub renewed : (pool : PoolValue) (t : ℕ) (m : Request4) → RenewsInTime pool t m
 unfolding answer4
@@ -144,18 +145,18 @@ IsFresh k (NewBar n u) a x = (a ≡ n) × (x ≡ TheBar)
 
 fresh_binding : (k q : List ℕ) (new : New) (a : ℕ) → bytes_eq q k ≡ true → address_of (new_binding new) ≡ Some a → IsFresh k new a (TheBinding q)
 fresh_binding k q NoNew a same e = absurd cc
-fresh_binding k q (NewBinding n u) a same e = ((let is : n ≡ a = cc in sym is), ap TheBinding (same_is q k same))
+fresh_binding k q (NewBinding n u) a same e = ((let is : n ≡ a = cc in sym is), ap TheBinding (same_is key4_is_key q k same))
 fresh_binding k q (NewOffer n u) a same e = absurd cc
 fresh_binding k q (NewBar n u) a same e = absurd cc
 
 fresh_offer : (k q : List ℕ) (new : New) (a : ℕ) → bytes_eq q k ≡ true → address_of (new_offer new) ≡ Some a → IsFresh k new a (TheOffer q)
 fresh_offer k q NoNew a same e = absurd cc
 fresh_offer k q (NewBinding n u) a same e = absurd cc
-fresh_offer k q (NewOffer n u) a same e = ((let is : n ≡ a = cc in sym is), ap TheOffer (same_is q k same))
+fresh_offer k q (NewOffer n u) a same e = ((let is : n ≡ a = cc in sym is), ap TheOffer (same_is key4_is_key q k same))
 fresh_offer k q (NewBar n u) a same e = absurd cc
 
 other_key : (q k : List ℕ) → bytes_eq q k ≡ false → q ≡ k → ⊥
-other_key q k apart e = not_true (sym apart ∙ ap (bytes_eq q) (sym e) ∙ itself q)
+other_key q k apart e = not_true (sym apart ∙ ap (bytes_eq q) (sym e) ∙ itself key4_is_key q)
 
 other_binding : (q k : List ℕ) → bytes_eq q k ≡ false → IsClients k (TheBinding q) → ⊥
 other_binding q k apart (inl e) = let is : q ≡ k = cc in other_key q k apart is
@@ -262,10 +263,10 @@ with_new t k new b after book is suits =
 
 -- ---- each change leaves a book
 
-absent : (m : Clients) (k : List ℕ) → get m k ≡ None → (q : List ℕ) → get m q ≡ cond (bytes_eq q k) None (get m q)
+absent : (m : Clients key4_cmp) (k : List ℕ) → get m k ≡ None → (q : List ℕ) → get m q ≡ cond (bytes_eq q k) None (get m q)
 absent m k none q = by (bytes_eq q k) refl where
   by : (r : Bool) → bytes_eq q k ≡ r → get m q ≡ cond r None (get m q)
-  by true is = ap (get m) (same_is q k is) ∙ none
+  by true is = ap (get m) (same_is key4_is_key q k is) ∙ none
   by false is = refl
 
 no_address : (o : Option Lease) → address_of o ≡ None → o ≡ None
@@ -332,17 +333,17 @@ or_true false c e = e
 abbrev any_address : ℕ → List (List ℕ × Lease) → Bool
 any_address a es = list_any (λ (lease : Lease). lease.address == a) (map (λ (e : List ℕ × Lease). e.1) es)
 
-named_in : (q : List ℕ) (a : ℕ) (es : List (List ℕ × Lease)) → address_of (entry.find (slice_cmp nat_cmp) q es) ≡ Some a → any_address a es ≡ true
+named_in : (q : List ℕ) (a : ℕ) (es : List (List ℕ × Lease)) → address_of (entry.find key4_cmp q es) ≡ Some a → any_address a es ≡ true
 named_in q a [] e = absurd cc
-named_in q a (x ∷ es) e = by (is_eq (slice_cmp nat_cmp q x.0)) e (named_in q a es) where
-  by : (r : Bool) → address_of (cond r (Some x.1) (entry.find (slice_cmp nat_cmp) q es)) ≡ Some a
-      → (address_of (entry.find (slice_cmp nat_cmp) q es) ≡ Some a → any_address a es ≡ true) → (eqb x.1.address a || any_address a es) ≡ true
+named_in q a (x ∷ es) e = by (is_eq (key4_cmp q x.0)) e (named_in q a es) where
+  by : (r : Bool) → address_of (cond r (Some x.1) (entry.find key4_cmp q es)) ≡ Some a
+      → (address_of (entry.find key4_cmp q es) ≡ Some a → any_address a es ≡ true) → (eqb x.1.address a || any_address a es) ≡ true
   by true e rest =
       let same : x.1.address ≡ a = cc in
       ap (λ r. r || any_address a es) (eq-eqb x.1.address a same)
   by false e rest = or_true (eqb x.1.address a) (any_address a es) (rest e)
 
-named : (m : Clients) (q : List ℕ) (a : ℕ) → address_of (get m q) ≡ Some a → names a m ≡ true
+named : (m : Clients key4_cmp) (q : List ℕ) (a : ℕ) → address_of (get m q) ≡ Some a → names a m ≡ true
 named m q a e = named_in q a (entries m) (ap address_of (sym (get-entries m q)) ∙ e)
 
 free_parts : (i x y z : Bool) → (i && not (x || y || z)) ≡ true → (x ≡ false) × (y ≡ false) × (z ≡ false)

@@ -4,6 +4,9 @@ use Rattle.std.specs.Prelude.{Option, Some, None, IfSome, ◌==◌, option_map}
 use Rattle.std.specs.FinMap.{get}
 use Rattle.std.specs.Str.{bytes_eq}
 use Rattle.std.proofs.lemmas.Bool.Decides.{nat_tests}
+use Rattle.slots.specs.KeyLaws.{key4_is_key}
+use Rattle.slots.specs.Maps.{Lease, is_live, address_of, or_else}
+use Rattle.slots.proofs.ShownLemmas.{at, same_is, keep, get-live_clients}
 use Rattle.types.specs.Addr.{number4}
 use Rattle.types.specs.Pool4.{PoolValue}
 use Rattle.types.specs.declared.kind4.Kind4.{Kind4}
@@ -12,11 +15,10 @@ use Rattle.types.specs.declared.request4.Reply4.TheVariants as reply
 use Rattle.types.specs.declared.request4.Request4.{Request4}
 use Rattle.bindings_v4.specs.declared.server4.Server4.{Server4}
 use Rattle.bindings_v4.specs.declared.server4.Server4.TheVariants.{Anybody, This, Another}
-use Rattle.bindings_v4.specs.Book4.{Lease, Book4, is_live, address_of, in_pool, or_else, book4_at}
+use Rattle.bindings_v4.specs.Book4.{Book4, in_pool, book4_at}
 use Rattle.bindings_v4.specs.IsBook4.{IsBook4, KeepsItsLease}
 use Rattle.bindings_v4.specs.Table4.{Change, Unchanged, Offers, Withdraws, Binds, Bars, Frees, with_change, is_kept, replies, grants, discover_row, other_server_row, selecting_row, known_address_row, no_server_row, decline_row, release_row, inform_row, where_is, where_specified, server_of, Lookup, lookup_in, row_of, answer4}
 use Rattle.bindings_v4.proofs.LawLemmas.{kept_apart, bound_after}
-use Rattle.bindings_v4.proofs.ShownLemmas.{at, same_is, keep, get-live_clients}
 
 -- the address that was named is the one that was found
 record IsNamed (address n : ℕ) (named : Option ℕ) : Type 0 where
@@ -154,7 +156,7 @@ lease_kept pool t m b client lease book e = by (bytes_eq client m.key) refl wher
   by : (r : Bool) → bytes_eq client m.key ≡ r → Stays pool t m client lease b (row_of pool t found m m.kind (server_of pool m.server)).change
   by false apart = other_stays pool t m b client lease e apart _
   by true is =
-      let same = same_is client m.key is in
+      let same = same_is key4_is_key client m.key is in
       let bound : found.binding ≡ Some lease.address = ap (λ q. address_of (get b.bindings q)) (sym same) ∙ ap address_of e in
       let none : found.offer ≡ None = ap (λ q. address_of (get b.offers q)) (sym same) ∙ ap address_of (no_offer pool t m b client lease e book) in
       own_stays pool t m b client lease e same _ (row_spares pool t m lease.address found bound none m.kind (server_of pool m.server))
@@ -164,4 +166,4 @@ live_lease later lease h = let is : is_live later lease.until ≡ true = grind (
 
 pub lease_lasts : (later : ℕ) (b : Book4) (client : List ℕ) (lease : Lease) → get b.bindings client ≡ Some lease → later < lease.until → get (book4_at later b).bindings client ≡ Some lease
 unfolding book4_at
-lease_lasts later b client lease e h = get-live_clients later b.bindings client ∙ ap (keep later) e ∙ live_lease later lease h
+lease_lasts later b client lease e h = get-live_clients key4_is_key later b.bindings client ∙ ap (keep later) e ∙ live_lease later lease h

@@ -1,7 +1,11 @@
 -- What is leased or barred ends within the limit of what a region keeps.
-use Rattle.std.proofs.Common.{◌≡◌, ℕ, zero, suc, ◌+◌, ◌≤◌, Bool, true, false, cond, eqb, List, [], ◌∷◌, length, set, sym, subst, ◌∙◌, arith}
+use Rattle.std.proofs.Common.{◌≡◌, ℕ, ◌+◌, ◌≤◌, Bool, true, false, cond, eqb, List, sym, subst, arith}
 use Rattle.std.specs.Prelude.{Option, Some, None, IfSome, option_map}
-use Rattle.std.specs.List.{position, refill}
+use Rattle.std.specs.Str.{bytes_eq}
+use Rattle.slots.specs.Kept.{AreWithin}
+use Rattle.slots.specs.Maps.{or_else}
+use Rattle.slots.specs.declared.holder.Holder.TheVariants.{Offered}
+use Rattle.slots.proofs.KeptLemmas.{slot_within}
 use Rattle.types.specs.Addr.{number4}
 use Rattle.types.specs.Pool4.{PoolValue}
 use Rattle.types.specs.Slots.{IsWithin4}
@@ -15,58 +19,29 @@ use Rattle.bindings_v4.specs.declared.decision4.Decision4.{Decision4}
 use Rattle.bindings_v4.specs.declared.decision4.KeptSlot.{KeptSlot}
 use Rattle.bindings_v4.specs.declared.decision4.OfferChange.{OfferChange}
 use Rattle.bindings_v4.specs.declared.decision4.OfferChange.TheVariants as offer
-use Rattle.bindings_v4.specs.declared.holder4.Holder4.{Holder4}
-use Rattle.bindings_v4.specs.declared.holder4.Holder4.TheVariants.{Offered}
 use Rattle.bindings_v4.specs.declared.server4.Server4.{Server4}
 use Rattle.bindings_v4.specs.declared.server4.Server4.TheVariants.{Anybody, This, Another}
-use Rattle.bindings_v4.specs.Book4.{in_pool, or_else}
-use Rattle.bindings_v4.specs.Kept4.{EndsBy, IsWithin, AreWithin}
+use Rattle.bindings_v4.specs.Book4.{in_pool}
+use Rattle.bindings_v4.specs.Kept4.{EndsBy}
 use Rattle.bindings_v4.specs.Decision4.{keep_of, decision_of}
-use Rattle.bindings_v4.specs.Slots4.{AreSlots, is_clients, with_vacancy, without_lessee, client_of, with_slot, with_offer, with_kept, holder_of}
+use Rattle.bindings_v4.specs.Slots4.{Holders4, with_offer, with_kept, holder_of}
 use Rattle.bindings_v4.specs.Table4.{Unchanged, Row, replies, grants, discover_row, other_server_row, selecting_row, known_address_row, no_server_row, decline_row, release_row, inform_row, where_is, where_specified, server_of, Lookup, row_of}
-use Rattle.bindings_v4.proofs.KeptLemmas.{WithinAt, within_at, are_within}
-use Rattle.bindings_v4.proofs.ShownLemmas.{Slots}
-use Rattle.bindings_v4.proofs.WriteLemmas.{written_whole}
+use Rattle.bindings_v4.proofs.KeptLemmas.{holder_within}
 
 -- ---- what is committed
 
-set_within : (ss : Slots) (i : ℕ) (new : Option Holder4) → WithinAt ss → IsWithin new → WithinAt (set ss i new)
-set_within [] i new w h k = w k
-set_within (s ∷ ss) zero new w h zero = h
-set_within (s ∷ ss) zero new w h (suc k) = w (suc k)
-set_within (s ∷ ss) (suc i) new w h zero = w 0
-set_within (s ∷ ss) (suc i) new w h (suc k) = set_within ss i new (λ j. w (suc j)) h k
-
-vacated_within : (found : Option ℕ) (ss : Slots) → WithinAt ss → WithinAt (with_vacancy found ss)
-vacated_within None ss w = w
-vacated_within (Some i) ss w = set_within ss i None w tt
-
-lessee_within : (client : Option (List ℕ)) (ss : Slots) → WithinAt ss → WithinAt (without_lessee client ss)
-lessee_within None ss w = w
-lessee_within (Some client) ss w = vacated_within (position (is_clients client) ss) ss w
-
-slot_within : (i : ℕ) (new : Option Holder4) (ss : Slots) → WithinAt ss → IsWithin new → WithinAt (with_slot i new ss)
-slot_within i new ss w h = set_within (without_lessee (client_of new) ss) i new (lessee_within (client_of new) ss w) h
-
-offer_within : (change : Option OfferChange) (ss : Slots) → WithinAt ss → WithinAt (with_offer change ss)
+offer_within : (change : Option OfferChange) (ss : Holders4) → AreWithin ss → AreWithin (with_offer change ss)
 offer_within None ss w = w
-offer_within (Some (offer.Made i k u)) ss w = slot_within i (Some (Offered k u)) ss w tt
-offer_within (Some (offer.Withdrawn i)) ss w = slot_within i None ss w tt
+offer_within (Some (offer.Made i k u)) ss w = slot_within bytes_eq i (Some (Offered k u)) ss w tt
+offer_within (Some (offer.Withdrawn i)) ss w = slot_within bytes_eq i None ss w tt
 
-content_within : (content : Slot4) → IsWithin4 content → IsWithin (holder_of content)
-content_within slot4.Free h = tt
-content_within (slot4.Bound k u) h = h
-content_within (slot4.Barred u) h = h
-
-keep_within : (keep : Option KeptSlot) (ss : Slots) → WithinAt ss → IfSome keep (λ kept. IsWithin4 kept.content) → WithinAt (with_kept keep ss)
+keep_within : (keep : Option KeptSlot) (ss : Holders4) → AreWithin ss → IfSome keep (λ kept. IsWithin4 kept.content) → AreWithin (with_kept keep ss)
 keep_within None ss w h = w
-keep_within (Some kept) ss w h = slot_within kept.slot (holder_of kept.content) ss w (content_within kept.content h)
+keep_within (Some kept) ss w h = slot_within bytes_eq kept.slot (holder_of kept.content) ss w (holder_within kept.content h)
 
-pub committed_within : (pool : PoolValue) (change : Option OfferChange) (keep : Option KeptSlot) (ss new : Slots) → AreSlots pool ss → new ≡ with_kept keep (with_offer change ss)
-    → AreWithin ss → IfSome keep (λ kept. IsWithin4 kept.content) → AreWithin (refill (length ss) ss new)
-committed_within pool change keep ss new are e w h =
-    subst (λ (xs : Slots). AreWithin xs) (sym (written_whole pool change keep ss new are e ∙ e))
-    (are_within (with_kept keep (with_offer change ss)) (keep_within keep (with_offer change ss) (offer_within change ss (within_at ss w)) h))
+pub committed_within : (change : Option OfferChange) (keep : Option KeptSlot) (ss new : Holders4) → new ≡ with_kept keep (with_offer change ss)
+    → AreWithin ss → IfSome keep (λ kept. IsWithin4 kept.content) → AreWithin new
+committed_within change keep ss new e w h = subst (λ (xs : Holders4). AreWithin xs) (sym e) (keep_within keep (with_offer change ss) (offer_within change ss w) h)
 
 -- ---- what is decided
 

@@ -1,6 +1,7 @@
 -- The addresses of replies are numbers as four bytes.
 use Rattle.std.proofs.Common.{◌≡◌, ℕ, ◌+◌, Bool, true, false, cond, eqb, length, refl, subst}
 use Rattle.std.specs.Prelude.{Option, Some, None, Result, Ok, Err, option_map}
+use Rattle.slots.specs.Maps.{or_else}
 use Rattle.types.specs.Addr.{number4}
 use Rattle.types.specs.declared.discard.Discard.{Discard}
 use Rattle.types.specs.declared.kind4.Kind4.{Kind4}
@@ -11,7 +12,7 @@ use Rattle.types.specs.declared.request4.Reply4.TheVariants as reply
 use Rattle.types.specs.declared.request4.Request4.{Request4}
 use Rattle.bindings_v4.specs.declared.server4.Server4.{Server4}
 use Rattle.bindings_v4.specs.declared.server4.Server4.TheVariants.{Anybody, This, Another}
-use Rattle.bindings_v4.specs.Book4.{Book4, in_pool, or_else}
+use Rattle.bindings_v4.specs.Book4.{Book4, in_pool}
 use Rattle.bindings_v4.specs.Table4.{Unchanged, Row, replies, grants, discover_row, other_server_row, selecting_row, known_address_row, no_server_row, decline_row, release_row, inform_row, where_is, where_specified, server_of, Lookup, lookup_in, row_of, answer4}
 
 abbrev pub IsWhole : Result Reply4 Discard → Type 0

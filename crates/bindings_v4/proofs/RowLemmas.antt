@@ -1,10 +1,19 @@
 -- A row of the table is what its decision makes of the slots.
-use Rattle.std.proofs.Common.{◌≡◌, ℕ, ◌+◌, ◌-◌, ◌<◌, Bool, true, false, not, cond, List, length, get_or, refl, sym, ap, subst, ◌∙◌, arith}
-use borrow.Author.Tests.{ltb-true}
-use Rattle.std.specs.Prelude.{Option, Some, None, nat_lt, ◌==◌, is_some, option_map}
+use Rattle.std.proofs.Common.{◌≡◌, ℕ, ◌+◌, ◌-◌, ◌<◌, Bool, true, false, cond, List, get_or, refl, sym, ap, subst, ◌∙◌, arith}
+use Rattle.std.specs.Prelude.{Option, Some, None, ◌==◌, is_some, option_map}
 use Rattle.std.specs.List.{position}
+use Rattle.std.specs.Str.{bytes_eq}
 use Rattle.std.proofs.lemmas.Bool.Decides.{nat_tests}
-use Rattle.std.proofs.lemmas.List.Quantifiers.{position-Some}
+use Rattle.slots.specs.declared.holder.Holder.{Holder}
+use Rattle.slots.specs.declared.holder.Holder.TheVariants.{Bound, Offered, Barred}
+use Rattle.slots.specs.KeyLaws.{key4_is_key}
+use Rattle.slots.specs.Lookup.{live, is_bound_to, is_offered_to, slot_in, picked_slot}
+use Rattle.slots.specs.Maps.{Lease, is_live, address_of, or_else}
+use Rattle.slots.specs.Slots.{bound_to, offered_to, barred_until, with_slot}
+use Rattle.slots.proofs.FitLemmas.{Fit, bound_own, bound_clients, offered_own, offered_clients, fit_bound, fit_offered, fit_picked}
+use Rattle.slots.proofs.FreeLemmas.{from, bound_test, offered_test, binding_is}
+use Rattle.slots.proofs.ShownLemmas.{not_true, live_slots, bound_sort, offered_sort}
+use Rattle.slots.proofs.WriteLemmas.{distinct_slot, length_slot, leases_kept, leases_with, leases_gone, leases_without, leases_same, bars_kept, bars_same, bars_with}
 use Rattle.types.specs.Addr.{number4}
 use Rattle.types.specs.declared.kind4.Kind4.{Kind4}
 use Rattle.types.specs.declared.kind4.Kind4.TheVariants.{Discover, Offer, Request, Decline, Ack, Nak, Release, Inform}
@@ -12,74 +21,40 @@ use Rattle.types.specs.Pool4.{PoolValue}
 use Rattle.types.specs.declared.request4.Reply4.TheVariants as reply
 use Rattle.types.specs.declared.request4.Request4.{Request4}
 use Rattle.bindings_v4.specs.declared.decision4.Decision4.{Decision4}
-use Rattle.bindings_v4.specs.declared.holder4.Holder4.{Holder4}
-use Rattle.bindings_v4.specs.declared.holder4.Holder4.TheVariants.{Bound, Offered, Barred}
-use Rattle.bindings_v4.specs.Book4.{Lease, is_live, in_pool, address_of, or_else}
-use Rattle.bindings_v4.specs.Lookup4.{until_of, is_vacant, is_bound_to, is_offered_to, wanted_slot, picked_slot}
+use Rattle.bindings_v4.specs.declared.decision4.KeptSlot.{KeptSlot}
+use Rattle.bindings_v4.specs.declared.decision4.OfferChange.{OfferChange}
+use Rattle.bindings_v4.specs.declared.decision4.OfferChange.TheVariants as offer
+use Rattle.bindings_v4.specs.Book4.{in_pool}
 use Rattle.bindings_v4.specs.Decision4.{keep_of, decision_of}
-use Rattle.bindings_v4.specs.Slots4.{PoolSlots, bound_to, offered_to, barred_until, book_of_slots, book_of, is_clients, AreSlots, with_slot, with_decision}
+use Rattle.bindings_v4.specs.Slots4.{Holders4, PoolSlots, book_of_slots, book_of, AreSlots, with_offer, holder_of, with_kept, with_decision}
 use Rattle.bindings_v4.specs.declared.server4.Server4.{Server4}
 use Rattle.bindings_v4.specs.declared.server4.Server4.TheVariants.{Anybody, This, Another}
 use Rattle.bindings_v4.specs.Table4.{Change, Unchanged, Offers, Withdraws, Binds, Bars, Frees, with_change, is_kept, Row, replies, grants, discover_row, other_server_row, selecting_row, known_address_row, no_server_row, decline_row, release_row, inform_row, where_is, where_specified, server_of, Lookup, lookup_in, row_of, answer4}
-use Rattle.bindings_v4.proofs.ShownLemmas.{Slots, not_true, live, live_slots, bound_sort, offered_sort, shown}
-use Rattle.bindings_v4.proofs.FreeLemmas.{from, bound_test, offered_test, pick_is, bound_is, offered_is, binding_is}
-use Rattle.bindings_v4.proofs.WriteLemmas.{one_client, clients_no_bar, are_with_slot, IsOpen, leases_kept, leases_with, leases_gone, leases_without, leases_same, bars_kept, bars_same, bars_with}
+use Rattle.bindings_v4.proofs.FreeLemmas.{picked, pick_is, bound_is, offered_is}
+use Rattle.bindings_v4.proofs.ShownLemmas.{shown}
 
--- ---- where a pick that is no binding lies
+-- ---- what is written is a pool's slots still
 
--- the slot is no other client's, and not barred
-record Fit (t : ℕ) (k : List ℕ) (ss : Slots) (i : ℕ) : Type 0 where
-  below : i < length ss
-  mine : IsOpen t k (get_or ss i None)
-  unbarred : barred_until (live t (get_or ss i None)) ≡ None
+are_with_slot : (pool : PoolValue) (i : ℕ) (new : Option (Holder (List ℕ))) (ss : Holders4) → AreSlots pool ss → AreSlots pool (with_slot bytes_eq i new ss)
+are_with_slot pool i new ss are =
+    record {
+      limits = are.limits;
+      size = length_slot key4_is_key i new ss are.distinct ∙ are.size;
+      distinct = distinct_slot key4_is_key i new ss are.distinct;
+    }
 
-vacant_live : (t : ℕ) (s : Option Holder4) → is_vacant t s ≡ true → live t s ≡ None
-vacant_live t None e = refl
-vacant_live t (Some h) e = by (is_live t (until_of h)) e where
-  by : (b : Bool) → not b ≡ true → cond b (Some h) None ≡ None
-  by true e = absurd cc
-  by false e = refl
+are_with_offer : (pool : PoolValue) (change : Option OfferChange) (ss : Holders4) → AreSlots pool ss → AreSlots pool (with_offer change ss)
+are_with_offer pool None ss are = are
+are_with_offer pool (Some (offer.Made i k u)) ss are = are_with_slot pool i (Some (Offered k u)) ss are
+are_with_offer pool (Some (offer.Withdrawn i)) ss are = are_with_slot pool i None ss are
 
-fit_vacant : (t : ℕ) (k : List ℕ) (ss : Slots) (i : ℕ) → i < length ss → is_vacant t (get_or ss i None) ≡ true → Fit t k ss i
-fit_vacant t k ss i below vacant =
-    let e = vacant_live t (get_or ss i None) vacant in record { below = below; mine = λ q apart. ap (is_clients q) e; unbarred = ap barred_until e }
+are_with_kept : (pool : PoolValue) (keep : Option KeptSlot) (ss : Holders4) → AreSlots pool ss → AreSlots pool (with_kept keep ss)
+are_with_kept pool None ss are = are
+are_with_kept pool (Some kept) ss are = are_with_slot pool kept.slot (holder_of kept.content) ss are
 
-fit_own : (t : ℕ) (k : List ℕ) (ss : Slots) (i : ℕ) → i < length ss → is_clients k (live t (get_or ss i None)) ≡ true → Fit t k ss i
-fit_own t k ss i below own =
-    let s = live t (get_or ss i None) in record { below = below; mine = λ q apart. one_client q k s own apart; unbarred = clients_no_bar k s own }
-
-fit_offered : (t : ℕ) (k : List ℕ) (ss : Slots) (i : ℕ) → position (is_offered_to t k) ss ≡ Some i → Fit t k ss i
-fit_offered t k ss i e =
-    let p = position-Some (is_offered_to t k) ss i None e in
-    fit_own t k ss i p.0 (offered_sort.own k (live t (get_or ss i None)) (offered_test t k (get_or ss i None) ∙ p.1))
-
-fit_first : (t : ℕ) (k : List ℕ) (ss : Slots) (i : ℕ) → position (is_vacant t) ss ≡ Some i → Fit t k ss i
-fit_first t k ss i e = let p = position-Some (is_vacant t) ss i None e in fit_vacant t k ss i p.0 p.1
-
-fit_at : (t a x : ℕ) (k : List ℕ) (ss : Slots) (i : ℕ) → (below short free : Bool) → nat_lt (x - a) (length ss) ≡ short → is_vacant t (get_or ss (x - a) None) ≡ free
-    → cond below None (cond short (cond free (Some (x - a)) None) None) ≡ Some i → Fit t k ss i
-fit_at t a x k ss i true short free is_short is_free e = absurd cc
-fit_at t a x k ss i false true true is_short is_free e =
-    let same : x - a ≡ i = cc in subst (λ j. Fit t k ss j) same (fit_vacant t k ss (x - a) (ltb-true (x - a) (length ss) is_short) is_free)
-fit_at t a x k ss i false true false is_short is_free e = absurd cc
-fit_at t a x k ss i false false free is_short is_free e = absurd cc
-
-fit_wanted : (t a : ℕ) (k : List ℕ) (ss : Slots) (wanted : Option ℕ) (i : ℕ) → wanted_slot t a ss wanted ≡ Some i → Fit t k ss i
-fit_wanted t a k ss None i e = absurd cc
-fit_wanted t a k ss (Some x) i e = fit_at t a x k ss i (nat_lt x a) (nat_lt (x - a) (length ss)) (is_vacant t (get_or ss (x - a) None)) refl refl e
-
-fit_pick : (t a : ℕ) (k : List ℕ) (ss : Slots) (wanted : Option ℕ) (i : ℕ) → position (is_bound_to t k) ss ≡ None → picked_slot t a ss k wanted ≡ Some i → Fit t k ss i
-fit_pick t a k ss wanted i none e = by_offer (position (is_offered_to t k) ss) refl (ap (λ o. or_else o rest) (sym none) ∙ e) where
-  rest : Option ℕ
-  rest = or_else (position (is_offered_to t k) ss) (or_else (wanted_slot t a ss wanted) (position (is_vacant t) ss))
-
-  by_wanted : (w : Option ℕ) → wanted_slot t a ss wanted ≡ w → or_else w (position (is_vacant t) ss) ≡ Some i → Fit t k ss i
-  by_wanted None is e = fit_first t k ss i e
-  by_wanted (Some j) is e = fit_wanted t a k ss wanted i (is ∙ e)
-
-  by_offer : (o : Option ℕ) → position (is_offered_to t k) ss ≡ o → or_else o (or_else (wanted_slot t a ss wanted) (position (is_vacant t) ss)) ≡ Some i → Fit t k ss i
-  by_offer None is e = by_wanted (wanted_slot t a ss wanted) refl e
-  by_offer (Some j) is e = fit_offered t k ss i (is ∙ e)
+pub are_committed : (pool : PoolValue) (change : Option OfferChange) (keep : Option KeptSlot) (ss new : Holders4) → AreSlots pool ss → new ≡ with_kept keep (with_offer change ss) → AreSlots pool new
+are_committed pool change keep ss new are e =
+    subst (λ (xs : Holders4). AreSlots pool xs) (sym e) (are_with_kept pool keep (with_offer change ss) (are_with_offer pool change ss are))
 
 -- ---- an offer
 
@@ -87,115 +62,100 @@ no_address : (o : Option Lease) → address_of o ≡ None → o ≡ None
 no_address None e = refl
 no_address (Some x) e = absurd cc
 
-offered_book : (v : PoolSlots) (t : ℕ) (k : List ℕ) (u i : ℕ) → AreSlots v.pool v.slots → Fit t k v.slots i → position (is_bound_to t k) v.slots ≡ None → is_live t u ≡ true
-    → book_of t (record v { slots = with_slot i (Some (Offered k u)) v.slots }) ≡ with_change k (Offers (number4 v.pool.first + i) u) (book_of t v)
+offered_book : (v : PoolSlots) (t : ℕ) (k : List ℕ) (u i : ℕ) → AreSlots v.pool v.slots → Fit key4_is_key t k v.slots i → position (is_bound_to bytes_eq t k) v.slots ≡ None → is_live t u ≡ true
+    → book_of t (record v { slots = with_slot bytes_eq i (Some (Offered k u)) v.slots }) ≡ with_change k (Offers (number4 v.pool.first + i) u) (book_of t v)
 offered_book v t k u i are fit none lasts =
     let a = number4 v.pool.first in
     let ss = v.slots in
-    let new : Option Holder4 = Some (Offered k u) in
+    let new : Option (Holder (List ℕ)) = Some (Offered k u) in
     let stays : live t new ≡ new = ap (λ b. cond b new None) lasts in
-    let unbound = no_address _ (binding_is t k a ss ∙ ap (from a) none) in
-    let middle : book_of_slots a (live_slots t (with_slot i new ss)) ≡ with_change k (Offers (a + i) u) (book_of_slots a (live_slots t ss)) =
+    let unbound = no_address _ (binding_is key4_is_key t k a ss ∙ ap (from a) none) in
+    let middle : book_of_slots a (live_slots t (with_slot bytes_eq i new ss)) ≡ with_change k (Offers (a + i) u) (book_of_slots a (live_slots t ss)) =
     λ j. record {
-      bindings = leases_kept t k i new ss are.distinct fit.below fit.mine (λ q apart. apart) bound_to bound_sort a (ap bound_to stays) unbound j;
-      offers = leases_with t k i new ss are.distinct fit.below fit.mine (λ q apart. apart) offered_to offered_sort a u (ap offered_to stays) j;
-      bars = bars_kept t k i new ss are.distinct fit.below fit.mine (λ q apart. apart) a (ap barred_until stays) fit.unbarred j;
+      bindings = leases_kept key4_is_key t k i new ss are.distinct fit.below fit.mine (λ q apart. apart) bound_to (bound_sort key4_is_key) a (ap bound_to stays) unbound j;
+      offers = leases_with key4_is_key t k i new ss are.distinct fit.below fit.mine (λ q apart. apart) offered_to (offered_sort key4_is_key) a u (ap offered_to stays) j;
+      bars = bars_kept key4_is_key t k i new ss are.distinct fit.below fit.mine (λ q apart. apart) a (ap barred_until stays) fit.unbarred j;
     } in
-    shown a t (with_slot i new ss) (are_with_slot v.pool i new ss are).distinct ∙ middle ∙ ap (with_change k (Offers (a + i) u)) (sym (shown a t ss are.distinct))
+    shown a t (with_slot bytes_eq i new ss) (are_with_slot v.pool i new ss are).distinct ∙ middle ∙ ap (with_change k (Offers (a + i) u)) (sym (shown a t ss are.distinct))
 
 -- ---- a lease, a bar, a free slot, an offer that is gone
 
-bound_own : (t : ℕ) (k : List ℕ) (ss : Slots) (i : ℕ) → position (is_bound_to t k) ss ≡ Some i → (i < length ss) × (is_bound_to t k (get_or ss i None) ≡ true)
-bound_own t k ss i e = let p = position-Some (is_bound_to t k) ss i None e in (p.0, p.1)
-
-offered_own : (t : ℕ) (k : List ℕ) (ss : Slots) (i : ℕ) → position (is_offered_to t k) ss ≡ Some i → (i < length ss) × (is_offered_to t k (get_or ss i None) ≡ true)
-offered_own t k ss i e = let p = position-Some (is_offered_to t k) ss i None e in (p.0, p.1)
-
-bound_clients : (t : ℕ) (k : List ℕ) (s : Option Holder4) → is_bound_to t k s ≡ true → is_clients k (live t s) ≡ true
-bound_clients t k s e = bound_sort.own k (live t s) (bound_test t k s ∙ e)
-
-offered_clients : (t : ℕ) (k : List ℕ) (s : Option Holder4) → is_offered_to t k s ≡ true → is_clients k (live t s) ≡ true
-offered_clients t k s e = offered_sort.own k (live t s) (offered_test t k s ∙ e)
-
-not_offered : (t : ℕ) (k : List ℕ) (s : Option Holder4) → is_bound_to t k s ≡ true → is_offered_to t k s ≡ false
+not_offered : (t : ℕ) (k : List ℕ) (s : Option (Holder (List ℕ))) → is_bound_to bytes_eq t k s ≡ true → is_offered_to bytes_eq t k s ≡ false
 not_offered t k None e = refl
 not_offered t k (Some (Bound key u)) e = refl
 not_offered t k (Some (Offered key u)) e = absurd (not_true e)
 not_offered t k (Some (Barred u)) e = refl
 
-not_bound : (t : ℕ) (k : List ℕ) (s : Option Holder4) → is_offered_to t k s ≡ true → is_bound_to t k s ≡ false
+not_bound : (t : ℕ) (k : List ℕ) (s : Option (Holder (List ℕ))) → is_offered_to bytes_eq t k s ≡ true → is_bound_to bytes_eq t k s ≡ false
 not_bound t k None e = refl
 not_bound t k (Some (Bound key u)) e = absurd (not_true e)
 not_bound t k (Some (Offered key u)) e = refl
 not_bound t k (Some (Barred u)) e = refl
 
-fit_bound : (t : ℕ) (k : List ℕ) (ss : Slots) (i : ℕ) → position (is_bound_to t k) ss ≡ Some i → Fit t k ss i
-fit_bound t k ss i e = let p = bound_own t k ss i e in fit_own t k ss i p.0 (bound_clients t k (get_or ss i None) p.1)
-
-bound_book : (v : PoolSlots) (t : ℕ) (k : List ℕ) (u i : ℕ) → AreSlots v.pool v.slots → Fit t k v.slots i → is_live t u ≡ true
-    → book_of t (record v { slots = with_slot i (Some (Bound k u)) v.slots }) ≡ with_change k (Binds (number4 v.pool.first + i) u) (book_of t v)
+bound_book : (v : PoolSlots) (t : ℕ) (k : List ℕ) (u i : ℕ) → AreSlots v.pool v.slots → Fit key4_is_key t k v.slots i → is_live t u ≡ true
+    → book_of t (record v { slots = with_slot bytes_eq i (Some (Bound k u)) v.slots }) ≡ with_change k (Binds (number4 v.pool.first + i) u) (book_of t v)
 bound_book v t k u i are fit lasts =
     let a = number4 v.pool.first in
     let ss = v.slots in
-    let new : Option Holder4 = Some (Bound k u) in
+    let new : Option (Holder (List ℕ)) = Some (Bound k u) in
     let stays : live t new ≡ new = ap (λ b. cond b new None) lasts in
-    let middle : book_of_slots a (live_slots t (with_slot i new ss)) ≡ with_change k (Binds (a + i) u) (book_of_slots a (live_slots t ss)) =
+    let middle : book_of_slots a (live_slots t (with_slot bytes_eq i new ss)) ≡ with_change k (Binds (a + i) u) (book_of_slots a (live_slots t ss)) =
     λ j. record {
-      bindings = leases_with t k i new ss are.distinct fit.below fit.mine (λ q apart. apart) bound_to bound_sort a u (ap bound_to stays) j;
-      offers = leases_gone t k i new ss are.distinct fit.below fit.mine (λ q apart. apart) offered_to offered_sort a (ap offered_to stays) j;
-      bars = bars_kept t k i new ss are.distinct fit.below fit.mine (λ q apart. apart) a (ap barred_until stays) fit.unbarred j;
+      bindings = leases_with key4_is_key t k i new ss are.distinct fit.below fit.mine (λ q apart. apart) bound_to (bound_sort key4_is_key) a u (ap bound_to stays) j;
+      offers = leases_gone key4_is_key t k i new ss are.distinct fit.below fit.mine (λ q apart. apart) offered_to (offered_sort key4_is_key) a (ap offered_to stays) j;
+      bars = bars_kept key4_is_key t k i new ss are.distinct fit.below fit.mine (λ q apart. apart) a (ap barred_until stays) fit.unbarred j;
     } in
-    shown a t (with_slot i new ss) (are_with_slot v.pool i new ss are).distinct ∙ middle ∙ ap (with_change k (Binds (a + i) u)) (sym (shown a t ss are.distinct))
+    shown a t (with_slot bytes_eq i new ss) (are_with_slot v.pool i new ss are).distinct ∙ middle ∙ ap (with_change k (Binds (a + i) u)) (sym (shown a t ss are.distinct))
 
-barred_book : (v : PoolSlots) (t : ℕ) (k : List ℕ) (u i : ℕ) → AreSlots v.pool v.slots → position (is_bound_to t k) v.slots ≡ Some i → is_live t u ≡ true
-    → book_of t (record v { slots = with_slot i (Some (Barred u)) v.slots }) ≡ with_change k (Bars (number4 v.pool.first + i) u) (book_of t v)
+barred_book : (v : PoolSlots) (t : ℕ) (k : List ℕ) (u i : ℕ) → AreSlots v.pool v.slots → position (is_bound_to bytes_eq t k) v.slots ≡ Some i → is_live t u ≡ true
+    → book_of t (record v { slots = with_slot bytes_eq i (Some (Barred u)) v.slots }) ≡ with_change k (Bars (number4 v.pool.first + i) u) (book_of t v)
 barred_book v t k u i are found lasts =
     let a = number4 v.pool.first in
     let ss = v.slots in
     let s = get_or ss i None in
-    let new : Option Holder4 = Some (Barred u) in
+    let new : Option (Holder (List ℕ)) = Some (Barred u) in
     let stays : live t new ≡ new = ap (λ b. cond b new None) lasts in
-    let p = bound_own t k ss i found in
-    let own = bound_clients t k s p.1 in
-    let middle : book_of_slots a (live_slots t (with_slot i new ss)) ≡ with_change k (Bars (a + i) u) (book_of_slots a (live_slots t ss)) =
+    let p = bound_own key4_is_key t k ss i found in
+    let own = bound_clients key4_is_key t k s p.1 in
+    let middle : book_of_slots a (live_slots t (with_slot bytes_eq i new ss)) ≡ with_change k (Bars (a + i) u) (book_of_slots a (live_slots t ss)) =
     λ j. record {
-      bindings = leases_without t k i new ss are.distinct own (λ q. refl) bound_to bound_sort a j;
-      offers = leases_same t k i new ss are.distinct own (λ q. refl) offered_to offered_sort a (offered_test t k s ∙ not_offered t k s p.1) j;
-      bars = bars_with t k i new ss are.distinct own (λ q. refl) a u p.0 (ap barred_until stays) j;
+      bindings = leases_without key4_is_key t k i new ss are.distinct own (λ q. refl) bound_to (bound_sort key4_is_key) a j;
+      offers = leases_same key4_is_key t k i new ss are.distinct own (λ q. refl) offered_to (offered_sort key4_is_key) a (offered_test key4_is_key t k s ∙ not_offered t k s p.1) j;
+      bars = bars_with key4_is_key t k i new ss are.distinct own (λ q. refl) a u p.0 (ap barred_until stays) j;
     } in
-    shown a t (with_slot i new ss) (are_with_slot v.pool i new ss are).distinct ∙ middle ∙ ap (with_change k (Bars (a + i) u)) (sym (shown a t ss are.distinct))
+    shown a t (with_slot bytes_eq i new ss) (are_with_slot v.pool i new ss are).distinct ∙ middle ∙ ap (with_change k (Bars (a + i) u)) (sym (shown a t ss are.distinct))
 
-freed_book : (v : PoolSlots) (t : ℕ) (k : List ℕ) (i : ℕ) → AreSlots v.pool v.slots → position (is_bound_to t k) v.slots ≡ Some i
-    → book_of t (record v { slots = with_slot i None v.slots }) ≡ with_change k (Frees (number4 v.pool.first + i)) (book_of t v)
+freed_book : (v : PoolSlots) (t : ℕ) (k : List ℕ) (i : ℕ) → AreSlots v.pool v.slots → position (is_bound_to bytes_eq t k) v.slots ≡ Some i
+    → book_of t (record v { slots = with_slot bytes_eq i None v.slots }) ≡ with_change k (Frees (number4 v.pool.first + i)) (book_of t v)
 freed_book v t k i are found =
     let a = number4 v.pool.first in
     let ss = v.slots in
     let s = get_or ss i None in
-    let p = bound_own t k ss i found in
-    let own = bound_clients t k s p.1 in
-    let middle : book_of_slots a (live_slots t (with_slot i None ss)) ≡ with_change k (Frees (a + i)) (book_of_slots a (live_slots t ss)) =
+    let p = bound_own key4_is_key t k ss i found in
+    let own = bound_clients key4_is_key t k s p.1 in
+    let middle : book_of_slots a (live_slots t (with_slot bytes_eq i None ss)) ≡ with_change k (Frees (a + i)) (book_of_slots a (live_slots t ss)) =
     λ j. record {
-      bindings = leases_without t k i None ss are.distinct own (λ q. refl) bound_to bound_sort a j;
-      offers = leases_same t k i None ss are.distinct own (λ q. refl) offered_to offered_sort a (offered_test t k s ∙ not_offered t k s p.1) j;
-      bars = bars_same t k i None ss are.distinct own (λ q. refl) a refl j;
+      bindings = leases_without key4_is_key t k i None ss are.distinct own (λ q. refl) bound_to (bound_sort key4_is_key) a j;
+      offers = leases_same key4_is_key t k i None ss are.distinct own (λ q. refl) offered_to (offered_sort key4_is_key) a (offered_test key4_is_key t k s ∙ not_offered t k s p.1) j;
+      bars = bars_same key4_is_key t k i None ss are.distinct own (λ q. refl) a refl j;
     } in
-    shown a t (with_slot i None ss) (are_with_slot v.pool i None ss are).distinct ∙ middle ∙ ap (with_change k (Frees (a + i))) (sym (shown a t ss are.distinct))
+    shown a t (with_slot bytes_eq i None ss) (are_with_slot v.pool i None ss are).distinct ∙ middle ∙ ap (with_change k (Frees (a + i))) (sym (shown a t ss are.distinct))
 
-withdrawn_book : (v : PoolSlots) (t : ℕ) (k : List ℕ) (i : ℕ) → AreSlots v.pool v.slots → position (is_offered_to t k) v.slots ≡ Some i
-    → book_of t (record v { slots = with_slot i None v.slots }) ≡ with_change k (Withdraws (number4 v.pool.first + i)) (book_of t v)
+withdrawn_book : (v : PoolSlots) (t : ℕ) (k : List ℕ) (i : ℕ) → AreSlots v.pool v.slots → position (is_offered_to bytes_eq t k) v.slots ≡ Some i
+    → book_of t (record v { slots = with_slot bytes_eq i None v.slots }) ≡ with_change k (Withdraws (number4 v.pool.first + i)) (book_of t v)
 withdrawn_book v t k i are found =
     let a = number4 v.pool.first in
     let ss = v.slots in
     let s = get_or ss i None in
-    let p = offered_own t k ss i found in
-    let own = offered_clients t k s p.1 in
-    let middle : book_of_slots a (live_slots t (with_slot i None ss)) ≡ with_change k (Withdraws (a + i)) (book_of_slots a (live_slots t ss)) =
+    let p = offered_own key4_is_key t k ss i found in
+    let own = offered_clients key4_is_key t k s p.1 in
+    let middle : book_of_slots a (live_slots t (with_slot bytes_eq i None ss)) ≡ with_change k (Withdraws (a + i)) (book_of_slots a (live_slots t ss)) =
     λ j. record {
-      bindings = leases_same t k i None ss are.distinct own (λ q. refl) bound_to bound_sort a (bound_test t k s ∙ not_bound t k s p.1) j;
-      offers = leases_without t k i None ss are.distinct own (λ q. refl) offered_to offered_sort a j;
-      bars = bars_same t k i None ss are.distinct own (λ q. refl) a refl j;
+      bindings = leases_same key4_is_key t k i None ss are.distinct own (λ q. refl) bound_to (bound_sort key4_is_key) a (bound_test key4_is_key t k s ∙ not_bound t k s p.1) j;
+      offers = leases_without key4_is_key t k i None ss are.distinct own (λ q. refl) offered_to (offered_sort key4_is_key) a j;
+      bars = bars_same key4_is_key t k i None ss are.distinct own (λ q. refl) a refl j;
     } in
-    shown a t (with_slot i None ss) (are_with_slot v.pool i None ss are).distinct ∙ middle ∙ ap (with_change k (Withdraws (a + i))) (sym (shown a t ss are.distinct))
+    shown a t (with_slot bytes_eq i None ss) (are_with_slot v.pool i None ss are).distinct ∙ middle ∙ ap (with_change k (Withdraws (a + i))) (sym (shown a t ss are.distinct))
 
 -- ---- the rows
 
@@ -222,52 +182,62 @@ module _ (v : PoolSlots) (t : ℕ) (k : List ℕ) (are : AreSlots v.pool v.slots
   a = number4 v.pool.first
 
   abbrev bound : Option ℕ
-  bound = position (is_bound_to t k) v.slots
+  bound = position (is_bound_to bytes_eq t k) v.slots
 
   abbrev offered : Option ℕ
-  offered = position (is_offered_to t k) v.slots
+  offered = position (is_offered_to bytes_eq t k) v.slots
 
   abbrev IsRow : Row → Type 0
   IsRow row = book_of t (with_decision (decision_of a t k row) v) ≡ with_change k row.change (book_of t v)
 
-  discovered : (wanted picked bound_slot : Option ℕ) → picked_slot t a v.slots k wanted ≡ picked → bound ≡ bound_slot → IsRow (discover_row t (from a picked) (from a bound_slot))
+  -- whom the client's slot is
+  held_fits : (i : ℕ) → or_else bound offered ≡ Some i → Fit key4_is_key t k v.slots i
+  held_fits i e = by bound refl e where
+    by : (o : Option ℕ) → bound ≡ o → or_else o offered ≡ Some i → Fit key4_is_key t k v.slots i
+    by None is e = fit_offered key4_is_key t k v.slots i e
+    by (Some j) is e = fit_bound key4_is_key t k v.slots i (is ∙ e)
+
+  fit_pick : (wanted : Option ℕ) (i : ℕ) → picked t v.pool v.slots k wanted ≡ Some i → Fit key4_is_key t k v.slots i
+  fit_pick wanted i e = fit_picked key4_is_key t a k v.slots (or_else bound offered) wanted i held_fits (ap (λ n. picked_slot t v.slots (or_else bound offered) (slot_in a n wanted)) are.size ∙ e)
+
+  discovered : (wanted found bound_slot : Option ℕ) → picked t v.pool v.slots k wanted ≡ found → bound ≡ bound_slot → IsRow (discover_row t (from a found) (from a bound_slot))
   discovered wanted None bound_slot is_picked is_bound = refl
   discovered wanted (Some i) (Some j) is_picked is_bound = refl
   discovered wanted (Some i) None is_picked is_bound =
-      ap (λ n. book_of t (record v { slots = with_slot n (Some (Offered k (t + 60))) v.slots })) (slot_there a i)
-      ∙ offered_book v t k (t + 60) i are (fit_pick t a k v.slots wanted i is_bound is_picked) is_bound (lasting t 60 (omega arith))
+      ap (λ n. book_of t (record v { slots = with_slot bytes_eq n (Some (Offered k (t + 60))) v.slots })) (slot_there a i)
+      ∙ offered_book v t k (t + 60) i are (fit_pick wanted i is_picked) is_bound (lasting t 60 (omega arith))
 
-  granted : (address i : ℕ) → address ≡ a + i → Fit t k v.slots i → IsRow (grants address (t + v.pool.lease))
+  granted : (address i : ℕ) → address ≡ a + i → Fit key4_is_key t k v.slots i → IsRow (grants address (t + v.pool.lease))
   granted address i e fit =
       let term : 0 < v.pool.lease = omega (arith, are.limits.shortest) in
       subst (λ x. IsRow (grants x (t + v.pool.lease))) (sym e)
-      (ap (λ n. book_of t (record v { slots = with_slot n (Some (Bound k (t + v.pool.lease))) v.slots })) (slot_there a i)
+      (ap (λ n. book_of t (record v { slots = with_slot bytes_eq n (Some (Bound k (t + v.pool.lease))) v.slots })) (slot_there a i)
       ∙ bound_book v t k (t + v.pool.lease) i are fit (lasting t v.pool.lease term))
 
   withdrawn : (found : Option ℕ) → offered ≡ found → IsRow (other_server_row (from a found))
   withdrawn None is = refl
   withdrawn (Some i) is =
-      ap (λ n. book_of t (record v { slots = with_slot n None v.slots })) (slot_there a i) ∙ withdrawn_book v t k i are is
+      ap (λ n. book_of t (record v { slots = with_slot bytes_eq n None v.slots })) (slot_there a i) ∙ withdrawn_book v t k i are is
 
   -- an address that is the client's binding or offer
-  selected : (wanted held : Option ℕ) → ((address : ℕ) → held ≡ Some address → (i : ℕ) × (address ≡ a + i) × Fit t k v.slots i) → IsRow (selecting_row (t + v.pool.lease) wanted held)
+  selected : (wanted held : Option ℕ) → ((address : ℕ) → held ≡ Some address → (i : ℕ) × (address ≡ a + i) × Fit key4_is_key t k v.slots i) → IsRow (selecting_row (t + v.pool.lease) wanted held)
   selected None held is = refl
   selected (Some wanted) None is = refl
   selected (Some wanted) (Some address) is = let p = is address refl in granted address p.0 p.1 p.2
 
   held_is : (wanted : Option ℕ) (address : ℕ) → or_else (where_is (from a bound) wanted) (where_is (from a offered) wanted) ≡ Some address
-      → (i : ℕ) × (address ≡ a + i) × Fit t k v.slots i
+      → (i : ℕ) × (address ≡ a + i) × Fit key4_is_key t k v.slots i
   held_is wanted address e = by (where_is (from a bound) wanted) refl e where
-    by : (o : Option ℕ) → where_is (from a bound) wanted ≡ o → or_else o (where_is (from a offered) wanted) ≡ Some address → (i : ℕ) × (address ≡ a + i) × Fit t k v.slots i
-    by None is e = let p = named_is a offered wanted address e in (p.0, p.1, fit_offered t k v.slots p.0 p.2)
-    by (Some x) is e = let p = named_is a bound wanted address (is ∙ e) in (p.0, p.1, fit_bound t k v.slots p.0 p.2)
+    by : (o : Option ℕ) → where_is (from a bound) wanted ≡ o → or_else o (where_is (from a offered) wanted) ≡ Some address → (i : ℕ) × (address ≡ a + i) × Fit key4_is_key t k v.slots i
+    by None is e = let p = named_is a offered wanted address e in (p.0, p.1, fit_offered key4_is_key t k v.slots p.0 p.2)
+    by (Some x) is e = let p = named_is a bound wanted address (is ∙ e) in (p.0, p.1, fit_bound key4_is_key t k v.slots p.0 p.2)
 
   verified : (inside : Bool) (found : Option ℕ) (address : ℕ) → bound ≡ found → IsRow (known_address_row (t + v.pool.lease) inside (from a found) address)
   verified false found address is = refl
   verified true None address is = refl
   verified true (Some i) address is = by (a + i == address) where
     by : (b : Bool) → IsRow (cond b (grants (a + i) (t + v.pool.lease)) (replies reply.Nak Unchanged))
-    by true = granted (a + i) i refl (fit_bound t k v.slots i is)
+    by true = granted (a + i) i refl (fit_bound key4_is_key t k v.slots i is)
     by false = refl
 
   requested : (wanted ciaddr : Option ℕ) → IsRow (no_server_row v.pool (t + v.pool.lease) (from a bound) wanted ciaddr)
@@ -281,7 +251,7 @@ module _ (v : PoolSlots) (t : ℕ) (k : List ℕ) (are : AreSlots v.pool v.slots
   declined (Some address) is =
       let p = is address refl in
       subst (λ x. IsRow (decline_row t (Some x))) (sym p.1)
-      (ap (λ n. book_of t (record v { slots = with_slot n (Some (Barred (t + 3600))) v.slots })) (slot_there a p.0)
+      (ap (λ n. book_of t (record v { slots = with_slot bytes_eq n (Some (Barred (t + 3600))) v.slots })) (slot_there a p.0)
       ∙ barred_book v t k (t + 3600) p.0 are p.2 (lasting t 3600 (omega arith)))
 
   released : (o : Option ℕ) → IsOf a bound o → IsRow (release_row o)
@@ -289,7 +259,7 @@ module _ (v : PoolSlots) (t : ℕ) (k : List ℕ) (are : AreSlots v.pool v.slots
   released (Some address) is =
       let p = is address refl in
       subst (λ x. IsRow (release_row (Some x))) (sym p.1)
-      (ap (λ n. book_of t (record v { slots = with_slot n None v.slots })) (slot_there a p.0) ∙ freed_book v t k p.0 are p.2)
+      (ap (λ n. book_of t (record v { slots = with_slot bytes_eq n None v.slots })) (slot_there a p.0) ∙ freed_book v t k p.0 are p.2)
 
   informed : (ciaddr : Option ℕ) → IsRow (inform_row ciaddr)
   informed None = refl
@@ -297,10 +267,10 @@ module _ (v : PoolSlots) (t : ℕ) (k : List ℕ) (are : AreSlots v.pool v.slots
 
   -- what is looked up, by slots
   abbrev by_slots : Option ℕ → Lookup
-  by_slots wanted = record { binding = from a bound; offer = from a offered; pick = from a (picked_slot t a v.slots k wanted) }
+  by_slots wanted = record { binding = from a bound; offer = from a offered; pick = from a (picked t v.pool v.slots k wanted) }
 
   row_is : (m : Request4) (kind : Kind4) (server : Server4) → IsRow (row_of v.pool t (by_slots (option_map number4 m.wanted)) m kind server)
-  row_is m Discover server = discovered (option_map number4 m.wanted) (picked_slot t a v.slots k (option_map number4 m.wanted)) bound refl refl
+  row_is m Discover server = discovered (option_map number4 m.wanted) (picked t v.pool v.slots k (option_map number4 m.wanted)) bound refl refl
   row_is m Request Another = withdrawn offered refl
   row_is m Request This = let wanted = option_map number4 m.wanted in selected wanted _ (held_is wanted)
   row_is m Request Anybody = requested (option_map number4 m.wanted) (where_specified m.ciaddr)

@@ -1,6 +1,7 @@
 -- What makes maps a book at a clock, and what is true of every decision.
 use Rattle.std.specs.Prelude.{◌≡◌, ℕ, ◌+◌, ◌<◌, ◌⊎◌, true, false, List, Some, None, Ok, IfSome, option_map}
 use Rattle.std.specs.FinMap.{get, contains_key}
+use Rattle.slots.specs.Maps.{Lease, address_of}
 use Rattle.types.specs.Addr.{number4, addr4}
 use Rattle.types.specs.declared.addr.Addr4.{Addr4}
 use Rattle.types.specs.declared.kind4.Kind4.TheVariants.{Request, Decline, Release}
@@ -8,7 +9,7 @@ use Rattle.types.specs.Pool4.{PoolValue}
 use Rattle.types.specs.declared.request4.Reply4.TheVariants as reply
 use Rattle.types.specs.declared.request4.Request4.{Request4}
 use Rattle.bindings_v4.specs.declared.server4.Server4.TheVariants.{Anybody}
-use Rattle.bindings_v4.specs.Book4.{Lease, Book4, address_of, in_pool}
+use Rattle.bindings_v4.specs.Book4.{Book4, in_pool}
 use Rattle.bindings_v4.specs.Table4.{where_specified, server_of, answer4}
 
 -- What an entry of a book is: a client's binding, a client's offer, or a bar.

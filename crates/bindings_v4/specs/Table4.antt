@@ -2,6 +2,7 @@
 -- a line, over what was looked up. The first row that fits decides. All times are in seconds.
 use Rattle.std.specs.Prelude.{ℕ, ◌+◌, Bool, true, false, ◌==◌, List, Option, Some, None, Result, Ok, Err, option_map, if◌then◌else◌}
 use Rattle.std.specs.FinMap.{get, insert, remove}
+use Rattle.slots.specs.Maps.{address_of, or_else}
 use Rattle.types.specs.Addr.{number4, addr4, is_unspecified}
 use Rattle.types.specs.declared.addr.Addr4.{Addr4}
 use Rattle.types.specs.declared.discard.Discard.{Discard}
@@ -14,7 +15,7 @@ use Rattle.types.specs.declared.request4.Reply4.TheVariants as reply
 use Rattle.types.specs.declared.request4.Request4.{Request4}
 use Rattle.bindings_v4.specs.declared.server4.Server4.{Server4}
 use Rattle.bindings_v4.specs.declared.server4.Server4.TheVariants.{Anybody, This, Another}
-use Rattle.bindings_v4.specs.Book4.{Book4, address_of, in_pool, or_else, pick}
+use Rattle.bindings_v4.specs.Book4.{Book4, in_pool, pick}
 
 -- What a row changes of the client's.
 pub data Change : Type 0 where

@@ -1,31 +1,31 @@
 //! The book of one circuit's DHCPv4 leases.
 ghost use Rattle.std.specs.Prelude.{◌≡◌, ◌+◌, ◌<◌, ◌≤◌, ℕ, true, is_some, option_map, map, slice_index_or, IfSome, All};
+ghost use Rattle.slots.specs.Kept.{AreWithin};
+ghost use Rattle.slots.specs.Lookup.{slot_in};
 ghost use Rattle.types.specs.Addr.{number4};
 ghost use Rattle.types.specs.Slots.{IsWithin4, live4, none_twice, same_client4};
 ghost use Rattle.types.specs.declared.slot4.Slot4.TheVariants.{Free};
 ghost use Rattle.bindings_v4.specs.Decision4.{decision_of};
-ghost use Rattle.bindings_v4.specs.Kept4.{AreWithin, EndsBy, book4_in, kept_book, kept_slots};
+ghost use Rattle.bindings_v4.specs.Kept4.{EndsBy, book4_in, kept_book, kept_slots};
 ghost use Rattle.bindings_v4.specs.Lookup4.{IsAt, IsLookup, lookup_of};
 ghost use Rattle.bindings_v4.specs.Slots4.{AreSlots, book_of, with_decision};
 ghost use Rattle.bindings_v4.specs.Table4.{answer4, lookup_in, row4};
 
 use crate::case4::{Case4, SlotAddress};
 use crate::decision4::Decision4;
-use crate::holder4::Holder4;
 use crate::kept::{kept_slots, live_holders};
-use crate::lookup::{bound_slot, offered_slot, picked_slot};
 use crate::table4::{Lookup4, decision_for};
 use crate::write::{write_kept, write_offer};
-use arrayvec::ArrayVec;
+use slots::{Holder, SlotTable, bound_slot, offered_slot, picked_slot};
 use std::marker::Model;
-use types::{MAX_POOL, Moment, Pool4, Request4, Slots};
+use types::{Addr4, Key4, Moment, Pool4, Request4, Slots};
 
 /// The leases of one circuit's pool, by slot. It has no clock: what has expired counts no longer, and
 /// stays until its slot or its client gets something new.
 #[derive(Drop)]
 pub struct Book4 {
     pool: Pool4,
-    slots: ArrayVec<Option<Holder4>, MAX_POOL>,
+    slots: SlotTable<Key4>,
 }
 
 impl Model for Book4 {
@@ -35,9 +35,9 @@ impl Model for Book4 {
 
     ghost use Rattle.bindings_v4.specs.Slots4.{AreSlots};
 
-    ghost view = { λ b. record { pool = b.pool; slots = b.slots.items } };
+    ghost view = { λ b. record { pool = b.pool; slots = b.slots } };
 
-    ghost invariant = { λ b. AreSlots b.pool b.slots.items };
+    ghost invariant = { λ b. AreSlots b.pool b.slots };
 }
 
 impl Book4 {
@@ -49,9 +49,10 @@ impl Book4 {
         ensures book { book_of slots.now.clock result ≡ book4_in pool slots.now }
         ensures within { All IsWithin4 slots.now.four → AreWithin result.slots }
     {
+        let holders = live_holders(&slots.four, pool.count(), slots.clock.seconds());
         Book4 {
             pool,
-            slots: live_holders(&slots.four, pool.count(), slots.clock.seconds()),
+            slots: SlotTable::of(holders),
         }
     }
 
@@ -94,9 +95,8 @@ impl Book4 {
         ensures pool { self.new.pool ≡ self.old.pool }
         ensures within { AreWithin self.old.slots → IfSome decision.now.keep (λ kept. IsWithin4 kept.content) → AreWithin self.new.slots }
     {
-        let slots = self.slots.as_mut_slice();
-        write_offer(slots, decision.offer);
-        write_kept(slots, decision.keep);
+        write_offer(&mut self.slots, decision.offer);
+        write_kept(&mut self.slots, decision.keep);
     }
 
     /// What the table looks at of this client.
@@ -106,11 +106,23 @@ impl Book4 {
         ensures slots { AreSlots self.now.pool self.now.slots }
     {
         let (slots, key, seconds) = (self.slots(), &request.key, clock.seconds());
+        let bound = bound_slot(slots, key, seconds);
+        let offered = offered_slot(slots, key, seconds);
+        let wanted = self.slot_of(request.wanted);
+        let picked = picked_slot(slots, bound.or(offered), wanted, seconds);
         Lookup4 {
-            binding: self.located(bound_slot(slots, key, seconds)),
-            offer: self.located(offered_slot(slots, key, seconds)),
-            pick: self.located(picked_slot(self.pool(), slots, key, request.wanted, seconds)),
+            binding: self.located(bound),
+            offer: self.located(offered),
+            pick: self.located(picked),
         }
+    }
+
+    /// The slot of the address that a client asks for.
+    fn slot_of(&self, wanted: Option<Addr4>) -> Option<usize>
+        ensures slot { result ≡ slot_in (number4 self.now.pool.first) self.now.pool.count (option_map number4 wanted) }
+        ensures below { IfSome result (λ slot. slot < self.now.pool.count) }
+    {
+        self.pool.slot(wanted?)
     }
 
     /// A slot of the pool with its address.
@@ -132,10 +144,10 @@ impl Book4 {
     }
 
     /// What each slot of the pool holds; no client has two.
-    pub(crate) fn slots(&self) -> &[Option<Holder4>]
+    pub(crate) fn slots(&self) -> &[Option<Holder<Key4>>]
         ensures value { result.now ≡ self.now.slots }
         ensures within { AreSlots self.now.pool self.now.slots }
     {
-        self.slots.as_slice()
+        self.slots.slots()
     }
 }

@@ -1,13 +1,14 @@
 //! What holds of every book and every decision: functions that do nothing, for their contracts.
 ghost use Rattle.std.specs.Prelude.{◌≡◌, ◌<◌, ◌≤◌, ℕ, true, length, map, All, List, Some, Ok};
 ghost use Rattle.std.specs.FinMap.{get};
+ghost use Rattle.slots.specs.Maps.{Lease};
 ghost use Rattle.types.specs.Pool4.{IsPool4, PoolValue};
 ghost use Rattle.types.specs.declared.addr.Addr4.{Addr4};
 ghost use Rattle.types.specs.declared.request4.Reply4.TheVariants as reply;
 ghost use Rattle.types.specs.declared.request4.Request4.{Request4};
 ghost use Rattle.types.specs.Slots.{live4, none_twice, same_client4};
 ghost use Rattle.types.specs.declared.slots.Slots.{Slots};
-ghost use Rattle.bindings_v4.specs.Book4.{Lease, book4_at, empty_book};
+ghost use Rattle.bindings_v4.specs.Book4.{book4_at, empty_book};
 ghost use Rattle.bindings_v4.specs.Book4 as maps;
 ghost use Rattle.bindings_v4.specs.IsBook4.{IsBook4, LeavesABook, KeepsOthers, ChangesOffersAlone, GrantsItsOwn, RenewsInTime, KeepsItsLease};
 ghost use Rattle.bindings_v4.specs.Kept4.{book4_in, kept_book};

@@ -6,10 +6,8 @@
 mod book4;
 mod case4;
 mod decision4;
-mod holder4;
 mod kept;
 mod laws;
-mod lookup;
 mod server4;
 mod table4;
 mod write;

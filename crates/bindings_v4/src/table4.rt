@@ -1,7 +1,7 @@
 //! What a client's message calls for: a table, one row a line (RFC 2131, section 4.3).
 ghost use Rattle.std.specs.Prelude.{◌≡◌, ◌+◌, Some, IfSome, option_map};
 ghost use Rattle.types.specs.Addr.{number4};
-ghost use Rattle.bindings_v4.specs.Book4.{in_pool, or_else};
+ghost use Rattle.bindings_v4.specs.Book4.{in_pool};
 ghost use Rattle.bindings_v4.specs.Lookup4.{IsAt, IsLookup, decision_in, lookup_of, number_of};
 ghost use Rattle.bindings_v4.specs.Table4.{discover_row, other_server_row, selecting_row, known_address_row, no_server_row, decline_row, release_row, inform_row, where_is, where_specified, server_of, row_of};
 

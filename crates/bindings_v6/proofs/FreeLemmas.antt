@@ -8,7 +8,7 @@ use Rattle.slots.specs.declared.holder.Holder.{Holder}
 use Rattle.slots.specs.declared.holder.Holder.TheVariants.{Bound, Offered, Barred}
 use Rattle.slots.specs.Key.{key6_cmp}
 use Rattle.slots.specs.KeyLaws.{key6_is_key}
-use Rattle.slots.specs.Lookup.{live, is_vacant, is_bound_to}
+use Rattle.slots.specs.Lookup.{live, is_vacant, is_bound_to, slot_in, where_vacant, picked_slot}
 use Rattle.slots.specs.Maps.{is_live, names, in_range, address_of, or_else}
 use Rattle.slots.specs.Slots.{bound_to, offered_to, barred_until, leases, bars_of}
 use Rattle.slots.proofs.FreeLemmas.{from, from_or, inside, IsFreeBySlots, lowest_is, vacant_is, binding_is, names_at}
@@ -17,9 +17,12 @@ use Rattle.types.specs.Addr.{number6}
 use Rattle.types.specs.Key6.{Key6Value, same_key6}
 use Rattle.types.specs.Pool6.{Pool6Value}
 use Rattle.bindings_v6.specs.Book6.{Book6, is_free, lowest_free, where_free, pick}
-use Rattle.bindings_v6.specs.Lookup6.{wanted_slot, picked_slot}
 use Rattle.bindings_v6.specs.Slots6.{Holders6, PoolSlots, book_of_slots, book_of, AreSlots}
 use Rattle.bindings_v6.proofs.ShownLemmas.{shown}
+
+-- the slot for a client
+abbrev pub picked : ℕ → Pool6Value → Holders6 → Key6Value → Option ℕ → Option ℕ
+picked t pool ss k wanted = picked_slot t ss (position (is_bound_to same_key6 t k) ss) (slot_in (number6 pool.first) pool.count wanted)
 
 -- ---- free addresses
 
@@ -68,25 +71,26 @@ module _ (pool : Pool6Value) (t : ℕ) (ss : Holders6) (are : AreSlots pool ss) 
 
   -- ---- the pick
 
-  wanted_is : (wanted : Option ℕ) → where_free pool b wanted ≡ from a (wanted_slot t a ss wanted)
+  wanted_is : (wanted : Option ℕ) → where_free pool b wanted ≡ from a (where_vacant t ss (slot_in a (length ss) wanted))
   wanted_is None = refl
   wanted_is (Some x) = vacant_is t a x ss (is_free pool b) by_slots
 
-  pick_of_live : (k : Key6Value) (wanted : Option ℕ) → pick pool b k wanted ≡ from a (picked_slot t a ss k wanted)
+  pick_of_live : (k : Key6Value) (wanted : Option ℕ) → pick pool b k wanted ≡ from a (picked t pool ss k wanted)
   pick_of_live k wanted =
       let bound = position (is_bound_to same_key6 t k) ss in
-      let wish = wanted_slot t a ss wanted in
+      let wish = where_vacant t ss (slot_in a (length ss) wanted) in
       let vacant = position (is_vacant t) ss in
       ap (λ o. or_else o (or_else (where_free pool b wanted) (lowest_free pool b))) (binding_is key6_is_key t k a ss)
       ∙ ap (λ o. or_else (from a bound) (or_else o (lowest_free pool b))) (wanted_is wanted)
       ∙ ap (λ o. or_else (from a bound) (or_else (from a wish) o)) lowest
       ∙ ap (or_else (from a bound)) (sym (from_or a wish vacant))
       ∙ sym (from_or a bound (or_else wish vacant))
+      ∙ ap (λ n. from a (picked_slot t ss bound (slot_in a n wanted))) are.size
 
 -- ---- of a book at a clock
 
 pub pick_is : (v : PoolSlots) (t : ℕ) (k : Key6Value) (wanted : Option ℕ) → AreSlots v.pool v.slots
-    → pick v.pool (book_of t v) k wanted ≡ from (number6 v.pool.first) (picked_slot t (number6 v.pool.first) v.slots k wanted)
+    → pick v.pool (book_of t v) k wanted ≡ from (number6 v.pool.first) (picked t v.pool v.slots k wanted)
 pick_is v t k wanted are =
     ap (λ b. pick v.pool b k wanted) (shown (number6 v.pool.first) t v.slots are.distinct) ∙ pick_of_live v.pool t v.slots are k wanted
 
@@ -103,7 +107,6 @@ bound_found v t k are ss now o same clock e =
     ap (from (number6 v.pool.first)) (e ∙ ap (λ n. position (is_bound_to same_key6 n k) ss) clock ∙ ap (position (is_bound_to same_key6 t k)) same) ∙ sym (bound_is v t k are)
 
 pub pick_found : (v : PoolSlots) (t : ℕ) (k : Key6Value) (wanted : Option ℕ) → AreSlots v.pool v.slots → (ss : Holders6) (now : ℕ) (o : Option ℕ) → ss ≡ v.slots → now ≡ t
-    → o ≡ picked_slot now (number6 v.pool.first) ss k wanted → from (number6 v.pool.first) o ≡ pick v.pool (book_of t v) k wanted
+    → o ≡ picked now v.pool ss k wanted → from (number6 v.pool.first) o ≡ pick v.pool (book_of t v) k wanted
 pick_found v t k wanted are ss now o same clock e =
-    let a = number6 v.pool.first in
-    ap (from a) (e ∙ ap (λ n. picked_slot n a ss k wanted) clock ∙ ap (λ xs. picked_slot t a xs k wanted) same) ∙ sym (pick_is v t k wanted are)
+    ap (from (number6 v.pool.first)) (e ∙ ap (λ n. picked n v.pool ss k wanted) clock ∙ ap (λ xs. picked t v.pool xs k wanted) same) ∙ sym (pick_is v t k wanted are)

@@ -1,19 +1,18 @@
 -- A row of the table is what its decision makes of the slots.
-use Rattle.std.proofs.Common.{◌≡◌, ℕ, zero, suc, ◌+◌, ◌-◌, ◌<◌, Bool, true, false, not, cond, List, [], ◌∷◌, length, set, get_or, refl, sym, ap, subst, ◌∙◌, arith}
-use borrow.Author.Tests.{ltb-true}
-use Rattle.std.specs.Prelude.{Option, Some, None, nat_lt, is_some}
+use Rattle.std.proofs.Common.{◌≡◌, ℕ, zero, suc, ◌+◌, ◌-◌, ◌<◌, Bool, true, false, cond, List, [], ◌∷◌, set, get_or, refl, sym, ap, subst, ◌∙◌, arith}
+use Rattle.std.specs.Prelude.{Option, Some, None, is_some}
 use Rattle.std.specs.List.{position}
 use Rattle.std.proofs.lemmas.Bool.Decides.{nat_tests}
-use Rattle.std.proofs.lemmas.List.Quantifiers.{position-Some}
 use Rattle.slots.specs.declared.holder.Holder.{Holder}
 use Rattle.slots.specs.declared.holder.Holder.TheVariants.{Bound, Offered, Barred}
 use Rattle.slots.specs.KeyLaws.{key6_is_key}
-use Rattle.slots.specs.Lookup.{until_of, live, is_vacant, is_bound_to}
-use Rattle.slots.specs.Maps.{is_live, or_else}
+use Rattle.slots.specs.Lookup.{live, is_bound_to, slot_in, picked_slot}
+use Rattle.slots.specs.Maps.{is_live}
 use Rattle.slots.specs.Slots.{bound_to, offered_to, barred_until, is_clients, with_vacancy, with_slot}
-use Rattle.slots.proofs.FreeLemmas.{from, bound_test}
+use Rattle.slots.proofs.FitLemmas.{Fit, bound_own, bound_clients, fit_bound, fit_picked}
+use Rattle.slots.proofs.FreeLemmas.{from}
 use Rattle.slots.proofs.ShownLemmas.{live_slots, bound_sort}
-use Rattle.slots.proofs.WriteLemmas.{one_client, clients_no_bar, distinct_slot, length_slot, IsOpen, leases_with, leases_without, bars_kept, bars_same, bars_with}
+use Rattle.slots.proofs.WriteLemmas.{distinct_slot, length_slot, leases_with, leases_without, bars_kept, bars_same, bars_with}
 use Rattle.types.specs.Addr.{number6}
 use Rattle.types.specs.Key6.{Key6Value, same_key6}
 use Rattle.types.specs.Pool6.{Pool6Value}
@@ -23,11 +22,10 @@ use Rattle.types.specs.declared.kind6.Kind6.{Kind6}
 use Rattle.types.specs.declared.kind6.Kind6.TheVariants.{Solicit, Request, Confirm, Renew, Rebind, Release, Decline}
 use Rattle.types.specs.declared.request6.Request6.{Request6}
 use Rattle.bindings_v6.specs.declared.decision6.Decision6.{Decision6}
-use Rattle.bindings_v6.specs.Lookup6.{wanted_slot, picked_slot}
 use Rattle.bindings_v6.specs.Decision6.{keep_of, decision_of}
 use Rattle.bindings_v6.specs.Slots6.{Holders6, PoolSlots, book_of_slots, book_of, HaveNoOffers, AreSlots, with_decision}
 use Rattle.bindings_v6.specs.Table6.{Change, Unchanged, Binds, Bars, Frees, with_change, is_kept, Row, drops, grants, solicit_row, request_row, renew_row, confirm_row, release_row, decline_row, first_listed, where_listed, is_off_link, others, Lookup, lookup_in, row_of, is_for_us, answer6}
-use Rattle.bindings_v6.proofs.FreeLemmas.{pick_is, bound_is}
+use Rattle.bindings_v6.proofs.FreeLemmas.{picked, pick_is, bound_is}
 use Rattle.bindings_v6.proofs.ShownLemmas.{shown}
 
 -- ---- what is written is a pool's slots still
@@ -59,67 +57,9 @@ are_with_slot pool i new ss e are =
       no_offers = none_written i new ss are.no_offers e;
     }
 
--- ---- where a pick lies
-
--- the slot is no other client's, and not barred
-record Fit (t : ℕ) (k : Key6Value) (ss : Holders6) (i : ℕ) : Type 0 where
-  below : i < length ss
-  mine : IsOpen key6_is_key t k (get_or ss i None)
-  unbarred : barred_until (live t (get_or ss i None)) ≡ None
-
-vacant_live : (t : ℕ) (s : Option (Holder Key6Value)) → is_vacant t s ≡ true → live t s ≡ None
-vacant_live t None e = refl
-vacant_live t (Some h) e = by (is_live t (until_of h)) e where
-  by : (b : Bool) → not b ≡ true → cond b (Some h) None ≡ None
-  by true e = absurd cc
-  by false e = refl
-
-fit_vacant : (t : ℕ) (k : Key6Value) (ss : Holders6) (i : ℕ) → i < length ss → is_vacant t (get_or ss i None) ≡ true → Fit t k ss i
-fit_vacant t k ss i below vacant =
-    let e = vacant_live t (get_or ss i None) vacant in record { below = below; mine = λ q apart. ap (is_clients same_key6 q) e; unbarred = ap barred_until e }
-
-fit_own : (t : ℕ) (k : Key6Value) (ss : Holders6) (i : ℕ) → i < length ss → is_clients same_key6 k (live t (get_or ss i None)) ≡ true → Fit t k ss i
-fit_own t k ss i below own =
-    let s = live t (get_or ss i None) in
-    record { below = below; mine = λ q apart. one_client key6_is_key q k s own apart; unbarred = clients_no_bar key6_is_key k s own }
-
-fit_first : (t : ℕ) (k : Key6Value) (ss : Holders6) (i : ℕ) → position (is_vacant t) ss ≡ Some i → Fit t k ss i
-fit_first t k ss i e = let p = position-Some (is_vacant t) ss i None e in fit_vacant t k ss i p.0 p.1
-
-fit_at : (t a x : ℕ) (k : Key6Value) (ss : Holders6) (i : ℕ) → (below short free : Bool) → nat_lt (x - a) (length ss) ≡ short → is_vacant t (get_or ss (x - a) None) ≡ free
-    → cond below None (cond short (cond free (Some (x - a)) None) None) ≡ Some i → Fit t k ss i
-fit_at t a x k ss i true short free is_short is_free e = absurd cc
-fit_at t a x k ss i false true true is_short is_free e =
-    let same : x - a ≡ i = cc in subst (λ j. Fit t k ss j) same (fit_vacant t k ss (x - a) (ltb-true (x - a) (length ss) is_short) is_free)
-fit_at t a x k ss i false true false is_short is_free e = absurd cc
-fit_at t a x k ss i false false free is_short is_free e = absurd cc
-
-fit_wanted : (t a : ℕ) (k : Key6Value) (ss : Holders6) (wanted : Option ℕ) (i : ℕ) → wanted_slot t a ss wanted ≡ Some i → Fit t k ss i
-fit_wanted t a k ss None i e = absurd cc
-fit_wanted t a k ss (Some x) i e = fit_at t a x k ss i (nat_lt x a) (nat_lt (x - a) (length ss)) (is_vacant t (get_or ss (x - a) None)) refl refl e
-
-bound_own : (t : ℕ) (k : Key6Value) (ss : Holders6) (i : ℕ) → position (is_bound_to same_key6 t k) ss ≡ Some i → (i < length ss) × (is_bound_to same_key6 t k (get_or ss i None) ≡ true)
-bound_own t k ss i e = let p = position-Some (is_bound_to same_key6 t k) ss i None e in (p.0, p.1)
-
-bound_clients : (t : ℕ) (k : Key6Value) (s : Option (Holder Key6Value)) → is_bound_to same_key6 t k s ≡ true → is_clients same_key6 k (live t s) ≡ true
-bound_clients t k s e = (bound_sort key6_is_key).own k (live t s) (bound_test key6_is_key t k s ∙ e)
-
-fit_bound : (t : ℕ) (k : Key6Value) (ss : Holders6) (i : ℕ) → position (is_bound_to same_key6 t k) ss ≡ Some i → Fit t k ss i
-fit_bound t k ss i e = let p = bound_own t k ss i e in fit_own t k ss i p.0 (bound_clients t k (get_or ss i None) p.1)
-
-fit_pick : (t a : ℕ) (k : Key6Value) (ss : Holders6) (wanted : Option ℕ) (i : ℕ) → picked_slot t a ss k wanted ≡ Some i → Fit t k ss i
-fit_pick t a k ss wanted i e = by_binding (position (is_bound_to same_key6 t k) ss) refl e where
-  by_wanted : (w : Option ℕ) → wanted_slot t a ss wanted ≡ w → or_else w (position (is_vacant t) ss) ≡ Some i → Fit t k ss i
-  by_wanted None is e = fit_first t k ss i e
-  by_wanted (Some j) is e = fit_wanted t a k ss wanted i (is ∙ e)
-
-  by_binding : (o : Option ℕ) → position (is_bound_to same_key6 t k) ss ≡ o → or_else o (or_else (wanted_slot t a ss wanted) (position (is_vacant t) ss)) ≡ Some i → Fit t k ss i
-  by_binding None is e = by_wanted (wanted_slot t a ss wanted) refl e
-  by_binding (Some j) is e = fit_bound t k ss i (is ∙ e)
-
 -- ---- a lease, a bar, a free slot
 
-bound_book : (v : PoolSlots) (t : ℕ) (k : Key6Value) (u i : ℕ) → AreSlots v.pool v.slots → Fit t k v.slots i → is_live t u ≡ true
+bound_book : (v : PoolSlots) (t : ℕ) (k : Key6Value) (u i : ℕ) → AreSlots v.pool v.slots → Fit key6_is_key t k v.slots i → is_live t u ≡ true
     → book_of t (record v { slots = with_slot same_key6 i (Some (Bound k u)) v.slots }) ≡ with_change k (Binds (number6 v.pool.first + i) u) (book_of t v)
 bound_book v t k u i are fit lasts =
     let a = number6 v.pool.first in
@@ -141,8 +81,8 @@ barred_book v t k u i are found lasts =
     let s = get_or ss i None in
     let new : Option (Holder Key6Value) = Some (Barred u) in
     let stays : live t new ≡ new = ap (λ b. cond b new None) lasts in
-    let p = bound_own t k ss i found in
-    let own = bound_clients t k s p.1 in
+    let p = bound_own key6_is_key t k ss i found in
+    let own = bound_clients key6_is_key t k s p.1 in
     let middle : book_of_slots a (live_slots t (with_slot same_key6 i new ss)) ≡ with_change k (Bars (a + i) u) (book_of_slots a (live_slots t ss)) =
     λ j. record {
       bindings = leases_without key6_is_key t k i new ss are.distinct own (λ q. refl) bound_to (bound_sort key6_is_key) a j;
@@ -156,8 +96,8 @@ freed_book v t k i are found =
     let a = number6 v.pool.first in
     let ss = v.slots in
     let s = get_or ss i None in
-    let p = bound_own t k ss i found in
-    let own = bound_clients t k s p.1 in
+    let p = bound_own key6_is_key t k ss i found in
+    let own = bound_clients key6_is_key t k s p.1 in
     let middle : book_of_slots a (live_slots t (with_slot same_key6 i None ss)) ≡ with_change k (Frees (a + i)) (book_of_slots a (live_slots t ss)) =
     λ j. record {
       bindings = leases_without key6_is_key t k i None ss are.distinct own (λ q. refl) bound_to (bound_sort key6_is_key) a j;
@@ -183,7 +123,10 @@ module _ (v : PoolSlots) (t : ℕ) (k : Key6Value) (are : AreSlots v.pool v.slot
   abbrev IsRow : Row → Type 0
   IsRow row = book_of t (with_decision (decision_of a t k row) v) ≡ with_change k row.change (book_of t v)
 
-  granted : (zeroed : List Addr6) (i : ℕ) → Fit t k v.slots i → IsRow (grants zeroed (a + i) (t + v.pool.lease))
+  fit_pick : (wanted : Option ℕ) (i : ℕ) → picked t v.pool v.slots k wanted ≡ Some i → Fit key6_is_key t k v.slots i
+  fit_pick wanted i e = fit_picked key6_is_key t a k v.slots bound wanted i (fit_bound key6_is_key t k v.slots) (ap (λ n. picked_slot t v.slots bound (slot_in a n wanted)) are.size ∙ e)
+
+  granted : (zeroed : List Addr6) (i : ℕ) → Fit key6_is_key t k v.slots i → IsRow (grants zeroed (a + i) (t + v.pool.lease))
   granted zeroed i fit =
       let term : 0 < v.pool.lease = omega (arith, are.limits.shortest) in
       ap (λ n. book_of t (record v { slots = with_slot same_key6 n (Some (Bound k (t + v.pool.lease))) v.slots })) (slot_there a i)
@@ -193,13 +136,13 @@ module _ (v : PoolSlots) (t : ℕ) (k : Key6Value) (are : AreSlots v.pool v.slot
   solicited (Some address) = refl
   solicited None = refl
 
-  requested : (off_link : Bool) (wanted picked : Option ℕ) → picked_slot t a v.slots k wanted ≡ picked → IsRow (request_row (t + v.pool.lease) off_link (from a picked))
-  requested true wanted picked is = refl
-  requested false wanted (Some i) is = granted [] i (fit_pick t a k v.slots wanted i is)
+  requested : (off_link : Bool) (wanted found : Option ℕ) → picked t v.pool v.slots k wanted ≡ found → IsRow (request_row (t + v.pool.lease) off_link (from a found))
+  requested true wanted found is = refl
+  requested false wanted (Some i) is = granted [] i (fit_pick wanted i is)
   requested false wanted None is = refl
 
   renewed : (listed : List Addr6) (found : Option ℕ) → bound ≡ found → IsRow (renew_row (t + v.pool.lease) listed (from a found))
-  renewed listed (Some i) is = granted (others (a + i) listed) i (fit_bound t k v.slots i is)
+  renewed listed (Some i) is = granted (others (a + i) listed) i (fit_bound key6_is_key t k v.slots i is)
   renewed listed None is = refl
 
   confirmed : (listed : List Addr6) (off_link : Bool) → IsRow (confirm_row listed off_link)
@@ -222,11 +165,11 @@ module _ (v : PoolSlots) (t : ℕ) (k : Key6Value) (are : AreSlots v.pool v.slot
 
   -- what is looked up, by slots
   abbrev by_slots : Option ℕ → Lookup
-  by_slots wanted = record { binding = from a bound; pick = from a (picked_slot t a v.slots k wanted) }
+  by_slots wanted = record { binding = from a bound; pick = from a (picked t v.pool v.slots k wanted) }
 
   row_is : (listed : List Addr6) (kind : Kind6) → IsRow (row_of v.pool t (by_slots (first_listed listed)) listed kind)
-  row_is listed Solicit = solicited (from a (picked_slot t a v.slots k (first_listed listed)))
-  row_is listed Request = requested (is_off_link v.pool listed) (first_listed listed) (picked_slot t a v.slots k (first_listed listed)) refl
+  row_is listed Solicit = solicited (from a (picked t v.pool v.slots k (first_listed listed)))
+  row_is listed Request = requested (is_off_link v.pool listed) (first_listed listed) (picked t v.pool v.slots k (first_listed listed)) refl
   row_is listed Renew = renewed listed bound refl
   row_is listed Rebind = renewed listed bound refl
   row_is listed Confirm = confirmed listed (is_off_link v.pool listed)

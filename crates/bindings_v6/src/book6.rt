@@ -1,6 +1,7 @@
 //! The book of one circuit's DHCPv6 leases.
 ghost use Rattle.std.specs.Prelude.{◌≡◌, ◌+◌, ◌<◌, ◌≤◌, ℕ, true, is_some, option_map, map, slice_index_or, IfSome, All};
 ghost use Rattle.slots.specs.Kept.{AreWithin};
+ghost use Rattle.slots.specs.Lookup.{slot_in};
 ghost use Rattle.types.specs.Addr.{number6};
 ghost use Rattle.types.specs.Slots.{IsWithin6, live6, none_twice, same_client6};
 ghost use Rattle.types.specs.declared.slots.Slot6.TheVariants.{Free};
@@ -13,9 +14,8 @@ ghost use Rattle.bindings_v6.specs.Table6.{answer6, lookup_in, row6};
 use crate::case6::{Case6, SlotAddress};
 use crate::decision6::Decision6;
 use crate::kept::{holder_of, kept_slots, live_holders};
-use crate::lookup::picked_slot;
 use crate::table6::{Lookup6, decision_for, first_listed};
-use slots::{Holder, SlotTable, bound_slot};
+use slots::{Holder, SlotTable, bound_slot, picked_slot};
 use std::marker::Model;
 use types::{Addr6, Key6, Moment, Pool6, Request6, Slots};
 
@@ -105,11 +105,21 @@ impl Book6 {
         ensures slots { AreSlots self.now.pool self.now.slots }
     {
         let (slots, key, seconds) = (self.slots(), &request.key, clock.seconds());
-        let wanted = first_listed(request.listed.as_slice());
+        let bound = bound_slot(slots, key, seconds);
+        let wanted = self.slot_of(first_listed(request.listed.as_slice()));
+        let picked = picked_slot(slots, bound, wanted, seconds);
         Lookup6 {
-            binding: self.located(bound_slot(slots, key, seconds)),
-            pick: self.located(picked_slot(self.pool(), slots, key, wanted, seconds)),
+            binding: self.located(bound),
+            pick: self.located(picked),
         }
+    }
+
+    /// The slot of the address that a client asks for.
+    fn slot_of(&self, wanted: Option<Addr6>) -> Option<usize>
+        ensures slot { result ≡ slot_in (number6 self.now.pool.first) self.now.pool.count (option_map number6 wanted) }
+        ensures below { IfSome result (λ slot. slot < self.now.pool.count) }
+    {
+        self.pool.slot(wanted?)
     }
 
     /// A slot of the pool with its address.

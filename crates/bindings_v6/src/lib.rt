@@ -8,7 +8,6 @@ mod case6;
 mod decision6;
 mod kept;
 mod laws;
-mod lookup;
 mod server6;
 mod table6;
 

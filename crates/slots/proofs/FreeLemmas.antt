@@ -1,7 +1,7 @@
 -- Look-ups by client, and the addresses that are free, by slots.
-use Rattle.std.proofs.Common.{◌≡◌, ◌≢◌, ℕ, zero, suc, ◌+◌, ◌-◌, ◌<◌, Bool, true, false, ◌||◌, cond, eqb, List, [], ◌∷◌, map, length, get_or, refl, sym, ap, ◌∙◌, arith, eq-eqb}
-use borrow.Author.Tests.{ltb-true}
-use Rattle.std.specs.Prelude.{Option, Some, None, ◌==◌, is_some, option_map, nat_lt}
+use Rattle.std.proofs.Common.{◌≡◌, ◌≢◌, ℕ, zero, suc, ◌+◌, ◌-◌, ◌<◌, ◌≤◌, Bool, true, false, ◌||◌, cond, eqb, List, [], ◌∷◌, map, length, get_or, refl, sym, ap, ◌∙◌, arith, eq-eqb}
+use Rattle.std.specs.Prelude.{Option, Some, None, ◌==◌, is_some, option_map}
+use Rattle.std.specs.Option.{option_or}
 use Rattle.std.specs.declared.cmp.Ordering.{Ordering}
 use Rattle.std.specs.declared.cmp.Ordering.TheVariants.{Less, Equal, Greater}
 use Rattle.std.specs.List.{list_any, find, range_with_len, position, position_from}
@@ -14,10 +14,10 @@ use Rattle.std.proofs.lemmas.Iterator.Adapters.{position_from-zero}
 use Rattle.slots.specs.declared.holder.Holder.{Holder}
 use Rattle.slots.specs.declared.holder.Holder.TheVariants.{Bound, Offered, Barred}
 use Rattle.slots.specs.Key.{IsKey}
-use Rattle.slots.specs.Lookup.{live, is_vacant, is_bound_to, is_offered_to, vacant_slot}
+use Rattle.slots.specs.Lookup.{live, is_vacant, is_bound_to, is_offered_to, slot_in, where_vacant}
 use Rattle.slots.specs.Maps.{Lease, Clients, is_live, names, in_range, address_of, or_else}
 use Rattle.slots.specs.Slots.{bound_to, offered_to, with_lease, leases, AreDistinct}
-use Rattle.slots.proofs.ShownLemmas.{Slots, Lessee, at, both_same, of_cond, itself, live_slots, hits, IsSort, hit, got, get-leases, got_none, split}
+use Rattle.slots.proofs.ShownLemmas.{Slots, Lessee, at, both_same, of_cond, itself, live_slots, hits, IsSort, hit, got, get-leases, got_none}
 
 -- ---- a slot's number as an address
 
@@ -31,6 +31,15 @@ from_cond false a j x o e = refl
 pub from_or : (a : ℕ) (x y : Option ℕ) → from a (or_else x y) ≡ or_else (from a x) (from a y)
 from_or a None y = refl
 from_or a (Some i) y = refl
+
+-- `Option::or` is it
+pub or_is : (x y : Option ℕ) → option_or x y ≡ or_else x y
+or_is None y = refl
+or_is (Some i) y = refl
+
+pub or_either : (x y z : Option ℕ) → or_else (or_else x y) z ≡ or_else x (or_else y z)
+or_either None y z = refl
+or_either (Some i) y z = refl
 
 or_swap : (a b c : Bool) → (a || (b || c)) ≡ (b || (a || c))
 or_swap true true c = refl
@@ -49,11 +58,11 @@ shifted : (b : Bool) (a x i : ℕ) → x ≡ a + i → cond b (Some x) None ≡ 
 shifted true a x i e = ap Some e
 shifted false a x i e = refl
 
-before : (a n x : ℕ) → nat_lt x a ≡ true → in_range a n x ≡ false
-before a n x is = grind (arith, nat_tests)
-
-behind : (a n x : ℕ) → nat_lt x a ≡ false → nat_lt (x - a) n ≡ false → in_range a n x ≡ false
-behind a n x low high = grind (arith, nat_tests)
+pub within : (a n x : ℕ) → in_range a n x ≡ true → (x ≡ a + (x - a)) × (x - a < n)
+within a n x is =
+    let low : a ≤ x = grind (arith, nat_tests) in
+    let high : x < a + n = grind (arith, nat_tests) in
+    (omega (arith, low), omega (arith, low, high))
 
 pub inside : (a n i : ℕ) → i < n → in_range a n (a + i) ≡ true
 inside a n i h = grind (arith, nat_tests)
@@ -87,17 +96,14 @@ module _ {K : Type 0} where
   pub lowest_is : (t a : ℕ) (ss : Slots K) (free : ℕ → Bool) → IsFreeBySlots t a ss free → find free (range_with_len a (length ss)) ≡ from a (position (is_vacant t) ss)
   lowest_is t a ss free is = find_lowest free (is_vacant t) a ss is.at ∙ first_slot (is_vacant t) a ss
 
-  where_vacant : (t a x : ℕ) (ss : Slots K) (free : ℕ → Bool) → IsFreeBySlots t a ss free → (below short : Bool) → nat_lt x a ≡ below → nat_lt (x - a) (length ss) ≡ short
-      → cond (free x) (Some x) None ≡ from a (cond below None (cond short (cond (is_vacant t (get_or ss (x - a) None)) (Some (x - a)) None) None))
-  where_vacant t a x ss free is true short is_below is_short = ap (λ f. cond f (Some x) None) (is.outside x (before a (length ss) x is_below))
-  where_vacant t a x ss free is false true is_below is_short =
-      ap (λ f. cond f (Some x) None) (ap free (split a x is_below) ∙ is.at (x - a) (ltb-true (x - a) (length ss) is_short))
-      ∙ shifted (is_vacant t (get_or ss (x - a) None)) a x (x - a) (split a x is_below)
-  where_vacant t a x ss free is false false is_below is_short = ap (λ f. cond f (Some x) None) (is.outside x (behind a (length ss) x is_below is_short))
-
   -- an address, where it is free
-  pub vacant_is : (t a x : ℕ) (ss : Slots K) (free : ℕ → Bool) → IsFreeBySlots t a ss free → cond (free x) (Some x) None ≡ from a (vacant_slot t a ss x)
-  vacant_is t a x ss free is = where_vacant t a x ss free is (nat_lt x a) (nat_lt (x - a) (length ss)) refl refl
+  pub vacant_is : (t a x : ℕ) (ss : Slots K) (free : ℕ → Bool) → IsFreeBySlots t a ss free → cond (free x) (Some x) None ≡ from a (where_vacant t ss (slot_in a (length ss) (Some x)))
+  vacant_is t a x ss free is = by (in_range a (length ss) x) refl where
+    by : (b : Bool) → in_range a (length ss) x ≡ b → cond (free x) (Some x) None ≡ from a (where_vacant t ss (cond b (Some (x - a)) None))
+    by true inside =
+        let p = within a (length ss) x inside in
+        ap (λ f. cond f (Some x) None) (ap free p.0 ∙ is.at (x - a) p.1) ∙ shifted (is_vacant t (get_or ss (x - a) None)) a x (x - a) p.0
+    by false outside = ap (λ f. cond f (Some x) None) (is.outside x outside)
 
 module _ {K : Type 0} {eqk : K → K → Bool} {cmpk : K → K → Ordering} (lawk : IsKey eqk cmpk) where
   -- ---- a client's lease

@@ -1,4 +1,5 @@
 pub mod ShownLemmas
 pub mod WriteLemmas
 pub mod FreeLemmas
+pub mod FitLemmas
 pub mod KeptLemmas

@@ -1,8 +1,14 @@
 -- How slots are looked up at a clock.
-use Rattle.std.specs.Prelude.{ℕ, ◌-◌, nat_lt, slice_index_or, not, Bool, true, false, List, length, Option, Some, None, if◌then◌else◌}
+use Rattle.std.specs.Prelude.{ℕ, ◌-◌, slice_index_or, not, Bool, true, false, List, Option, Some, None, if◌then◌else◌}
+use Rattle.std.specs.List.{position}
 use Rattle.slots.specs.declared.holder.Holder.{Holder}
 use Rattle.slots.specs.declared.holder.Holder.TheVariants.{Bound, Offered, Barred}
-use Rattle.slots.specs.Maps.{is_live}
+use Rattle.slots.specs.Maps.{is_live, in_range, or_else}
+
+-- the slot of an address of a pool; the first slot has the address `first`
+abbrev pub slot_in : ℕ → ℕ → Option ℕ → Option ℕ
+slot_in first count None = None
+slot_in first count (Some address) = if in_range first count address then Some (address - first) else None
 
 module _ {K : Type 0} where
   abbrev pub until_of : Holder K → ℕ
@@ -31,10 +37,11 @@ module _ {K : Type 0} where
   is_offered_to eqk clock client (Some (Offered key until)) = if is_live clock until then eqk client key else false
   is_offered_to eqk clock client (Some (Barred until)) = false
 
-  -- the slot of an address where it is vacant; the first slot has the address `first`
-  abbrev pub vacant_slot : ℕ → ℕ → List (Option (Holder K)) → ℕ → Option ℕ
-  vacant_slot clock first slots address =
-      if nat_lt address first then None
-      else if nat_lt (address - first) (length slots) then
-      (if is_vacant clock (slice_index_or slots (address - first) None) then Some (address - first) else None)
-      else None
+  -- the slot, where it is vacant
+  abbrev pub where_vacant : ℕ → List (Option (Holder K)) → Option ℕ → Option ℕ
+  where_vacant clock slots None = None
+  where_vacant clock slots (Some slot) = if is_vacant clock (slice_index_or slots slot None) then Some slot else None
+
+  -- the slot for a client: the one that it has, the one that it asks for, the first vacant one
+  abbrev pub picked_slot : ℕ → List (Option (Holder K)) → Option ℕ → Option ℕ → Option ℕ
+  picked_slot clock slots held wanted = or_else held (or_else (where_vacant clock slots wanted) (position (is_vacant clock) slots))

@@ -8,7 +8,7 @@ mod lookup;
 mod table;
 mod write;
 
-pub use holder::{Holder, is_vacant, kept, live};
+pub use holder::{Holder, kept, live};
 pub use key::SlotKey;
-pub use lookup::{bound_slot, first_vacant_slot, offered_slot};
+pub use lookup::{bound_slot, offered_slot, picked_slot};
 pub use table::SlotTable;

@@ -1,7 +1,7 @@
 //! Looking slots up.
 ghost use Rattle.std.specs.Prelude.{◌≡◌, ◌<◌, length, IfSome};
 ghost use Rattle.std.specs.List.{position};
-ghost use Rattle.slots.specs.Lookup.{is_vacant, is_bound_to, is_offered_to};
+ghost use Rattle.slots.specs.Lookup.{is_vacant, is_bound_to, is_offered_to, picked_slot};
 
 use crate::holder::{Holder, is_bound_to, is_offered_to, is_vacant};
 
@@ -34,9 +34,33 @@ pub fn offered_slot<K: PartialEq>(
 }
 
 /// The first vacant slot.
-pub fn first_vacant_slot<K>(slots: &[Option<Holder<K>>], clock: u64) -> Option<usize>
+fn first_vacant_slot<K>(slots: &[Option<Holder<K>>], clock: u64) -> Option<usize>
     ensures slot { result ≡ position (is_vacant clock) slots.now }
     ensures below { IfSome result (λ slot. slot < length slots.now) }
 {
     slots.iter().position(|slot| is_vacant(slot, clock))
+}
+
+/// The slot for a client: the one that it has, the one that it asks for where that is vacant, the first
+/// vacant one.
+pub fn picked_slot<K>(
+    slots: &[Option<Holder<K>>],
+    held: Option<usize>,
+    wanted: Option<usize>,
+    clock: u64,
+) -> Option<usize>
+    requires held { IfSome held (λ slot. slot < length slots.now) }
+    requires wanted { IfSome wanted (λ slot. slot < length slots.now) }
+    ensures slot { result ≡ picked_slot clock slots.now held wanted }
+    ensures below { IfSome result (λ slot. slot < length slots.now) }
+{
+    if held.is_some() {
+        return held;
+    }
+    if let Some(slot) = wanted {
+        if is_vacant(&slots[slot], clock) {
+            return wanted;
+        }
+    }
+    first_vacant_slot(slots, clock)
 }

@@ -1,7 +1,9 @@
-use Rattle.std.proofs.Common.{arith}
-use Rattle.bindings_v4.proofs.KeptLemmas.{kept_more}
+use Rattle.std.proofs.Common.{◌∙◌, ap, arith}
+use Rattle.bindings_v4.specs.Kept4.{slot_of}
+use Rattle.bindings_v4.proofs.KeptLemmas.{kept_next}
 use Rattle.bindings_v4.proofs.kept.kept_slots.Goals as goal
 
 pub loop-i-preserved : goal.loop-i-preserved
 loop-i-preserved c =
-    kept_more c.args.clock c.args.holders.now c.loop-i.i c.index-holders-i.result c.loop-i.kept c.kept_slot.result (omega arith) c.requires c.index-holders-i.is c.kept_slot.ensures c.loop-i.invariant
+    kept_next c.args.clock c.args.holders.now c.loop-i.i c.index-holders-i.result c.loop-i.slots c.slot_of.result (omega arith) c.requires c.index-holders-i.is
+    (c.slot_of.ensures ∙ ap slot_of c.kept.ensures) c.loop-i.invariant

@@ -1,6 +1,6 @@
 use Rattle.std.proofs.Common.{◌≡◌, ap, ◌∙◌}
 use Rattle.bindings_v4.specs.Kept4.{kept_slots}
-use Rattle.bindings_v4.proofs.KeptLemmas.{all_live, all_within, kept_once, book_put}
+use Rattle.bindings_v4.proofs.KeptLemmas.{all_live, all_within, kept_twice, past_free, book_put}
 use Rattle.bindings_v4.proofs.book4.Book4.put.Goals as goal
 
 pub returns-clause-book : goal.returns-clause-book
@@ -22,7 +22,7 @@ returns-clause-once c =
     let v = c.args.self.now in
     let written : c.kept_slots-slots.result ≡ kept_slots c.args.slots.now.clock v.slots =
     c.kept_slots-slots.ensures ∙ ap (λ t. kept_slots t c.slots.result.now) c.seconds.ensures.value ∙ ap (kept_slots c.args.slots.now.clock) c.slots.ensures.value in
-    kept_once c.args.slots.now.clock v.slots c.kept_slots-slots.result written c.slots.ensures.within.distinct
+    kept_twice c.args.slots.now.clock v.slots c.kept_slots-slots.result written c.slots.ensures.within.distinct
 
 pub returns-clause-within : goal.returns-clause-within
 returns-clause-within c =
@@ -30,3 +30,10 @@ returns-clause-within c =
     let written : c.kept_slots-slots.result ≡ kept_slots c.args.slots.now.clock v.slots =
     c.kept_slots-slots.ensures ∙ ap (λ t. kept_slots t c.slots.result.now) c.seconds.ensures.value ∙ ap (kept_slots c.args.slots.now.clock) c.slots.ensures.value in
     all_within c.args.slots.now.clock v.slots c.kept_slots-slots.result written
+
+pub returns-clause-past : goal.returns-clause-past
+returns-clause-past c =
+    let v = c.args.self.now in
+    let written : c.kept_slots-slots.result ≡ kept_slots c.args.slots.now.clock v.slots =
+    c.kept_slots-slots.ensures ∙ ap (λ t. kept_slots t c.slots.result.now) c.seconds.ensures.value ∙ ap (kept_slots c.args.slots.now.clock) c.slots.ensures.value in
+    past_free v.pool c.args.slots.now.clock v.slots c.kept_slots-slots.result c.slots.ensures.within written

@@ -1,7 +1,8 @@
 use Rattle.std.proofs.Common.{◌∙◌, ap}
+use Rattle.std.specs.List.{position}
+use Rattle.slots.specs.Lookup.{is_bound_to, slot_in, picked_slot}
 use Rattle.types.specs.Addr.{number6}
-use Rattle.types.specs.Pool6.{Pool6Value}
-use Rattle.bindings_v6.specs.Lookup6.{picked_slot}
+use Rattle.types.specs.Key6.{same_key6}
 use Rattle.bindings_v6.specs.Table6.{first_listed}
 use Rattle.bindings_v6.proofs.FreeLemmas.{bound_found, pick_found}
 use Rattle.bindings_v6.proofs.book6.Book6.look_up.Goals as goal
@@ -12,10 +13,13 @@ returns-clause-found c =
     let m = c.args.request.now in
     let now = c.seconds-seconds in
     let slots = c.slots-slots in
-    let wanted = first_listed m.listed.items in
-    let binding = c.located.ensures.address ∙ bound_found v c.args.clock m.key slots.ensures.within slots.result.now now.result c.bound_slot.result slots.ensures.value now.ensures.value c.bound_slot.ensures.slot in
-    let in_pool = ap (λ (p : Pool6Value). picked_slot now.result (number6 p.first) slots.result.now m.key wanted) c.pool.ensures in
-    let listed = c.first_listed-wanted.ensures ∙ ap first_listed c.as_slice.ensures.value in
-    let pool_slot = ap (picked_slot now.result (number6 c.pool.result.first) slots.result.now m.key) listed in
-    let pick = c.located-2.ensures.address ∙ pick_found v c.args.clock m.key wanted slots.ensures.within slots.result.now now.result c.picked_slot.result slots.ensures.value now.ensures.value (c.picked_slot.ensures.slot ∙ pool_slot ∙ in_pool) in
+    let ss = slots.result.now in
+    let bound = c.bound_slot-bound in
+    let wanted = c.slot_of-wanted in
+    let binding = c.located.ensures.address ∙ bound_found v c.args.clock m.key slots.ensures.within ss now.result bound.result slots.ensures.value now.ensures.value bound.ensures.slot in
+    let bound_is = position (is_bound_to same_key6 now.result m.key) ss in
+    let listed = wanted.ensures.slot ∙ ap (slot_in (number6 v.pool.first) v.pool.count) (c.first_listed.ensures ∙ ap first_listed c.as_slice.ensures.value) in
+    let picked =
+    c.picked_slot-picked.ensures.slot ∙ ap (λ o. picked_slot now.result ss o wanted.result) bound.ensures.slot ∙ ap (picked_slot now.result ss bound_is) listed in
+    let pick = c.located-2.ensures.address ∙ pick_found v c.args.clock m.key (first_listed m.listed.items) slots.ensures.within ss now.result c.picked_slot-picked.result slots.ensures.value now.ensures.value picked in
     λ i. record { binding = binding i; pick = pick i }
