@@ -1,20 +1,18 @@
 //! The file of a configuration.
-ghost use Rattle.std.specs.Prelude.{◌≡◌, ◌⊎◌, IfErr};
+ghost use Rattle.std.specs.Prelude.{◌≡◌, ◌⊎◌, ℕ, List, IfOk, IfErr};
+ghost use Rattle.config.specs.Valid.{IsConfig};
 
 use crate::status::{REFUSED, UNREADABLE, complain};
 use config::Config;
 use std::fs;
 
-/// The configuration in a file. If that can't be read or is refused, reports why on standard error and
-/// returns the status.
-pub fn read_configuration(rt: &HostRuntime, path: &str) -> Result<Config, u8>
-    ensures { IfErr result (λ status. (status ≡ 2) ⊎ (status ≡ 5)) }
+/// The configuration that bytes spell. If they are refused, reports why on standard error and returns the
+/// status.
+fn configuration_of(rt: &HostRuntime, bytes: &[u8]) -> Result<Config, u8>
+    ensures value { IfOk result (IsConfig bytes.now) }
+    ensures status { IfErr result (λ status. status ≡ 2) }
 {
-    let Ok(bytes) = fs::read(rt, path) else {
-        let _ = eprint!(rt; "{path}: ");
-        return Err(complain(rt, "the file can't be read", UNREADABLE));
-    };
-    let Ok(text) = std::str::from_utf8(&bytes) else {
+    let Ok(text) = std::str::from_utf8(bytes) else {
         return Err(complain(rt, "config 41\nthe file is not UTF-8", REFUSED));
     };
     match Config::read(rt.alloc(), text) {
@@ -25,4 +23,17 @@ pub fn read_configuration(rt: &HostRuntime, path: &str) -> Result<Config, u8>
             Err(complain(rt, fault, REFUSED))
         }
     }
+}
+
+/// The configuration in a file. If that can't be read or is refused, reports why on standard error and
+/// returns the status.
+pub fn read_configuration(rt: &HostRuntime, path: &str) -> Result<Config, u8>
+    ensures value { IfOk result (λ config. (text : List ℕ) × IsConfig text config) }
+    ensures status { IfErr result (λ status. (status ≡ 2) ⊎ (status ≡ 5)) }
+{
+    let Ok(bytes) = fs::read(rt, path) else {
+        let _ = eprint!(rt; "{path}: ");
+        return Err(complain(rt, "the file can't be read", UNREADABLE));
+    };
+    configuration_of(rt, &bytes)
 }

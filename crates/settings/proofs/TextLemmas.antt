@@ -1,12 +1,13 @@
--- The texts of ports and sources, beside what std's parsing answers.
+-- The texts of ports, sources and circuit ids, beside what std answers of them.
 use Rattle.std.proofs.Common.{◌+◌, zero, suc, lit<, ◌≡◌, ℕ, ◌<◌, ◌≤◌, ◌^◌, List, [], ◌∷◌, length, get_or, Some, None, Result, Ok, Err, Bor, refl, sym, ap, subst, ◌∙◌, arith}
-use Rattle.std.specs.Prelude.{decimal}
+use Rattle.std.specs.Prelude.{decimal, All, IsAscii}
 use Rattle.std.specs.Str.Parse.{ParsesUnsigned, digits_value, IsNumeral}
 use Rattle.std.proofs.lemmas.Fmt.{parse-decimal, first_decimal, decimal_nonempty, decimal_digit, decimal-digits_value}
 use Rattle.std.proofs.lemmas.Str.Parse.{numerals_by_value, tells_digits, without_leading_plus_none}
 use Rattle.std.proofs.lemmas.Result.{OkIff-at_ok}
 use Rattle.std.proofs.lemmas.Str.Pattern.{IsSplitOnceResult, split_after, split_parts}
 use Rattle.std.specs.declared.num.ParseIntError.{ParseIntError}
+use Rattle.types.specs.CircuitId.{IsVisible}
 use Rattle.types.specs.declared.addr.Source.{Source}
 use Rattle.settings.specs.Texts.{IsAddress, IsPort, IsSource}
 
@@ -72,3 +73,8 @@ source_from_parts text x parted s address port =
       address = address;
       port = port;
     }
+
+pub visible_is_ascii : (id : List ℕ) → All IsVisible id → IsAscii id
+visible_is_ascii [] visible i = lit< tt
+visible_is_ascii (byte ∷ id) visible zero = let first = visible 0 0 (omega arith) in omega (arith, first.1)
+visible_is_ascii (byte ∷ id) visible (suc i) = visible_is_ascii id (λ k d below. visible (suc k) d (omega (arith, below))) i

@@ -8,3 +8,4 @@ pub mod Settings
 pub mod Tables
 pub mod Texts
 pub mod Values
+pub mod Words

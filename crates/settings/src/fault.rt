@@ -1,5 +1,6 @@
 //! Why a text is not a configuration, and where it is wrong.
-ghost use Rattle.std.specs.Prelude.{◌≡◌};
+ghost use Rattle.std.specs.Prelude.{◌≡◌, Some};
+ghost use Rattle.settings.specs.Words.{circuit_kind, missing_words, same_words};
 
 use crate::limit_fault::LimitFault;
 use crate::names::{CircuitKey, CircuitRef, RelayKey, ServerKey, TableName};
@@ -33,6 +34,8 @@ pub enum SameName {
 }
 
 impl fmt::Display for Location {
+    ghost output = { λ location. Some (missing_words location) };
+
     fn fmt<W: fmt::Write>(&self, f: &mut fmt::Formatter<W>) -> fmt::Result {
         match self {
             Location::Table(TableName::Server) => f.write_str("server is missing or not a table"),
@@ -50,6 +53,8 @@ impl fmt::Display for Location {
 }
 
 impl fmt::Display for SameName {
+    ghost output = { λ same. Some (same_words same) };
+
     fn fmt<W: fmt::Write>(&self, f: &mut fmt::Formatter<W>) -> fmt::Result {
         match self {
             SameName::Ids(first, second) => {
@@ -74,7 +79,9 @@ impl fmt::Display for SameName {
 }
 
 /// What the value at a key of a circuit has to be: its type, or the name of a relay.
-fn kind(key: CircuitKey) -> &'static str {
+fn kind(key: CircuitKey) -> &'static str
+    ensures { result.now ≡ circuit_kind key }
+{
     match key {
         CircuitKey::Relay => "the name of a relay",
         CircuitKey::Dns => "an array of strings",

@@ -1,4 +1,7 @@
 //! Which value is outside its limits or malformed.
+ghost use Rattle.std.specs.Prelude.{◌≡◌, Some};
+ghost use Rattle.settings.specs.Words.{server_form, relay_form, circuit_form, outside_words, circuit_limit_words, limit_words};
+
 use crate::names::{CircuitKey, CircuitRef, RelayKey, ServerKey};
 use std::fmt;
 
@@ -45,7 +48,9 @@ const DIGITS: &str = "32 hexadecimal digits";
 const NUMBER: &str = "an integer";
 
 /// What a value of the server has to be.
-fn server_form(key: ServerKey) -> &'static str {
+fn server_form(key: ServerKey) -> &'static str
+    ensures { result.now ≡ server_form key }
+{
     match key {
         ServerKey::Listen4 | ServerKey::Listen6 => ENDPOINT,
         ServerKey::Duid => "3 to 130 bytes in hexadecimal",
@@ -53,7 +58,9 @@ fn server_form(key: ServerKey) -> &'static str {
 }
 
 /// What a value of a relay has to be.
-fn relay_form(key: RelayKey) -> &'static str {
+fn relay_form(key: RelayKey) -> &'static str
+    ensures { result.now ≡ relay_form key }
+{
     match key {
         RelayKey::Name => "1 to 32 bytes",
         RelayKey::Source => ENDPOINT,
@@ -61,7 +68,9 @@ fn relay_form(key: RelayKey) -> &'static str {
 }
 
 /// What a value of a circuit has to be.
-fn circuit_form(key: CircuitKey) -> &'static str {
+fn circuit_form(key: CircuitKey) -> &'static str
+    ensures { result.now ≡ circuit_form key }
+{
     match key {
         CircuitKey::Id => "1 to 32 visible ASCII characters",
         CircuitKey::Relay => "the name of a relay",
@@ -74,6 +83,8 @@ fn circuit_form(key: CircuitKey) -> &'static str {
 }
 
 impl fmt::Display for LimitFault {
+    ghost output = { λ limit. Some (limit_words limit) };
+
     fn fmt<W: fmt::Write>(&self, f: &mut fmt::Formatter<W>) -> fmt::Result {
         match self {
             LimitFault::Relays(count) => {
@@ -95,12 +106,21 @@ impl fmt::Display for LimitFault {
     }
 }
 
+impl fmt::Display for Outside {
+    ghost output = { λ number. Some (outside_words number) };
+
+    fn fmt<W: fmt::Write>(&self, f: &mut fmt::Formatter<W>) -> fmt::Result {
+        let (found, least, most) = (self.found, self.least, self.most);
+        write!(f, "{found} is outside {least} to {most}")
+    }
+}
+
 impl fmt::Display for CircuitLimit {
+    ghost output = { λ limit. Some (circuit_limit_words limit) };
+
     fn fmt<W: fmt::Write>(&self, f: &mut fmt::Formatter<W>) -> fmt::Result {
         match self {
-            CircuitLimit::Number(key, Outside { found, least, most }) => {
-                write!(f, "{key} {found} is outside {least} to {most}")
-            }
+            CircuitLimit::Number(key, number) => write!(f, "{key} {number}"),
             CircuitLimit::Form(key) => {
                 let form = circuit_form(*key);
                 write!(f, "{key} is not {form}")

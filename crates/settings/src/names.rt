@@ -1,6 +1,7 @@
 //! The names of a configuration's tables and keys, and of its circuits.
 ghost use Rattle.std.specs.Prelude.{◌≡◌, ℕ, List, Some};
 ghost use Rattle.settings.specs.Names.{table_name, server_key, relay_key, circuit_key};
+ghost use Rattle.settings.specs.Words.{circuit_name};
 
 use std::fmt;
 use types::CircuitId;
@@ -149,14 +150,27 @@ impl fmt::Display for CircuitKey {
     }
 }
 
+/// The id as text: its bytes are ASCII.
+fn text_of(id: &CircuitId) -> &str
+    ensures { result.now ≡ id.now }
+{
+    let Ok(text) = std::str::from_utf8(id.as_bytes()) else {
+        unreachable!()
+    };
+    text
+}
+
 /// By its id as `"a1"`, or by its number as `2`.
 impl fmt::Display for CircuitRef {
+    ghost output = { λ circuit. Some (circuit_name circuit) };
+
     fn fmt<W: fmt::Write>(&self, f: &mut fmt::Formatter<W>) -> fmt::Result {
-        if let Some(id) = &self.id {
-            if let Ok(text) = std::str::from_utf8(id.as_bytes()) {
-                return write!(f, "\"{text}\"");
+        match &self.id {
+            Some(id) => {
+                let text = text_of(id);
+                write!(f, "\"{text}\"")
             }
+            None => write!(f, "{}", self.number),
         }
-        write!(f, "{}", self.number)
     }
 }

@@ -1,90 +1,65 @@
 //! Why a frame or a datagram is dropped.
-ghost use Rattle.std.specs.Prelude.{◌≡◌};
-ghost use Rattle.types.specs.Discard.{number_of};
+ghost use Rattle.std.specs.Prelude.{◌≡◌, Some};
+ghost use Rattle.types.specs.Discard.{number_of, words_of};
 
-use thiserror::Error;
+use std::error::Error;
+use std::fmt;
 
 /// Why the relay or the server drops a frame or a datagram, in the order of the numbers: 1 to 8 the
 /// relay on the way up, 11 to 24 the server, 31 to 34 the relay on the way down.
-#[derive(Clone, Copy, Debug, PartialEq, Eq, Error)]
+#[derive(Clone, Copy, Debug, PartialEq, Eq)]
 pub enum Discard {
     /// The frame has more than 1024 bytes.
-    #[error("the frame is too long")]
     TooLong,
     /// The relay can't read the client's frame.
-    #[error("the frame is malformed")]
     MalformedUp,
     /// op is not BOOTREQUEST (RFC 2131, section 2).
-    #[error("the frame is not a request")]
     NotRequest,
     /// giaddr is set, though the client is on the relay's own circuit (RFC 3046, section 2.1.1).
-    #[error("the frame has a giaddr already")]
     HasGiaddr,
     /// The client sent a relay agent information option of its own (RFC 3046, section 2.1).
-    #[error("the frame has a relay agent information option already")]
     HasOption82,
     /// hops is 16 or more (RFC 1542, section 4.1.1).
-    #[error("the frame has passed too many relays")]
     Hops,
     /// A message type that a client doesn't send.
-    #[error("the frame's message type is not a client's")]
     WrongType,
     /// The DHCPv6 message is a relay's (RFC 8415, section 19.1).
-    #[error("the frame has passed another relay")]
     NestedRelay,
     /// The datagram came from no configured relay.
-    #[error("the datagram is not from a configured relay")]
     UnknownSource,
     /// The server can't read the datagram.
-    #[error("the datagram is malformed")]
     Malformed,
     /// The datagram didn't pass a relay.
-    #[error("the datagram has passed no relay")]
     NotRelayed,
     /// The datagram's circuit id is no circuit's of this relay.
-    #[error("the datagram's circuit is unknown")]
     UnknownCircuit,
     /// giaddr is not the circuit's gateway, or link-address not its link's.
-    #[error("the datagram's link address is not its circuit's")]
     WrongLink,
     /// There is no server identifier override, or it is not the gateway (RFC 5107, section 4).
-    #[error("the server identifier override is missing or wrong")]
     NoOverride,
     /// The client's identifier is missing, or its length is outside the limits.
-    #[error("the client's identifier is missing, or too short or too long")]
     ClientKey,
     /// The client speaks to another server.
-    #[error("the client has selected another server")]
     OtherServer,
     /// No address of the circuit's pool is free.
-    #[error("no address is free")]
     NoAddress,
     /// The server knows nothing of the client (RFC 2131, section 4.3.2).
-    #[error("the server has no record of the client")]
     NoRecord,
     /// The circuit is closed until a restart.
-    #[error("the circuit is closed")]
     CircuitClosed,
     /// A message type that the server doesn't answer.
-    #[error("the message type is not served")]
     NotServed,
     /// What was decided could not be kept.
-    #[error("the circuit's region could not be written")]
     DiskFault,
     /// The message was heard and has no reply.
-    #[error("no reply is due")]
     NothingToSay,
     /// The datagram towards the relay is not from the server.
-    #[error("the reply is not from the server")]
     NotServer,
     /// The relay can't read the reply.
-    #[error("the reply is malformed")]
     MalformedDown,
     /// The reply's circuit id is no circuit's of this relay.
-    #[error("the reply's circuit is unknown")]
     UnknownCircuitDown,
     /// The reply's giaddr is not the circuit's gateway, or its link-address not the link's.
-    #[error("the reply's link address is not its circuit's")]
     WrongLinkDown,
 }
 
@@ -122,4 +97,48 @@ impl Discard {
             Discard::WrongLinkDown => 34,
         }
     }
+
+    /// The reason in words.
+    fn words(self) -> &'static str
+        ensures { result.now ≡ words_of self }
+    {
+        match self {
+            Discard::TooLong => "the frame is too long",
+            Discard::MalformedUp => "the frame is malformed",
+            Discard::NotRequest => "the frame is not a request",
+            Discard::HasGiaddr => "the frame has a giaddr already",
+            Discard::HasOption82 => "the frame has a relay agent information option already",
+            Discard::Hops => "the frame has passed too many relays",
+            Discard::WrongType => "the frame's message type is not a client's",
+            Discard::NestedRelay => "the frame has passed another relay",
+            Discard::UnknownSource => "the datagram is not from a configured relay",
+            Discard::Malformed => "the datagram is malformed",
+            Discard::NotRelayed => "the datagram has passed no relay",
+            Discard::UnknownCircuit => "the datagram's circuit is unknown",
+            Discard::WrongLink => "the datagram's link address is not its circuit's",
+            Discard::NoOverride => "the server identifier override is missing or wrong",
+            Discard::ClientKey => "the client's identifier is missing, or too short or too long",
+            Discard::OtherServer => "the client has selected another server",
+            Discard::NoAddress => "no address is free",
+            Discard::NoRecord => "the server has no record of the client",
+            Discard::CircuitClosed => "the circuit is closed",
+            Discard::NotServed => "the message type is not served",
+            Discard::DiskFault => "the circuit's region could not be written",
+            Discard::NothingToSay => "no reply is due",
+            Discard::NotServer => "the reply is not from the server",
+            Discard::MalformedDown => "the reply is malformed",
+            Discard::UnknownCircuitDown => "the reply's circuit is unknown",
+            Discard::WrongLinkDown => "the reply's link address is not its circuit's",
+        }
+    }
 }
+
+impl fmt::Display for Discard {
+    ghost output = { λ why. Some (words_of why) };
+
+    fn fmt<W: fmt::Write>(&self, f: &mut fmt::Formatter<W>) -> fmt::Result {
+        f.write_str(self.words())
+    }
+}
+
+impl Error for Discard {}
