@@ -1,5 +1,5 @@
 //! The slots that a bank holds.
-ghost use Rattle.std.specs.Prelude.{◌≡◌, ◌≤◌, ◌+◌, ◌<◌, ℕ, length, slice_index, Some, None};
+ghost use Rattle.std.specs.Prelude.{◌≡◌, ◌≤◌, ◌+◌, ◌<◌, ℕ, length, map, slice_index, Some, None};
 ghost use Rattle.std.specs.Int.{w32, w64, from_be_bytes};
 ghost use Rattle.std.specs.List.{list_any};
 ghost use Rattle.types.specs.Slots.{live4, live6, none_twice, same_client4, same_client6};
@@ -81,9 +81,8 @@ fn read_slot6(slot: &[u8]) -> Option<Slot6>
 }
 
 /// The i-th slot of a pool of so many addresses.
-fn four_slot(bank: &[u8], count: u8, clock: u64, i: usize) -> Option<Slot4>
+fn four_slot(bank: &[u8], count: u8, i: usize) -> Option<Slot4>
     requires all { length bank.now ≡ 4096 }
-    requires clock { clock ≡ clock_of (slice_index bank.now) }
     requires exists { i < 16 }
     ensures { result ≡ four_in count (slice_index bank.now) i }
 {
@@ -91,14 +90,12 @@ fn four_slot(bank: &[u8], count: u8, clock: u64, i: usize) -> Option<Slot4>
         return Some(Slot4::Free);
     }
     let at = FOUR_AT + FOUR_SIZE * i;
-    let slot = read_slot4(&bank[at..])?;
-    Some(slot.live_at(clock))
+    read_slot4(&bank[at..])
 }
 
 /// The i-th slot of a pool of so many addresses.
-fn six_slot(bank: &[u8], count: u8, clock: u64, i: usize) -> Option<Slot6>
+fn six_slot(bank: &[u8], count: u8, i: usize) -> Option<Slot6>
     requires all { length bank.now ≡ 4096 }
-    requires clock { clock ≡ clock_of (slice_index bank.now) }
     requires exists { i < 16 }
     ensures { result ≡ six_in count (slice_index bank.now) i }
 {
@@ -106,30 +103,27 @@ fn six_slot(bank: &[u8], count: u8, clock: u64, i: usize) -> Option<Slot6>
         return Some(Slot6::Free);
     }
     let at = SIX_AT + SIX_SIZE * i;
-    let slot = read_slot6(&bank[at..])?;
-    Some(slot.live_at(clock))
+    read_slot6(&bank[at..])
 }
 
-fn read_four(bank: &[u8], count: u8, clock: u64) -> Option<[Slot4; 16]>
-    requires all { length bank.now ≡ 4096 }
-    requires clock { clock ≡ clock_of (slice_index bank.now) }
+fn read_four(bank: &[u8], count: u8) -> Option<[Slot4; 16]>
+    requires { length bank.now ≡ 4096 }
     ensures { result ≡ slots_from (four_in count (slice_index bank.now)) 0 16 }
 {
     let mut four = [Slot4::Free; 16];
     'slots: for i in 0..16 {
-        four[i] = four_slot(bank, count, clock, i)?;
+        four[i] = four_slot(bank, count, i)?;
     }
     Some(four)
 }
 
-fn read_six(bank: &[u8], count: u8, clock: u64) -> Option<[Slot6; 16]>
-    requires all { length bank.now ≡ 4096 }
-    requires clock { clock ≡ clock_of (slice_index bank.now) }
+fn read_six(bank: &[u8], count: u8) -> Option<[Slot6; 16]>
+    requires { length bank.now ≡ 4096 }
     ensures { result ≡ slots_from (six_in count (slice_index bank.now)) 0 16 }
 {
     let mut six = [Slot6::Free; 16];
     'slots: for i in 0..16 {
-        six[i] = six_slot(bank, count, clock, i)?;
+        six[i] = six_slot(bank, count, i)?;
     }
     Some(six)
 }
@@ -152,34 +146,44 @@ fn is_same6(a: &Slot6, b: &Slot6) -> bool
     }
 }
 
-fn has_client4(slots: &[Slot4], slot: &Slot4) -> bool
-    ensures { result ≡ list_any (same_client4 slot.now) slots.now }
+/// Whether one of the slots and this one are live at a clock, and one client's.
+fn has_client4(slots: &[Slot4], slot: &Slot4, clock: u64) -> bool
+    ensures { result ≡ list_any (λ other. same_client4 (live4 clock slot.now) (live4 clock other)) slots.now }
 {
-    slots.iter().any(|other| is_same4(slot, other))
+    let live = slot.live_at(clock);
+    slots
+        .iter()
+        .any(|other| is_same4(&live, &other.live_at(clock)))
 }
 
-fn no_client_twice4(four: &[Slot4]) -> bool
-    ensures { result ≡ none_twice same_client4 four.now }
+/// Whether no client has two slots that are live at this clock.
+fn no_client_twice4(four: &[Slot4], clock: u64) -> bool
+    ensures { result ≡ none_twice same_client4 (map (live4 clock) four.now) }
 {
     for (i, slot) in four.iter().enumerate() {
-        if has_client4(&four[i + 1..], slot) {
+        if has_client4(&four[i + 1..], slot, clock) {
             return false;
         }
     }
     true
 }
 
-fn has_client6(slots: &[Slot6], slot: &Slot6) -> bool
-    ensures { result ≡ list_any (same_client6 slot.now) slots.now }
+/// Whether one of the slots and this one are live at a clock, and one client's.
+fn has_client6(slots: &[Slot6], slot: &Slot6, clock: u64) -> bool
+    ensures { result ≡ list_any (λ other. same_client6 (live6 clock slot.now) (live6 clock other)) slots.now }
 {
-    slots.iter().any(|other| is_same6(slot, other))
+    let live = slot.live_at(clock);
+    slots
+        .iter()
+        .any(|other| is_same6(&live, &other.live_at(clock)))
 }
 
-fn no_client_twice6(six: &[Slot6]) -> bool
-    ensures { result ≡ none_twice same_client6 six.now }
+/// Whether no client has two slots that are live at this clock.
+fn no_client_twice6(six: &[Slot6], clock: u64) -> bool
+    ensures { result ≡ none_twice same_client6 (map (live6 clock) six.now) }
 {
     for (i, slot) in six.iter().enumerate() {
-        if has_client6(&six[i + 1..], slot) {
+        if has_client6(&six[i + 1..], slot, clock) {
             return false;
         }
     }
@@ -193,13 +197,13 @@ pub fn read_bank(bank: &[u8], counts: [u8; 2]) -> Option<Slots>
     ensures { result ≡ book_of counts (slice_index bank.now) }
 {
     let seconds = number8(bank, CLOCK_AT);
-    let four = read_four(bank, counts[0], seconds)?;
-    let six = read_six(bank, counts[1], seconds)?;
+    let four = read_four(bank, counts[0])?;
+    let six = read_six(bank, counts[1])?;
     let clock = Moment::new(seconds)?;
-    if !no_client_twice4(&four) {
+    if !no_client_twice4(&four, seconds) {
         return None;
     }
-    if !no_client_twice6(&six) {
+    if !no_client_twice6(&six, seconds) {
         return None;
     }
     Some(Slots { four, six, clock })

@@ -1,9 +1,8 @@
-use Rattle.std.proofs.Common.{arith, ◌∙◌, ap, Some}
-use Rattle.lease_disk.proofs.Reading.{four_some, four_none}
+use Rattle.std.proofs.Common.{◌+◌, ◌*◌, arith}
+use Rattle.types.specs.declared.slot4.Slot4.TheVariants.{Free}
+use Rattle.lease_disk.specs.Recovered.{slot4_of}
+use Rattle.lease_disk.proofs.Reading.{slot_behind}
 use Rattle.lease_disk.proofs.format1.read_bank.four_slot.Goals as goal
 
-pub returns-in_err-slot : goal.returns-in_err-slot
-returns-in_err-slot c = c.from_residual.ensures ∙ four_none c.args.bank.now c.args.count c.args.i (omega arith) c.in_err-slot.ensures
-
 pub returns : goal.returns
-returns c = ap Some c.live_at.ensures ∙ four_some c.args.bank.now c.args.count c.args.clock c.args.i c.in_ok-slot.slot (omega arith) c.requires.clock c.in_ok-slot.ensures
+returns c = slot_behind slot4_of Free c.args.bank.now c.args.count c.args.i (32 + 80 * c.args.i) _ (omega arith) c.read_slot4.ensures
