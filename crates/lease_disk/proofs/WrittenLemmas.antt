@@ -48,6 +48,7 @@ then_synced tells r at bytes (Ok x) old middle new w s = record {
   fuse = λ t. two_calls (old.fuse r) (middle.fuse r) (new.fuse r) (w.fuse t) (s.fuse t);
   frame = touches_then tells r old middle new w.frame s.frame;
   writes = two_more old.writes middle.writes new.writes w.writes s.writes;
+  most = omega (arith, w.writes, s.writes);
   failures = s.failures ∙ w.failures;
 }
 then_synced tells r at bytes (Err x) old middle new w s = record {
@@ -57,20 +58,22 @@ then_synced tells r at bytes (Err x) old middle new w s = record {
   fuse = λ t. tt;
   frame = touches_then tells r old middle new w.frame s.frame;
   writes = tt;
+  most = omega (arith, w.writes, s.writes);
   failures = s.failures ∙ ap (λ n. n + 1) w.failures;
 }
 
 pub not_written : {T E : Type 0} → (tells : Bool) (r at : ℕ) (bytes : List ℕ) (result : Result T E) (old new : Device) → IsErr result
     → (tells ≡ true → IsTorn at (length bytes) (old.region r) (new.region r)) → (tells ≡ true → false ≡ not (old.fuse r == 1))
-    → Touches tells r old new → new.failures ≡ old.failures + 1
+    → Touches tells r old new → new.writes ≡ old.writes + 1 → new.failures ≡ old.failures + 1
     → IsWritten tells r at bytes result old new
-not_written tells r at bytes (Ok x) old new is torn answer frame failures = absurd cc
-not_written tells r at bytes (Err e) old new is torn answer frame failures = record {
+not_written tells r at bytes (Ok x) old new is torn answer frame writes failures = absurd cc
+not_written tells r at bytes (Err e) old new is torn answer frame writes failures = record {
   ok = λ t. tt;
   err = torn;
   answer = λ t. first_fails (old.fuse r) (answer t);
   fuse = λ t. tt;
   frame = frame;
   writes = tt;
+  most = omega (arith, writes);
   failures = failures;
 }
