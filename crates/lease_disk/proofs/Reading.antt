@@ -1,6 +1,6 @@
 -- Reading slots one after the other.
 use Rattle.std.proofs.Common.{◌≡◌, ℕ, ◌+◌, ◌-◌, ◌<◌, ◌≤◌, Bool, true, false, not, ◌&&◌, ◌||◌, suc, zero, List, [], ◌∷◌, ◌++◌, length, map, take, drop, set, get_or, slice_index, Option, Some, None, refl, sym, ap, ◌∙◌, arith, append_assoc, drop-cons, add-one}
-use Rattle.std.specs.Prelude.{if◌then◌else◌, nat_lt, nat_le}
+use Rattle.std.specs.Prelude.{nat_le}
 use Rattle.std.specs.List.{list_any}
 use Rattle.types.specs.declared.slot4.Slot4.{Slot4}
 use Rattle.types.specs.declared.slots.Slot6.{Slot6}
@@ -78,16 +78,9 @@ twice_not_here alike xs i x h e p = let n : i + 1 ≡ suc i = omega arith in let
 pub twice_here : {A : Type 0} → (alike : A → A → Bool) (xs : List A) (i : ℕ) (x : A) → i < length xs → x ≡ get_or xs i x → list_any (alike x) (drop (i + 1) xs) ≡ true → none_twice alike (drop i xs) ≡ false
 twice_here alike xs i x h e p = rw (drop-cons xs i x h, ← add-one i, ← e, p) refl
 
-below : (i n : ℕ) → i < n → nat_lt i n ≡ true
-below i n h = grind arith
-
-behind : {A : Type 0} → (reads : (ℕ → ℕ) → A) (bank : List ℕ) (at : ℕ) → reads (slice_index (take (length bank - at) (drop at bank))) ≡ reads (from at (slice_index bank))
+-- what is read of the bytes from there on
+pub behind : {A : Type 0} → (reads : (ℕ → ℕ) → A) (bank : List ℕ) (at : ℕ) → reads (slice_index (take (length bank - at) (drop at bank))) ≡ reads (from at (slice_index bank))
 behind reads bank at = ap (λ ys. reads (slice_index ys)) (take_all (length bank - at) (drop at bank) (omega (arith, length-drop {A = ℕ}))) ∙ ap reads (from_drop bank at)
-
--- a slot of the pool is read from the bank
-pub slot_behind : {A : Type 0} → (reads : (ℕ → ℕ) → Option A) (free : A) (bank : List ℕ) (count i at : ℕ) (o : Option A) → i < count
-    → o ≡ reads (slice_index (take (length bank - at) (drop at bank))) → o ≡ (if nat_lt i count then reads (from at (slice_index bank)) else Some free)
-slot_behind reads free bank count i at o h e = rw (below i count h) (e ∙ behind reads bank at)
 
 rest_is : {A : Type 0} → (xs : List A) (at : ℕ) → take (length xs - at) (drop at xs) ≡ drop at xs
 rest_is {A} xs at = take_all (length xs - at) (drop at xs) (omega (arith, length-drop {A = A}))
