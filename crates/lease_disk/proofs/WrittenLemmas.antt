@@ -15,6 +15,12 @@ second_is false fuse e f = grind (arith, e, f)
 torn : (at : ℕ) (bytes : List ℕ) (old : Region) → IsTorn at (length bytes) old (written at bytes old)
 torn at bytes old = record { byte = λ i h. rw h refl; unsynced = λ i. refl; readable = refl }
 
+is_first : (fuse : ℕ) → false ≡ not (fuse == 1) → fuse ≡ 1
+is_first fuse e = grind (arith, e)
+
+is_second : (fuse : ℕ) → false ≡ not (fuse - 1 == 1) → fuse ≡ 2
+is_second fuse e = grind (arith, e)
+
 two_calls : (fuse middle new : ℕ) → middle ≡ fuse - 1 → new ≡ middle - 1 → new ≡ fuse - 2
 two_calls fuse middle new e f = omega arith
 
@@ -49,6 +55,7 @@ then_synced tells r at bytes (Ok x) old middle new w s = record {
   frame = touches_then tells r old middle new w.frame s.frame;
   writes = two_more old.writes middle.writes new.writes w.writes s.writes;
   most = omega (arith, w.writes, s.writes);
+  last = λ t. tt;
   failures = s.failures ∙ w.failures;
 }
 then_synced tells r at bytes (Err x) old middle new w s = record {
@@ -59,6 +66,7 @@ then_synced tells r at bytes (Err x) old middle new w s = record {
   frame = touches_then tells r old middle new w.frame s.frame;
   writes = tt;
   most = omega (arith, w.writes, s.writes);
+  last = λ t. let fuse : old.fuse r ≡ 2 = is_second (old.fuse r) (rw (w.fuse t) at s.answer t) in omega (arith, w.writes, s.writes, fuse);
   failures = s.failures ∙ ap (λ n. n + 1) w.failures;
 }
 
@@ -75,5 +83,6 @@ not_written tells r at bytes (Err e) old new is torn answer frame writes failure
   frame = frame;
   writes = tt;
   most = omega (arith, writes);
+  last = λ t. let fuse : old.fuse r ≡ 1 = is_first (old.fuse r) (answer t) in omega (arith, writes, fuse);
   failures = failures;
 }

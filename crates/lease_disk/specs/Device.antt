@@ -45,4 +45,5 @@ pub record IsWritten {T E : Type 0} (tells : Bool) (r at : ℕ) (bytes : List �
   pub frame : Touches tells r old new
   pub writes : OnOk result (new.writes ≡ old.writes + 2)
   pub most : new.writes ≤ old.writes + 2
+  pub last : tells ≡ true → OnErr result (new.writes ≡ old.writes + old.fuse r)
   pub failures : new.failures ≡ faults_after result old.failures

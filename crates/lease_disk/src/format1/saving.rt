@@ -63,6 +63,7 @@ pub fn save<D: Disk>(
     ensures frame { Touches D.tells region (D.device disk.old) (D.device disk.new) }
     ensures writes { OnOk result ((D.device disk.new).writes ≡ (D.device disk.old).writes + 6) }
     ensures most { (D.device disk.new).writes ≤ (D.device disk.old).writes + 6 }
+    ensures last { D.tells ≡ true → OnErr result ((D.device disk.new).writes ≡ (D.device disk.old).writes + (D.device disk.old).fuse region) }
     ensures failures { (D.device disk.new).failures ≡ faults_after result (D.device disk.old).failures }
 {
     let bank = marks.bank.other();
