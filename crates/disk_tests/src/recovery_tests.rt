@@ -112,6 +112,37 @@ fn the_bytes_of_a_first_lease(rt: HostRuntime) -> Result<(), Fail> {
 }
 
 #[test]
+fn an_expired_lease_beside_a_live_one_of_its_client(rt: HostRuntime) -> Result<(), Fail> {
+    // at clock 101 one client has DHCPv4 slot 0 until 101 and slot 1 until 701
+    let mut bytes = [
+        (15, 0x65),
+        (32, 1),
+        (33, 2),
+        (47, 0x65),
+        (48, 1),
+        (49, 2),
+        (112, 1),
+        (113, 2),
+        (126, 0x02),
+        (127, 0xbd),
+        (128, 1),
+        (129, 2),
+    ];
+    let mut expected = empty();
+    expected.clock = Moment::new(101).unwrap();
+    let client = Key4::new(&[1, 2]).unwrap();
+    expected.four[0] = Slot4::Bound(client, 101);
+    expected.four[1] = Slot4::Bound(client, 701);
+    let mut disk = disk_with(rt.alloc(), &bytes)?;
+    let found = recover(0, &mut disk, [16, 16]);
+    assert!(rt; matches!(found, Ok((slots, _)) if are_same(&slots, &expected)));
+    // until 102 both are live
+    bytes[3] = (47, 0x66);
+    assert!(rt; clock_with(rt.alloc(), &bytes)? == None);
+    Ok(())
+}
+
+#[test]
 fn the_open_bank_that_follows_counts(rt: HostRuntime) -> Result<(), Fail> {
     let rows = [
         (0, 1, Some(20)),

@@ -1,6 +1,6 @@
 -- What a region recovers to is a book.
-use Rattle.std.proofs.Common.{◌≡◌, ℕ, ◌+◌, ◌<◌, ◌≤◌, Bool, true, false, ◌&&◌, nat_le, nat_lt, suc, zero, List, [], ◌∷◌, length, replicate, get_or, slice_index, zero-add, ◌*◌, Option, Some, None, refl, sym, ap, ◌∙◌, subst, arith}
-use Rattle.std.specs.Prelude.{if◌then◌else◌, option_map, ◌==◌}
+use Rattle.std.proofs.Common.{◌≡◌, ℕ, ◌+◌, ◌<◌, ◌≤◌, Bool, true, false, ◌&&◌, nat_le, nat_lt, suc, zero, List, [], ◌∷◌, length, map, replicate, get_or, slice_index, All, zero-add, ◌*◌, Option, Some, None, refl, sym, ap, ◌∙◌, subst, arith}
+use Rattle.std.specs.Prelude.{if◌then◌else◌, ◌==◌}
 use Rattle.std.proofs.lemmas.List.{get_or_past}
 use Rattle.std.specs.Int.{w32, from_be_bytes}
 use Rattle.types.specs.Key6.{Key6Value}
@@ -122,25 +122,20 @@ not_below i count h = grind arith
 not_past : (until : ℕ) → nat_lt last_until until ≡ false → until ≤ last_until
 not_past until e = grind (arith, e)
 
--- DHCPv4: a slot at a clock is live, and within its limit
+-- slots of a pool of so many addresses, by a function that reads the i-th
+module _ {A : Type 0} (read : ℕ → Option A) (free : A) (count : ℕ) (xs : List A) (are : slots_from (λ i. if nat_lt i count then read i else Some free) 0 16 ≡ Some xs) where
+  read_or_free : (P : A → Type 0) (o : Option A) (b : Bool) (x : A) → P free → ((y : A) → o ≡ Some y → P y) → (if b then o else Some free) ≡ Some x → P x
+  read_or_free P o true x f h e = h x e
+  read_or_free P o false x f h e = subst P (same_some free x e) f
 
-stays4 : (clock : ℕ) (x : Slot4) (b : Bool) → (b ≡ true → live4 clock x ≡ x) → live4 clock (if b then x else S4.Free) ≡ (if b then x else S4.Free)
-stays4 clock x true h = h refl
-stays4 clock x false h = refl
+  each : (P : A → Type 0) → P free → ((i : ℕ) (y : A) → read i ≡ Some y → P y) → All P xs
+  each P f h i d k = read_or_free P (read i) (nat_lt i count) (get_or xs i d) f (h i) (slot_at (λ i. if nat_lt i count then read i else Some free) 16 xs are i d k)
 
-live_twice4 : (clock : ℕ) (slot : Slot4) → live4 clock (live4 clock slot) ≡ live4 clock slot
-live_twice4 clock S4.Free = refl
-live_twice4 clock (S4.Bound key until) = stays4 clock (S4.Bound key until) (nat_lt clock until) (λ e. rw e refl)
-live_twice4 clock (S4.Barred until) = stays4 clock (S4.Barred until) (nat_lt clock until) (λ e. rw e refl)
+  past : (i : ℕ) → count ≤ i → get_or xs i free ≡ free
+  past i h = past_all xs free i (nat_lt i (length xs)) refl
+      (λ k. past_pool free (read i) (nat_lt i count) (get_or xs i free) (not_below i count h) (slot_at (λ i. if nat_lt i count then read i else Some free) 16 xs are i free k))
 
-within_if4 : (b : Bool) (x : Slot4) → IsWithin4 x → IsWithin4 (if b then x else S4.Free)
-within_if4 true x h = h
-within_if4 false x h = tt
-
-live_within4 : (clock : ℕ) (slot : Slot4) → IsWithin4 slot → IsWithin4 (live4 clock slot)
-live_within4 clock S4.Free h = tt
-live_within4 clock (S4.Bound key until) h = within_if4 (nat_lt clock until) (S4.Bound key until) h
-live_within4 clock (S4.Barred until) h = within_if4 (nat_lt clock until) (S4.Barred until) h
+-- a slot is within its limit
 
 read_within4 : (a p b l c : Bool) (key : List ℕ) (until : ℕ) (x : Slot4) → (p ≡ false → until ≤ last_until)
     → (if a then Some S4.Free else if p then None else if b then (if l then Some (S4.Bound key until) else None) else if c then Some (S4.Barred until) else None) ≡ Some x → IsWithin4 x
@@ -154,42 +149,6 @@ read_within4 false false false l false key until x h e = cc
 slot4_within : (s : ℕ → ℕ) (x : Slot4) → slot4_of s ≡ Some x → IsWithin4 x
 slot4_within s x e = read_within4 (s 0 == 0) (nat_lt last_until (until_of s)) (s 0 == 1) (nat_le 2 (s 1) && nat_le (s 1) 64) (s 0 == 2) (bytes_at s 16 (s 1)) (until_of s) x (not_past (until_of s)) e
 
-four_facts : (clock : ℕ) (o : Option Slot4) (b : Bool) (x : Slot4) → ((y : Slot4) → o ≡ Some y → IsWithin4 y) → (if b then option_map (live4 clock) o else Some S4.Free) ≡ Some x → (live4 clock x ≡ x) × IsWithin4 x
-four_facts clock (Some y) true x h e =
-    let k : live4 clock y ≡ x = same_some (live4 clock y) x e in
-    (subst (λ (z : Slot4). live4 clock z ≡ z) k (live_twice4 clock y), subst (λ (z : Slot4). IsWithin4 z) k (live_within4 clock y (h y refl)))
-four_facts clock None true x h e = cc
-four_facts clock o false x h e =
-    let k : S4.Free ≡ x = same_some S4.Free x e in
-    (subst (λ (z : Slot4). live4 clock z ≡ z) k refl, subst (λ (z : Slot4). IsWithin4 z) k tt)
-
-four_fact : (count : ℕ) (bank : ℕ → ℕ) (four : List Slot4) → slots_from (four_in count bank) 0 16 ≡ Some four → (i : ℕ) (d : Slot4) → i < length four → (live4 (clock_of bank) (get_or four i d) ≡ get_or four i d) × IsWithin4 (get_or four i d)
-four_fact count bank four e i d h = four_facts (clock_of bank) (slot4_of (from (32 + 80 * i) bank)) (nat_lt i count) (get_or four i d) (slot4_within (from (32 + 80 * i) bank)) (slot_at (four_in count bank) 16 four e i d h)
-
-four_past : (count : ℕ) (bank : ℕ → ℕ) (four : List Slot4) → slots_from (four_in count bank) 0 16 ≡ Some four → (i : ℕ) → count ≤ i → get_or four i S4.Free ≡ S4.Free
-four_past count bank four e i h = past_all four S4.Free i (nat_lt i (length four)) refl
-    (λ k. past_pool S4.Free (option_map (live4 (clock_of bank)) (slot4_of (from (32 + 80 * i) bank))) (nat_lt i count) (get_or four i S4.Free) (not_below i count h) (slot_at (four_in count bank) 16 four e i S4.Free k))
-
--- DHCPv6: a slot at a clock is live, and within its limit
-
-stays6 : (clock : ℕ) (x : Slot6) (b : Bool) → (b ≡ true → live6 clock x ≡ x) → live6 clock (if b then x else S6.Free) ≡ (if b then x else S6.Free)
-stays6 clock x true h = h refl
-stays6 clock x false h = refl
-
-live_twice6 : (clock : ℕ) (slot : Slot6) → live6 clock (live6 clock slot) ≡ live6 clock slot
-live_twice6 clock S6.Free = refl
-live_twice6 clock (S6.Bound key until) = stays6 clock (S6.Bound key until) (nat_lt clock until) (λ e. rw e refl)
-live_twice6 clock (S6.Barred until) = stays6 clock (S6.Barred until) (nat_lt clock until) (λ e. rw e refl)
-
-within_if6 : (b : Bool) (x : Slot6) → IsWithin6 x → IsWithin6 (if b then x else S6.Free)
-within_if6 true x h = h
-within_if6 false x h = tt
-
-live_within6 : (clock : ℕ) (slot : Slot6) → IsWithin6 slot → IsWithin6 (live6 clock slot)
-live_within6 clock S6.Free h = tt
-live_within6 clock (S6.Bound key until) h = within_if6 (nat_lt clock until) (S6.Bound key until) h
-live_within6 clock (S6.Barred until) h = within_if6 (nat_lt clock until) (S6.Barred until) h
-
 read_within6 : (a p b l c : Bool) (key : Key6Value) (until : ℕ) (x : Slot6) → (p ≡ false → until ≤ last_until)
     → (if a then Some S6.Free else if p then None else if b then (if l then Some (S6.Bound key until) else None) else if c then Some (S6.Barred until) else None) ≡ Some x → IsWithin6 x
 read_within6 true p b l c key until x h e = subst (λ (y : Slot6). IsWithin6 y) (same_some S6.Free x e) tt
@@ -201,22 +160,6 @@ read_within6 false false false l false key until x h e = cc
 
 slot6_within : (s : ℕ → ℕ) (x : Slot6) → slot6_of s ≡ Some x → IsWithin6 x
 slot6_within s x e = read_within6 (s 0 == 0) (nat_lt last_until (until_of s)) (s 0 == 1) (nat_le 3 (s 1) && nat_le (s 1) 130) (s 0 == 2) (record { duid = bytes_at s 16 (s 1); iaid = from_be_bytes w32 (bytes_at s 4 4) }) (until_of s) x (not_past (until_of s)) e
-
-six_facts : (clock : ℕ) (o : Option Slot6) (b : Bool) (x : Slot6) → ((y : Slot6) → o ≡ Some y → IsWithin6 y) → (if b then option_map (live6 clock) o else Some S6.Free) ≡ Some x → (live6 clock x ≡ x) × IsWithin6 x
-six_facts clock (Some y) true x h e =
-    let k : live6 clock y ≡ x = same_some (live6 clock y) x e in
-    (subst (λ (z : Slot6). live6 clock z ≡ z) k (live_twice6 clock y), subst (λ (z : Slot6). IsWithin6 z) k (live_within6 clock y (h y refl)))
-six_facts clock None true x h e = cc
-six_facts clock o false x h e =
-    let k : S6.Free ≡ x = same_some S6.Free x e in
-    (subst (λ (z : Slot6). live6 clock z ≡ z) k refl, subst (λ (z : Slot6). IsWithin6 z) k tt)
-
-six_fact : (count : ℕ) (bank : ℕ → ℕ) (six : List Slot6) → slots_from (six_in count bank) 0 16 ≡ Some six → (i : ℕ) (d : Slot6) → i < length six → (live6 (clock_of bank) (get_or six i d) ≡ get_or six i d) × IsWithin6 (get_or six i d)
-six_fact count bank six e i d h = six_facts (clock_of bank) (slot6_of (from (1312 + 152 * i) bank)) (nat_lt i count) (get_or six i d) (slot6_within (from (1312 + 152 * i) bank)) (slot_at (six_in count bank) 16 six e i d h)
-
-six_past : (count : ℕ) (bank : ℕ → ℕ) (six : List Slot6) → slots_from (six_in count bank) 0 16 ≡ Some six → (i : ℕ) → count ≤ i → get_or six i S6.Free ≡ S6.Free
-six_past count bank six e i h = past_all six S6.Free i (nat_lt i (length six)) refl
-    (λ k. past_pool S6.Free (option_map (live6 (clock_of bank)) (slot6_of (from (1312 + 152 * i) bank))) (nat_lt i count) (get_or six i S6.Free) (not_below i count h) (slot_at (six_in count bank) 16 six e i S6.Free k))
 
 -- A book
 
@@ -231,19 +174,19 @@ record HasSlots (clock : ℕ) (four : Option (List Slot4)) (six : Option (List S
   pub clock_is : clock ≡ slots.clock
   pub four_are : four ≡ Some slots.four
   pub six_are : six ≡ Some slots.six
-  pub once4 : none_twice same_client4 slots.four ≡ true
-  pub once6 : none_twice same_client6 slots.six ≡ true
+  pub once4 : none_twice same_client4 (map (live4 slots.clock) slots.four) ≡ true
+  pub once6 : none_twice same_client6 (map (live6 slots.clock) slots.six) ≡ true
 
 has_slots : (clock : ℕ) (four : Option (List Slot4)) (six : Option (List Slot6)) (slots : Slots) → book_with clock four six ≡ Some slots → HasSlots clock four six slots
 has_slots clock (Some four) (Some six) slots e =
-    let p = passes (nat_le clock last_clock) (none_twice same_client4 four) (none_twice same_client6 six) (record { four = four; six = six; clock = clock }) slots e in
+    let p = passes (nat_le clock last_clock) (none_twice same_client4 (map (live4 clock) four)) (none_twice same_client6 (map (live6 clock) six)) (record { four = four; six = six; clock = clock }) slots e in
     let k : record { four = four; six = six; clock = clock } ≡ slots = p.2 in
     record {
       clock_is = ap (λ (s : Slots). s.clock) k;
       four_are = ap (λ (s : Slots). Some s.four) k;
       six_are = ap (λ (s : Slots). Some s.six) k;
-      once4 = ap (λ (s : Slots). none_twice same_client4 s.four) (sym k) ∙ p.0;
-      once6 = ap (λ (s : Slots). none_twice same_client6 s.six) (sym k) ∙ p.1;
+      once4 = ap (λ (s : Slots). none_twice same_client4 (map (live4 s.clock) s.four)) (sym k) ∙ p.0;
+      once6 = ap (λ (s : Slots). none_twice same_client6 (map (live6 s.clock) s.six)) (sym k) ∙ p.1;
     }
 has_slots clock None six slots e = cc
 has_slots clock (Some four) None slots e = cc
@@ -252,13 +195,13 @@ pub bank_book : (counts : List ℕ) (bank : ℕ → ℕ) (slots : Slots) → boo
 unfolding book_of
 bank_book counts bank slots e =
     let s = has_slots (clock_of bank) (slots_from (four_in (slice_index counts 0) bank) 0 16) (slots_from (six_in (slice_index counts 1) bank) 0 16) slots e in
+    let read4 : ℕ → Option Slot4 = λ i. slot4_of (from (32 + 80 * i) bank) in
+    let read6 : ℕ → Option Slot6 = λ i. slot6_of (from (1312 + 152 * i) bank) in
     record {
-      past4 = λ i h. four_past (slice_index counts 0) bank slots.four s.four_are i h;
-      past6 = λ i h. six_past (slice_index counts 1) bank slots.six s.six_are i h;
-      live4 = λ i d h. subst (λ (t : ℕ). live4 t (get_or slots.four i d) ≡ get_or slots.four i d) s.clock_is (four_fact (slice_index counts 0) bank slots.four s.four_are i d h).0;
-      live6 = λ i d h. subst (λ (t : ℕ). live6 t (get_or slots.six i d) ≡ get_or slots.six i d) s.clock_is (six_fact (slice_index counts 1) bank slots.six s.six_are i d h).0;
-      within4 = λ i d h. (four_fact (slice_index counts 0) bank slots.four s.four_are i d h).1;
-      within6 = λ i d h. (six_fact (slice_index counts 1) bank slots.six s.six_are i d h).1;
+      past4 = past read4 S4.Free (slice_index counts 0) slots.four s.four_are;
+      past6 = past read6 S6.Free (slice_index counts 1) slots.six s.six_are;
+      within4 = each read4 S4.Free (slice_index counts 0) slots.four s.four_are IsWithin4 tt (λ i. slot4_within (from (32 + 80 * i) bank));
+      within6 = each read6 S6.Free (slice_index counts 1) slots.six s.six_are IsWithin6 tt (λ i. slot6_within (from (1312 + 152 * i) bank));
       once4 = s.once4;
       once6 = s.once6;
     }

@@ -1,6 +1,6 @@
 -- What is written to a bank is what is read from it.
-use Rattle.std.proofs.Common.{◌≡◌, ℕ, ◌+◌, ◌-◌, ◌*◌, ◌<◌, ◌≤◌, Bool, true, false, nat_le, nat_lt, suc, zero, List, [], ◌∷◌, ◌++◌, length, take, drop, replicate, get_or, slice_index, All, Option, Some, refl, sym, ap, ◌∙◌, subst, arith, append_assoc, zero-add}
-use Rattle.std.specs.Prelude.{if◌then◌else◌, option_map}
+use Rattle.std.proofs.Common.{◌≡◌, ℕ, ◌+◌, ◌-◌, ◌*◌, ◌<◌, ◌≤◌, Bool, true, false, nat_le, nat_lt, suc, zero, List, [], ◌∷◌, ◌++◌, length, map, take, drop, replicate, get_or, slice_index, All, Option, Some, refl, sym, ap, ◌∙◌, subst, arith, append_assoc, zero-add}
+use Rattle.std.specs.Prelude.{if◌then◌else◌}
 use Rattle.std.specs.Int.{w32, w64, to_be_bytes, from_be_bytes}
 use Rattle.std.specs.List.{flat_map}
 use Rattle.std.proofs.lemmas.List.{get_or-append-add, length-append, length-replicate}
@@ -123,33 +123,21 @@ slot_from f size start xs j d bank pre post e n h k =
 not_below : (j count : ℕ) → nat_lt j count ≡ false → count ≤ j
 not_below j count e = grind (arith, e)
 
-four_read : (count clock : ℕ) (four : List Slot4) (bank pre post : List ℕ)
-    → bank ≡ pre ++ (flat_map slot4_bytes four ++ post) → length pre ≡ 32 → clock_of (slice_index bank) ≡ clock
-    → All HasKey4 four → All IsWithin4 four → All (λ slot. live4 clock slot ≡ slot) four
-    → ((i : ℕ) → count ≤ i → get_or four i S4.Free ≡ S4.Free)
-    → (j : ℕ) → j < length four → (b : Bool) → nat_lt j count ≡ b
-    → (if b then option_map (live4 (clock_of (slice_index bank))) (slot4_of (from (32 + 80 * j) (slice_index bank))) else Some S4.Free) ≡ Some (get_or four j S4.Free)
-four_read count clock four bank pre post e n c keys within live past j h true t =
-    let slot : Slot4 = get_or four j S4.Free in
-    let read : slot4_of (from (32 + 80 * j) (slice_index bank)) ≡ Some slot =
-    ap slot4_of (slot_from slot4_bytes 80 32 four j S4.Free bank pre post e n (λ i d l. size4 (get_or four i d) (keys i d l)) h)
-    ∙ slot4_read slot (flat_map slot4_bytes (drop (suc j) four) ++ post) (keys j S4.Free h) (within j S4.Free h) in
-    ap (λ (o : Option Slot4). option_map (live4 (clock_of (slice_index bank))) o) read ∙ ap (λ (t : ℕ). Some (live4 t slot)) c ∙ ap Some (live j S4.Free h)
-four_read count clock four bank pre post e n c keys within live past j h false t = ap Some (sym (past j (not_below j count t)))
+-- the slots of one protocol, for a pool of so many addresses, by what each is written as and reads as
+module _ {A : Type 0} (f : A → List ℕ) (reads : (ℕ → ℕ) → Option A) (free : A) (size start count : ℕ) (xs : List A) (bank pre post : List ℕ) where
+  abbrev slot_in : ℕ → Option A
+  slot_in i = if nat_lt i count then reads (from (start + size * i) (slice_index bank)) else Some free
 
-six_read : (count clock : ℕ) (six : List Slot6) (bank pre post : List ℕ)
-    → bank ≡ pre ++ (flat_map slot6_bytes six ++ post) → length pre ≡ 1312 → clock_of (slice_index bank) ≡ clock
-    → All HasKey6 six → All IsWithin6 six → All (λ slot. live6 clock slot ≡ slot) six
-    → ((i : ℕ) → count ≤ i → get_or six i S6.Free ≡ S6.Free)
-    → (j : ℕ) → j < length six → (b : Bool) → nat_lt j count ≡ b
-    → (if b then option_map (live6 (clock_of (slice_index bank))) (slot6_of (from (1312 + 152 * j) (slice_index bank))) else Some S6.Free) ≡ Some (get_or six j S6.Free)
-six_read count clock six bank pre post e n c keys within live past j h true t =
-    let slot : Slot6 = get_or six j S6.Free in
-    let read : slot6_of (from (1312 + 152 * j) (slice_index bank)) ≡ Some slot =
-    ap slot6_of (slot_from slot6_bytes 152 1312 six j S6.Free bank pre post e n (λ i d l. size6 (get_or six i d) (keys i d l)) h)
-    ∙ slot6_read slot (flat_map slot6_bytes (drop (suc j) six) ++ post) (keys j S6.Free h) (within j S6.Free h) in
-    ap (λ (o : Option Slot6). option_map (live6 (clock_of (slice_index bank))) o) read ∙ ap (λ (t : ℕ). Some (live6 t slot)) c ∙ ap Some (live j S6.Free h)
-six_read count clock six bank pre post e n c keys within live past j h false t = ap Some (sym (past j (not_below j count t)))
+  module _ (is : bank ≡ pre ++ (flat_map f xs ++ post)) (front : length pre ≡ start) (whole : length xs ≡ 16)
+      (size_is : All (λ x. length (f x) ≡ size) xs) (back : All (λ x. (rest : List ℕ) → reads (slice_index (f x ++ rest)) ≡ Some x) xs)
+      (past : (i : ℕ) → count ≤ i → get_or xs i free ≡ free) where
+    slot_read : (j : ℕ) → j < length xs → (b : Bool) → nat_lt j count ≡ b → (if b then reads (from (start + size * j) (slice_index bank)) else Some free) ≡ Some (get_or xs j free)
+    slot_read j h true t = ap reads (slot_from f size start xs j free bank pre post is front size_is h) ∙ back j free h (flat_map f (drop (suc j) xs) ++ post)
+    slot_read j h false t = ap Some (sym (past j (not_below j count t)))
+
+    slots_read : slots_from slot_in 0 16 ≡ Some xs
+    slots_read = subst (λ (n : ℕ). slots_from slot_in 0 n ≡ Some xs) whole
+        (all_read slot_in xs free 0 (λ j h. ap slot_in (zero-add j) ∙ slot_read j h (nat_lt j count) refl))
 
 sizes_all : {A : Type 0} → (f : A → List ℕ) (size : ℕ) (xs : List A) → All (λ x. length (f x) ≡ size) xs → length (flat_map f xs) ≡ size * length xs
 sizes_all f size xs h = ap (λ ys. length (flat_map f ys)) (sym (take-length xs)) ∙ sizes f size xs (length xs) h (omega arith)
@@ -160,7 +148,7 @@ assoc_four a b c d = simp append_assoc
 assoc_six : (a b c d : List ℕ) → ((a ++ b) ++ c) ++ d ≡ (a ++ b) ++ (c ++ d)
 assoc_six a b c d = append_assoc (a ++ b) c d
 
-pub book_of_slots : (clock : ℕ) (four : List Slot4) (six : List Slot6) → clock ≤ last_clock → none_twice same_client4 four ≡ true → none_twice same_client6 six ≡ true
+pub book_of_slots : (clock : ℕ) (four : List Slot4) (six : List Slot6) → clock ≤ last_clock → none_twice same_client4 (map (live4 clock) four) ≡ true → none_twice same_client6 (map (live6 clock) six) ≡ true
     → book_with clock (Some four) (Some six) ≡ Some (record { four = four; six = six; clock = clock })
 book_of_slots clock four six h p q = rw (at_least clock last_clock h, p, q) refl
 
@@ -187,11 +175,9 @@ book_read counts slots sequence bank e n4 n6 small keys4 keys6 book =
     let l4 : length four ≡ 1280 = sizes_all slot4_bytes 80 slots.four (λ i d l. size4 (get_or slots.four i d) (keys4 i d l)) ∙ rw n4 refl in
     let l6 : length (front ++ four) ≡ 1312 = length-append front four ∙ rw l4 refl in
     let r4 : slots_from (four_in (slice_index counts 0) (slice_index bank)) 0 16 ≡ Some slots.four =
-    subst (λ (n : ℕ). slots_from (four_in (slice_index counts 0) (slice_index bank)) 0 n ≡ Some slots.four) n4
-    (all_read (four_in (slice_index counts 0) (slice_index bank)) slots.four S4.Free 0 (λ j h. ap (four_in (slice_index counts 0) (slice_index bank)) (zero-add j) ∙
-    four_read (slice_index counts 0) slots.clock slots.four bank front (six ++ rest) as4 refl c keys4 book.within4 book.live4 book.past4 j h (nat_lt j (slice_index counts 0)) refl)) in
+    slots_read slot4_bytes slot4_of S4.Free 80 32 (slice_index counts 0) slots.four bank front (six ++ rest) as4 refl n4
+    (λ i d l. size4 (get_or slots.four i d) (keys4 i d l)) (λ i d l post. slot4_read (get_or slots.four i d) post (keys4 i d l) (book.within4 i d l)) book.past4 in
     let r6 : slots_from (six_in (slice_index counts 1) (slice_index bank)) 0 16 ≡ Some slots.six =
-    subst (λ (n : ℕ). slots_from (six_in (slice_index counts 1) (slice_index bank)) 0 n ≡ Some slots.six) n6
-    (all_read (six_in (slice_index counts 1) (slice_index bank)) slots.six S6.Free 0 (λ j h. ap (six_in (slice_index counts 1) (slice_index bank)) (zero-add j) ∙
-    six_read (slice_index counts 1) slots.clock slots.six bank (front ++ four) rest as6 l6 c keys6 book.within6 book.live6 book.past6 j h (nat_lt j (slice_index counts 1)) refl)) in
+    slots_read slot6_bytes slot6_of S6.Free 152 1312 (slice_index counts 1) slots.six bank (front ++ four) rest as6 l6 n6
+    (λ i d l. size6 (get_or slots.six i d) (keys6 i d l)) (λ i d l post. slot6_read (get_or slots.six i d) post (keys6 i d l) (book.within6 i d l)) book.past6 in
     (λ i. book_with (c i) (r4 i) (r6 i)) ∙ (book_of_slots slots.clock slots.four slots.six small book.once4 book.once6)

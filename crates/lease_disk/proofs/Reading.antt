@@ -1,13 +1,13 @@
 -- Reading slots one after the other.
-use Rattle.std.proofs.Common.{◌≡◌, ℕ, ◌+◌, ◌-◌, ◌<◌, ◌≤◌, Bool, true, false, ◌&&◌, suc, zero, List, [], ◌∷◌, ◌++◌, length, take, drop, set, get_or, slice_index, Option, Some, None, refl, sym, ap, ◌∙◌, arith, append_assoc, drop-cons, add-one}
-use Rattle.std.specs.Prelude.{option_map, nat_lt, nat_le, ◌*◌}
+use Rattle.std.proofs.Common.{◌≡◌, ℕ, ◌+◌, ◌-◌, ◌<◌, ◌≤◌, Bool, true, false, not, ◌&&◌, ◌||◌, suc, zero, List, [], ◌∷◌, ◌++◌, length, map, take, drop, set, get_or, slice_index, Option, Some, None, refl, sym, ap, ◌∙◌, arith, append_assoc, drop-cons, add-one}
+use Rattle.std.specs.Prelude.{nat_le}
 use Rattle.std.specs.List.{list_any}
 use Rattle.types.specs.declared.slot4.Slot4.{Slot4}
 use Rattle.types.specs.declared.slots.Slot6.{Slot6}
 use Rattle.std.proofs.lemmas.List.{append-nil, length-drop, length-set, get_or-drop, take_more_set, take_all}
 use Rattle.types.specs.Slots.{same_client4, same_client6, live4, live6, none_twice}
 use Rattle.lease_disk.proofs.ReadBack.{book_of_slots}
-use Rattle.lease_disk.specs.Recovered.{book_of, book_with, bytes_at, from, clock_of, slot4_of, slot6_of, four_in, six_in, cons_some, slots_from}
+use Rattle.lease_disk.specs.Recovered.{book_of, book_with, bytes_at, from, clock_of, four_in, six_in, cons_some, slots_from}
 
 pub bytes_at_slice : (xs : List ℕ) (at n : ℕ) → at + n ≤ length xs → bytes_at (slice_index xs) at n ≡ take n (drop at xs)
 bytes_at_slice xs at zero h = refl
@@ -78,42 +78,29 @@ twice_not_here alike xs i x h e p = let n : i + 1 ≡ suc i = omega arith in let
 pub twice_here : {A : Type 0} → (alike : A → A → Bool) (xs : List A) (i : ℕ) (x : A) → i < length xs → x ≡ get_or xs i x → list_any (alike x) (drop (i + 1) xs) ≡ true → none_twice alike (drop i xs) ≡ false
 twice_here alike xs i x h e p = rw (drop-cons xs i x h, ← add-one i, ← e, p) refl
 
-below : (i n : ℕ) → i < n → nat_lt i n ≡ true
-below i n h = grind arith
-
-behind : {A : Type 0} → (reads : (ℕ → ℕ) → A) (bank : List ℕ) (at : ℕ) → reads (slice_index (take (length bank - at) (drop at bank))) ≡ reads (from at (slice_index bank))
+-- what is read of the bytes from there on
+pub behind : {A : Type 0} → (reads : (ℕ → ℕ) → A) (bank : List ℕ) (at : ℕ) → reads (slice_index (take (length bank - at) (drop at bank))) ≡ reads (from at (slice_index bank))
 behind reads bank at = ap (λ ys. reads (slice_index ys)) (take_all (length bank - at) (drop at bank) (omega (arith, length-drop {A = ℕ}))) ∙ ap reads (from_drop bank at)
-
-pub four_some : (bank : List ℕ) (count clock i : ℕ) (slot : Slot4) → i < count → clock ≡ clock_of (slice_index bank)
-    → Some slot ≡ slot4_of (slice_index (take (length bank - (32 + 80 * i)) (drop (32 + 80 * i) bank))) → Some (live4 clock slot) ≡ four_in count (slice_index bank) i
-four_some bank count clock i slot h c e =
-    rw (below i count h) (ap (λ (t : ℕ). Some (live4 t slot)) c ∙ ap (λ (o : Option Slot4). option_map (live4 (clock_of (slice_index bank))) o) (e ∙ behind slot4_of bank (32 + 80 * i)))
-
-pub four_none : (bank : List ℕ) (count i : ℕ) → i < count
-    → None ≡ slot4_of (slice_index (take (length bank - (32 + 80 * i)) (drop (32 + 80 * i) bank))) → None ≡ four_in count (slice_index bank) i
-four_none bank count i h e =
-    rw (below i count h) (ap (λ (o : Option Slot4). option_map (live4 (clock_of (slice_index bank))) o) (e ∙ behind slot4_of bank (32 + 80 * i)))
-
-pub six_some : (bank : List ℕ) (count clock i : ℕ) (slot : Slot6) → i < count → clock ≡ clock_of (slice_index bank)
-    → Some slot ≡ slot6_of (slice_index (take (length bank - (1312 + 152 * i)) (drop (1312 + 152 * i) bank))) → Some (live6 clock slot) ≡ six_in count (slice_index bank) i
-six_some bank count clock i slot h c e =
-    rw (below i count h) (ap (λ (t : ℕ). Some (live6 t slot)) c ∙ ap (λ (o : Option Slot6). option_map (live6 (clock_of (slice_index bank))) o) (e ∙ behind slot6_of bank (1312 + 152 * i)))
-
-pub six_none : (bank : List ℕ) (count i : ℕ) → i < count
-    → None ≡ slot6_of (slice_index (take (length bank - (1312 + 152 * i)) (drop (1312 + 152 * i) bank))) → None ≡ six_in count (slice_index bank) i
-six_none bank count i h e =
-    rw (below i count h) (ap (λ (o : Option Slot6). option_map (live6 (clock_of (slice_index bank))) o) (e ∙ behind slot6_of bank (1312 + 152 * i)))
 
 rest_is : {A : Type 0} → (xs : List A) (at : ℕ) → take (length xs - at) (drop at xs) ≡ drop at xs
 rest_is {A} xs at = take_all (length xs - at) (drop at xs) (omega (arith, length-drop {A = A}))
 
-pub no_twin_behind : {A : Type 0} → (alike : A → A → Bool) (xs : List A) (i : ℕ) (x : A) → i < length xs → x ≡ get_or xs i x
-    → false ≡ list_any (alike x) (take (length xs - (i + 1)) (drop (i + 1) xs)) → none_twice alike xs ≡ none_twice alike (drop i xs) → none_twice alike xs ≡ none_twice alike (drop (i + 1) xs)
-no_twin_behind alike xs i x h e p q = q ∙ twice_not_here alike xs i x h e (ap (λ ys. list_any (alike x) ys) (sym (rest_is xs (i + 1))) ∙ sym p)
+-- no two are alike by what a function makes of them
+any_mapped : {A : Type 0} → (alike : A → Bool) (f : A → A) (xs : List A) → list_any alike (map f xs) ≡ list_any (λ x. alike (f x)) xs
+any_mapped alike f [] = refl
+any_mapped alike f (x ∷ xs) = ap (λ b. alike (f x) || b) (any_mapped alike f xs)
 
-pub twin_behind : {A : Type 0} → (alike : A → A → Bool) (xs : List A) (i : ℕ) (x : A) → i < length xs → x ≡ get_or xs i x
-    → true ≡ list_any (alike x) (take (length xs - (i + 1)) (drop (i + 1) xs)) → none_twice alike xs ≡ none_twice alike (drop i xs) → false ≡ none_twice alike xs
-twin_behind alike xs i x h e p q = sym (q ∙ twice_here alike xs i x h e (ap (λ ys. list_any (alike x) ys) (sym (rest_is xs (i + 1))) ∙ sym p))
+pub twice_mapped : {A : Type 0} → (alike : A → A → Bool) (f : A → A) (xs : List A) → none_twice alike (map f xs) ≡ none_twice (λ a b. alike (f a) (f b)) xs
+twice_mapped alike f [] = refl
+twice_mapped alike f (x ∷ xs) = λ i. not (any_mapped (alike (f x)) f xs i) && twice_mapped alike f xs i
+
+pub no_twin_behind : {A : Type 0} → (alike : A → A → Bool) (xs : List A) (i : ℕ) (x : A) (all : Bool) → i < length xs → x ≡ get_or xs i x
+    → false ≡ list_any (alike x) (take (length xs - (i + 1)) (drop (i + 1) xs)) → all ≡ none_twice alike (drop i xs) → all ≡ none_twice alike (drop (i + 1) xs)
+no_twin_behind alike xs i x all h e p q = q ∙ twice_not_here alike xs i x h e (ap (λ ys. list_any (alike x) ys) (sym (rest_is xs (i + 1))) ∙ sym p)
+
+pub twin_behind : {A : Type 0} → (alike : A → A → Bool) (xs : List A) (i : ℕ) (x : A) (all : Bool) → i < length xs → x ≡ get_or xs i x
+    → true ≡ list_any (alike x) (take (length xs - (i + 1)) (drop (i + 1) xs)) → all ≡ none_twice alike (drop i xs) → false ≡ all
+twin_behind alike xs i x all h e p q = sym (q ∙ twice_here alike xs i x h e (ap (λ ys. list_any (alike x) ys) (sym (rest_is xs (i + 1))) ∙ sym p))
 
 pub no_four : (counts : List ℕ) (bank : ℕ → ℕ) → None ≡ slots_from (four_in (slice_index counts 0) bank) 0 16 → None ≡ book_of counts bank
 unfolding book_of
@@ -137,7 +124,7 @@ book_late clock four six h = let e : nat_le clock 1099511627775 ≡ false = grin
 
 pub book_whole : (counts : List ℕ) (bank : ℕ → ℕ) (seconds clock : ℕ) (four : List Slot4) (six : List Slot6) (a b : Bool)
     → seconds ≡ clock_of bank → Some four ≡ slots_from (four_in (slice_index counts 0) bank) 0 16 → Some six ≡ slots_from (six_in (slice_index counts 1) bank) 0 16
-    → clock ≡ seconds → seconds ≤ 1099511627775 → a ≡ none_twice same_client4 four → b ≡ none_twice same_client6 six → a ≡ true → b ≡ true
+    → clock ≡ seconds → seconds ≤ 1099511627775 → a ≡ none_twice same_client4 (map (live4 seconds) four) → b ≡ none_twice same_client6 (map (live6 seconds) six) → a ≡ true → b ≡ true
     → Some (record { four = four; six = six; clock = clock }) ≡ book_of counts bank
 book_whole counts bank seconds clock four six a b c e f v small p q h k =
     (λ i. Some (record { four = four; six = six; clock = v i })) ∙ sym (book_of_slots seconds four six small (sym p ∙ h) (sym q ∙ k)) ∙ book_is counts bank seconds four six c e f
@@ -148,9 +135,9 @@ and_false false = refl
 
 pub book_twice4 : (counts : List ℕ) (bank : ℕ → ℕ) (clock : ℕ) (four : List Slot4) (six : List Slot6) (a : Bool)
     → clock ≡ clock_of bank → Some four ≡ slots_from (four_in (slice_index counts 0) bank) 0 16 → Some six ≡ slots_from (six_in (slice_index counts 1) bank) 0 16
-    → a ≡ none_twice same_client4 four → a ≡ false → None ≡ book_of counts bank
+    → a ≡ none_twice same_client4 (map (live4 clock) four) → a ≡ false → None ≡ book_of counts bank
 book_twice4 counts bank clock four six a c e f p h =
-    let q : none_twice same_client4 four ≡ false = sym p ∙ h in
+    let q : none_twice same_client4 (map (live4 clock) four) ≡ false = sym p ∙ h in
     (rw (q, and_false (nat_le clock 1099511627775)) refl) ∙ book_is counts bank clock four six c e f
 
 and_late : (a b : Bool) → (a && b && false) ≡ false
@@ -159,7 +146,7 @@ and_late false b = refl
 
 pub book_twice6 : (counts : List ℕ) (bank : ℕ → ℕ) (clock : ℕ) (four : List Slot4) (six : List Slot6) (b : Bool)
     → clock ≡ clock_of bank → Some four ≡ slots_from (four_in (slice_index counts 0) bank) 0 16 → Some six ≡ slots_from (six_in (slice_index counts 1) bank) 0 16
-    → b ≡ none_twice same_client6 six → b ≡ false → None ≡ book_of counts bank
+    → b ≡ none_twice same_client6 (map (live6 clock) six) → b ≡ false → None ≡ book_of counts bank
 book_twice6 counts bank clock four six b c e f p h =
-    let q : none_twice same_client6 six ≡ false = sym p ∙ h in
-    (rw (q, and_late (nat_le clock 1099511627775) (none_twice same_client4 four)) refl) ∙ book_is counts bank clock four six c e f
+    let q : none_twice same_client6 (map (live6 clock) six) ≡ false = sym p ∙ h in
+    (rw (q, and_late (nat_le clock 1099511627775) (none_twice same_client4 (map (live4 clock) four))) refl) ∙ book_is counts bank clock four six c e f

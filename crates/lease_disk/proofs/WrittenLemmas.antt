@@ -15,6 +15,12 @@ second_is false fuse e f = grind (arith, e, f)
 torn : (at : ℕ) (bytes : List ℕ) (old : Region) → IsTorn at (length bytes) old (written at bytes old)
 torn at bytes old = record { byte = λ i h. rw h refl; unsynced = λ i. refl; readable = refl }
 
+is_first : (fuse : ℕ) → false ≡ not (fuse == 1) → fuse ≡ 1
+is_first fuse e = grind (arith, e)
+
+is_second : (fuse : ℕ) → false ≡ not (fuse - 1 == 1) → fuse ≡ 2
+is_second fuse e = grind (arith, e)
+
 two_calls : (fuse middle new : ℕ) → middle ≡ fuse - 1 → new ≡ middle - 1 → new ≡ fuse - 2
 two_calls fuse middle new e f = omega arith
 
@@ -48,6 +54,8 @@ then_synced tells r at bytes (Ok x) old middle new w s = record {
   fuse = λ t. two_calls (old.fuse r) (middle.fuse r) (new.fuse r) (w.fuse t) (s.fuse t);
   frame = touches_then tells r old middle new w.frame s.frame;
   writes = two_more old.writes middle.writes new.writes w.writes s.writes;
+  most = omega (arith, w.writes, s.writes);
+  last = λ t. tt;
   failures = s.failures ∙ w.failures;
 }
 then_synced tells r at bytes (Err x) old middle new w s = record {
@@ -57,20 +65,24 @@ then_synced tells r at bytes (Err x) old middle new w s = record {
   fuse = λ t. tt;
   frame = touches_then tells r old middle new w.frame s.frame;
   writes = tt;
+  most = omega (arith, w.writes, s.writes);
+  last = λ t. let fuse : old.fuse r ≡ 2 = is_second (old.fuse r) (rw (w.fuse t) at s.answer t) in omega (arith, w.writes, s.writes, fuse);
   failures = s.failures ∙ ap (λ n. n + 1) w.failures;
 }
 
 pub not_written : {T E : Type 0} → (tells : Bool) (r at : ℕ) (bytes : List ℕ) (result : Result T E) (old new : Device) → IsErr result
     → (tells ≡ true → IsTorn at (length bytes) (old.region r) (new.region r)) → (tells ≡ true → false ≡ not (old.fuse r == 1))
-    → Touches tells r old new → new.failures ≡ old.failures + 1
+    → Touches tells r old new → new.writes ≡ old.writes + 1 → new.failures ≡ old.failures + 1
     → IsWritten tells r at bytes result old new
-not_written tells r at bytes (Ok x) old new is torn answer frame failures = absurd cc
-not_written tells r at bytes (Err e) old new is torn answer frame failures = record {
+not_written tells r at bytes (Ok x) old new is torn answer frame writes failures = absurd cc
+not_written tells r at bytes (Err e) old new is torn answer frame writes failures = record {
   ok = λ t. tt;
   err = torn;
   answer = λ t. first_fails (old.fuse r) (answer t);
   fuse = λ t. tt;
   frame = frame;
   writes = tt;
+  most = omega (arith, writes);
+  last = λ t. let fuse : old.fuse r ≡ 1 = is_first (old.fuse r) (answer t) in omega (arith, writes, fuse);
   failures = failures;
 }

@@ -1,6 +1,6 @@
 -- A device of regions as contracts see it, and what a call leaves as it was. What is said of regions
 -- and fuses is said of a device that tells; of one that does not, the counts alone are.
-use Rattle.std.specs.Prelude.{◌≡◌, ◌≢◌, ℕ, ◌+◌, ◌-◌, ◌==◌, Bool, true, List, length, Option, Some, None, Result, is_ok, OnOk, OnErr}
+use Rattle.std.specs.Prelude.{◌≡◌, ◌≢◌, ℕ, ◌+◌, ◌-◌, ◌==◌, ◌≤◌, Bool, true, List, length, Option, Some, None, Result, is_ok, OnOk, OnErr}
 use Rattle.lease_disk.specs.Region.{Region, written, synced, IsTorn, effective, faults_after}
 
 pub record Device : Type 0 where
@@ -44,4 +44,6 @@ pub record IsWritten {T E : Type 0} (tells : Bool) (r at : ℕ) (bytes : List �
   pub fuse : tells ≡ true → OnOk result (new.fuse r ≡ old.fuse r - 2)
   pub frame : Touches tells r old new
   pub writes : OnOk result (new.writes ≡ old.writes + 2)
+  pub most : new.writes ≤ old.writes + 2
+  pub last : tells ≡ true → OnErr result (new.writes ≡ old.writes + old.fuse r)
   pub failures : new.failures ≡ faults_after result old.failures

@@ -37,7 +37,6 @@ use Rattle.bindings_v4.specs.Kept4 as kept4
 use Rattle.bindings_v4.specs.Slots4.{holder_of, book_of_slots}
 use Rattle.bindings_v4.specs.Table4.{Change, Unchanged, Offers, Withdraws, Binds, Bars, Frees, with_change, grants, discover_row, other_server_row, selecting_row, known_address_row, no_server_row, decline_row, release_row, inform_row, where_is, where_specified, server_of, lookup_in, row_of, Row, replies, answer4}
 use Rattle.bindings_v4.proofs.KeptBook.{begun_is_a_book, kept_is_a_book}
-use Rattle.bindings_v4.proofs.KeptLemmas.{live_once}
 use Rattle.bindings_v4.proofs.LaterBook.{later_is_a_book}
 use Rattle.bindings_v4.proofs.LawLemmas.{book_left}
 use Rattle.lease_disk.specs.Book as region
@@ -320,7 +319,7 @@ module _ (part : CircuitPart) where
 
   recovered_of : (slots : Option Slots) → ((found : Slots) → slots ≡ Some found → region.IsBook (counts_of part) found) → IfSome (option_map (book_in part) slots) (IsBookOf part)
   recovered_of None is = tt
-  recovered_of (Some slots) is = let book = is slots refl in begun slots (live_once slots.clock slots.four book.live4 book.once4) book.past4
+  recovered_of (Some slots) is = let book = is slots refl in begun slots book.once4 book.past4
 
   pub opened_of : (bytes : ℕ → ℕ) → IfSome (recovered_book part bytes) (IsBookOf part)
   opened_of bytes = recovered_of (recovered (counts_of part) bytes) (λ slots e. region_books.recovered_book (counts_of part) bytes slots e)

@@ -48,6 +48,8 @@ pub fn format<D: Disk>(region: u16, disk: &mut D) -> Result<(), Fault>
     ensures fuse { D.tells ≡ true → OnOk result ((D.device disk.new).fuse region ≡ (D.device disk.old).fuse region - 2) }
     ensures frame { Touches D.tells region (D.device disk.old) (D.device disk.new) }
     ensures writes { OnOk result ((D.device disk.new).writes ≡ (D.device disk.old).writes + 2) }
+    ensures most { (D.device disk.new).writes ≤ (D.device disk.old).writes + 2 }
+    ensures last { D.tells ≡ true → OnErr result ((D.device disk.new).writes ≡ (D.device disk.old).writes + (D.device disk.old).fuse region) }
     ensures failures { (D.device disk.new).failures ≡ faults_after result (D.device disk.old).failures }
 {
     let mut bytes = [0; REGION];

@@ -1,9 +1,12 @@
 //! The slots that a bank holds.
-ghost use Rattle.std.specs.Prelude.{◌≡◌, ◌≤◌, ◌+◌, ◌<◌, ℕ, length, slice_index, Some, None};
+ghost use Rattle.std.specs.Prelude.{◌≡◌, ◌≤◌, ◌+◌, ◌<◌, ℕ, Bool, nat_lt, if◌then◌else◌, length, map, slice_index, Option, Some, None};
 ghost use Rattle.std.specs.Int.{w32, w64, from_be_bytes};
 ghost use Rattle.std.specs.List.{list_any};
 ghost use Rattle.types.specs.Slots.{live4, live6, none_twice, same_client4, same_client6};
-ghost use Rattle.lease_disk.specs.Recovered.{bytes_at, clock_of, slot4_of, slot6_of, four_in, six_in, slots_from, book_of};
+ghost use Rattle.types.specs.declared.slot4.Slot4.TheVariants as S4;
+ghost use Rattle.types.specs.declared.slots.Slot6.TheVariants as S6;
+ghost use Rattle.lease_disk.specs.Layout.{four_at, six_at};
+ghost use Rattle.lease_disk.specs.Recovered.{bytes_at, from, slot4_of, slot6_of, slots_from, book_of};
 
 use super::layout::{CLOCK_AT, FOUR_AT, FOUR_SIZE, IAID_AT, KEY_AT, SIX_AT, SIX_SIZE, UNTIL_AT};
 use byteorder::{BigEndian, ByteOrder};
@@ -80,106 +83,114 @@ fn read_slot6(slot: &[u8]) -> Option<Slot6>
     }
 }
 
-/// The i-th slot of a pool of so many addresses.
-fn four_slot(bank: &[u8], count: u8, clock: u64, i: usize) -> Option<Slot4>
-    requires all { length bank.now ≡ 4096 }
-    requires clock { clock ≡ clock_of (slice_index bank.now) }
-    requires exists { i < 16 }
-    ensures { result ≡ four_in count (slice_index bank.now) i }
-{
-    if i >= usize::from(count) {
-        return Some(Slot4::Free);
+/// A slot of either protocol.
+trait Slot: Copy {
+    ghost FREE: { Self };
+
+    ghost in_bank: { (ℕ → ℕ) → ℕ → Option Self };
+
+    ghost live: { ℕ → Self → Self };
+
+    ghost same_client: { Self → Self → Bool };
+
+    const FREE: Self;
+
+    /// The i-th slot of a bank; `None` where it is damaged.
+    fn read(bank: &[u8], i: usize) -> Option<Self>
+        requires all { length bank.now ≡ 4096 }
+        requires exists { i < 16 }
+        ensures { result ≡ in_bank (slice_index bank.now) i };
+
+    /// Whether both are live at this clock and have one client.
+    fn is_twin(self, other: Self, clock: u64) -> bool
+        ensures { result ≡ same_client (live clock self) (live clock other) };
+}
+
+impl Slot for Slot4 {
+    ghost FREE = { S4.Free };
+
+    ghost in_bank = { λ bank i. slot4_of (from (four_at i) bank) };
+
+    ghost live = { live4 };
+
+    ghost same_client = { same_client4 };
+
+    const FREE: Slot4 = Slot4::Free;
+
+    fn read(bank: &[u8], i: usize) -> Option<Slot4> {
+        read_slot4(&bank[FOUR_AT + FOUR_SIZE * i..])
     }
-    let at = FOUR_AT + FOUR_SIZE * i;
-    let slot = read_slot4(&bank[at..])?;
-    Some(slot.live_at(clock))
-}
 
-/// The i-th slot of a pool of so many addresses.
-fn six_slot(bank: &[u8], count: u8, clock: u64, i: usize) -> Option<Slot6>
-    requires all { length bank.now ≡ 4096 }
-    requires clock { clock ≡ clock_of (slice_index bank.now) }
-    requires exists { i < 16 }
-    ensures { result ≡ six_in count (slice_index bank.now) i }
-{
-    if i >= usize::from(count) {
-        return Some(Slot6::Free);
-    }
-    let at = SIX_AT + SIX_SIZE * i;
-    let slot = read_slot6(&bank[at..])?;
-    Some(slot.live_at(clock))
-}
-
-fn read_four(bank: &[u8], count: u8, clock: u64) -> Option<[Slot4; 16]>
-    requires all { length bank.now ≡ 4096 }
-    requires clock { clock ≡ clock_of (slice_index bank.now) }
-    ensures { result ≡ slots_from (four_in count (slice_index bank.now)) 0 16 }
-{
-    let mut four = [Slot4::Free; 16];
-    'slots: for i in 0..16 {
-        four[i] = four_slot(bank, count, clock, i)?;
-    }
-    Some(four)
-}
-
-fn read_six(bank: &[u8], count: u8, clock: u64) -> Option<[Slot6; 16]>
-    requires all { length bank.now ≡ 4096 }
-    requires clock { clock ≡ clock_of (slice_index bank.now) }
-    ensures { result ≡ slots_from (six_in count (slice_index bank.now)) 0 16 }
-{
-    let mut six = [Slot6::Free; 16];
-    'slots: for i in 0..16 {
-        six[i] = six_slot(bank, count, clock, i)?;
-    }
-    Some(six)
-}
-
-fn is_same4(a: &Slot4, b: &Slot4) -> bool
-    ensures { result ≡ same_client4 a.now b.now }
-{
-    match (a, b) {
-        (Slot4::Bound(a, _), Slot4::Bound(b, _)) => a == b,
-        _ => false,
-    }
-}
-
-fn is_same6(a: &Slot6, b: &Slot6) -> bool
-    ensures { result ≡ same_client6 a.now b.now }
-{
-    match (a, b) {
-        (Slot6::Bound(a, _), Slot6::Bound(b, _)) => a == b,
-        _ => false,
-    }
-}
-
-fn has_client4(slots: &[Slot4], slot: &Slot4) -> bool
-    ensures { result ≡ list_any (same_client4 slot.now) slots.now }
-{
-    slots.iter().any(|other| is_same4(slot, other))
-}
-
-fn no_client_twice4(four: &[Slot4]) -> bool
-    ensures { result ≡ none_twice same_client4 four.now }
-{
-    for (i, slot) in four.iter().enumerate() {
-        if has_client4(&four[i + 1..], slot) {
-            return false;
+    fn is_twin(self, other: Slot4, clock: u64) -> bool {
+        let (own, other) = (self.live_at(clock), other.live_at(clock));
+        match (&own, &other) {
+            (Slot4::Bound(a, _), Slot4::Bound(b, _)) => a == b,
+            _ => false,
         }
     }
-    true
 }
 
-fn has_client6(slots: &[Slot6], slot: &Slot6) -> bool
-    ensures { result ≡ list_any (same_client6 slot.now) slots.now }
-{
-    slots.iter().any(|other| is_same6(slot, other))
+impl Slot for Slot6 {
+    ghost FREE = { S6.Free };
+
+    ghost in_bank = { λ bank i. slot6_of (from (six_at i) bank) };
+
+    ghost live = { live6 };
+
+    ghost same_client = { same_client6 };
+
+    const FREE: Slot6 = Slot6::Free;
+
+    fn read(bank: &[u8], i: usize) -> Option<Slot6> {
+        read_slot6(&bank[SIX_AT + SIX_SIZE * i..])
+    }
+
+    fn is_twin(self, other: Slot6, clock: u64) -> bool {
+        let (own, other) = (self.live_at(clock), other.live_at(clock));
+        match (&own, &other) {
+            (Slot6::Bound(a, _), Slot6::Bound(b, _)) => a == b,
+            _ => false,
+        }
+    }
 }
 
-fn no_client_twice6(six: &[Slot6]) -> bool
-    ensures { result ≡ none_twice same_client6 six.now }
+/// The i-th slot of a pool of so many addresses. One past them is not read, and free.
+fn read_slot<S: Slot>(bank: &[u8], count: u8, i: usize) -> Option<S>
+    requires all { length bank.now ≡ 4096 }
+    requires exists { i < 16 }
+    ensures { result ≡ (if nat_lt i count then S.in_bank (slice_index bank.now) i else Some S.FREE) }
 {
-    for (i, slot) in six.iter().enumerate() {
-        if has_client6(&six[i + 1..], slot) {
+    if i < usize::from(count) {
+        return S::read(bank, i);
+    }
+    Some(S::FREE)
+}
+
+/// The 16 slots of a bank, for a pool of so many addresses.
+fn read_slots<S: Slot>(bank: &[u8], count: u8) -> Option<[S; 16]>
+    requires { length bank.now ≡ 4096 }
+    ensures { result ≡ slots_from (λ i. if nat_lt i count then S.in_bank (slice_index bank.now) i else Some S.FREE) 0 16 }
+{
+    let mut slots = [S::FREE; 16];
+    'slots: for i in 0..16 {
+        slots[i] = read_slot(bank, count, i)?;
+    }
+    Some(slots)
+}
+
+/// Whether this slot and one of those are live at a clock and have one client.
+fn has_twin<S: Slot>(slots: &[S], slot: S, clock: u64) -> bool
+    ensures { result ≡ list_any (λ other. S.same_client (S.live clock slot) (S.live clock other)) slots.now }
+{
+    slots.iter().any(|other| slot.is_twin(*other, clock))
+}
+
+/// Whether no client has two slots that are live at this clock.
+fn has_no_twins<S: Slot>(slots: &[S], clock: u64) -> bool
+    ensures { result ≡ none_twice S.same_client (map (S.live clock) slots.now) }
+{
+    for (i, slot) in slots.iter().enumerate() {
+        if has_twin(&slots[i + 1..], *slot, clock) {
             return false;
         }
     }
@@ -193,13 +204,13 @@ pub fn read_bank(bank: &[u8], counts: [u8; 2]) -> Option<Slots>
     ensures { result ≡ book_of counts (slice_index bank.now) }
 {
     let seconds = number8(bank, CLOCK_AT);
-    let four = read_four(bank, counts[0], seconds)?;
-    let six = read_six(bank, counts[1], seconds)?;
+    let four = read_slots::<Slot4>(bank, counts[0])?;
+    let six = read_slots::<Slot6>(bank, counts[1])?;
     let clock = Moment::new(seconds)?;
-    if !no_client_twice4(&four) {
+    if !has_no_twins(&four, seconds) {
         return None;
     }
-    if !no_client_twice6(&six) {
+    if !has_no_twins(&six, seconds) {
         return None;
     }
     Some(Slots { four, six, clock })

@@ -1,5 +1,5 @@
 //! Saving the slots of a circuit so that a crash leaves the old ones or the new ones.
-ghost use Rattle.std.specs.Prelude.{◌≡◌, ℕ, true, ◌+◌, ◌==◌, ◌<◌, if◌then◌else◌, List, [], ◌∷◌, Some, length, is_ok, OnOk, OnErr};
+ghost use Rattle.std.specs.Prelude.{◌≡◌, ℕ, true, ◌+◌, ◌==◌, ◌<◌, ◌≤◌, if◌then◌else◌, List, [], ◌∷◌, Some, length, is_ok, OnOk, OnErr};
 ghost use Rattle.lease_disk.specs.Book.{IsBook};
 ghost use Rattle.lease_disk.specs.Device.{IsWritten, Touches};
 ghost use Rattle.lease_disk.specs.Layout.{gate_open, bank_at};
@@ -62,6 +62,8 @@ pub fn save<D: Disk>(
     ensures kept { OnErr result (marks.new ≡ marks.old) }
     ensures frame { Touches D.tells region (D.device disk.old) (D.device disk.new) }
     ensures writes { OnOk result ((D.device disk.new).writes ≡ (D.device disk.old).writes + 6) }
+    ensures most { (D.device disk.new).writes ≤ (D.device disk.old).writes + 6 }
+    ensures last { D.tells ≡ true → OnErr result ((D.device disk.new).writes ≡ (D.device disk.old).writes + (D.device disk.old).fuse region) }
     ensures failures { (D.device disk.new).failures ≡ faults_after result (D.device disk.old).failures }
 {
     let bank = marks.bank.other();

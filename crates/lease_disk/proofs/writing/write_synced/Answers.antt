@@ -4,7 +4,7 @@ use Rattle.lease_disk.proofs.writing.write_synced.Goals as goal
 pub returns-in_err-write_at : goal.returns-in_err-write_at
 returns-in_err-write_at g c =
     let e = c.in_err-write_at.ensures in
-    not_written g.D.Disk.tells c.args.region c.args.at c.args.bytes.now c.from_residual.result (g.D.Disk.device c.args.disk.now) (g.D.Disk.device c.write_at.new.self) c.from_residual.ensures.0 e.err e.answer e.frame e.failures
+    not_written g.D.Disk.tells c.args.region c.args.at c.args.bytes.now c.from_residual.result (g.D.Disk.device c.args.disk.now) (g.D.Disk.device c.write_at.new.self) c.from_residual.ensures.0 e.err e.answer e.frame e.writes e.failures
 
 pub returns : goal.returns
 returns g c =

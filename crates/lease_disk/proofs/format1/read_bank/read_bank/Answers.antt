@@ -13,15 +13,15 @@ returns-in_err-clock c = c.from_residual-in_err-clock.ensures
     ∙ book_late c.number8-seconds.result c.in_ok-four.four c.in_ok-six.six (λ h. let e = c.in_err-clock.ensures.within.1 h in cc)
     ∙ book_is c.args.counts (slice_index c.args.bank.now) c.number8-seconds.result _ _ c.number8-seconds.ensures c.in_ok-four.ensures c.in_ok-six.ensures
 
-pub returns-then-not-no_client_twice4 : goal.returns-then-not-no_client_twice4
-returns-then-not-no_client_twice4 c = book_twice4 c.args.counts (slice_index c.args.bank.now) c.number8-seconds.result c.in_ok-four.four c.in_ok-six.six _
-    c.number8-seconds.ensures c.in_ok-four.ensures c.in_ok-six.ensures c.no_client_twice4.ensures c.if-not-no_client_twice4.true
+pub returns-then-not-has_no_twins : goal.returns-then-not-has_no_twins
+returns-then-not-has_no_twins c = book_twice4 c.args.counts (slice_index c.args.bank.now) c.number8-seconds.result c.in_ok-four.four c.in_ok-six.six _
+    c.number8-seconds.ensures c.in_ok-four.ensures c.in_ok-six.ensures c.has_no_twins.ensures c.if-not-has_no_twins.true
 
-pub returns-then-not-no_client_twice6 : goal.returns-then-not-no_client_twice6
-returns-then-not-no_client_twice6 c = book_twice6 c.args.counts (slice_index c.args.bank.now) c.number8-seconds.result c.in_ok-four.four c.in_ok-six.six _
-    c.number8-seconds.ensures c.in_ok-four.ensures c.in_ok-six.ensures c.no_client_twice6.ensures c.if-not-no_client_twice6.true
+pub returns-then-not-has_no_twins-2 : goal.returns-then-not-has_no_twins-2
+returns-then-not-has_no_twins-2 c = book_twice6 c.args.counts (slice_index c.args.bank.now) c.number8-seconds.result c.in_ok-four.four c.in_ok-six.six _
+    c.number8-seconds.ensures c.in_ok-four.ensures c.in_ok-six.ensures c.has_no_twins-2.ensures c.if-not-has_no_twins-2.true
 
 pub returns : goal.returns
-returns c = book_whole c.args.counts (slice_index c.args.bank.now) c.number8-seconds.result c.in_ok-clock.clock c.in_ok-four.four c.in_ok-six.six c.no_client_twice4.result c.no_client_twice6.result
-    c.number8-seconds.ensures c.in_ok-four.ensures c.in_ok-six.ensures c.in_ok-clock.ensures.value (c.in_ok-clock.ensures.within.0 refl) c.no_client_twice4.ensures c.no_client_twice6.ensures
-    c.if-not-no_client_twice4.false c.if-not-no_client_twice6.false
+returns c = book_whole c.args.counts (slice_index c.args.bank.now) c.number8-seconds.result c.in_ok-clock.clock c.in_ok-four.four c.in_ok-six.six c.has_no_twins.result c.has_no_twins-2.result
+    c.number8-seconds.ensures c.in_ok-four.ensures c.in_ok-six.ensures c.in_ok-clock.ensures.value (c.in_ok-clock.ensures.within.0 refl) c.has_no_twins.ensures c.has_no_twins-2.ensures
+    c.if-not-has_no_twins.false c.if-not-has_no_twins-2.false

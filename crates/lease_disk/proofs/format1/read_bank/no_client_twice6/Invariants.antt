@@ -1,6 +1,0 @@
-use Rattle.std.proofs.Common.{◌≡◌, drop}
-use Rattle.types.specs.Slots.{none_twice, same_client6}
-use Rattle.lease_disk.proofs.format1.read_bank.no_client_twice6.Given as goal
-
-abbrev pub invariant-loop-i : goal.invariant-loop-i
-invariant-loop-i l = none_twice same_client6 l.six ≡ none_twice same_client6 (drop l.i l.six)

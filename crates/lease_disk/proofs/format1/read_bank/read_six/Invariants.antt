@@ -1,7 +1,0 @@
-use Rattle.std.proofs.Common.{slice_index}
-use Rattle.lease_disk.specs.Recovered.{six_in}
-use Rattle.lease_disk.proofs.Reading.{Goes}
-use Rattle.lease_disk.proofs.format1.read_bank.read_six.Given as goal
-
-abbrev pub invariant-slots : goal.invariant-slots
-invariant-slots l = Goes (six_in l.count (slice_index l.bank)) 16 l.i l.six
