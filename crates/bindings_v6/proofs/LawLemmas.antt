@@ -29,7 +29,7 @@ use Rattle.types.specs.declared.request6.Status6.{Status6}
 use Rattle.types.specs.declared.request6.Status6.TheVariants.{Success, NoAddrsAvail, NoBinding, NotOnLink}
 use Rattle.bindings_v6.specs.Book6.{Book6, in_pool, is_free, lowest_free, where_free, pick}
 use Rattle.bindings_v6.specs.IsBook6.{Entry, TheBinding, TheBar, Names, IsBook6, LeavesABook, KeepsOthers, ChangesNothing, GrantsItsOwn, RenewsInTime}
-use Rattle.bindings_v6.specs.Table6.{Change, Unchanged, Binds, Bars, Frees, with_change, is_kept, Row, replies, drops, refusal, gift, verdict, grants, others, nothing_to_give_up, solicit_row, request_row, renew_row, confirm_row, release_row, decline_row, is_off_link, where_listed, first_listed, lookup_in, row_of, is_for_us, row6, answer6}
+use Rattle.bindings_v6.specs.Table6.{Change, Unchanged, Binds, Bars, Frees, with_change, is_kept, Row, replies, drops, refusal, assignment, message_status, grants, others, no_binding, solicit_row, request_row, renew_row, confirm_row, release_row, decline_row, is_off_link, where_listed, first_listed, lookup_in, row_of, is_for_us, row6, answer6}
 
 -- ---- maps with one client changed
 
@@ -295,7 +295,7 @@ abbrev leased : Result Reply6 Discard → Addr6
 leased (Ok reply) = leased_ia reply.ia
 leased (Err why) = addr6 0
 
-leases : (answer : Result Reply6 Discard) (zeroed : List Addr6) (x : ℕ) → answer ≡ Ok (gift Reply zeroed x) → Leases answer
+leases : (answer : Result Reply6 Discard) (zeroed : List Addr6) (x : ℕ) → answer ≡ Ok (assignment Reply zeroed x) → Leases answer
 leases answer zeroed x e = subst Leases (sym e) (tt, tt)
 
 -- ---- the rows
@@ -321,7 +321,7 @@ module _ (pool : Pool6Value) (limits : IsPool6 pool.first pool.count pool.lease)
   abbrev RowFits : Row → Type 0
   RowFits row =
       FitsChange t b book k row.change
-      × ((zeroed : List Addr6) (x : ℕ) → row.answer ≡ Ok (gift Reply zeroed x) → (n : ℕ) × (others : List Addr6) × (row ≡ grants others n end) × IsOwn k b n)
+      × ((zeroed : List Addr6) (x : ℕ) → row.answer ≡ Ok (assignment Reply zeroed x) → (n : ℕ) × (others : List Addr6) × (row ≡ grants others n end) × IsOwn k b n)
 
   dropped : (why : Discard) → RowFits (drops why Unchanged)
   dropped why = (tt, λ zeroed x e. absurd cc)
@@ -329,7 +329,7 @@ module _ (pool : Pool6Value) (limits : IsPool6 pool.first pool.count pool.lease)
   refused : (status : Status6) → RowFits (replies (refusal Reply status) Unchanged)
   refused status = (tt, λ zeroed x e. absurd (leases _ zeroed x e).1)
 
-  told : (status : Status6) (c : Change) → FitsChange t b book k c → RowFits (replies (verdict status) c)
+  told : (status : Status6) (c : Change) → FitsChange t b book k c → RowFits (replies (message_status status) c)
   told status c fits = (fits, λ zeroed x e. absurd (leases _ zeroed x e).1)
 
   granted : (zeroed : List Addr6) (n : ℕ) → IsOwn k b n → RowFits (grants zeroed n end)
@@ -353,7 +353,7 @@ module _ (pool : Pool6Value) (limits : IsPool6 pool.first pool.count pool.lease)
   confirmed (x ∷ xs) true = told NotOnLink Unchanged tt
   confirmed (x ∷ xs) false = told Success Unchanged tt
 
-  unbound : RowFits nothing_to_give_up
+  unbound : RowFits no_binding
   unbound = (tt, λ zeroed x e. absurd (leases _ zeroed x e).1)
 
   released : (held : Option ℕ) (listed : Bool) → bound ≡ held → RowFits (release_row held listed)

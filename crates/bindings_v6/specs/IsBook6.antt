@@ -10,7 +10,7 @@ use Rattle.types.specs.Pool6.{Pool6Value}
 use Rattle.types.specs.declared.request6.ReplyKind6.TheVariants.{Reply}
 use Rattle.types.specs.declared.request6.Request6.{Request6}
 use Rattle.bindings_v6.specs.Book6.{Book6}
-use Rattle.bindings_v6.specs.Table6.{gift, is_listed, is_for_us, others, answer6}
+use Rattle.bindings_v6.specs.Table6.{assignment, is_listed, is_for_us, others, answer6}
 
 -- What an entry of a book is: a client's binding, or a bar.
 pub data Entry : Type 0 where
@@ -45,7 +45,7 @@ ChangesNothing pool t m = (b : Book6) → (answer6 pool t b m).is_kept ≡ false
 -- A Reply leases an address that nobody but the client had: no other client's entry named it, and no bar.
 abbrev pub GrantsItsOwn : Pool6Value → ℕ → Request6 → Type 0
 GrantsItsOwn pool t m =
-    (b : Book6) → IsBook6 t b → (zeroed : List Addr6) (n : ℕ) → (answer6 pool t b m).answer ≡ Ok (gift Reply zeroed n)
+    (b : Book6) → IsBook6 t b → (zeroed : List Addr6) (n : ℕ) → (answer6 pool t b m).answer ≡ Ok (assignment Reply zeroed n)
     → (k : ℕ) × (addr6 n ≡ addr6 k)
     × (get (answer6 pool t b m).book.bindings m.key ≡ Some (record { address = k; until = t + pool.lease }))
     × ((x : Entry) → Names b k x → x ≡ TheBinding m.key)
@@ -55,7 +55,7 @@ abbrev pub RenewsInTime : Pool6Value → ℕ → Request6 → Type 0
 RenewsInTime pool t m =
     (b : Book6) (address : ℕ) → (m.kind ≡ Renew) ⊎ (m.kind ≡ Rebind) → is_for_us m.kind m.server ≡ true
     → address_of (get b.bindings m.key) ≡ Some address
-    → ((answer6 pool t b m).answer ≡ Ok (gift Reply (others address m.listed.items) address))
+    → ((answer6 pool t b m).answer ≡ Ok (assignment Reply (others address m.listed.items) address))
     × (get (answer6 pool t b m).book.bindings m.key ≡ Some (record { address = address; until = t + pool.lease }))
 
 -- The decision ends the client's lease of this address: the client released or declined it.

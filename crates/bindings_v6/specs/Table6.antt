@@ -64,16 +64,16 @@ abbrev pub refusal : ReplyKind6 → Status6 → Reply6
 refusal kind status = record { kind = kind; status = None; ia = reply_ia.Status status }
 
 -- an IA_NA of these addresses with lifetimes of 0, and then of the address that the client has
-abbrev pub gift : ReplyKind6 → List Addr6 → ℕ → Reply6
-gift kind zeroed address = record { kind = kind; status = None; ia = reply_ia.Given (record { items = zeroed }) (addr6 address) }
+abbrev pub assignment : ReplyKind6 → List Addr6 → ℕ → Reply6
+assignment kind zeroed address = record { kind = kind; status = None; ia = reply_ia.Given (record { items = zeroed }) (addr6 address) }
 
 -- a status of the whole message, and no IA_NA
-abbrev pub verdict : Status6 → Reply6
-verdict status = record { kind = Reply; status = Some status; ia = reply_ia.None }
+abbrev pub message_status : Status6 → Reply6
+message_status status = record { kind = Reply; status = Some status; ia = reply_ia.None }
 
 -- a Reply with this address, which is leased until then
 abbrev pub grants : List Addr6 → ℕ → ℕ → Row
-grants zeroed address until = replies (gift Reply zeroed address) (Binds address until)
+grants zeroed address until = replies (assignment Reply zeroed address) (Binds address until)
 
 -- the listed addresses but this one, in order
 abbrev pub others : ℕ → List Addr6 → List Addr6
@@ -88,7 +88,7 @@ is_off_link pool listed = list_any (λ x. not (in_pool pool (number6 x))) listed
 
 -- Solicit (RFC 8415, section 18.3.1), by pick
 abbrev pub solicit_row : Option ℕ → Row
-solicit_row (Some address) = replies (gift Advertise [] address) Unchanged
+solicit_row (Some address) = replies (assignment Advertise [] address) Unchanged
 solicit_row None = replies (refusal Advertise NoAddrsAvail) Unchanged
 
 -- Request (RFC 8415, section 18.3.2), by the lease's end, whether a listed address is off the link, and pick
@@ -106,25 +106,25 @@ renew_row end listed None = replies (refusal Reply NoBinding) Unchanged
 -- Confirm (RFC 8415, section 18.3.3), by the listed addresses, and whether one is off the link
 abbrev pub confirm_row : List Addr6 → Bool → Row
 confirm_row [] off_link = drops reason.NothingToSay Unchanged
-confirm_row (x ∷ xs) true = replies (verdict NotOnLink) Unchanged
-confirm_row (x ∷ xs) false = replies (verdict Success) Unchanged
+confirm_row (x ∷ xs) true = replies (message_status NotOnLink) Unchanged
+confirm_row (x ∷ xs) false = replies (message_status Success) Unchanged
 
 -- a client without a binding gives one up
-abbrev pub nothing_to_give_up : Row
-nothing_to_give_up = replies (record (verdict Success) { ia = reply_ia.Status NoBinding }) Unchanged
+abbrev pub no_binding : Row
+no_binding = replies (record (message_status Success) { ia = reply_ia.Status NoBinding }) Unchanged
 
 -- Release (RFC 8415, section 18.3.7), by the binding, and whether it is listed
 abbrev pub release_row : Option ℕ → Bool → Row
-release_row (Some bound) true = replies (verdict Success) (Frees bound)
-release_row (Some bound) false = replies (verdict Success) Unchanged
-release_row None listed = nothing_to_give_up
+release_row (Some bound) true = replies (message_status Success) (Frees bound)
+release_row (Some bound) false = replies (message_status Success) Unchanged
+release_row None listed = no_binding
 
 -- Decline (RFC 8415, section 18.3.8), by clock, the binding, and whether it is listed. Nobody is given the
 -- address for 3600 seconds.
 abbrev pub decline_row : ℕ → Option ℕ → Bool → Row
-decline_row t (Some bound) true = replies (verdict Success) (Bars bound (t + 3600))
-decline_row t (Some bound) false = replies (verdict Success) Unchanged
-decline_row t None listed = nothing_to_give_up
+decline_row t (Some bound) true = replies (message_status Success) (Bars bound (t + 3600))
+decline_row t (Some bound) false = replies (message_status Success) Unchanged
+decline_row t None listed = no_binding
 
 -- What is looked up of a client: the address of its binding, and its pick.
 pub record Lookup : Type 0 where

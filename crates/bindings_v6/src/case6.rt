@@ -3,7 +3,7 @@ ghost use Rattle.std.specs.Prelude.{◌≡◌, ◌+◌, Some, None};
 ghost use Rattle.types.specs.Addr.{number6, addr6};
 ghost use Rattle.types.specs.declared.request6.Status6.TheVariants.{Success};
 ghost use Rattle.bindings_v6.specs.Lookup6.{IsAt, decision_in};
-ghost use Rattle.bindings_v6.specs.Table6.{Unchanged, Bars, Frees, drops, replies, grants, refusal, gift, verdict};
+ghost use Rattle.bindings_v6.specs.Table6.{Unchanged, Bars, Frees, drops, replies, grants, refusal, assignment, message_status};
 
 use crate::decision6::{Decision6, KeptSlot};
 use arrayvec::ArrayVec;
@@ -41,9 +41,9 @@ pub fn refusal(kind: ReplyKind6, status: Status6) -> Reply6
 }
 
 /// An IA_NA of these addresses with lifetimes of 0, and then of the address that the client has.
-pub fn gift(kind: ReplyKind6, zeroed: ArrayVec<Addr6, MAX_LISTED>, address: Addr6) -> Reply6
+pub fn assignment(kind: ReplyKind6, zeroed: ArrayVec<Addr6, MAX_LISTED>, address: Addr6) -> Reply6
     requires { addr6 (number6 address) ≡ address }
-    ensures { result ≡ gift kind zeroed.items (number6 address) }
+    ensures { result ≡ assignment kind zeroed.items (number6 address) }
 {
     Reply6 {
         kind,
@@ -53,8 +53,8 @@ pub fn gift(kind: ReplyKind6, zeroed: ArrayVec<Addr6, MAX_LISTED>, address: Addr
 }
 
 /// A status of the whole message, and no IA_NA.
-pub fn verdict(status: Status6) -> Reply6
-    ensures { result ≡ verdict status }
+pub fn message_status(status: Status6) -> Reply6
+    ensures { result ≡ message_status status }
 {
     Reply6 {
         kind: ReplyKind6::Reply,
@@ -94,7 +94,7 @@ impl Case6 {
         let until = self.clock.seconds() + u64::from(self.pool.lease());
         Decision6 {
             clock: self.clock,
-            answer: Ok(gift(ReplyKind6::Reply, zeroed, held.address)),
+            answer: Ok(assignment(ReplyKind6::Reply, zeroed, held.address)),
             keep: Some(KeptSlot {
                 slot: held.slot,
                 content: Slot6::Bound(self.client, until),
@@ -105,12 +105,12 @@ impl Case6 {
     /// The client's binding is gone, and the address is given to nobody for an hour.
     pub fn bars(&self, bound: SlotAddress) -> Decision6
         requires { IsAt self.now.pool bound }
-        ensures { result ≡ decision_in self.now (replies (verdict Success) (Bars (number6 bound.address) (self.now.clock + 3600))) }
+        ensures { result ≡ decision_in self.now (replies (message_status Success) (Bars (number6 bound.address) (self.now.clock + 3600))) }
     {
         let until = self.clock.seconds() + BAR_TIME;
         Decision6 {
             clock: self.clock,
-            answer: Ok(verdict(Status6::Success)),
+            answer: Ok(message_status(Status6::Success)),
             keep: Some(KeptSlot {
                 slot: bound.slot,
                 content: Slot6::Barred(until),
@@ -121,11 +121,11 @@ impl Case6 {
     /// The client's binding is gone.
     pub fn frees(&self, bound: SlotAddress) -> Decision6
         requires { IsAt self.now.pool bound }
-        ensures { result ≡ decision_in self.now (replies (verdict Success) (Frees (number6 bound.address))) }
+        ensures { result ≡ decision_in self.now (replies (message_status Success) (Frees (number6 bound.address))) }
     {
         Decision6 {
             clock: self.clock,
-            answer: Ok(verdict(Status6::Success)),
+            answer: Ok(message_status(Status6::Success)),
             keep: Some(KeptSlot {
                 slot: bound.slot,
                 content: Slot6::Free,

@@ -4,9 +4,9 @@ ghost use Rattle.types.specs.Addr.{number6};
 ghost use Rattle.types.specs.declared.discard.Discard.TheVariants.{OtherServer};
 ghost use Rattle.bindings_v6.specs.Book6.{in_pool};
 ghost use Rattle.bindings_v6.specs.Lookup6.{IsAt, IsLookup, decision_in, lookup_of, number_of};
-ghost use Rattle.bindings_v6.specs.Table6.{Unchanged, drops, others, is_listed, where_listed, is_off_link, first_listed, solicit_row, request_row, renew_row, confirm_row, nothing_to_give_up, release_row, decline_row, is_for_us, row_of};
+ghost use Rattle.bindings_v6.specs.Table6.{Unchanged, drops, others, is_listed, where_listed, is_off_link, first_listed, solicit_row, request_row, renew_row, confirm_row, no_binding, release_row, decline_row, is_for_us, row_of};
 
-use crate::case6::{Case6, SlotAddress, gift, refusal, verdict};
+use crate::case6::{Case6, SlotAddress, assignment, message_status, refusal};
 use crate::decision6::Decision6;
 use crate::server6::is_for_us;
 use arrayvec::ArrayVec;
@@ -83,7 +83,11 @@ fn solicit_row(case: &Case6, found: &Lookup6) -> Decision6
     ensures { result ≡ decision_in case.now (solicit_row (lookup_of found.now).pick) }
 {
     match found.pick {
-        Some(pick) => case.replies(gift(ReplyKind6::Advertise, ArrayVec::new(), pick.address)),
+        Some(pick) => case.replies(assignment(
+            ReplyKind6::Advertise,
+            ArrayVec::new(),
+            pick.address,
+        )),
         None => case.replies(refusal(ReplyKind6::Advertise, Status6::NoAddrsAvail)),
     }
 }
@@ -122,14 +126,14 @@ fn confirm_row(case: &Case6, listed: &[Addr6], off_link: bool) -> Decision6
     //     listed       off the link
     match (listed,      off_link) {
           ([],          _)     => case.drops(Discard::NothingToSay),
-          ([_, ..],     true)  => case.replies(verdict(Status6::NotOnLink)),
-          ([_, ..],     false) => case.replies(verdict(Status6::Success)),
+          ([_, ..],     true)  => case.replies(message_status(Status6::NotOnLink)),
+          ([_, ..],     false) => case.replies(message_status(Status6::Success)),
     }
 }
 
 /// A client without a binding gives one up.
-fn nothing_to_give_up(case: &Case6) -> Decision6
-    ensures { result ≡ decision_in case.now nothing_to_give_up }
+fn no_binding(case: &Case6) -> Decision6
+    ensures { result ≡ decision_in case.now no_binding }
 {
     case.replies(Reply6 {
         kind: ReplyKind6::Reply,
@@ -147,8 +151,8 @@ fn release_row(case: &Case6, found: &Lookup6, listed: bool) -> Decision6
     //     binding         listed
     match (found.binding,  listed) {
           (Some(bound),    true)  => case.frees(bound),
-          (Some(_),        false) => case.replies(verdict(Status6::Success)),
-          (None,           _)     => nothing_to_give_up(case),
+          (Some(_),        false) => case.replies(message_status(Status6::Success)),
+          (None,           _)     => no_binding(case),
     }
 }
 
@@ -161,8 +165,8 @@ fn decline_row(case: &Case6, found: &Lookup6, listed: bool) -> Decision6
     //     binding         listed
     match (found.binding,  listed) {
           (Some(bound),    true)  => case.bars(bound),
-          (Some(_),        false) => case.replies(verdict(Status6::Success)),
-          (None,           _)     => nothing_to_give_up(case),
+          (Some(_),        false) => case.replies(message_status(Status6::Success)),
+          (None,           _)     => no_binding(case),
     }
 }
 

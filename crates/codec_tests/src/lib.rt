@@ -2,6 +2,8 @@
 #![tactic(auto)]
 
 #[cfg(test)]
+mod book6_tests;
+#[cfg(test)]
 mod duid_tests;
 #[cfg(test)]
 mod reply6_tests;

@@ -4,7 +4,9 @@ use config::{CircuitPart, Config};
 use fixtures::ONE_CIRCUIT;
 use replies::write6;
 use std::alloc::Global;
-use types::{Addr6, CircuitId, MAX_LISTED, Reply6, ReplyIa, ReplyKind6, Status6};
+use types::{
+    Addr6, CircuitId, MAX_CIRCUIT_ID, MAX_DUID, MAX_LISTED, Reply6, ReplyIa, ReplyKind6, Status6,
+};
 use v6_message::{Message6, Relay6};
 use v6_options::code;
 use wire::PacketBuf;
@@ -45,29 +47,57 @@ fn zeroed(count: usize) -> ArrayVec<Addr6, MAX_LISTED> {
     zeroed
 }
 
-/// Writes circuit `a`'s reply to that Solicit; `None` where a value cannot be made.
-fn write(alloc: Global, reply: &Reply6, out: &mut PacketBuf) -> Option<()> {
+/// These bytes, concatenated; `None` where they are too many.
+fn joined(parts: &[&[u8]]) -> Option<PacketBuf> {
+    let mut out = PacketBuf::new();
+    for part in parts {
+        out.extend(part).ok()?;
+    }
+    Some(out)
+}
+
+/// Writes circuit `a`'s reply to this message in this Relay-forward; `None` where a value cannot be made.
+fn write(
+    alloc: Global,
+    forward: &[u8],
+    solicit: &[u8],
+    reply: &Reply6,
+    out: &mut PacketBuf,
+) -> Option<()> {
     let config = Config::read(alloc, ONE_CIRCUIT).ok()?;
     let circuit = config.circuit(&CircuitId::new(b"a")?)?;
     let part = CircuitPart::of(&config, circuit);
-    let mut datagram = PacketBuf::new();
-    datagram.extend(&FORWARD).ok()?;
-    v6_options::put(code::RELAY_MESSAGE, &SOLICIT, &mut datagram).ok()?;
+    let mut datagram = joined(&[forward])?;
+    v6_options::put(code::RELAY_MESSAGE, solicit, &mut datagram).ok()?;
     let request = Relay6::read(datagram.as_slice()).ok()?;
-    let message = Message6::read(&SOLICIT).ok()?;
+    let message = Message6::read(solicit).ok()?;
+    if request.interface_id()?.len() > MAX_CIRCUIT_ID || message.client_id()?.len() > MAX_DUID {
+        return None;
+    }
     write6(&part, &request, &message, reply, out);
     Some(())
 }
 
-/// Whether the reply has this length and type, and these bytes after its server id.
+/// Whether that reply is these bytes, in a buffer that held another.
+fn is_written(
+    alloc: Global,
+    forward: &[u8],
+    solicit: &[u8],
+    reply: &Reply6,
+    want: Option<PacketBuf>,
+) -> bool {
+    let mut out = PacketBuf::new();
+    let written = out.push(7).is_ok() && write(alloc, forward, solicit, reply, &mut out).is_some();
+    match want {
+        Some(want) => written && out.as_slice() == want.as_slice(),
+        None => false,
+    }
+}
+
+/// Whether the reply to that Solicit has this length and type, and these bytes after its server id.
 fn is_sent(alloc: Global, reply: &Reply6, len: u8, kind: u8, tail: &[u8]) -> bool {
-    let (mut out, mut want) = (PacketBuf::new(), PacketBuf::new());
-    let written = out.push(7).is_ok() && write(alloc, reply, &mut out).is_some();
-    let fits = want.extend(&RELAY_REPLY).is_ok()
-        && want.extend(&[0, 9, 0, len, kind]).is_ok()
-        && want.extend(&IDS).is_ok()
-        && want.extend(tail).is_ok();
-    written && fits && out.as_slice() == want.as_slice()
+    let want = joined(&[&RELAY_REPLY, &[0, 9, 0, len, kind], &IDS, tail]);
+    is_written(alloc, &FORWARD, &SOLICIT, reply, want)
 }
 
 #[test]
@@ -131,4 +161,39 @@ fn a_status_in_the_ia(rt: HostRuntime) {
         0, 3, 0, 18, 0, 0, 0, 1, 0, 0, 0, 0, 0, 0, 0, 0, 0, 13, 0, 2, 0, 2,
     ];
     assert!(rt; is_sent(rt.alloc(), &advertise, 54, 2, &tail));
+}
+
+/// The longest client id, of 130 bytes, the longest interface id, of 32, and a hop count.
+#[test]
+fn the_longest_ids_come_back(rt: HostRuntime) {
+    let reply = Reply6 {
+        kind: ReplyKind6::Reply,
+        status: Some(Status6::NotOnLink),
+        ia: ReplyIa::None,
+    };
+    let addresses = &FORWARD[2..34];
+    let forward = joined(&[&[12, 3], addresses, &[0, 18, 0, 32], &[b'a'; 32]]);
+    let solicit = joined(&[&SOLICIT[..4], &[0, 1, 0, 130], &[5; 130], &SOLICIT[18..]]);
+    let (Some(forward), Some(solicit)) = (forward, solicit) else {
+        return assert!(rt; false);
+    };
+    let want = joined(&[
+        &[13, 3],
+        addresses,
+        &[0, 18, 0, 32],
+        &[b'a'; 32],
+        &[0, 9, 0, 158, 7, 0, 0, 7, 0, 1, 0, 130],
+        &[5; 130],
+        &IDS[17..],
+        &[0, 13, 0, 2, 0, 4],
+    ]);
+    assert!(rt;
+        is_written(
+            rt.alloc(),
+            forward.as_slice(),
+            solicit.as_slice(),
+            &reply,
+            want
+        )
+    );
 }

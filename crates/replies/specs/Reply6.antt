@@ -1,14 +1,12 @@
 -- The bytes of the server's DHCPv6 replies (RFC 8415, sections 18.3 and 19.3).
-use Rattle.std.specs.Prelude.{ℕ, ◌*◌, ◌/◌, nat_le, List, [], ◌∷◌, ◌++◌, length, map, Option, Some, None, if◌then◌else◌}
+use Rattle.std.specs.Prelude.{ℕ, ◌*◌, ◌/◌, List, [], ◌∷◌, ◌++◌, map, Option, Some, None}
 use Rattle.std.specs.Int.{w16, to_be_bytes}
+use Rattle.types.specs.Reply6.{code_of_reply6, code_of_status6}
 use Rattle.types.specs.declared.addr.Addr6.{Addr6}
 use Rattle.types.specs.declared.request6.Reply6.{Reply6}
 use Rattle.types.specs.declared.request6.ReplyIa.{ReplyIa}
 use Rattle.types.specs.declared.request6.ReplyIa.TheVariants as variants
-use Rattle.types.specs.declared.request6.ReplyKind6.{ReplyKind6}
-use Rattle.types.specs.declared.request6.ReplyKind6.TheVariants.{Advertise, Reply}
 use Rattle.types.specs.declared.request6.Status6.{Status6}
-use Rattle.types.specs.declared.request6.Status6.TheVariants.{Success, NoAddrsAvail, NoBinding, NotOnLink}
 use Rattle.v6_options.specs.Codes.{CLIENT_ID, SERVER_ID, IA_NA, IA_ADDRESS, RELAY_MESSAGE, STATUS_CODE, INTERFACE_ID}
 use Rattle.v6_options.specs.Spelling.{look_up}
 use Rattle.v6_message.specs.Ia.{IaValue, address_bytes, ia_bytes, ia_in}
@@ -16,31 +14,16 @@ use Rattle.v6_message.specs.Message.{MessageValue, message_bytes}
 use Rattle.v6_message.specs.Relay.{RelayValue, relay_bytes}
 use Rattle.config.specs.CircuitPart.{CircuitPart}
 
--- ---- numbers
-
--- message types (section 7.3)
-abbrev pub code_of_reply : ReplyKind6 → ℕ
-code_of_reply Advertise = 2
-code_of_reply Reply = 7
-
--- status codes (section 21.13)
-abbrev pub code_of_status : Status6 → ℕ
-code_of_status Success = 0
-code_of_status NoAddrsAvail = 2
-code_of_status NoBinding = 3
-code_of_status NotOnLink = 4
-
 -- ---- the options, in the order sent
 
--- An option of the request as it came, if its value has at most so many bytes. The server answers no
--- request with a longer client or interface id: it is no DUID, or no circuit's.
-abbrev pub echo : ℕ → ℕ → Option (List ℕ) → List (ℕ × List ℕ)
-echo code most None = []
-echo code most (Some value) = if nat_le (length value) most then (code, value) ∷ [] else []
+-- an option of the request as it came, left out where it has none
+abbrev pub echo : ℕ → Option (List ℕ) → List (ℕ × List ℕ)
+echo code None = []
+echo code (Some value) = (code, value) ∷ []
 
 -- a status without a text (section 21.13)
 abbrev pub status_option : Status6 → ℕ × List ℕ
-status_option status = (STATUS_CODE, to_be_bytes w16 (code_of_status status))
+status_option status = (STATUS_CODE, to_be_bytes w16 (code_of_status6 status))
 
 -- the status of the whole message, left out where there is none
 abbrev pub status_options : Option Status6 → List (ℕ × List ℕ)
@@ -74,7 +57,7 @@ iaid_of (Some ia) = ia.iaid
 -- client id, server id, status, IA_NA
 abbrev pub reply_options : CircuitPart → MessageValue → Reply6 → List (ℕ × List ℕ)
 reply_options part message reply =
-    echo CLIENT_ID 130 (look_up CLIENT_ID message.options)
+    echo CLIENT_ID (look_up CLIENT_ID message.options)
     ++ (SERVER_ID, part.duid)
     ∷ (status_options reply.status ++ ia_options part.lease (iaid_of (ia_in (look_up IA_NA message.options))) reply.ia)
 
@@ -83,7 +66,7 @@ reply_options part message reply =
 -- the client's reply
 abbrev pub reply_message : CircuitPart → MessageValue → Reply6 → MessageValue
 reply_message part message reply = record {
-  kind = code_of_reply reply.kind;
+  kind = code_of_reply6 reply.kind;
   transaction_id = message.transaction_id;
   options = reply_options part message reply;
 }
@@ -95,7 +78,7 @@ relay_reply part request message reply = record {
   hop_count = request.hop_count;
   link_address = request.link_address;
   peer_address = request.peer_address;
-  options = echo INTERFACE_ID 32 (look_up INTERFACE_ID request.options) ++ (RELAY_MESSAGE, message_bytes (reply_message part message reply)) ∷ [];
+  options = echo INTERFACE_ID (look_up INTERFACE_ID request.options) ++ (RELAY_MESSAGE, message_bytes (reply_message part message reply)) ∷ [];
 }
 
 unfoldable pub reply6_bytes : CircuitPart → RelayValue → MessageValue → Reply6 → List ℕ

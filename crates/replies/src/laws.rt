@@ -32,9 +32,8 @@ pub fn reply6_is_read()
     ensures read { (part : CircuitPart) (request : RelayValue) (message : message6.MessageValue) (reply : Reply6)
         → length request.link_address ≡ 16 → length request.peer_address ≡ 16 → length (reply6.reply6_bytes part request message reply) ≤ 1280
         → relay_of (reply6.reply6_bytes part request message reply) ≡ Ok (reply6.relay_reply part request message reply) }
-    ensures interface { (part : CircuitPart) (request : RelayValue) (message : message6.MessageValue) (reply : Reply6) (id : List ℕ)
-        → look_up INTERFACE_ID request.options ≡ Some id → length id ≤ 32
-        → look_up INTERFACE_ID (reply6.relay_reply part request message reply).options ≡ Some id }
+    ensures interface { (part : CircuitPart) (request : RelayValue) (message : message6.MessageValue) (reply : Reply6)
+        → look_up INTERFACE_ID (reply6.relay_reply part request message reply).options ≡ look_up INTERFACE_ID request.options }
     ensures message { (part : CircuitPart) (request : RelayValue) (message : message6.MessageValue) (reply : Reply6)
         → look_up RELAY_MESSAGE (reply6.relay_reply part request message reply).options ≡ Some (message6.message_bytes (reply6.reply_message part message reply)) }
 {

@@ -1,15 +1,15 @@
 //! The datagrams of DHCPv6 replies (RFC 8415, sections 18.3 and 19.3).
-ghost use Rattle.std.specs.Prelude.{◌≡◌, ◌≤◌, ◌+◌, [], ◌∷◌, ◌++◌, length, map, None, option_map};
-ghost use Rattle.v6_options.specs.Codes.{IA_NA};
-ghost use Rattle.v6_options.specs.Spelling.{option, spelling};
+ghost use Rattle.std.specs.Prelude.{◌≡◌, ◌≤◌, ◌+◌, [], ◌∷◌, ◌++◌, length, map, None, IfSome, option_map};
+ghost use Rattle.v6_options.specs.Codes.{CLIENT_ID, IA_NA, INTERFACE_ID, RELAY_MESSAGE};
+ghost use Rattle.v6_options.specs.Spelling.{look_up, option, spelling};
 ghost use Rattle.v6_message.specs.Ia.{ia_header};
 ghost use Rattle.v6_message.specs.Message.{message_bytes};
 ghost use Rattle.v6_message.specs.Relay.{relay_header};
-ghost use Rattle.replies.specs.Reply6.{address_option, code_of_reply, code_of_status, echo, ia_options, ia_with_addresses, ia_with_status, reply6_bytes, reply_message, reply_options, status_option, status_options};
+ghost use Rattle.replies.specs.Reply6.{address_option, echo, ia_options, ia_with_addresses, ia_with_status, reply6_bytes, reply_message, reply_options, status_option, status_options};
 
 use arrayvec::ArrayVec;
 use config::CircuitPart;
-use types::{Addr6, MAX_CIRCUIT_ID, MAX_DUID, MAX_LISTED, Reply6, ReplyIa, ReplyKind6, Status6};
+use types::{Addr6, MAX_LISTED, Reply6, ReplyIa, ReplyKind6, Status6};
 use v6_message::{IaAddress, IaHeader, Message6, MessageHeader, RELAY_REPLY, Relay6, RelayHeader};
 use v6_options::code;
 use wire::PacketBuf;
@@ -22,6 +22,8 @@ pub fn write6(
     reply: &Reply6,
     out: &mut PacketBuf,
 )
+    requires client { IfSome (look_up CLIENT_ID message.now.options) (λ id. length id ≤ 130) }
+    requires interface { IfSome (look_up INTERFACE_ID request.now.options) (λ id. length id ≤ 32) }
     ensures bytes { out.new ≡ reply6_bytes part.now request.now message.now reply.now }
     ensures fits { length out.new ≤ 508 }
     ensures without_status { reply.now.status ≡ None → length out.new ≤ 502 }
@@ -29,13 +31,8 @@ pub fn write6(
     let mut inside = PacketBuf::new();
     put_message(part, message, reply, &mut inside);
     put_header(request, out);
-    put_echo(
-        code::INTERFACE_ID,
-        request.interface_id(),
-        MAX_CIRCUIT_ID,
-        out,
-    );
-    put(code::RELAY_MESSAGE, inside.as_slice(), out);
+    put_echo(code::INTERFACE_ID, request.interface_id(), out);
+    put_inside(&inside, out);
 }
 
 /// The Relay-reply's header, over whatever `out` held.
@@ -53,38 +50,40 @@ fn put_header(request: &Relay6<'_>, out: &mut PacketBuf)
     let _ = header.write(out);
 }
 
+/// The client's reply, which stands in the Relay-reply.
+fn put_inside(message: &PacketBuf, out: &mut PacketBuf)
+    requires { length out.old + length message.now + 4 ≤ 1280 }
+    ensures bytes { out.new ≡ out.old ++ option RELAY_MESSAGE message.now }
+    ensures len { length out.new ≡ length out.old + length message.now + 4 }
+{
+    put(code::RELAY_MESSAGE, message.as_slice(), out);
+}
+
 /// The client's reply: at most 434 bytes.
 fn put_message(part: &CircuitPart, message: &Message6<'_>, reply: &Reply6, out: &mut PacketBuf)
-    requires { length out.old + 434 ≤ 1280 }
+    requires client { IfSome (look_up CLIENT_ID message.now.options) (λ id. length id ≤ 130) }
+    requires room { length out.old + 434 ≤ 1280 }
     ensures bytes { out.new ≡ out.old ++ message_bytes (reply_message part.now message.now reply.now) }
     ensures len { length out.new ≤ length out.old + 434 }
     ensures without_status { reply.now.status ≡ None → length out.new ≤ length out.old + 428 }
 {
     let header = MessageHeader {
-        kind: code_of_reply(reply.kind),
+        kind: reply.kind.code(),
         transaction_id: message.transaction_id(),
     };
     let _ = header.write(out);
     put_options(part, message, reply, out);
 }
 
-fn code_of_reply(kind: ReplyKind6) -> u8
-    ensures { result ≡ code_of_reply kind }
-{
-    match kind {
-        ReplyKind6::Advertise => 2,
-        ReplyKind6::Reply => 7,
-    }
-}
-
 /// The options in the order sent: at most 430 bytes.
 fn put_options(part: &CircuitPart, message: &Message6<'_>, reply: &Reply6, out: &mut PacketBuf)
-    requires { length out.old + 430 ≤ 1280 }
+    requires client { IfSome (look_up CLIENT_ID message.now.options) (λ id. length id ≤ 130) }
+    requires room { length out.old + 430 ≤ 1280 }
     ensures bytes { out.new ≡ out.old ++ spelling (reply_options part.now message.now reply.now) }
     ensures len { length out.new ≤ length out.old + 430 }
     ensures without_status { reply.now.status ≡ None → length out.new ≤ length out.old + 424 }
 {
-    put_echo(code::CLIENT_ID, message.client_id(), MAX_DUID, out);
+    put_echo(code::CLIENT_ID, message.client_id(), out);
     put(code::SERVER_ID, part.duid().as_slice(), out);
     put_status_of_all(reply.status, out);
     put_ia(part.lease(), message.ia().iaid(), &reply.ia, out);
@@ -191,34 +190,17 @@ fn put_status(status: Status6, out: &mut PacketBuf)
     ensures bytes { out.new ≡ out.old ++ spelling (status_option status ∷ []) }
     ensures len { length out.new ≡ length out.old + 6 }
 {
-    put(
-        code::STATUS_CODE,
-        &code_of_status(status).to_be_bytes(),
-        out,
-    );
+    put(code::STATUS_CODE, &status.code().to_be_bytes(), out);
 }
 
-fn code_of_status(status: Status6) -> u16
-    ensures { result ≡ code_of_status status }
-{
-    match status {
-        Status6::Success => 0,
-        Status6::NoAddrsAvail => 2,
-        Status6::NoBinding => 3,
-        Status6::NotOnLink => 4,
-    }
-}
-
-/// An option of the request as it came, if there is one of at most so many bytes.
-fn put_echo(code: u16, value: Option<&[u8]>, most: usize, out: &mut PacketBuf)
-    requires { length out.old + most + 4 ≤ 1280 }
-    ensures bytes { out.new ≡ out.old ++ spelling (echo code most (option_map (λ value. value.now) value.entry)) }
-    ensures len { length out.new ≤ length out.old + most + 4 }
+/// An option of the request as it came, if there is one.
+fn put_echo(code: u16, value: Option<&[u8]>, out: &mut PacketBuf)
+    requires { length out.old + length (spelling (echo code (option_map (λ value. value.now) value))) ≤ 1280 }
+    ensures bytes { out.new ≡ out.old ++ spelling (echo code (option_map (λ value. value.now) value.entry)) }
+    ensures len { length out.new ≡ length out.old + length (spelling (echo code (option_map (λ value. value.now) value.entry))) }
 {
     if let Some(value) = value {
-        if value.len() <= most {
-            put(code, value, out);
-        }
+        put(code, value, out);
     }
 }
 

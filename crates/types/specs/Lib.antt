@@ -8,4 +8,5 @@ pub mod Kind4
 pub mod Kind6
 pub mod Pool4
 pub mod Pool6
+pub mod Reply6
 pub mod Slots

@@ -1,4 +1,7 @@
 //! What a circuit's DHCPv6 book is asked, and what it answers.
+ghost use Rattle.std.specs.Prelude.{◌≡◌};
+ghost use Rattle.types.specs.Reply6.{code_of_reply6, code_of_status6};
+
 use crate::addr::Addr6;
 use crate::key6::Key6;
 use crate::kind6::Kind6;
@@ -37,6 +40,18 @@ pub enum ReplyKind6 {
     Reply,
 }
 
+impl ReplyKind6 {
+    /// The first byte of a reply of this type.
+    pub fn code(self) -> u8
+        ensures code { result ≡ code_of_reply6 self }
+    {
+        match self {
+            ReplyKind6::Advertise => 2,
+            ReplyKind6::Reply => 7,
+        }
+    }
+}
+
 /// A status code (RFC 8415, section 21.13).
 #[derive(Clone, Copy, Debug, PartialEq, Eq)]
 pub enum Status6 {
@@ -44,6 +59,20 @@ pub enum Status6 {
     NoAddrsAvail,
     NoBinding,
     NotOnLink,
+}
+
+impl Status6 {
+    /// The number that a status option has.
+    pub fn code(self) -> u16
+        ensures code { result ≡ code_of_status6 self }
+    {
+        match self {
+            Status6::Success => 0,
+            Status6::NoAddrsAvail => 2,
+            Status6::NoBinding => 3,
+            Status6::NotOnLink => 4,
+        }
+    }
 }
 
 /// The IA_NA of a reply.

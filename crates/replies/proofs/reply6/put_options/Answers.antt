@@ -13,4 +13,4 @@ pub returns-clause-bytes : goal.returns-clause-bytes
 returns-clause-bytes c =
     let m = c.args.message.now in
     simp (c.put_ia.ensures.bytes, c.put_status_of_all.ensures.bytes, c.put.ensures.bytes, c.as_slice.ensures.value, c.put_echo.ensures.bytes, c.client_id.ensures.value, c.duid.ensures, c.lease.ensures, c.iaid.ensures, c.ia.ensures.value)
-    (parts-append c.args.out.now (echo 1 130 (look_up 1 m.options)) c.args.part.now.duid (status_options c.args.reply.now.status) (ia_options c.args.part.now.lease c.ia.result.now.iaid c.args.reply.now.ia))
+    (parts-append c.args.out.now (echo 1 (look_up 1 m.options)) c.args.part.now.duid (status_options c.args.reply.now.status) (ia_options c.args.part.now.lease c.ia.result.now.iaid c.args.reply.now.ia))

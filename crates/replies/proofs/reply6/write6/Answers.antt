@@ -1,4 +1,4 @@
-use Rattle.std.proofs.Common.{◌≡◌, ℕ, List, [], ◌∷◌, ◌++◌, append_assoc, append-nil}
+use Rattle.std.proofs.Common.{◌≡◌, ℕ, List, [], ◌∷◌, ◌++◌, refl, ap, ◌∙◌, append_assoc, append-nil}
 use Rattle.v6_options.specs.Spelling.{option, spelling, look_up}
 use Rattle.v6_message.specs.Message.{message_bytes}
 use Rattle.v6_message.specs.Relay.{relay_header}
@@ -14,5 +14,10 @@ pub returns-clause-bytes : goal.returns-clause-bytes
 unfolding reply6_bytes
 returns-clause-bytes c =
     let r = c.args.request.now in
-    simp (c.put.ensures.bytes, c.as_slice.ensures.value, c.put_message.ensures.bytes, c.new-inside.ensures, c.put_echo.ensures.bytes, c.interface_id.ensures.value, c.put_header.ensures.bytes)
-    (last-append (relay_header 13 r.hop_count r.link_address r.peer_address) (echo 18 32 (look_up 18 r.options)) (message_bytes (reply_message c.args.part.now c.args.message.now c.args.reply.now)))
+    let head = relay_header 13 r.hop_count r.link_address r.peer_address in
+    let id = echo 18 (look_up 18 r.options) in
+    let reply = message_bytes (reply_message c.args.part.now c.args.message.now c.args.reply.now) in
+    let front : c.put_echo.new.out ≡ head ++ spelling id = rw (c.put_echo.ensures.bytes, c.interface_id.ensures.value, c.put_header.ensures.bytes) refl in
+    let inside : c.put_message.new.out ≡ reply = rw (c.put_message.ensures.bytes, c.new-inside.ensures) refl in
+    c.put_inside.ensures.bytes ∙ ap (λ (t : List ℕ). t ++ option 9 c.put_message.new.out) front ∙ ap (λ (t : List ℕ). (head ++ spelling id) ++ option 9 t) inside
+    ∙ last-append head id reply
