@@ -76,3 +76,4 @@ pub record IsPart (part : CircuitPart) : Type 0 where
   pub pool4 : IsPool4 part.first4 part.count4 part.lease
   pub gateway4_size : length part.gateway4.0 ≡ 4
   pub gateway4 : is_unspecified part.gateway4.0 ≡ false
+  pub link6_size : length part.link6 ≡ 16

@@ -8,7 +8,7 @@ use crate::config::Config;
 use arrayvec::ArrayVec;
 use settings::{CircuitConfig, MAX_DNS, copy_of};
 use std::marker::Model;
-use types::{Addr4, Circuit, CircuitId, MAX_DUID, Pool4, Source};
+use types::{Addr4, Addr6, Circuit, CircuitId, MAX_DUID, Pool4, Source};
 
 /// A circuit's values, with the source of its relay and the server's values. It is a copy, so that
 /// relay and server don't need the configuration once they are open.
@@ -83,6 +83,14 @@ impl CircuitPart {
         ensures given { is_unspecified result.0 ≡ false }
     {
         self.circuit.gateway4
+    }
+
+    /// The relay's address on the circuit's link, by which the server knows the link.
+    pub fn link6(&self) -> Addr6
+        ensures value { result.0 ≡ self.now.link6 }
+        ensures size { length self.now.link6 ≡ 16 }
+    {
+        self.circuit.link6
     }
 
     /// The number of the circuit's region on the device.
