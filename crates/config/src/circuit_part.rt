@@ -2,13 +2,13 @@
 ghost use Rattle.std.specs.Prelude.{◌≡◌, ◌<◌, [], ◌∷◌, length, false, take, Some};
 ghost use Rattle.types.specs.Addr.{is_unspecified};
 ghost use Rattle.types.specs.Pool4.{IsPool4};
-ghost use Rattle.config.specs.CircuitPart.{IsPart, part_in, pool4_of};
+ghost use Rattle.config.specs.CircuitPart.{IsPart, listen_of, part_in, pool4_of};
 
 use crate::config::Config;
 use arrayvec::ArrayVec;
 use settings::{CircuitConfig, MAX_DNS, copy_of};
 use std::marker::Model;
-use types::{Addr4, Addr6, Circuit, CircuitId, MAX_DUID, Pool4, Source};
+use types::{Addr4, Addr6, Circuit, CircuitId, MAX_DUID, Pool4, Proto, Source};
 
 /// A circuit's values, with the source of its relay and the server's values. It is a copy, so that
 /// relay and server don't need the configuration once they are open.
@@ -64,18 +64,14 @@ impl CircuitPart {
         self.relay
     }
 
-    /// Where the server receives DHCPv4 datagrams.
-    pub fn listen4(&self) -> Source
-        ensures { result ≡ self.now.listen4 }
+    /// Where the server receives datagrams of this protocol.
+    pub fn listen(&self, proto: Proto) -> Source
+        ensures { result ≡ listen_of self.now proto }
     {
-        self.listen4
-    }
-
-    /// Where the server receives DHCPv6 datagrams.
-    pub fn listen6(&self) -> Source
-        ensures { result ≡ self.now.listen6 }
-    {
-        self.listen6
+        match proto {
+            Proto::V4 => self.listen4,
+            Proto::V6 => self.listen6,
+        }
     }
 
     pub fn gateway4(&self) -> Addr4

@@ -4,23 +4,23 @@ use Rattle.std.specs.List.{list_any}
 use Rattle.std.proofs.lemmas.Bool.{lt-ltb, le-ltb}
 use Rattle.types.specs.Addr.{same_source}
 use Rattle.types.specs.declared.addr.Source.{Source}
+use Rattle.types.specs.declared.dest.Proto.{Proto}
 use Rattle.types.specs.declared.discard.Discard.TheVariants.{UnknownSource, Malformed}
-use Rattle.v4_message.specs.Reading.{message_of}
 use Rattle.config.specs.CircuitPart.{CircuitPart}
-use Rattle.dispatch.specs.Addressee.{addressee, message_check}
+use Rattle.dispatch.specs.Addressee.{addressee, datagram_check}
 
-pub unknown_source : (relays : List Source) (circuits : List CircuitPart) (source : Source) (datagram : List ℕ)
-    → list_any (same_source source) relays ≡ false → addressee relays circuits source datagram ≡ Err UnknownSource
+pub unknown_source : (relays : List Source) (circuits : List CircuitPart) (proto : Proto) (source : Source) (datagram : List ℕ)
+    → list_any (same_source source) relays ≡ false → addressee relays circuits proto source datagram ≡ Err UnknownSource
 unfolding addressee
-unknown_source relays circuits source datagram other = rw other refl
+unknown_source relays circuits proto source datagram other = rw other refl
 
-pub too_long : (relays : List Source) (circuits : List CircuitPart) (source : Source) (datagram : List ℕ)
-    → list_any (same_source source) relays ≡ true → 1280 < length datagram → addressee relays circuits source datagram ≡ Err Malformed
+pub too_long : (relays : List Source) (circuits : List CircuitPart) (proto : Proto) (source : Source) (datagram : List ℕ)
+    → list_any (same_source source) relays ≡ true → 1280 < length datagram → addressee relays circuits proto source datagram ≡ Err Malformed
 unfolding addressee
-too_long relays circuits source datagram known long = rw (known, lt-ltb 1280 (length datagram) long) refl
+too_long relays circuits proto source datagram known long = rw (known, lt-ltb 1280 (length datagram) long) refl
 
-pub within : (relays : List Source) (circuits : List CircuitPart) (source : Source) (datagram : List ℕ)
+pub within : (relays : List Source) (circuits : List CircuitPart) (proto : Proto) (source : Source) (datagram : List ℕ)
     → list_any (same_source source) relays ≡ true → length datagram ≤ 1280
-    → addressee relays circuits source datagram ≡ message_check circuits source (message_of datagram)
+    → addressee relays circuits proto source datagram ≡ datagram_check circuits proto source datagram
 unfolding addressee
-within relays circuits source datagram known short = rw (known, le-ltb 1280 (length datagram) short) refl
+within relays circuits proto source datagram known short = rw (known, le-ltb 1280 (length datagram) short) refl
