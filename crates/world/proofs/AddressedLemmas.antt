@@ -30,7 +30,7 @@ use Rattle.relay.specs.Up4.{agent_information, with_agent_information, is_from_s
 use Rattle.relay.specs.Down4.{is_named}
 use Rattle.relay.specs.Relays.{relayed_up}
 use Rattle.relay.proofs.AllLemmas.{bytes_eq_self, same_source_self, named_first}
-use Rattle.world.proofs.AddressedLemmas6.{forward_is_addressed, is_sent_up6}
+use Rattle.world.proofs.AddressedLemmas6.{forward_is_addressed, is_sent_up6, not_discarded}
 
 -- ---- what the relay tested
 
@@ -45,11 +45,6 @@ record IsSentUp (part : CircuitPart) (frame datagram : List ℕ) : Type 0 where
 
 abbrev ok : List ℕ → Result (List ℕ) Discard
 ok datagram = Ok datagram
-
--- A test that didn't discard was not met.
-not_discarded : (b : Bool) (why : Discard) (behind : Result (List ℕ) Discard) (datagram : List ℕ) → cond b (Err why) behind ≡ Ok datagram → (b ≡ false) × (behind ≡ Ok datagram)
-not_discarded true why behind datagram e = absurd cc
-not_discarded false why behind datagram e = (refl, e)
 
 not_false : (b : Bool) → not b ≡ false → b ≡ true
 not_false true e = refl
