@@ -42,6 +42,7 @@ impl CircuitPart {
         let relay = config.relay(values.relay);
         let server = config.server();
         prove!(!values.gateway4.is_unspecified());
+        prove!(len_of(values.link6) == 16);
         CircuitPart {
             circuit: values.copy(),
             relay: relay.source,
@@ -143,4 +144,12 @@ impl CircuitPart {
         let Some(pool) = pool else { unreachable!() };
         pool
     }
+}
+
+/// How many bytes an address has.
+fn len_of(address: Addr6) -> usize
+    ensures value { result ≡ length address.0 }
+    ensures sixteen { result ≡ 16 }
+{
+    address.0.len()
 }
