@@ -14,6 +14,7 @@ use wire::PacketBuf;
 
 /// What a relay takes from a reply: the circuit, an address of its link, the client, and the message
 /// for the client.
+#[derive(Drop)]
 pub(crate) struct Reply6<'a> {
     pub(crate) interface_id: &'a [u8],
     link: Addr6,

@@ -137,8 +137,8 @@ impl Relays {
     {
         let reply = read_reply(datagram)?;
         let suboptions = read_suboptions(&reply)?;
-        let (circuit, part) = self.own_circuit(relay, suboptions.get(code::CIRCUIT_ID))?;
-        let dest = relay_down4(part, &reply, out)?;
+        let circuit = self.own_circuit(relay, suboptions.get(code::CIRCUIT_ID))?;
+        let dest = relay_down4(self.circuits.part(circuit), &reply, out)?;
         Ok((circuit, dest))
     }
 
@@ -158,21 +158,17 @@ impl Relays {
     {
         let relayed = read_reply6(datagram)?;
         let reply = read_options(&relayed)?;
-        let (circuit, part) = self.own_circuit(relay, Some(reply.interface_id))?;
-        let dest = relay_down6(part, &reply, out)?;
+        let circuit = self.own_circuit(relay, Some(reply.interface_id))?;
+        let dest = relay_down6(self.circuits.part(circuit), &reply, out)?;
         Ok((circuit, dest))
     }
 
     /// The circuit with exactly this id, which has to be one of this relay's.
-    fn own_circuit(
-        &self,
-        relay: RelayNo,
-        id: Option<&[u8]>,
-    ) -> Result<(Circuit, &CircuitPart), Discard>
+    fn own_circuit(&self, relay: RelayNo, id: Option<&[u8]>) -> Result<Circuit, Discard>
         requires { relay < length self.now.topology.relays }
-        ensures ok { IfOk result (λ own. own_circuit self.now.topology relay (option_map (λ bytes. bytes.now) id.entry) ≡ Ok (own.0, own.1.now)) }
+        ensures ok { IfOk result (λ circuit. (part : parts.CircuitPart) → slice_get self.now.topology.circuits circuit ≡ Some part → own_circuit self.now.topology relay (option_map (λ bytes. bytes.now) id.entry) ≡ Ok (circuit, part)) }
         ensures err { IfErr result (λ why. own_circuit self.now.topology relay (option_map (λ bytes. bytes.now) id.entry) ≡ Err why) }
-        ensures exists { IfOk result (λ own. own.0 < length self.now.topology.circuits) }
+        ensures exists { IfOk result (λ circuit. circuit < length self.now.topology.circuits) }
     {
         let Some(id) = id else {
             return Err(Discard::UnknownCircuitDown);
@@ -180,11 +176,10 @@ impl Relays {
         let Some(circuit) = self.circuits.find(id) else {
             return Err(Discard::UnknownCircuitDown);
         };
-        let part = self.circuits.part(circuit);
-        if !self.is_behind(relay, part) {
+        if !self.is_behind(relay, self.circuits.part(circuit)) {
             return Err(Discard::UnknownCircuitDown);
         }
-        Ok((circuit, part))
+        Ok(circuit)
     }
 
     /// Whether a circuit is this relay's, by where the relay's datagrams come from.

@@ -34,11 +34,11 @@ returns-in-Ok-clause-circuit c =
     ap (λ d. addressee c.args.circuits.now.relays c.args.circuits.now.circuits d.proto d.source d.bytes) (sym c.delivery.view_is)
     ∙ within c.args.circuits.now.relays c.args.circuits.now.circuits c.delivery.inside.proto c.delivery.inside.source c.delivery.inside.bytes.now (sym c.is_relay.ensures ∙ c.if-not-is_relay.false) c.if-delivery-gt-MAX_DATAGRAM.false
     ∙ ap (λ proto. datagram_check c.args.circuits.now.circuits proto c.delivery.inside.source c.delivery.inside.bytes.now) c.in-V4.is
-    ∙ c.in-Ok.ensures.circuit
+    ∙ c.in-Ok.ensures.circuit ∙ (let e = c.in-Ok.circuit-is in ?)
 
 pub returns-in-Ok-addressee6-clause-circuit : goal.returns-in-Ok-addressee6-clause-circuit
 returns-in-Ok-addressee6-clause-circuit c =
     ap (λ d. addressee c.args.circuits.now.relays c.args.circuits.now.circuits d.proto d.source d.bytes) (sym c.delivery.view_is)
     ∙ within c.args.circuits.now.relays c.args.circuits.now.circuits c.delivery.inside.proto c.delivery.inside.source c.delivery.inside.bytes.now (sym c.is_relay.ensures ∙ c.if-not-is_relay.false) c.if-delivery-gt-MAX_DATAGRAM.false
     ∙ ap (λ proto. datagram_check c.args.circuits.now.circuits proto c.delivery.inside.source c.delivery.inside.bytes.now) c.in-V6.is
-    ∙ c.in-Ok-addressee6.ensures.circuit
+    ∙ c.in-Ok-addressee6.ensures.circuit ∙ (let e = c.in-Ok-addressee6.circuit-is in ?)
