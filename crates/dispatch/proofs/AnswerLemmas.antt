@@ -1,5 +1,5 @@
 -- What a circuit answers to a message, by what its open circuit decides.
-use Rattle.std.proofs.Common.{◌≡◌, ℕ, ◌+◌, ◌==◌, ◌&&◌, nat_lt, Bool, true, false, not, refl, sym, ap, subst, ◌∙◌, Ok, Err, Result, is_ok, arith}
+use Rattle.std.proofs.Common.{◌≡◌, ℕ, ◌+◌, ◌==◌, ◌&&◌, nat_lt, Bool, true, false, not, List, refl, sym, ap, subst, ◌∙◌, Ok, Err, Result, is_ok, arith}
 use Rattle.std.specs.Prelude.{Option, Some, None, if◌then◌else◌}
 use Rattle.std.proofs.lemmas.Bool.{lt-ltb, le-ltb}
 use Rattle.types.specs.Delivery.{DeliveryValue}
@@ -17,6 +17,9 @@ use Rattle.bindings_v4.specs.Table4.{Decision, answer4}
 use Rattle.lease_disk.specs.Device.{Device, Touches, WritesAt}
 use Rattle.lease_disk.specs.Region.{Region, effective, faults_after}
 use Rattle.dispatch.specs.Leases.{Leases, after_datagram, kept, restarts_of, restarts_after}
+use Rattle.v6_message.specs.Relay.{RelayValue}
+use Rattle.dispatch.specs.declared.addressee.Relayed.TheVariants.{Four, Six}
+use Rattle.dispatch.specs.Relayed.{IsRelayed}
 use Rattle.dispatch.specs.Received.{after_save, answered, circuit_saves, fails_at, saves}
 use Rattle.dispatch.specs.Request.{request_in}
 use Rattle.dispatch.specs.Server.{Book, Served, book_at, datagram_served, decision_served, drop, message_served, reply_to, request_served, served}
@@ -27,6 +30,15 @@ use Rattle.dispatch.specs.ServerValue.{CircuitServerValue, OpenCircuitValue, boo
 by_proto : (part : CircuitPart) (d : DeliveryValue) (b : Book) (proto : Proto) → d.proto ≡ proto → served part d b ≡ datagram_served part proto d.bytes (book_at d.moment b)
 unfolding served
 by_proto part d b proto is = ap (λ p. datagram_served part p d.bytes (book_at d.moment b)) is
+
+-- what was read says which protocol the datagram has
+pub is_four : (proto : Proto) (datagram : List ℕ) (m : MessageValue) → IsRelayed proto datagram (Four m) → (proto ≡ V4) × (message_of datagram ≡ Ok m)
+is_four V4 datagram m read = (refl, read)
+is_four V6 datagram m read = absurd read
+
+pub is_six : (proto : Proto) (datagram : List ℕ) (m : RelayValue) → IsRelayed proto datagram (Six m) → proto ≡ V6
+is_six V4 datagram m read = absurd read
+is_six V6 datagram m read = refl
 
 -- no DHCPv6 message is served yet
 pub not_served : (part : CircuitPart) (d : DeliveryValue) (b later : Book) → d.proto ≡ V6 → later ≡ book_at d.moment b → served part d b ≡ drop NotServed later

@@ -24,7 +24,7 @@ pub(crate) fn addressee<'a>(
 ) -> Result<(Circuit, Relayed<'a>), Discard>
     ensures circuit { IfOk result (λ found. addressee circuits.now.relays circuits.now.circuits delivery.now.proto delivery.now.source delivery.now.bytes ≡ Ok found.0) }
     ensures within { IfOk result (λ found. found.0 < length circuits.now.circuits) }
-    ensures relayed { IfOk result (λ found. IsRelayed delivery.now found.1) }
+    ensures relayed { IfOk result (λ found. IsRelayed delivery.now.proto delivery.now.bytes found.1) }
     ensures err { IfErr result (λ why. addressee circuits.now.relays circuits.now.circuits delivery.now.proto delivery.now.source delivery.now.bytes ≡ Err why) }
 {
     if !circuits.is_relay(delivery.source) {
@@ -34,13 +34,7 @@ pub(crate) fn addressee<'a>(
         return Err(Discard::Malformed);
     }
     match delivery.proto {
-        Proto::V4 => match addressee4(circuits, delivery.source, delivery.bytes) {
-            Ok((circuit, message)) => Ok((circuit, Relayed::Four(message))),
-            Err(why) => Err(why),
-        },
-        Proto::V6 => match addressee6(circuits, delivery.source, delivery.bytes) {
-            Ok((circuit, forward)) => Ok((circuit, Relayed::Six(forward))),
-            Err(why) => Err(why),
-        },
+        Proto::V4 => addressee4(circuits, delivery.source, delivery.bytes),
+        Proto::V6 => addressee6(circuits, delivery.source, delivery.bytes),
     }
 }

@@ -3,8 +3,11 @@ ghost use Rattle.std.specs.Prelude.{◌≡◌, ◌<◌, length, Ok, Err, IfOk, I
 ghost use Rattle.v4_options.specs.Spelling.{look_up};
 ghost use Rattle.v4_message.specs.Agent.{is_value};
 ghost use Rattle.v4_message.specs.Reading.{message_of};
+ghost use Rattle.types.specs.declared.dest.Proto.TheVariants.{V4};
 ghost use Rattle.dispatch.specs.Addressee4.{link_fault4, message_check};
+ghost use Rattle.dispatch.specs.Relayed.{IsRelayed};
 
+use crate::addressee::Relayed;
 use crate::named_circuit::{circuit_check, circuit_named};
 use config::{CircuitPart, Circuits};
 use types::{Circuit, Discard, Source};
@@ -17,17 +20,17 @@ pub(crate) fn addressee4<'a>(
     circuits: &Circuits,
     source: Source,
     datagram: &'a [u8],
-) -> Result<(Circuit, Message<'a>), Discard>
+) -> Result<(Circuit, Relayed<'a>), Discard>
     ensures circuit { IfOk result (λ found. message_check circuits.now.circuits source (message_of datagram.now) ≡ Ok found.0) }
     ensures within { IfOk result (λ found. found.0 < length circuits.now.circuits) }
-    ensures message { IfOk result (λ found. message_of datagram.now ≡ Ok found.1) }
+    ensures relayed { IfOk result (λ found. IsRelayed V4 datagram.now found.1) }
     ensures err { IfErr result (λ why. message_check circuits.now.circuits source (message_of datagram.now) ≡ Err why) }
 {
     let Ok(message) = Message::read(datagram) else {
         return Err(Discard::Malformed);
     };
     match message_check(circuits, source, &message) {
-        Ok(circuit) => Ok((circuit, message)),
+        Ok(circuit) => Ok((circuit, Relayed::Four(message))),
         Err(why) => Err(why),
     }
 }

@@ -72,7 +72,7 @@ impl CircuitServer {
         disk: &mut D,
         out: &mut PacketBuf,
     ) -> Result<(), Discard>
-        requires read { IsRelayed delivery.now relayed.now }
+        requires read { IsRelayed delivery.now.proto delivery.now.bytes relayed.now }
         requires empty { out.old ≡ [] }
         requires exists { part.now.region < (D.device disk.old).count }
         requires pool { HasPool part.now self.old }

@@ -11,7 +11,7 @@ use Rattle.dispatch.specs.Received.{IsAnswer}
 use Rattle.dispatch.specs.Relayed.{IsRelayed}
 use Rattle.dispatch.specs.Server.{book_at, drop, reply_to}
 use Rattle.dispatch.specs.ServerValue.{HasPool, open_book}
-use Rattle.dispatch.proofs.AnswerLemmas.{IsServed, not_served, refused, decided, served_as, counted, fails_by, not_more, held, failed, fails_as, leases_as, writes_as}
+use Rattle.dispatch.proofs.AnswerLemmas.{IsServed, is_four, is_six, not_served, refused, decided, served_as, counted, fails_by, not_more, held, failed, fails_as, leases_as, writes_as}
 use Rattle.dispatch.proofs.circuit_server.CircuitServer.answer.Given as given
 use Rattle.dispatch.proofs.circuit_server.CircuitServer.answer.Goals.{In_default-relayed, In-Err, After-keep}
 use Rattle.dispatch.proofs.circuit_server.CircuitServer.answer.Goals as goal
@@ -22,7 +22,7 @@ not_four : (g : given.Over) (c : In_default-relayed g)
     → IsServed (record { part = c.args.part.now; state = c.args.self.now }) c.args.delivery.now c.args.part.now c.in-Some.circuit (drop NotServed (open_book c.tick.new.self))
 not_four g c = record {
   was = λ i. record { part = c.args.part.now; state = (sym c.self.view_is ∙ c.in-Some.is) i };
-  served_so = not_served c.args.part.now c.args.delivery.now (open_book c.in-Some.circuit) (open_book c.tick.new.self) (subst (IsRelayed c.args.delivery.now) c.in_default-relayed.is c.requires.read).0 (c.tick.ensures.book ∙ ap (λ d. book_at d.moment (open_book c.in-Some.circuit)) c.delivery.view_is);
+  served_so = not_served c.args.part.now c.args.delivery.now (open_book c.in-Some.circuit) (open_book c.tick.new.self) (is_six c.args.delivery.now.proto c.args.delivery.now.bytes c.in_default-relayed.field-0 (subst (IsRelayed c.args.delivery.now.proto c.args.delivery.now.bytes) c.in_default-relayed.is c.requires.read)) (c.tick.ensures.book ∙ ap (λ d. book_at d.moment (open_book c.in-Some.circuit)) c.delivery.view_is);
 }
 
 refusal : (g : given.Over) (c : goal.In-Err g)
@@ -30,7 +30,7 @@ refusal : (g : given.Over) (c : goal.In-Err g)
 refusal g c = record {
   was = λ i. record { part = c.args.part.now; state = (sym c.self.view_is ∙ c.in-Some.is) i };
   served_so =
-      refused c.args.part.now c.args.delivery.now c.in-Four.message (subst (IsRelayed c.args.delivery.now) c.in-Four.is c.requires.read).0 (subst (IsRelayed c.args.delivery.now) c.in-Four.is c.requires.read).1 (open_book c.in-Some.circuit) (open_book c.tick.new.self) (c.tick.ensures.book ∙ ap (λ d. book_at d.moment (open_book c.in-Some.circuit)) c.delivery.view_is) c.in-Err.why
+      refused c.args.part.now c.args.delivery.now c.in-Four.message (is_four c.args.delivery.now.proto c.args.delivery.now.bytes c.in-Four.message (subst (IsRelayed c.args.delivery.now.proto c.args.delivery.now.bytes) c.in-Four.is c.requires.read)).0 (is_four c.args.delivery.now.proto c.args.delivery.now.bytes c.in-Four.message (subst (IsRelayed c.args.delivery.now.proto c.args.delivery.now.bytes) c.in-Four.is c.requires.read)).1 (open_book c.in-Some.circuit) (open_book c.tick.new.self) (c.tick.ensures.book ∙ ap (λ d. book_at d.moment (open_book c.in-Some.circuit)) c.delivery.view_is) c.in-Err.why
       (sym c.request_in.ensures ∙ c.in-Err.is);
 }
 
@@ -54,7 +54,7 @@ decision g c =
     record {
       was = λ i. record { part = part; state = (sym c.self.view_is ∙ c.in-Some.is) i };
       served_so =
-          decided part c.args.delivery.now c.in-Four.message (subst (IsRelayed c.args.delivery.now) c.in-Four.is c.requires.read).0 (subst (IsRelayed c.args.delivery.now) c.in-Four.is c.requires.read).1 (open_book c.in-Some.circuit) b (c.tick.ensures.book ∙ ap (λ d. book_at d.moment (open_book c.in-Some.circuit)) c.delivery.view_is) m (sym c.request_in.ensures ∙ c.in-Ok.is)
+          decided part c.args.delivery.now c.in-Four.message (is_four c.args.delivery.now.proto c.args.delivery.now.bytes c.in-Four.message (subst (IsRelayed c.args.delivery.now.proto c.args.delivery.now.bytes) c.in-Four.is c.requires.read)).0 (is_four c.args.delivery.now.proto c.args.delivery.now.bytes c.in-Four.message (subst (IsRelayed c.args.delivery.now.proto c.args.delivery.now.bytes) c.in-Four.is c.requires.read)).1 (open_book c.in-Some.circuit) b (c.tick.ensures.book ∙ ap (λ d. book_at d.moment (open_book c.in-Some.circuit)) c.delivery.view_is) m (sym c.request_in.ensures ∙ c.in-Ok.is)
           ∙ served_as part c.in-Four.message clock (answer4 (pool4_of part) clock b.four m) c.decide-decision.result.answer
           (slots.book_of clock (slots.with_decision c.decide-decision.result c.tick.new.self.slots)) (is_some c.decide-decision.result.keep)
           (c.decide-decision.ensures.answer ∙ ap (λ p. (answer4 p clock b.four m).answer) pool)
