@@ -154,7 +154,7 @@ same_value a b None p q = absurd cc
 same_value a b (Some v) p q = sym ((bytes_eq-Decides v a).0 p) ∙ (bytes_eq-Decides v b).0 q
 
 -- the only circuit with an id is the first
-first_with_id : (circuits : List CircuitPart) (c : ℕ) (part : CircuitPart) (id : Option (List ℕ))
+pub first_with_id : (circuits : List CircuitPart) (c : ℕ) (part : CircuitPart) (id : Option (List ℕ))
     → slice_get circuits c ≡ Some part → ((d : ℕ) (other : CircuitPart) → slice_get circuits d ≡ Some other → other.id ≡ part.id → d ≡ c)
     → has_id id part ≡ true → position (has_id id) circuits ≡ Some c
 first_with_id circuits c part id there alone named =

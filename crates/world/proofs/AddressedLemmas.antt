@@ -1,5 +1,5 @@
 -- What the relay sends up for a circuit reads again at the server, and is that circuit's there.
-use Rattle.std.proofs.Common.{◌≡◌, ◌≢◌, ℕ, zero, suc, ◌+◌, ◌≤◌, Bool, true, false, not, cond, eqb, nat_le, is_some, List, [], ◌∷◌, ◌++◌, length, Option, Some, None, Result, Ok, Err, refl, sym, ap, ◌∙◌, arith}
+use Rattle.std.proofs.Common.{◌≡◌, ◌≢◌, ℕ, zero, suc, ◌+◌, ◌≤◌, Bool, true, false, not, cond, eqb, nat_le, is_some, List, [], ◌∷◌, ◌++◌, length, take, drop, Option, Some, None, Result, Ok, Err, refl, sym, ap, ◌∙◌, arith}
 use Rattle.std.specs.Prelude.{slice_get}
 use Rattle.std.specs.List.{list_any, position}
 use Rattle.std.proofs.lemmas.Bool.{eq-eqb, eqb-true, eqb-false, ltb-false}
@@ -28,9 +28,11 @@ use Rattle.dispatch.specs.Addressee4.{message_check}
 use Rattle.dispatch.proofs.AddresseeLemmas.{within}
 use Rattle.relay.specs.Up4.{agent_information, with_agent_information, is_from_server, message_relayed_up, relayed_up4}
 use Rattle.relay.specs.Down4.{is_named}
+use Rattle.relay.specs.Up6.{relay_forward, relayed_up6}
+use Rattle.v6_message.specs.RelayReading.{relay_of}
 use Rattle.relay.specs.Relays.{relayed_up}
 use Rattle.relay.proofs.AllLemmas.{bytes_eq_self, same_source_self, named_first}
-use Rattle.world.proofs.AddressedLemmas6.{forward_is_addressed, is_sent_up6, not_discarded}
+use Rattle.world.proofs.AddressedLemmas6.{forward_is_addressed}
 
 -- ---- what the relay tested
 
@@ -45,6 +47,11 @@ record IsSentUp (part : CircuitPart) (frame datagram : List ℕ) : Type 0 where
 
 abbrev ok : List ℕ → Result (List ℕ) Discard
 ok datagram = Ok datagram
+
+-- A test that didn't discard was not met.
+not_discarded : (b : Bool) (why : Discard) (behind : Result (List ℕ) Discard) (datagram : List ℕ) → cond b (Err why) behind ≡ Ok datagram → (b ≡ false) × (behind ≡ Ok datagram)
+not_discarded true why behind datagram e = absurd cc
+not_discarded false why behind datagram e = (refl, e)
 
 not_false : (b : Bool) → not b ≡ false → b ≡ true
 not_false true e = refl
@@ -177,8 +184,10 @@ module _ (circuits : List CircuitPart) (c : ℕ) (part : CircuitPart) (there : s
       ∙ ap (message_check circuits part.relay) (ap message_of sent.bytes ∙ is_read_again part frame m s sent.new p.gateway4_size)
       ∙ is_checked m sent.request sent.new p.gateway4
 
-  -- What the relay sends up for a circuit is that circuit's at the server.
+  -- What the relay sends up for a circuit is that circuit's at the server. Of a DHCPv6 frame it has to read
+  -- back as the Relay-forward.
   pub relayed_is_addressed : (relays : List Source) (proto : Proto) (frame datagram : List ℕ) → list_any (same_source part.relay) relays ≡ true → IsPart part → AreBytes frame
+      → (relayed_up6 part frame ≡ Ok datagram → relay_of datagram ≡ Ok (relay_forward part (take 16 frame) (drop 16 frame)))
       → relayed_up part proto frame ≡ Ok datagram → addressee relays circuits proto part.relay datagram ≡ Ok c
-  relayed_is_addressed relays V4 frame datagram known p fits e = message_is_addressed relays frame datagram known p fits (is_sent_up part frame datagram e)
-  relayed_is_addressed relays V6 frame datagram known p fits e = forward_is_addressed circuits c part there alone relays frame datagram known p (is_sent_up6 part frame datagram e)
+  relayed_is_addressed relays V4 frame datagram known p fits reads e = message_is_addressed relays frame datagram known p fits (is_sent_up part frame datagram e)
+  relayed_is_addressed relays V6 frame datagram known p fits reads e = forward_is_addressed circuits c part there alone relays frame datagram known p e (reads e)

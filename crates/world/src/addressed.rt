@@ -13,7 +13,7 @@ ghost use Rattle.relay.specs.Relays.{for_circuit, relayed_down, relayed_down_in,
 ghost use Rattle.wire.specs.Bytes.{AreBytes};
 
 use bindings_v4::gives_whole_addresses;
-use relay::named_circuit;
+use relay::{forward_is_read, named_circuit};
 use replies::reply_is_read;
 use v4_message::exact_reading;
 
@@ -25,7 +25,9 @@ pub fn comes_to_its_circuit()
         → ((d : ℕ) (other : CircuitPart) → slice_get circuits d ≡ Some other → other.id ≡ part.id → d ≡ c)
         → list_any (same_source part.relay) relays ≡ true → IsPart part → AreBytes frame
         → relayed_up part proto frame ≡ Ok datagram → addressee relays circuits proto part.relay datagram ≡ Ok c }
-{}
+{
+    forward_is_read();
+}
 
 /// What the server answers to a circuit's datagram comes down to that circuit, by the relay behind which
 /// it is, as the circuit's own part makes it.
