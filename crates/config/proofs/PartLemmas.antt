@@ -64,15 +64,16 @@ part_there settings c circuit copy relay server duid there behind copied servers
 
 -- a part of a configuration keeps what the circuit's values keep
 pub is_part : (settings : Settings) (c : ℕ) (circuit copy : CircuitConfig) (relay listen4 listen6 : Source) (duid : List ℕ)
-    → slice_get settings.circuits c ≡ Some circuit → copy ≡ circuit → IsWithinLimits settings.relays circuit → IsSound settings → length circuit.gateway4.0 ≡ 4
+    → slice_get settings.circuits c ≡ Some circuit → copy ≡ circuit → IsWithinLimits settings.relays circuit → IsSound settings → length circuit.gateway4.0 ≡ 4 → length circuit.link6.0 ≡ 16
     → IsPart (part_of copy relay listen4 listen6 duid)
-is_part settings c circuit copy relay listen4 listen6 duid there copied limits sound size =
+is_part settings c circuit copy relay listen4 listen6 duid there copied limits sound size4 size6 =
     let P : CircuitConfig → Type 0 = λ x. IsPart (part_of x relay listen4 listen6 duid) in
     subst P (sym copied) (record {
       id = limits.id;
       pool4 = limits.pool4;
-      gateway4_size = size;
+      gateway4_size = size4;
       gateway4 = gateway_is_given settings c circuit there sound;
+      link6_size = size6;
     })
 
 -- one part more

@@ -6,6 +6,8 @@ use Rattle.types.specs.Pool4.{IsPool4, PoolValue}
 use Rattle.types.specs.CircuitId.{IsCircuitId}
 use Rattle.types.specs.declared.addr.Addr4.{Addr4}
 use Rattle.types.specs.declared.addr.Source.{Source}
+use Rattle.types.specs.declared.dest.Proto.{Proto}
+use Rattle.types.specs.declared.dest.Proto.TheVariants.{V4, V6}
 use Rattle.settings.specs.declared.settings.RelayConfig.{RelayConfig}
 use Rattle.settings.specs.declared.settings.CircuitConfig.{CircuitConfig}
 use Rattle.settings.specs.Settings.{Settings}
@@ -67,6 +69,11 @@ parts_of settings =
 abbrev pub part_in : Settings → ℕ → Option CircuitPart
 part_in settings c = slice_get (parts_of settings) c
 
+-- where the server receives datagrams of a protocol
+abbrev pub listen_of : CircuitPart → Proto → Source
+listen_of part V4 = part.listen4
+listen_of part V6 = part.listen6
+
 abbrev pub pool4_of : CircuitPart → PoolValue
 pool4_of part = record { first = part.first4; count = part.count4; gateway = part.gateway4; lease = part.lease }
 
@@ -76,3 +83,4 @@ pub record IsPart (part : CircuitPart) : Type 0 where
   pub pool4 : IsPool4 part.first4 part.count4 part.lease
   pub gateway4_size : length part.gateway4.0 ≡ 4
   pub gateway4 : is_unspecified part.gateway4.0 ≡ false
+  pub link6_size : length part.link6 ≡ 16

@@ -3,6 +3,8 @@ use Rattle.std.specs.Prelude.{Bool, ◌||◌, List, map}
 use Rattle.std.specs.List.{list_any}
 use Rattle.types.specs.Addr.{same_source}
 use Rattle.types.specs.declared.addr.Source.{Source}
+use Rattle.types.specs.declared.dest.Proto.{Proto}
+use Rattle.types.specs.declared.dest.Proto.TheVariants.{V4, V6}
 use Rattle.settings.specs.Settings.{Settings}
 use Rattle.config.specs.CircuitPart.{CircuitPart, parts_of}
 
@@ -20,6 +22,11 @@ topology_of settings = record {
   relays = map (λ relay. relay.source) settings.relays;
   circuits = parts_of settings;
 }
+
+-- the server's address of each protocol
+abbrev pub listen : Topology → Proto → Source
+listen topology V4 = topology.listen4
+listen topology V6 = topology.listen6
 
 -- whether datagrams from this source are a relay's, or the server's
 abbrev pub is_relay : Topology → Source → Bool

@@ -2,13 +2,13 @@
 ghost use Rattle.std.specs.Prelude.{◌≡◌, ◌<◌, [], ◌∷◌, length, false, take, Some};
 ghost use Rattle.types.specs.Addr.{is_unspecified};
 ghost use Rattle.types.specs.Pool4.{IsPool4};
-ghost use Rattle.config.specs.CircuitPart.{IsPart, part_in, pool4_of};
+ghost use Rattle.config.specs.CircuitPart.{IsPart, listen_of, part_in, pool4_of};
 
 use crate::config::Config;
 use arrayvec::ArrayVec;
 use settings::{CircuitConfig, MAX_DNS, copy_of};
 use std::marker::Model;
-use types::{Addr4, Circuit, CircuitId, MAX_DUID, Pool4, Source};
+use types::{Addr4, Addr6, Circuit, CircuitId, MAX_DUID, Pool4, Proto, Source};
 
 /// A circuit's values, with the source of its relay and the server's values. It is a copy, so that
 /// relay and server don't need the configuration once they are open.
@@ -31,6 +31,11 @@ impl Model for CircuitPart {
     ghost invariant = { λ p. IsPart (part_of p.circuit p.relay p.listen4 p.listen6 p.duid.items) };
 }
 
+/// For its contract: a link's address has 16 bytes.
+fn has_sixteen_bytes(address: Addr6)
+    ensures { length address.0 ≡ 16 }
+{}
+
 impl CircuitPart {
     /// The part of a circuit of the configuration.
     pub fn of(config: &Config, circuit: Circuit) -> CircuitPart
@@ -42,6 +47,7 @@ impl CircuitPart {
         let relay = config.relay(values.relay);
         let server = config.server();
         prove!(!values.gateway4.is_unspecified());
+        has_sixteen_bytes(values.link6);
         CircuitPart {
             circuit: values.copy(),
             relay: relay.source,
@@ -64,18 +70,14 @@ impl CircuitPart {
         self.relay
     }
 
-    /// Where the server receives DHCPv4 datagrams.
-    pub fn listen4(&self) -> Source
-        ensures { result ≡ self.now.listen4 }
+    /// Where the server receives datagrams of this protocol.
+    pub fn listen(&self, proto: Proto) -> Source
+        ensures { result ≡ listen_of self.now proto }
     {
-        self.listen4
-    }
-
-    /// Where the server receives DHCPv6 datagrams.
-    pub fn listen6(&self) -> Source
-        ensures { result ≡ self.now.listen6 }
-    {
-        self.listen6
+        match proto {
+            Proto::V4 => self.listen4,
+            Proto::V6 => self.listen6,
+        }
     }
 
     pub fn gateway4(&self) -> Addr4
@@ -83,6 +85,14 @@ impl CircuitPart {
         ensures given { is_unspecified result.0 ≡ false }
     {
         self.circuit.gateway4
+    }
+
+    /// The relay's address on the circuit's link, by which the server knows the link.
+    pub fn link6(&self) -> Addr6
+        ensures value { result.0 ≡ self.now.link6 }
+        ensures size { length self.now.link6 ≡ 16 }
+    {
+        self.circuit.link6
     }
 
     /// The number of the circuit's region on the device.

@@ -1,10 +1,12 @@
 -- What a circuit answers to a message, by what its open circuit decides.
-use Rattle.std.proofs.Common.{◌≡◌, ℕ, ◌+◌, ◌==◌, ◌&&◌, nat_lt, Bool, true, false, not, refl, sym, ap, subst, ◌∙◌, Ok, Err, Result, is_ok, arith}
+use Rattle.std.proofs.Common.{◌≡◌, ℕ, ◌+◌, ◌==◌, ◌&&◌, nat_lt, Bool, true, false, not, List, refl, sym, ap, subst, ◌∙◌, Ok, Err, Result, is_ok, arith}
 use Rattle.std.specs.Prelude.{Option, Some, None, if◌then◌else◌}
 use Rattle.std.proofs.lemmas.Bool.{lt-ltb, le-ltb}
 use Rattle.types.specs.Delivery.{DeliveryValue}
 use Rattle.types.specs.declared.discard.Discard.{Discard}
-use Rattle.types.specs.declared.discard.Discard.TheVariants.{DiskFault}
+use Rattle.types.specs.declared.dest.Proto.{Proto}
+use Rattle.types.specs.declared.dest.Proto.TheVariants.{V4, V6}
+use Rattle.types.specs.declared.discard.Discard.TheVariants.{DiskFault, NotServed}
 use Rattle.types.specs.declared.request4.Request4.{Request4}
 use Rattle.types.specs.declared.request4.Reply4.{Reply4}
 use Rattle.v4_message.specs.Reading.{message_of}
@@ -15,20 +17,36 @@ use Rattle.bindings_v4.specs.Table4.{Decision, answer4}
 use Rattle.lease_disk.specs.Device.{Device, Touches, WritesAt}
 use Rattle.lease_disk.specs.Region.{Region, effective, faults_after}
 use Rattle.dispatch.specs.Leases.{Leases, after_datagram, kept, restarts_of, restarts_after}
+use Rattle.v6_message.specs.Relay.{RelayValue}
+use Rattle.dispatch.specs.declared.addressee.Relayed.TheVariants.{Four, Six}
+use Rattle.dispatch.specs.Relayed.{IsRelayed}
 use Rattle.dispatch.specs.Received.{after_save, answered, circuit_saves, fails_at, saves}
 use Rattle.dispatch.specs.Request.{request_in}
-use Rattle.dispatch.specs.Server.{Book, Served, book_at, decision_served, drop, message_served, reply_to, request_served, served}
+use Rattle.dispatch.specs.Server.{Book, Served, book_at, datagram_served, decision_served, drop, message_served, reply_to, request_served, served}
 use Rattle.dispatch.specs.ServerValue.{CircuitServerValue, OpenCircuitValue, book_of, leases_of, open_book}
 
 -- ---- what is decided
 
-unfolded : (part : CircuitPart) (d : DeliveryValue) (b : Book) → served part d b ≡ message_served part (book_at d.moment b) (message_of d.bytes)
+by_proto : (part : CircuitPart) (d : DeliveryValue) (b : Book) (proto : Proto) → d.proto ≡ proto → served part d b ≡ datagram_served part proto d.bytes (book_at d.moment b)
 unfolding served
-unfolded part d b = λ i. message_served part (book_at d.moment b) (message_of d.bytes)
+by_proto part d b proto is = ap (λ p. datagram_served part p d.bytes (book_at d.moment b)) is
 
-module _ (part : CircuitPart) (d : DeliveryValue) (m : MessageValue) (read : message_of d.bytes ≡ Ok m) (b later : Book) (ticked : later ≡ book_at d.moment b) where
+-- what was read says which protocol the datagram has
+pub is_four : (proto : Proto) (datagram : List ℕ) (m : MessageValue) → IsRelayed proto datagram (Four m) → (proto ≡ V4) × (message_of datagram ≡ Ok m)
+is_four V4 datagram m read = (refl, read)
+is_four V6 datagram m read = absurd read
+
+pub is_six : (proto : Proto) (datagram : List ℕ) (m : RelayValue) → IsRelayed proto datagram (Six m) → proto ≡ V6
+is_six V4 datagram m read = absurd read
+is_six V6 datagram m read = refl
+
+-- no DHCPv6 message is served yet
+pub not_served : (part : CircuitPart) (d : DeliveryValue) (b later : Book) → d.proto ≡ V6 → later ≡ book_at d.moment b → served part d b ≡ drop NotServed later
+not_served part d b later six ticked = by_proto part d b V6 six ∙ ap (drop NotServed) (sym ticked)
+
+module _ (part : CircuitPart) (d : DeliveryValue) (m : MessageValue) (four : d.proto ≡ V4) (read : message_of d.bytes ≡ Ok m) (b later : Book) (ticked : later ≡ book_at d.moment b) where
   of_message : served part d b ≡ request_served part m later (request_in m)
-  of_message = unfolded part d b ∙ ap (message_served part (book_at d.moment b)) read ∙ ap (λ x. request_served part m x (request_in m)) (sym ticked)
+  of_message = by_proto part d b V4 four ∙ ap (message_served part (book_at d.moment b)) read ∙ ap (λ x. request_served part m x (request_in m)) (sym ticked)
 
   pub refused : (why : Discard) → request_in m ≡ Err why → served part d b ≡ drop why later
   refused why is = of_message ∙ ap (request_served part m later) is

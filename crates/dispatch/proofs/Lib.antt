@@ -2,6 +2,7 @@ pub mod AddresseeLemmas
 pub mod AnswerLemmas
 pub mod IndexLemmas
 pub mod ReceivedLemmas
+pub mod RequestLemmas6
 pub mod RegionLemmas
 pub mod SaveLemmas
 pub mod ServerLemmas

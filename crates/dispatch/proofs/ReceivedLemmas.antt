@@ -10,7 +10,7 @@ use Rattle.dispatch.specs.Received.{received, with_answered, answered, circuit_a
 use Rattle.dispatch.specs.Server.{Book}
 
 module _ (relays : List Source) (parts : List CircuitPart) (d : DeliveryValue) (c : ℕ) (part : CircuitPart)
-    (found : addressee relays parts d.source d.bytes ≡ Ok c) (there : slice_get parts c ≡ Some part) where
+    (found : addressee relays parts d.proto d.source d.bytes ≡ Ok c) (there : slice_get parts c ≡ Some part) where
   pub received_at : (fails : Bool) (books : List (Option Book)) (book : Option Book) → slice_get books c ≡ Some book
       → received relays parts d fails books ≡ with_answered c books (answered part d fails book)
   received_at fails books book its =

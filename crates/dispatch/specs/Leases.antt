@@ -94,7 +94,7 @@ addressee_leases parts d faults all (Ok c) = leases_with c d faults all (slice_g
 -- Only the leases of the datagram's circuit change. `faults` says for each region which of the device's
 -- next calls fails.
 abbrev pub received_leases : List Source → List CircuitPart → DeliveryValue → (ℕ → ℕ) → List Leases → List Leases
-received_leases relays parts d faults all = addressee_leases parts d faults all (addressee relays parts d.source d.bytes)
+received_leases relays parts d faults all = addressee_leases parts d faults all (addressee relays parts d.proto d.source d.bytes)
 
 -- ---- the device
 

@@ -1,6 +1,11 @@
 pub mod Addressee
+pub mod Addressee4
+pub mod Addressee6
 pub mod Leases
+pub mod NamedCircuit
 pub mod Received
+pub mod Relayed
 pub mod Request
+pub mod Request6
 pub mod Server
 pub mod ServerValue

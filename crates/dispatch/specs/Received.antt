@@ -50,7 +50,7 @@ addressee_answered parts d fails books (Err why) = drop_all why books
 addressee_answered parts d fails books (Ok c) = circuit_answered c d fails books (slice_get parts c) (slice_get books c)
 
 abbrev pub received : List Source → List CircuitPart → DeliveryValue → Bool → List (Option Book) → Received
-received relays parts d fails books = addressee_answered parts d fails books (addressee relays parts d.source d.bytes)
+received relays parts d fails books = addressee_answered parts d fails books (addressee relays parts d.proto d.source d.bytes)
 
 -- ---- what is written
 
@@ -68,7 +68,7 @@ addressee_saves parts d books (Ok c) = circuit_saves d (slice_get parts c) (slic
 
 -- The region that a datagram's save writes to, whether it fails or not; None where nothing is written.
 abbrev pub received_saves : List Source → List CircuitPart → DeliveryValue → List (Option Book) → Option ℕ
-received_saves relays parts d books = addressee_saves parts d books (addressee relays parts d.source d.bytes)
+received_saves relays parts d books = addressee_saves parts d books (addressee relays parts d.proto d.source d.bytes)
 
 -- Whether a save to this region fails, where `faults` says for each region which of the device's next calls
 -- fails.

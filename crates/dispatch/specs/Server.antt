@@ -1,6 +1,8 @@
--- One circuit's server: its book, and what it makes of a DHCPv4 datagram of the circuit.
+-- One circuit's server: its book, and what it makes of a datagram of the circuit.
 use Rattle.std.specs.Prelude.{ℕ, Bool, false, max, List, Result, Ok, Err}
 use Rattle.types.specs.Delivery.{DeliveryValue}
+use Rattle.types.specs.declared.dest.Proto.{Proto}
+use Rattle.types.specs.declared.dest.Proto.TheVariants.{V4, V6}
 use Rattle.types.specs.declared.discard.Discard.{Discard}
 use Rattle.types.specs.declared.discard.Discard.TheVariants as reason
 use Rattle.types.specs.declared.request4.Request4.{Request4}
@@ -60,6 +62,11 @@ abbrev pub message_served : CircuitPart → Book → Result MessageValue Message
 message_served part b (Err fault) = drop reason.Malformed b
 message_served part b (Ok m) = request_served part m b (request_in m)
 
+-- by the protocol; no DHCPv6 message is served yet
+abbrev pub datagram_served : CircuitPart → Proto → List ℕ → Book → Served
+datagram_served part V4 datagram b = message_served part b (message_of datagram)
+datagram_served part V6 datagram b = drop reason.NotServed b
+
 -- A datagram of the circuit.
 unfoldable pub served : CircuitPart → DeliveryValue → Book → Served
-served part d b = message_served part (book_at d.moment b) (message_of d.bytes)
+served part d b = datagram_served part d.proto d.bytes (book_at d.moment b)

@@ -1,14 +1,15 @@
 //! The server of one circuit: what it has while it is open, and what it makes of a message.
 ghost use Rattle.std.specs.Prelude.{◌≡◌, ◌<◌, ◌≤◌, ◌+◌, [], Ok, Some, None, true, is_some, nat_lt, option_map};
-ghost use Rattle.v4_message.specs.Reading.{message_of};
 ghost use Rattle.config.specs.CircuitPart as parts;
 ghost use Rattle.dispatch.specs.Leases.{after_datagram, found_book};
 ghost use Rattle.dispatch.specs.Received.{IsAnswer, answered, circuit_saves, fails_at};
+ghost use Rattle.dispatch.specs.Relayed.{IsRelayed};
 ghost use Rattle.dispatch.specs.Server.{book_at, reply_to};
 ghost use Rattle.dispatch.specs.ServerValue.{HasPool, IsReadyFor, leases_of, open_book};
 ghost use Rattle.lease_disk.specs.Device.{Touches, TouchesNothing, WritesAt};
 ghost use Rattle.lease_disk.specs.Region.{IsClean, Region};
 
+use crate::addressee::Relayed;
 use crate::open_circuit::OpenCircuit;
 use crate::request::request_in;
 use config::CircuitPart;
@@ -62,16 +63,16 @@ impl CircuitServer {
         self.state = OpenCircuit::recover(part, disk);
     }
 
-    /// Answers a datagram of the circuit, whose message this is. A save that fails closes the circuit.
+    /// Answers a datagram of the circuit, of which this was read. A save that fails closes the circuit.
     pub(crate) fn answer<D: Disk>(
         &mut self,
         part: &CircuitPart,
         delivery: &Delivery<'_>,
-        message: &Message<'_>,
+        relayed: &Relayed<'_>,
         disk: &mut D,
         out: &mut PacketBuf,
     ) -> Result<(), Discard>
-        requires read { message_of delivery.now.bytes ≡ Ok message.now }
+        requires read { IsRelayed delivery.now.proto delivery.now.bytes relayed.now }
         requires empty { out.old ≡ [] }
         requires exists { part.now.region < (D.device disk.old).count }
         requires pool { HasPool part.now self.old }
@@ -91,6 +92,9 @@ impl CircuitServer {
             return Err(Discard::CircuitClosed);
         };
         circuit.tick(delivery.moment);
+        let Relayed::Four(message) = relayed else {
+            return Err(Discard::NotServed);
+        };
         let request = match request_in(message) {
             Ok(request) => request,
             Err(why) => return Err(why),

@@ -2,13 +2,18 @@
 #![tactic(auto)]
 
 mod addressee;
+mod addressee4;
+mod addressee6;
 mod circuit_server;
 mod laws;
+mod named_circuit;
 mod open_circuit;
 mod regions;
 mod request;
+mod request6;
 mod server;
 
 pub use laws::leaves_a_book;
 pub use regions::region_count;
+pub use request6::request6_in;
 pub use server::{OpenFault, Server};

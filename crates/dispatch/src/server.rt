@@ -196,12 +196,12 @@ impl Server {
             moment: now,
             bytes: datagram,
         };
-        let (circuit, message) = match addressee(&self.circuits, &delivery) {
+        let (circuit, relayed) = match addressee(&self.circuits, &delivery) {
             Ok(found) => found,
             Err(why) => return Err(why),
         };
         let part = self.circuits.part(circuit);
-        self.servers[circuit.index()].answer(part, &delivery, &message, disk, out)
+        self.servers[circuit.index()].answer(part, &delivery, &relayed, disk, out)
     }
 
     /// Moves the clock of every open circuit to this moment, where it is a later one.

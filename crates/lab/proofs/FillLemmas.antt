@@ -105,11 +105,11 @@ pub others_are_events : (parsed : ParsedLine) (bytes : List ℕ) → (parsed ≡
 others_are_events parsed_line.Ignored bytes not_ignored not_fill = absurd (not_ignored refl)
 others_are_events parsed_line.Bad bytes not_ignored not_fill = refl
 others_are_events (parsed_line.Fill c byte) bytes not_ignored not_fill = absurd (not_fill c byte refl)
-others_are_events (parsed_line.Frame c len) bytes not_ignored not_fill = refl
+others_are_events (parsed_line.Frame c proto len) bytes not_ignored not_fill = refl
 others_are_events (parsed_line.Up c j now fault) bytes not_ignored not_fill = refl
 others_are_events (parsed_line.Down c j) bytes not_ignored not_fill = refl
 others_are_events (parsed_line.Tick now) bytes not_ignored not_fill = refl
-others_are_events (parsed_line.StrayUp source len now) bytes not_ignored not_fill = refl
+others_are_events (parsed_line.StrayUp proto source len now) bytes not_ignored not_fill = refl
 others_are_events (parsed_line.StrayDown relay source len) bytes not_ignored not_fill = refl
 
 -- ---- the text

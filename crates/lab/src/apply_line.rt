@@ -21,7 +21,7 @@ use config::Config;
 use lab_text::parse_line::{Parsed, ParsedLine};
 use lab_text::{ByteWriter, MAX_LINE};
 use lease_disk::Image;
-use types::{Circuit, Moment, Proto};
+use types::{Circuit, Moment};
 use wire::PacketBuf;
 use world::{Event, Machine};
 
@@ -150,8 +150,8 @@ fn apply<M: Machine, W: ByteWriter>(
         ParsedLine::Ignored => None,
         // an event came before this fill
         ParsedLine::Bad | ParsedLine::Fill(_, _) => Some(refuse(number, writer)),
-        ParsedLine::Frame(circuit, len) => {
-            let event = Event::Frame(circuit, Proto::V4, &buffers.bytes[..len]);
+        ParsedLine::Frame(circuit, proto, len) => {
+            let event = Event::Frame(circuit, proto, &buffers.bytes[..len]);
             apply_event(machine, config, circuit, &event, &mut buffers.out, writer)
         }
         ParsedLine::Up(circuit, j, now, fault) => {
@@ -163,8 +163,8 @@ fn apply<M: Machine, W: ByteWriter>(
             apply_event(machine, config, circuit, &event, &mut buffers.out, writer)
         }
         ParsedLine::Tick(now) => apply_tick(machine, now, &mut buffers.out, writer),
-        ParsedLine::StrayUp(source, len, now) => {
-            let event = Event::StrayUp(Proto::V4, source, &buffers.bytes[..len], now);
+        ParsedLine::StrayUp(proto, source, len, now) => {
+            let event = Event::StrayUp(proto, source, &buffers.bytes[..len], now);
             apply_stray(machine, &event, &mut buffers.out, writer)
         }
         ParsedLine::StrayDown(relay, source, len) => {

@@ -1,4 +1,4 @@
--- The value of a field: a number, bytes, a circuit, a relay, an address and port, or an image of a region.
+-- The value of a field: a number, a protocol, bytes, a circuit, a relay, an address and port, or an image of a region.
 use Rattle.std.specs.Prelude.{ℕ, ◌+◌, ◌-◌, ◌*◌, nat_le, ◌==◌, ◌||◌, Bool, true, false, if◌then◌else◌, List, [], ◌∷◌, length, take, drop, codes, position, Option, option_map, Some, None, Result, Ok, Err}
 use Rattle.std.specs.Str.{bytes_eq}
 use Rattle.std.specs.Char.{is_ascii_digit}
@@ -8,6 +8,8 @@ use Rattle.lease_disk.specs.declared.image.Image.{Image}
 use Rattle.lease_disk.specs.declared.image.Image.TheVariants.{Byte, Unreadable}
 use Rattle.types.specs.declared.addr.Addr4.{Addr4}
 use Rattle.types.specs.declared.addr.Source.{Source}
+use Rattle.types.specs.declared.dest.Proto.{Proto}
+use Rattle.types.specs.declared.dest.Proto.TheVariants.{V4, V6}
 use Rattle.settings.specs.Settings.{Settings}
 
 -- the number with the digits of n followed by these; the digit `0` is 48
@@ -31,6 +33,10 @@ value_of text = if lacks_first text then None else digits_after 0 text
 
 abbrev pub number_to : ℕ → List ℕ → Option ℕ
 number_to most text = at_most most (value_of text)
+
+-- the protocol: `4` or `6`
+abbrev pub proto_of : List ℕ → Option Proto
+proto_of text = if bytes_eq text (codes "4") then Some V4 else if bytes_eq text (codes "6") then Some V6 else None
 
 abbrev pub ok_of : Result (List ℕ) FromHexError → Option (List ℕ)
 ok_of (Ok bytes) = Some bytes

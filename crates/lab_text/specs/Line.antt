@@ -3,12 +3,11 @@ use Rattle.std.specs.Prelude.{ℕ, nat_lt, ◌==◌, Bool, true, if◌then◌els
 use Rattle.std.specs.Str.{bytes_eq}
 use Rattle.settings.specs.Settings.{Settings}
 use Rattle.lease_disk.specs.declared.image.Image.{Image}
-use Rattle.types.specs.declared.dest.Proto.TheVariants.{V4}
 use Rattle.types.specs.declared.discard.Discard.{Discard}
 use Rattle.types.specs.declared.discard.Discard.TheVariants.{UnknownSource, NotServer}
 use Rattle.config.specs.Topology.{topology_of, is_relay, is_server}
 use Rattle.events.specs.Seen.{Seen, Frame, Up, Down}
-use Rattle.lab_text.specs.Fields.{number_to, bytes_of, byte_of, circuit_named, relay_named, source_of, named_image, is_named}
+use Rattle.lab_text.specs.Fields.{number_to, proto_of, bytes_of, byte_of, circuit_named, relay_named, source_of, named_image, is_named}
 use Rattle.lab_text.specs.Lines.{fields_of}
 
 pub data Line : Type 0 where
@@ -41,14 +40,13 @@ fill_line settings (circuit ∷ digits ∷ []) = do
   Fill c byte
 fill_line settings fields = Bad
 
--- `frame CID 4 HEX`: the protocol is 4
+-- `frame CID PROTO HEX`
 abbrev pub frame_line : Settings → List (List ℕ) → Line
-frame_line settings (circuit ∷ proto ∷ digits ∷ []) =
-    if bytes_eq proto (codes "4") then (do
-      c ← circuit_named settings circuit
-      bytes ← bytes_of digits
-      Named c (Frame V4 bytes))
-    else Bad
+frame_line settings (circuit ∷ protocol ∷ digits ∷ []) = do
+  c ← circuit_named settings circuit
+  proto ← proto_of protocol
+  bytes ← bytes_of digits
+  Named c (Frame proto bytes)
 frame_line settings fields = Bad
 
 -- `up CID J NOW FAULT`: J is 0 to 65535, NOW is 0 to 2^40 - 1, and the fault is 0, for
@@ -77,15 +75,14 @@ tick_line (now ∷ []) = do
   Tick moment
 tick_line fields = Bad
 
--- `strayup 4 SRC HEX NOW`: no relay sends from this source
+-- `strayup PROTO SRC HEX NOW`: no relay sends from this source
 abbrev pub stray_up_line : Settings → List (List ℕ) → Line
-stray_up_line settings (proto ∷ from ∷ digits ∷ now ∷ []) =
-    if bytes_eq proto (codes "4") then (do
-      source ← source_of from
-      bytes ← bytes_of digits
-      moment ← number_to 1099511627775 now
-      if is_relay (topology_of settings) source then Bad else Stray UnknownSource)
-    else Bad
+stray_up_line settings (protocol ∷ from ∷ digits ∷ now ∷ []) = do
+  proto ← proto_of protocol
+  source ← source_of from
+  bytes ← bytes_of digits
+  moment ← number_to 1099511627775 now
+  if is_relay (topology_of settings) source then Bad else Stray UnknownSource
 stray_up_line settings fields = Bad
 
 -- `straydown RELAY SRC HEX`: the server does not send from this source

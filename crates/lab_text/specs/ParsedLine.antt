@@ -1,7 +1,6 @@
 -- What the parser of a line returns, as a line. Only proofs need these.
 use Rattle.std.specs.Prelude.{◌≡◌, ℕ, ◌<◌, ◌≤◌, Bool, true, false, List, length, take, ⊤}
 use Rattle.settings.specs.Settings.{Settings}
-use Rattle.types.specs.declared.dest.Proto.TheVariants.{V4}
 use Rattle.types.specs.declared.discard.Discard.TheVariants.{UnknownSource, NotServer}
 use Rattle.config.specs.Topology.{topology_of, is_relay, is_server}
 use Rattle.events.specs.Seen.{Frame, Up, Down}
@@ -20,11 +19,11 @@ abbrev pub line_of : ParsedLine → List ℕ → Line
 line_of parsed.Ignored bytes = Ignored
 line_of parsed.Bad bytes = Bad
 line_of (parsed.Fill circuit byte) bytes = Fill circuit byte
-line_of (parsed.Frame circuit len) bytes = Named circuit (Frame V4 (take len bytes))
+line_of (parsed.Frame circuit proto len) bytes = Named circuit (Frame proto (take len bytes))
 line_of (parsed.Up circuit j now fault) bytes = Named circuit (Up j now fault)
 line_of (parsed.Down circuit j) bytes = Named circuit (Down j)
 line_of (parsed.Tick now) bytes = Tick now
-line_of (parsed.StrayUp source len now) bytes = Stray UnknownSource
+line_of (parsed.StrayUp proto source len now) bytes = Stray UnknownSource
 line_of (parsed.StrayDown relay source len) bytes = Stray NotServer
 
 -- The circuit or the relay exists, the buffer has room for the bytes, and a stray is one.
@@ -32,11 +31,11 @@ abbrev pub IsWithin : Settings → ParsedLine → Type 0
 IsWithin settings parsed.Ignored = ⊤
 IsWithin settings parsed.Bad = ⊤
 IsWithin settings (parsed.Fill circuit byte) = circuit < length settings.circuits
-IsWithin settings (parsed.Frame circuit len) = (circuit < length settings.circuits) × (len ≤ 2048)
+IsWithin settings (parsed.Frame circuit proto len) = (circuit < length settings.circuits) × (len ≤ 2048)
 IsWithin settings (parsed.Up circuit j now fault) = circuit < length settings.circuits
 IsWithin settings (parsed.Down circuit j) = circuit < length settings.circuits
 IsWithin settings (parsed.Tick now) = ⊤
-IsWithin settings (parsed.StrayUp source len now) = (len ≤ 2048) × (is_relay (topology_of settings) source ≡ false)
+IsWithin settings (parsed.StrayUp proto source len now) = (len ≤ 2048) × (is_relay (topology_of settings) source ≡ false)
 IsWithin settings (parsed.StrayDown relay source len) =
     (len ≤ 2048) × (relay < length settings.relays) × (is_server (topology_of settings) source ≡ false)
 

@@ -1,7 +1,7 @@
 //! The parser of a line.
 ghost use Rattle.std.specs.Prelude.{◌≡◌, ℕ, List, [], option_map};
 ghost use Rattle.settings.specs.Settings.{Settings};
-ghost use Rattle.lab_text.specs.Fields.{number_to};
+ghost use Rattle.lab_text.specs.Fields.{number_to, proto_of};
 ghost use Rattle.lab_text.specs.FieldsAfter.{fields_after, fields_of_next};
 ghost use Rattle.lab_text.specs.Line.{fill_line, frame_line, up_line, down_line, tick_line, stray_up_line, stray_down_line, restart_line, event_line, short_line};
 ghost use Rattle.lab_text.specs.ParsedLine.{line_of, IsRestartOrBad, Means, ParsedWithin};
@@ -15,7 +15,7 @@ use crate::images::{clear_images, clear_names, named_image};
 use crate::sources::source;
 use config::Config;
 use lease_disk::Image;
-use types::{Circuit, LAST_MOMENT, MAX_CIRCUITS, Moment, RelayNo, Source};
+use types::{Circuit, LAST_MOMENT, MAX_CIRCUITS, Moment, Proto, RelayNo, Source};
 
 /// The greatest number that names a datagram.
 pub const MAX_NUMBER: u64 = 65535;
@@ -33,13 +33,13 @@ pub enum ParsedLine {
     /// The byte that fills the circuit's region before all events.
     Fill(Circuit, u8),
     /// The length of the frame in bytes.
-    Frame(Circuit, usize),
+    Frame(Circuit, Proto, usize),
     /// The call of the disk that fails, 0 for none.
     Up(Circuit, u16, Moment, u8),
     Down(Circuit, u16),
     Tick(Moment),
     /// The length of the datagram in bytes.
-    StrayUp(Source, usize, Moment),
+    StrayUp(Proto, Source, usize, Moment),
     /// The length of the datagram in bytes.
     StrayDown(RelayNo, Source, usize),
 }
@@ -61,6 +61,19 @@ fn next_field<'a>(rest: Option<&'a [u8]>) -> Option<(&'a [u8], Option<&'a [u8]>)
         Some(line) => Some(first_field(line)),
         None => None,
     }
+}
+
+/// The protocol, `4` or `6`.
+fn protocol(text: &[u8]) -> Option<Proto>
+    ensures { result ≡ proto_of text.now }
+{
+    if text == b"4".as_slice() {
+        return Some(Proto::V4);
+    }
+    if text == b"6".as_slice() {
+        return Some(Proto::V6);
+    }
+    None
 }
 
 /// The number that names a datagram.
@@ -113,7 +126,7 @@ fn parse_fill(config: &Config, rest: Option<&[u8]>) -> ParsedLine
     }
 }
 
-/// `frame CID 4 HEX`.
+/// `frame CID PROTO HEX`.
 fn parse_frame(config: &Config, rest: Option<&[u8]>, bytes: &mut [u8; MAX_BYTES]) -> ParsedLine
     ensures value { line_of result bytes.new ≡ frame_line config.now (fields_after (option_map (λ line. line.now) rest.entry)) }
     ensures within { IsWithin config.now result }
@@ -130,16 +143,14 @@ fn parse_frame(config: &Config, rest: Option<&[u8]>, bytes: &mut [u8; MAX_BYTES]
     if next_field(rest).is_some() {
         return ParsedLine::Bad;
     }
-    if proto != b"4".as_slice() {
-        return ParsedLine::Bad;
+    match (
+        circuit_named(config, circuit),
+        protocol(proto),
+        bytes_at(digits, bytes),
+    ) {
+        (Some(circuit), Some(proto), Some(len)) => ParsedLine::Frame(circuit, proto, len),
+        _ => ParsedLine::Bad,
     }
-    let Some(circuit) = circuit_named(config, circuit) else {
-        return ParsedLine::Bad;
-    };
-    let Some(len) = bytes_at(digits, bytes) else {
-        return ParsedLine::Bad;
-    };
-    ParsedLine::Frame(circuit, len)
 }
 
 /// `up CID J NOW FAULT`.
@@ -212,7 +223,7 @@ fn parse_tick(rest: Option<&[u8]>) -> ParsedLine
     }
 }
 
-/// `strayup 4 SRC HEX NOW`.
+/// `strayup PROTO SRC HEX NOW`.
 fn parse_stray_up(config: &Config, rest: Option<&[u8]>, bytes: &mut [u8; MAX_BYTES]) -> ParsedLine
     ensures value { line_of result bytes.new ≡ stray_up_line config.now (fields_after (option_map (λ line. line.now) rest.entry)) }
     ensures within { IsWithin config.now result }
@@ -232,12 +243,14 @@ fn parse_stray_up(config: &Config, rest: Option<&[u8]>, bytes: &mut [u8; MAX_BYT
     if next_field(rest).is_some() {
         return ParsedLine::Bad;
     }
-    if proto != b"4".as_slice() {
-        return ParsedLine::Bad;
-    }
-    match (source(from), bytes_at(digits, bytes), moment(now)) {
-        (Some(source), Some(len), Some(now)) if !is_relay(config, source) => {
-            ParsedLine::StrayUp(source, len, now)
+    match (
+        protocol(proto),
+        source(from),
+        bytes_at(digits, bytes),
+        moment(now),
+    ) {
+        (Some(proto), Some(source), Some(len), Some(now)) if !is_relay(config, source) => {
+            ParsedLine::StrayUp(proto, source, len, now)
         }
         _ => ParsedLine::Bad,
     }

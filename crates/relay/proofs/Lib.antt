@@ -1,3 +1,4 @@
-pub mod RelayLemmas
+pub mod Relay4Lemmas
+pub mod Relay6Lemmas
 pub mod RelaysLemmas
 pub mod AllLemmas

@@ -1,34 +1,38 @@
 -- All relays, on the way down: what each step of a datagram comes to.
-use Rattle.std.proofs.Common.{◌≡◌, ℕ, true, false, List, Option, Some, None, Ok, Err, refl, sym, ap, ◌∙◌}
-use Rattle.std.specs.Prelude.{slice_get}
-use Rattle.std.specs.List.{position}
+use Rattle.std.proofs.Common.{◌≡◌, ℕ, true, false, List, Some, None, Result, Ok, Err, refl, sym, ap}
 use Rattle.types.specs.declared.addr.Source.{Source}
+use Rattle.types.specs.declared.dest.Proto.{Proto}
+use Rattle.types.specs.declared.dest.Proto.TheVariants.{V4, V6}
 use Rattle.types.specs.declared.discard.Discard.{Discard}
 use Rattle.types.specs.declared.discard.Discard.TheVariants as reason
-use Rattle.v4_options.specs.Codes.{CIRCUIT_ID}
-use Rattle.v4_options.specs.Spelling.{look_up}
 use Rattle.v4_message.specs.Spelling.{MessageValue}
+use Rattle.v6_options.specs.Codes.{RELAY_MESSAGE, INTERFACE_ID}
+use Rattle.v6_options.specs.Spelling.{look_up}
+use Rattle.v6_message.specs.Relay.{RelayValue}
 use Rattle.config.specs.CircuitPart.{CircuitPart}
 use Rattle.config.proofs.PartLemmas.{never}
 use Rattle.types.specs.Addr.{same_source}
-use Rattle.v4_message.specs.Agent.{agent_of, is_value}
-use Rattle.relay.specs.Down4.{is_named, reply_of, suboptions_in, reply_on_link}
+use Rattle.v4_message.specs.Agent.{agent_of}
+use Rattle.relay.specs.Down.{AddressedFrame, frame_on_link}
+use Rattle.relay.specs.Down4.{addressed_by4, addressed_frame4, reply_of, suboptions_in}
+use Rattle.relay.specs.Down6.{addressed_by, addressed_frame6, reply_of6}
 use Rattle.config.specs.Topology.{Topology}
-use Rattle.relay.specs.Relays.{for_circuit, is_behind, reply_at_index, relayed_down_in, relayed_down4_in}
+use Rattle.relay.specs.Relays.{addressed_frame, for_circuit, link_of, own_circuit, circuit_at_index, proto_of, relayed_down_in, relayed_down_of, relayed_down_from}
 
 -- ---- by the source
 
-pub from_listen4 : (topology : Topology) (relay : ℕ) (source : Source) (datagram : List ℕ)
-    → same_source source topology.listen4 ≡ true
-    → relayed_down_in topology relay source datagram ≡ relayed_down4_in topology relay datagram
+pub by_proto : (topology : Topology) (relay : ℕ) (source : Source) (datagram : List ℕ) (proto : Proto)
+    → proto_of topology source ≡ Some proto
+    → relayed_down_in topology relay source datagram ≡ relayed_down_from topology relay proto datagram
 unfolding relayed_down_in
-from_listen4 topology relay source datagram four = rw four refl
+by_proto topology relay source datagram proto is = ap (relayed_down_of topology relay datagram) is
 
-pub from_listen6 : (topology : Topology) (relay : ℕ) (source : Source) (datagram : List ℕ)
-    → same_source source topology.listen4 ≡ false → same_source source topology.listen6 ≡ true
-    → relayed_down_in topology relay source datagram ≡ Err reason.MalformedDown
-unfolding relayed_down_in
-from_listen6 topology relay source datagram not_four six = rw (not_four, six) refl
+pub is_v4 : (topology : Topology) (source : Source) → same_source source topology.listen4 ≡ true → proto_of topology source ≡ Some V4
+is_v4 topology source four = rw four refl
+
+pub is_v6 : (topology : Topology) (source : Source)
+    → same_source source topology.listen4 ≡ false → same_source source topology.listen6 ≡ true → proto_of topology source ≡ Some V6
+is_v6 topology source not_four six = rw (not_four, six) refl
 
 pub from_elsewhere : (topology : Topology) (relay : ℕ) (source : Source) (datagram : List ℕ)
     → same_source source topology.listen4 ≡ false → same_source source topology.listen6 ≡ false
@@ -36,36 +40,47 @@ pub from_elsewhere : (topology : Topology) (relay : ℕ) (source : Source) (data
 unfolding relayed_down_in
 from_elsewhere topology relay source datagram not_four not_six = rw (not_four, not_six) refl
 
--- ---- by the reply, its suboptions and their circuit
+-- ---- by the frame in the datagram, and its circuit
 
-pub no_reply : (topology : Topology) (relay : ℕ) (datagram : List ℕ) (why : Discard)
-    → Err why ≡ reply_of datagram → relayed_down4_in topology relay datagram ≡ Err why
-unfolding relayed_down4_in
-no_reply topology relay datagram why refused = rw (sym refused) refl
+pub no_frame : (topology : Topology) (relay : ℕ) (proto : Proto) (datagram : List ℕ) (why : Discard)
+    → addressed_frame proto datagram ≡ Err why → relayed_down_from topology relay proto datagram ≡ Err why
+unfolding relayed_down_from
+no_frame topology relay proto datagram why refused = rw refused refl
 
-pub no_suboptions : (topology : Topology) (relay : ℕ) (datagram : List ℕ) (m : MessageValue) (why : Discard)
-    → Ok m ≡ reply_of datagram → Err why ≡ suboptions_in (agent_of m) → relayed_down4_in topology relay datagram ≡ Err why
-unfolding relayed_down4_in
-no_suboptions topology relay datagram m why reply refused = rw (sym reply, sym refused) refl
+pub no_circuit : (topology : Topology) (relay : ℕ) (proto : Proto) (datagram : List ℕ) (reply : AddressedFrame) (why : Discard)
+    → addressed_frame proto datagram ≡ Ok reply → own_circuit topology relay reply.circuit_id ≡ Err why
+    → relayed_down_from topology relay proto datagram ≡ Err why
+unfolding relayed_down_from
+no_circuit topology relay proto datagram reply why read refused = rw (read, refused) refl
 
-pub at_index : (topology : Topology) (relay : ℕ) (datagram : List ℕ) (m : MessageValue) (suboptions : List (ℕ × List ℕ)) (index : Option ℕ)
-    → Ok m ≡ reply_of datagram → Ok suboptions ≡ suboptions_in (agent_of m) → index ≡ position (is_named suboptions) topology.circuits
-    → relayed_down4_in topology relay datagram ≡ reply_at_index topology relay m index
-unfolding relayed_down4_in
-at_index topology relay datagram m suboptions index reply held found = rw (sym reply, sym held, sym found) refl
+pub to_circuit : (topology : Topology) (relay : ℕ) (proto : Proto) (datagram : List ℕ) (reply : AddressedFrame) (c : ℕ) (part : CircuitPart)
+    → addressed_frame proto datagram ≡ Ok reply → own_circuit topology relay reply.circuit_id ≡ Ok (c, part)
+    → relayed_down_from topology relay proto datagram ≡ for_circuit c (frame_on_link (link_of proto part) reply.link reply.frame)
+unfolding relayed_down_from
+to_circuit topology relay proto datagram reply c part read own = rw (read, own) refl
 
--- the circuit that was found is another relay's, or this relay's own
-pub other_relay : (topology : Topology) (relay c : ℕ) (m : MessageValue) (part : CircuitPart)
-    → slice_get topology.circuits c ≡ Some part → is_behind (slice_get topology.relays relay) part ≡ false
-    → reply_at_index topology relay m (Some c) ≡ Err reason.UnknownCircuitDown
-other_relay topology relay c m part there other = rw (there, other) refl
+-- ---- the frame of each protocol
 
-pub own_relay : (topology : Topology) (relay c : ℕ) (m : MessageValue) (part : CircuitPart)
-    → slice_get topology.circuits c ≡ Some part → is_behind (slice_get topology.relays relay) part ≡ true
-    → reply_at_index topology relay m (Some c) ≡ for_circuit c (reply_on_link part m)
-own_relay topology relay c m part there own = rw (there, own) refl
+pub no_reply4 : (datagram : List ℕ) (why : Discard) → Err why ≡ reply_of datagram → addressed_frame4 datagram ≡ Err why
+no_reply4 datagram why refused = rw (sym refused) refl
 
--- ---- without a circuit id no circuit is named
+pub no_suboptions : (datagram : List ℕ) (m : MessageValue) (why : Discard)
+    → Ok m ≡ reply_of datagram → Err why ≡ suboptions_in (agent_of m) → addressed_frame4 datagram ≡ Err why
+no_suboptions datagram m why reply refused = rw (sym reply, sym refused) refl
 
-pub not_named : (suboptions : List (ℕ × List ℕ)) (circuits : List CircuitPart) → look_up CIRCUIT_ID suboptions ≡ None → position (is_named suboptions) circuits ≡ None
-not_named suboptions circuits none = ap (λ id. position (λ part. is_value part.id id) circuits) none ∙ never circuits
+pub frame4_there : (datagram : List ℕ) (m : MessageValue) (suboptions : List (ℕ × List ℕ))
+    → Ok m ≡ reply_of datagram → Ok suboptions ≡ suboptions_in (agent_of m) → addressed_frame4 datagram ≡ Ok (addressed_by4 m suboptions)
+frame4_there datagram m suboptions reply held = rw (sym reply, sym held) refl
+
+pub no_reply6 : (datagram : List ℕ) (why : Discard) → Err why ≡ reply_of6 datagram → addressed_frame6 datagram ≡ Err why
+no_reply6 datagram why refused = rw (sym refused) refl
+
+pub frame6_is : (datagram : List ℕ) (m : RelayValue) (result : Result AddressedFrame Discard)
+    → Ok m ≡ reply_of6 datagram → result ≡ addressed_by m (look_up INTERFACE_ID m.options) (look_up RELAY_MESSAGE m.options)
+    → addressed_frame6 datagram ≡ result
+frame6_is datagram m result reply is = rw (sym reply) (sym is)
+
+-- ---- without an id no circuit is found
+
+pub no_id : (topology : Topology) (relay : ℕ) → own_circuit topology relay None ≡ Err reason.UnknownCircuitDown
+no_id topology relay = ap (circuit_at_index topology relay) (never topology.circuits)

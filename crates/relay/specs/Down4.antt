@@ -1,6 +1,5 @@
 -- What a relay makes of a DHCPv4 datagram from the server, for one circuit.
 use Rattle.std.specs.Prelude.{ℕ, Bool, not, ◌||◌, ◌==◌, nat_lt, List, length, take, Option, Some, None, Result, Ok, Err, if◌then◌else◌, bit_and}
-use Rattle.std.specs.Str.{bytes_eq}
 use Rattle.types.specs.Addr.{is_unspecified}
 use Rattle.types.specs.declared.dest.Dest.{Dest}
 use Rattle.types.specs.declared.dest.Dest.TheVariants.{Broadcast, Unicast}
@@ -15,8 +14,9 @@ use Rattle.v4_message.specs.Reading.{message_of}
 use Rattle.v4_message.specs.Spelling.{MessageValue, message_bytes}
 use Rattle.wire.specs.Padding.{padded_to}
 use Rattle.config.specs.CircuitPart.{CircuitPart}
-use Rattle.v4_message.specs.Agent.{agent_of, is_value}
+use Rattle.v4_message.specs.Agent.{agent_of}
 use Rattle.relay.specs.SentFrame.{SentFrame}
+use Rattle.relay.specs.Down.{◌>>=◌, AddressedFrame, has_id, frame_for}
 
 -- To all clients where the client can't take a unicast yet, or has no address (RFC 2131, section 4.1).
 abbrev pub dest_of : MessageValue → Dest
@@ -32,12 +32,6 @@ without_agent_information m = record {
 }
 
 -- ---- the steps, each with what it refuses
-
--- the first step that refuses decides
-infixl 10 ◌>>=◌
-abbrev pub ◌>>=◌ : {A B : Type 0} → Result A Discard → (A → Result B Discard) → Result B Discard
-Ok x >>= next = next x
-Err why >>= next = Err why
 
 abbrev pub message_in_reply : Result MessageValue MessageFault → Result MessageValue Discard
 message_in_reply (Err fault) = Err reason.MalformedDown
@@ -55,18 +49,22 @@ suboptions_in (Some (Ok suboptions)) = Ok suboptions
 
 -- whether the circuit has exactly the id in option 82 (RFC 3046, section 3.1)
 abbrev pub is_named : List (ℕ × List ℕ) → CircuitPart → Bool
-is_named suboptions part = is_value part.id (look_up CIRCUIT_ID suboptions)
+is_named suboptions part = has_id (look_up CIRCUIT_ID suboptions) part
 
--- giaddr has to be the circuit's gateway
-abbrev pub reply_on_link : CircuitPart → MessageValue → Result SentFrame Discard
-reply_on_link part m = if bytes_eq m.header.giaddr part.gateway4.0 then Ok (without_agent_information m) else Err reason.WrongLinkDown
+-- its circuit is named by suboption 1, and the circuit's link by giaddr
+abbrev pub addressed_by4 : MessageValue → List (ℕ × List ℕ) → AddressedFrame
+addressed_by4 m suboptions = record { circuit_id = look_up CIRCUIT_ID suboptions; link = m.header.giaddr; frame = without_agent_information m }
 
-abbrev pub reply_to_circuit : CircuitPart → MessageValue → List (ℕ × List ℕ) → Result SentFrame Discard
-reply_to_circuit part m suboptions = if is_named suboptions part then reply_on_link part m else Err reason.UnknownCircuitDown
-
--- A datagram from the server to the circuit's relay: the frame, or why there is none.
-unfoldable pub relayed_down4 : CircuitPart → List ℕ → Result SentFrame Discard
-relayed_down4 part datagram = do
+-- the frame in a datagram, with its circuit and link
+abbrev pub addressed_frame4 : List ℕ → Result AddressedFrame Discard
+addressed_frame4 datagram = do
   m ← reply_of datagram
   suboptions ← suboptions_in (agent_of m)
-  reply_to_circuit part m suboptions
+  Ok (addressed_by4 m suboptions)
+
+-- A datagram from the server to the circuit's relay: the frame, or why there is none. The link is named
+-- by the gateway.
+unfoldable pub relayed_down4 : CircuitPart → List ℕ → Result SentFrame Discard
+relayed_down4 part datagram = do
+  reply ← addressed_frame4 datagram
+  frame_for part part.gateway4.0 reply

@@ -4,24 +4,27 @@ use Rattle.std.specs.List.{position}
 use Rattle.types.specs.Addr.{same_source}
 use Rattle.types.specs.declared.addr.Source.{Source}
 use Rattle.types.specs.declared.dest.Proto.{Proto}
-use Rattle.types.specs.declared.dest.Proto.TheVariants.{V4}
+use Rattle.types.specs.declared.dest.Proto.TheVariants.{V4, V6}
 use Rattle.types.specs.declared.discard.Discard.{Discard}
 use Rattle.types.specs.declared.discard.Discard.TheVariants as reason
-use Rattle.v4_message.specs.Agent.{agent_of}
-use Rattle.v4_message.specs.Spelling.{MessageValue}
 use Rattle.config.specs.CircuitPart.{CircuitPart}
 use Rattle.config.specs.Topology.{Topology}
 use Rattle.relay.specs.SentFrame.{SentFrame}
 use Rattle.relay.specs.Up4.{relayed_up4}
-use Rattle.relay.specs.Down4.{◌>>=◌, is_named, reply_of, suboptions_in, reply_on_link, relayed_down4}
+use Rattle.relay.specs.Up6.{relayed_up6}
+use Rattle.relay.specs.Down.{◌>>=◌, AddressedFrame, has_id, frame_on_link}
+use Rattle.relay.specs.Down4.{addressed_frame4, relayed_down4}
+use Rattle.relay.specs.Down6.{addressed_frame6, relayed_down6}
 
 -- A client's frame in one circuit: the datagram for the server, or why there is none.
 abbrev pub relayed_up : CircuitPart → Proto → List ℕ → Result (List ℕ) Discard
 relayed_up part V4 frame = relayed_up4 part frame
+relayed_up part V6 frame = relayed_up6 part frame
 
 -- A datagram from the server to one circuit's relay: the frame for the circuit, or why there is none.
 abbrev pub relayed_down : CircuitPart → Proto → List ℕ → Result SentFrame Discard
 relayed_down part V4 datagram = relayed_down4 part datagram
+relayed_down part V6 datagram = relayed_down6 part datagram
 
 -- ---- all circuits
 
@@ -40,29 +43,50 @@ is_behind None part = false
 is_behind (Some relay) part = same_source relay part.relay
 
 -- the circuit that was found has to be one of this relay's
-abbrev pub reply_to_found : Topology → ℕ → MessageValue → ℕ → Option CircuitPart → Result CircuitFrame Discard
-reply_to_found topology relay m c None = Err reason.UnknownCircuitDown
-reply_to_found topology relay m c (Some part) =
-    if is_behind (slice_get topology.relays relay) part then for_circuit c (reply_on_link part m) else Err reason.UnknownCircuitDown
+abbrev pub circuit_found : Topology → ℕ → ℕ → Option CircuitPart → Result (ℕ × CircuitPart) Discard
+circuit_found topology relay c None = Err reason.UnknownCircuitDown
+circuit_found topology relay c (Some part) =
+    if is_behind (slice_get topology.relays relay) part then Ok (c, part) else Err reason.UnknownCircuitDown
 
-abbrev pub reply_at_index : Topology → ℕ → MessageValue → Option ℕ → Result CircuitFrame Discard
-reply_at_index topology relay m None = Err reason.UnknownCircuitDown
-reply_at_index topology relay m (Some c) = reply_to_found topology relay m c (slice_get topology.circuits c)
+abbrev pub circuit_at_index : Topology → ℕ → Option ℕ → Result (ℕ × CircuitPart) Discard
+circuit_at_index topology relay None = Err reason.UnknownCircuitDown
+circuit_at_index topology relay (Some c) = circuit_found topology relay c (slice_get topology.circuits c)
 
--- A DHCPv4 datagram at the relay of this index: the circuit and its frame, or why there is none.
-unfoldable pub relayed_down4_in : Topology → ℕ → List ℕ → Result CircuitFrame Discard
-relayed_down4_in topology relay datagram = do
-  m ← reply_of datagram
-  suboptions ← suboptions_in (agent_of m)
-  reply_at_index topology relay m (position (is_named suboptions) topology.circuits)
+-- the circuit with exactly this id, by its index, and its part
+abbrev pub own_circuit : Topology → ℕ → Option (List ℕ) → Result (ℕ × CircuitPart) Discard
+own_circuit topology relay id = circuit_at_index topology relay (position (has_id id) topology.circuits)
+
+abbrev pub addressed_frame : Proto → List ℕ → Result AddressedFrame Discard
+addressed_frame V4 datagram = addressed_frame4 datagram
+addressed_frame V6 datagram = addressed_frame6 datagram
+
+-- the address by which the server has to name a circuit's link
+abbrev pub link_of : Proto → CircuitPart → List ℕ
+link_of V4 part = part.gateway4.0
+link_of V6 part = part.link6
+
+-- A datagram of this protocol at the relay of this index: the circuit and its frame, or why there is none.
+unfoldable pub relayed_down_from : Topology → ℕ → Proto → List ℕ → Result CircuitFrame Discard
+relayed_down_from topology relay proto datagram = do
+  reply ← addressed_frame proto datagram
+  own ← own_circuit topology relay reply.circuit_id
+  for_circuit own.0 (frame_on_link (link_of proto own.1) reply.link reply.frame)
+
+-- the protocol of the server's datagrams from this source; None where it is not the server's
+abbrev pub proto_of : Topology → Source → Option Proto
+proto_of topology source =
+    if same_source source topology.listen4 then Some V4
+    else if same_source source topology.listen6 then Some V6
+    else None
+
+abbrev pub relayed_down_of : Topology → ℕ → List ℕ → Option Proto → Result CircuitFrame Discard
+relayed_down_of topology relay datagram None = Err reason.NotServer
+relayed_down_of topology relay datagram (Some proto) = relayed_down_from topology relay proto datagram
 
 -- A datagram at the relay of this index, from this source, which decides the protocol: the circuit and
--- its frame, or why there is none. Nothing from the server's DHCPv6 address is readable yet.
+-- its frame, or why there is none.
 unfoldable pub relayed_down_in : Topology → ℕ → Source → List ℕ → Result CircuitFrame Discard
-relayed_down_in topology relay source datagram =
-    if same_source source topology.listen4 then relayed_down4_in topology relay datagram
-    else if same_source source topology.listen6 then Err reason.MalformedDown
-    else Err reason.NotServer
+relayed_down_in topology relay source datagram = relayed_down_of topology relay datagram (proto_of topology source)
 
 -- ---- the counters
 

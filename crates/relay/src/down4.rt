@@ -2,7 +2,8 @@
 ghost use Rattle.std.specs.Prelude.{◌≡◌, ◌≤◌, [], length, Ok, Err, IsOk, IfOk, IfErr, OnOk, OnErr};
 ghost use Rattle.v4_message.specs.Spelling.{message_bytes};
 ghost use Rattle.v4_message.specs.Agent.{agent_of};
-ghost use Rattle.relay.specs.Down4.{dest_of, reply_of, reply_on_link, suboptions_in, without_agent_information};
+ghost use Rattle.relay.specs.Down.{frame_on_link};
+ghost use Rattle.relay.specs.Down4.{dest_of, reply_of, suboptions_in, without_agent_information};
 
 use config::CircuitPart;
 use types::{Dest, Discard, MAX_DATAGRAM};
@@ -53,8 +54,8 @@ pub(crate) fn relay_down4(
 ) -> Result<Dest, Discard>
     requires empty { out.old ≡ [] }
     requires fits { length (message_bytes reply.now) ≤ 1280 }
-    ensures ok { IfOk result (λ dest. reply_on_link part.now reply.now ≡ Ok (record { dest = dest; bytes = out.new })) }
-    ensures err { IfErr result (λ why. reply_on_link part.now reply.now ≡ Err why) }
+    ensures ok { IfOk result (λ dest. frame_on_link part.now.gateway4.0 reply.now.header.giaddr (without_agent_information reply.now) ≡ Ok (record { dest = dest; bytes = out.new })) }
+    ensures err { IfErr result (λ why. frame_on_link part.now.gateway4.0 reply.now.header.giaddr (without_agent_information reply.now) ≡ Err why) }
     ensures empty { OnErr result (out.new ≡ []) }
 {
     if reply.giaddr() != part.gateway4() {

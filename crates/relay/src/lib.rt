@@ -3,9 +3,11 @@
 #![tactic(auto)]
 
 mod down4;
+mod down6;
 mod laws;
 mod relays;
 mod up4;
+mod up6;
 
-pub use laws::{agrees, named_circuit, only_circuit};
+pub use laws::{agrees, forward_is_read, named_circuit, named_circuit6, only_circuit};
 pub use relays::{Memory, Relays};

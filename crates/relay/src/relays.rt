@@ -1,19 +1,20 @@
 //! All relays of a configuration.
-ghost use Rattle.std.specs.Prelude.{◌≡◌, ◌<◌, nat_lt, [], length, replicate, Ok, Err, Some, IfOk, IfErr, OnOk, OnErr, slice_get};
-ghost use Rattle.std.specs.List.{position};
+ghost use Rattle.std.specs.Prelude.{◌≡◌, ◌<◌, ◌≤◌, nat_lt, [], length, option_map, replicate, Ok, Err, Some, IfOk, IfErr, OnOk, OnErr, slice_get};
+ghost use Rattle.types.specs.declared.dest.Proto.TheVariants as protocol;
 ghost use Rattle.config.specs.CircuitPart as parts;
 ghost use Rattle.config.specs.Topology.{is_relay, is_server, topology_of};
-ghost use Rattle.relay.specs.Down4.{is_named};
-ghost use Rattle.relay.specs.Relays.{is_behind, one_more, relayed_down_in, relayed_down4_in, relayed_up};
+ghost use Rattle.relay.specs.Relays.{is_behind, one_more, own_circuit, relayed_down_from, relayed_down_in, relayed_up};
 
 use crate::down4::{read_reply, read_suboptions, relay_down4};
+use crate::down6::{read_options, read_reply6, relay_down6};
 use crate::up4::relay_up4;
+use crate::up6::relay_up6;
 use config::{CircuitPart, Circuits, Config};
 use std::alloc::{AllocError, Global};
 use std::marker::Model;
 use thiserror::Error;
 use types::{Circuit, Dest, Discard, Proto, RelayNo, Source};
-use v4_options::{Suboptions, code};
+use v4_options::code;
 use wire::PacketBuf;
 
 /// The relays could not be given the memory that they need.
@@ -115,7 +116,7 @@ impl Relays {
             return self.down4(relay, bytes, out);
         }
         if source == self.circuits.listen6() {
-            return Err(Discard::MalformedDown);
+            return self.down6(relay, bytes, out);
         }
         Err(Discard::NotServer)
     }
@@ -129,30 +130,56 @@ impl Relays {
     ) -> Result<(Circuit, Dest), Discard>
         requires relay { relay < length self.now.topology.relays }
         requires empty { out.old ≡ [] }
-        ensures ok { IfOk result (λ sent. relayed_down4_in self.now.topology relay datagram.now ≡ Ok (record { circuit = sent.0; frame = record { dest = sent.1; bytes = out.new } })) }
-        ensures err { IfErr result (λ why. relayed_down4_in self.now.topology relay datagram.now ≡ Err why) }
+        ensures ok { IfOk result (λ sent. relayed_down_from self.now.topology relay protocol.V4 datagram.now ≡ Ok (record { circuit = sent.0; frame = record { dest = sent.1; bytes = out.new } })) }
+        ensures err { IfErr result (λ why. relayed_down_from self.now.topology relay protocol.V4 datagram.now ≡ Err why) }
         ensures empty { OnErr result (out.new ≡ []) }
         ensures exists { IfOk result (λ sent. sent.0 < length self.now.topology.circuits) }
     {
         let reply = read_reply(datagram)?;
         let suboptions = read_suboptions(&reply)?;
-        let Some(circuit) = self.circuit_named(&suboptions) else {
-            return Err(Discard::UnknownCircuitDown);
-        };
-        let part = self.circuits.part(circuit);
-        if !self.is_behind(relay, part) {
-            return Err(Discard::UnknownCircuitDown);
-        }
-        let dest = relay_down4(part, &reply, out)?;
+        let circuit = self.own_circuit(relay, suboptions.get(code::CIRCUIT_ID))?;
+        let dest = relay_down4(self.circuits.part(circuit), &reply, out)?;
         Ok((circuit, dest))
     }
 
-    /// The circuit with exactly the id in option 82.
-    fn circuit_named(&self, suboptions: &Suboptions<'_>) -> Option<Circuit>
-        ensures { result ≡ position (is_named suboptions.now) self.now.topology.circuits }
+    /// The same for a datagram from the server's DHCPv6 address.
+    fn down6(
+        &self,
+        relay: RelayNo,
+        datagram: &[u8],
+        out: &mut PacketBuf,
+    ) -> Result<(Circuit, Dest), Discard>
+        requires relay { relay < length self.now.topology.relays }
+        requires empty { out.old ≡ [] }
+        ensures ok { IfOk result (λ sent. relayed_down_from self.now.topology relay protocol.V6 datagram.now ≡ Ok (record { circuit = sent.0; frame = record { dest = sent.1; bytes = out.new } })) }
+        ensures err { IfErr result (λ why. relayed_down_from self.now.topology relay protocol.V6 datagram.now ≡ Err why) }
+        ensures empty { OnErr result (out.new ≡ []) }
+        ensures exists { IfOk result (λ sent. sent.0 < length self.now.topology.circuits) }
     {
-        let id = suboptions.get(code::CIRCUIT_ID)?;
-        self.circuits.find(id)
+        let relayed = read_reply6(datagram)?;
+        let reply = read_options(&relayed)?;
+        let circuit = self.own_circuit(relay, Some(reply.interface_id))?;
+        let dest = relay_down6(self.circuits.part(circuit), &reply, out)?;
+        Ok((circuit, dest))
+    }
+
+    /// The circuit with exactly this id, which has to be one of this relay's.
+    fn own_circuit(&self, relay: RelayNo, id: Option<&[u8]>) -> Result<Circuit, Discard>
+        requires { relay < length self.now.topology.relays }
+        ensures ok { IfOk result (λ circuit. (part : parts.CircuitPart) → slice_get self.now.topology.circuits circuit ≡ Some part → own_circuit self.now.topology relay (option_map (λ bytes. bytes.now) id.entry) ≡ Ok (circuit, part)) }
+        ensures err { IfErr result (λ why. own_circuit self.now.topology relay (option_map (λ bytes. bytes.now) id.entry) ≡ Err why) }
+        ensures exists { IfOk result (λ circuit. circuit < length self.now.topology.circuits) }
+    {
+        let Some(id) = id else {
+            return Err(Discard::UnknownCircuitDown);
+        };
+        let Some(circuit) = self.circuits.find(id) else {
+            return Err(Discard::UnknownCircuitDown);
+        };
+        if !self.is_behind(relay, self.circuits.part(circuit)) {
+            return Err(Discard::UnknownCircuitDown);
+        }
+        Ok(circuit)
     }
 
     /// Whether a circuit is this relay's, by where the relay's datagrams come from.
@@ -206,5 +233,6 @@ fn relay_up(
 {
     match proto {
         Proto::V4 => relay_up4(part, frame, out),
+        Proto::V6 => relay_up6(part, frame, out),
     }
 }

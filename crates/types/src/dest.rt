@@ -5,6 +5,7 @@ use crate::addr::{Addr4, Addr6};
 #[derive(Clone, Copy, Debug, PartialEq, Eq)]
 pub enum Proto {
     V4,
+    V6,
 }
 
 /// Where the relay sends a frame in its circuit.

@@ -1,4 +1,5 @@
 pub mod AddressedLemmas
+pub mod AddressedLemmas6
 pub mod BookLemmas
 pub mod ExampleLemmas
 pub mod Runs

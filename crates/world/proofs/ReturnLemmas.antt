@@ -10,6 +10,7 @@ use Rattle.types.specs.Addr.{is_unspecified, same_source}
 use Rattle.types.specs.declared.addr.Addr4.{Addr4}
 use Rattle.types.specs.declared.addr.Source.{Source}
 use Rattle.types.specs.declared.discard.Discard.{Discard}
+use Rattle.types.specs.declared.discard.Discard.TheVariants.{NotServed, UnknownCircuit}
 use Rattle.types.specs.declared.request4.Reply4.{Reply4}
 use Rattle.types.specs.declared.request4.Reply4.TheVariants.{Offer, Ack, Inform, Nak}
 use Rattle.types.specs.declared.request4.Request4.{Request4}
@@ -22,9 +23,13 @@ use Rattle.v4_message.specs.Reading.{message_of}
 use Rattle.v4_message.specs.Spelling.{MessageValue}
 use Rattle.config.specs.CircuitPart.{CircuitPart, pool4_of}
 use Rattle.bindings_v4.specs.Table4.{answer4}
-use Rattle.dispatch.specs.Addressee.{addressee, message_check, agent_check, index_check, circuit_check}
+use Rattle.types.specs.declared.dest.Proto.{Proto}
+use Rattle.types.specs.declared.dest.Proto.TheVariants.{V4, V6}
+use Rattle.dispatch.specs.Addressee.{addressee}
+use Rattle.dispatch.specs.Addressee4.{agent_check, link_fault4, message_check}
+use Rattle.dispatch.specs.NamedCircuit.{circuit_check, index_check, link_check, named_check}
 use Rattle.dispatch.specs.Request.{request_in}
-use Rattle.dispatch.specs.Server.{Book, book_at, reply_to, request_served, message_served, served}
+use Rattle.dispatch.specs.Server.{Book, book_at, datagram_served, reply_to, request_served, message_served, served}
 use Rattle.relay.specs.Down4.{is_named}
 use Rattle.replies.specs.Reply4.{name_servers, echo, reply_options, reply4_bytes}
 
@@ -50,20 +55,24 @@ index c = Ok c
 same : (d c : ℕ) → index d ≡ index c → d ≡ c
 same d c e = cc
 
-same_index : (d c : ℕ) (source : Source) (m : MessageValue) (suboptions : List (ℕ × List ℕ)) (found : Option CircuitPart) → circuit_check d source m suboptions found ≡ Ok c → d ≡ c
-same_index d c source m suboptions None e = absurd cc
-same_index d c source m suboptions (Some part) e =
-    let relay = passed (not (same_source part.relay source)) _ _ c e in
-    let gateway = passed (not (bytes_eq m.header.giaddr part.gateway4.0)) _ _ c relay in
-    let all : index d ≡ index c = passed (not (is_value part.gateway4.0 (look_up 11 suboptions))) _ _ c gateway in
-    same d c all
+by_link : (d c : ℕ) (fault : Option Discard) → link_check d fault ≡ Ok c → d ≡ c
+by_link d c None e = same d c e
+by_link d c (Some why) e = absurd cc
+
+by_relay : (d c : ℕ) (b : Bool) (fault : Option Discard) → (if b then link_check d fault else Err UnknownCircuit) ≡ Ok c → d ≡ c
+by_relay d c true fault e = by_link d c fault e
+by_relay d c false fault e = absurd cc
+
+same_index : (d c : ℕ) (source : Source) (link : CircuitPart → Option Discard) (found : Option CircuitPart) → circuit_check source link d found ≡ Ok c → d ≡ c
+same_index d c source link None e = absurd cc
+same_index d c source link (Some part) e = by_relay d c (same_source part.relay source) (link part) e
 
 module _ (circuits : List CircuitPart) (c : ℕ) (part : CircuitPart) (at : slice_get circuits c ≡ Some part) (source : Source) (datagram : List ℕ) where
   at_index : (m : MessageValue) (suboptions : List (ℕ × List ℕ)) (index : Option ℕ) → position (is_named suboptions) circuits ≡ index
-      → index_check circuits source m suboptions index ≡ Ok c → is_named suboptions part ≡ true
+      → index_check circuits source (link_fault4 m suboptions) index ≡ Ok c → is_named suboptions part ≡ true
   at_index m suboptions None first e = absurd cc
   at_index m suboptions (Some d) first e =
-      let is : d ≡ c = same_index d c source m suboptions (slice_get circuits d) e in
+      let is : d ≡ c = same_index d c source (link_fault4 m suboptions) (slice_get circuits d) e in
       let its : position (is_named suboptions) circuits ≡ Some c = first ∙ ap Some is in
       ap (is_named suboptions) (sym (get_or_from_slice_get circuits c part part at)) ∙ (position-Some (is_named suboptions) circuits c part its).1
 
@@ -91,7 +100,7 @@ module _ (circuits : List CircuitPart) (c : ℕ) (part : CircuitPart) (at : slic
       let giaddr = passed (is_unspecified m.header.giaddr) _ _ c op in
       at_agent m (look_up 82 m.options) read refl giaddr
 
-  pub is_of : (relays : List Source) → addressee relays circuits source datagram ≡ Ok c → IsOf part datagram
+  pub is_of : (relays : List Source) → addressee relays circuits V4 source datagram ≡ Ok c → IsOf part datagram
   unfolding addressee
   is_of relays e =
       let known = passed (not (list_any (same_source source) relays)) _ _ c e in
@@ -102,6 +111,9 @@ module _ (circuits : List CircuitPart) (c : ℕ) (part : CircuitPart) (at : slic
 
 abbrev ok : List ℕ → Result (List ℕ) Discard
 ok bytes = Ok bytes
+
+abbrev refused : Result (List ℕ) Discard
+refused = Err NotServed
 
 -- These bytes are a reply to the message.
 pub record IsReply (part : CircuitPart) (m : MessageValue) (b : Book) (bytes : List ℕ) : Type 0 where
@@ -124,11 +136,22 @@ by_request : (part : CircuitPart) (m : MessageValue) (b : Book) (bytes : List �
 by_request part m b bytes (Err why) e = absurd cc
 by_request part m b bytes (Ok request) e = by_answer part m b bytes request (answer4 (pool4_of part) b.clock b.four request).answer refl e
 
-pub is_reply : (part : CircuitPart) (e : DeliveryValue) (bytes : List ℕ) (b : Book) (m : MessageValue) → message_of e.bytes ≡ Ok m → (served part e b).answer ≡ Ok bytes
+pub is_reply : (part : CircuitPart) (e : DeliveryValue) (bytes : List ℕ) (b : Book) (m : MessageValue) → V4 ≡ e.proto → message_of e.bytes ≡ Ok m → (served part e b).answer ≡ Ok bytes
     → IsReply part m (book_at e.moment b) bytes
 unfolding served
-is_reply part e bytes b m read answered =
-    by_request part m (book_at e.moment b) bytes (request_in m) (subst (λ r. (message_served part (book_at e.moment b) r).answer ≡ Ok bytes) read answered)
+is_reply part e bytes b m four read answered =
+    let P : Proto → Type 0 = λ proto. (datagram_served part proto e.bytes (book_at e.moment b)).answer ≡ Ok bytes in
+    by_request part m (book_at e.moment b) bytes (request_in m) (subst (λ r. (message_served part (book_at e.moment b) r).answer ≡ Ok bytes) read (subst P (sym four) answered))
+
+-- no DHCPv6 message is served yet
+pub no_reply6 : (part : CircuitPart) (e : DeliveryValue) (bytes : List ℕ) (b : Book) → V6 ≡ e.proto → (served part e b).answer ≡ Ok bytes → ⊥
+unfolding served
+no_reply6 part e bytes b six answered =
+    let P : Proto → Type 0 = λ proto. (datagram_served part proto e.bytes (book_at e.moment b)).answer ≡ Ok bytes in
+    not_ok (subst P (sym six) answered)
+  where
+    not_ok : refused ≡ ok bytes → ⊥
+    not_ok e = absurd cc
 
 -- the reply bears the request's option 82
 last_is : (dns : List Addr4) (information : List ℕ) → look_up 82 (name_servers dns ++ echo (Some information)) ≡ Some information

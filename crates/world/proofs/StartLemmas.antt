@@ -7,7 +7,9 @@ use Rattle.std.proofs.lemmas.List.{length-map}
 use Rattle.std.proofs.lemmas.List.Folds.{list_any_at}
 use Rattle.types.specs.Addr.{same_source}
 use Rattle.types.specs.declared.addr.Source.{Source}
-use Rattle.config.specs.CircuitPart.{CircuitPart, IsPart, part_of, source_at, part_in, parts_of}
+use Rattle.types.specs.declared.dest.Proto.{Proto}
+use Rattle.types.specs.declared.dest.Proto.TheVariants.{V4, V6}
+use Rattle.config.specs.CircuitPart.{CircuitPart, IsPart, listen_of, part_of, source_at, part_in, parts_of}
 use Rattle.config.specs.Rules.{IsSound}
 use Rattle.settings.specs.Settings.{Settings, IsWithinLimits}
 use Rattle.settings.specs.declared.settings.CircuitConfig.{CircuitConfig}
@@ -20,7 +22,7 @@ use Rattle.lease_disk.specs.Region.{IsClean, Region}
 use Rattle.lossy_net.specs.Net.{datagrams}
 use Rattle.lossy_net.specs.declared.dir.Dir.{Dir}
 use Rattle.lossy_net.specs.declared.dir.Dir.TheVariants as dir
-use Rattle.config.specs.Topology.{Topology, topology_of}
+use Rattle.config.specs.Topology.{Topology, listen, topology_of}
 use Rattle.relay.proofs.AllLemmas.{same_source_self}
 use Rattle.world.specs.Alone.{start}
 use Rattle.world.specs.Headline.{Represents}
@@ -70,6 +72,10 @@ module _ (settings : Settings) (quota : ℕ) (w : WorldValue) (sound : IsSound s
         source_is settings.relays circuit.0.relay limits.relay ∙ ap (λ (p : CircuitPart). Some p.relay) (sym circuit.2),
       )
 
+  listened : (circuit : CircuitConfig) (proto : Proto) → listen_of (values circuit) proto ≡ listen t proto
+  listened circuit V4 = refl
+  listened circuit V6 = refl
+
   pub opens : IsWorld w
   opens = subst (λ v. IsWorldOf v w) (sym topology) (record {
     parts = parts;
@@ -77,7 +83,7 @@ module _ (settings : Settings) (quota : ℕ) (w : WorldValue) (sound : IsSound s
     count = count ∙ sym (length-map settings.circuits values);
     few = subst (λ n. n ≤ 1024) (sym (length-map settings.circuits values)) sound.circuits;
     each = λ c part at. all_at IsPart (parts_of settings) c part are_parts at;
-    listen4 = λ c part at. ap (λ (p : CircuitPart). p.listen4) (its c part at).2;
+    listens = λ c part proto at. let circuit = its c part at in ap (λ (p : CircuitPart). listen_of p proto) circuit.2 ∙ listened circuit.0 proto;
     known = λ c part at. let relay = its_relay c part at in known_source t.relays relay.0 part.relay relay.2;
     behind = its_relay;
     ids = λ c part at d other there same. ids c part at d other there same;

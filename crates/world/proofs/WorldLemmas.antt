@@ -9,7 +9,6 @@ use Rattle.types.specs.Delivery.{DeliveryValue, delivery}
 use Rattle.types.specs.declared.addr.Source.{Source}
 use Rattle.types.specs.declared.dest.Dest.{Dest}
 use Rattle.types.specs.declared.dest.Proto.{Proto}
-use Rattle.types.specs.declared.dest.Proto.TheVariants.{V4}
 use Rattle.types.specs.declared.discard.Discard.{Discard}
 use Rattle.config.specs.CircuitPart.{CircuitPart}
 use Rattle.dispatch.specs.Addressee.{addressee}
@@ -369,7 +368,7 @@ still_world w new is topology behind parts sources count regions ready addressed
       count = count ∙ is.count;
       few = is.few;
       each = is.each;
-      listen4 = is.listen4;
+      listens = is.listens;
       known = is.known;
       behind = λ c part there. let r = is.behind c part there in (r.0, ap (λ xs. slice_get xs c) behind ∙ r.1, r.2);
       ids = is.ids;
@@ -482,7 +481,7 @@ circuit_fails_is part e faults (Some b) = fails_here faults part.region (served 
 
 -- the parts, the books and the leases at circuit k
 module _ (relays : List Source) (parts : List CircuitPart) (p : CircuitPart) (e : DeliveryValue) (books : List (Option Book)) (all : List Leases) (faults : ℕ → ℕ) (k : ℕ) (l : Leases)
-    (found : addressee relays parts e.source e.bytes ≡ Ok k) (there : slice_get parts k ≡ Some p) (book : slice_get books k ≡ Some l.book) (its : slice_get all k ≡ Some l) where
+    (found : addressee relays parts e.proto e.source e.bytes ≡ Ok k) (there : slice_get parts k ≡ Some p) (book : slice_get books k ≡ Some l.book) (its : slice_get all k ≡ Some l) where
   fails_is_its : fails_at faults (received_saves relays parts e books) ≡ its_fails p e (faults p.region) l.book
   fails_is_its = ap (λ r. fails_at faults (addressee_saves parts e books r)) found ∙ (λ i. fails_at faults (circuit_saves e (there i) (book i))) ∙ circuit_fails_is p e faults l.book
 
@@ -501,7 +500,7 @@ saves_own part e (Some b) = either part.region (served part e b).is_kept where
   either r false = tt
 
 pub record IsServed (w : WorldValue) (k : ℕ) (part : CircuitPart) (l : Leases) (now fault : ℕ) (d : Datagram) (result : Result (Unit {0}) Discard) (reply : List ℕ) (after : List Leases) : Type 0 where
-  pub found : addressee w.relays.topology.relays w.relays.topology.circuits part.relay d.bytes ≡ Ok k
+  pub found : addressee w.relays.topology.relays w.relays.topology.circuits d.proto part.relay d.bytes ≡ Ok k
   pub answer : IsAnswer (its_answer part (delivery_of part now d) fault l.book) result reply
   pub leases : slice_get after k ≡ Some (after_datagram part (delivery_of part now d) fault l)
   pub others : (c : ℕ) → eqb k c ≡ false → slice_get after c ≡ slice_get (leases_now w) c
@@ -520,7 +519,7 @@ is_served w is k the j d now fault source given kept at from regions faults same
     let comes : source ≡ the.part.relay = from ∙ ap (λ p. p.relay) same in
     let at_region : faults the.part.region ≡ fault = ap (λ (p : CircuitPart). faults p.region) (sym same) ∙ fuse in
     let found = each_at (IsFor w.relays.topology k the.part) (datagrams w.net k dir.Up) j d (is.addressed k the.part the.there) kept in
-    let here = (λ i. addressee (is.sources i) (is.parts i) the.part.relay d.bytes) ∙ found in
+    let here = (λ i. addressee (is.sources i) (is.parts i) d.proto the.part.relay d.bytes) ∙ found in
     let relays = w.server.relays in
     let parts = parts_in w.server in
     let books = books_in w.server in
@@ -592,7 +591,7 @@ its_saves w is k the j d now source given kept at from =
     let same : given ≡ the.part = same_Some given the.part (sym at ∙ the.served) in
     let comes : source ≡ the.part.relay = from ∙ ap (λ p. p.relay) same in
     let found = each_at (IsFor w.relays.topology k the.part) (datagrams w.net k dir.Up) j d (is.addressed k the.part the.there) kept in
-    let here = (λ i. addressee (is.sources i) (is.parts i) the.part.relay d.bytes) ∙ found in
+    let here = (λ i. addressee (is.sources i) (is.parts i) d.proto the.part.relay d.bytes) ∙ found in
     ap (λ x. received_saves w.server.relays (parts_in w.server) (delivery d.proto x now d.bytes) (books_in w.server)) comes
     ∙ ap (addressee_saves (parts_in w.server) (delivery_of the.part now d) (books_in w.server)) here ∙ (λ i. circuit_saves (delivery_of the.part now d) (the.served i) (the.book i))
 
@@ -644,12 +643,6 @@ state_stays region old new own others = λ i q. each q (eqb q region) refl i whe
   each : (q : ℕ) (b : Bool) → eqb q region ≡ b → disk.state_of new q ≡ disk.state_of old q
   each q true same = let P : ℕ → Type 0 = λ n. disk.state_of new n ≡ disk.state_of old n in subst P (sym (eqb-true q region same)) own
   each q false other = ap disk.region_of (others.others q (eqb-false q region other))
-
-only_v4 : (proto : Proto) → V4 ≡ proto
-only_v4 V4 = refl
-
-pub of_proto : (part : CircuitPart) (k : ℕ) (proto : Proto) (bytes : List ℕ) (r : Result CircuitFrame Discard) → r ≡ for_circuit k (relayed_down part V4 bytes) → r ≡ for_circuit k (relayed_down part proto bytes)
-of_proto part k proto bytes r is = is ∙ ap (λ v. for_circuit k (relayed_down part v bytes)) (only_v4 proto)
 
 -- ---- the index of a circuit's relay
 

@@ -85,6 +85,18 @@ relayed_discover id x n options = relayed_message 1 id x n options
 abbrev pub discover_up : ℕ → List ℕ → List ℕ
 discover_up n options = relayed_discover (97 ∷ []) 0 n options
 
+-- the address of a DHCPv6 client on its link, fe80::2
+abbrev pub peer : List ℕ
+peer = 254 ∷ 128 ∷ replicate 13 0 ++ 2 ∷ []
+
+-- its Solicit (1) with transaction id 7: the DUID 00 03 00 01 02 00 00 00 00 02, and an IA_NA with IAID 1
+abbrev pub solicit : List ℕ
+solicit = (1 ∷ 0 ∷ 0 ∷ 7 ∷ 0 ∷ 1 ∷ 0 ∷ 10 ∷ 0 ∷ 3 ∷ 0 ∷ 1 ∷ 2 ∷ 0 ∷ 0 ∷ 0 ∷ 0 ∷ 2 ∷ []) ++ ((0 ∷ 3 ∷ 0 ∷ 12 ∷ 0 ∷ 0 ∷ 0 ∷ 1 ∷ []) ++ replicate 8 0)
+
+-- The Relay-forward (12) around it, from this link and with this interface id (18): 72 bytes and the id.
+abbrev pub solicit_up : List ℕ → List ℕ → List ℕ
+solicit_up link id = (12 ∷ 0 ∷ link) ++ (peer ++ ((0 ∷ 18 ∷ 0 ∷ length id ∷ id) ++ ((0 ∷ 9 ∷ 0 ∷ 34 ∷ []) ++ solicit)))
+
 -- The frame with a reply of this type that gives client 1 the address 10.0.x.10 from 10.0.x.1: 300 bytes.
 abbrev pub reply : ℕ → ℕ → SentFrame
 reply kind x = record {

@@ -2,14 +2,15 @@
 use Rattle.std.specs.Prelude.{◌≡◌, ℕ, ◌≤◌, ◌==◌, true, false, List, [], ◌∷◌, length, slice_get, Some, Ok}
 use Rattle.std.specs.List.{list_any}
 use Rattle.types.specs.Addr.{same_source}
-use Rattle.config.specs.CircuitPart.{CircuitPart, IsPart}
+use Rattle.types.specs.declared.dest.Proto.{Proto}
+use Rattle.config.specs.CircuitPart.{CircuitPart, IsPart, listen_of}
 use Rattle.dispatch.specs.Addressee.{addressee}
 use Rattle.dispatch.specs.Leases.{HasRegions}
 use Rattle.dispatch.specs.ServerValue.{AreReady, RegionsDiffer, parts_in}
 use Rattle.lease_disk.specs.Model as disk
 use Rattle.lossy_net.specs.Net.{Datagram, datagrams}
 use Rattle.lossy_net.specs.declared.dir.Dir.TheVariants.{Up, Down}
-use Rattle.config.specs.Topology.{Topology}
+use Rattle.config.specs.Topology.{Topology, listen}
 use Rattle.relay.specs.Relays.{for_circuit, relayed_down, relayed_down_in}
 use Rattle.world.specs.Alone.{Alone, Effect, Setup, alone_step, writes}
 use Rattle.world.specs.Headline.{CircuitState, IsOutcome, Shows}
@@ -48,11 +49,11 @@ Each P (d ∷ ds) = P d × Each P ds
 
 -- the server finds that a datagram is circuit k's
 abbrev pub IsFor : Topology → ℕ → CircuitPart → Datagram → Type 0
-IsFor t k part d = addressee t.relays t.circuits part.relay d.bytes ≡ Ok k
+IsFor t k part d = addressee t.relays t.circuits d.proto part.relay d.bytes ≡ Ok k
 
 -- and so does the circuit's relay, whatever its index
 abbrev pub Returns : Topology → ℕ → CircuitPart → Datagram → Type 0
-Returns t k part d = (relay : ℕ) → slice_get t.relays relay ≡ Some part.relay → relayed_down_in t relay t.listen4 d.bytes ≡ for_circuit k (relayed_down part d.proto d.bytes)
+Returns t k part d = (relay : ℕ) → slice_get t.relays relay ≡ Some part.relay → relayed_down_in t relay (listen t d.proto) d.bytes ≡ for_circuit k (relayed_down part d.proto d.bytes)
 
 -- Relay, network and server know the circuits of this topology, and what the network keeps of each is its
 -- own.
@@ -62,7 +63,7 @@ pub record IsWorldOf (t : Topology) (w : WorldValue) : Type 0 where
   pub count : length w.net.circuits ≡ length t.circuits
   pub few : length t.circuits ≤ 1024
   pub each : (c : ℕ) (part : CircuitPart) → slice_get t.circuits c ≡ Some part → IsPart part
-  pub listen4 : (c : ℕ) (part : CircuitPart) → slice_get t.circuits c ≡ Some part → part.listen4 ≡ t.listen4
+  pub listens : (c : ℕ) (part : CircuitPart) (proto : Proto) → slice_get t.circuits c ≡ Some part → listen_of part proto ≡ listen t proto
   pub known : (c : ℕ) (part : CircuitPart) → slice_get t.circuits c ≡ Some part → list_any (same_source part.relay) t.relays ≡ true
   -- the index of its relay
   pub behind : (c : ℕ) (part : CircuitPart) → slice_get t.circuits c ≡ Some part → (relay : ℕ) × (slice_get w.behind c ≡ Some relay) × (slice_get t.relays relay ≡ Some part.relay)

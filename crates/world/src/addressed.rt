@@ -8,13 +8,12 @@ ghost use Rattle.types.specs.declared.dest.Proto.{Proto};
 ghost use Rattle.config.specs.CircuitPart.{CircuitPart, IsPart};
 ghost use Rattle.dispatch.specs.Addressee.{addressee};
 ghost use Rattle.dispatch.specs.Server.{Book, served};
-ghost use Rattle.config.specs.Topology.{Topology};
+ghost use Rattle.config.specs.Topology.{Topology, listen};
 ghost use Rattle.relay.specs.Relays.{for_circuit, relayed_down, relayed_down_in, relayed_up};
-ghost use Rattle.types.specs.declared.dest.Proto.TheVariants.{V4};
 ghost use Rattle.wire.specs.Bytes.{AreBytes};
 
 use bindings_v4::gives_whole_addresses;
-use relay::named_circuit;
+use relay::{forward_is_read, named_circuit};
 use replies::reply_is_read;
 use v4_message::exact_reading;
 
@@ -25,8 +24,10 @@ pub fn comes_to_its_circuit()
         → slice_get circuits c ≡ Some part
         → ((d : ℕ) (other : CircuitPart) → slice_get circuits d ≡ Some other → other.id ≡ part.id → d ≡ c)
         → list_any (same_source part.relay) relays ≡ true → IsPart part → AreBytes frame
-        → relayed_up part proto frame ≡ Ok datagram → addressee relays circuits part.relay datagram ≡ Ok c }
-{}
+        → relayed_up part proto frame ≡ Ok datagram → addressee relays circuits proto part.relay datagram ≡ Ok c }
+{
+    forward_is_read();
+}
 
 /// What the server answers to a circuit's datagram comes down to that circuit, by the relay behind which
 /// it is, as the circuit's own part makes it.
@@ -35,8 +36,8 @@ pub fn reply_comes_to_its_circuit()
         → slice_get topology.circuits c ≡ Some part
         → ((d : ℕ) (other : CircuitPart) → slice_get topology.circuits d ≡ Some other → other.id ≡ part.id → d ≡ c)
         → slice_get topology.relays relay ≡ Some part.relay → IsPart part → AreBytes d.bytes
-        → addressee topology.relays topology.circuits part.relay d.bytes ≡ Ok c → (served part d b).answer ≡ Ok bytes
-        → relayed_down_in topology relay topology.listen4 bytes ≡ for_circuit c (relayed_down part V4 bytes) }
+        → addressee topology.relays topology.circuits d.proto part.relay d.bytes ≡ Ok c → (served part d b).answer ≡ Ok bytes
+        → relayed_down_in topology relay (listen topology d.proto) bytes ≡ for_circuit c (relayed_down part d.proto bytes) }
 {
     gives_whole_addresses();
     reply_is_read();

@@ -1,14 +1,14 @@
 //! The definitions on worked examples, computed by the prover. The values stand in `specs/Examples.antt`
 //! and were taken from the standards and the profile, not from a program.
-ghost use Rattle.std.specs.Prelude.{◌≡◌, [], ◌∷◌, ◌++◌, length, take, replicate};
+ghost use Rattle.std.specs.Prelude.{◌≡◌, [], ◌∷◌, ◌++◌, length, take, drop, replicate};
 ghost use Rattle.std.specs.FinMap.{empty};
-ghost use Rattle.types.specs.declared.dest.Proto.TheVariants.{V4};
+ghost use Rattle.types.specs.declared.dest.Proto.TheVariants.{V4, V6};
 ghost use Rattle.types.specs.declared.discard.Discard.TheVariants as reason;
 ghost use Rattle.dispatch.specs.Addressee.{addressee};
 ghost use Rattle.relay.specs.Relays.{relayed_up};
 ghost use Rattle.lease_disk.specs.declared.image.Image.TheVariants.{Byte, Unreadable};
 ghost use Rattle.world.specs.Alone.{alone_step, after_all, frames, Dropped, Gone, SentUp, SentDown};
-ghost use Rattle.world.specs.Examples.{part_a, part_a1, setup_a, setup_a1, at_port, client_message, discover, discover_up, relayed_message, relayed_discover, offer, client, offers_at, one_offer, lease_until, datagram, with_up, begun, no_leases, asked, leased, closed, ack};
+ghost use Rattle.world.specs.Examples.{part_a, part_a1, setup_a, setup_a1, at_port, client_message, discover, discover_up, peer, solicit, solicit_up, relayed_message, relayed_discover, offer, client, offers_at, one_offer, lease_until, datagram, with_up, begun, no_leases, asked, leased, closed, ack};
 ghost use Rattle.world.specs.Granted.{Granted, lines};
 ghost use Rattle.events.specs.Seen.{Frame, Up, Down, Tick, Restart};
 
@@ -25,16 +25,35 @@ pub fn frames_go_up()
     ensures long { relayed_up part_a V4 (discover 1 [] ++ replicate 781 0) ≡ Err reason.TooLong }
 {}
 
+/// The same of DHCPv6 frames: the client's address, and its message.
+pub fn frames_go_up6()
+    ensures solicit { relayed_up part_a V6 (peer ++ solicit) ≡ Ok (solicit_up part_a.link6 (97 ∷ [])) }
+    ensures nested { relayed_up part_a V6 (peer ++ 12 ∷ drop 1 solicit) ≡ Err reason.NestedRelay }
+    ensures from_server { relayed_up part_a V6 (peer ++ 2 ∷ drop 1 solicit) ≡ Err reason.WrongType }
+    ensures cut { relayed_up part_a V6 (take 49 (peer ++ solicit)) ≡ Err reason.MalformedUp }
+    ensures short { relayed_up part_a V6 (take 19 (peer ++ solicit)) ≡ Err reason.MalformedUp }
+{}
+
+/// The server finds a DHCPv6 message's circuit by relay, id and link.
+pub fn relay_messages_have_circuits()
+    ensures first { addressee (at_port 6801 ∷ []) (part_a ∷ part_a1 ∷ []) V6 (at_port 6801) (solicit_up part_a.link6 (97 ∷ [])) ≡ Ok 0 }
+    ensures second { addressee (at_port 6801 ∷ []) (part_a ∷ part_a1 ∷ []) V6 (at_port 6801) (solicit_up part_a.link6 (97 ∷ 49 ∷ [])) ≡ Ok 1 }
+    ensures beginning { addressee (at_port 6801 ∷ []) (part_a ∷ part_a1 ∷ []) V6 (at_port 6801) (solicit_up part_a.link6 (97 ∷ 49 ∷ 49 ∷ [])) ≡ Err reason.UnknownCircuit }
+    ensures link { addressee (at_port 6801 ∷ []) (part_a ∷ part_a1 ∷ []) V6 (at_port 6801) (solicit_up (replicate 16 0) (97 ∷ [])) ≡ Err reason.WrongLink }
+    ensures unrelayed { addressee (at_port 6801 ∷ []) (part_a ∷ part_a1 ∷ []) V6 (at_port 6801) solicit ≡ Err reason.NotRelayed }
+    ensures cut { addressee (at_port 6801 ∷ []) (part_a ∷ part_a1 ∷ []) V6 (at_port 6801) (take 76 (solicit_up part_a.link6 (97 ∷ []))) ≡ Err reason.Malformed }
+{}
+
 /// The server finds the circuit by relay, id, gateway and override, and by none of them alone.
 pub fn datagrams_have_circuits()
-    ensures first { addressee (at_port 6801 ∷ []) (part_a ∷ part_a1 ∷ []) (at_port 6801) (discover_up 1 []) ≡ Ok 0 }
-    ensures second { addressee (at_port 6801 ∷ []) (part_a ∷ part_a1 ∷ []) (at_port 6801) (relayed_discover (97 ∷ 49 ∷ []) 1 1 []) ≡ Ok 1 }
-    ensures source { addressee (at_port 6801 ∷ []) (part_a ∷ part_a1 ∷ []) (at_port 9999) [] ≡ Err reason.UnknownSource }
-    ensures relay { addressee (at_port 6801 ∷ at_port 6802 ∷ []) (part_a ∷ part_a1 ∷ []) (at_port 6802) (discover_up 1 []) ≡ Err reason.UnknownCircuit }
-    ensures beginning { addressee (at_port 6801 ∷ []) (part_a ∷ part_a1 ∷ []) (at_port 6801) (relayed_discover (97 ∷ 49 ∷ 49 ∷ []) 1 1 []) ≡ Err reason.UnknownCircuit }
-    ensures gateway { addressee (at_port 6801 ∷ []) (part_a ∷ part_a1 ∷ []) (at_port 6801) (relayed_discover (97 ∷ []) 1 1 []) ≡ Err reason.WrongLink }
-    ensures unrelayed { addressee (at_port 6801 ∷ []) (part_a ∷ part_a1 ∷ []) (at_port 6801) (discover 1 []) ≡ Err reason.NotRelayed }
-    ensures cut { addressee (at_port 6801 ∷ []) (part_a ∷ part_a1 ∷ []) (at_port 6801) (take 254 (discover_up 1 [])) ≡ Err reason.Malformed }
+    ensures first { addressee (at_port 6801 ∷ []) (part_a ∷ part_a1 ∷ []) V4 (at_port 6801) (discover_up 1 []) ≡ Ok 0 }
+    ensures second { addressee (at_port 6801 ∷ []) (part_a ∷ part_a1 ∷ []) V4 (at_port 6801) (relayed_discover (97 ∷ 49 ∷ []) 1 1 []) ≡ Ok 1 }
+    ensures source { addressee (at_port 6801 ∷ []) (part_a ∷ part_a1 ∷ []) V4 (at_port 9999) [] ≡ Err reason.UnknownSource }
+    ensures relay { addressee (at_port 6801 ∷ at_port 6802 ∷ []) (part_a ∷ part_a1 ∷ []) V4 (at_port 6802) (discover_up 1 []) ≡ Err reason.UnknownCircuit }
+    ensures beginning { addressee (at_port 6801 ∷ []) (part_a ∷ part_a1 ∷ []) V4 (at_port 6801) (relayed_discover (97 ∷ 49 ∷ 49 ∷ []) 1 1 []) ≡ Err reason.UnknownCircuit }
+    ensures gateway { addressee (at_port 6801 ∷ []) (part_a ∷ part_a1 ∷ []) V4 (at_port 6801) (relayed_discover (97 ∷ []) 1 1 []) ≡ Err reason.WrongLink }
+    ensures unrelayed { addressee (at_port 6801 ∷ []) (part_a ∷ part_a1 ∷ []) V4 (at_port 6801) (discover 1 []) ≡ Err reason.NotRelayed }
+    ensures cut { addressee (at_port 6801 ∷ []) (part_a ∷ part_a1 ∷ []) V4 (at_port 6801) (take 254 (discover_up 1 [])) ≡ Err reason.Malformed }
 {}
 
 /// A client's DHCPDISCOVER and the frame with its offer, byte for byte. The same frame on another

@@ -228,9 +228,7 @@ impl World {
         let Some((proto, datagram)) = self.net.deliver(circuit, Dir::Down, number) else {
             return Outcome::Gone;
         };
-        let source = match proto {
-            Proto::V4 => self.server.part(circuit).listen4(),
-        };
+        let source = self.server.part(circuit).listen(proto);
         let relay = self.behind[circuit.index()];
         match self.relays.down(relay, source, datagram, out) {
             Ok(sent) => Outcome::Framed(sent.0, sent.1),

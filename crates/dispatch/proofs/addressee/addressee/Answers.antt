@@ -1,5 +1,9 @@
-use Rattle.std.proofs.Common.{sym, ap, ◌∙◌}
-use Rattle.dispatch.specs.Addressee.{addressee, message_check}
+use Rattle.std.proofs.Common.{◌≡◌, ℕ, List, length, Ok, Err, sym, ap, subst, ◌∙◌}
+use Rattle.std.specs.Prelude.{Result, IfOk, IfErr}
+use Rattle.types.specs.declared.dest.Proto.{Proto}
+use Rattle.types.specs.declared.discard.Discard.{Discard}
+use Rattle.dispatch.specs.Addressee.{addressee, datagram_check}
+use Rattle.dispatch.specs.Relayed.{IsRelayed}
 use Rattle.dispatch.proofs.AddresseeLemmas.{unknown_source, too_long, within}
 use Rattle.dispatch.proofs.addressee.addressee.Goals as goal
 
@@ -7,28 +11,42 @@ use Rattle.dispatch.proofs.addressee.addressee.Goals as goal
 
 pub returns-then-not-is_relay-clause-err : goal.returns-then-not-is_relay-clause-err
 returns-then-not-is_relay-clause-err c =
-    ap (λ d. addressee c.args.circuits.now.relays c.args.circuits.now.circuits d.source d.bytes) (sym c.delivery.view_is)
-    ∙ unknown_source c.args.circuits.now.relays c.args.circuits.now.circuits c.delivery.inside.source c.delivery.inside.bytes.now (sym c.is_relay.ensures ∙ c.if-not-is_relay.true)
+    ap (λ d. addressee c.args.circuits.now.relays c.args.circuits.now.circuits d.proto d.source d.bytes) (sym c.delivery.view_is)
+    ∙ unknown_source c.args.circuits.now.relays c.args.circuits.now.circuits c.delivery.inside.proto c.delivery.inside.source c.delivery.inside.bytes.now (sym c.is_relay.ensures ∙ c.if-not-is_relay.true)
 
 pub returns-then-delivery-gt-MAX_DATAGRAM-clause-err : goal.returns-then-delivery-gt-MAX_DATAGRAM-clause-err
 returns-then-delivery-gt-MAX_DATAGRAM-clause-err c =
-    ap (λ d. addressee c.args.circuits.now.relays c.args.circuits.now.circuits d.source d.bytes) (sym c.delivery.view_is)
-    ∙ too_long c.args.circuits.now.relays c.args.circuits.now.circuits c.delivery.inside.source c.delivery.inside.bytes.now (sym c.is_relay.ensures ∙ c.if-not-is_relay.false) c.if-delivery-gt-MAX_DATAGRAM.true
+    ap (λ d. addressee c.args.circuits.now.relays c.args.circuits.now.circuits d.proto d.source d.bytes) (sym c.delivery.view_is)
+    ∙ too_long c.args.circuits.now.relays c.args.circuits.now.circuits c.delivery.inside.proto c.delivery.inside.source c.delivery.inside.bytes.now (sym c.is_relay.ensures ∙ c.if-not-is_relay.false) c.if-delivery-gt-MAX_DATAGRAM.true
 
-pub returns-in_default-clause-err : goal.returns-in_default-clause-err
-returns-in_default-clause-err c =
-    ap (λ d. addressee c.args.circuits.now.relays c.args.circuits.now.circuits d.source d.bytes) (sym c.delivery.view_is)
-    ∙ within c.args.circuits.now.relays c.args.circuits.now.circuits c.delivery.inside.source c.delivery.inside.bytes.now (sym c.is_relay.ensures ∙ c.if-not-is_relay.false) c.if-delivery-gt-MAX_DATAGRAM.false
-    ∙ ap (message_check c.args.circuits.now.circuits c.delivery.inside.source) (sym c.read.ensures.exact ∙ c.in_default.is)
+pub returns-in-V4-clause-circuit : goal.returns-in-V4-clause-circuit
+returns-in-V4-clause-circuit c =
+    subst (λ (check : Result ℕ Discard). IfOk c.addressee4.result (λ found. check ≡ Ok found.0))
+    (sym (ap (λ d. addressee c.args.circuits.now.relays c.args.circuits.now.circuits d.proto d.source d.bytes) (sym c.delivery.view_is)
+    ∙ within c.args.circuits.now.relays c.args.circuits.now.circuits c.delivery.inside.proto c.delivery.inside.source c.delivery.inside.bytes.now (sym c.is_relay.ensures ∙ c.if-not-is_relay.false) c.if-delivery-gt-MAX_DATAGRAM.false
+    ∙ ap (λ proto. datagram_check c.args.circuits.now.circuits proto c.delivery.inside.source c.delivery.inside.bytes.now) c.in-V4.is))
+    c.addressee4.ensures.circuit
 
-pub returns-in-Ok-message_check-clause-circuit : goal.returns-in-Ok-message_check-clause-circuit
-returns-in-Ok-message_check-clause-circuit c =
-    ap (λ d. addressee c.args.circuits.now.relays c.args.circuits.now.circuits d.source d.bytes) (sym c.delivery.view_is)
-    ∙ within c.args.circuits.now.relays c.args.circuits.now.circuits c.delivery.inside.source c.delivery.inside.bytes.now (sym c.is_relay.ensures ∙ c.if-not-is_relay.false) c.if-delivery-gt-MAX_DATAGRAM.false
-    ∙ ap (message_check c.args.circuits.now.circuits c.delivery.inside.source) (sym c.read.ensures.exact ∙ c.in-Ok.is) ∙ sym c.message_check.ensures.check ∙ c.in-Ok-message_check.is
+pub returns-in-V4-clause-err : goal.returns-in-V4-clause-err
+returns-in-V4-clause-err c =
+    subst (λ (check : Result ℕ Discard). IfErr c.addressee4.result (λ why. check ≡ Err why))
+    (sym (ap (λ d. addressee c.args.circuits.now.relays c.args.circuits.now.circuits d.proto d.source d.bytes) (sym c.delivery.view_is)
+    ∙ within c.args.circuits.now.relays c.args.circuits.now.circuits c.delivery.inside.proto c.delivery.inside.source c.delivery.inside.bytes.now (sym c.is_relay.ensures ∙ c.if-not-is_relay.false) c.if-delivery-gt-MAX_DATAGRAM.false
+    ∙ ap (λ proto. datagram_check c.args.circuits.now.circuits proto c.delivery.inside.source c.delivery.inside.bytes.now) c.in-V4.is))
+    c.addressee4.ensures.err
 
-pub returns-in-Err-clause-err : goal.returns-in-Err-clause-err
-returns-in-Err-clause-err c =
-    ap (λ d. addressee c.args.circuits.now.relays c.args.circuits.now.circuits d.source d.bytes) (sym c.delivery.view_is)
-    ∙ within c.args.circuits.now.relays c.args.circuits.now.circuits c.delivery.inside.source c.delivery.inside.bytes.now (sym c.is_relay.ensures ∙ c.if-not-is_relay.false) c.if-delivery-gt-MAX_DATAGRAM.false
-    ∙ ap (message_check c.args.circuits.now.circuits c.delivery.inside.source) (sym c.read.ensures.exact ∙ c.in-Ok.is) ∙ sym c.message_check.ensures.check ∙ c.in-Err.is
+pub returns-in-V6-clause-circuit : goal.returns-in-V6-clause-circuit
+returns-in-V6-clause-circuit c =
+    subst (λ (check : Result ℕ Discard). IfOk c.addressee6.result (λ found. check ≡ Ok found.0))
+    (sym (ap (λ d. addressee c.args.circuits.now.relays c.args.circuits.now.circuits d.proto d.source d.bytes) (sym c.delivery.view_is)
+    ∙ within c.args.circuits.now.relays c.args.circuits.now.circuits c.delivery.inside.proto c.delivery.inside.source c.delivery.inside.bytes.now (sym c.is_relay.ensures ∙ c.if-not-is_relay.false) c.if-delivery-gt-MAX_DATAGRAM.false
+    ∙ ap (λ proto. datagram_check c.args.circuits.now.circuits proto c.delivery.inside.source c.delivery.inside.bytes.now) c.in-V6.is))
+    c.addressee6.ensures.circuit
+
+pub returns-in-V6-clause-err : goal.returns-in-V6-clause-err
+returns-in-V6-clause-err c =
+    subst (λ (check : Result ℕ Discard). IfErr c.addressee6.result (λ why. check ≡ Err why))
+    (sym (ap (λ d. addressee c.args.circuits.now.relays c.args.circuits.now.circuits d.proto d.source d.bytes) (sym c.delivery.view_is)
+    ∙ within c.args.circuits.now.relays c.args.circuits.now.circuits c.delivery.inside.proto c.delivery.inside.source c.delivery.inside.bytes.now (sym c.is_relay.ensures ∙ c.if-not-is_relay.false) c.if-delivery-gt-MAX_DATAGRAM.false
+    ∙ ap (λ proto. datagram_check c.args.circuits.now.circuits proto c.delivery.inside.source c.delivery.inside.bytes.now) c.in-V6.is))
+    c.addressee6.ensures.err

@@ -1,7 +1,7 @@
 use Rattle.std.proofs.Common.{sym, ap, ◌∙◌, arith, rules}
 use Rattle.v4_message.proofs.Lengths.{length-spelled_message}
 use Rattle.relay.specs.Down4.{message_in_reply}
-use Rattle.relay.proofs.RelayLemmas.{reply_too_long, reply_within}
+use Rattle.relay.proofs.Relay4Lemmas.{reply_too_long, reply_within}
 use Rattle.relay.proofs.down4.read_reply.Goals as goal
 
 pub returns-then-datagram-gt-MAX_DATAGRAM-clause-value :

@@ -7,7 +7,7 @@ use Rattle.v4_message.specs.Layout.{MAGIC_COOKIE}
 use Rattle.v4_message.specs.Header.{header_bytes}
 use Rattle.v4_message.specs.Written.{header_value}
 use Rattle.v4_message.proofs.Lengths.{length-message_bytes}
-use Rattle.relay.proofs.RelayLemmas.{length-front}
+use Rattle.relay.proofs.Relay4Lemmas.{length-front}
 use Rattle.relay.proofs.down4.write_without_agent_information.Goals as goal
 
 pub returns-in_err-write_without-clause-room : goal.returns-in_err-write_without-clause-room

@@ -3,7 +3,7 @@ use Rattle.std.specs.Prelude.{IsOk}
 use Rattle.v4_message.specs.Spelling.{message_bytes}
 use Rattle.v4_message.proofs.Lengths.{length-spelled_message}
 use Rattle.relay.specs.Up4.{message_relayed_up}
-use Rattle.relay.proofs.RelayLemmas.{up_too_long, up_within, at_ok}
+use Rattle.relay.proofs.Relay4Lemmas.{up_too_long, up_within, at_ok}
 use Rattle.relay.proofs.up4.relay_up4.Goals as goal
 
 pub returns-then-frame-gt-MAX_FRAME-clause-err : goal.returns-then-frame-gt-MAX_FRAME-clause-err

@@ -6,7 +6,7 @@ use Rattle.v4_message.specs.Layout.{MAGIC_COOKIE}
 use Rattle.v4_message.specs.Header.{HeaderValue, header_bytes}
 use Rattle.v4_message.specs.Written.{header_value}
 use Rattle.v4_message.proofs.Lengths.{length-message_bytes}
-use Rattle.relay.proofs.RelayLemmas.{length-front, written_pieces}
+use Rattle.relay.proofs.Relay4Lemmas.{length-front, written_pieces}
 use Rattle.relay.proofs.up4.write_with_agent_information.Goals as goal
 
 pub returns-clause-ok : goal.returns-clause-ok

@@ -19,10 +19,10 @@ use Rattle.dispatch.proofs.server.Server.receive.Goals as goal
 
 -- ---- a datagram of no circuit
 
-none_of : (g : given.Over) (c : goal.In-Err g) → addressee c.args.self.now.relays (parts_in c.args.self.now) c.args.source c.args.datagram.now ≡ Err c.in-Err.why
+none_of : (g : given.Over) (c : goal.In-Err g) → addressee c.args.self.now.relays (parts_in c.args.self.now) c.args.proto c.args.source c.args.datagram.now ≡ Err c.in-Err.why
 none_of g c =
-    ap (λ s. addressee s.relays (parts_in s) c.args.source c.args.datagram.now) (sym c.self.view_is)
-    ∙ ap (λ parts. addressee c.self.inside.circuits.relays parts c.args.source c.args.datagram.now) (parts_with c.self.inside.circuits.circuits c.self.inside.servers.items)
+    ap (λ s. addressee s.relays (parts_in s) c.args.proto c.args.source c.args.datagram.now) (sym c.self.view_is)
+    ∙ ap (λ parts. addressee c.self.inside.circuits.relays parts c.args.proto c.args.source c.args.datagram.now) (parts_with c.self.inside.circuits.circuits c.self.inside.servers.items)
     ∙ c.in-Err.ensures.err
 
 pub returns-in-Err-clause-answer : goal.returns-in-Err-clause-answer
@@ -71,9 +71,9 @@ written g c = set_with c.self.inside.circuits.circuits c.self.inside.servers.ite
 its : {B : Type 0} (f : CircuitServerValue → B) (g : given.Over) (c : goal.After-self-1 g) → slice_get (map f (before g c)) c.index.result ≡ Some (f (asked g c))
 its f g c = slice_get-map f (before g c) c.index.result ∙ ap (option_map f) (its_server g c)
 
-found : (g : given.Over) (c : goal.After-self-1 g) → addressee c.self.inside.circuits.relays (map part_of (before g c)) c.args.source c.args.datagram.now ≡ Ok c.index.result
+found : (g : given.Over) (c : goal.After-self-1 g) → addressee c.self.inside.circuits.relays (map part_of (before g c)) c.args.proto c.args.source c.args.datagram.now ≡ Ok c.index.result
 found g c =
-    ap (λ parts. addressee c.self.inside.circuits.relays parts c.args.source c.args.datagram.now) (parts_with c.self.inside.circuits.circuits c.self.inside.servers.items)
+    ap (λ parts. addressee c.self.inside.circuits.relays parts c.args.proto c.args.source c.args.datagram.now) (parts_with c.self.inside.circuits.circuits c.self.inside.servers.items)
     ∙ c.in-Ok.ensures.circuit ∙ ap Ok (sym c.index.ensures.value)
 
 -- another circuit's region is another one

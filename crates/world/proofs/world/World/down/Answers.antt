@@ -1,6 +1,7 @@
 use Rattle.std.proofs.Common.{◌≡◌, ◌<◌, length, refl, sym, ap, subst, ◌∙◌, get_or, arith}
 use Rattle.std.specs.Prelude.{Some, slice_get}
 use Rattle.std.proofs.lemmas.Option.{same_Some, slice_get_within}
+use Rattle.config.specs.CircuitPart.{listen_of}
 use Rattle.lossy_net.specs.Net.{Datagram, datagrams}
 use Rattle.relay.specs.Relays.{relayed_down_in}
 use Rattle.lossy_net.specs.declared.dir.Dir.TheVariants as dir
@@ -59,7 +60,7 @@ returns-clause-moves c =
     let here = behind_is w is k the.part the.there relay (c.index-relay.ensures ∙ ap (λ n. get_or w.behind n relay) c.index.ensures.value) in
     let d : Datagram = record { proto = c.in-Some.proto; bytes = c.in-Some.datagram.now } in
     let there : slice_get (datagrams w.net k dir.Down) c.args.number ≡ Some d = sym c.in-Some.ensures in
-    let source = c.listen4-source.ensures ∙ ap (λ p. p.listen4) (same_Some c.part.result.now the.part (sym c.part.ensures ∙ the.served)) ∙ is.listen4 k the.part the.there in
+    let source = c.listen-source.ensures ∙ ap (λ p. listen_of p d.proto) (same_Some c.part.result.now the.part (sym c.part.ensures ∙ the.served)) ∙ is.listens k the.part d.proto the.there in
     let comes = each_at (Returns t k the.part) (datagrams w.net k dir.Down) c.args.number d (is.returned k the.part the.there) there relay here in
     let result = sym comes ∙ ap (λ s. relayed_down_in t relay s d.bytes) (sym source) in
     let P : WorldValue → Type 0 = λ v. Moves k (Down c.args.number) (states v) (states v) c.match-down.result c.down.new.out in

@@ -19,7 +19,7 @@ use Rattle.events.specs.declared.outcome.Outcome.TheVariants as outcome
 use Rattle.lease_disk.proofs.Frames.{writes_count}
 use Rattle.world.proofs.ShownLemmas.{its_answer, its_fails, reply_of}
 use Rattle.world.proofs.StateLemmas.{moves}
-use Rattle.world.proofs.WorldLemmas.{TheCircuit, IsServed, all_at, beside_up, elsewhere, quiet_up, the_circuit, is_served, is_reply, of_proto, whole, each_sent, each_kept, has_regions, other_way, state_stays, still_world, same_circuit, apart, spares_beside, spares_stay, up_gone, up_sent, up_dropped}
+use Rattle.world.proofs.WorldLemmas.{TheCircuit, IsServed, all_at, beside_up, elsewhere, quiet_up, the_circuit, is_served, is_reply, whole, each_sent, each_kept, has_regions, other_way, state_stays, still_world, same_circuit, apart, spares_beside, spares_stay, up_gone, up_sent, up_dropped}
 use Rattle.world.proofs.world.World.up.Goals as goal
 
 pub receive-result-requires-clause-ready : goal.receive-result-requires-clause-ready
@@ -77,8 +77,7 @@ invariant_of-self c =
     let answer = its_answer part (delivery_of part c.args.now d) c.args.fault known.leases.book in
     let P : Result (Unit {0}) Discard → Type 0 = λ result. IsAnswer answer result sent.bytes in
     let reply = reply_of part (delivery_of part c.args.now d) (its_fails part (delivery_of part c.args.now d) c.args.fault known.leases.book) known.leases.book sent.bytes (is_reply answer sent.bytes (subst P c.in-Ok.is r.answer)) in
-    of_proto part k sent.proto sent.bytes (relayed_down_in t relay t.listen4 sent.bytes)
-    (c.reply_comes_to_its_circuit.ensures t relay k part (delivery_of part c.args.now d) sent.bytes reply.book there (is.ids k part there) behind (is.each k part there) c.are_bytes.ensures r.found reply.answer)))
+    c.reply_comes_to_its_circuit.ensures t relay k part (delivery_of part c.args.now d) sent.bytes reply.book there (is.ids k part there) behind (is.each k part there) c.are_bytes.ensures r.found reply.answer))
 
 pub returns-in-Ok-clause-moves : goal.returns-in-Ok-clause-moves
 returns-in-Ok-clause-moves c =
