@@ -1,7 +1,7 @@
 //! What the server has of an open circuit.
 ghost use Rattle.std.specs.Prelude.{◌≡◌, ◌<◌, ◌≤◌, ◌==◌, ◌&&◌, ◌+◌, true, false, not, is_ok, is_some, option_map, OnOk, OnErr, IfSome, Some};
 ghost use Rattle.types.specs.Slots.{IsWithin4};
-ghost use Rattle.bindings_v4.specs.Kept4.{AreWithin};
+ghost use Rattle.slots.specs.Kept.{AreWithin};
 ghost use Rattle.bindings_v4.specs.Slots4.{book_of, with_decision};
 ghost use Rattle.bindings_v4.specs.Table4.{answer4};
 ghost use Rattle.config.specs.CircuitPart.{pool4_of};
@@ -26,7 +26,7 @@ pub(crate) struct OpenCircuit {
 }
 
 impl Model for OpenCircuit {
-    ghost use Rattle.bindings_v4.specs.Kept4.{AreWithin};
+    ghost use Rattle.slots.specs.Kept.{AreWithin};
     ghost use Rattle.dispatch.specs.ServerValue.{OpenCircuitValue};
 
     ghost Value = { OpenCircuitValue };

@@ -7,7 +7,9 @@ use Rattle.std.specs.Cmp.{nat_cmp_total}
 use Rattle.std.specs.Cmp.Lexicographic.{slice_cmp, nat_list_cmp_total}
 use Rattle.std.specs.FinMap.{FinMap, get, empty, entries, values, put, IsAntisymmetric, nat_cmp-IsAntisymmetric, slice_cmp-IsAntisymmetric, same_map, get-empty, get-insert, get-retain_keys, entries-insert, len-entries, len-empty}
 use Rattle.types.specs.Pool4.{PoolValue}
-use Rattle.bindings_v4.specs.Book4.{Lease, Clients, is_live, passes, in_pool, is_free, live_clients, live_bars, book4_at}
+use Rattle.slots.specs.Key.{key4_cmp}
+use Rattle.slots.specs.Maps.{Lease, Clients, is_live, passes, live_clients, live_bars}
+use Rattle.bindings_v4.specs.Book4.{in_pool, is_free, book4_at}
 use Rattle.dispatch.specs.Server.{book_at}
 use Rattle.world.specs.Examples.{one_offer, offers_at}
 
@@ -15,7 +17,7 @@ pub same_bytes : IsAntisymmetric (slice_cmp nat_cmp)
 same_bytes = slice_cmp-IsAntisymmetric nat_cmp-IsAntisymmetric
 
 -- what a client has of the entries that are live
-get-live_clients : (clock : ℕ) (m : Clients) (q : List ℕ)
+get-live_clients : (clock : ℕ) (m : Clients key4_cmp) (q : List ℕ)
     → get (live_clients clock m) q ≡ cond (passes (λ lease. is_live clock lease.until) (get m q)) (get m q) None
 get-live_clients clock m q =
     let test : List ℕ → Bool = λ key. passes (λ lease. is_live clock lease.until) (get m key) in
@@ -29,7 +31,7 @@ get-live_bars clock m q =
 kept_none : {V : Type 0} (test : V → Bool) (o : Option V) → o ≡ None → cond (passes test o) o None ≡ None
 kept_none test o e = ap (λ p. cond (passes test p) p None) e
 
-pub live_none : (clock : ℕ) → live_clients clock empty ≡ empty
+pub live_none : (clock : ℕ) → live_clients {cmpk = key4_cmp} clock empty ≡ empty
 live_none clock =
     same_map nat_list_cmp_total same_bytes _ _ (λ q.
     get-live_clients clock empty q ∙ kept_none _ _ (get-empty (slice_cmp nat_cmp) q) ∙ sym (get-empty (slice_cmp nat_cmp) q))
@@ -76,7 +78,7 @@ live_one clock client lease =
     get-live_clients clock (one_offer client lease) q ∙ ap (λ o. cond (passes test o) o None) (get-one client lease q)
     ∙ kept_one test lease (eq_by_cmp (slice_cmp nat_cmp) q client) (test lease) refl ∙ sym (get_cond client lease (test lease) q))
 
-pub at-offers : (now clock : ℕ) (offers : Clients) → book_at now (offers_at clock offers) ≡ offers_at (max clock now) (live_clients (max clock now) offers)
+pub at-offers : (now clock : ℕ) (offers : Clients key4_cmp) → book_at now (offers_at clock offers) ≡ offers_at (max clock now) (live_clients (max clock now) offers)
 unfolding book4_at
 at-offers now clock offers =
     let t = max clock now in

@@ -15,7 +15,9 @@ use Rattle.types.specs.declared.request4.Reply4.TheVariants as reply
 use Rattle.v4_options.specs.Reading.{listed_from, fault_from}
 use Rattle.v4_message.specs.Reading.{message_of}
 use Rattle.v4_message.specs.Spelling.{MessageValue}
-use Rattle.bindings_v4.specs.Book4.{Book4, Lease, Clients, in_pool, lowest_free, or_else, address_of, is_live}
+use Rattle.slots.specs.Key.{key4_cmp}
+use Rattle.slots.specs.Maps.{Lease, Clients, or_else, address_of, is_live}
+use Rattle.bindings_v4.specs.Book4.{Book4, in_pool, lowest_free}
 use Rattle.bindings_v4.specs.Table4.{Decision, answer4, discover_row as row, selecting_row, where_is, with_change, is_kept}
 use Rattle.config.specs.CircuitPart.{pool4_of}
 use Rattle.dispatch.specs.Request.{request_in}
@@ -31,7 +33,7 @@ use Rattle.world.specs.Granted.{Granted, lines, message_lines, decision_lines}
 use Rattle.events.specs.Seen.{Seen, Frame, Up, Down, Restart}
 use Rattle.world.proofs.BookLemmas.{free-none, free-one, at-offers, live_none, live_one, get-one}
 
-abbrev no_offers : Clients
+abbrev no_offers : Clients key4_cmp
 no_offers = empty
 
 abbrev same_client : List ℕ → List ℕ → Bool
@@ -46,7 +48,7 @@ asks k = record { kind = Discover; key = k; server = None; wanted = None; ciaddr
 abbrev decided : ℕ → List ℕ → Book4 → Option ℕ → Option ℕ → Decision
 decided clock k b pick binding = record { answer = (row clock pick binding).answer; book = with_change k (row clock pick binding).change b; is_kept = is_kept (row clock pick binding).change }
 
-abbrev offers_in : Clients → Book4
+abbrev offers_in : Clients key4_cmp → Book4
 offers_in offers = (offers_at 0 offers).four
 
 -- with no offers it is the pool's lowest address
@@ -91,7 +93,7 @@ granted =
 -- ---- one datagram at the server
 
 -- what is served of it, where the book is this one
-module _ (setup : Setup) (now fault : ℕ) (bytes : List ℕ) (clock : ℕ) (offers : Clients) (b : Book) where
+module _ (setup : Setup) (now fault : ℕ) (bytes : List ℕ) (clock : ℕ) (offers : Clients key4_cmp) (b : Book) where
   served_by : (s : Served) {m : MessageValue} → message_of bytes ≡ Ok m → book_at now (offers_at clock offers) ≡ b → message_served setup.part b (Ok m) ≡ s
       → alone_step setup (Up 0 now fault) (with_up bytes clock offers) ≡ served_step setup fault (with_up bytes clock offers) V4 s
   unfolding alone_step served

@@ -15,7 +15,8 @@ use Rattle.types.specs.declared.request4.Reply4.TheVariants as reply
 use Rattle.types.specs.declared.request4.Request4.{Request4}
 use Rattle.v4_message.specs.declared.fault.MessageFault.{MessageFault}
 use Rattle.v4_message.specs.Spelling.{MessageValue}
-use Rattle.bindings_v4.specs.Book4.{Lease, Book4, address_of}
+use Rattle.slots.specs.Maps.{Lease, address_of}
+use Rattle.bindings_v4.specs.Book4.{Book4}
 use Rattle.bindings_v4.specs.IsBook4.{TheBinding, TheOffer, EndsLease}
 use Rattle.bindings_v4.specs.declared.server4.Server4.{Server4}
 use Rattle.bindings_v4.specs.declared.server4.Server4.TheVariants.{Anybody, This, Another}

@@ -5,7 +5,7 @@ use Rattle.std.specs.FinMap.{get}
 use Rattle.types.specs.declared.dest.Proto.{Proto}
 use Rattle.types.specs.declared.discard.Discard.{Discard}
 use Rattle.v4_message.specs.Reading.{message_of}
-use Rattle.bindings_v4.specs.Book4.{address_of}
+use Rattle.slots.specs.Maps.{address_of}
 use Rattle.dispatch.specs.Server.{Book, Served, book_at, kept_book, message_served, served}
 use Rattle.lease_disk.specs.declared.image.Image.{Image}
 use Rattle.lease_disk.specs.declared.image.Image.TheVariants.{Byte, Unreadable}

@@ -24,18 +24,22 @@ use Rattle.types.specs.Slots.{live4, none_twice, same_client4}
 use Rattle.v4_message.specs.declared.fault.MessageFault.{MessageFault}
 use Rattle.v4_message.specs.Reading.{message_of}
 use Rattle.v4_message.specs.Spelling.{MessageValue}
-use Rattle.bindings_v4.specs.declared.holder4.Holder4.{Holder4}
+use Rattle.slots.specs.declared.holder.Holder.{Holder}
+use Rattle.slots.specs.Key.{key4_cmp}
+use Rattle.slots.specs.KeyLaws.{key4_is_key}
+use Rattle.slots.specs.Maps.{Lease, Clients, address_of, or_else}
+use Rattle.slots.specs.Slots.{bound_to, offered_to, leases}
+use Rattle.slots.proofs.ShownLemmas.{not_true, at, hit, got, get-leases, keep, get-live_clients}
 use Rattle.bindings_v4.specs.declared.server4.Server4.{Server4}
 use Rattle.bindings_v4.specs.declared.server4.Server4.TheVariants.{Anybody, This, Another}
-use Rattle.bindings_v4.specs.Book4.{Lease, Clients, Book4, in_pool, is_free, address_of, where_free, or_else, pick, book4_at}
+use Rattle.bindings_v4.specs.Book4.{Book4, in_pool, is_free, where_free, pick, book4_at}
 use Rattle.bindings_v4.specs.Kept4 as kept4
-use Rattle.bindings_v4.specs.Slots4.{bound_to, offered_to, leases, holder_of, book_of_slots}
+use Rattle.bindings_v4.specs.Slots4.{holder_of, book_of_slots}
 use Rattle.bindings_v4.specs.Table4.{Change, Unchanged, Offers, Withdraws, Binds, Bars, Frees, with_change, grants, discover_row, other_server_row, selecting_row, known_address_row, no_server_row, decline_row, release_row, inform_row, where_is, where_specified, server_of, lookup_in, row_of, Row, replies, answer4}
 use Rattle.bindings_v4.proofs.KeptBook.{begun_is_a_book, kept_is_a_book}
 use Rattle.bindings_v4.proofs.KeptLemmas.{live_once}
 use Rattle.bindings_v4.proofs.LaterBook.{later_is_a_book}
 use Rattle.bindings_v4.proofs.LawLemmas.{book_left}
-use Rattle.bindings_v4.proofs.ShownLemmas.{not_true, at, hit, got, get-leases, keep, get-live_clients}
 use Rattle.lease_disk.specs.Book as region
 use Rattle.lease_disk.specs.Recovered.{recovered}
 use Rattle.lease_disk.proofs.Books as region_books
@@ -67,18 +71,18 @@ and_right false y e = absurd (not_true e)
 
 -- ---- maps of which every lease satisfies a condition
 
-abbrev Every : (Lease → Type 0) → Clients → Type 0
+abbrev Every : (Lease → Type 0) → Clients key4_cmp → Type 0
 Every P m = (client : List ℕ) → IfSome (get m client) P
 
 if_cond : (P : Lease → Type 0) (b : Bool) (one other : Option Lease) → IfSome one P → IfSome other P → IfSome (cond b one other) P
 if_cond P true one other first second = first
 if_cond P false one other first second = second
 
-every_insert : (P : Lease → Type 0) (m : Clients) (k : List ℕ) (l : Lease) → Every P m → P l → Every P (insert m k l)
+every_insert : (P : Lease → Type 0) (m : Clients key4_cmp) (k : List ℕ) (l : Lease) → Every P m → P l → Every P (insert m k l)
 every_insert P m k l old new q =
     subst (λ (o : Option Lease). IfSome o P) (sym (get-insert nat_list_cmp_total m k l q)) (if_cond P _ (Some l) (get m q) new (old q))
 
-every_remove : (P : Lease → Type 0) (m : Clients) (k : List ℕ) → Every P m → Every P (remove m k)
+every_remove : (P : Lease → Type 0) (m : Clients key4_cmp) (k : List ℕ) → Every P m → Every P (remove m k)
 every_remove P m k old q =
     subst (λ (o : Option Lease). IfSome o P) (sym (get-remove nat_list_cmp_total m k q)) (if_cond P _ None (get m q) tt (old q))
 
@@ -244,7 +248,7 @@ module _ (part : CircuitPart) where
       → get (answer4 (pool4_of part) t b m).book.bindings m.key ≡ Some (record { address = address; until = until }) → IsInPool part address
   bound_in_pool t m b p address until bound = subst (λ (o : Option Lease). IfSome o Inside) bound ((decided t m b p).bindings m.key)
 
-  every_later : (t : ℕ) (m : Clients) → Every Inside m → (q : List ℕ) → IfSome (keep t (get m q)) Inside
+  every_later : (t : ℕ) (m : Clients key4_cmp) → Every Inside m → (q : List ℕ) → IfSome (keep t (get m q)) Inside
   every_later t m old q = by (get m q) (old q) where
     by : (o : Option Lease) → IfSome o Inside → IfSome (keep t o) Inside
     by None p = tt
@@ -254,8 +258,8 @@ module _ (part : CircuitPart) where
   unfolding book4_at
   later t b p =
       record {
-        bindings = λ q. subst (λ (o : Option Lease). IfSome o Inside) (sym (get-live_clients t b.bindings q)) (every_later t b.bindings p.bindings q);
-        offers = λ q. subst (λ (o : Option Lease). IfSome o Inside) (sym (get-live_clients t b.offers q)) (every_later t b.offers p.offers q);
+        bindings = λ q. subst (λ (o : Option Lease). IfSome o Inside) (sym (get-live_clients key4_is_key t b.bindings q)) (every_later t b.bindings p.bindings q);
+        offers = λ q. subst (λ (o : Option Lease). IfSome o Inside) (sym (get-live_clients key4_is_key t b.offers q)) (every_later t b.offers p.offers q);
       }
 
   kept : (b : Book4) → IsPooled part b → IsPooled part (kept4.kept_book b)
@@ -270,41 +274,41 @@ if_wider : (P Q : Lease → Type 0) → ((l : Lease) → P l → Q l) → (o : O
 if_wider P Q on None p = tt
 if_wider P Q on (Some l) p = on l p
 
-hit_inside : (a n : ℕ) (q : List ℕ) (l : Option (List ℕ × ℕ)) (rest : Option Lease) → IfSome rest (Between a (suc n)) → IfSome (hit q a l rest) (Between a (suc n))
+hit_inside : (a n : ℕ) (q : List ℕ) (l : Option (List ℕ × ℕ)) (rest : Option Lease) → IfSome rest (Between a (suc n)) → IfSome (hit bytes_eq q a l rest) (Between a (suc n))
 hit_inside a n q None rest p = p
 hit_inside a n q (Some l) rest p =
     let from : a ≤ a = omega arith in
     let below : a < a + suc n = omega arith in
     if_cond (Between a (suc n)) (bytes_eq q l.0) (Some (at a l.1)) rest (from, below) p
 
-missed_inside : (P : Lease → Type 0) (a : ℕ) (q : List ℕ) (l : Option (List ℕ × ℕ)) (rest : Option Lease) → l ≡ None → IfSome rest P → IfSome (hit q a l rest) P
+missed_inside : (P : Lease → Type 0) (a : ℕ) (q : List ℕ) (l : Option (List ℕ × ℕ)) (rest : Option Lease) → l ≡ None → IfSome rest P → IfSome (hit bytes_eq q a l rest) P
 missed_inside P a q None rest none p = p
 missed_inside P a q (Some l) rest none p = absurd cc
 
-got_inside : (f : Option Holder4 → Option (List ℕ × ℕ)) (q : List ℕ) (a n : ℕ) (ss : List (Option Holder4)) → ((i : ℕ) → n ≤ i → f (get_or ss i None) ≡ None)
-    → IfSome (got f q a ss) (Between a n)
+got_inside : (f : Option (Holder (List ℕ)) → Option (List ℕ × ℕ)) (q : List ℕ) (a n : ℕ) (ss : List (Option (Holder (List ℕ)))) → ((i : ℕ) → n ≤ i → f (get_or ss i None) ≡ None)
+    → IfSome (got bytes_eq f q a ss) (Between a n)
 got_inside f q a n [] past = tt
 got_inside f q a zero (s ∷ ss) past =
-    missed_inside (Between a zero) a q (f s) (got f q (a + 1) ss) (past zero (omega arith))
-    (if_wider (Between (a + 1) zero) (Between a zero) (λ l p. let lo = p.0 in let hi = p.1 in (omega (arith, lo), omega (arith, lo, hi))) (got f q (a + 1) ss)
+    missed_inside (Between a zero) a q (f s) (got bytes_eq f q (a + 1) ss) (past zero (omega arith))
+    (if_wider (Between (a + 1) zero) (Between a zero) (λ l p. let lo = p.0 in let hi = p.1 in (omega (arith, lo), omega (arith, lo, hi))) (got bytes_eq f q (a + 1) ss)
     (got_inside f q (a + 1) zero ss (λ i h. past (suc i) (omega arith))))
 got_inside f q a (suc n) (s ∷ ss) past =
-    hit_inside a n q (f s) (got f q (a + 1) ss)
-    (if_wider (Between (a + 1) n) (Between a (suc n)) (λ l p. let lo = p.0 in let hi = p.1 in (omega (arith, lo), omega (arith, hi))) (got f q (a + 1) ss)
+    hit_inside a n q (f s) (got bytes_eq f q (a + 1) ss)
+    (if_wider (Between (a + 1) n) (Between a (suc n)) (λ l p. let lo = p.0 in let hi = p.1 in (omega (arith, lo), omega (arith, hi))) (got bytes_eq f q (a + 1) ss)
     (got_inside f q (a + 1) n ss (λ i h. past (suc i) (omega (arith, h)))))
 
 -- what a region recovers to is a book of its circuit
 module _ (part : CircuitPart) where
-  abbrev held : Slots → Slot4 → Option Holder4
+  abbrev held : Slots → Slot4 → Option (Holder (List ℕ))
   held slots slot = holder_of (live4 slots.clock slot)
 
-  of_slots : (f : Option Holder4 → Option (List ℕ × ℕ)) → f None ≡ None → (slots : Slots) → ((i : ℕ) → part.count4 ≤ i → get_or slots.four i slot4.Free ≡ slot4.Free)
-      → (q : List ℕ) → IfSome (get (leases f (number4 part.first4) (map (held slots) slots.four)) q) (λ lease. IsInPool part lease.address)
+  of_slots : (f : Option (Holder (List ℕ)) → Option (List ℕ × ℕ)) → f None ≡ None → (slots : Slots) → ((i : ℕ) → part.count4 ≤ i → get_or slots.four i slot4.Free ≡ slot4.Free)
+      → (q : List ℕ) → IfSome (get (leases key4_cmp f (number4 part.first4) (map (held slots) slots.four)) q) (λ lease. IsInPool part lease.address)
   of_slots f none slots past q =
       let ss = map (held slots) slots.four in
       let free : (i : ℕ) → part.count4 ≤ i → f (get_or ss i None) ≡ None = λ i h. ap f (get_or-map (held slots) slots.four i slot4.Free ∙ ap (held slots) (past i h)) ∙ none in
-      subst (λ (o : Option Lease). IfSome o (λ lease. IsInPool part lease.address)) (sym (get-leases f q (number4 part.first4) ss))
-      (if_wider (Between (number4 part.first4) part.count4) (λ lease. IsInPool part lease.address) (λ l p. record { from = p.0; below = p.1 }) (got f q (number4 part.first4) ss)
+      subst (λ (o : Option Lease). IfSome o (λ lease. IsInPool part lease.address)) (sym (get-leases key4_is_key f q (number4 part.first4) ss))
+      (if_wider (Between (number4 part.first4) part.count4) (λ lease. IsInPool part lease.address) (λ l p. record { from = p.0; below = p.1 }) (got bytes_eq f q (number4 part.first4) ss)
       (got_inside f q (number4 part.first4) part.count4 ss free))
 
   pub begun : (slots : Slots) → none_twice same_client4 (map (live4 slots.clock) slots.four) ≡ true → ((i : ℕ) → part.count4 ≤ i → get_or slots.four i slot4.Free ≡ slot4.Free)

@@ -5,7 +5,8 @@ use Rattle.types.specs.declared.addr.Addr4.{Addr4}
 use Rattle.types.specs.declared.addr.Source.{Source}
 use Rattle.types.specs.declared.dest.Dest.TheVariants.{Unicast}
 use Rattle.types.specs.declared.dest.Proto.TheVariants.{V4}
-use Rattle.bindings_v4.specs.Book4.{Lease, Clients}
+use Rattle.slots.specs.Key.{key4_cmp}
+use Rattle.slots.specs.Maps.{Lease, Clients}
 use Rattle.config.specs.CircuitPart.{CircuitPart}
 use Rattle.dispatch.specs.Server.{Book}
 use Rattle.lossy_net.specs.Net.{Datagram}
@@ -111,11 +112,11 @@ abbrev pub client : ℕ → List ℕ
 client n = 1 ∷ 2 ∷ 0 ∷ 0 ∷ 0 ∷ 0 ∷ n ∷ []
 
 -- a book of nothing but offers
-abbrev pub offers_at : ℕ → Clients → Book
+abbrev pub offers_at : ℕ → Clients key4_cmp → Book
 offers_at clock offers = record { clock = clock; four = record { bindings = empty; offers = offers; bars = empty } }
 
 -- of one offer
-abbrev pub one_offer : List ℕ → Lease → Clients
+abbrev pub one_offer : List ℕ → Lease → Clients key4_cmp
 one_offer client lease = insert empty client lease
 
 -- 10.0.0.10 until some moment
@@ -134,7 +135,7 @@ abbrev pub begun : Alone
 begun = start (Some no_leases)
 
 -- one datagram towards the server, a book of offers, and nothing saved so far
-abbrev pub with_up : List ℕ → ℕ → Clients → Alone
+abbrev pub with_up : List ℕ → ℕ → Clients key4_cmp → Alone
 with_up bytes clock offers = record {
   up = datagram bytes ∷ [];
   down = [];

@@ -12,7 +12,7 @@ use Rattle.types.specs.declared.request4.Request4.{Request4}
 use Rattle.v4_message.specs.declared.fault.MessageFault.{MessageFault}
 use Rattle.v4_message.specs.Reading.{message_of}
 use Rattle.v4_message.specs.Spelling.{MessageValue}
-use Rattle.bindings_v4.specs.Book4.{Lease}
+use Rattle.slots.specs.Maps.{Lease}
 use Rattle.bindings_v4.specs.Table4.{Decision, answer4}
 use Rattle.config.specs.CircuitPart.{CircuitPart, pool4_of}
 use Rattle.dispatch.specs.Request.{request_in}
