@@ -6,6 +6,7 @@ use Rattle.slots.specs.Key.{key4_cmp}
 use Rattle.slots.specs.KeyLaws.{key4_is_key}
 use Rattle.slots.specs.Maps.{Lease, address_of, live_clients}
 use Rattle.slots.specs.Slots.{offered_to, with_lease, leases}
+use Rattle.slots.proofs.FormLemmas.{held, held_distinct}
 use Rattle.slots.proofs.ShownLemmas.{keep, get-live_clients}
 use Rattle.types.specs.Addr.{number4}
 use Rattle.types.specs.Pool4.{PoolValue}
@@ -16,13 +17,13 @@ use Rattle.bindings_v4.specs.Book4.{Book4, empty_book, book4_at}
 use Rattle.bindings_v4.specs.IsBook4.{Entry, TheBinding, TheOffer, TheBar, Names, IsBook4}
 use Rattle.bindings_v4.specs.Kept4.{kept_book, book4_in}
 use Rattle.bindings_v4.specs.Slots4.{book_of_slots}
-use Rattle.bindings_v4.proofs.KeptLemmas.{held, held_distinct, never_offered}
+use Rattle.bindings_v4.proofs.KeptLemmas.{form4, never_offered}
 use Rattle.bindings_v4.proofs.LaterBook.{if_none}
 use Rattle.bindings_v4.proofs.ShownBook.{slots_show_a_book}
 
 pub begun_is_a_book : (pool : PoolValue) (slots : RegionSlots) → none_twice same_client4 (map (live4 slots.clock) slots.four) ≡ true → IsBook4 slots.clock (book4_in pool slots)
 begun_is_a_book pool slots once =
-    slots_show_a_book slots.clock (record { pool = pool; slots = map (held slots.clock) slots.four }) (held_distinct slots.clock slots.four once)
+    slots_show_a_book slots.clock (record { pool = pool; slots = map (held form4 slots.clock) slots.four }) (held_distinct form4 key4_is_key slots.clock slots.four once)
 
 -- ---- a book without its offers
 
@@ -56,12 +57,12 @@ kept_later t b = λ i. record { bindings = live_clients t b.bindings; offers = s
 
 -- ---- slots have no offers
 
-without_offers : (t a : ℕ) (xs : List Slot4) → leases key4_cmp offered_to a (map (held t) xs) ≡ empty_book.offers
+without_offers : (t a : ℕ) (xs : List Slot4) → leases key4_cmp offered_to a (map (held form4 t) xs) ≡ empty_book.offers
 without_offers t a [] = refl
-without_offers t a (x ∷ xs) = ap (λ l. with_lease a l (leases key4_cmp offered_to (a + 1) (map (held t) xs))) (never_offered (live4 t x)) ∙ without_offers t (a + 1) xs
+without_offers t a (x ∷ xs) = ap (λ l. with_lease a l (leases key4_cmp offered_to (a + 1) (map (held form4 t) xs))) (never_offered (live4 t x)) ∙ without_offers t (a + 1) xs
 
 pub begun_no_offers : (pool : PoolValue) (slots : RegionSlots) → kept_book (book4_in pool slots) ≡ book4_in pool slots
 begun_no_offers pool slots =
-    let b = book_of_slots (number4 pool.first) (map (held slots.clock) slots.four) in
+    let b = book_of_slots (number4 pool.first) (map (held form4 slots.clock) slots.four) in
     let bare : kept_book b ≡ b = λ i. record { bindings = b.bindings; offers = sym (without_offers slots.clock (number4 pool.first) slots.four) i; bars = b.bars } in
     kept_later slots.clock b ∙ ap (book4_at slots.clock) bare

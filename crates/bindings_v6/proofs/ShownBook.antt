@@ -8,6 +8,7 @@ use Rattle.slots.specs.declared.holder.Holder.TheVariants.{Bound, Offered, Barre
 use Rattle.slots.specs.KeyLaws.{key6_is_key}
 use Rattle.slots.specs.Maps.{Lease, address_of}
 use Rattle.slots.specs.Slots.{bound_to, barred_until, bars_of, AreDistinct}
+use Rattle.slots.proofs.FormLemmas.{held, held_distinct}
 use Rattle.slots.proofs.ShownLemmas.{Lessee, at, not_true, same_is, live_slots, hits, hit, got, get-leases, get-live_clients, get-live_bars, bars_below, bars_at, split}
 use Rattle.types.specs.Addr.{number6}
 use Rattle.types.specs.Key6.{Key6Value, same_key6}
@@ -18,7 +19,7 @@ use Rattle.bindings_v6.specs.Book6.{Book6, book6_at}
 use Rattle.bindings_v6.specs.IsBook6.{Entry, TheBinding, TheBar, Names, IsBook6}
 use Rattle.bindings_v6.specs.Kept6.{book6_in}
 use Rattle.bindings_v6.specs.Slots6.{Holders6, PoolSlots, book_of_slots, book_of}
-use Rattle.bindings_v6.proofs.KeptLemmas.{held, held_distinct}
+use Rattle.bindings_v6.proofs.KeptLemmas.{form6}
 use Rattle.bindings_v6.proofs.LaterBook.{kept_is_live, bar_is_live}
 use Rattle.bindings_v6.proofs.ShownLemmas.{shown}
 
@@ -96,4 +97,4 @@ slots_show_a_book t v distinct =
 
 pub begun_is_a_book : (pool : Pool6Value) (slots : RegionSlots) → none_twice same_client6 (map (live6 slots.clock) slots.six) ≡ true → IsBook6 slots.clock (book6_in pool slots)
 begun_is_a_book pool slots once =
-    slots_show_a_book slots.clock (record { pool = pool; slots = map (held slots.clock) slots.six }) (held_distinct slots.clock slots.six once)
+    slots_show_a_book slots.clock (record { pool = pool; slots = map (held form6 slots.clock) slots.six }) (held_distinct form6 key6_is_key slots.clock slots.six once)

@@ -78,11 +78,11 @@ module _ {K : Type 0} where
 
   -- ---- what is kept is live and no offer
 
-  own : (s : Option (Holder K)) → unoffered (unoffered s) ≡ unoffered s
-  own None = refl
-  own (Some (Bound k u)) = refl
-  own (Some (Offered k u)) = refl
-  own (Some (Barred u)) = refl
+  pub unoffered_own : (s : Option (Holder K)) → unoffered (unoffered s) ≡ unoffered s
+  unoffered_own None = refl
+  unoffered_own (Some (Bound k u)) = refl
+  unoffered_own (Some (Offered k u)) = refl
+  unoffered_own (Some (Barred u)) = refl
 
   live_if : (t : ℕ) (h : Holder K) (b : Bool) → is_live t (until_of h) ≡ b → live t (cond b (Some h) None) ≡ cond b (Some h) None
   live_if t h true is = ap (λ b. cond b (Some h) None) is
@@ -151,8 +151,6 @@ module _ {K : Type 0} where
   pub slot_within : (eqk : K → K → Bool) (i : ℕ) (new : Option (Holder K)) (ss : Slots K) → AreWithin ss → IsWithin new → AreWithin (with_slot eqk i new ss)
   slot_within eqk i new ss w h =
       are_within (with_slot eqk i new ss) (set_within (without_lessee eqk (client_of new) ss) i new (lessee_within eqk (client_of new) ss (within_at ss w)) h)
-
-  -- ---- no slot is offered
 
   -- ---- slots that show the same maps
 

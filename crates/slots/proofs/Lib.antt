@@ -3,3 +3,4 @@ pub mod WriteLemmas
 pub mod FreeLemmas
 pub mod FitLemmas
 pub mod KeptLemmas
+pub mod FormLemmas

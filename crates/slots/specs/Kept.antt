@@ -8,10 +8,8 @@ use Rattle.slots.specs.Lookup.{live}
 module _ {K : Type 0} where
   -- a binding or a bar: offers are in memory only
   abbrev pub unoffered : Option (Holder K) → Option (Holder K)
-  unoffered None = None
-  unoffered (Some (Bound key until)) = Some (Bound key until)
   unoffered (Some (Offered key until)) = None
-  unoffered (Some (Barred until)) = Some (Barred until)
+  unoffered slot = slot
 
   -- what is kept of a holder at a clock: a live binding or a live bar
   abbrev pub kept : ℕ → Option (Holder K) → Option (Holder K)

@@ -15,22 +15,16 @@ with_bar address (Some until) m = insert m address until
 module _ {K : Type 0} where
   -- whom a slot is bound or offered to and until when, and until when it is barred
   abbrev pub bound_to : Option (Holder K) → Option (K × ℕ)
-  bound_to None = None
   bound_to (Some (Bound key until)) = Some (key, until)
-  bound_to (Some (Offered key until)) = None
-  bound_to (Some (Barred until)) = None
+  bound_to slot = None
 
   abbrev pub offered_to : Option (Holder K) → Option (K × ℕ)
-  offered_to None = None
-  offered_to (Some (Bound key until)) = None
   offered_to (Some (Offered key until)) = Some (key, until)
-  offered_to (Some (Barred until)) = None
+  offered_to slot = None
 
   abbrev pub barred_until : Option (Holder K) → Option ℕ
-  barred_until None = None
-  barred_until (Some (Bound key until)) = None
-  barred_until (Some (Offered key until)) = None
   barred_until (Some (Barred until)) = Some until
+  barred_until slot = None
 
   abbrev pub with_lease : {cmpk : K → K → Ordering} → ℕ → Option (K × ℕ) → Clients cmpk → Clients cmpk
   with_lease address None m = m
@@ -71,10 +65,9 @@ module _ {K : Type 0} where
   without_client eqk client slots = with_vacancy (position (is_clients eqk client) slots) slots
 
   abbrev pub client_of : Option (Holder K) → Option K
-  client_of None = None
   client_of (Some (Bound key until)) = Some key
   client_of (Some (Offered key until)) = Some key
-  client_of (Some (Barred until)) = None
+  client_of slot = None
 
   abbrev pub without_lessee : (K → K → Bool) → Option K → List (Option (Holder K)) → List (Option (Holder K))
   without_lessee eqk None slots = slots

@@ -1,6 +1,7 @@
 //! What a slot of a pool holds.
 ghost use Rattle.std.specs.Prelude.{◌≡◌};
 ghost use Rattle.slots.specs.Kept.{kept};
+ghost use Rattle.slots.specs.Maps.{is_live};
 ghost use Rattle.slots.specs.Lookup.{until_of, live, is_vacant, is_bound_to, is_offered_to};
 ghost use Rattle.slots.specs.Slots.{client_of, is_clients};
 
@@ -29,13 +30,20 @@ impl<K> Holder<K> {
     }
 }
 
+/// Whether what is held until this moment is held at this clock.
+fn is_live(clock: u64, until: u64) -> bool
+    ensures { result ≡ is_live clock until }
+{
+    clock < until
+}
+
 /// Whether nobody holds the slot any more.
 pub fn is_vacant<K>(slot: &Option<Holder<K>>, clock: u64) -> bool
     ensures { result ≡ is_vacant clock slot.now }
 {
     match slot {
         None => true,
-        Some(holder) => holder.until() <= clock,
+        Some(holder) => !is_live(clock, holder.until()),
     }
 }
 
@@ -44,7 +52,7 @@ pub fn is_bound_to<K: PartialEq>(slot: &Option<Holder<K>>, client: &K, clock: u6
     ensures { result ≡ is_bound_to K.eq clock client.now slot.now }
 {
     match slot {
-        Some(Holder::Bound(key, until)) => clock < *until && client == key,
+        Some(Holder::Bound(key, until)) => is_live(clock, *until) && client == key,
         _ => false,
     }
 }
@@ -54,7 +62,7 @@ pub fn is_offered_to<K: PartialEq>(slot: &Option<Holder<K>>, client: &K, clock: 
     ensures { result ≡ is_offered_to K.eq clock client.now slot.now }
 {
     match slot {
-        Some(Holder::Offered(key, until)) => clock < *until && client == key,
+        Some(Holder::Offered(key, until)) => is_live(clock, *until) && client == key,
         _ => false,
     }
 }
@@ -86,7 +94,7 @@ pub fn live<K: Copy>(slot: Option<Holder<K>>, clock: u64) -> Option<Holder<K>>
     ensures { result ≡ live clock slot }
 {
     let holder = slot?;
-    if clock < holder.until() {
+    if is_live(clock, holder.until()) {
         Some(holder)
     } else {
         None

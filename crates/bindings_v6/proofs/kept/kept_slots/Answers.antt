@@ -1,9 +1,10 @@
 use Rattle.std.proofs.Common.{◌∙◌, ap, arith}
+use Rattle.slots.proofs.FormLemmas.{kept_next}
 use Rattle.bindings_v6.specs.Kept6.{slot_of}
-use Rattle.bindings_v6.proofs.KeptLemmas.{kept_next}
+use Rattle.bindings_v6.proofs.KeptLemmas.{form6}
 use Rattle.bindings_v6.proofs.kept.kept_slots.Goals as goal
 
 pub loop-i-preserved : goal.loop-i-preserved
 loop-i-preserved c =
-    kept_next c.args.clock c.args.holders.now c.loop-i.i c.index-holders-i.result c.loop-i.slots c.slot_of.result (omega arith) c.requires c.index-holders-i.is
+    kept_next form6 c.args.clock c.args.holders.now c.loop-i.i c.index-holders-i.result c.loop-i.slots c.slot_of.result (omega arith) c.requires c.index-holders-i.is
     (c.slot_of.ensures ∙ ap slot_of c.kept.ensures) c.loop-i.invariant

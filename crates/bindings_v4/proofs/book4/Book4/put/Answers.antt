@@ -1,6 +1,8 @@
 use Rattle.std.proofs.Common.{◌≡◌, ap, ◌∙◌}
+use Rattle.slots.specs.KeyLaws.{key4_is_key}
+use Rattle.slots.proofs.FormLemmas.{all_live, kept_twice}
 use Rattle.bindings_v4.specs.Kept4.{kept_slots}
-use Rattle.bindings_v4.proofs.KeptLemmas.{all_live, all_within, kept_twice, past_free, book_put}
+use Rattle.bindings_v4.proofs.KeptLemmas.{form4, all_within, past_free, book_put}
 use Rattle.bindings_v4.proofs.book4.Book4.put.Goals as goal
 
 pub returns-clause-book : goal.returns-clause-book
@@ -15,14 +17,14 @@ returns-clause-live c =
     let v = c.args.self.now in
     let written : c.kept_slots-slots.result ≡ kept_slots c.args.slots.now.clock v.slots =
     c.kept_slots-slots.ensures ∙ ap (λ t. kept_slots t c.slots.result.now) c.seconds.ensures.value ∙ ap (kept_slots c.args.slots.now.clock) c.slots.ensures.value in
-    all_live c.args.slots.now.clock v.slots c.kept_slots-slots.result written
+    all_live form4 c.args.slots.now.clock v.slots c.kept_slots-slots.result written
 
 pub returns-clause-once : goal.returns-clause-once
 returns-clause-once c =
     let v = c.args.self.now in
     let written : c.kept_slots-slots.result ≡ kept_slots c.args.slots.now.clock v.slots =
     c.kept_slots-slots.ensures ∙ ap (λ t. kept_slots t c.slots.result.now) c.seconds.ensures.value ∙ ap (kept_slots c.args.slots.now.clock) c.slots.ensures.value in
-    kept_twice c.args.slots.now.clock v.slots c.kept_slots-slots.result written c.slots.ensures.within.distinct
+    kept_twice form4 key4_is_key c.args.slots.now.clock v.slots c.kept_slots-slots.result written c.slots.ensures.within.distinct
 
 pub returns-clause-within : goal.returns-clause-within
 returns-clause-within c =
