@@ -1,4 +1,4 @@
--- The words of the faults of rules 42, 43 and 44.
+-- The words of a fault.
 use Rattle.std.specs.Prelude.{ℕ, List, ◌++◌, Option, Some, None, codes, decimal}
 use Rattle.std.specs.Fmt.{signed_decimal}
 use Rattle.settings.specs.declared.names.CircuitRef.{CircuitRef}
@@ -16,6 +16,8 @@ use Rattle.settings.specs.declared.limit_fault.LimitFault.{LimitFault}
 use Rattle.settings.specs.declared.limit_fault.LimitFault.TheVariants.{Relays, Circuits, Server, Relay, Circuit}
 use Rattle.settings.specs.declared.fault.Location.{Location}
 use Rattle.settings.specs.declared.fault.Location.TheVariants.{Table, Server as AtServer, Relay as AtRelay, Circuit as AtCircuit}
+use Rattle.settings.specs.declared.fault.ConfigFault.{ConfigFault}
+use Rattle.settings.specs.declared.fault.ConfigFault.TheVariants.{Memory, Text, Missing, Limit, IdTwice, RegionTwice, Overlap4, Overlap6, GatewayInPool, OffSubnet}
 use Rattle.settings.specs.declared.fault.SameName.{SameName}
 use Rattle.settings.specs.declared.fault.SameName.TheVariants.{Ids, Names, Sources, Listens, Listen4, Listen6}
 use Rattle.settings.specs.Names.{table_name, server_key, relay_key, circuit_key}
@@ -100,3 +102,32 @@ same_words (Sources one other) = codes "relays " ++ (decimal one ++ (codes " and
 same_words Listens = codes "server: listen4 and listen6 are the same"
 same_words (Listen4 relay) = codes "the source of relay " ++ (decimal relay ++ codes " is the server's listen4")
 same_words (Listen6 relay) = codes "the source of relay " ++ (decimal relay ++ codes " is the server's listen6")
+
+-- rules 45 to 47
+abbrev pub two_words : CircuitRef → CircuitRef → List ℕ → List ℕ
+two_words first second what = codes "circuits " ++ (circuit_name first ++ (codes " and " ++ (circuit_name second ++ what)))
+
+-- rule 48
+abbrev pub in_pool_words : CircuitRef → CircuitKey → CircuitRef → List ℕ
+in_pool_words circuit key owner =
+    codes "circuit " ++ (circuit_name circuit ++ (codes ": " ++ (circuit_key key ++ (codes " is in the pool of circuit " ++ circuit_name owner))))
+
+-- rule 49
+abbrev pub off_subnet_words : CircuitKey → List ℕ
+off_subnet_words circuit.First4 =
+    codes "the pool at first4 is not within the subnet of gateway4, or includes the subnet's first or last address"
+off_subnet_words circuit.First6 = codes "the pool at first6 is not within the /64 subnet of link6"
+off_subnet_words key = codes "gateway4 is the first or last address of its subnet"
+
+-- A fault. TOML's own words for a text that is not TOML are not defined here.
+abbrev pub fault_words : ConfigFault → Option (List ℕ)
+fault_words Memory = Some (codes "out of memory")
+fault_words (Text error) = None
+fault_words (Missing location) = Some (missing_words location)
+fault_words (Limit limit) = Some (limit_words limit)
+fault_words (IdTwice same) = Some (same_words same)
+fault_words (RegionTwice first second) = Some (two_words first second (codes " have the same region"))
+fault_words (Overlap4 first second) = Some (two_words first second (codes " share DHCPv4 addresses"))
+fault_words (Overlap6 first second) = Some (two_words first second (codes " share DHCPv6 addresses"))
+fault_words (GatewayInPool circuit key owner) = Some (in_pool_words circuit key owner)
+fault_words (OffSubnet circuit key) = Some (codes "circuit " ++ (circuit_name circuit ++ (codes ": " ++ off_subnet_words key)))

@@ -1,11 +1,11 @@
 //! Why a text is not a configuration, and where it is wrong.
 ghost use Rattle.std.specs.Prelude.{◌≡◌, Some};
-ghost use Rattle.settings.specs.Words.{circuit_kind, missing_words, same_words};
+ghost use Rattle.settings.specs.Words.{circuit_kind, missing_words, same_words, off_subnet_words, fault_words};
 
 use crate::limit_fault::LimitFault;
 use crate::names::{CircuitKey, CircuitRef, RelayKey, ServerKey, TableName};
+use std::error::Error;
 use std::fmt;
-use thiserror::Error;
 
 /// A table or key that is missing or of the wrong type. Relays are counted from 1.
 #[derive(Debug, PartialEq, Eq, Drop)]
@@ -94,7 +94,9 @@ fn kind(key: CircuitKey) -> &'static str
 
 /// Which part of rule 49 a circuit breaks: that of its gateway, of its DHCPv4 pool (`first4`) or of its
 /// DHCPv6 pool (`first6`).
-fn off_subnet(key: CircuitKey) -> &'static str {
+fn off_subnet(key: CircuitKey) -> &'static str
+    ensures { result.now ≡ off_subnet_words key }
+{
     match key {
         CircuitKey::First4 => {
             "the pool at first4 is not within the subnet of gateway4, or includes the subnet's first or last address"
@@ -106,35 +108,60 @@ fn off_subnet(key: CircuitKey) -> &'static str {
 
 /// Why a text is not a configuration, in the order of the rules' numbers. Of several rules that it breaks,
 /// the one with the lowest number is reported.
-#[derive(Debug, PartialEq, Eq, Drop, Error)]
+#[derive(Debug, PartialEq, Eq, Drop)]
 pub enum ConfigFault {
     /// Out of memory, which says nothing about the text.
-    #[error("out of memory")]
     Memory,
     /// The text is not TOML.
-    #[error("{0}")]
     Text(toml::de::Error),
     /// A table or key is missing or of the wrong type, or a circuit's `relay` is not the name of a relay.
-    #[error("{0}")]
     Missing(Location),
     /// A value, or a number of entries, is outside its limits.
-    #[error("{0}")]
     Limit(LimitFault),
-    #[error("{0}")]
     IdTwice(SameName),
-    #[error("circuits {0} and {1} have the same region")]
     RegionTwice(CircuitRef, CircuitRef),
-    #[error("circuits {0} and {1} share DHCPv4 addresses")]
     Overlap4(CircuitRef, CircuitRef),
-    #[error("circuits {0} and {1} share DHCPv6 addresses")]
     Overlap6(CircuitRef, CircuitRef),
     /// `gateway4` or `link6` of the first circuit is in the pool of the second.
-    #[error("circuit {0}: {1} is in the pool of circuit {2}")]
     GatewayInPool(CircuitRef, CircuitKey, CircuitRef),
     /// The circuit's gateway, or the pool that begins at this key, doesn't fit its subnet.
-    #[error("circuit {0}: {why}", why = off_subnet(*.1))]
     OffSubnet(CircuitRef, CircuitKey),
 }
+
+impl fmt::Display for ConfigFault {
+    ghost output = { λ fault. fault_words fault };
+
+    fn fmt<W: fmt::Write>(&self, f: &mut fmt::Formatter<W>) -> fmt::Result {
+        match self {
+            ConfigFault::Memory => f.write_str("out of memory"),
+            ConfigFault::Text(error) => write!(f, "{error}"),
+            ConfigFault::Missing(location) => write!(f, "{location}"),
+            ConfigFault::Limit(limit) => write!(f, "{limit}"),
+            ConfigFault::IdTwice(same) => write!(f, "{same}"),
+            ConfigFault::RegionTwice(first, second) => {
+                write!(f, "circuits {first} and {second} have the same region")
+            }
+            ConfigFault::Overlap4(first, second) => {
+                write!(f, "circuits {first} and {second} share DHCPv4 addresses")
+            }
+            ConfigFault::Overlap6(first, second) => {
+                write!(f, "circuits {first} and {second} share DHCPv6 addresses")
+            }
+            ConfigFault::GatewayInPool(circuit, key, owner) => {
+                write!(
+                    f,
+                    "circuit {circuit}: {key} is in the pool of circuit {owner}"
+                )
+            }
+            ConfigFault::OffSubnet(circuit, key) => {
+                let why = off_subnet(*key);
+                write!(f, "circuit {circuit}: {why}")
+            }
+        }
+    }
+}
+
+impl Error for ConfigFault {}
 
 impl ConfigFault {
     ghost use Rattle.settings.specs.Fault.{number_of};
