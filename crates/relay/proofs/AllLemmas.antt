@@ -1,9 +1,9 @@
 -- All circuits together, on the way down, do what each does alone.
-use Rattle.std.proofs.Common.{◌≡◌, ℕ, ◌<◌, Bool, true, false, cond, List, [], ◌∷◌, length, get_or, Option, Some, None, Result, Ok, Err, refl, sym, ap, ◌∙◌, subst, arith}
-use Rattle.std.specs.Prelude.{slice_get, nat_lt, ◌==◌}
+use Rattle.std.proofs.Common.{◌≡◌, ◌≢◌, ℕ, ◌<◌, Bool, true, false, cond, List, [], ◌∷◌, length, get_or, Option, Some, None, Result, Ok, Err, refl, sym, ap, ◌∙◌, subst, arith}
+use Rattle.std.specs.Prelude.{slice_get, nat_lt, ◌==◌, ◌&&◌}
 use Rattle.std.specs.List.{position}
 use Rattle.std.specs.Str.{bytes_eq}
-use Rattle.std.proofs.lemmas.Bool.{eq-eqb, lt-ltb}
+use Rattle.std.proofs.lemmas.Bool.{eq-eqb, eqb-true, lt-ltb}
 use Rattle.std.proofs.lemmas.List.Quantifiers.{position-Some}
 use Rattle.std.proofs.lemmas.List.Sums.{position_or_len_is}
 use Rattle.std.proofs.lemmas.Option.{get_or_from_slice_get, slice_get-get_or, slice_get_within}
@@ -27,9 +27,9 @@ use Rattle.v6_message.specs.RelayReading.{relay_of}
 use Rattle.relay.specs.Down.{◌>>=◌, AddressedFrame, has_id, frame_for, frame_on_link}
 use Rattle.relay.specs.Down4.{addressed_by4, is_named, message_in_reply, reply_of, suboptions_in, relayed_down4}
 use Rattle.relay.specs.Down6.{addressed_by, frame_inside, relay_in_reply, reply_of6, relayed_down6}
-use Rattle.config.specs.Topology.{Topology}
+use Rattle.config.specs.Topology.{Topology, listen}
 use Rattle.relay.specs.Relays.{CircuitFrame, addressed_frame, for_circuit, is_behind, link_of, circuit_found, circuit_at_index, own_circuit, proto_of, relayed_down, relayed_down_in, relayed_down_from}
-use Rattle.relay.proofs.RelaysLemmas.{by_proto, is_v4}
+use Rattle.relay.proofs.RelaysLemmas.{by_proto, is_v4, is_v6}
 
 -- one circuit's frame, by the frame in the datagram
 relayed_down_is : (part : CircuitPart) (proto : Proto) (datagram : List ℕ)
@@ -106,6 +106,29 @@ bytes_eq_self bytes = (bytes_eq-Decides bytes bytes).1 refl
 
 pub same_source_self : (source : Source) → same_source source source ≡ true
 same_source_self source = rw (bytes_eq_self source.addr.0, eq-eqb source.port source.port refl) refl
+
+same_is_one : (a b : Source) → same_source a b ≡ true → a ≡ b
+same_is_one a b same = by_addr (bytes_eq a.addr.0 b.addr.0) refl same
+  where
+    by_addr : (t : Bool) → bytes_eq a.addr.0 b.addr.0 ≡ t → (t && (a.port == b.port)) ≡ true → a ≡ b
+    by_addr true is both =
+        let addr : a.addr.0 ≡ b.addr.0 = (bytes_eq-Decides a.addr.0 b.addr.0).0 is in
+        let port : a.port ≡ b.port = eqb-true a.port b.port both in
+        λ i. record { addr = record { 0 = addr i }; port = port i }
+    by_addr false is both = absurd cc
+
+not_same : (a b : Source) → (a ≡ b → ⊥) → same_source a b ≡ false
+not_same a b apart = by_test (same_source a b) refl
+  where
+    by_test : (t : Bool) → same_source a b ≡ t → t ≡ false
+    by_test true is = absurd (apart (same_is_one a b is))
+    by_test false is = refl
+
+-- the server's address of a protocol decides that protocol
+pub proto_of_listen : (topology : Topology) (proto : Proto) → topology.listen4 ≢ topology.listen6 → proto_of topology (listen topology proto) ≡ Some proto
+proto_of_listen topology V4 apart = is_v4 topology topology.listen4 (same_source_self topology.listen4)
+proto_of_listen topology V6 apart =
+    is_v6 topology topology.listen6 (not_same topology.listen6 topology.listen4 (λ same. apart (sym same))) (same_source_self topology.listen6)
 
 position_of_one : {X : Type 0} (p : X → Bool) (x : X) → position p (x ∷ []) ≡ cond (p x) (Some 0) None
 position_of_one p x = by_test (p x) refl

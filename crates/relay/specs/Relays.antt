@@ -42,7 +42,7 @@ abbrev pub is_behind : Option Source → CircuitPart → Bool
 is_behind None part = false
 is_behind (Some relay) part = same_source relay part.relay
 
--- the circuit that was found has to be one of this relay's
+-- the circuit of this index, if it is one of this relay's
 abbrev pub circuit_found : Topology → ℕ → ℕ → Option CircuitPart → Result (ℕ × CircuitPart) Discard
 circuit_found topology relay c None = Err reason.UnknownCircuitDown
 circuit_found topology relay c (Some part) =
@@ -52,7 +52,7 @@ abbrev pub circuit_at_index : Topology → ℕ → Option ℕ → Result (ℕ ×
 circuit_at_index topology relay None = Err reason.UnknownCircuitDown
 circuit_at_index topology relay (Some c) = circuit_found topology relay c (slice_get topology.circuits c)
 
--- the circuit with exactly this id, by its index, and its part
+-- the index and the part of the circuit with exactly this id, which has to be one of this relay's
 abbrev pub own_circuit : Topology → ℕ → Option (List ℕ) → Result (ℕ × CircuitPart) Discard
 own_circuit topology relay id = circuit_at_index topology relay (position (has_id id) topology.circuits)
 

@@ -1,11 +1,11 @@
 //! Laws of the definitions alone: all circuits together do what each does alone, and a server can read
 //! what a relay sends.
-ghost use Rattle.std.specs.Prelude.{◌≡◌, ℕ, List, [], ◌∷◌, take, drop, Some, Ok, true, slice_get};
+ghost use Rattle.std.specs.Prelude.{◌≡◌, ◌≢◌, ℕ, List, [], ◌∷◌, take, drop, Some, Ok, true, slice_get};
 ghost use Rattle.types.specs.declared.addr.Source.{Source};
 ghost use Rattle.types.specs.declared.dest.Proto.{Proto};
 ghost use Rattle.types.specs.declared.dest.Proto.TheVariants.{V4, V6};
 ghost use Rattle.config.specs.CircuitPart.{CircuitPart, IsPart};
-ghost use Rattle.config.specs.Topology.{Topology};
+ghost use Rattle.config.specs.Topology.{Topology, listen};
 ghost use Rattle.v4_message.specs.Agent.{agent_of};
 ghost use Rattle.v4_message.specs.Reading.{message_of};
 ghost use Rattle.v4_message.specs.Spelling.{MessageValue};
@@ -35,6 +35,12 @@ pub fn only_circuit()
         → topology.circuits ≡ part ∷ [] → slice_get topology.relays relay ≡ Some part.relay
         → proto_of topology source ≡ Some proto
         → relayed_down_in topology relay source datagram ≡ for_circuit 0 (relayed_down part proto datagram) }
+{}
+
+/// The server's address of a protocol decides that protocol, where its two addresses differ.
+pub fn source_decides()
+    ensures { (topology : Topology) (proto : Proto)
+        → topology.listen4 ≢ topology.listen6 → proto_of topology (listen topology proto) ≡ Some proto }
 {}
 
 /// A DHCPv4 reply that names a circuit comes down to it, by the relay behind which the circuit is, as the

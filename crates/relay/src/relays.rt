@@ -156,8 +156,8 @@ impl Relays {
         ensures empty { OnErr result (out.new ≡ []) }
         ensures exists { IfOk result (λ sent. sent.0 < length self.now.topology.circuits) }
     {
-        let relayed = read_reply6(datagram)?;
-        let reply = read_options(&relayed)?;
+        let message = read_reply6(datagram)?;
+        let reply = read_options(&message)?;
         let circuit = self.own_circuit(relay, Some(reply.interface_id))?;
         let dest = relay_down6(self.circuits.part(circuit), &reply, out)?;
         Ok((circuit, dest))
