@@ -3,10 +3,11 @@ use Rattle.std.proofs.Common.{◌≡◌, ◌⊎◌, inl, inr, ℕ, ◌≤◌, Bo
 use Rattle.std.specs.Prelude.{Option, Some, None, option_map, Result, Ok, Err, slice_get, nat_le, IfSome, ◌==◌, if◌then◌else◌}
 use Rattle.std.specs.FinMap.{get}
 use Rattle.types.specs.declared.dest.Proto.{Proto}
+use Rattle.types.specs.declared.dest.Proto.TheVariants.{V4, V6}
 use Rattle.types.specs.declared.discard.Discard.{Discard}
 use Rattle.v4_message.specs.Reading.{message_of}
 use Rattle.slots.specs.Maps.{address_of}
-use Rattle.dispatch.specs.Server.{Book, Served, book_at, kept_book, message_served, served}
+use Rattle.dispatch.specs.Server.{Book, Served, book_at, kept_book, datagram_served, message_served, served}
 use Rattle.lease_disk.specs.declared.image.Image.{Image}
 use Rattle.lease_disk.specs.declared.image.Image.TheVariants.{Byte, Unreadable}
 use Rattle.lossy_net.specs.Net.{Datagram}
@@ -14,7 +15,7 @@ use Rattle.relay.specs.SentFrame.{SentFrame}
 use Rattle.relay.specs.Relays.{relayed_up, relayed_down}
 use Rattle.world.specs.Alone.{Alone, Setup, Step, Effect, frame_step, answer_step, served_step, book_step, delivery_of, up_step, reply_step, down_step, is_fault, or_kept, found, after_restart, alone_step, after_all, start}
 use Rattle.world.specs.Books.{HasBooks, IsInPool, IsBookOf}
-use Rattle.world.specs.Granted.{Grant, Granted, Ended, Stands, Knows, is_sent, datagram_lines, lines, ledger}
+use Rattle.world.specs.Granted.{Grant, Granted, Ended, Stands, Knows, is_sent, proto_lines, datagram_lines, lines, ledger}
 use Rattle.events.specs.Seen.{Seen, Frame, Up, Down, Tick, Restart}
 use Rattle.world.proofs.GrantLemmas.{stands_left, stands_right, is_granted, Keeps, keeps_new, keeps_later, keeps_served}
 use Rattle.world.proofs.PoolLemmas.{HasLimits, later_of, own_step}
@@ -99,16 +100,21 @@ module _ (setup : Setup) (limits : HasLimits setup.part) (g : Grant) where
   step_holds (Frame proto frame) a books h = inl (framed setup.part.lease g setup a proto (relayed_up setup.part proto frame) h)
   step_holds (Up j now fault) a books h = went_up (slice_get a.up j) where
     by : (d : Datagram) (b : Book) (effect : Effect)
-        → Keeps setup.part.lease g (message_served setup.part (book_at now b) (message_of d.bytes)).book ⊎ Stands (Ended g.client g.address) (datagram_lines setup.part effect now (Some b) (Some d))
+        → Keeps setup.part.lease g (datagram_served setup.part d.proto d.bytes (book_at now b)).book ⊎ Stands (Ended g.client g.address) (datagram_lines setup.part effect now (Some b) (Some d))
         → HoldsIn setup.part.lease g (book_step setup now fault a d (Some b)).next ⊎ Stands (Ended g.client g.address) (datagram_lines setup.part effect now (Some b) (Some d))
     by d b effect (inl keeps) = inl (served_holds setup.part.lease g setup fault a d.proto (served setup.part (delivery_of setup.part now d) b) keeps h)
     by d b effect (inr ended) = inr ended
+
+    by_proto : (proto : Proto) (bytes : List ℕ) (b : Book) (effect : Effect) → IsBookOf setup.part b → Keeps setup.part.lease g (book_at now b)
+        → Keeps setup.part.lease g (datagram_served setup.part proto bytes (book_at now b)).book ⊎ Stands (Ended g.client g.address) (proto_lines setup.part effect (book_at now b) proto bytes)
+    by_proto V4 bytes b effect book keeps = keeps_served setup.part (book_at now b) (later_of setup.part now b book).book g effect (message_of bytes) keeps
+    by_proto V6 bytes b effect book keeps = inl keeps
 
     opened : (d : Datagram) (b : Option Book) (effect : Effect) → IfSome b (IsBookOf setup.part) → IfSome b (Keeps setup.part.lease g)
         → HoldsIn setup.part.lease g (book_step setup now fault a d b).next ⊎ Stands (Ended g.client g.address) (datagram_lines setup.part effect now b (Some d))
     opened d None effect book keeps = inl h
     opened d (Some b) effect book keeps =
-        by d b effect (keeps_served setup.part (book_at now b) (later_of setup.part now b book).book g effect (message_of d.bytes) (keeps_later setup.part.lease now g b keeps))
+        by d b effect (by_proto d.proto d.bytes b effect book (keeps_later setup.part.lease now g b keeps))
 
     went_up : (d : Option Datagram) → HoldsIn setup.part.lease g (up_step setup now fault a d).next ⊎ Stands (Ended g.client g.address) (datagram_lines setup.part (up_step setup now fault a d).effect now a.book d)
     went_up None = inl h
@@ -125,14 +131,20 @@ module _ (setup : Setup) (limits : HasLimits setup.part) (g : Grant) where
   unfolding alone_step served
   grant_holds (Frame proto frame) a books sure s = absurd s
   grant_holds (Up j now fault) a books sure s = went_up (slice_get a.up j) s where
+    by_proto : (proto : Proto) (bytes : List ℕ) (b : Book) → IsBookOf setup.part b → a.doubt ≡ None
+        → Stands (Granted g) (proto_lines setup.part (served_step setup fault a proto (datagram_served setup.part proto bytes (book_at now b))).effect (book_at now b) proto bytes)
+        → HoldsIn setup.part.lease g (served_step setup fault a proto (datagram_served setup.part proto bytes (book_at now b))).next
+    by_proto V4 bytes b book none s =
+        let done = message_served setup.part (book_at now b) (message_of bytes) in
+        let i = is_granted setup.part limits (book_at now b) (later_of setup.part now b book) g (served_step setup fault a V4 done).effect (message_of bytes) s in
+        by_sent setup.part.lease g done.is_kept (is_fault fault) _ _ _ i.is_kept refl i.sent
+        (saved setup.part.lease g setup a V4 done (keeps_new setup.part (book_at now b) done _ g i) (subst (λ (o : Option Book). IfSome o (Keeps setup.part.lease g)) (sym none) tt))
+    by_proto V6 bytes b book none s = absurd s
+
     opened : (d : Datagram) (b : Option Book) → IfSome b (IsBookOf setup.part) → IfSome b (λ b. a.doubt ≡ None)
         → Stands (Granted g) (datagram_lines setup.part (book_step setup now fault a d b).effect now b (Some d)) → HoldsIn setup.part.lease g (book_step setup now fault a d b).next
     opened d None book none s = absurd s
-    opened d (Some b) book none s =
-        let done = message_served setup.part (book_at now b) (message_of d.bytes) in
-        let i = is_granted setup.part limits (book_at now b) (later_of setup.part now b book) g (served_step setup fault a d.proto done).effect (message_of d.bytes) s in
-        by_sent setup.part.lease g done.is_kept (is_fault fault) _ _ _ i.is_kept refl i.sent
-        (saved setup.part.lease g setup a d.proto done (keeps_new setup.part (book_at now b) done _ g i) (subst (λ (o : Option Book). IfSome o (Keeps setup.part.lease g)) (sym none) tt))
+    opened d (Some b) book none s = by_proto d.proto d.bytes b book none s
 
     went_up : (d : Option Datagram) → Stands (Granted g) (datagram_lines setup.part (up_step setup now fault a d).effect now a.book d) → HoldsIn setup.part.lease g (up_step setup now fault a d).next
     went_up None s = absurd s
@@ -151,11 +163,16 @@ module _ (setup : Setup) (limits : HasLimits setup.part) (g : Grant) where
     by b clock own (inl past) = subst (λ t. g.until ≤ t) (sym clock) past
     by b clock own (inr (l, is, address, more)) = absurd (apart (own g.client (ap address_of is ∙ ap Some (address ∙ sym same))))
 
+    by_proto : (proto : Proto) (bytes : List ℕ) (b : Book) (effect : Effect) → IsBookOf setup.part b → Keeps setup.part.lease g b
+        → Stands (Granted h) (proto_lines setup.part effect (book_at now b) proto bytes) → g.until ≤ h.clock
+    by_proto V4 bytes b effect book keeps s =
+        let i = is_granted setup.part limits (book_at now b) (later_of setup.part now b book) h effect (message_of bytes) s in
+        by (book_at now b) i.clock i.own (keeps_later setup.part.lease now g b keeps).1
+    by_proto V6 bytes b effect book keeps s = absurd s
+
     opened : (d : Datagram) (b : Option Book) (effect : Effect) → IfSome b (IsBookOf setup.part) → IfSome b (Keeps setup.part.lease g) → Stands (Granted h) (datagram_lines setup.part effect now b (Some d)) → g.until ≤ h.clock
     opened d None effect book keeps s = absurd s
-    opened d (Some b) effect book keeps s =
-        let i = is_granted setup.part limits (book_at now b) (later_of setup.part now b book) h effect (message_of d.bytes) s in
-        by (book_at now b) i.clock i.own (keeps_later setup.part.lease now g b keeps).1
+    opened d (Some b) effect book keeps s = by_proto d.proto d.bytes b effect book keeps s
 
     went_up : (d : Option Datagram) (effect : Effect) → Stands (Granted h) (datagram_lines setup.part effect now a.book d) → g.until ≤ h.clock
     went_up None effect s = absurd s
@@ -169,9 +186,13 @@ module _ (setup : Setup) (limits : HasLimits setup.part) (g : Grant) where
   unfolding alone_step
   grants_pooled (Frame proto frame) a books s = absurd s
   grants_pooled (Up j now fault) a books s = went_up (slice_get a.up j) _ s where
+    by_proto : (proto : Proto) (bytes : List ℕ) (b : Book) (effect : Effect) → IsBookOf setup.part b → Stands (Granted g) (proto_lines setup.part effect (book_at now b) proto bytes) → IsInPool setup.part g.address
+    by_proto V4 bytes b effect book s = (is_granted setup.part limits (book_at now b) (later_of setup.part now b book) g effect (message_of bytes) s).in_pool
+    by_proto V6 bytes b effect book s = absurd s
+
     opened : (d : Datagram) (b : Option Book) (effect : Effect) → IfSome b (IsBookOf setup.part) → Stands (Granted g) (datagram_lines setup.part effect now b (Some d)) → IsInPool setup.part g.address
     opened d None effect book s = absurd s
-    opened d (Some b) effect book s = (is_granted setup.part limits (book_at now b) (later_of setup.part now b book) g effect (message_of d.bytes) s).in_pool
+    opened d (Some b) effect book s = by_proto d.proto d.bytes b effect book s
 
     went_up : (d : Option Datagram) (effect : Effect) → Stands (Granted g) (datagram_lines setup.part effect now a.book d) → IsInPool setup.part g.address
     went_up None effect s = absurd s

@@ -11,6 +11,8 @@ use Rattle.std.proofs.lemmas.Bool.Decides.{nat_tests}
 use Rattle.std.proofs.lemmas.Nat.{from_be_bytes-to_be_bytes_4}
 use Rattle.types.specs.Delivery.{DeliveryValue}
 use Rattle.types.specs.Addr.{number4, addr4}
+use Rattle.types.specs.declared.dest.Proto.{Proto}
+use Rattle.types.specs.declared.dest.Proto.TheVariants.{V4, V6}
 use Rattle.types.specs.declared.discard.Discard.{Discard}
 use Rattle.types.specs.declared.kind4.Kind4.{Kind4}
 use Rattle.types.specs.declared.kind4.Kind4.TheVariants.{Discover, Offer, Request, Decline, Ack, Nak, Release, Inform}
@@ -45,7 +47,7 @@ use Rattle.lease_disk.proofs.Books as region_books
 use Rattle.config.specs.CircuitPart.{CircuitPart, pool4_of}
 use Rattle.dispatch.specs.Leases.{book_in, counts_of, recovered_book}
 use Rattle.dispatch.specs.Request.{request_in}
-use Rattle.dispatch.specs.Server.{Book, IsBook, book_at, kept_book, request_served, message_served, served}
+use Rattle.dispatch.specs.Server.{Book, IsBook, book_at, kept_book, datagram_served, request_served, message_served, served}
 use Rattle.world.specs.Alone.{Alone, Setup, alone_step}
 use Rattle.world.specs.Books.{HasBooks, IsInPool, IsBookOf}
 use Rattle.events.specs.Seen.{Seen}
@@ -348,7 +350,10 @@ module _ (part : CircuitPart) where
 
   pub served_of : HasLimits part → (e : DeliveryValue) (b : Book) → IsBookOf part b → IsBookOf part (served part e b).book
   unfolding served
-  served_of limits e b book = message_of_part limits (book_at e.moment b) (later_of e.moment b book) (message_of e.bytes)
+  served_of limits e b book = by e.proto where
+    by : (proto : Proto) → IsBookOf part (datagram_served part proto e.bytes (book_at e.moment b)).book
+    by V4 = message_of_part limits (book_at e.moment b) (later_of e.moment b book) (message_of e.bytes)
+    by V6 = later_of e.moment b book
 
 pub own_step : (setup : Setup) → HasLimits setup.part → (s : Seen) (a : Alone) → HasBooks (IsBookOf setup.part) a → HasBooks (IsBookOf setup.part) (alone_step setup s a).next
 own_step setup limits = held_step (IsBookOf setup.part) setup (later_of setup.part) (kept_of setup.part) (served_of setup.part limits)

@@ -3,6 +3,8 @@
 use Rattle.std.specs.Prelude.{◌≡◌, ◌≤◌, ◌⊎◌, ℕ, ◌+◌, Bool, true, false, List, [], ◌∷◌, ◌++◌, Option, Some, None, Result, Ok, Err, slice_get, if◌then◌else◌}
 use Rattle.std.specs.FinMap.{get}
 use Rattle.types.specs.Addr.{number4}
+use Rattle.types.specs.declared.dest.Proto.{Proto}
+use Rattle.types.specs.declared.dest.Proto.TheVariants.{V4, V6}
 use Rattle.types.specs.declared.discard.Discard.{Discard}
 use Rattle.types.specs.declared.kind4.Kind4.{Kind4}
 use Rattle.types.specs.declared.kind4.Kind4.TheVariants as kind
@@ -86,10 +88,15 @@ abbrev pub message_lines : CircuitPart → Effect → Book → Result MessageVal
 message_lines part effect b (Err fault) = []
 message_lines part effect b (Ok m) = request_lines part effect b (request_in m)
 
+-- by the protocol; no DHCPv6 message is served yet
+abbrev pub proto_lines : CircuitPart → Effect → Book → Proto → List ℕ → List Line
+proto_lines part effect b V4 datagram = message_lines part effect b (message_of datagram)
+proto_lines part effect b V6 datagram = []
+
 abbrev pub datagram_lines : CircuitPart → Effect → ℕ → Option Book → Option Datagram → List Line
 datagram_lines part effect now b None = []
 datagram_lines part effect now None (Some d) = []
-datagram_lines part effect now (Some b) (Some d) = message_lines part effect (book_at now b) (message_of d.bytes)
+datagram_lines part effect now (Some b) (Some d) = proto_lines part effect (book_at now b) d.proto d.bytes
 
 -- what a step grants and ends
 abbrev pub lines : Setup → Seen → Alone → List Line
