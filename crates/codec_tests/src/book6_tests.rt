@@ -278,7 +278,10 @@ fn leased_to(book: &mut Book6, key: Key6, kind: Kind6) -> Option<u8> {
 
 fn last_of(ia: &ReplyIa) -> Option<u8> {
     match ia {
-        ReplyIa::Given(_, Addr6(bytes)) => Some(bytes[15]),
+        ReplyIa::Given(_, address) => {
+            let bytes = address.0;
+            Some(bytes[15])
+        }
         _ => None,
     }
 }

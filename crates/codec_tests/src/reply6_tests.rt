@@ -5,7 +5,8 @@ use fixtures::ONE_CIRCUIT;
 use replies::write6;
 use std::alloc::Global;
 use types::{
-    Addr6, CircuitId, MAX_CIRCUIT_ID, MAX_DUID, MAX_LISTED, Reply6, ReplyIa, ReplyKind6, Status6,
+    Addr6, CircuitId, MAX_CIRCUIT_ID, MAX_DUID, MAX_FRAME, MAX_LISTED, Reply6, ReplyIa, ReplyKind6,
+    Status6,
 };
 use v6_message::{Message6, Relay6};
 use v6_options::code;
@@ -67,6 +68,9 @@ fn write(
     let config = Config::read(alloc, ONE_CIRCUIT).ok()?;
     let circuit = config.circuit(&CircuitId::new(b"a")?)?;
     let part = CircuitPart::of(&config, circuit);
+    if solicit.len() > MAX_FRAME {
+        return None;
+    }
     let mut datagram = joined(&[forward])?;
     v6_options::put(code::RELAY_MESSAGE, solicit, &mut datagram).ok()?;
     let request = Relay6::read(datagram.as_slice()).ok()?;
