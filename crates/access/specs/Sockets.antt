@@ -1,12 +1,22 @@
 -- The addresses that sockets are bound to.
 use Rattle.std.specs.Prelude.{◌≡◌, ◌<◌, ◌+◌, ◌*◌, ◌⊎◌, ℕ, List, [], ◌∷◌, ⊤, length, Some, slice_get}
+use Rattle.std.specs.Net.Socket.{socket_ip, socket_port}
+use Rattle.std.specs.declared.net.ip_addr.IpAddr.TheVariants.{V4}
+use Rattle.std.specs.declared.net.socket_addr.SocketAddr.{SocketAddr}
 use Rattle.types.specs.declared.addr.Source.{Source}
+use Rattle.types.specs.declared.dest.Dest.{Dest}
+use Rattle.types.specs.declared.dest.Dest.TheVariants.{Broadcast, Unicast, Peer}
 use Rattle.settings.specs.declared.settings.RelayConfig.{RelayConfig}
 use Rattle.settings.specs.Settings.{Settings}
 use Rattle.access.specs.declared.access.AccessFault.{AccessFault}
 use Rattle.access.specs.declared.access.AccessFault.TheVariants as fault
 use Rattle.access.specs.declared.sockets.SocketFault.{SocketFault}
 use Rattle.access.specs.declared.sockets.SocketFault.TheVariants as socket
+
+-- the system's form of an IPv4 address and port
+pub record IsSystemForm (at : Source) (form : SocketAddr) : Type 0 where
+  pub ip : socket_ip form ≡ V4 (record { octets = at.addr.0 })
+  pub port : socket_port form ≡ at.port
 
 -- this port of 127.0.0.1
 abbrev pub local_port : ℕ → Source
@@ -34,3 +44,9 @@ RefusesSocket Bound fault.Memory = ⊤
 RefusesSocket Bound fault.Disk = ⊤
 RefusesSocket Bound (fault.Socket at) = Bound at
 RefusesSocket Bound fault.TooManyCircuits = ⊤
+
+-- the byte before a DHCPv4 frame on its way to a client
+abbrev pub destination_byte : Dest → ℕ
+destination_byte Broadcast = 0
+destination_byte (Unicast chaddr yiaddr) = 1
+destination_byte (Peer address) = 0

@@ -2,7 +2,7 @@
 ghost use Rattle.std.specs.Prelude.{◌≡◌, ◌≤◌, ◌<◌, ◌+◌, ◌↔◌, length, map, true, is_some, Some, slice_get, Err, IfOk, IfErr};
 ghost use Rattle.access.specs.Access.{HasReached, HasReceived};
 ghost use Rattle.access.specs.Counts.{more_by};
-ghost use Rattle.access.specs.Sockets.{IsSocket, RefusesSocket};
+ghost use Rattle.access.specs.Sockets.{IsSocket, RefusesSocket, destination_byte};
 ghost use Rattle.access.specs.declared.access.AccessFault.TheVariants as fault;
 ghost use Rattle.config.specs.CircuitPart.{parts_of};
 ghost use Rattle.dispatch.specs.Leases.{HasRegions};
@@ -308,7 +308,9 @@ impl Access {
 }
 
 /// What stands before a DHCPv4 frame on its way to a client: how the relay would send it there.
-fn destination_byte(dest: Dest) -> u8 {
+fn destination_byte(dest: Dest) -> u8
+    ensures { result ≡ destination_byte dest }
+{
     match dest {
         Dest::Unicast(_, _) => 1,
         _ => 0,

@@ -1,7 +1,9 @@
 //! What became of the datagrams that were received.
-ghost use Rattle.std.specs.Prelude.{◌≡◌, if◌then◌else◌, replicate, slice_index};
+ghost use Rattle.std.specs.Prelude.{◌≡◌, if◌then◌else◌, replicate, slice_index, Some};
+ghost use Rattle.std.specs.Fmt.{WritesOnOk};
+ghost use Rattle.std.specs.List.{flat_map};
 ghost use Rattle.types.specs.Discard.{number_of};
-ghost use Rattle.access.specs.Counts.{one_more, one_more_for};
+ghost use Rattle.access.specs.Counts.{one_more, one_more_for, reasons, totals_text, dropped_text, counts_text};
 
 use std::fmt;
 use types::Discard;
@@ -136,20 +138,49 @@ impl Counts {
     }
 }
 
+/// Writes one line of totals.
+fn write_totals<W: fmt::Write>(counts: &Counts, f: &mut fmt::Formatter<W>) -> fmt::Result
+    ensures { WritesOnOk W.write_str_gives f.old result (totals_text counts.now) f.new }
+{
+    let (received, relayed, answered) = (counts.received, counts.relayed, counts.answered);
+    let (delivered, unsent) = (counts.delivered, counts.unsent);
+    write!(
+        f,
+        "{received} datagrams received, {relayed} sent on to the server, {answered} answered, {delivered} sent on to a circuit, {unsent} not sent"
+    )
+}
+
+/// Writes a line for a reason, where a datagram was dropped for it.
+fn write_dropped<W: fmt::Write>(
+    counts: &Counts,
+    why: Discard,
+    f: &mut fmt::Formatter<W>,
+) -> fmt::Result
+    ensures { WritesOnOk W.write_str_gives f.old result (dropped_text counts.now.dropped why) f.new }
+{
+    let (dropped, number) = (counts.dropped(why), why.number());
+    if dropped == 0 {
+        return Ok(());
+    }
+    write!(f, "\n{dropped} dropped ({number}): {why}")
+}
+
+/// Writes a line for each reason for which a datagram was dropped.
+fn write_reasons<W: fmt::Write>(counts: &Counts, f: &mut fmt::Formatter<W>) -> fmt::Result
+    ensures { WritesOnOk W.write_str_gives f.old result (flat_map (dropped_text counts.now.dropped) reasons) f.new }
+{
+    'reasons: for why in REASONS.iter() {
+        write_dropped(counts, *why, f)?;
+    }
+    Ok(())
+}
+
+/// One line of totals, and one for each reason for which a datagram was dropped.
 impl fmt::Display for Counts {
-    /// One line of totals, and one for each reason for which a datagram was dropped.
+    ghost output = { λ counts. Some (counts_text counts) };
+
     fn fmt<W: fmt::Write>(&self, f: &mut fmt::Formatter<W>) -> fmt::Result {
-        write!(
-            f,
-            "{} datagrams received, {} sent on to the server, {} answered, {} sent on to a circuit, {} not sent",
-            self.received, self.relayed, self.answered, self.delivered, self.unsent
-        )?;
-        for why in REASONS {
-            let dropped = self.dropped(why);
-            if dropped > 0 {
-                write!(f, "\n{dropped} dropped ({}): {why}", why.number())?;
-            }
-        }
-        Ok(())
+        write_totals(self, f)?;
+        write_reasons(self, f)
     }
 }

@@ -1,5 +1,7 @@
 //! A UDP socket that never waits.
-ghost use Rattle.std.specs.Prelude.{◌≤◌, IfSome};
+ghost use Rattle.std.specs.Prelude.{◌≤◌, IfSome, IfNone};
+ghost use Rattle.types.specs.declared.addr.Source.{Source};
+ghost use Rattle.access.specs.Sockets.{IsSystemForm};
 
 use std::io;
 use std::net::{IpAddr, Ipv4Addr, Net, SocketAddr, UdpSocket};
@@ -16,13 +18,18 @@ pub struct DatagramSocket {
 }
 
 /// The system's form of an address and port.
-fn system_address(source: Source) -> SocketAddr {
+fn system_address(source: Source) -> SocketAddr
+    ensures { IsSystemForm source result }
+{
     let Addr4([a, b, c, d]) = source.addr;
     SocketAddr::new(IpAddr::V4(Ipv4Addr::new(a, b, c, d)), source.port)
 }
 
 /// An IPv4 address and port of the system's form.
-fn source_of(address: SocketAddr) -> Option<Source> {
+fn source_of(address: SocketAddr) -> Option<Source>
+    ensures some { IfSome result (λ source. IsSystemForm source address) }
+    ensures none { IfNone result ((source : Source) → ¬ IsSystemForm source address) }
+{
     match address.ip() {
         IpAddr::V4(ip) => Some(Source {
             addr: Addr4(ip.octets()),

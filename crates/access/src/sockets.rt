@@ -1,5 +1,5 @@
 //! The sockets of relay, server and circuits.
-ghost use Rattle.std.specs.Prelude.{◌≡◌, ◌≤◌, ◌<◌, ◌+◌, ◌⊎◌, length, All, IfOk, IfErr};
+ghost use Rattle.std.specs.Prelude.{◌≡◌, ◌≤◌, ◌<◌, ◌+◌, ◌*◌, ◌⊎◌, length, All, Some, slice_get, option_map, IfOk, IfErr};
 ghost use Rattle.access.specs.Sockets.{local_port, Refuses, IsCircuitSocket, IsRelaySocket, IsSocket};
 
 use crate::datagram_socket::DatagramSocket;
@@ -85,6 +85,8 @@ impl CircuitSockets {
         requires index { index < length config.now.circuits }
         requires most { port ≤ 65472 }
         ensures behind { IfOk result (λ circuit. circuit.relay < length config.now.relays) }
+        ensures relay { IfOk result (λ circuit. option_map (λ values. values.relay) (slice_get config.now.circuits index) ≡ Some circuit.relay) }
+        ensures client { IfOk result (λ circuit. circuit.client4 ≡ local_port (port + 4 * index + 2)) }
         ensures refused { IfErr result (Refuses (IsCircuitSocket (length config.now.circuits) port)) }
     {
         let Some(circuit) = Circuit::new(index) else {
