@@ -35,8 +35,8 @@ abbrev pub WritesAt : Bool → Option ℕ → Device → Device → Type 0
 WritesAt tells None old new = new ≡ old
 WritesAt tells (Some r) old new = Touches tells r old new
 
--- Bytes of region r were written from an offset on and synced, by two calls; after a fault the range
--- is in doubt.
+-- Bytes of region r were written from an offset on and synced, by two calls, of which one that fails is
+-- the last; after a fault the range is in doubt.
 pub record IsWritten {T E : Type 0} (tells : Bool) (r at : ℕ) (bytes : List ℕ) (result : Result T E) (old new : Device) : Type 0 where
   pub ok : tells ≡ true → OnOk result (new.region r ≡ synced (written at bytes (old.region r)))
   pub err : tells ≡ true → OnErr result (IsTorn at (length bytes) (old.region r) (new.region r))

@@ -41,8 +41,9 @@ fn open_gate<D: Disk>(region: u16, disk: &mut D, bank: Bank) -> Result<(), Fault
     write_synced(region, disk, bank.at(), &[GATE_OPEN])
 }
 
-/// Saves the slots of a circuit in its region, by six calls of the device. After an error the region
-/// is not written to again until a crash has settled what is in doubt.
+/// Saves the slots of a circuit in its region, by six calls of the device, of which one that fails is
+/// the last. After an error the region is not written to again until a crash has settled what is in
+/// doubt.
 pub fn save<D: Disk>(
     region: u16,
     disk: &mut D,
