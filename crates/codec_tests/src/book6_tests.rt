@@ -290,9 +290,14 @@ fn last_of(ia: &ReplyIa) -> Option<u8> {
 /// and one of 130 that begins with them, the least and the greatest IAID of each.
 fn are_four_clients(book: &mut Book6, kind: Kind6) -> bool {
     let duid = [7; 130];
-    let associations = [(3, 0), (3, u32::MAX), (130, 0), (130, u32::MAX)];
-    for ((len, iaid), last) in associations.iter().zip([0x10, 0x11, 0x12, 0x13]) {
-        let Some(key) = Key6::new(&duid[..*len], *iaid) else {
+    let associations = [
+        (3, 0, 0x10),
+        (3, u32::MAX, 0x11),
+        (130, 0, 0x12),
+        (130, u32::MAX, 0x13),
+    ];
+    for (len, iaid, last) in associations {
+        let Some(key) = Key6::new(&duid[..len], iaid) else {
             return false;
         };
         if leased_to(book, key, kind) != Some(last) {
