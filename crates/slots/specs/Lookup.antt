@@ -44,4 +44,4 @@ module _ {K : Type 0} where
 
   -- the slot for a client: the one that it has, the one that it asks for, the first vacant one
   abbrev pub picked_slot : ℕ → List (Option (Holder K)) → Option ℕ → Option ℕ → Option ℕ
-  picked_slot clock slots held wanted = or_else held (or_else (where_vacant clock slots wanted) (position (is_vacant clock) slots))
+  picked_slot clock slots own requested = or_else own (or_else (where_vacant clock slots requested) (position (is_vacant clock) slots))

@@ -45,21 +45,21 @@ fn first_vacant_slot<K>(slots: &[Option<Holder<K>>], clock: u64) -> Option<usize
 /// vacant one.
 pub fn picked_slot<K>(
     slots: &[Option<Holder<K>>],
-    held: Option<usize>,
-    wanted: Option<usize>,
+    own_slot: Option<usize>,
+    requested_slot: Option<usize>,
     clock: u64,
 ) -> Option<usize>
-    requires held { IfSome held (λ slot. slot < length slots.now) }
-    requires wanted { IfSome wanted (λ slot. slot < length slots.now) }
-    ensures slot { result ≡ picked_slot clock slots.now held wanted }
+    requires own { IfSome own_slot (λ slot. slot < length slots.now) }
+    requires requested { IfSome requested_slot (λ slot. slot < length slots.now) }
+    ensures slot { result ≡ picked_slot clock slots.now own_slot requested_slot }
     ensures below { IfSome result (λ slot. slot < length slots.now) }
 {
-    if held.is_some() {
-        return held;
+    if own_slot.is_some() {
+        return own_slot;
     }
-    if let Some(slot) = wanted {
+    if let Some(slot) = requested_slot {
         if is_vacant(&slots[slot], clock) {
-            return wanted;
+            return requested_slot;
         }
     }
     first_vacant_slot(slots, clock)

@@ -1,4 +1,4 @@
--- The number of each reason: the table of reasons.
+-- The table of reasons: the number of each, and its words.
 use Rattle.std.specs.Prelude.{ℕ, List, codes}
 use Rattle.types.specs.declared.discard.Discard.{Discard}
 use Rattle.types.specs.declared.discard.Discard.TheVariants.{TooLong, MalformedUp, NotRequest, HasGiaddr, HasOption82, Hops, WrongType, NestedRelay, UnknownSource, Malformed, NotRelayed, UnknownCircuit, WrongLink, NoOverride, ClientKey, OtherServer, NoAddress, NoRecord, CircuitClosed, NotServed, DiskFault, NothingToSay, NotServer, MalformedDown, UnknownCircuitDown, WrongLinkDown}
