@@ -71,6 +71,7 @@ is_part settings c circuit copy relay listen4 listen6 duid there copied limits s
     subst P (sym copied) (record {
       id = limits.id;
       pool4 = limits.pool4;
+      pool6 = record { least = limits.least_count6; most = limits.most_count6; no_wrap = limits.no_wrap6; shortest = limits.pool4.shortest; longest = limits.pool4.longest };
       gateway4_size = size4;
       gateway4 = gateway_is_given settings c circuit there sound;
       link6_size = size6;

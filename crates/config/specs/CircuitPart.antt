@@ -3,6 +3,7 @@
 use Rattle.std.specs.Prelude.{◌≡◌, ℕ, zero, suc, List, [], ◌∷◌, length, map, slice_get, Option, false}
 use Rattle.types.specs.Addr.{is_unspecified}
 use Rattle.types.specs.Pool4.{IsPool4, PoolValue}
+use Rattle.types.specs.Pool6.{IsPool6, Pool6Value}
 use Rattle.types.specs.CircuitId.{IsCircuitId}
 use Rattle.types.specs.declared.addr.Addr4.{Addr4}
 use Rattle.types.specs.declared.addr.Source.{Source}
@@ -77,10 +78,14 @@ listen_of part V6 = part.listen6
 abbrev pub pool4_of : CircuitPart → PoolValue
 pool4_of part = record { first = part.first4; count = part.count4; gateway = part.gateway4; lease = part.lease }
 
+abbrev pub pool6_of : CircuitPart → Pool6Value
+pool6_of part = record { first = record { 0 = part.first6 }; count = part.count6; lease = part.lease }
+
 -- What a part has of the configuration's rules. Its gateway is a host of its subnet, so it is not 0.0.0.0.
 pub record IsPart (part : CircuitPart) : Type 0 where
   pub id : IsCircuitId part.id
   pub pool4 : IsPool4 part.first4 part.count4 part.lease
+  pub pool6 : IsPool6 (record { 0 = part.first6 }) part.count6 part.lease
   pub gateway4_size : length part.gateway4.0 ≡ 4
   pub gateway4 : is_unspecified part.gateway4.0 ≡ false
   pub link6_size : length part.link6 ≡ 16

@@ -2,13 +2,14 @@
 ghost use Rattle.std.specs.Prelude.{◌≡◌, ◌<◌, [], ◌∷◌, length, false, take, Some};
 ghost use Rattle.types.specs.Addr.{is_unspecified};
 ghost use Rattle.types.specs.Pool4.{IsPool4};
-ghost use Rattle.config.specs.CircuitPart.{IsPart, listen_of, part_in, pool4_of};
+ghost use Rattle.types.specs.Pool6.{IsPool6};
+ghost use Rattle.config.specs.CircuitPart.{IsPart, listen_of, part_in, pool4_of, pool6_of};
 
 use crate::config::Config;
 use arrayvec::ArrayVec;
 use settings::{CircuitConfig, MAX_DNS, copy_of};
 use std::marker::Model;
-use types::{Addr4, Addr6, Circuit, CircuitId, MAX_DUID, Pool4, Proto, Source};
+use types::{Addr4, Addr6, Circuit, CircuitId, MAX_DUID, Pool4, Pool6, Proto, Source};
 
 /// A circuit's values, with the source of its relay and the server's values. It is a copy, so that
 /// relay and server don't need the configuration once they are open.
@@ -143,6 +144,16 @@ impl CircuitPart {
         let values = &self.circuit;
         let pool = Pool4::new(values.first4, values.count4, values.gateway4, values.lease);
         let Some(pool) = pool else { unreachable!() };
+        pool
+    }
+
+    pub fn pool6(&self) -> Pool6
+        ensures { result ≡ pool6_of self.now }
+    {
+        let values = &self.circuit;
+        let Some(pool) = Pool6::new(values.first6, values.count6, values.lease) else {
+            unreachable!()
+        };
         pool
     }
 }
