@@ -131,7 +131,6 @@ fn an_expired_lease_beside_a_live_one_of_its_client(rt: HostRuntime) -> Result<(
     let mut expected = empty();
     expected.clock = Moment::new(101).unwrap();
     let client = Key4::new(&[1, 2]).unwrap();
-    expected.four[0] = Slot4::Bound(client, 101);
     expected.four[1] = Slot4::Bound(client, 701);
     let mut disk = disk_with(rt.alloc(), &bytes)?;
     let found = recover(0, &mut disk, [16, 16]);

@@ -1,6 +1,6 @@
 -- What a region recovers to is a book.
-use Rattle.std.proofs.Common.{◌≡◌, ℕ, ◌+◌, ◌<◌, ◌≤◌, Bool, true, false, ◌&&◌, nat_le, nat_lt, suc, zero, List, [], ◌∷◌, length, map, replicate, get_or, slice_index, All, zero-add, ◌*◌, Option, Some, None, refl, sym, ap, ◌∙◌, subst, arith}
-use Rattle.std.specs.Prelude.{if◌then◌else◌, ◌==◌}
+use Rattle.std.proofs.Common.{◌≡◌, ℕ, ◌+◌, ◌<◌, ◌≤◌, Bool, true, false, ◌&&◌, nat_le, nat_lt, suc, zero, List, [], ◌∷◌, length, replicate, get_or, slice_index, All, zero-add, ◌*◌, Option, Some, None, refl, sym, ap, ◌∙◌, subst, arith}
+use Rattle.std.specs.Prelude.{if◌then◌else◌, option_map, ◌==◌}
 use Rattle.std.proofs.lemmas.List.{get_or_past}
 use Rattle.std.specs.Int.{w32, from_be_bytes}
 use Rattle.types.specs.Key6.{Key6Value}
@@ -135,6 +135,44 @@ module _ {A : Type 0} (read : ℕ → Option A) (free : A) (count : ℕ) (xs : L
   past i h = past_all xs free i (nat_lt i (length xs)) refl
       (λ k. past_pool free (read i) (nat_lt i count) (get_or xs i free) (not_below i count h) (slot_at (λ i. if nat_lt i count then read i else Some free) 16 xs are i free k))
 
+-- a slot at a clock is live, and within its limit
+
+stays4 : (clock : ℕ) (x : Slot4) (b : Bool) → (b ≡ true → live4 clock x ≡ x) → live4 clock (if b then x else S4.Free) ≡ (if b then x else S4.Free)
+stays4 clock x true h = h refl
+stays4 clock x false h = refl
+
+live_twice4 : (clock : ℕ) (slot : Slot4) → live4 clock (live4 clock slot) ≡ live4 clock slot
+live_twice4 clock S4.Free = refl
+live_twice4 clock (S4.Bound key until) = stays4 clock (S4.Bound key until) (nat_lt clock until) (λ e. rw e refl)
+live_twice4 clock (S4.Barred until) = stays4 clock (S4.Barred until) (nat_lt clock until) (λ e. rw e refl)
+
+within_if4 : (b : Bool) (x : Slot4) → IsWithin4 x → IsWithin4 (if b then x else S4.Free)
+within_if4 true x h = h
+within_if4 false x h = tt
+
+live_within4 : (clock : ℕ) (slot : Slot4) → IsWithin4 slot → IsWithin4 (live4 clock slot)
+live_within4 clock S4.Free h = tt
+live_within4 clock (S4.Bound key until) h = within_if4 (nat_lt clock until) (S4.Bound key until) h
+live_within4 clock (S4.Barred until) h = within_if4 (nat_lt clock until) (S4.Barred until) h
+
+stays6 : (clock : ℕ) (x : Slot6) (b : Bool) → (b ≡ true → live6 clock x ≡ x) → live6 clock (if b then x else S6.Free) ≡ (if b then x else S6.Free)
+stays6 clock x true h = h refl
+stays6 clock x false h = refl
+
+live_twice6 : (clock : ℕ) (slot : Slot6) → live6 clock (live6 clock slot) ≡ live6 clock slot
+live_twice6 clock S6.Free = refl
+live_twice6 clock (S6.Bound key until) = stays6 clock (S6.Bound key until) (nat_lt clock until) (λ e. rw e refl)
+live_twice6 clock (S6.Barred until) = stays6 clock (S6.Barred until) (nat_lt clock until) (λ e. rw e refl)
+
+within_if6 : (b : Bool) (x : Slot6) → IsWithin6 x → IsWithin6 (if b then x else S6.Free)
+within_if6 true x h = h
+within_if6 false x h = tt
+
+live_within6 : (clock : ℕ) (slot : Slot6) → IsWithin6 slot → IsWithin6 (live6 clock slot)
+live_within6 clock S6.Free h = tt
+live_within6 clock (S6.Bound key until) h = within_if6 (nat_lt clock until) (S6.Bound key until) h
+live_within6 clock (S6.Barred until) h = within_if6 (nat_lt clock until) (S6.Barred until) h
+
 -- a slot is within its limit
 
 read_within4 : (a p b l c : Bool) (key : List ℕ) (until : ℕ) (x : Slot4) → (p ≡ false → until ≤ last_until)
@@ -174,34 +212,50 @@ record HasSlots (clock : ℕ) (four : Option (List Slot4)) (six : Option (List S
   pub clock_is : clock ≡ slots.clock
   pub four_are : four ≡ Some slots.four
   pub six_are : six ≡ Some slots.six
-  pub once4 : none_twice same_client4 (map (live4 slots.clock) slots.four) ≡ true
-  pub once6 : none_twice same_client6 (map (live6 slots.clock) slots.six) ≡ true
+  pub once4 : none_twice same_client4 slots.four ≡ true
+  pub once6 : none_twice same_client6 slots.six ≡ true
 
 has_slots : (clock : ℕ) (four : Option (List Slot4)) (six : Option (List Slot6)) (slots : Slots) → book_with clock four six ≡ Some slots → HasSlots clock four six slots
 has_slots clock (Some four) (Some six) slots e =
-    let p = passes (nat_le clock last_clock) (none_twice same_client4 (map (live4 clock) four)) (none_twice same_client6 (map (live6 clock) six)) (record { four = four; six = six; clock = clock }) slots e in
+    let p = passes (nat_le clock last_clock) (none_twice same_client4 four) (none_twice same_client6 six) (record { four = four; six = six; clock = clock }) slots e in
     let k : record { four = four; six = six; clock = clock } ≡ slots = p.2 in
     record {
       clock_is = ap (λ (s : Slots). s.clock) k;
       four_are = ap (λ (s : Slots). Some s.four) k;
       six_are = ap (λ (s : Slots). Some s.six) k;
-      once4 = ap (λ (s : Slots). none_twice same_client4 (map (live4 s.clock) s.four)) (sym k) ∙ p.0;
-      once6 = ap (λ (s : Slots). none_twice same_client6 (map (live6 s.clock) s.six)) (sym k) ∙ p.1;
+      once4 = ap (λ (s : Slots). none_twice same_client4 s.four) (sym k) ∙ p.0;
+      once6 = ap (λ (s : Slots). none_twice same_client6 s.six) (sym k) ∙ p.1;
     }
 has_slots clock None six slots e = cc
 has_slots clock (Some four) None slots e = cc
 
+-- what a function makes of what was read
+of_mapped : {A : Type 0} → (f : A → A) (P : A → Type 0) (o : Option A) (x : A) → ((y : A) → o ≡ Some y → P (f y)) → option_map f o ≡ Some x → P x
+of_mapped f P (Some y) x h e = subst P (same_some (f y) x e) (h y refl)
+of_mapped f P None x h e = cc
+
 pub bank_book : (counts : List ℕ) (bank : ℕ → ℕ) (slots : Slots) → book_of counts bank ≡ Some slots → IsBook counts slots
 unfolding book_of
 bank_book counts bank slots e =
-    let s = has_slots (clock_of bank) (slots_from (four_in (slice_index counts 0) bank) 0 16) (slots_from (six_in (slice_index counts 1) bank) 0 16) slots e in
-    let read4 : ℕ → Option Slot4 = λ i. slot4_of (from (32 + 80 * i) bank) in
-    let read6 : ℕ → Option Slot6 = λ i. slot6_of (from (1312 + 152 * i) bank) in
+    let clock = clock_of bank in
+    let s = has_slots clock (slots_from (four_in (slice_index counts 0) bank) 0 16) (slots_from (six_in (slice_index counts 1) bank) 0 16) slots e in
+    let bytes4 : ℕ → Option Slot4 = λ i. slot4_of (from (32 + 80 * i) bank) in
+    let bytes6 : ℕ → Option Slot6 = λ i. slot6_of (from (1312 + 152 * i) bank) in
+    let read4 : ℕ → Option Slot4 = λ i. option_map (live4 clock) (bytes4 i) in
+    let read6 : ℕ → Option Slot6 = λ i. option_map (live6 clock) (bytes6 i) in
+    let lives4 : All (λ x. live4 clock x ≡ x) slots.four =
+    each read4 S4.Free (slice_index counts 0) slots.four s.four_are (λ x. live4 clock x ≡ x) refl (λ i y. of_mapped (live4 clock) (λ x. live4 clock x ≡ x) (bytes4 i) y (λ z h. live_twice4 clock z)) in
+    let lives6 : All (λ x. live6 clock x ≡ x) slots.six =
+    each read6 S6.Free (slice_index counts 1) slots.six s.six_are (λ x. live6 clock x ≡ x) refl (λ i y. of_mapped (live6 clock) (λ x. live6 clock x ≡ x) (bytes6 i) y (λ z h. live_twice6 clock z)) in
     record {
       past4 = past read4 S4.Free (slice_index counts 0) slots.four s.four_are;
       past6 = past read6 S6.Free (slice_index counts 1) slots.six s.six_are;
-      within4 = each read4 S4.Free (slice_index counts 0) slots.four s.four_are IsWithin4 tt (λ i. slot4_within (from (32 + 80 * i) bank));
-      within6 = each read6 S6.Free (slice_index counts 1) slots.six s.six_are IsWithin6 tt (λ i. slot6_within (from (1312 + 152 * i) bank));
+      live4 = subst (λ (t : ℕ). All (λ x. live4 t x ≡ x) slots.four) s.clock_is lives4;
+      live6 = subst (λ (t : ℕ). All (λ x. live6 t x ≡ x) slots.six) s.clock_is lives6;
+      within4 = each read4 S4.Free (slice_index counts 0) slots.four s.four_are IsWithin4 tt
+          (λ i y. of_mapped (live4 clock) IsWithin4 (bytes4 i) y (λ z h. live_within4 clock z (slot4_within (from (32 + 80 * i) bank) z h)));
+      within6 = each read6 S6.Free (slice_index counts 1) slots.six s.six_are IsWithin6 tt
+          (λ i y. of_mapped (live6 clock) IsWithin6 (bytes6 i) y (λ z h. live_within6 clock z (slot6_within (from (1312 + 152 * i) bank) z h)));
       once4 = s.once4;
       once6 = s.once6;
     }

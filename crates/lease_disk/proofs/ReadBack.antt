@@ -1,6 +1,6 @@
 -- What is written to a bank is what is read from it.
-use Rattle.std.proofs.Common.{◌≡◌, ℕ, ◌+◌, ◌-◌, ◌*◌, ◌<◌, ◌≤◌, Bool, true, false, nat_le, nat_lt, suc, zero, List, [], ◌∷◌, ◌++◌, length, map, take, drop, replicate, get_or, slice_index, All, Option, Some, refl, sym, ap, ◌∙◌, subst, arith, append_assoc, zero-add}
-use Rattle.std.specs.Prelude.{if◌then◌else◌}
+use Rattle.std.proofs.Common.{◌≡◌, ℕ, ◌+◌, ◌-◌, ◌*◌, ◌<◌, ◌≤◌, Bool, true, false, nat_le, nat_lt, suc, zero, List, [], ◌∷◌, ◌++◌, length, take, drop, replicate, get_or, slice_index, All, Option, Some, refl, sym, ap, ◌∙◌, subst, arith, append_assoc, zero-add}
+use Rattle.std.specs.Prelude.{if◌then◌else◌, option_map}
 use Rattle.std.specs.Int.{w32, w64, to_be_bytes, from_be_bytes}
 use Rattle.std.specs.List.{flat_map}
 use Rattle.std.proofs.lemmas.List.{get_or-append-add, length-append, length-replicate}
@@ -64,6 +64,10 @@ slot6_read (S6.Bound key until) post k w =
       bytes_before ((1 ∷ length key.duid ∷ replicate 2 0) ++ to_be_bytes w32 key.iaid ++ to_be_bytes w64 until) key.duid (replicate (136 - length key.duid) 0) post 16 refl,
     ) refl
 slot6_read (S6.Barred until) post k w = rw (fits_8 until w, not_past until w) refl
+
+-- a slot that is live at the clock is read as it was written
+stays_live : {A : Type 0} → (live : ℕ → A → A) (o : Option A) (x : A) (kept clock : ℕ) → o ≡ Some x → kept ≡ clock → live clock x ≡ x → option_map (live kept) o ≡ Some x
+stays_live live o x kept clock e c l = (λ i. option_map (live (c i)) (e i)) ∙ ap Some l
 
 -- all slots by what each reads as
 all_read : {A : Type 0} → (read : ℕ → Option A) (xs : List A) (d : A) (i : ℕ) → ((j : ℕ) → j < length xs → read (i + j) ≡ Some (get_or xs j d)) → slots_from read i (length xs) ≡ Some xs
@@ -148,7 +152,7 @@ assoc_four a b c d = simp append_assoc
 assoc_six : (a b c d : List ℕ) → ((a ++ b) ++ c) ++ d ≡ (a ++ b) ++ (c ++ d)
 assoc_six a b c d = append_assoc (a ++ b) c d
 
-pub book_of_slots : (clock : ℕ) (four : List Slot4) (six : List Slot6) → clock ≤ last_clock → none_twice same_client4 (map (live4 clock) four) ≡ true → none_twice same_client6 (map (live6 clock) six) ≡ true
+pub book_of_slots : (clock : ℕ) (four : List Slot4) (six : List Slot6) → clock ≤ last_clock → none_twice same_client4 four ≡ true → none_twice same_client6 six ≡ true
     → book_with clock (Some four) (Some six) ≡ Some (record { four = four; six = six; clock = clock })
 book_of_slots clock four six h p q = rw (at_least clock last_clock h, p, q) refl
 
@@ -175,9 +179,9 @@ book_read counts slots sequence bank e n4 n6 small keys4 keys6 book =
     let l4 : length four ≡ 1280 = sizes_all slot4_bytes 80 slots.four (λ i d l. size4 (get_or slots.four i d) (keys4 i d l)) ∙ rw n4 refl in
     let l6 : length (front ++ four) ≡ 1312 = length-append front four ∙ rw l4 refl in
     let r4 : slots_from (four_in (slice_index counts 0) (slice_index bank)) 0 16 ≡ Some slots.four =
-    slots_read slot4_bytes slot4_of S4.Free 80 32 (slice_index counts 0) slots.four bank front (six ++ rest) as4 refl n4
-    (λ i d l. size4 (get_or slots.four i d) (keys4 i d l)) (λ i d l post. slot4_read (get_or slots.four i d) post (keys4 i d l) (book.within4 i d l)) book.past4 in
+    slots_read slot4_bytes (λ s. option_map (live4 (clock_of (slice_index bank))) (slot4_of s)) S4.Free 80 32 (slice_index counts 0) slots.four bank front (six ++ rest) as4 refl n4
+    (λ i d l. size4 (get_or slots.four i d) (keys4 i d l)) (λ i d l post. stays_live live4 _ (get_or slots.four i d) _ slots.clock (slot4_read (get_or slots.four i d) post (keys4 i d l) (book.within4 i d l)) c (book.live4 i d l)) book.past4 in
     let r6 : slots_from (six_in (slice_index counts 1) (slice_index bank)) 0 16 ≡ Some slots.six =
-    slots_read slot6_bytes slot6_of S6.Free 152 1312 (slice_index counts 1) slots.six bank (front ++ four) rest as6 l6 n6
-    (λ i d l. size6 (get_or slots.six i d) (keys6 i d l)) (λ i d l post. slot6_read (get_or slots.six i d) post (keys6 i d l) (book.within6 i d l)) book.past6 in
+    slots_read slot6_bytes (λ s. option_map (live6 (clock_of (slice_index bank))) (slot6_of s)) S6.Free 152 1312 (slice_index counts 1) slots.six bank (front ++ four) rest as6 l6 n6
+    (λ i d l. size6 (get_or slots.six i d) (keys6 i d l)) (λ i d l post. stays_live live6 _ (get_or slots.six i d) _ slots.clock (slot6_read (get_or slots.six i d) post (keys6 i d l) (book.within6 i d l)) c (book.live6 i d l)) book.past6 in
     (λ i. book_with (c i) (r4 i) (r6 i)) ∙ (book_of_slots slots.clock slots.four slots.six small book.once4 book.once6)

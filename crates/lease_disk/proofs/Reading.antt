@@ -1,13 +1,16 @@
 -- Reading slots one after the other.
-use Rattle.std.proofs.Common.{◌≡◌, ℕ, ◌+◌, ◌-◌, ◌<◌, ◌≤◌, Bool, true, false, not, ◌&&◌, ◌||◌, suc, zero, List, [], ◌∷◌, ◌++◌, length, map, take, drop, set, get_or, slice_index, Option, Some, None, refl, sym, ap, ◌∙◌, arith, append_assoc, drop-cons, add-one}
-use Rattle.std.specs.Prelude.{nat_le}
+use Rattle.std.proofs.Common.{◌≡◌, ℕ, ◌+◌, ◌-◌, ◌<◌, ◌≤◌, Bool, true, false, ◌&&◌, suc, zero, List, [], ◌∷◌, ◌++◌, length, take, drop, set, get_or, slice_index, Option, Some, None, refl, sym, ap, ◌∙◌, arith, append_assoc, drop-cons, add-one}
+use Rattle.std.specs.Prelude.{nat_le, nat_lt, if◌then◌else◌, option_map}
 use Rattle.std.specs.List.{list_any}
 use Rattle.types.specs.declared.slot4.Slot4.{Slot4}
+use Rattle.types.specs.declared.slot4.Slot4.TheVariants as S4
 use Rattle.types.specs.declared.slots.Slot6.{Slot6}
+use Rattle.types.specs.declared.slots.Slot6.TheVariants as S6
 use Rattle.std.proofs.lemmas.List.{append-nil, length-drop, length-set, get_or-drop, take_more_set, take_all}
 use Rattle.types.specs.Slots.{same_client4, same_client6, live4, live6, none_twice}
 use Rattle.lease_disk.proofs.ReadBack.{book_of_slots}
-use Rattle.lease_disk.specs.Recovered.{book_of, book_with, bytes_at, from, clock_of, four_in, six_in, cons_some, slots_from}
+use Rattle.lease_disk.specs.Layout.{four_at, six_at}
+use Rattle.lease_disk.specs.Recovered.{book_of, book_with, bytes_at, from, clock_of, slot4_of, slot6_of, four_in, six_in, cons_some, slots_from}
 
 pub bytes_at_slice : (xs : List ℕ) (at n : ℕ) → at + n ≤ length xs → bytes_at (slice_index xs) at n ≡ take n (drop at xs)
 bytes_at_slice xs at zero h = refl
@@ -85,15 +88,6 @@ behind reads bank at = ap (λ ys. reads (slice_index ys)) (take_all (length bank
 rest_is : {A : Type 0} → (xs : List A) (at : ℕ) → take (length xs - at) (drop at xs) ≡ drop at xs
 rest_is {A} xs at = take_all (length xs - at) (drop at xs) (omega (arith, length-drop {A = A}))
 
--- no two are alike by what a function makes of them
-any_mapped : {A : Type 0} → (alike : A → Bool) (f : A → A) (xs : List A) → list_any alike (map f xs) ≡ list_any (λ x. alike (f x)) xs
-any_mapped alike f [] = refl
-any_mapped alike f (x ∷ xs) = ap (λ b. alike (f x) || b) (any_mapped alike f xs)
-
-pub twice_mapped : {A : Type 0} → (alike : A → A → Bool) (f : A → A) (xs : List A) → none_twice alike (map f xs) ≡ none_twice (λ a b. alike (f a) (f b)) xs
-twice_mapped alike f [] = refl
-twice_mapped alike f (x ∷ xs) = λ i. not (any_mapped (alike (f x)) f xs i) && twice_mapped alike f xs i
-
 pub no_twin_behind : {A : Type 0} → (alike : A → A → Bool) (xs : List A) (i : ℕ) (x : A) (all : Bool) → i < length xs → x ≡ get_or xs i x
     → false ≡ list_any (alike x) (take (length xs - (i + 1)) (drop (i + 1) xs)) → all ≡ none_twice alike (drop i xs) → all ≡ none_twice alike (drop (i + 1) xs)
 no_twin_behind alike xs i x all h e p q = q ∙ twice_not_here alike xs i x h e (ap (λ ys. list_any (alike x) ys) (sym (rest_is xs (i + 1))) ∙ sym p)
@@ -101,6 +95,15 @@ no_twin_behind alike xs i x all h e p q = q ∙ twice_not_here alike xs i x h e 
 pub twin_behind : {A : Type 0} → (alike : A → A → Bool) (xs : List A) (i : ℕ) (x : A) (all : Bool) → i < length xs → x ≡ get_or xs i x
     → true ≡ list_any (alike x) (take (length xs - (i + 1)) (drop (i + 1) xs)) → all ≡ none_twice alike (drop i xs) → false ≡ all
 twin_behind alike xs i x all h e p q = sym (q ∙ twice_here alike xs i x h e (ap (λ ys. list_any (alike x) ys) (sym (rest_is xs (i + 1))) ∙ sym p))
+
+-- slots read at a clock that is the kept one
+pub four_at_clock : (count : ℕ) (bank : ℕ → ℕ) (clock : ℕ) (o : Option (List Slot4)) → clock ≡ clock_of bank
+    → o ≡ slots_from (λ i. if nat_lt i count then option_map (live4 clock) (slot4_of (from (four_at i) bank)) else Some S4.Free) 0 16 → o ≡ slots_from (four_in count bank) 0 16
+four_at_clock count bank clock o c e = e ∙ (λ j. slots_from (λ i. if nat_lt i count then option_map (live4 (c j)) (slot4_of (from (four_at i) bank)) else Some S4.Free) 0 16)
+
+pub six_at_clock : (count : ℕ) (bank : ℕ → ℕ) (clock : ℕ) (o : Option (List Slot6)) → clock ≡ clock_of bank
+    → o ≡ slots_from (λ i. if nat_lt i count then option_map (live6 clock) (slot6_of (from (six_at i) bank)) else Some S6.Free) 0 16 → o ≡ slots_from (six_in count bank) 0 16
+six_at_clock count bank clock o c e = e ∙ (λ j. slots_from (λ i. if nat_lt i count then option_map (live6 (c j)) (slot6_of (from (six_at i) bank)) else Some S6.Free) 0 16)
 
 pub no_four : (counts : List ℕ) (bank : ℕ → ℕ) → None ≡ slots_from (four_in (slice_index counts 0) bank) 0 16 → None ≡ book_of counts bank
 unfolding book_of
@@ -124,7 +127,7 @@ book_late clock four six h = let e : nat_le clock 1099511627775 ≡ false = grin
 
 pub book_whole : (counts : List ℕ) (bank : ℕ → ℕ) (seconds clock : ℕ) (four : List Slot4) (six : List Slot6) (a b : Bool)
     → seconds ≡ clock_of bank → Some four ≡ slots_from (four_in (slice_index counts 0) bank) 0 16 → Some six ≡ slots_from (six_in (slice_index counts 1) bank) 0 16
-    → clock ≡ seconds → seconds ≤ 1099511627775 → a ≡ none_twice same_client4 (map (live4 seconds) four) → b ≡ none_twice same_client6 (map (live6 seconds) six) → a ≡ true → b ≡ true
+    → clock ≡ seconds → seconds ≤ 1099511627775 → a ≡ none_twice same_client4 four → b ≡ none_twice same_client6 six → a ≡ true → b ≡ true
     → Some (record { four = four; six = six; clock = clock }) ≡ book_of counts bank
 book_whole counts bank seconds clock four six a b c e f v small p q h k =
     (λ i. Some (record { four = four; six = six; clock = v i })) ∙ sym (book_of_slots seconds four six small (sym p ∙ h) (sym q ∙ k)) ∙ book_is counts bank seconds four six c e f
@@ -135,9 +138,9 @@ and_false false = refl
 
 pub book_twice4 : (counts : List ℕ) (bank : ℕ → ℕ) (clock : ℕ) (four : List Slot4) (six : List Slot6) (a : Bool)
     → clock ≡ clock_of bank → Some four ≡ slots_from (four_in (slice_index counts 0) bank) 0 16 → Some six ≡ slots_from (six_in (slice_index counts 1) bank) 0 16
-    → a ≡ none_twice same_client4 (map (live4 clock) four) → a ≡ false → None ≡ book_of counts bank
+    → a ≡ none_twice same_client4 four → a ≡ false → None ≡ book_of counts bank
 book_twice4 counts bank clock four six a c e f p h =
-    let q : none_twice same_client4 (map (live4 clock) four) ≡ false = sym p ∙ h in
+    let q : none_twice same_client4 four ≡ false = sym p ∙ h in
     (rw (q, and_false (nat_le clock 1099511627775)) refl) ∙ book_is counts bank clock four six c e f
 
 and_late : (a b : Bool) → (a && b && false) ≡ false
@@ -146,7 +149,7 @@ and_late false b = refl
 
 pub book_twice6 : (counts : List ℕ) (bank : ℕ → ℕ) (clock : ℕ) (four : List Slot4) (six : List Slot6) (b : Bool)
     → clock ≡ clock_of bank → Some four ≡ slots_from (four_in (slice_index counts 0) bank) 0 16 → Some six ≡ slots_from (six_in (slice_index counts 1) bank) 0 16
-    → b ≡ none_twice same_client6 (map (live6 clock) six) → b ≡ false → None ≡ book_of counts bank
+    → b ≡ none_twice same_client6 six → b ≡ false → None ≡ book_of counts bank
 book_twice6 counts bank clock four six b c e f p h =
-    let q : none_twice same_client6 (map (live6 clock) six) ≡ false = sym p ∙ h in
-    (rw (q, and_late (nat_le clock 1099511627775) (none_twice same_client4 (map (live4 clock) four))) refl) ∙ book_is counts bank clock four six c e f
+    let q : none_twice same_client6 six ≡ false = sym p ∙ h in
+    (rw (q, and_late (nat_le clock 1099511627775) (none_twice same_client4 four)) refl) ∙ book_is counts bank clock four six c e f

@@ -1,5 +1,5 @@
 -- What a bank is written for: slots within their limits, and their bytes. Bytes not named are 0.
-use Rattle.std.specs.Prelude.{◌≡◌, ℕ, ◌-◌, ◌≤◌, true, List, ◌∷◌, ◌++◌, length, map, replicate, All, slice_index, slice_index_or}
+use Rattle.std.specs.Prelude.{◌≡◌, ℕ, ◌-◌, ◌≤◌, true, List, ◌∷◌, ◌++◌, length, replicate, All, slice_index, slice_index_or}
 use Rattle.std.specs.Int.{w32, w64, to_be_bytes}
 use Rattle.std.specs.List.{flat_map}
 use Rattle.types.specs.declared.slot4.Slot4.{Slot4}
@@ -9,15 +9,17 @@ use Rattle.types.specs.declared.slots.Slot6.TheVariants as S6
 use Rattle.types.specs.declared.slots.Slots.{Slots}
 use Rattle.types.specs.Slots.{IsWithin4, IsWithin6, live4, live6, none_twice, same_client4, same_client6}
 
--- the slots of a book for pools of so many addresses: a slot past the pool is free, and no client has
--- two that are live
+-- the slots of a book for pools of so many addresses: a slot past the pool is free, what is not free
+-- is live, and no client has two
 pub record IsBook (counts : List ℕ) (slots : Slots) : Type 0 where
   pub past4 : (i : ℕ) → slice_index counts 0 ≤ i → slice_index_or slots.four i S4.Free ≡ S4.Free
   pub past6 : (i : ℕ) → slice_index counts 1 ≤ i → slice_index_or slots.six i S6.Free ≡ S6.Free
+  pub live4 : All (λ slot. live4 slots.clock slot ≡ slot) slots.four
+  pub live6 : All (λ slot. live6 slots.clock slot ≡ slot) slots.six
   pub within4 : All IsWithin4 slots.four
   pub within6 : All IsWithin6 slots.six
-  pub once4 : none_twice same_client4 (map (live4 slots.clock) slots.four) ≡ true
-  pub once6 : none_twice same_client6 (map (live6 slots.clock) slots.six) ≡ true
+  pub once4 : none_twice same_client4 slots.four ≡ true
+  pub once6 : none_twice same_client6 slots.six ≡ true
 
 -- no client has anything
 abbrev pub empty_book : Slots

@@ -1,7 +1,6 @@
 -- What the bytes of a region mean: the slots that a book begins with, or None where the region is
--- damaged. One of format 2 counts as damaged: only format 1 is read. What has expired is still in them:
--- a book leaves it out.
-use Rattle.std.specs.Prelude.{ℕ, ◌+◌, ◌%◌, ◌==◌, Bool, not, ◌&&◌, ◌||◌, nat_le, nat_lt, suc, zero, if◌then◌else◌, List, [], ◌∷◌, map, slice_index, Option, Some, None}
+-- damaged. One of format 2 counts as damaged: only format 1 is read.
+use Rattle.std.specs.Prelude.{ℕ, ◌+◌, ◌%◌, ◌==◌, Bool, not, ◌&&◌, ◌||◌, nat_le, nat_lt, suc, zero, if◌then◌else◌, List, [], ◌∷◌, slice_index, Option, Some, None, option_map}
 use Rattle.std.specs.Int.{w32, w64, from_be_bytes}
 use Rattle.types.specs.declared.slot4.Slot4.{Slot4}
 use Rattle.types.specs.declared.slot4.Slot4.TheVariants as S4
@@ -105,17 +104,18 @@ abbrev pub slots_from : {A : Type 0} → (ℕ → Option A) → ℕ → ℕ → 
 slots_from read i zero = Some []
 slots_from read i (suc n) = cons_some (read i) (slots_from read (suc i) n)
 
--- the i-th slot of a pool of so many addresses: a slot past them is not read, and free
+-- the i-th slot of a pool of so many addresses at the kept clock: free where it has expired; a slot
+-- past the pool is not read, and free
 abbrev pub four_in : ℕ → (ℕ → ℕ) → ℕ → Option Slot4
-four_in count bank i = if nat_lt i count then slot4_of (from (four_at i) bank) else Some S4.Free
+four_in count bank i = if nat_lt i count then option_map (live4 (clock_of bank)) (slot4_of (from (four_at i) bank)) else Some S4.Free
 
 abbrev pub six_in : ℕ → (ℕ → ℕ) → ℕ → Option Slot6
-six_in count bank i = if nat_lt i count then slot6_of (from (six_at i) bank) else Some S6.Free
+six_in count bank i = if nat_lt i count then option_map (live6 (clock_of bank)) (slot6_of (from (six_at i) bank)) else Some S6.Free
 
 -- the clock within its limit, and no client with two live leases of one protocol
 abbrev pub book_with : ℕ → Option (List Slot4) → Option (List Slot6) → Option Slots
 book_with clock (Some four) (Some six) =
-    if nat_le clock last_clock && none_twice same_client4 (map (live4 clock) four) && none_twice same_client6 (map (live6 clock) six)
+    if nat_le clock last_clock && none_twice same_client4 four && none_twice same_client6 six
     then Some (record { four = four; six = six; clock = clock })
     else None
 book_with clock _ _ = None

@@ -1,12 +1,12 @@
 //! The slots that a bank holds.
-ghost use Rattle.std.specs.Prelude.{◌≡◌, ◌≤◌, ◌+◌, ◌<◌, ℕ, Bool, nat_lt, if◌then◌else◌, length, map, slice_index, Option, Some, None};
+ghost use Rattle.std.specs.Prelude.{◌≡◌, ◌≤◌, ◌+◌, ◌<◌, ℕ, Bool, nat_lt, if◌then◌else◌, length, slice_index, Option, Some, None, option_map};
 ghost use Rattle.std.specs.Int.{w32, w64, from_be_bytes};
 ghost use Rattle.std.specs.List.{list_any};
 ghost use Rattle.types.specs.Slots.{live4, live6, none_twice, same_client4, same_client6};
 ghost use Rattle.types.specs.declared.slot4.Slot4.TheVariants as S4;
 ghost use Rattle.types.specs.declared.slots.Slot6.TheVariants as S6;
 ghost use Rattle.lease_disk.specs.Layout.{four_at, six_at};
-ghost use Rattle.lease_disk.specs.Recovered.{bytes_at, from, slot4_of, slot6_of, slots_from, book_of};
+ghost use Rattle.lease_disk.specs.Recovered.{bytes_at, from, clock_of, slot4_of, slot6_of, slots_from, book_of};
 
 use super::layout::{CLOCK_AT, FOUR_AT, FOUR_SIZE, IAID_AT, KEY_AT, SIX_AT, SIX_SIZE, UNTIL_AT};
 use byteorder::{BigEndian, ByteOrder};
@@ -101,9 +101,13 @@ trait Slot: Copy {
         requires exists { i < 16 }
         ensures { result ≡ in_bank (slice_index bank.now) i };
 
-    /// Whether both are live at this clock and have one client.
-    fn is_twin(self, other: Self, clock: u64) -> bool
-        ensures { result ≡ same_client (live clock self) (live clock other) };
+    /// The slot at a clock, in seconds: free where what it holds has expired.
+    fn at_clock(self, clock: u64) -> Self
+        ensures { result ≡ live clock self };
+
+    /// Whether both are bound, and to one client.
+    fn is_twin(self, other: Self) -> bool
+        ensures { result ≡ same_client self other };
 }
 
 impl Slot for Slot4 {
@@ -121,9 +125,12 @@ impl Slot for Slot4 {
         read_slot4(&bank[FOUR_AT + FOUR_SIZE * i..])
     }
 
-    fn is_twin(self, other: Slot4, clock: u64) -> bool {
-        let (own, other) = (self.live_at(clock), other.live_at(clock));
-        match (&own, &other) {
+    fn at_clock(self, clock: u64) -> Slot4 {
+        self.live_at(clock)
+    }
+
+    fn is_twin(self, other: Slot4) -> bool {
+        match (&self, &other) {
             (Slot4::Bound(a, _), Slot4::Bound(b, _)) => a == b,
             _ => false,
         }
@@ -145,52 +152,56 @@ impl Slot for Slot6 {
         read_slot6(&bank[SIX_AT + SIX_SIZE * i..])
     }
 
-    fn is_twin(self, other: Slot6, clock: u64) -> bool {
-        let (own, other) = (self.live_at(clock), other.live_at(clock));
-        match (&own, &other) {
+    fn at_clock(self, clock: u64) -> Slot6 {
+        self.live_at(clock)
+    }
+
+    fn is_twin(self, other: Slot6) -> bool {
+        match (&self, &other) {
             (Slot6::Bound(a, _), Slot6::Bound(b, _)) => a == b,
             _ => false,
         }
     }
 }
 
-/// The i-th slot of a pool of so many addresses. One past them is not read, and free.
-fn read_slot<S: Slot>(bank: &[u8], count: u8, i: usize) -> Option<S>
+/// The i-th slot of a pool of so many addresses, at a clock. One past them is not read, and free.
+fn read_slot<S: Slot>(bank: &[u8], count: u8, clock: u64, i: usize) -> Option<S>
     requires all { length bank.now ≡ 4096 }
     requires exists { i < 16 }
-    ensures { result ≡ (if nat_lt i count then S.in_bank (slice_index bank.now) i else Some S.FREE) }
+    ensures { result ≡ (if nat_lt i count then option_map (S.live clock) (S.in_bank (slice_index bank.now) i) else Some S.FREE) }
 {
-    if i < usize::from(count) {
-        return S::read(bank, i);
+    if i >= usize::from(count) {
+        return Some(S::FREE);
     }
-    Some(S::FREE)
+    let slot = S::read(bank, i)?;
+    Some(slot.at_clock(clock))
 }
 
-/// The 16 slots of a bank, for a pool of so many addresses.
-fn read_slots<S: Slot>(bank: &[u8], count: u8) -> Option<[S; 16]>
+/// The 16 slots of a bank at a clock, for a pool of so many addresses.
+fn read_slots<S: Slot>(bank: &[u8], count: u8, clock: u64) -> Option<[S; 16]>
     requires { length bank.now ≡ 4096 }
-    ensures { result ≡ slots_from (λ i. if nat_lt i count then S.in_bank (slice_index bank.now) i else Some S.FREE) 0 16 }
+    ensures { result ≡ slots_from (λ i. if nat_lt i count then option_map (S.live clock) (S.in_bank (slice_index bank.now) i) else Some S.FREE) 0 16 }
 {
     let mut slots = [S::FREE; 16];
     'slots: for i in 0..16 {
-        slots[i] = read_slot(bank, count, i)?;
+        slots[i] = read_slot(bank, count, clock, i)?;
     }
     Some(slots)
 }
 
-/// Whether this slot and one of those are live at a clock and have one client.
-fn has_twin<S: Slot>(slots: &[S], slot: S, clock: u64) -> bool
-    ensures { result ≡ list_any (λ other. S.same_client (S.live clock slot) (S.live clock other)) slots.now }
+/// Whether one of those slots has this one's client.
+fn has_twin<S: Slot>(slots: &[S], slot: S) -> bool
+    ensures { result ≡ list_any (S.same_client slot) slots.now }
 {
-    slots.iter().any(|other| slot.is_twin(*other, clock))
+    slots.iter().any(|other| slot.is_twin(*other))
 }
 
-/// Whether no client has two slots that are live at this clock.
-fn has_no_twins<S: Slot>(slots: &[S], clock: u64) -> bool
-    ensures { result ≡ none_twice S.same_client (map (S.live clock) slots.now) }
+/// Whether no client has two slots.
+fn has_no_twins<S: Slot>(slots: &[S]) -> bool
+    ensures { result ≡ none_twice S.same_client slots.now }
 {
     for (i, slot) in slots.iter().enumerate() {
-        if has_twin(&slots[i + 1..], *slot, clock) {
+        if has_twin(&slots[i + 1..], *slot) {
             return false;
         }
     }
@@ -204,13 +215,13 @@ pub fn read_bank(bank: &[u8], counts: [u8; 2]) -> Option<Slots>
     ensures { result ≡ book_of counts (slice_index bank.now) }
 {
     let seconds = number8(bank, CLOCK_AT);
-    let four = read_slots::<Slot4>(bank, counts[0])?;
-    let six = read_slots::<Slot6>(bank, counts[1])?;
+    let four = read_slots::<Slot4>(bank, counts[0], seconds)?;
+    let six = read_slots::<Slot6>(bank, counts[1], seconds)?;
     let clock = Moment::new(seconds)?;
-    if !has_no_twins(&four, seconds) {
+    if !has_no_twins(&four) {
         return None;
     }
-    if !has_no_twins(&six, seconds) {
+    if !has_no_twins(&six) {
         return None;
     }
     Some(Slots { four, six, clock })

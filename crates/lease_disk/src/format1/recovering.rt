@@ -143,10 +143,9 @@ fn read_region<D: Disk>(
     Ok(Some((slots, marks)))
 }
 
-/// Reads a region back: its slots and the kept clock, for pools of so many DHCPv4 and DHCPv6
-/// addresses, and the marks that the next save wants. What has expired is still in its slot: a book
-/// leaves it out. Slots past a pool's count are not read, and are free in the answer. Unsynced bytes
-/// count as they read now. Takes no memory.
+/// Reads a region back: its live slots at the kept clock, for pools of so many DHCPv4 and DHCPv6
+/// addresses, and the marks that the next save wants. Slots past a pool's count are not read, and
+/// are free in the answer. Unsynced bytes count as they read now. Takes no memory.
 pub fn recover<D: Disk>(
     region: u16,
     disk: &mut D,
