@@ -1,13 +1,10 @@
 //! The server's DHCPv6 replies, on bytes worked out by hand.
 use arrayvec::ArrayVec;
 use config::{CircuitPart, Config};
-use fixtures::ONE_CIRCUIT;
+use fixtures::TWO_CIRCUITS;
 use replies::write6;
 use std::alloc::Global;
-use types::{
-    Addr6, CircuitId, MAX_CIRCUIT_ID, MAX_DUID, MAX_FRAME, MAX_LISTED, Reply6, ReplyIa, ReplyKind6,
-    Status6,
-};
+use types::{Addr6, CircuitId, Key6, MAX_FRAME, MAX_LISTED, Reply6, ReplyIa, ReplyKind6, Status6};
 use v6_message::{Message6, Relay6};
 use v6_options::code;
 use wire::PacketBuf;
@@ -57,7 +54,8 @@ fn joined(parts: &[&[u8]]) -> Option<PacketBuf> {
     Some(out)
 }
 
-/// Writes circuit `a`'s reply to this message in this Relay-forward; `None` where a value cannot be made.
+/// Writes the reply to this message in this Relay-forward, of circuit `a` or of one with the longest id; `None`
+/// where a value cannot be made.
 fn write(
     alloc: Global,
     forward: &[u8],
@@ -65,20 +63,20 @@ fn write(
     reply: &Reply6,
     out: &mut PacketBuf,
 ) -> Option<()> {
-    let config = Config::read(alloc, ONE_CIRCUIT).ok()?;
-    let circuit = config.circuit(&CircuitId::new(b"a")?)?;
-    let part = CircuitPart::of(&config, circuit);
+    let longest = "id = 'aaaaaaaaaaaaaaaaaaaaaaaaaaaaaaaa'";
+    let text = TWO_CIRCUITS.replace(alloc, "id = 'a1'", longest).ok()?;
+    let config = Config::read(alloc, text.as_str()).ok()?;
     if solicit.len() > MAX_FRAME {
         return None;
     }
     let mut datagram = joined(&[forward])?;
     v6_options::put(code::RELAY_MESSAGE, solicit, &mut datagram).ok()?;
     let request = Relay6::read(datagram.as_slice()).ok()?;
+    let circuit = config.circuit(&CircuitId::new(request.interface_id()?)?)?;
+    let part = CircuitPart::of(&config, circuit);
     let message = Message6::read(solicit).ok()?;
-    if request.interface_id()?.len() > MAX_CIRCUIT_ID || message.client_id()?.len() > MAX_DUID {
-        return None;
-    }
-    write6(&part, &request, &message, reply, out);
+    let client = Key6::new(message.client_id()?, message.ia().iaid())?;
+    write6(&part, &request, &message, &client, reply, out);
     Some(())
 }
 

@@ -1,6 +1,7 @@
 //! What holds of every reply: functions that do nothing, for their contracts.
 ghost use Rattle.std.specs.Prelude.{◌≡◌, ◌≤◌, ℕ, List, length, Ok, Some};
 ghost use Rattle.config.specs.CircuitPart.{CircuitPart, IsPart};
+ghost use Rattle.types.specs.Key6.{Key6Value};
 ghost use Rattle.types.specs.declared.request4.Reply4.{Reply4};
 ghost use Rattle.types.specs.declared.request6.Reply6.{Reply6};
 ghost use Rattle.v4_message.specs.Header.{IsSized};
@@ -26,16 +27,16 @@ pub fn reply_is_read()
     written_is_read();
 }
 
-/// What the server writes reads back as the Relay-reply that it is, with the request's interface id and
-/// the client's reply in it.
+/// What the server writes reads back as the Relay-reply that it is, with the circuit id as its interface id
+/// and the client's reply in it.
 pub fn reply6_is_read()
-    ensures read { (part : CircuitPart) (request : RelayValue) (message : message6.MessageValue) (reply : Reply6)
-        → length request.link_address ≡ 16 → length request.peer_address ≡ 16 → length (reply6.reply6_bytes part request message reply) ≤ 1280
-        → relay_of (reply6.reply6_bytes part request message reply) ≡ Ok (reply6.relay_reply part request message reply) }
-    ensures interface { (part : CircuitPart) (request : RelayValue) (message : message6.MessageValue) (reply : Reply6)
-        → look_up INTERFACE_ID (reply6.relay_reply part request message reply).options ≡ look_up INTERFACE_ID request.options }
-    ensures message { (part : CircuitPart) (request : RelayValue) (message : message6.MessageValue) (reply : Reply6)
-        → look_up RELAY_MESSAGE (reply6.relay_reply part request message reply).options ≡ Some (message6.message_bytes (reply6.reply_message part message reply)) }
+    ensures read { (part : CircuitPart) (request : RelayValue) (message : message6.MessageValue) (client : Key6Value) (reply : Reply6)
+        → length request.link_address ≡ 16 → length request.peer_address ≡ 16 → length (reply6.reply6_bytes part request message client reply) ≤ 1280
+        → relay_of (reply6.reply6_bytes part request message client reply) ≡ Ok (reply6.relay_reply part request message client reply) }
+    ensures interface { (part : CircuitPart) (request : RelayValue) (message : message6.MessageValue) (client : Key6Value) (reply : Reply6)
+        → look_up INTERFACE_ID (reply6.relay_reply part request message client reply).options ≡ Some part.id }
+    ensures message { (part : CircuitPart) (request : RelayValue) (message : message6.MessageValue) (client : Key6Value) (reply : Reply6)
+        → look_up RELAY_MESSAGE (reply6.relay_reply part request message client reply).options ≡ Some (message6.message_bytes (reply6.reply_message part message client reply)) }
 {
     written_relay_is_read();
 }

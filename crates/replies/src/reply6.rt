@@ -1,37 +1,36 @@
 //! The datagrams of DHCPv6 replies (RFC 8415, sections 18.3 and 19.3).
-ghost use Rattle.std.specs.Prelude.{◌≡◌, ◌≤◌, ◌+◌, [], ◌∷◌, ◌++◌, length, map, None, IfSome, option_map};
-ghost use Rattle.v6_options.specs.Codes.{CLIENT_ID, IA_NA, INTERFACE_ID, RELAY_MESSAGE};
-ghost use Rattle.v6_options.specs.Spelling.{look_up, option, spelling};
+ghost use Rattle.std.specs.Prelude.{◌≡◌, ◌≤◌, ◌+◌, [], ◌∷◌, ◌++◌, length, map, None};
+ghost use Rattle.v6_options.specs.Codes.{IA_NA, INTERFACE_ID, RELAY_MESSAGE};
+ghost use Rattle.v6_options.specs.Spelling.{option, spelling};
 ghost use Rattle.v6_message.specs.Ia.{ia_header};
 ghost use Rattle.v6_message.specs.Message.{message_bytes};
 ghost use Rattle.v6_message.specs.Relay.{relay_header};
-ghost use Rattle.replies.specs.Reply6.{address_option, echo, ia_options, ia_with_addresses, ia_with_status, reply6_bytes, reply_message, reply_options, status_option, status_options};
+ghost use Rattle.replies.specs.Reply6.{address_option, ia_options, ia_with_addresses, ia_with_status, reply6_bytes, reply_message, reply_options, status_option, status_options};
 
 use arrayvec::ArrayVec;
 use config::CircuitPart;
-use types::{Addr6, MAX_LISTED, Reply6, ReplyIa, ReplyKind6, Status6};
+use types::{Addr6, Key6, MAX_LISTED, Reply6, ReplyIa, ReplyKind6, Status6};
 use v6_message::{IaAddress, IaHeader, Message6, MessageHeader, RELAY_REPLY, Relay6, RelayHeader};
 use v6_options::code;
 use wire::PacketBuf;
 
-/// Writes a reply to the message in this Relay-forward over whatever `out` held.
+/// Writes a reply to this client's message in this Relay-forward of the circuit, over whatever `out` held.
 pub fn write6(
     part: &CircuitPart,
     request: &Relay6<'_>,
     message: &Message6<'_>,
+    client: &Key6,
     reply: &Reply6,
     out: &mut PacketBuf,
 )
-    requires client { IfSome (look_up CLIENT_ID message.now.options) (λ id. length id ≤ 130) }
-    requires interface { IfSome (look_up INTERFACE_ID request.now.options) (λ id. length id ≤ 32) }
-    ensures bytes { out.new ≡ reply6_bytes part.now request.now message.now reply.now }
+    ensures bytes { out.new ≡ reply6_bytes part.now request.now message.now client.now reply.now }
     ensures fits { length out.new ≤ 508 }
     ensures without_status { reply.now.status ≡ None → length out.new ≤ 502 }
 {
     let mut inside = PacketBuf::new();
-    put_message(part, message, reply, &mut inside);
+    put_message(part, message, client, reply, &mut inside);
     put_header(request, out);
-    put_echo(code::INTERFACE_ID, request.interface_id(), out);
+    put(code::INTERFACE_ID, part.id().as_bytes(), out);
     put_inside(&inside, out);
 }
 
@@ -60,10 +59,15 @@ fn put_inside(message: &PacketBuf, out: &mut PacketBuf)
 }
 
 /// The client's reply: at most 434 bytes.
-fn put_message(part: &CircuitPart, message: &Message6<'_>, reply: &Reply6, out: &mut PacketBuf)
-    requires client { IfSome (look_up CLIENT_ID message.now.options) (λ id. length id ≤ 130) }
-    requires room { length out.old + 434 ≤ 1280 }
-    ensures bytes { out.new ≡ out.old ++ message_bytes (reply_message part.now message.now reply.now) }
+fn put_message(
+    part: &CircuitPart,
+    message: &Message6<'_>,
+    client: &Key6,
+    reply: &Reply6,
+    out: &mut PacketBuf,
+)
+    requires { length out.old + 434 ≤ 1280 }
+    ensures bytes { out.new ≡ out.old ++ message_bytes (reply_message part.now message.now client.now reply.now) }
     ensures len { length out.new ≤ length out.old + 434 }
     ensures without_status { reply.now.status ≡ None → length out.new ≤ length out.old + 428 }
 {
@@ -72,21 +76,20 @@ fn put_message(part: &CircuitPart, message: &Message6<'_>, reply: &Reply6, out: 
         transaction_id: message.transaction_id(),
     };
     let _ = header.write(out);
-    put_options(part, message, reply, out);
+    put_options(part, client, reply, out);
 }
 
 /// The options in the order sent: at most 430 bytes.
-fn put_options(part: &CircuitPart, message: &Message6<'_>, reply: &Reply6, out: &mut PacketBuf)
-    requires client { IfSome (look_up CLIENT_ID message.now.options) (λ id. length id ≤ 130) }
-    requires room { length out.old + 430 ≤ 1280 }
-    ensures bytes { out.new ≡ out.old ++ spelling (reply_options part.now message.now reply.now) }
+fn put_options(part: &CircuitPart, client: &Key6, reply: &Reply6, out: &mut PacketBuf)
+    requires { length out.old + 430 ≤ 1280 }
+    ensures bytes { out.new ≡ out.old ++ spelling (reply_options part.now client.now reply.now) }
     ensures len { length out.new ≤ length out.old + 430 }
     ensures without_status { reply.now.status ≡ None → length out.new ≤ length out.old + 424 }
 {
-    put_echo(code::CLIENT_ID, message.client_id(), out);
+    put(code::CLIENT_ID, client.duid(), out);
     put(code::SERVER_ID, part.duid().as_slice(), out);
     put_status_of_all(reply.status, out);
-    put_ia(part.lease(), message.ia().iaid(), &reply.ia, out);
+    put_ia(part.lease(), client.iaid(), &reply.ia, out);
 }
 
 /// The status of the whole message, if it has one: at most 6 bytes.
@@ -191,17 +194,6 @@ fn put_status(status: Status6, out: &mut PacketBuf)
     ensures len { length out.new ≡ length out.old + 6 }
 {
     put(code::STATUS_CODE, &status.code().to_be_bytes(), out);
-}
-
-/// An option of the request as it came, if there is one.
-fn put_echo(code: u16, value: Option<&[u8]>, out: &mut PacketBuf)
-    requires { length out.old + length (spelling (echo code (option_map (λ value. value.now) value))) ≤ 1280 }
-    ensures bytes { out.new ≡ out.old ++ spelling (echo code (option_map (λ value. value.now) value.entry)) }
-    ensures len { length out.new ≡ length out.old + length (spelling (echo code (option_map (λ value. value.now) value.entry))) }
-{
-    if let Some(value) = value {
-        put(code, value, out);
-    }
 }
 
 /// Appends an option for which there is room.
