@@ -4,62 +4,21 @@ use Rattle.std.specs.Prelude.{Option, Some, None, if◌then◌else◌}
 use Rattle.std.proofs.lemmas.Bool.{lt-ltb, le-ltb}
 use Rattle.types.specs.Delivery.{DeliveryValue}
 use Rattle.types.specs.declared.discard.Discard.{Discard}
-use Rattle.types.specs.declared.dest.Proto.{Proto}
-use Rattle.types.specs.declared.dest.Proto.TheVariants.{V4, V6}
-use Rattle.types.specs.declared.discard.Discard.TheVariants.{DiskFault, NotServed}
-use Rattle.types.specs.declared.request4.Request4.{Request4}
-use Rattle.types.specs.declared.request4.Reply4.{Reply4}
-use Rattle.v4_message.specs.Reading.{message_of}
-use Rattle.v4_message.specs.Spelling.{MessageValue}
-use Rattle.config.specs.CircuitPart.{CircuitPart, pool4_of}
-use Rattle.bindings_v4.specs.Book4.{Book4}
-use Rattle.bindings_v4.specs.Table4.{Decision, answer4}
+use Rattle.types.specs.declared.discard.Discard.TheVariants.{DiskFault}
+use Rattle.config.specs.CircuitPart.{CircuitPart}
 use Rattle.lease_disk.specs.Device.{Device, Touches, WritesAt}
 use Rattle.lease_disk.specs.Region.{Region, effective, faults_after}
 use Rattle.dispatch.specs.Leases.{Leases, after_datagram, kept, restarts_of, restarts_after}
-use Rattle.v6_message.specs.Relay.{RelayValue}
-use Rattle.dispatch.specs.declared.addressee.Relayed.TheVariants.{Four, Six}
-use Rattle.dispatch.specs.Relayed.{IsRelayed}
 use Rattle.dispatch.specs.Received.{after_save, answered, circuit_saves, fails_at, saves}
-use Rattle.dispatch.specs.Request.{request_in}
-use Rattle.dispatch.specs.Server.{Book, Served, book_at, datagram_served, decision_served, drop, message_served, reply_to, request_served, served}
+use Rattle.dispatch.specs.Server.{Book, Served, book_at, datagram_served, served}
 use Rattle.dispatch.specs.ServerValue.{CircuitServerValue, OpenCircuitValue, book_of, leases_of, open_book}
 
--- ---- what is decided
+-- ---- what is served
 
-by_proto : (part : CircuitPart) (d : DeliveryValue) (b : Book) (proto : Proto) → d.proto ≡ proto → served part d b ≡ datagram_served part proto d.bytes (book_at d.moment b)
+-- at the moment's book
+pub asked : (part : CircuitPart) (d : DeliveryValue) (b later : Book) (done : Served) → later ≡ book_at d.moment b → datagram_served part d.proto d.bytes later ≡ done → served part d b ≡ done
 unfolding served
-by_proto part d b proto is = ap (λ p. datagram_served part p d.bytes (book_at d.moment b)) is
-
--- what was read says which protocol the datagram has
-pub is_four : (proto : Proto) (datagram : List ℕ) (m : MessageValue) → IsRelayed proto datagram (Four m) → (proto ≡ V4) × (message_of datagram ≡ Ok m)
-is_four V4 datagram m read = (refl, read)
-is_four V6 datagram m read = absurd read
-
-pub is_six : (proto : Proto) (datagram : List ℕ) (m : RelayValue) → IsRelayed proto datagram (Six m) → proto ≡ V6
-is_six V4 datagram m read = absurd read
-is_six V6 datagram m read = refl
-
--- no DHCPv6 message is served yet
-pub not_served : (part : CircuitPart) (d : DeliveryValue) (b later : Book) → d.proto ≡ V6 → later ≡ book_at d.moment b → served part d b ≡ drop NotServed later
-not_served part d b later six ticked = by_proto part d b V6 six ∙ ap (drop NotServed) (sym ticked)
-
-module _ (part : CircuitPart) (d : DeliveryValue) (m : MessageValue) (four : d.proto ≡ V4) (read : message_of d.bytes ≡ Ok m) (b later : Book) (ticked : later ≡ book_at d.moment b) where
-  of_message : served part d b ≡ request_served part m later (request_in m)
-  of_message = by_proto part d b V4 four ∙ ap (message_served part (book_at d.moment b)) read ∙ ap (λ x. request_served part m x (request_in m)) (sym ticked)
-
-  pub refused : (why : Discard) → request_in m ≡ Err why → served part d b ≡ drop why later
-  refused why is = of_message ∙ ap (request_served part m later) is
-
-  pub decided : (request : Request4) → request_in m ≡ Ok request
-      → served part d b ≡ decision_served part m later.clock (answer4 (pool4_of part) later.clock later.four request)
-  decided request is = of_message ∙ ap (request_served part m later) is
-
--- what is served, by the decision as the code has it
-module _ (part : CircuitPart) (m : MessageValue) (clock : ℕ) (decision : Decision) (answer : Result Reply4 Discard) (four : Book4) (is_kept : Bool)
-    (answer_is : answer ≡ decision.answer) (book_is : four ≡ decision.book) (kept_is : is_kept ≡ decision.is_kept) where
-  pub served_as : decision_served part m clock decision ≡ record { answer = reply_to part m answer; book = record { clock = clock; four = four }; is_kept = is_kept }
-  served_as = λ i. record { answer = reply_to part m (sym answer_is i); book = record { clock = clock; four = sym book_is i }; is_kept = sym kept_is i }
+asked part d b later done ticked is = ap (datagram_served part d.proto d.bytes) (sym ticked) ∙ is
 
 -- ---- after the save
 

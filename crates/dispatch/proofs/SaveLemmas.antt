@@ -56,29 +56,3 @@ module _ (part : CircuitPart) (b : Book) (slots : Slots) (old new : Region) (mea
   after_save fuse gate (Ok done) clean answer saved left =
       subst (λ n. restarts_of part new ≡ restarts_after n b (restarts_of part old)) (sym (eqb-true (effective 6 fuse) 0 (sym answer))) (after_ok saved)
   after_save fuse gate (Err fault) clean answer saved left = after_err fuse gate clean left (nat_le fuse 6) refl (sym answer)
-
--- ---- what is saved
-
-none_past : (n i : ℕ) → slice_index_or (replicate n S6.Free) i S6.Free ≡ S6.Free
-none_past zero i = refl
-none_past (suc n) zero = refl
-none_past (suc n) (suc i) = none_past n i
-
--- slots that are all live are what is left of them at their clock
-all_live : (clock : ℕ) (four : List Slot4) → All (λ slot. live4 clock slot ≡ slot) four → map (live4 clock) four ≡ four
-all_live clock [] live = refl
-all_live clock (x ∷ xs) live = λ i. live 0 x (omega arith) i ∷ all_live clock xs (λ k d h. live (suc k) d (omega (arith, h))) i
-
--- A book of DHCPv4 leases alone.
-pub is_book : (counts : List ℕ) (slots : Slots) → slots.six ≡ replicate 16 S6.Free
-    → ((i : ℕ) → slice_index counts 0 ≤ i → slice_index_or slots.four i S4.Free ≡ S4.Free)
-    → All (λ slot. live4 slots.clock slot ≡ slot) slots.four → All IsWithin4 slots.four → none_twice same_client4 slots.four ≡ true
-    → IsBook counts slots
-is_book counts slots free past live within once = record {
-  past4 = past;
-  past6 = λ i h. ap (λ six. slice_index_or six i S6.Free) free ∙ none_past 16 i;
-  within4 = within;
-  within6 = subst (All IsWithin6) (sym free) (All-replicate IsWithin6 16 S6.Free tt);
-  once4 = ap (none_twice same_client4) (all_live slots.clock slots.four live) ∙ once;
-  once6 = ap (λ six. none_twice same_client6 (map (live6 slots.clock) six)) free;
-}

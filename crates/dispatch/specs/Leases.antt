@@ -10,8 +10,9 @@ use Rattle.lease_disk.specs.declared.image.Image.TheVariants.{Byte, Unreadable}
 use Rattle.lease_disk.specs.Layout.{gate_open}
 use Rattle.lease_disk.specs.Recovered.{recovered}
 use Rattle.lease_disk.specs.Region.{Region, IsClean, image, effective}
-use Rattle.config.specs.CircuitPart.{CircuitPart, pool4_of}
+use Rattle.config.specs.CircuitPart.{CircuitPart, pool4_of, pool6_of}
 use Rattle.bindings_v4.specs.Kept4.{book4_in}
+use Rattle.bindings_v6.specs.Kept6.{book6_in}
 use Rattle.dispatch.specs.Addressee.{addressee}
 use Rattle.dispatch.specs.Server.{Book, Served, book_at, kept_book, served}
 
@@ -29,7 +30,7 @@ abbrev pub counts_of : CircuitPart → List ℕ
 counts_of part = part.count4 ∷ part.count6 ∷ []
 
 abbrev pub book_in : CircuitPart → Slots → Book
-book_in part slots = record { clock = slots.clock; four = book4_in (pool4_of part) slots }
+book_in part slots = record { clock = slots.clock; four = book4_in (pool4_of part) slots; six = book6_in (pool6_of part) slots }
 
 -- the book that the bytes of a circuit's region mean, with their clock and without offers
 abbrev pub recovered_book : CircuitPart → (ℕ → ℕ) → Option Book

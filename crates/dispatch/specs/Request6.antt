@@ -37,17 +37,21 @@ abbrev pub client_request : List ℕ → Kind6 → MessageValue → Option (List
 client_request duid kind m (Some client) (Some ia) = if is_duid client then Ok (request6_of duid kind m client ia) else Err reason.ClientKey
 client_request duid kind m client ia = Err reason.ClientKey
 
-abbrev pub read_request : List ℕ → Kind6 → Result MessageValue MessageFault → Result Request6 Discard
-read_request duid kind (Err fault) = Err reason.Malformed
-read_request duid kind (Ok m) = client_request duid kind m (look_up CLIENT_ID m.options) (ia_in (look_up IA_NA m.options))
+abbrev pub with_message : MessageValue → Result Request6 Discard → Result (MessageValue × Request6) Discard
+with_message m (Err why) = Err why
+with_message m (Ok request) = Ok (m, request)
 
-abbrev pub kind_request : List ℕ → List ℕ → Option Kind6 → Result Request6 Discard
+abbrev pub read_request : List ℕ → Kind6 → Result MessageValue MessageFault → Result (MessageValue × Request6) Discard
+read_request duid kind (Err fault) = Err reason.Malformed
+read_request duid kind (Ok m) = with_message m (client_request duid kind m (look_up CLIENT_ID m.options) (ia_in (look_up IA_NA m.options)))
+
+abbrev pub kind_request : List ℕ → List ℕ → Option Kind6 → Result (MessageValue × Request6) Discard
 kind_request duid message None = Err reason.NotServed
 kind_request duid message (Some kind) = read_request duid kind (message_of message)
 
--- What the message inside a Relay-forward asks a server of this DUID, or why it asks nothing: the first
--- line that fits.
-abbrev pub request6_in : List ℕ → List ℕ → Result Request6 Discard
+-- The message inside a Relay-forward and what it asks a server of this DUID, or why it asks nothing: the
+-- first line that fits.
+abbrev pub request6_in : List ℕ → List ℕ → Result (MessageValue × Request6) Discard
 request6_in duid message =
     if nat_lt (length message) 4 then Err reason.Malformed
     else kind_request duid message (kind6_of_code (slice_index message 0))

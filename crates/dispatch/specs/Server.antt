@@ -1,5 +1,6 @@
 -- One circuit's server: its book, and what it makes of a datagram of the circuit.
-use Rattle.std.specs.Prelude.{ℕ, Bool, false, max, List, Result, Ok, Err}
+use Rattle.std.specs.Prelude.{ℕ, Bool, false, max, List, Option, Some, None, Result, Ok, Err}
+use Rattle.types.specs.Key6.{Key6Value}
 use Rattle.types.specs.Delivery.{DeliveryValue}
 use Rattle.types.specs.declared.dest.Proto.{Proto}
 use Rattle.types.specs.declared.dest.Proto.TheVariants.{V4, V6}
@@ -7,32 +8,48 @@ use Rattle.types.specs.declared.discard.Discard.{Discard}
 use Rattle.types.specs.declared.discard.Discard.TheVariants as reason
 use Rattle.types.specs.declared.request4.Request4.{Request4}
 use Rattle.types.specs.declared.request4.Reply4.{Reply4}
+use Rattle.types.specs.declared.request6.Reply6.{Reply6}
+use Rattle.types.specs.declared.request6.Request6.{Request6}
 use Rattle.v4_message.specs.declared.fault.MessageFault.{MessageFault}
 use Rattle.v4_message.specs.Reading.{message_of}
 use Rattle.v4_message.specs.Spelling.{MessageValue}
-use Rattle.config.specs.CircuitPart.{CircuitPart, pool4_of}
+use Rattle.v6_options.specs.Codes.{RELAY_MESSAGE}
+use Rattle.v6_options.specs.Spelling.{look_up}
+use Rattle.v6_message.specs.declared.fault.RelayFault.{RelayFault}
+use Rattle.v6_message.specs.Message as v6
+use Rattle.v6_message.specs.Relay.{RelayValue}
+use Rattle.v6_message.specs.RelayReading.{relay_of}
+use Rattle.config.specs.CircuitPart.{CircuitPart, pool4_of, pool6_of}
 use Rattle.bindings_v4.specs.Book4.{Book4, book4_at}
 use Rattle.bindings_v4.specs.Kept4 as kept4
 use Rattle.bindings_v4.specs.IsBook4.{IsBook4}
 use Rattle.bindings_v4.specs.Table4.{Decision, answer4}
+use Rattle.bindings_v6.specs.Book6.{Book6, book6_at}
+use Rattle.bindings_v6.specs.IsBook6.{IsBook6}
+use Rattle.bindings_v6.specs.Table6.{answer6}
+use Rattle.bindings_v6.specs.Table6 as table6
 use Rattle.replies.specs.Reply4.{reply4_bytes}
-use Rattle.dispatch.specs.Request.{request_in}
+use Rattle.replies.specs.Reply6.{reply6_bytes}
+use Rattle.dispatch.specs.Request4.{request4_in}
+use Rattle.dispatch.specs.Request6.{request6_in}
 
--- The clock of a circuit in seconds, and its leases.
+-- The clock of a circuit in seconds, and its leases of both protocols.
 pub record Book : Type 0 where
   pub clock : ℕ
   pub four : Book4
+  pub six : Book6
 
 -- What makes a book: every entry is live, no address is named twice, and no client has both a binding
 -- and an offer.
-abbrev pub IsBook : Book → Type 0
-IsBook b = IsBook4 b.clock b.four
+pub record IsBook (b : Book) : Type 0 where
+  pub four : IsBook4 b.clock b.four
+  pub six : IsBook6 b.clock b.six
 
 -- The book at a moment: the clock never goes back, and what has expired is left out.
 abbrev pub book_at : ℕ → Book → Book
-book_at now b = record { clock = max b.clock now; four = book4_at (max b.clock now) b.four }
+book_at now b = record { clock = max b.clock now; four = book4_at (max b.clock now) b.four; six = book6_at (max b.clock now) b.six }
 
--- What the disk keeps of a book: all but its offers.
+-- What the disk keeps of a book: all but its offers, which DHCPv4 alone has.
 abbrev pub kept_book : Book → Book
 kept_book b = record b { four = kept4.kept_book b.four }
 
@@ -46,26 +63,56 @@ pub record Served : Type 0 where
 abbrev pub drop : Discard → Book → Served
 drop why b = record { answer = Err why; book = b; is_kept = false }
 
-abbrev pub reply_to : CircuitPart → MessageValue → Result Reply4 Discard → Result (List ℕ) Discard
-reply_to part m (Err why) = Err why
-reply_to part m (Ok reply) = Ok (reply4_bytes part m reply)
+-- ---- DHCPv4
 
-abbrev pub decision_served : CircuitPart → MessageValue → ℕ → Decision → Served
-decision_served part m clock decision =
-    record { answer = reply_to part m decision.answer; book = record { clock = clock; four = decision.book }; is_kept = decision.is_kept }
+abbrev pub reply4_to : CircuitPart → MessageValue → Result Reply4 Discard → Result (List ℕ) Discard
+reply4_to part m (Err why) = Err why
+reply4_to part m (Ok reply) = Ok (reply4_bytes part m reply)
 
-abbrev pub request_served : CircuitPart → MessageValue → Book → Result Request4 Discard → Served
-request_served part m b (Err why) = drop why b
-request_served part m b (Ok request) = decision_served part m b.clock (answer4 (pool4_of part) b.clock b.four request)
+-- DHCPv6's leases stay.
+abbrev pub decision4_served : CircuitPart → MessageValue → Book → Decision → Served
+decision4_served part m b decision =
+    record { answer = reply4_to part m decision.answer; book = record b { four = decision.book }; is_kept = decision.is_kept }
 
-abbrev pub message_served : CircuitPart → Book → Result MessageValue MessageFault → Served
-message_served part b (Err fault) = drop reason.Malformed b
-message_served part b (Ok m) = request_served part m b (request_in m)
+abbrev pub request4_served : CircuitPart → MessageValue → Book → Result Request4 Discard → Served
+request4_served part m b (Err why) = drop why b
+request4_served part m b (Ok request) = decision4_served part m b (answer4 (pool4_of part) b.clock b.four request)
 
--- by the protocol; no DHCPv6 message is served yet
+abbrev pub message4_served : CircuitPart → Book → Result MessageValue MessageFault → Served
+message4_served part b (Err fault) = drop reason.Malformed b
+message4_served part b (Ok m) = request4_served part m b (request4_in m)
+
+-- ---- DHCPv6
+
+abbrev pub reply6_to : CircuitPart → RelayValue → v6.MessageValue → Key6Value → Result Reply6 Discard → Result (List ℕ) Discard
+reply6_to part forward m client (Err why) = Err why
+reply6_to part forward m client (Ok reply) = Ok (reply6_bytes part forward m client reply)
+
+-- DHCPv4's leases and offers stay.
+abbrev pub decision6_served : CircuitPart → RelayValue → v6.MessageValue → Key6Value → Book → table6.Decision → Served
+decision6_served part forward m client b decision =
+    record { answer = reply6_to part forward m client decision.answer; book = record b { six = decision.book }; is_kept = decision.is_kept }
+
+-- a message inside a Relay-forward, and what it asks
+abbrev pub request6_served : CircuitPart → RelayValue → Book → Result (v6.MessageValue × Request6) Discard → Served
+request6_served part forward b (Err why) = drop why b
+request6_served part forward b (Ok asked) =
+    decision6_served part forward asked.0 asked.1.key b (answer6 (pool6_of part) b.clock b.six asked.1)
+
+-- by the relay message, which each Relay-forward of a circuit has
+abbrev pub message6_served : CircuitPart → RelayValue → Book → Option (List ℕ) → Served
+message6_served part forward b None = drop reason.Malformed b
+message6_served part forward b (Some message) = request6_served part forward b (request6_in part.duid message)
+
+abbrev pub forward_served : CircuitPart → Book → Result RelayValue RelayFault → Served
+forward_served part b (Err fault) = drop reason.Malformed b
+forward_served part b (Ok forward) = message6_served part forward b (look_up RELAY_MESSAGE forward.options)
+
+-- ---- by the protocol
+
 abbrev pub datagram_served : CircuitPart → Proto → List ℕ → Book → Served
-datagram_served part V4 datagram b = message_served part b (message_of datagram)
-datagram_served part V6 datagram b = drop reason.NotServed b
+datagram_served part V4 datagram b = message4_served part b (message_of datagram)
+datagram_served part V6 datagram b = forward_served part b (relay_of datagram)
 
 -- A datagram of the circuit.
 unfoldable pub served : CircuitPart → DeliveryValue → Book → Served

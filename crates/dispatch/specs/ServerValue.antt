@@ -1,19 +1,20 @@
 -- What shows of the server in the code.
 use Rattle.std.specs.Prelude.{◌≡◌, ℕ, List, [], ◌∷◌, length, map, Option, Some, None, IfSome, option_map, All, slice_get}
 use Rattle.types.specs.declared.addr.Source.{Source}
-use Rattle.config.specs.CircuitPart.{CircuitPart, pool4_of}
+use Rattle.config.specs.CircuitPart.{CircuitPart, pool4_of, pool6_of}
 use Rattle.lease_disk.specs.declared.format1.bank.Marks.{Marks}
 use Rattle.lease_disk.specs.Region.{Region, IsClean}
 use Rattle.lease_disk.specs.Save.{AreMarks}
-use Rattle.bindings_v4.specs.Slots4.{PoolSlots}
-use Rattle.bindings_v4.specs.Slots4 as slots
+use Rattle.bindings_v4.specs.Slots4 as slots4
+use Rattle.bindings_v6.specs.Slots6 as slots6
 use Rattle.dispatch.specs.Leases.{Leases, restarts_of}
 use Rattle.dispatch.specs.Server.{Book}
 
--- of an open circuit: its clock, what the slots of its pool hold, and what the next save has to know
+-- of an open circuit: its clock, what the slots of its pools hold, and what the next save has to know
 pub record OpenCircuitValue : Type 0 where
   pub clock : ℕ
-  pub slots : PoolSlots
+  pub four : slots4.PoolSlots
+  pub six : slots6.PoolSlots
   pub marks : Marks
 
 -- of one circuit: its part of the configuration, and what it has while it is open
@@ -27,9 +28,9 @@ with_states [] states = []
 with_states (part ∷ parts) [] = record { part = part; state = None } ∷ with_states parts []
 with_states (part ∷ parts) (state ∷ states) = record { part = part; state = state } ∷ with_states parts states
 
--- its book, by what the slots of its pool hold
+-- its book, by what the slots of its pools hold
 abbrev pub open_book : OpenCircuitValue → Book
-open_book o = record { clock = o.clock; four = slots.book_of o.clock o.slots }
+open_book o = record { clock = o.clock; four = slots4.book_of o.clock o.four; six = slots6.book_of o.clock o.six }
 
 abbrev pub book_of : CircuitServerValue → Option Book
 book_of s = option_map open_book s.state
@@ -41,12 +42,12 @@ part_of s = s.part
 abbrev pub leases_of : (ℕ → Region) → CircuitServerValue → Leases
 leases_of regions s = record { book = book_of s; restarts = restarts_of s.part (regions s.part.region) }
 
--- the slots of an open circuit are those of its pool
-abbrev pub HasPool : CircuitPart → Option OpenCircuitValue → Type 0
-HasPool part state = IfSome state (λ o. o.slots.pool ≡ pool4_of part)
+-- the slots of an open circuit are those of its pools
+abbrev pub HasPools : CircuitPart → Option OpenCircuitValue → Type 0
+HasPools part state = IfSome state (λ o. (o.four.pool ≡ pool4_of part) × (o.six.pool ≡ pool6_of part))
 
-abbrev pub HasItsPool : CircuitServerValue → Type 0
-HasItsPool s = HasPool s.part s.state
+abbrev pub HasItsPools : CircuitServerValue → Type 0
+HasItsPools s = HasPools s.part s.state
 
 -- an open circuit's region can be saved to
 abbrev pub IsReadyFor : Region → Option OpenCircuitValue → Type 0
@@ -80,8 +81,8 @@ abbrev pub RegionsDiffer : List CircuitPart → Type 0
 RegionsDiffer parts =
     (c d : ℕ) (one other : CircuitPart) → slice_get parts c ≡ Some one → slice_get parts d ≡ Some other → one.region ≡ other.region → c ≡ d
 
--- what the fields of a server keep: a state for each part, with the slots of its pool
+-- what the fields of a server keep: a state for each part, with the slots of its pools
 pub record IsServer (parts : List CircuitPart) (states : List (Option OpenCircuitValue)) : Type 0 where
   pub size : length states ≡ length parts
   pub regions : RegionsDiffer parts
-  pub pools : All HasItsPool (with_states parts states)
+  pub pools : All HasItsPools (with_states parts states)

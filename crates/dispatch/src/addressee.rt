@@ -1,7 +1,7 @@
 //! Which circuit a datagram at the server is of, in either protocol.
 ghost use Rattle.std.specs.Prelude.{◌≡◌, ◌<◌, length, Ok, Err, IfOk, IfErr};
 ghost use Rattle.dispatch.specs.Addressee.{addressee};
-ghost use Rattle.dispatch.specs.Relayed.{IsRelayed};
+ghost use Rattle.dispatch.specs.RelayedMessage.{IsRelayedMessage};
 
 use crate::addressee4::addressee4;
 use crate::addressee6::addressee6;
@@ -12,19 +12,19 @@ use v6_message::Relay6;
 
 /// What a relay sent: a client's DHCPv4 message, or a Relay-forward around a client's DHCPv6 message.
 #[derive(Debug, Drop)]
-pub(crate) enum Relayed<'a> {
-    Four(Message<'a>),
-    Six(Relay6<'a>),
+pub(crate) enum RelayedMessage<'a> {
+    V4(Message<'a>),
+    V6(Relay6<'a>),
 }
 
 /// The circuit of a datagram, and what was read of it, or the first reason why it is of none.
 pub(crate) fn addressee<'a>(
     circuits: &Circuits,
     delivery: &Delivery<'a>,
-) -> Result<(Circuit, Relayed<'a>), Discard>
+) -> Result<(Circuit, RelayedMessage<'a>), Discard>
     ensures circuit { IfOk result (λ found. addressee circuits.now.relays circuits.now.circuits delivery.now.proto delivery.now.source delivery.now.bytes ≡ Ok found.0) }
     ensures within { IfOk result (λ found. found.0 < length circuits.now.circuits) }
-    ensures relayed { IfOk result (λ found. IsRelayed delivery.now.proto delivery.now.bytes found.1) }
+    ensures relayed { IfOk result (λ found. IsRelayedMessage delivery.now.proto delivery.now.bytes found.1) }
     ensures err { IfErr result (λ why. addressee circuits.now.relays circuits.now.circuits delivery.now.proto delivery.now.source delivery.now.bytes ≡ Err why) }
 {
     if !circuits.is_relay(delivery.source) {

@@ -5,9 +5,9 @@ ghost use Rattle.v4_message.specs.Agent.{is_value};
 ghost use Rattle.v4_message.specs.Reading.{message_of};
 ghost use Rattle.types.specs.declared.dest.Proto.TheVariants.{V4};
 ghost use Rattle.dispatch.specs.Addressee4.{link_fault4, message_check};
-ghost use Rattle.dispatch.specs.Relayed.{IsRelayed};
+ghost use Rattle.dispatch.specs.RelayedMessage.{IsRelayedMessage};
 
-use crate::addressee::Relayed;
+use crate::addressee::RelayedMessage;
 use crate::named_circuit::{circuit_check, circuit_named};
 use config::{CircuitPart, Circuits};
 use types::{Circuit, Discard, Source};
@@ -20,17 +20,17 @@ pub(crate) fn addressee4<'a>(
     circuits: &Circuits,
     source: Source,
     datagram: &'a [u8],
-) -> Result<(Circuit, Relayed<'a>), Discard>
+) -> Result<(Circuit, RelayedMessage<'a>), Discard>
     ensures circuit { IfOk result (λ found. message_check circuits.now.circuits source (message_of datagram.now) ≡ Ok found.0) }
     ensures within { IfOk result (λ found. found.0 < length circuits.now.circuits) }
-    ensures relayed { IfOk result (λ found. IsRelayed V4 datagram.now found.1) }
+    ensures relayed { IfOk result (λ found. IsRelayedMessage V4 datagram.now found.1) }
     ensures err { IfErr result (λ why. message_check circuits.now.circuits source (message_of datagram.now) ≡ Err why) }
 {
     let Ok(message) = Message::read(datagram) else {
         return Err(Discard::Malformed);
     };
     match message_check(circuits, source, &message) {
-        Ok(circuit) => Ok((circuit, Relayed::Four(message))),
+        Ok(circuit) => Ok((circuit, RelayedMessage::V4(message))),
         Err(why) => Err(why),
     }
 }

@@ -1,10 +1,10 @@
 //! Which circuit a DHCPv6 datagram is of (RFC 8415, sections 9 and 19.1.1).
 ghost use Rattle.std.specs.Prelude.{◌≡◌, ◌<◌, length, Ok, Err, IfOk, IfErr};
 ghost use Rattle.types.specs.declared.dest.Proto.TheVariants.{V6};
-ghost use Rattle.dispatch.specs.Relayed.{IsRelayed};
+ghost use Rattle.dispatch.specs.RelayedMessage.{IsRelayedMessage};
 ghost use Rattle.dispatch.specs.Addressee6.{forward_check, is_forward, is_unrelayed, link_fault6, relay_check};
 
-use crate::addressee::Relayed;
+use crate::addressee::RelayedMessage;
 use crate::named_circuit::{circuit_check, circuit_named};
 use config::{CircuitPart, Circuits};
 use types::{Circuit, Discard, Source};
@@ -16,10 +16,10 @@ pub(crate) fn addressee6<'a>(
     circuits: &Circuits,
     source: Source,
     datagram: &'a [u8],
-) -> Result<(Circuit, Relayed<'a>), Discard>
+) -> Result<(Circuit, RelayedMessage<'a>), Discard>
     ensures circuit { IfOk result (λ found. forward_check circuits.now.circuits source datagram.now ≡ Ok found.0) }
     ensures within { IfOk result (λ found. found.0 < length circuits.now.circuits) }
-    ensures relayed { IfOk result (λ found. IsRelayed V6 datagram.now found.1) }
+    ensures relayed { IfOk result (λ found. IsRelayedMessage V6 datagram.now found.1) }
     ensures err { IfErr result (λ why. forward_check circuits.now.circuits source datagram.now ≡ Err why) }
 {
     if is_unrelayed(datagram) {
@@ -29,7 +29,7 @@ pub(crate) fn addressee6<'a>(
         return Err(Discard::Malformed);
     };
     match relay_check(circuits, source, &forward) {
-        Ok(circuit) => Ok((circuit, Relayed::Six(forward))),
+        Ok(circuit) => Ok((circuit, RelayedMessage::V6(forward))),
         Err(why) => Err(why),
     }
 }

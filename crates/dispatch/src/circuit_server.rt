@@ -1,23 +1,20 @@
 //! The server of one circuit: what it has while it is open, and what it makes of a message.
-ghost use Rattle.std.specs.Prelude.{◌≡◌, ◌<◌, ◌≤◌, ◌+◌, [], Ok, Some, None, true, is_some, nat_lt, option_map};
+ghost use Rattle.std.specs.Prelude.{◌≡◌, ◌<◌, ◌≤◌, ◌+◌, [], Some, None, true, is_some, nat_lt, option_map};
 ghost use Rattle.config.specs.CircuitPart as parts;
 ghost use Rattle.dispatch.specs.Leases.{after_datagram, found_book};
 ghost use Rattle.dispatch.specs.Received.{IsAnswer, answered, circuit_saves, fails_at};
-ghost use Rattle.dispatch.specs.Relayed.{IsRelayed};
-ghost use Rattle.dispatch.specs.Server.{book_at, reply_to};
-ghost use Rattle.dispatch.specs.ServerValue.{HasPool, IsReadyFor, leases_of, open_book};
+ghost use Rattle.dispatch.specs.RelayedMessage.{IsRelayedMessage};
+ghost use Rattle.dispatch.specs.Server.{book_at};
+ghost use Rattle.dispatch.specs.ServerValue.{HasPools, IsReadyFor, leases_of, open_book};
 ghost use Rattle.lease_disk.specs.Device.{Touches, TouchesNothing, WritesAt};
 ghost use Rattle.lease_disk.specs.Region.{IsClean, Region};
 
-use crate::addressee::Relayed;
+use crate::addressee::RelayedMessage;
 use crate::open_circuit::OpenCircuit;
-use crate::request::request_in;
 use config::CircuitPart;
 use lease_disk::Disk;
-use replies::write4;
 use std::marker::Model;
-use types::{Delivery, Discard, Moment, Reply4};
-use v4_message::Message;
+use types::{Delivery, Discard, Moment};
 use wire::PacketBuf;
 
 /// The server of one circuit: what it has while the circuit is open.
@@ -54,7 +51,7 @@ impl CircuitServer {
     /// read or is damaged.
     pub(crate) fn restart<D: Disk>(&mut self, part: &CircuitPart, disk: &mut D)
         requires { part.now.region < (D.device disk.old).count }
-        ensures pool { HasPool part.now self.new }
+        ensures pools { HasPools part.now self.new }
         ensures book { D.tells ≡ true → option_map open_book self.new ≡ found_book part.now ((D.device disk.old).region part.now.region) }
         ensures ready { D.tells ≡ true → (((D.device disk.old).region part.now.region).readable ≡ true → IsClean ((D.device disk.old).region part.now.region)) → IsReadyFor ((D.device disk.old).region part.now.region) self.new }
         ensures frame { TouchesNothing D.tells (D.device disk.old) (D.device disk.new) }
@@ -68,16 +65,16 @@ impl CircuitServer {
         &mut self,
         part: &CircuitPart,
         delivery: &Delivery<'_>,
-        relayed: &Relayed<'_>,
+        relayed: RelayedMessage<'_>,
         disk: &mut D,
         out: &mut PacketBuf,
     ) -> Result<(), Discard>
-        requires read { IsRelayed delivery.now.proto delivery.now.bytes relayed.now }
+        requires read { IsRelayedMessage delivery.now.proto delivery.now.bytes relayed }
         requires empty { out.old ≡ [] }
         requires exists { part.now.region < (D.device disk.old).count }
-        requires pool { HasPool part.now self.old }
+        requires pools { HasPools part.now self.old }
         requires ready { D.tells ≡ true → IsReadyFor ((D.device disk.old).region part.now.region) self.old }
-        ensures pool { HasPool part.now self.new }
+        ensures pools { HasPools part.now self.new }
         ensures answer { IsAnswer (answered part.now delivery.now (nat_lt (D.device disk.old).failures (D.device disk.new).failures) (option_map open_book self.old)).answer result out.new }
         ensures book { option_map open_book self.new ≡ (answered part.now delivery.now (nat_lt (D.device disk.old).failures (D.device disk.new).failures) (option_map open_book self.old)).book }
         ensures fails { D.tells ≡ true → nat_lt (D.device disk.old).failures (D.device disk.new).failures ≡ fails_at (D.device disk.old).fuse (circuit_saves delivery.now (Some part.now) (Some (option_map open_book self.old))) }
@@ -92,16 +89,12 @@ impl CircuitServer {
             return Err(Discard::CircuitClosed);
         };
         circuit.tick(delivery.moment);
-        let Relayed::Four(message) = relayed else {
-            return Err(Discard::NotServed);
-        };
-        let request = match request_in(message) {
-            Ok(request) => request,
+        let decision = match circuit.decide(part, relayed) {
+            Ok(decision) => decision,
             Err(why) => return Err(why),
         };
-        let decision = circuit.decide(&request);
         match circuit.keep(part, &decision, disk) {
-            Ok(()) => reply(part, message, decision.answer, out),
+            Ok(()) => decision.reply(part, out),
             Err(_) => {
                 self.state = None;
                 Err(Discard::DiskFault)
@@ -112,30 +105,11 @@ impl CircuitServer {
     /// Moves the clock of an open circuit to this moment, where it is a later one.
     pub(crate) fn tick(&mut self, now: Moment)
         ensures book { option_map open_book self.new ≡ option_map (book_at now) (option_map open_book self.old) }
-        ensures pool { (part : parts.CircuitPart) → HasPool part self.old → HasPool part self.new }
+        ensures pools { (part : parts.CircuitPart) → HasPools part self.old → HasPools part self.new }
         ensures ready { (region : Region) → IsReadyFor region self.old → IsReadyFor region self.new }
     {
         if let Some(circuit) = &mut self.state {
             circuit.tick(now);
         }
-    }
-}
-
-/// Writes the reply where there is one.
-fn reply(
-    part: &CircuitPart,
-    message: &Message<'_>,
-    answer: Result<Reply4, Discard>,
-    out: &mut PacketBuf,
-) -> Result<(), Discard>
-    requires { out.old ≡ [] }
-    ensures { IsAnswer (reply_to part.now message.now answer) result out.new }
-{
-    match answer {
-        Ok(reply) => {
-            write4(part, message, reply, out);
-            Ok(())
-        }
-        Err(why) => Err(why),
     }
 }

@@ -1,7 +1,9 @@
 //! What holds of every circuit's server: functions that do nothing, for their contracts.
-ghost use Rattle.std.specs.Prelude.{ℕ};
+ghost use Rattle.std.specs.Prelude.{◌≡◌, ℕ, max};
 ghost use Rattle.types.specs.Delivery.{DeliveryValue};
-ghost use Rattle.bindings_v4.specs.Book4.{empty_book};
+ghost use Rattle.types.specs.declared.dest.Proto.TheVariants.{V4, V6};
+ghost use Rattle.bindings_v4.specs.Book4 as book4;
+ghost use Rattle.bindings_v6.specs.Book6 as book6;
 ghost use Rattle.config.specs.CircuitPart.{CircuitPart, IsPart};
 ghost use Rattle.dispatch.specs.Server.{Book, IsBook, book_at, kept_book, served};
 
@@ -9,11 +11,20 @@ ghost use Rattle.dispatch.specs.Server.{Book, IsBook, book_at, kept_book, served
 /// served: every entry is live, no address is named twice, and no client has both a binding and an
 /// offer. What the disk keeps of a book is one too.
 pub fn leaves_a_book()
-    ensures empty { (clock : ℕ) → IsBook (record { clock = clock; four = empty_book }) }
+    ensures empty { (clock : ℕ) → IsBook (record { clock = clock; four = book4.empty_book; six = book6.empty_book }) }
     ensures later { (now : ℕ) (b : Book) → IsBook b → IsBook (book_at now b) }
     ensures answered { (part : CircuitPart) (d : DeliveryValue) (b : Book) → IsPart part → IsBook b → IsBook (served part d b).book }
     ensures kept { (b : Book) → IsBook b → IsBook (kept_book b) }
 {
     bindings_v4::leaves_a_book();
     bindings_v4::begins_a_book();
+    bindings_v6::leaves_a_book();
 }
+
+/// A datagram of one protocol moves the circuit's clock, and changes nothing else of the other protocol's
+/// leases.
+pub fn serves_one_protocol()
+    ensures clock { (part : CircuitPart) (d : DeliveryValue) (b : Book) → (served part d b).book.clock ≡ max b.clock d.moment }
+    ensures four { (part : CircuitPart) (d : DeliveryValue) (b : Book) → d.proto ≡ V4 → (served part d b).book.six ≡ (book_at d.moment b).six }
+    ensures six { (part : CircuitPart) (d : DeliveryValue) (b : Book) → d.proto ≡ V6 → (served part d b).book.four ≡ (book_at d.moment b).four }
+{}

@@ -5,15 +5,16 @@ mod addressee;
 mod addressee4;
 mod addressee6;
 mod circuit_server;
+mod decision;
 mod laws;
 mod named_circuit;
 mod open_circuit;
 mod regions;
-mod request;
+mod request4;
 mod request6;
 mod server;
 
-pub use laws::leaves_a_book;
+pub use laws::{leaves_a_book, serves_one_protocol};
 pub use regions::region_count;
 pub use request6::request6_in;
 pub use server::{OpenFault, Server};

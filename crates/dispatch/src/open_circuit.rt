@@ -1,27 +1,40 @@
 //! What the server has of an open circuit.
-ghost use Rattle.std.specs.Prelude.{◌≡◌, ◌<◌, ◌≤◌, ◌==◌, ◌&&◌, ◌+◌, true, false, not, is_ok, is_some, option_map, OnOk, OnErr, IfSome, Some};
-ghost use Rattle.types.specs.Slots.{IsWithin4};
+ghost use Rattle.std.specs.Prelude.{◌≡◌, ◌<◌, ◌≤◌, ◌==◌, ◌&&◌, ◌+◌, ℕ, true, false, not, is_ok, option_map, List, OnOk, OnErr, IfOk, IfErr, IfSome, Some};
+ghost use Rattle.types.specs.declared.dest.Proto.{Proto};
 ghost use Rattle.slots.specs.Kept.{AreWithin};
-ghost use Rattle.bindings_v4.specs.Slots4.{book_of, with_decision};
-ghost use Rattle.bindings_v4.specs.Table4.{answer4};
-ghost use Rattle.config.specs.CircuitPart.{pool4_of};
+ghost use Rattle.v6_options.specs.Codes.{RELAY_MESSAGE};
+ghost use Rattle.v6_options.specs.Spelling.{look_up};
+ghost use Rattle.config.specs.CircuitPart as parts;
+ghost use Rattle.config.specs.CircuitPart.{pool4_of, pool6_of};
+ghost use Rattle.dispatch.specs.CircuitDecision.{IsWithin, is_kept, served_by, with_decision};
 ghost use Rattle.dispatch.specs.Leases.{found_book, restarts_after, restarts_of};
-ghost use Rattle.dispatch.specs.Server.{book_at};
-ghost use Rattle.dispatch.specs.ServerValue.{IsReadyFor, open_book};
+ghost use Rattle.dispatch.specs.RelayedMessage.{IsRelayedMessage};
+ghost use Rattle.dispatch.specs.Request4.{request4_in};
+ghost use Rattle.dispatch.specs.Server.{book_at, datagram_served, drop, message6_served, request4_served};
+ghost use Rattle.dispatch.specs.ServerValue.{HasPools, IsReadyFor, open_book};
 ghost use Rattle.lease_disk.specs.Device.{Touches, TouchesNothing};
 ghost use Rattle.lease_disk.specs.Region.{IsClean, effective, faults_after};
 
-use bindings_v4::{Book4, Decision4, expires_by_the_clock};
+use crate::addressee::RelayedMessage;
+use crate::decision::CircuitDecision;
+use crate::request4::request4_in;
+use crate::request6::request6_in;
+use bindings_v4::Book4;
+use bindings_v6::Book6;
 use config::CircuitPart;
 use lease_disk::{Disk, Fault, Marks, recover, save};
 use std::marker::Model;
-use types::{Moment, Request4, Slot4, Slot6, Slots};
+use types::{Discard, Moment, Slot4, Slot6, Slots};
+use v4_message::Message;
+use v6_message::Relay6;
 
-/// An open circuit: its clock, its book, and what the next save has to know of its region.
+/// An open circuit: its clock, its book of each protocol, and what the next save has to know of its
+/// region.
 #[derive(Drop)]
 pub(crate) struct OpenCircuit {
     clock: Moment,
-    book: Book4,
+    four: Book4,
+    six: Book6,
     marks: Marks,
 }
 
@@ -31,17 +44,17 @@ impl Model for OpenCircuit {
 
     ghost Value = { OpenCircuitValue };
 
-    ghost view = { λ o. record { clock = o.clock; slots = o.book; marks = o.marks } };
+    ghost view = { λ o. record { clock = o.clock; four = o.four; six = o.six; marks = o.marks } };
 
-    ghost invariant = { λ o. AreWithin o.book.slots };
+    ghost invariant = { λ o. AreWithin o.four.slots × AreWithin o.six.slots };
 }
 
 impl OpenCircuit {
-    /// The circuit with the book that its region means, at the kept clock; `None` where the region
+    /// The circuit with the books that its region means, at the kept clock; `None` where the region
     /// cannot be read or is damaged.
     pub(crate) fn recover<D: Disk>(part: &CircuitPart, disk: &mut D) -> Option<OpenCircuit>
         requires { part.now.region < (D.device disk.old).count }
-        ensures pool { IfSome result (λ o. o.slots.pool ≡ pool4_of part.now) }
+        ensures pools { HasPools part.now result }
         ensures book { D.tells ≡ true → option_map open_book result ≡ found_book part.now ((D.device disk.old).region part.now.region) }
         ensures ready { D.tells ≡ true → (((D.device disk.old).region part.now.region).readable ≡ true → IsClean ((D.device disk.old).region part.now.region)) → IsReadyFor ((D.device disk.old).region part.now.region) result }
         ensures frame { TouchesNothing D.tells (D.device disk.old) (D.device disk.new) }
@@ -52,68 +65,126 @@ impl OpenCircuit {
         };
         Some(OpenCircuit {
             clock: slots.clock,
-            book: Book4::new(part.pool4(), &slots),
+            four: Book4::new(part.pool4(), &slots),
+            six: Book6::new(part.pool6(), &slots),
             marks,
         })
     }
 
     /// Moves the clock to this moment, where it is a later one.
     pub(crate) fn tick(&mut self, now: Moment)
-        ensures pool { self.new.slots.pool ≡ self.old.slots.pool }
+        ensures pool4 { self.new.four.pool ≡ self.old.four.pool }
+        ensures pool6 { self.new.six.pool ≡ self.old.six.pool }
         ensures marks { self.new.marks ≡ self.old.marks }
         ensures book { open_book self.new ≡ book_at now (open_book self.old) }
     {
         let later = self.clock.later(now);
-        expires_by_the_clock(&self.book, self.clock, later);
+        bindings_v4::expires_by_the_clock(&self.four, self.clock, later);
+        bindings_v6::expires_by_the_clock(&self.six, self.clock, later);
         self.clock = later;
     }
 
-    /// What a client's request calls for. Nothing is changed.
-    pub(crate) fn decide(&self, request: &Request4) -> Decision4
-        ensures answer { result.answer ≡ (answer4 self.now.slots.pool self.now.clock (open_book self.now).four request.now).answer }
-        ensures book { book_of self.now.clock (with_decision result self.now.slots) ≡ (answer4 self.now.slots.pool self.now.clock (open_book self.now).four request.now).book }
-        ensures keep { is_some result.keep ≡ (answer4 self.now.slots.pool self.now.clock (open_book self.now).four request.now).is_kept }
-        ensures within { IfSome result.keep (λ kept. IsWithin4 kept.content) }
+    /// What a client's message calls for, or why it calls for nothing. Nothing is changed.
+    pub(crate) fn decide<'a>(
+        &self,
+        part: &CircuitPart,
+        relayed: RelayedMessage<'a>,
+    ) -> Result<CircuitDecision<'a>, Discard>
+        requires { HasPools part.now (Some self.now) }
+        ensures ok { (proto : Proto) (bytes : List ℕ) → IsRelayedMessage proto bytes relayed.entry → IfOk result (λ decision. datagram_served part.now proto bytes (open_book self.now) ≡ served_by part.now self.now decision) }
+        ensures err { (proto : Proto) (bytes : List ℕ) → IsRelayedMessage proto bytes relayed.entry → IfErr result (λ why. datagram_served part.now proto bytes (open_book self.now) ≡ drop why (open_book self.now)) }
+        ensures within { IfOk result IsWithin }
     {
-        self.book.decide(request, self.clock)
+        match relayed {
+            RelayedMessage::V4(message) => self.decide4(message),
+            RelayedMessage::V6(forward) => self.decide6(part, forward),
+        }
     }
 
-    /// Makes a decision's changes, and saves the book where one of them has to be kept. After an error
-    /// the circuit has to be closed: its region holds the old book or the new one.
+    /// What a DHCPv4 message calls for.
+    fn decide4<'a>(&self, message: Message<'a>) -> Result<CircuitDecision<'a>, Discard>
+        ensures ok { (part : parts.CircuitPart) → HasPools part (Some self.now) → IfOk result (λ decision. request4_served part message.entry (open_book self.now) (request4_in message.entry) ≡ served_by part self.now decision) }
+        ensures err { IfErr result (λ why. request4_in message.entry ≡ Err why) }
+        ensures within { IfOk result IsWithin }
+    {
+        let request = match request4_in(&message) {
+            Ok(request) => request,
+            Err(why) => return Err(why),
+        };
+        let decision = self.four.decide(&request, self.clock);
+        Ok(CircuitDecision::V4(message, decision))
+    }
+
+    /// What the message in a Relay-forward calls for.
+    fn decide6<'a>(
+        &self,
+        part: &CircuitPart,
+        forward: Relay6<'a>,
+    ) -> Result<CircuitDecision<'a>, Discard>
+        requires { HasPools part.now (Some self.now) }
+        ensures ok { IfOk result (λ decision. message6_served part.now forward.entry (open_book self.now) (look_up RELAY_MESSAGE forward.entry.options) ≡ served_by part.now self.now decision) }
+        ensures err { IfErr result (λ why. message6_served part.now forward.entry (open_book self.now) (look_up RELAY_MESSAGE forward.entry.options) ≡ drop why (open_book self.now)) }
+        ensures within { IfOk result IsWithin }
+    {
+        let Some(bytes) = forward.relay_message() else {
+            return Err(Discard::Malformed);
+        };
+        let (message, request) = match request6_in(part, bytes) {
+            Ok(asked) => asked,
+            Err(why) => return Err(why),
+        };
+        let decision = self.six.decide(&request, self.clock);
+        Ok(CircuitDecision::V6(forward, message, request.key, decision))
+    }
+
+    /// Makes a decision's changes, and saves both books where one of them has to be kept. After an error
+    /// the circuit has to be closed: its region holds the old books or the new ones.
     pub(crate) fn keep<D: Disk>(
         &mut self,
         part: &CircuitPart,
-        decision: &Decision4,
+        decision: &CircuitDecision<'_>,
         disk: &mut D,
     ) -> Result<(), Fault>
         requires exists { part.now.region < (D.device disk.old).count }
-        requires pool { self.old.slots.pool ≡ pool4_of part.now }
+        requires pools { HasPools part.now (Some self.old) }
         requires ready { D.tells ≡ true → IsReadyFor ((D.device disk.old).region part.now.region) (Some self.old) }
-        requires within { IfSome decision.now.keep (λ kept. IsWithin4 kept.content) }
-        ensures pool { self.new.slots.pool ≡ pool4_of part.now }
-        ensures book { open_book self.new ≡ record { clock = self.old.clock; four = book_of self.old.clock (with_decision decision.now self.old.slots) } }
-        ensures cause { OnErr result (is_some decision.now.keep ≡ true) }
-        ensures fails { D.tells ≡ true → is_ok result ≡ not (is_some decision.now.keep && not (effective 6 ((D.device disk.old).fuse part.now.region) == 0)) }
-        ensures kept { D.tells ≡ true → is_some decision.now.keep ≡ true
+        requires within { IsWithin decision.now }
+        ensures pools { HasPools part.now (Some self.new) }
+        ensures book { open_book self.new ≡ open_book (with_decision decision.now self.old) }
+        ensures cause { OnErr result (is_kept decision.now ≡ true) }
+        ensures fails { D.tells ≡ true → is_ok result ≡ not (is_kept decision.now && not (effective 6 ((D.device disk.old).fuse part.now.region) == 0)) }
+        ensures kept { D.tells ≡ true → is_kept decision.now ≡ true
             → restarts_of part.now ((D.device disk.new).region part.now.region) ≡ restarts_after (effective 6 ((D.device disk.old).fuse part.now.region)) (open_book self.new) (restarts_of part.now ((D.device disk.old).region part.now.region)) }
-        ensures stays { is_some decision.now.keep ≡ false → D.device disk.new ≡ D.device disk.old }
+        ensures stays { is_kept decision.now ≡ false → D.device disk.new ≡ D.device disk.old }
         ensures ready { D.tells ≡ true → OnOk result (IsReadyFor ((D.device disk.new).region part.now.region) (Some self.new)) }
         ensures frame { Touches D.tells part.now.region (D.device disk.old) (D.device disk.new) }
         ensures failures { (D.device disk.new).failures ≡ faults_after result (D.device disk.old).failures }
     {
-        self.book.commit(decision);
-        if decision.keep.is_none() {
+        self.commit(decision);
+        if !decision.is_kept() {
             return Ok(());
         }
         self.save(part, disk)
     }
 
-    /// Saves the book without its offers, and the clock.
+    /// Makes a decision's change of its protocol's book.
+    fn commit(&mut self, decision: &CircuitDecision<'_>)
+        requires { IsWithin decision.now }
+        ensures { self.new ≡ with_decision decision.now self.old }
+    {
+        match decision {
+            CircuitDecision::V4(_, change) => self.four.commit(change),
+            CircuitDecision::V6(_, _, _, change) => self.six.commit(change),
+        }
+    }
+
+    /// Saves the books without offers, and the clock.
     fn save<D: Disk>(&mut self, part: &CircuitPart, disk: &mut D) -> Result<(), Fault>
         requires exists { part.now.region < (D.device disk.old).count }
-        requires pool { self.old.slots.pool ≡ pool4_of part.now }
+        requires pools { HasPools part.now (Some self.old) }
         requires ready { D.tells ≡ true → IsReadyFor ((D.device disk.old).region part.now.region) (Some self.old) }
-        ensures slots { self.new.slots ≡ self.old.slots }
+        ensures four { self.new.four ≡ self.old.four }
+        ensures six { self.new.six ≡ self.old.six }
         ensures clock { self.new.clock ≡ self.old.clock }
         ensures answer { D.tells ≡ true → is_ok result ≡ (effective 6 ((D.device disk.old).fuse part.now.region) == 0) }
         ensures restarts { D.tells ≡ true → restarts_of part.now ((D.device disk.new).region part.now.region) ≡ restarts_after (effective 6 ((D.device disk.old).fuse part.now.region)) (open_book self.new) (restarts_of part.now ((D.device disk.old).region part.now.region)) }
@@ -126,7 +197,8 @@ impl OpenCircuit {
             six: [Slot6::Free; 16],
             clock: self.clock,
         };
-        self.book.put(&mut slots);
+        self.four.put(&mut slots);
+        self.six.put(&mut slots);
         save(part.region(), disk, &mut self.marks, &slots)
     }
 }

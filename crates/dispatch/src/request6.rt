@@ -22,9 +22,7 @@ pub fn request6_in<'a>(
     part: &CircuitPart,
     bytes: &'a [u8],
 ) -> Result<(Message6<'a>, Request6), Discard>
-    ensures request { IfOk result (λ found. request6_in part.now.duid bytes.now ≡ Ok found.1) }
-    ensures message { IfOk result (λ found. message_of bytes.now ≡ Ok found.0) }
-    ensures err { IfErr result (λ why. request6_in part.now.duid bytes.now ≡ Err why) }
+    ensures { result ≡ request6_in part.now.duid bytes.now }
 {
     if bytes.len() < HEADER {
         return Err(Discard::Malformed);

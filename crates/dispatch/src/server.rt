@@ -4,7 +4,7 @@ ghost use Rattle.config.specs.CircuitPart as parts;
 ghost use Rattle.config.specs.CircuitPart.{IsPart, parts_of};
 ghost use Rattle.dispatch.specs.Leases.{AreSynced, HasRegions, after_tick, found_leases, received_leases};
 ghost use Rattle.dispatch.specs.Received.{IsAnswer, fails_at, received, received_saves};
-ghost use Rattle.dispatch.specs.ServerValue.{AreReady, HasItsPool, IsReady, RegionsDiffer, books_in, leases_in, leases_of, parts_in, with_states};
+ghost use Rattle.dispatch.specs.ServerValue.{AreReady, HasItsPools, IsReady, RegionsDiffer, books_in, leases_in, leases_of, parts_in, with_states};
 ghost use Rattle.dispatch.specs.declared.server.OpenFault.TheVariants as fault;
 ghost use Rattle.lease_disk.specs.Device.{TouchesNothing, WritesAt};
 ghost use Rattle.types.specs.Delivery.{delivery};
@@ -82,7 +82,7 @@ fn tick_all(servers: &mut [CircuitServer], now: Moment)
     ensures ready { (parts : List parts.CircuitPart) (regions : ℕ → Region) → length parts ≡ length servers.old
         → All (IsReady regions) (with_states parts servers.old) → All (IsReady regions) (with_states parts servers.new) }
     ensures pools { (parts : List parts.CircuitPart) → length parts ≡ length servers.old
-        → All HasItsPool (with_states parts servers.old) → All HasItsPool (with_states parts servers.new) }
+        → All HasItsPools (with_states parts servers.old) → All HasItsPools (with_states parts servers.new) }
 {
     'servers: for index in 0..servers.len() {
         servers[index].tick(now);
@@ -96,7 +96,7 @@ fn restart_all<D: Disk>(parts: &[CircuitPart], servers: &mut [CircuitServer], di
     ensures size { length servers.new ≡ length servers.old }
     ensures leases { D.tells ≡ true → map (leases_of (D.device disk.new).region) (with_states parts.now servers.new) ≡ map (found_leases (D.device disk.old).region) parts.now }
     ensures ready { D.tells ≡ true → AreSynced parts.now (D.device disk.old).region → All (IsReady (D.device disk.new).region) (with_states parts.now servers.new) }
-    ensures pools { All HasItsPool (with_states parts.now servers.new) }
+    ensures pools { All HasItsPools (with_states parts.now servers.new) }
     ensures frame { TouchesNothing D.tells (D.device disk.old) (D.device disk.new) }
     ensures reads { (D.device disk.new).reads ≤ (D.device disk.old).reads + 4 * length parts.now }
 {
@@ -201,7 +201,7 @@ impl Server {
             Err(why) => return Err(why),
         };
         let part = self.circuits.part(circuit);
-        self.servers[circuit.index()].answer(part, &delivery, &relayed, disk, out)
+        self.servers[circuit.index()].answer(part, &delivery, relayed, disk, out)
     }
 
     /// Moves the clock of every open circuit to this moment, where it is a later one.

@@ -6,7 +6,7 @@ use Rattle.std.proofs.lemmas.List.Elements.{All-more}
 use Rattle.config.specs.CircuitPart.{CircuitPart}
 use Rattle.lease_disk.specs.Region.{IsClean, Region}
 use Rattle.dispatch.specs.Leases.{found_book, found_leases, restarts_of}
-use Rattle.dispatch.specs.ServerValue.{CircuitServerValue, HasItsPool, IsReady, leases_of, with_states}
+use Rattle.dispatch.specs.ServerValue.{CircuitServerValue, HasItsPools, IsReady, leases_of, with_states}
 use Rattle.lease_disk.proofs.Frames.{nothing_then}
 use Rattle.dispatch.proofs.ServerLemmas.{all_found}
 use Rattle.dispatch.proofs.WithStates.{parts_with, server, set_with, size_with}
@@ -51,7 +51,7 @@ circuits-preserved g c =
           subst (λ (regions : ℕ → Region). (regions part.region).readable ≡ true → IsClean (regions part.region)) (sym (loop.frame.region tells))
           (subst (λ (p : CircuitPart). (first p.region).readable ≡ true → IsClean (first p.region)) (sym c.index-parts-index.is) (synced i part c.circuits-test.true)) in
           at (IsReady first) (loop.ready tells synced) (subst (λ regions. IsReady regions new) (loop.frame.region tells) (c.restart.ensures.ready tells part_synced));
-      pools = at HasItsPool loop.pools c.restart.ensures.pool;
+      pools = at HasItsPools loop.pools c.restart.ensures.pools;
       frame = nothing_then g.D.Disk.tells (g.D.Disk.device c.args.disk.now) (g.D.Disk.device c.circuits.disk) (g.D.Disk.device c.restart.new.disk) loop.frame c.restart.ensures.frame;
       reads = four_more _ _ _ i loop.reads c.restart.ensures.reads;
       size = length-set states i c.restart.new.self ∙ loop.size;
@@ -77,4 +77,4 @@ returns-clause-ready g c tells synced =
 pub returns-clause-pools : goal.returns-clause-pools
 returns-clause-pools g c =
     let xs = with_states c.args.parts.now c.circuits.servers in
-    subst (All HasItsPool) (take_all c.circuits.index xs (omega (arith, c.circuits-test.false, size_with c.args.parts.now c.circuits.servers))) c.circuits.invariant.pools
+    subst (All HasItsPools) (take_all c.circuits.index xs (omega (arith, c.circuits-test.false, size_with c.args.parts.now c.circuits.servers))) c.circuits.invariant.pools

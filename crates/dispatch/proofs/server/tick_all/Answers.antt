@@ -3,7 +3,7 @@ use Rattle.std.specs.Prelude.{All}
 use Rattle.std.proofs.lemmas.List.{append-nil, drop_all, length-map, length-set, take_all}
 use Rattle.std.proofs.lemmas.List.Elements.{All-set}
 use Rattle.dispatch.specs.Leases.{after_tick, restarts_of}
-use Rattle.dispatch.specs.ServerValue.{HasItsPool, IsReady, leases_of, with_states}
+use Rattle.dispatch.specs.ServerValue.{HasItsPools, IsReady, leases_of, with_states}
 use Rattle.dispatch.proofs.ServerLemmas.{one_changed}
 use Rattle.dispatch.proofs.WithStates.{get_with, server, set_with, size_with, there_is}
 use Rattle.dispatch.proofs.server.tick_all.Goals as goal
@@ -38,9 +38,9 @@ servers-preserved c =
           let at = there_is parts i (omega (arith, within, loop.size, size)) in
           let its = get_with parts xs i at.0 old (server at.0 old) at.1 within in
           let was = loop.pools parts size all in
-          subst (All HasItsPool) (sym (set_with parts xs i at.0 new at.1 within))
-          (All-set HasItsPool (with_states parts xs) i (server at.0 new)
-          (c.tick.ensures.pool at.0 (subst HasItsPool its (was i (server at.0 old) (omega (arith, within, loop.size, size, size_with parts xs))))) was);
+          subst (All HasItsPools) (sym (set_with parts xs i at.0 new at.1 within))
+          (All-set HasItsPools (with_states parts xs) i (server at.0 new)
+          (c.tick.ensures.pools at.0 (subst HasItsPools its (was i (server at.0 old) (omega (arith, within, loop.size, size, size_with parts xs))))) was);
       size = length-set xs i new ∙ loop.size;
     }
 

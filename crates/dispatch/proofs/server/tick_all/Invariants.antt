@@ -3,7 +3,7 @@ use Rattle.std.specs.Prelude.{All}
 use Rattle.config.specs.CircuitPart.{CircuitPart}
 use Rattle.lease_disk.specs.Region.{Region}
 use Rattle.dispatch.specs.Leases.{after_tick}
-use Rattle.dispatch.specs.ServerValue.{HasItsPool, IsReady, leases_of, with_states}
+use Rattle.dispatch.specs.ServerValue.{HasItsPools, IsReady, leases_of, with_states}
 use Rattle.dispatch.proofs.server.tick_all.Given as goal
 
 abbrev pub invariant-servers : goal.invariant-servers
@@ -14,6 +14,6 @@ invariant-servers l = record {
   ready : (parts : List CircuitPart) (regions : ℕ → Region) → length parts ≡ length l.fn.servers
       → All (IsReady regions) (with_states parts l.fn.servers) → All (IsReady regions) (with_states parts l.servers);
   pools : (parts : List CircuitPart) → length parts ≡ length l.fn.servers
-      → All HasItsPool (with_states parts l.fn.servers) → All HasItsPool (with_states parts l.servers);
+      → All HasItsPools (with_states parts l.fn.servers) → All HasItsPools (with_states parts l.servers);
   size : length l.servers ≡ length l.fn.servers;
 }

@@ -1,7 +1,7 @@
 use Rattle.std.proofs.Common.{List, map, length, drop, sym, ap, subst, ◌∙◌, arith}
 use Rattle.std.specs.Prelude.{All, Option}
 use Rattle.dispatch.specs.Leases.{AreSynced, found_leases}
-use Rattle.dispatch.specs.ServerValue.{HasItsPool, IsReady, OpenCircuitValue, RegionsDiffer, leases_of, with_states}
+use Rattle.dispatch.specs.ServerValue.{HasItsPools, IsReady, OpenCircuitValue, RegionsDiffer, leases_of, with_states}
 use Rattle.dispatch.proofs.IndexLemmas.{regions_differ}
 use Rattle.dispatch.proofs.ServerLemmas.{written_through}
 use Rattle.dispatch.proofs.WithStates.{parts_with}
@@ -17,7 +17,7 @@ invariant_of-result g c =
           ap (λ (xs : List (Option OpenCircuitValue)). length xs) whole ∙ c.restart_all.ensures.size
           ∙ ap (λ (xs : List (Option OpenCircuitValue)). length xs) c.deref_mut.ensures.value ∙ c.in-Ok-closed_servers.ensures ∙ c.count.ensures.value;
       regions = subst RegionsDiffer (sym (ap (λ topology. topology.circuits) c.in-Ok.ensures.topology)) (regions_differ c.args.config.now c.of.ensures.sound);
-      pools = subst (All HasItsPool) (λ i. with_states (c.parts-2.ensures i) (sym whole i)) c.restart_all.ensures.pools;
+      pools = subst (All HasItsPools) (λ i. with_states (c.parts-2.ensures i) (sym whole i)) c.restart_all.ensures.pools;
     }
 
 pub returns-clause-parts : goal.returns-clause-parts

@@ -9,7 +9,7 @@ use Rattle.lease_disk.specs.Device.{WritesAt}
 use Rattle.dispatch.specs.Addressee.{addressee}
 use Rattle.dispatch.specs.Leases.{addressee_leases, received_leases, restarts_of}
 use Rattle.dispatch.specs.Received.{Received, IsAnswer, addressee_answered, addressee_saves, fails_at, received, received_saves}
-use Rattle.dispatch.specs.ServerValue.{CircuitServerValue, HasItsPool, IsReady, IsReadyFor, ServerValue, book_of, books_in, leases_in, leases_of, part_of, parts_in, with_states}
+use Rattle.dispatch.specs.ServerValue.{CircuitServerValue, HasItsPools, IsReady, IsReadyFor, ServerValue, book_of, books_in, leases_in, leases_of, part_of, parts_in, with_states}
 use Rattle.dispatch.proofs.AnswerLemmas.{not_more}
 use Rattle.dispatch.proofs.ReceivedLemmas.{received_at, leases_at, saves_at}
 use Rattle.dispatch.proofs.ServerLemmas.{all_moved, one_moved}
@@ -92,13 +92,13 @@ answer-requires-clause-exists g c =
     at_index P parts c.in-Ok.found.0 c.part-part.result.now c.part-part.ensures
     (subst (All P) (parts_with parts c.self.inside.servers.items) (subst (λ (s : ServerValue). All P (parts_in s)) (sym c.self.view_is) c.requires.regions))
 
-pub answer-requires-clause-pool : goal.answer-requires-clause-pool
-answer-requires-clause-pool g c =
+pub answer-requires-clause-pools : goal.answer-requires-clause-pools
+answer-requires-clause-pools g c =
     let parts = c.self.inside.circuits.circuits in
     let states = c.self.inside.servers.items in
     let there = ap (slice_get parts) c.index.ensures.value ∙ c.part-part.ensures in
     let inside : c.index.result < length states = omega (arith, c.self.invariant.size, slice_get_within parts c.index.result c.part-part.result.now there) in
-    at_index HasItsPool (with_states parts states) c.index.result (server c.part-part.result.now c.index_mut.result.now)
+    at_index HasItsPools (with_states parts states) c.index.result (server c.part-part.result.now c.index_mut.result.now)
     (there_with parts states c.index.result c.part-part.result.now c.index_mut.result.now there inside c.index_mut.ensures.value) c.self.invariant.pools
 
 pub answer-requires-clause-ready : goal.answer-requires-clause-ready
@@ -119,8 +119,8 @@ invariant_of-self g c = record {
   size = length-set c.self.inside.servers.items c.index.result c.answer.new.self ∙ c.self.invariant.size;
   regions = c.self.invariant.regions;
   pools =
-      subst (All HasItsPool) (sym (written g c))
-      (All-set HasItsPool (before g c) c.index.result (server c.part-part.result.now c.answer.new.self) c.answer.ensures.pool c.self.invariant.pools);
+      subst (All HasItsPools) (sym (written g c))
+      (All-set HasItsPools (before g c) c.index.result (server c.part-part.result.now c.answer.new.self) c.answer.ensures.pools c.self.invariant.pools);
 }
 
 pub returns-clause-parts : goal.returns-clause-parts

@@ -2,7 +2,7 @@ use Rattle.std.proofs.Common.{◌≡◌, ◌<◌, ◌≤◌, ◌+◌, ◌*◌, �
 use Rattle.std.specs.Prelude.{All, Option}
 use Rattle.config.specs.CircuitPart.{CircuitPart}
 use Rattle.dispatch.specs.Leases.{AreSynced, found_leases}
-use Rattle.dispatch.specs.ServerValue.{HasItsPool, IsReady, OpenCircuitValue, ServerValue, leases_of, parts_in, with_states}
+use Rattle.dispatch.specs.ServerValue.{HasItsPools, IsReady, OpenCircuitValue, ServerValue, leases_of, parts_in, with_states}
 use Rattle.dispatch.proofs.ServerLemmas.{written_through}
 use Rattle.dispatch.proofs.WithStates.{parts_with, size_with}
 use Rattle.dispatch.proofs.server.Server.restart.Given as given
@@ -30,7 +30,7 @@ invariant_of-self g c = record {
       ap (λ (xs : List (Option OpenCircuitValue)). length xs) (whole g c) ∙ c.restart_all.ensures.size
       ∙ ap (λ (xs : List (Option OpenCircuitValue)). length xs) c.deref_mut.ensures.value ∙ c.self.invariant.size;
   regions = c.self.invariant.regions;
-  pools = subst (All HasItsPool) (λ i. with_states (c.parts.ensures i) (sym (whole g c) i)) c.restart_all.ensures.pools;
+  pools = subst (All HasItsPools) (λ i. with_states (c.parts.ensures i) (sym (whole g c) i)) c.restart_all.ensures.pools;
 }
 
 pub returns-clause-parts : goal.returns-clause-parts

@@ -1,7 +1,7 @@
 use Rattle.std.proofs.Common.{◌≡◌, ◌++◌, List, map, take, length, drop, sym, ap, subst, ◌∙◌, arith}
 use Rattle.std.specs.Prelude.{All, Option}
 use Rattle.dispatch.specs.Leases.{after_tick}
-use Rattle.dispatch.specs.ServerValue.{HasItsPool, IsReady, OpenCircuitValue, ServerValue, leases_in, leases_of, parts_in, with_states}
+use Rattle.dispatch.specs.ServerValue.{HasItsPools, IsReady, OpenCircuitValue, ServerValue, leases_in, leases_of, parts_in, with_states}
 use Rattle.dispatch.proofs.ServerLemmas.{written_through}
 use Rattle.dispatch.proofs.WithStates.{parts_with}
 use Rattle.dispatch.proofs.server.Server.tick.Goals as goal
@@ -19,7 +19,7 @@ size c = sym c.self.invariant.size ∙ ap (λ (xs : List (Option OpenCircuitValu
 pub invariant_of-self : goal.invariant_of-self
 invariant_of-self c =
     let parts = c.self.inside.circuits.circuits in
-    let states : List (Option OpenCircuitValue) → Type 0 = λ xs. All HasItsPool (with_states parts xs) in
+    let states : List (Option OpenCircuitValue) → Type 0 = λ xs. All HasItsPools (with_states parts xs) in
     record {
       size = ap (λ (xs : List (Option OpenCircuitValue)). length xs) (whole c) ∙ c.tick_all.ensures.size ∙ sym (size c);
       regions = c.self.invariant.regions;

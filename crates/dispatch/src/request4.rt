@@ -2,15 +2,15 @@
 ghost use Rattle.std.specs.Prelude.{◌≡◌, true, false, IfSome, IfNone};
 ghost use Rattle.v4_options.specs.Spelling.{look_up};
 ghost use Rattle.v4_options.specs.Codes.{CLIENT_IDENTIFIER};
-ghost use Rattle.dispatch.specs.Request.{is_from_server, is_key, key_of, request_in};
+ghost use Rattle.dispatch.specs.Request4.{is_from_server, is_key, key_of, request4_in};
 
 use types::{Discard, Key4, Kind4, Request4};
 use v4_message::Message;
 use v4_message::field::ETHERNET;
 
 /// The message as the book is asked, or why it is not asked.
-pub(crate) fn request_in(message: &Message<'_>) -> Result<Request4, Discard>
-    ensures { result ≡ request_in message.now }
+pub(crate) fn request4_in(message: &Message<'_>) -> Result<Request4, Discard>
+    ensures { result ≡ request4_in message.now }
 {
     let kind = message.kind();
     if is_from_server(kind) {

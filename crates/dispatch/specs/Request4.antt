@@ -52,5 +52,5 @@ kind_request m (Some kind) =
     else if is_key (key_of m (look_up CLIENT_IDENTIFIER m.options)) then Ok (request_of m kind)
     else Err reason.ClientKey
 
-abbrev pub request_in : MessageValue → Result Request4 Discard
-request_in m = kind_request m (kind_of (kind_in (look_up MESSAGE_TYPE m.options)))
+abbrev pub request4_in : MessageValue → Result Request4 Discard
+request4_in m = kind_request m (kind_of (kind_in (look_up MESSAGE_TYPE m.options)))
