@@ -5,10 +5,14 @@ use Rattle.std.specs.List.{list_any}
 use Rattle.std.specs.Ordering.{nat_cmp, eq_by_cmp}
 use Rattle.std.specs.Cmp.{nat_cmp_total}
 use Rattle.std.specs.Cmp.Lexicographic.{slice_cmp, nat_list_cmp_total}
-use Rattle.std.specs.FinMap.{FinMap, get, empty, entries, values, put, IsAntisymmetric, nat_cmp-IsAntisymmetric, slice_cmp-IsAntisymmetric, same_map, get-empty, get-insert, get-retain_keys, entries-insert, len-entries, len-empty}
+use Rattle.std.specs.FinMap.{FinMap, get, empty, entries, values, put, IsAntisymmetric, nat_cmp-IsAntisymmetric, slice_cmp-IsAntisymmetric, same_map, get-empty, get-insert, entries-insert, len-entries, len-empty}
 use Rattle.types.specs.Pool4.{PoolValue}
-use Rattle.slots.specs.Key.{key4_cmp}
+use Rattle.std.specs.declared.cmp.Ordering.{Ordering}
+use Rattle.slots.specs.Key.{IsKey, key4_cmp}
+use Rattle.slots.specs.KeyLaws.{key4_is_key, key6_is_key}
 use Rattle.slots.specs.Maps.{Lease, Clients, is_live, passes, live_clients, live_bars}
+use Rattle.slots.proofs.ShownLemmas.{keep, get-live_clients, get-live_bars}
+use Rattle.bindings_v6.specs.Book6.{book6_at, empty_book}
 use Rattle.bindings_v4.specs.Book4.{in_pool, is_free, book4_at}
 use Rattle.dispatch.specs.Server.{book_at}
 use Rattle.world.specs.Examples.{one_offer, offers_at}
@@ -16,30 +20,19 @@ use Rattle.world.specs.Examples.{one_offer, offers_at}
 pub same_bytes : IsAntisymmetric (slice_cmp nat_cmp)
 same_bytes = slice_cmp-IsAntisymmetric nat_cmp-IsAntisymmetric
 
--- what a client has of the entries that are live
-get-live_clients : (clock : ℕ) (m : Clients key4_cmp) (q : List ℕ)
-    → get (live_clients clock m) q ≡ cond (passes (λ lease. is_live clock lease.until) (get m q)) (get m q) None
-get-live_clients clock m q =
-    let test : List ℕ → Bool = λ key. passes (λ lease. is_live clock lease.until) (get m key) in
-    get-retain_keys m test q (λ x e. ap test (sym (same_bytes q x e)))
-
-get-live_bars : (clock : ℕ) (m : FinMap nat_cmp ℕ) (q : ℕ) → get (live_bars clock m) q ≡ cond (passes (is_live clock) (get m q)) (get m q) None
-get-live_bars clock m q =
-    let test : ℕ → Bool = λ key. passes (is_live clock) (get m key) in
-    get-retain_keys m test q (λ x e. ap test (sym (nat_cmp-IsAntisymmetric q x e)))
-
-kept_none : {V : Type 0} (test : V → Bool) (o : Option V) → o ≡ None → cond (passes test o) o None ≡ None
-kept_none test o e = ap (λ p. cond (passes test p) p None) e
-
-pub live_none : (clock : ℕ) → live_clients {cmpk = key4_cmp} clock empty ≡ empty
-live_none clock =
-    same_map nat_list_cmp_total same_bytes _ _ (λ q.
-    get-live_clients clock empty q ∙ kept_none _ _ (get-empty (slice_cmp nat_cmp) q) ∙ sym (get-empty (slice_cmp nat_cmp) q))
+pub live_none : {K : Type 0} {eqk : K → K → Bool} {cmpk : K → K → Ordering} → IsKey eqk cmpk → (clock : ℕ) → live_clients {cmpk = cmpk} clock empty ≡ empty
+live_none {cmpk = cmpk} lawk clock =
+    same_map lawk.total lawk.exact _ _ (λ q. get-live_clients lawk clock empty q ∙ ap (keep clock) (get-empty cmpk q) ∙ sym (get-empty cmpk q))
 
 no_bars : (clock : ℕ) → live_bars clock empty ≡ empty
 no_bars clock =
     same_map nat_cmp_total nat_cmp-IsAntisymmetric _ _ (λ q.
-    get-live_bars clock empty q ∙ kept_none _ _ (get-empty nat_cmp q) ∙ sym (get-empty nat_cmp q))
+    get-live_bars clock empty q ∙ ap (λ o. cond (passes (is_live clock) o) o None) (get-empty nat_cmp q) ∙ sym (get-empty nat_cmp q))
+
+-- DHCPv6's empty book stays empty
+later_empty : (clock : ℕ) → book6_at clock empty_book ≡ empty_book
+unfolding book6_at
+later_empty clock = λ i. record { bindings = live_none key6_is_key clock i; bars = no_bars clock i }
 
 nothing : {A : Type 0} (xs : List A) → length xs ≡ 0 → xs ≡ []
 nothing [] e = refl
@@ -75,14 +68,14 @@ pub live_one : (clock : ℕ) (client : List ℕ) (lease : Lease) → live_client
 live_one clock client lease =
     let test : Lease → Bool = λ l. is_live clock l.until in
     same_map nat_list_cmp_total same_bytes _ _ (λ q.
-    get-live_clients clock (one_offer client lease) q ∙ ap (λ o. cond (passes test o) o None) (get-one client lease q)
+    get-live_clients key4_is_key clock (one_offer client lease) q ∙ ap (keep clock) (get-one client lease q)
     ∙ kept_one test lease (eq_by_cmp (slice_cmp nat_cmp) q client) (test lease) refl ∙ sym (get_cond client lease (test lease) q))
 
 pub at-offers : (now clock : ℕ) (offers : Clients key4_cmp) → book_at now (offers_at clock offers) ≡ offers_at (max clock now) (live_clients (max clock now) offers)
 unfolding book4_at
 at-offers now clock offers =
     let t = max clock now in
-    λ i. record { clock = t; four = record { bindings = live_none t i; offers = live_clients t offers; bars = no_bars t i } }
+    λ i. record { clock = t; four = record { bindings = live_none key4_is_key t i; offers = live_clients t offers; bars = no_bars t i }; six = later_empty t i }
 
 -- with no offer all of the pool is free; with one all but that address
 pub free-none : (pool : PoolValue) (clock a : ℕ) → is_free pool (offers_at clock empty).four a ≡ (in_pool pool a && true)

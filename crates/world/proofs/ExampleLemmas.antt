@@ -16,12 +16,13 @@ use Rattle.v4_options.specs.Reading.{listed_from, fault_from}
 use Rattle.v4_message.specs.Reading.{message_of}
 use Rattle.v4_message.specs.Spelling.{MessageValue}
 use Rattle.slots.specs.Key.{key4_cmp}
+use Rattle.slots.specs.KeyLaws.{key4_is_key}
 use Rattle.slots.specs.Maps.{Lease, Clients, or_else, address_of, is_live}
 use Rattle.bindings_v4.specs.Book4.{Book4, in_pool, lowest_free}
 use Rattle.bindings_v4.specs.Table4.{Decision, answer4, discover_row as row, selecting_row, where_is, with_change, is_kept}
 use Rattle.config.specs.CircuitPart.{pool4_of}
-use Rattle.dispatch.specs.Request.{request_in}
-use Rattle.dispatch.specs.Server.{Book, Served, book_at, served, drop, decision_served, message_served, request_served}
+use Rattle.dispatch.specs.Request4.{request4_in}
+use Rattle.dispatch.specs.Server.{Book, Served, book_at, served, drop, decision4_served, message4_served, request4_served}
 use Rattle.lease_disk.specs.declared.image.Image.TheVariants.{Byte}
 use Rattle.relay.specs.SentFrame.{SentFrame}
 use Rattle.relay.specs.Up4.{relayed_up4}
@@ -29,7 +30,7 @@ use Rattle.relay.specs.Down4.{reply_of, relayed_down4}
 use Rattle.replies.specs.Reply4.{reply4_bytes}
 use Rattle.world.specs.Alone.{Alone, Setup, Step, Dropped, Gone, SentUp, SentDown, Framed, alone_step, served_step, sent_frame, after_all, frames}
 use Rattle.world.specs.Examples.{part_a, part_a1, setup_a, setup_a1, ipv4, discover, discover_up, relayed_discover, offer, client, offers_at, one_offer, lease_until, datagram, with_up, begun, no_leases, request_up, asked, leased, closed, ack}
-use Rattle.world.specs.Granted.{Granted, lines, message_lines, decision_lines}
+use Rattle.world.specs.Granted.{Granted4, lines, message4_lines, decision4_lines}
 use Rattle.events.specs.Seen.{Seen, Frame, Up, Down, Restart}
 use Rattle.world.proofs.BookLemmas.{free-none, free-one, at-offers, live_none, live_one, get-one}
 
@@ -94,27 +95,27 @@ granted =
 
 -- what is served of it, where the book is this one
 module _ (setup : Setup) (now fault : ℕ) (bytes : List ℕ) (clock : ℕ) (offers : Clients key4_cmp) (b : Book) where
-  served_by : (s : Served) {m : MessageValue} → message_of bytes ≡ Ok m → book_at now (offers_at clock offers) ≡ b → message_served setup.part b (Ok m) ≡ s
+  served_by : (s : Served) {m : MessageValue} → message_of bytes ≡ Ok m → book_at now (offers_at clock offers) ≡ b → message4_served setup.part b (Ok m) ≡ s
       → alone_step setup (Up 0 now fault) (with_up bytes clock offers) ≡ served_step setup fault (with_up bytes clock offers) V4 s
   unfolding alone_step served
   served_by s {m} read at is =
       let step : Served → Step = λ s. served_step setup fault (with_up bytes clock offers) V4 s in
-      ap (λ c. step (message_served setup.part c (message_of bytes))) at
-      ∙ ap (λ r. step (message_served setup.part b r)) read
+      ap (λ c. step (message4_served setup.part c (message_of bytes))) at
+      ∙ ap (λ r. step (message4_served setup.part b r)) read
       ∙ ap step is
 
   -- a client's message, as this request
-  decided_by : (request : Request4) (d : Decision) {m : MessageValue} → message_of bytes ≡ Ok m → request_in m ≡ Ok request
+  decided_by : (request : Request4) (d : Decision) {m : MessageValue} → message_of bytes ≡ Ok m → request4_in m ≡ Ok request
       → book_at now (offers_at clock offers) ≡ b → answer4 (pool4_of setup.part) b.clock b.four request ≡ d
       → alone_step setup (Up 0 now fault) (with_up bytes clock offers)
-      ≡ served_step setup fault (with_up bytes clock offers) V4 (decision_served setup.part m b.clock d)
+      ≡ served_step setup fault (with_up bytes clock offers) V4 (decision4_served setup.part m b d)
   decided_by request d {m} read is_request at is =
-      served_by (decision_served setup.part m b.clock d) read at
-      (ap (request_served setup.part m b) is_request ∙ ap (decision_served setup.part m b.clock) is)
+      served_by (decision4_served setup.part m b d) read at
+      (ap (request4_served setup.part m b) is_request ∙ ap (decision4_served setup.part m b) is)
 
 -- at a moment the book of no offers has the later clock
 none_at : (now clock : ℕ) → book_at now (offers_at clock no_offers) ≡ offers_at (max clock now) no_offers
-none_at now clock = at-offers now clock no_offers ∙ ap (offers_at (max clock now)) (live_none (max clock now))
+none_at now clock = at-offers now clock no_offers ∙ ap (offers_at (max clock now)) (live_none key4_is_key (max clock now))
 
 one_at : (now clock : ℕ) (k : List ℕ) (lease : Lease)
     → book_at now (offers_at clock (one_offer k lease)) ≡ offers_at (max clock now) (cond (is_live (max clock now) lease.until) (one_offer k lease) no_offers)
@@ -275,9 +276,9 @@ lease_sent =
     ap (λ s. s.effect) (decided_by setup_a 110 0 request_up 100 (one_offer (client 1) (lease_until 160)) _ selects _ refl refl
     (one_at 110 100 (client 1) (lease_until 160)) granted)
 
-pub lease_granted : (lines setup_a (Up 0 110 0) asked ≡ Granted (record { client = client 1; address = 167772170; until = 710; clock = 110 }) ∷ [])
+pub lease_granted : (lines setup_a (Up 0 110 0) asked ≡ Granted4 (record { client = client 1; address = 167772170; until = 710; clock = 110 }) ∷ [])
 unfolding listed_from fault_from
 lease_granted =
-    ap (λ e. message_lines part_a e (book_at 110 (offers_at 100 (one_offer (client 1) (lease_until 160)))) (message_of request_up)) lease_sent
-    ∙ ap (λ b. message_lines part_a (SentDown 300) b (message_of request_up)) (one_at 110 100 (client 1) (lease_until 160))
-    ∙ ap (λ d. decision_lines part_a (SentDown 300) (offers_at 110 (one_offer (client 1) (lease_until 160))) selects d) granted
+    ap (λ e. message4_lines part_a e (book_at 110 (offers_at 100 (one_offer (client 1) (lease_until 160)))) (message_of request_up)) lease_sent
+    ∙ ap (λ b. message4_lines part_a (SentDown 300) b (message_of request_up)) (one_at 110 100 (client 1) (lease_until 160))
+    ∙ ap (λ d. decision4_lines part_a (SentDown 300) (offers_at 110 (one_offer (client 1) (lease_until 160))) selects d) granted

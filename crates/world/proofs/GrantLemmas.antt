@@ -1,11 +1,10 @@
--- What a decision grants and ends, and which books know of a grant.
+-- What a DHCPv4 decision grants and ends.
 use Rattle.std.proofs.Common.{◌≡◌, ◌⊎◌, inl, inr, ℕ, ◌+◌, ◌<◌, ◌≤◌, Bool, true, false, cond, List, [], ◌∷◌, ◌++◌, max, refl, sym, ap, subst, ◌∙◌, arith}
 use Rattle.std.specs.Prelude.{Option, Some, None, Result, Ok, Err, ◌==◌, if◌then◌else◌}
 use Rattle.std.specs.FinMap.{get}
-use Rattle.std.proofs.lemmas.Bool.{cases_lt}
-use Rattle.std.proofs.Math.Nat.{le-max_left}
 use Rattle.types.specs.Addr.{number4}
 use Rattle.types.specs.declared.addr.Addr4.{Addr4}
+use Rattle.types.specs.declared.dest.Proto.TheVariants.{V4}
 use Rattle.types.specs.declared.discard.Discard.{Discard}
 use Rattle.types.specs.declared.kind4.Kind4.{Kind4}
 use Rattle.types.specs.declared.kind4.Kind4.TheVariants.{Discover, Offer, Request, Decline, Ack, Nak, Release, Inform}
@@ -22,33 +21,16 @@ use Rattle.bindings_v4.specs.declared.server4.Server4.{Server4}
 use Rattle.bindings_v4.specs.declared.server4.Server4.TheVariants.{Anybody, This, Another}
 use Rattle.bindings_v4.specs.Table4.{Unchanged, Lookup, Row, is_kept, replies, grants, discover_row, other_server_row, selecting_row, known_address_row, no_server_row, decline_row, release_row, inform_row, server_of, lookup_in, row_of, answer4}
 use Rattle.bindings_v4.proofs.LawLemmas.{own_granted}
-use Rattle.bindings_v4.proofs.LeaseLemmas.{lease_kept, lease_lasts}
+use Rattle.bindings_v4.proofs.LeaseLemmas.{lease_kept}
 use Rattle.config.specs.CircuitPart.{CircuitPart, pool4_of}
-use Rattle.dispatch.specs.Request.{request_in}
-use Rattle.dispatch.specs.Server.{Book, IsBook, Served, book_at, request_served, message_served}
+use Rattle.dispatch.specs.Request4.{request4_in}
+use Rattle.dispatch.specs.Server.{Book, IsBook, request4_served, message4_served}
 use Rattle.world.specs.Alone.{Effect}
 use Rattle.world.specs.Books.{IsInPool, IsBookOf}
-use Rattle.world.specs.Granted.{Grant, Line, Granted, Ended, Stands, Knows, granted, end_of, ended, is_sent, request_lines, message_lines}
-use Rattle.world.proofs.PoolLemmas.{HasLimits, number_of_pool, bound_in_pool}
-
--- ---- lists of lines
-
-pub stands_left : (l : Line) (xs ys : List Line) → Stands l xs → Stands l (xs ++ ys)
-stands_left l [] ys s = absurd s
-stands_left l (x ∷ xs) ys (inl e) = inl e
-stands_left l (x ∷ xs) ys (inr s) = inr (stands_left l xs ys s)
-
-pub stands_right : (l : Line) (xs ys : List Line) → Stands l ys → Stands l (xs ++ ys)
-stands_right l [] ys s = s
-stands_right l (x ∷ xs) ys s = inr (stands_right l xs ys s)
-
-stands_either : (l : Line) (xs ys : List Line) → Stands l (xs ++ ys) → Stands l xs ⊎ Stands l ys
-stands_either l [] ys s = inr s
-stands_either l (x ∷ xs) ys (inl e) = inl (inl e)
-stands_either l (x ∷ xs) ys (inr s) = by (stands_either l xs ys s) where
-  by : Stands l xs ⊎ Stands l ys → Stands l (x ∷ xs) ⊎ Stands l ys
-  by (inl here) = inl (inr here)
-  by (inr there) = inr there
+use Rattle.world.specs.Granted.{Grant, Line, Granted4, Ended4, Stands, Knows, granted4, end4_of, ended4, is_sent, request4_lines, message4_lines}
+use Rattle.world.proofs.LineLemmas.{stands_right, stands_either, IsGranted, Keeps}
+use Rattle.world.proofs.PoolLemmas.{HasLimits}
+use Rattle.world.proofs.PoolLemmas4.{number_of_pool4, bound_in_pool4}
 
 -- ---- what a DHCPACK grants is kept
 
@@ -120,12 +102,12 @@ ack_kept pool t b m x e = row_acks pool t (lookup_in pool b m) m m.kind (server_
 
 -- ---- what stands of a grant
 
-no_end_grants : (g : Grant) (found : Option Lease) (client : List ℕ) → Stands (Granted g) (end_of client found) → ⊥
+no_end_grants : (g : Grant (List ℕ)) (found : Option Lease) (client : List ℕ) → Stands (Granted4 g) (end4_of client found) → ⊥
 no_end_grants g None client s = absurd s
 no_end_grants g (Some l) client (inl e) = absurd cc
 no_end_grants g (Some l) client (inr s) = absurd s
 
-no_ended_grants : (g : Grant) (r : Bool) (kind : Kind4) (client : List ℕ) (found : Option Lease) → Stands (Granted g) (if r then ended kind client found else []) → ⊥
+no_ended_grants : (g : Grant (List ℕ)) (r : Bool) (kind : Kind4) (client : List ℕ) (found : Option Lease) → Stands (Granted4 g) (if r then ended4 kind client found else []) → ⊥
 no_ended_grants g false kind client found s = absurd s
 no_ended_grants g true Decline client found s = no_end_grants g found client s
 no_ended_grants g true Release client found s = no_end_grants g found client s
@@ -136,14 +118,14 @@ no_ended_grants g true Ack client found s = absurd s
 no_ended_grants g true Nak client found s = absurd s
 no_ended_grants g true Inform client found s = absurd s
 
-record IsGrant (part : CircuitPart) (g : Grant) (sent : Bool) (client : List ℕ) (clock : ℕ) (answer : Result Reply4 Discard) : Type 0 where
+record IsGrant (part : CircuitPart) (g : Grant (List ℕ)) (sent : Bool) (client : List ℕ) (clock : ℕ) (answer : Result Reply4 Discard) : Type 0 where
   is_sent : sent ≡ true
   address : Addr4
   is_ack : answer ≡ Ok (reply.Ack address)
   is : g ≡ record { client = client; address = number4 address; until = clock + part.lease; clock = clock }
 
-the_grant : (part : CircuitPart) (g : Grant) (sent : Bool) (client : List ℕ) (clock : ℕ) (answer : Result Reply4 Discard)
-    → Stands (Granted g) (if sent then granted part client clock answer else []) → IsGrant part g sent client clock answer
+the_grant : (part : CircuitPart) (g : Grant (List ℕ)) (sent : Bool) (client : List ℕ) (clock : ℕ) (answer : Result Reply4 Discard)
+    → Stands (Granted4 g) (if sent then granted4 part client clock answer else []) → IsGrant part g sent client clock answer
 the_grant part g false client clock answer s = absurd s
 the_grant part g true client clock (Err why) s = absurd s
 the_grant part g true client clock (Ok (reply.Ack address)) (inl e) = record { is_sent = refl; address = address; is_ack = refl; is = cc }
@@ -156,38 +138,27 @@ entry_is : (client key : List ℕ) → (TheBinding client ≡ TheBinding key) �
 entry_is client key (inl e) = cc
 entry_is client key (inr e) = absurd cc
 
--- a grant, by the book before it, what is served, and the effect
-pub record IsGranted (part : CircuitPart) (b : Book) (done : Served) (effect : Effect) (g : Grant) : Type 0 where
-  pub clock : g.clock ≡ b.clock
-  pub until : g.until ≡ b.clock + part.lease
-  pub bound : get done.book.four.bindings g.client ≡ Some (record { address = g.address; until = g.until })
-  pub same_clock : done.book.clock ≡ b.clock
-  pub own : (client : List ℕ) → address_of (get b.four.bindings client) ≡ Some g.address → client ≡ g.client
-  pub in_pool : IsInPool part g.address
-  pub is_kept : done.is_kept ≡ true
-  pub sent : is_sent effect ≡ true
-
-pub is_granted : (part : CircuitPart) → HasLimits part → (b : Book) → IsBookOf part b → (g : Grant) (effect : Effect) (message : Result MessageValue MessageFault)
-    → Stands (Granted g) (message_lines part effect b message) → IsGranted part b (message_served part b message) effect g
-is_granted part limits b book g effect (Err fault) s = absurd s
-is_granted part limits b book g effect (Ok m) s = by (request_in m) s where
-  by : (request : Result Request4 Discard) → Stands (Granted g) (request_lines part effect b request) → IsGranted part b (request_served part m b request) effect g
+pub is_granted4 : (part : CircuitPart) → HasLimits part → (b : Book) → IsBookOf part b → (g : Grant (List ℕ)) (effect : Effect) (message : Result MessageValue MessageFault)
+    → Stands (Granted4 g) (message4_lines part effect b message) → IsGranted V4 part b (message4_served part b message) effect g
+is_granted4 part limits b book g effect (Err fault) s = absurd s
+is_granted4 part limits b book g effect (Ok m) s = by (request4_in m) s where
+  by : (request : Result Request4 Discard) → Stands (Granted4 g) (request4_lines part effect b request) → IsGranted V4 part b (request4_served part m b request) effect g
   by (Err why) s = absurd s
-  by (Ok q) s = by_lines (stands_either (Granted g) _ _ s) where
-    by_lines : Stands (Granted g) (if is_sent effect then granted part q.key b.clock (answer4 (pool4_of part) b.clock b.four q).answer else [])
-        ⊎ Stands (Granted g) (if (answer4 (pool4_of part) b.clock b.four q).is_kept then ended q.kind q.key (get b.four.bindings q.key) else [])
-        → IsGranted part b (request_served part m b (Ok q)) effect g
+  by (Ok q) s = by_lines (stands_either (Granted4 g) _ _ s) where
+    by_lines : Stands (Granted4 g) (if is_sent effect then granted4 part q.key b.clock (answer4 (pool4_of part) b.clock b.four q).answer else [])
+        ⊎ Stands (Granted4 g) (if (answer4 (pool4_of part) b.clock b.four q).is_kept then ended4 q.kind q.key (get b.four.bindings q.key) else [])
+        → IsGranted V4 part b (request4_served part m b (Ok q)) effect g
     by_lines (inr s) = absurd (no_ended_grants g _ q.kind q.key _ s)
     by_lines (inl s) =
         let i = the_grant part g (is_sent effect) q.key b.clock (answer4 (pool4_of part) b.clock b.four q).answer s in
-        let own = own_granted (pool4_of part) limits b.clock q b.four book.book i.address i.is_ack in
-        let inside = bound_in_pool part b.clock q b.four (record { bindings = book.bindings; offers = book.offers }) own.0 (b.clock + part.lease) own.2 in
-        let address : number4 i.address ≡ own.0 = ap number4 own.1 ∙ number_of_pool part limits own.0 inside in
+        let own = own_granted (pool4_of part) limits.four b.clock q b.four book.book.four i.address i.is_ack in
+        let inside = bound_in_pool4 part b.clock q b.four (record { bindings = book.bindings4; offers = book.offers4 }) own.0 (b.clock + part.lease) own.2 in
+        let address : number4 i.address ≡ own.0 = ap number4 own.1 ∙ number_of_pool4 part limits.four own.0 inside in
         let whole : g ≡ record { client = q.key; address = own.0; until = b.clock + part.lease; clock = b.clock } =
         i.is ∙ ap (λ (n : ℕ). record { client = q.key; address = n; until = b.clock + part.lease; clock = b.clock }) address in
         let mine : (client : List ℕ) → address_of (get b.four.bindings client) ≡ Some own.0 → client ≡ q.key =
         λ client e. entry_is client q.key (own.3 (TheBinding client) e) in
-        let fits : IsGranted part b (request_served part m b (Ok q)) effect (record { client = q.key; address = own.0; until = b.clock + part.lease; clock = b.clock }) =
+        let fits : IsGranted V4 part b (request4_served part m b (Ok q)) effect (record { client = q.key; address = own.0; until = b.clock + part.lease; clock = b.clock }) =
         record {
           clock = refl;
           until = refl;
@@ -198,66 +169,43 @@ is_granted part limits b book g effect (Ok m) s = by (request_in m) s where
           is_kept = ack_kept (pool4_of part) b.clock b.four q i.address i.is_ack;
           sent = i.is_sent;
         } in
-        subst (IsGranted part b (request_served part m b (Ok q)) effect) (sym whole) fits
+        subst (IsGranted V4 part b (request4_served part m b (Ok q)) effect) (sym whole) fits
 
--- ---- what books know of a grant
-
--- and that they do not stand before it
-abbrev pub Keeps : ℕ → Grant → Book → Type 0
-Keeps lease g b = (g.until ≤ b.clock + lease) × Knows g b
-
-pub keeps_new : (part : CircuitPart) (b : Book) (done : Served) (effect : Effect) (g : Grant) → IsGranted part b done effect g → Keeps part.lease g done.book
-keeps_new part b done effect g i =
-    (subst (λ t. g.until ≤ t + part.lease) (sym i.same_clock) (subst (λ u. u ≤ b.clock + part.lease) (sym i.until) (omega arith)), inr (record { address = g.address; until = g.until }, i.bound, refl, omega arith))
-
-pub keeps_later : (lease now : ℕ) (g : Grant) (b : Book) → Keeps lease g b → Keeps lease g (book_at now b)
-keeps_later lease now g b keeps = (within, by keeps.1) where
-  later : b.clock ≤ max b.clock now
-  later = le-max_left b.clock now
-
-  within : g.until ≤ max b.clock now + lease
-  within = omega (arith, later, keeps.0)
-
-  by : Knows g b → Knows g (book_at now b)
-  by (inl past) = inl (omega (arith, later, past))
-  by (inr (l, is, address, more)) = by_clock (cases_lt (max b.clock now) l.until) where
-    by_clock : (max b.clock now < l.until) ⊎ (l.until ≤ max b.clock now) → Knows g (book_at now b)
-    by_clock (inl live) = inr (l, lease_lasts (max b.clock now) b.four g.client l is live, address, more)
-    by_clock (inr past) = inl (omega (arith, past, more))
+-- ---- what is ended
 
 end_stands : (r : Bool) (kind : Kind4) (client : List ℕ) (found : Option Lease) (l : Lease) → r ≡ true → (kind ≡ Decline) ⊎ (kind ≡ Release) → found ≡ Some l
-    → Stands (Ended client l.address) (if r then ended kind client found else [])
+    → Stands (Ended4 client l.address) (if r then ended4 kind client found else [])
 end_stands r kind client found l kept ends is =
-    subst (λ (r : Bool). Stands (Ended client l.address) (if r then ended kind client found else [])) (sym kept)
-    (subst (λ (o : Option Lease). Stands (Ended client l.address) (ended kind client o)) (sym is) (by ends)) where
-      by : (kind ≡ Decline) ⊎ (kind ≡ Release) → Stands (Ended client l.address) (ended kind client (Some l))
-      by (inl e) = subst (λ (k : Kind4). Stands (Ended client l.address) (ended k client (Some l))) (sym e) (inl refl)
-      by (inr e) = subst (λ (k : Kind4). Stands (Ended client l.address) (ended k client (Some l))) (sym e) (inl refl)
+    subst (λ (r : Bool). Stands (Ended4 client l.address) (if r then ended4 kind client found else [])) (sym kept)
+    (subst (λ (o : Option Lease). Stands (Ended4 client l.address) (ended4 kind client o)) (sym is) (by ends)) where
+      by : (kind ≡ Decline) ⊎ (kind ≡ Release) → Stands (Ended4 client l.address) (ended4 kind client (Some l))
+      by (inl e) = subst (λ (k : Kind4). Stands (Ended4 client l.address) (ended4 k client (Some l))) (sym e) (inl refl)
+      by (inr e) = subst (λ (k : Kind4). Stands (Ended4 client l.address) (ended4 k client (Some l))) (sym e) (inl refl)
 
 -- what is served keeps it, or its client ends it
-pub keeps_served : (part : CircuitPart) (b : Book) → IsBook b → (g : Grant) (effect : Effect) (message : Result MessageValue MessageFault) → Keeps part.lease g b
-    → Keeps part.lease g (message_served part b message).book ⊎ Stands (Ended g.client g.address) (message_lines part effect b message)
-keeps_served part b book g effect (Err fault) keeps = inl keeps
-keeps_served part b book g effect (Ok m) keeps = by (request_in m) where
-  by : (request : Result Request4 Discard) → Keeps part.lease g (request_served part m b request).book ⊎ Stands (Ended g.client g.address) (request_lines part effect b request)
+pub keeps_served4 : (part : CircuitPart) (b : Book) → IsBook b → (g : Grant (List ℕ)) (effect : Effect) (message : Result MessageValue MessageFault) → Keeps part.lease V4 g b
+    → Keeps part.lease V4 g (message4_served part b message).book ⊎ Stands (Ended4 g.client g.address) (message4_lines part effect b message)
+keeps_served4 part b book g effect (Err fault) keeps = inl keeps
+keeps_served4 part b book g effect (Ok m) keeps = by (request4_in m) where
+  by : (request : Result Request4 Discard) → Keeps part.lease V4 g (request4_served part m b request).book ⊎ Stands (Ended4 g.client g.address) (request4_lines part effect b request)
   by (Err why) = inl keeps
   by (Ok q) = by_knowing keeps.1 where
-    by_knowing : Knows g b → Keeps part.lease g (request_served part m b (Ok q)).book ⊎ Stands (Ended g.client g.address) (request_lines part effect b (Ok q))
+    by_knowing : Knows V4 g b → Keeps part.lease V4 g (request4_served part m b (Ok q)).book ⊎ Stands (Ended4 g.client g.address) (request4_lines part effect b (Ok q))
     by_knowing (inl past) = inl (keeps.0, inl past)
-    by_knowing (inr (l, is, address, more)) = by_law (lease_kept (pool4_of part) b.clock q b.four g.client l book is) where
+    by_knowing (inr (l, is, address, more)) = by_law (lease_kept (pool4_of part) b.clock q b.four g.client l book.four is) where
       longer : (until : ℕ) → (until ≡ l.until) ⊎ (until ≡ b.clock + part.lease) → g.until ≤ until
       longer until (inl e) = subst (λ u. g.until ≤ u) (sym e) more
       longer until (inr e) = subst (λ u. g.until ≤ u) (sym e) keeps.0
 
-      by_end : (kind : (q.kind ≡ Decline) ⊎ (q.kind ≡ Release)) → q.key ≡ g.client → (answer4 (pool4_of part) b.clock b.four q).is_kept ≡ true → Stands (Ended g.client g.address) (request_lines part effect b (Ok q))
+      by_end : (kind : (q.kind ≡ Decline) ⊎ (q.kind ≡ Release)) → q.key ≡ g.client → (answer4 (pool4_of part) b.clock b.four q).is_kept ≡ true → Stands (Ended4 g.client g.address) (request4_lines part effect b (Ok q))
       by_end kind key kept =
-          stands_right _ (if is_sent effect then granted part q.key b.clock (answer4 (pool4_of part) b.clock b.four q).answer else []) _
-          (subst (λ (line : Line). Stands line (if (answer4 (pool4_of part) b.clock b.four q).is_kept then ended q.kind q.key (get b.four.bindings q.key) else [])) (λ i. Ended (key i) (address i))
+          stands_right _ (if is_sent effect then granted4 part q.key b.clock (answer4 (pool4_of part) b.clock b.four q).answer else []) _
+          (subst (λ (line : Line). Stands line (if (answer4 (pool4_of part) b.clock b.four q).is_kept then ended4 q.kind q.key (get b.four.bindings q.key) else [])) (λ i. Ended4 (key i) (address i))
           (end_stands (answer4 (pool4_of part) b.clock b.four q).is_kept q.kind q.key (get b.four.bindings q.key) l kept kind (ap (λ (k : List ℕ). get b.four.bindings k) key ∙ is)))
 
       by_law : ((until : ℕ) × ((until ≡ l.until) ⊎ (until ≡ b.clock + part.lease)) × (get (answer4 (pool4_of part) b.clock b.four q).book.bindings g.client ≡ Some (record { address = l.address; until = until })))
           ⊎ EndsLease (pool4_of part) b.clock b.four q g.client l.address
-          → Keeps part.lease g (request_served part m b (Ok q)).book ⊎ Stands (Ended g.client g.address) (request_lines part effect b (Ok q))
+          → Keeps part.lease V4 g (request4_served part m b (Ok q)).book ⊎ Stands (Ended4 g.client g.address) (request4_lines part effect b (Ok q))
       by_law (inl (until, which, bound)) = inl (keeps.0, inr (record { address = l.address; until = until }, bound, address, longer until which))
       by_law (inr (key, kept, inl gave)) = inr (by_end (inl gave.0) key kept)
       by_law (inr (key, kept, inr gave)) = inr (by_end (inr gave.0) key kept)

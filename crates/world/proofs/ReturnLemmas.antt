@@ -10,7 +10,7 @@ use Rattle.types.specs.Addr.{is_unspecified, same_source}
 use Rattle.types.specs.declared.addr.Addr4.{Addr4}
 use Rattle.types.specs.declared.addr.Source.{Source}
 use Rattle.types.specs.declared.discard.Discard.{Discard}
-use Rattle.types.specs.declared.discard.Discard.TheVariants.{NotServed, UnknownCircuit}
+use Rattle.types.specs.declared.discard.Discard.TheVariants.{UnknownCircuit}
 use Rattle.types.specs.declared.request4.Reply4.{Reply4}
 use Rattle.types.specs.declared.request4.Reply4.TheVariants.{Offer, Ack, Inform, Nak}
 use Rattle.types.specs.declared.request4.Request4.{Request4}
@@ -24,12 +24,12 @@ use Rattle.v4_message.specs.Spelling.{MessageValue}
 use Rattle.config.specs.CircuitPart.{CircuitPart, pool4_of}
 use Rattle.bindings_v4.specs.Table4.{answer4}
 use Rattle.types.specs.declared.dest.Proto.{Proto}
-use Rattle.types.specs.declared.dest.Proto.TheVariants.{V4, V6}
+use Rattle.types.specs.declared.dest.Proto.TheVariants.{V4}
 use Rattle.dispatch.specs.Addressee.{addressee}
 use Rattle.dispatch.specs.Addressee4.{agent_check, link_fault4, message_check}
 use Rattle.dispatch.specs.NamedCircuit.{circuit_check, index_check, link_check, named_check}
-use Rattle.dispatch.specs.Request.{request_in}
-use Rattle.dispatch.specs.Server.{Book, book_at, datagram_served, reply_to, request_served, message_served, served}
+use Rattle.dispatch.specs.Request4.{request4_in}
+use Rattle.dispatch.specs.Server.{Book, book_at, datagram_served, reply4_to, request4_served, message4_served, served}
 use Rattle.relay.specs.Down4.{is_named}
 use Rattle.replies.specs.Reply4.{name_servers, echo, reply_options, reply4_bytes}
 
@@ -112,9 +112,6 @@ module _ (circuits : List CircuitPart) (c : ℕ) (part : CircuitPart) (at : slic
 abbrev ok : List ℕ → Result (List ℕ) Discard
 ok bytes = Ok bytes
 
-abbrev refused : Result (List ℕ) Discard
-refused = Err NotServed
-
 -- These bytes are a reply to the message.
 pub record IsReply (part : CircuitPart) (m : MessageValue) (b : Book) (bytes : List ℕ) : Type 0 where
   pub request : Request4
@@ -123,7 +120,7 @@ pub record IsReply (part : CircuitPart) (m : MessageValue) (b : Book) (bytes : L
   pub written : bytes ≡ reply4_bytes part m reply
 
 by_answer : (part : CircuitPart) (m : MessageValue) (b : Book) (bytes : List ℕ) (request : Request4) (answer : Result Reply4 Discard)
-    → (answer4 (pool4_of part) b.clock b.four request).answer ≡ answer → reply_to part m answer ≡ Ok bytes → IsReply part m b bytes
+    → (answer4 (pool4_of part) b.clock b.four request).answer ≡ answer → reply4_to part m answer ≡ Ok bytes → IsReply part m b bytes
 by_answer part m b bytes request (Err why) is e = absurd cc
 by_answer part m b bytes request (Ok reply) is e =
     let same : reply4_bytes part m reply ≡ bytes = same_bytes (reply4_bytes part m reply) bytes e in
@@ -132,7 +129,7 @@ by_answer part m b bytes request (Ok reply) is e =
     same_bytes : (x y : List ℕ) → ok x ≡ ok y → x ≡ y
     same_bytes x y h = cc
 
-by_request : (part : CircuitPart) (m : MessageValue) (b : Book) (bytes : List ℕ) (request : Result Request4 Discard) → (request_served part m b request).answer ≡ Ok bytes → IsReply part m b bytes
+by_request : (part : CircuitPart) (m : MessageValue) (b : Book) (bytes : List ℕ) (request : Result Request4 Discard) → (request4_served part m b request).answer ≡ Ok bytes → IsReply part m b bytes
 by_request part m b bytes (Err why) e = absurd cc
 by_request part m b bytes (Ok request) e = by_answer part m b bytes request (answer4 (pool4_of part) b.clock b.four request).answer refl e
 
@@ -141,17 +138,7 @@ pub is_reply : (part : CircuitPart) (e : DeliveryValue) (bytes : List ℕ) (b : 
 unfolding served
 is_reply part e bytes b m four read answered =
     let P : Proto → Type 0 = λ proto. (datagram_served part proto e.bytes (book_at e.moment b)).answer ≡ Ok bytes in
-    by_request part m (book_at e.moment b) bytes (request_in m) (subst (λ r. (message_served part (book_at e.moment b) r).answer ≡ Ok bytes) read (subst P (sym four) answered))
-
--- no DHCPv6 message is served yet
-pub no_reply6 : (part : CircuitPart) (e : DeliveryValue) (bytes : List ℕ) (b : Book) → V6 ≡ e.proto → (served part e b).answer ≡ Ok bytes → ⊥
-unfolding served
-no_reply6 part e bytes b six answered =
-    let P : Proto → Type 0 = λ proto. (datagram_served part proto e.bytes (book_at e.moment b)).answer ≡ Ok bytes in
-    not_ok (subst P (sym six) answered)
-  where
-    not_ok : refused ≡ ok bytes → ⊥
-    not_ok e = absurd cc
+    by_request part m (book_at e.moment b) bytes (request4_in m) (subst (λ r. (message4_served part (book_at e.moment b) r).answer ≡ Ok bytes) read (subst P (sym four) answered))
 
 -- the reply bears the request's option 82
 last_is : (dns : List Addr4) (information : List ℕ) → look_up 82 (name_servers dns ++ echo (Some information)) ≡ Some information

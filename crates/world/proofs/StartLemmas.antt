@@ -82,6 +82,7 @@ module _ (settings : Settings) (quota : ℕ) (w : WorldValue) (sound : IsSound s
     sources = sources;
     count = count ∙ sym (length-map settings.circuits values);
     few = subst (λ n. n ≤ 1024) (sym (length-map settings.circuits values)) sound.circuits;
+    apart = sound.rules.names.listens;
     each = λ c part at. all_at IsPart (parts_of settings) c part are_parts at;
     listens = λ c part proto at. let circuit = its c part at in ap (λ (p : CircuitPart). listen_of p proto) circuit.2 ∙ listened circuit.0 proto;
     known = λ c part at. let relay = its_relay c part at in known_source t.relays relay.0 part.relay relay.2;

@@ -367,6 +367,7 @@ still_world w new is topology behind parts sources count regions ready addressed
       sources = sources ∙ is.sources;
       count = count ∙ is.count;
       few = is.few;
+      apart = is.apart;
       each = is.each;
       listens = is.listens;
       known = is.known;

@@ -7,6 +7,7 @@ use Rattle.types.specs.declared.dest.Dest.TheVariants.{Unicast}
 use Rattle.types.specs.declared.dest.Proto.TheVariants.{V4}
 use Rattle.slots.specs.Key.{key4_cmp}
 use Rattle.slots.specs.Maps.{Lease, Clients}
+use Rattle.bindings_v6.specs.Book6.{empty_book}
 use Rattle.config.specs.CircuitPart.{CircuitPart}
 use Rattle.dispatch.specs.Server.{Book}
 use Rattle.lossy_net.specs.Net.{Datagram}
@@ -125,7 +126,7 @@ client n = 1 ∷ 2 ∷ 0 ∷ 0 ∷ 0 ∷ 0 ∷ n ∷ []
 
 -- a book of nothing but offers
 abbrev pub offers_at : ℕ → Clients key4_cmp → Book
-offers_at clock offers = record { clock = clock; four = record { bindings = empty; offers = offers; bars = empty } }
+offers_at clock offers = record { clock = clock; four = record { bindings = empty; offers = offers; bars = empty }; six = empty_book }
 
 -- of one offer
 abbrev pub one_offer : List ℕ → Lease → Clients key4_cmp
@@ -162,7 +163,7 @@ asked = with_up request_up 100 (one_offer (client 1) (lease_until 160))
 
 -- client 1 got 10.0.0.10 at 110, for ten minutes, and no offer is left
 abbrev pub leased : Book
-leased = record { clock = 110; four = record { bindings = one_offer (client 1) (lease_until 710); offers = empty; bars = empty } }
+leased = record { clock = 110; four = record { bindings = one_offer (client 1) (lease_until 710); offers = empty; bars = empty }; six = empty_book }
 
 -- the same client asks where a save of its lease failed
 abbrev pub closed : Alone

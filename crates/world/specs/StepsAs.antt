@@ -1,5 +1,5 @@
 -- What a world keeps from step to step. Only proofs need these.
-use Rattle.std.specs.Prelude.{◌≡◌, ℕ, ◌≤◌, ◌==◌, true, false, List, [], ◌∷◌, length, slice_get, Some, Ok}
+use Rattle.std.specs.Prelude.{◌≡◌, ◌≢◌, ℕ, ◌≤◌, ◌==◌, true, false, List, [], ◌∷◌, length, slice_get, Some, Ok}
 use Rattle.std.specs.List.{list_any}
 use Rattle.types.specs.Addr.{same_source}
 use Rattle.types.specs.declared.dest.Proto.{Proto}
@@ -55,6 +55,11 @@ IsFor t k part d = addressee t.relays t.circuits d.proto part.relay d.bytes ≡ 
 abbrev pub Returns : Topology → ℕ → CircuitPart → Datagram → Type 0
 Returns t k part d = (relay : ℕ) → slice_get t.relays relay ≡ Some part.relay → relayed_down_in t relay (listen t d.proto) d.bytes ≡ for_circuit k (relayed_down part d.proto d.bytes)
 
+-- a DHCPv6 reply that the relay can tell from DHCPv4's and that fits a datagram
+pub record IsDue (t : Topology) (bytes : List ℕ) : Type 0 where
+  pub apart : t.listen4 ≢ t.listen6
+  pub short : length bytes ≤ 1280
+
 -- Relay, network and server know the circuits of this topology, and what the network keeps of each is its
 -- own.
 pub record IsWorldOf (t : Topology) (w : WorldValue) : Type 0 where
@@ -62,6 +67,7 @@ pub record IsWorldOf (t : Topology) (w : WorldValue) : Type 0 where
   pub sources : w.server.relays ≡ t.relays
   pub count : length w.net.circuits ≡ length t.circuits
   pub few : length t.circuits ≤ 1024
+  pub apart : t.listen4 ≢ t.listen6
   pub each : (c : ℕ) (part : CircuitPart) → slice_get t.circuits c ≡ Some part → IsPart part
   pub listens : (c : ℕ) (part : CircuitPart) (proto : Proto) → slice_get t.circuits c ≡ Some part → listen_of part proto ≡ listen t proto
   pub known : (c : ℕ) (part : CircuitPart) → slice_get t.circuits c ≡ Some part → list_any (same_source part.relay) t.relays ≡ true

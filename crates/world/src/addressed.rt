@@ -5,17 +5,20 @@ ghost use Rattle.types.specs.Delivery.{DeliveryValue};
 ghost use Rattle.types.specs.Addr.{same_source};
 ghost use Rattle.types.specs.declared.addr.Source.{Source};
 ghost use Rattle.types.specs.declared.dest.Proto.{Proto};
+ghost use Rattle.types.specs.declared.dest.Proto.TheVariants.{V6};
 ghost use Rattle.config.specs.CircuitPart.{CircuitPart, IsPart};
 ghost use Rattle.dispatch.specs.Addressee.{addressee};
 ghost use Rattle.dispatch.specs.Server.{Book, served};
 ghost use Rattle.config.specs.Topology.{Topology, listen};
 ghost use Rattle.relay.specs.Relays.{for_circuit, relayed_down, relayed_down_in, relayed_up};
 ghost use Rattle.wire.specs.Bytes.{AreBytes};
+ghost use Rattle.world.specs.StepsAs.{IsDue};
 
 use bindings_v4::gives_whole_addresses;
-use relay::{forward_is_read, named_circuit};
-use replies::reply_is_read;
+use relay::{forward_is_read, named_circuit, named_circuit6, source_decides};
+use replies::{reply_is_read, reply6_is_read};
 use v4_message::exact_reading;
+use v6_message::exact_relay_reading;
 
 /// What the relay sends up for a circuit is that circuit's at the server, among any circuits of which no
 /// other has its id, and any relays of which one is its own.
@@ -30,17 +33,23 @@ pub fn comes_to_its_circuit()
 }
 
 /// What the server answers to a circuit's datagram comes down to that circuit, by the relay behind which
-/// it is, as the circuit's own part makes it.
+/// it is, as the circuit's own part makes it. For DHCPv6 the server's two addresses have to differ, as in
+/// every configuration, and the answer has to fit a datagram, as every one that the server writes does.
 pub fn reply_comes_to_its_circuit()
     ensures { (topology : Topology) (relay c : ℕ) (part : CircuitPart) (d : DeliveryValue) (bytes : List ℕ) (b : Book)
         → slice_get topology.circuits c ≡ Some part
         → ((d : ℕ) (other : CircuitPart) → slice_get topology.circuits d ≡ Some other → other.id ≡ part.id → d ≡ c)
         → slice_get topology.relays relay ≡ Some part.relay → IsPart part → AreBytes d.bytes
         → addressee topology.relays topology.circuits d.proto part.relay d.bytes ≡ Ok c → (served part d b).answer ≡ Ok bytes
+        → (d.proto ≡ V6 → IsDue topology bytes)
         → relayed_down_in topology relay (listen topology d.proto) bytes ≡ for_circuit c (relayed_down part d.proto bytes) }
 {
     gives_whole_addresses();
     reply_is_read();
+    reply6_is_read();
     named_circuit();
+    named_circuit6();
+    source_decides();
     exact_reading();
+    exact_relay_reading();
 }

@@ -9,7 +9,7 @@ ghost use Rattle.relay.specs.Relays.{relayed_up};
 ghost use Rattle.lease_disk.specs.declared.image.Image.TheVariants.{Byte, Unreadable};
 ghost use Rattle.world.specs.Alone.{alone_step, after_all, frames, Dropped, Gone, SentUp, SentDown};
 ghost use Rattle.world.specs.Examples.{part_a, part_a1, setup_a, setup_a1, at_port, client_message, discover, discover_up, peer, solicit, solicit_up, relayed_message, relayed_discover, offer, client, offers_at, one_offer, lease_until, datagram, with_up, begun, no_leases, asked, leased, closed, ack};
-ghost use Rattle.world.specs.Granted.{Granted, lines};
+ghost use Rattle.world.specs.Granted.{Granted4, lines};
 ghost use Rattle.events.specs.Seen.{Frame, Up, Down, Tick, Restart};
 
 /// What the relay sends up of a frame, and which frames it drops.
@@ -123,5 +123,5 @@ pub fn an_unreadable_region_closes()
 
 /// What the DHCPACK of a lease grants.
 pub fn a_lease_is_granted()
-    ensures { lines setup_a (Up 0 110 0) asked ≡ Granted (record { client = client 1; address = 167772170; until = 710; clock = 110 }) ∷ [] }
+    ensures { lines setup_a (Up 0 110 0) asked ≡ Granted4 (record { client = client 1; address = 167772170; until = 710; clock = 110 }) ∷ [] }
 {}

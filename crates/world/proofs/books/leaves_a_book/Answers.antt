@@ -14,7 +14,7 @@ returns-clause-run c setup seen a sound books =
     held_after IsBook setup law.later law.kept (λ e b book. law.answered setup.part e b sound book) seen a books
 
 pub returns-clause-own : goal.returns-clause-own
-returns-clause-own c setup s a sound books = own_step setup sound.pool4 s a books
+returns-clause-own c setup s a sound books = own_step setup (record { four = sound.pool4; six = sound.pool6 }) s a books
 
 pub returns-clause-begins : goal.returns-clause-begins
 returns-clause-begins c part bytes = opened_of part bytes

@@ -77,7 +77,7 @@ invariant_of-self c =
     let answer = its_answer part (delivery_of part c.args.now d) c.args.fault known.leases.book in
     let P : Result (Unit {0}) Discard → Type 0 = λ result. IsAnswer answer result sent.bytes in
     let reply = reply_of part (delivery_of part c.args.now d) (its_fails part (delivery_of part c.args.now d) c.args.fault known.leases.book) known.leases.book sent.bytes (is_reply answer sent.bytes (subst P c.in-Ok.is r.answer)) in
-    c.reply_comes_to_its_circuit.ensures t relay k part (delivery_of part c.args.now d) sent.bytes reply.book there (is.ids k part there) behind (is.each k part there) c.are_bytes.ensures r.found reply.answer))
+    c.reply_comes_to_its_circuit.ensures t relay k part (delivery_of part c.args.now d) sent.bytes reply.book there (is.ids k part there) behind (is.each k part there) c.are_bytes.ensures r.found reply.answer (λ six. record { apart = is.apart; short = c.len-len.ensures.fits })))
 
 pub returns-in-Ok-clause-moves : goal.returns-in-Ok-clause-moves
 returns-in-Ok-clause-moves c =
