@@ -51,10 +51,13 @@ fn is_dropped(alloc: Global, text: &str, port: u16, parts: [&[u8]; 5], why: Disc
 fn reasons(rt: HostRuntime) -> Result<(), AllocError> {
     let two_relays = "[[relay]]\nname = 'r2'\nsource = '127.0.0.1:6802'\n[[circuit]]\n";
     let text = ONE_CIRCUIT.replace(rt.alloc(), "[[circuit]]\n", two_relays)?;
-    let rows: [(u16, &[u8], &[u8], &[u8], &[u8], Discard); 20] = [
+    let rows: [(u16, &[u8], &[u8], &[u8], &[u8], Discard); 22] = [
         // port, type and hops, link, two options, what comes of it
-        (6801, &[12, 0], LINK,     A,                      SOLICIT,                Discard::NotServed),
-        (6801, &[12, 9], LINK,     SOLICIT,                A,                      Discard::NotServed),
+        (6801, &[12, 0], LINK,     A,                      SOLICIT,                Discard::Malformed),
+        (6801, &[12, 9], LINK,     SOLICIT,                A,                      Discard::Malformed),
+        // the message inside: of another type, and without a whole header
+        (6801, &[12, 0], LINK,     A,                      &[0, 9, 0, 4, 11, 0, 0, 7], Discard::NotServed),
+        (6801, &[12, 0], LINK,     A,                      &[0, 9, 0, 3, 11, 0, 0], Discard::Malformed),
         (9999, &[12, 0], LINK,     A,                      SOLICIT,                Discard::UnknownSource),
         // what passed no relay, also where it is cut off
         (6801, &[1, 0],  LINK,     A,                      SOLICIT,                Discard::NotRelayed),
