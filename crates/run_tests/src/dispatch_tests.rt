@@ -1,16 +1,10 @@
 //! The server of one circuit and of two, on datagrams worked out by hand.
-ghost use Rattle.std.specs.Prelude.{ℕ, ◌≤◌};
-ghost use Rattle.lease_disk.specs.Model.{state_of};
-ghost use Rattle.lease_disk.specs.Region.{IsClean};
-
-use config::Config;
-use dispatch::*;
+use crate::bench::{Bench, disk_of};
+use dispatch::OpenFault;
 use fixtures::{ONE_CIRCUIT, TWO_CIRCUITS};
-use lease_disk::ModelDisk;
-use std::alloc::{AllocError, Global};
-use std::marker::Model;
+use std::alloc::AllocError;
 use std::process::Abort;
-use types::{Addr4, Discard, Moment, Proto, Source};
+use types::{Discard, Proto};
 use wire::PacketBuf;
 
 /// Option 82 of circuit `a` with its gateway as server identifier override, and the end.
@@ -18,58 +12,6 @@ const AGENT: &[u8] = &[82, 9, 1, 1, 97, 11, 4, 10, 0, 0, 1, 255];
 
 /// The same of circuit `a1`.
 const AGENT_A1: &[u8] = &[82, 10, 1, 2, 97, 49, 11, 4, 10, 0, 1, 1, 255];
-
-/// A server with the disk that it was opened over.
-#[derive(Drop)]
-struct Bench {
-    server: Server,
-    disk: ModelDisk,
-}
-
-impl Model for Bench {
-    ghost use Rattle.dispatch.specs.Leases.{HasRegions};
-    ghost use Rattle.dispatch.specs.ServerValue.{AreReady, ServerValue, parts_in};
-    ghost use Rattle.lease_disk.specs.Model.{ModelDiskValue, state_of};
-    ghost use Rattle.std.specs.Prelude.{length};
-
-    ghost Value = { ServerValue × ModelDiskValue };
-
-    ghost view = { λ b. (b.server, b.disk) };
-
-    ghost invariant = { λ b. HasRegions (parts_in b.server) (length b.disk.regions) × AreReady (state_of b.disk) b.server };
-}
-
-/// A disk of so many formatted regions, the first of which is then filled with this byte.
-fn disk_of(rt: &impl Abort, alloc: Global, regions: u16, filled: Option<u8>) -> ModelDisk
-    requires { 1 ≤ regions }
-    ensures { (q : ℕ) → IsClean (state_of result q) }
-{
-    let mut disk = ModelDisk::new(alloc, regions).expect(rt, "a disk");
-    if let Some(byte) = filled {
-        disk.fill(0, byte);
-    }
-    disk
-}
-
-/// A server over such a disk.
-fn opened(
-    rt: &impl Abort,
-    alloc: Global,
-    text: &str,
-    regions: u16,
-    filled: Option<u8>,
-) -> Result<Bench, OpenFault>
-    requires { 1 ≤ regions }
-{
-    let config = Config::read(alloc, text).expect(rt, "a configuration");
-    let mut disk = disk_of(rt, alloc, regions, filled);
-    let server = Server::open(alloc, &config, &mut disk)?;
-    Ok(Bench { server, disk })
-}
-
-fn bench_of(rt: &impl Abort, alloc: Global, text: &str) -> Bench {
-    opened(rt, alloc, text, 2, None).expect(rt, "a server")
-}
 
 /// Client n's message of this type with this giaddr, and these bytes after the message type.
 fn message(kind: u8, client: u8, giaddr: [u8; 4], rest: &[u8]) -> PacketBuf {
@@ -99,19 +41,9 @@ fn receive(
     datagram: &PacketBuf,
     now: u64,
 ) -> Result<(), Discard> {
-    let addr = Addr4([127, 0, 0, 1]);
-    let now = Moment::new(now).expect(rt, "a moment");
     let mut out = PacketBuf::new();
     let _ = out.push(7);
-    let source = Source { addr, port };
-    let result = bench.server.receive(
-        Proto::V4,
-        source,
-        datagram.as_slice(),
-        now,
-        &mut bench.disk,
-        &mut out,
-    );
+    let result = bench.receive(rt, Proto::V4, port, datagram.as_slice(), now, &mut out);
     match result {
         Ok(()) => assert!(rt; out.len() == 300),
         Err(_) => assert!(rt; out.is_empty()),
@@ -120,7 +52,7 @@ fn receive(
 }
 
 /// Client n's DHCPDISCOVER from the circuit's relay.
-fn discover(rt: &impl Abort, bench: &mut Bench, client: u8, now: u64) -> Result<(), Discard> {
+pub fn discover(rt: &impl Abort, bench: &mut Bench, client: u8, now: u64) -> Result<(), Discard> {
     let datagram = message(1, client, [10, 0, 0, 1], AGENT);
     receive(rt, bench, 6801, &datagram, now)
 }
@@ -144,7 +76,7 @@ fn reasons(rt: HostRuntime) {
         (6801, 2, [10, 0, 0, 1], AGENT,                                                 Err(Discard::NotServed)),
     ];
     for (port, kind, giaddr, rest, expected) in rows {
-        let mut bench = bench_of(&rt, rt.alloc(), ONE_CIRCUIT);
+        let mut bench = Bench::new(&rt, rt.alloc(), ONE_CIRCUIT);
         let datagram = message(kind, 1, giaddr, rest);
         assert!(rt; receive(&rt, &mut bench, port, &datagram, 100) == expected);
     }
@@ -152,7 +84,7 @@ fn reasons(rt: HostRuntime) {
 
 #[test]
 fn long_datagrams(rt: HostRuntime) {
-    let mut bench = bench_of(&rt, rt.alloc(), ONE_CIRCUIT);
+    let mut bench = Bench::new(&rt, rt.alloc(), ONE_CIRCUIT);
     let mut datagram = message(1, 1, [10, 0, 0, 1], AGENT);
     let filled = datagram.extend(&[0; 1025]).is_ok();
     assert!(rt; filled);
@@ -162,7 +94,7 @@ fn long_datagrams(rt: HostRuntime) {
 
 #[test]
 fn an_offer_expires_by_the_circuits_clock(rt: HostRuntime) {
-    let mut bench = bench_of(&rt, rt.alloc(), ONE_CIRCUIT);
+    let mut bench = Bench::new(&rt, rt.alloc(), ONE_CIRCUIT);
     assert!(rt; discover(&rt, &mut bench, 1, 100) == Ok(()));
 
     // a datagram of no circuit moves no clock
@@ -170,7 +102,7 @@ fn an_offer_expires_by_the_circuits_clock(rt: HostRuntime) {
     assert!(rt; receive(&rt, &mut bench, 9999, &stranger, 160) == Err(Discard::UnknownSource));
     assert!(rt; discover(&rt, &mut bench, 2, 159) == Err(Discard::NoAddress));
 
-    bench.server.tick(Moment::new(160).expect(&rt, "a moment"));
+    bench.tick(&rt, 160);
     assert!(rt; discover(&rt, &mut bench, 2, 100) == Ok(()));
 }
 
@@ -193,7 +125,7 @@ fn reasons_among_two_circuits(rt: HostRuntime) -> Result<(), AllocError> {
     let two = "[[relay]]\nname = 'r2'\nsource = '127.0.0.1:6802'\n[[circuit]]\nid = 'a'\n";
     let text = TWO_CIRCUITS.replace(rt.alloc(), "[[circuit]]\nid = 'a'\n", two)?;
     for (port, giaddr, rest, expected) in rows {
-        let mut bench = bench_of(&rt, rt.alloc(), text.as_str());
+        let mut bench = Bench::new(&rt, rt.alloc(), text.as_str());
         let datagram = message(1, 1, giaddr, rest);
         assert!(rt; receive(&rt, &mut bench, port, &datagram, 100) == expected);
     }
@@ -203,33 +135,16 @@ fn reasons_among_two_circuits(rt: HostRuntime) -> Result<(), AllocError> {
 /// A short reply on one circuit has nothing of a longer one on the other before it.
 #[test]
 fn a_short_reply_after_a_long_one(rt: HostRuntime) {
-    let mut bench = bench_of(&rt, rt.alloc(), TWO_CIRCUITS);
-    let now = Moment::new(100).expect(&rt, "a moment");
-    let addr = Addr4([127, 0, 0, 1]);
-    let relay = Source { addr, port: 6801 };
+    let mut bench = Bench::new(&rt, rt.alloc(), TWO_CIRCUITS);
     let mut out = PacketBuf::new();
     let discover = message(1, 1, [10, 0, 0, 1], AGENT);
-    let offered = bench.server.receive(
-        Proto::V4,
-        relay,
-        discover.as_slice(),
-        now,
-        &mut bench.disk,
-        &mut out,
-    );
+    let offered = bench.receive(&rt, Proto::V4, 6801, discover.as_slice(), 100, &mut out);
     assert!(rt; offered == Ok(()));
     let wanted = [
         50, 4, 10, 0, 9, 9, 82, 10, 1, 2, 97, 49, 11, 4, 10, 0, 1, 1, 255,
     ];
     let request = message(3, 2, [10, 0, 1, 1], &wanted);
-    let refused = bench.server.receive(
-        Proto::V4,
-        relay,
-        request.as_slice(),
-        now,
-        &mut bench.disk,
-        &mut out,
-    );
+    let refused = bench.receive(&rt, Proto::V4, 6801, request.as_slice(), 100, &mut out);
     assert!(rt; refused == Ok(()));
     let datagram = out.as_slice();
     assert!(rt; datagram.len() == 300);
@@ -241,11 +156,14 @@ fn a_short_reply_after_a_long_one(rt: HostRuntime) {
 /// A damaged region closes its circuit, alone, and a disk without the last region is refused.
 #[test]
 fn damage(rt: HostRuntime) {
-    let mut bench = opened(&rt, rt.alloc(), TWO_CIRCUITS, 2, Some(0x5a)).expect(&rt, "a server");
+    let mut disk = disk_of(&rt, rt.alloc(), 2);
+    disk.fill(0, 0x5a);
+    let mut bench = Bench::open(&rt, rt.alloc(), TWO_CIRCUITS, disk).expect(&rt, "a server");
     assert!(rt; discover(&rt, &mut bench, 1, 100) == Err(Discard::CircuitClosed));
     let other = message(1, 1, [10, 0, 1, 1], AGENT_A1);
     assert!(rt; receive(&rt, &mut bench, 6801, &other, 100) == Ok(()));
 
-    let refused = opened(&rt, rt.alloc(), TWO_CIRCUITS, 1, None);
+    let disk = disk_of(&rt, rt.alloc(), 1);
+    let refused = Bench::open(&rt, rt.alloc(), TWO_CIRCUITS, disk);
     assert!(rt; matches!(refused, Err(OpenFault::DiskTooSmall)));
 }

@@ -2,6 +2,8 @@
 #![tactic(auto)]
 
 #[cfg(test)]
+mod bench;
+#[cfg(test)]
 mod dispatch6_tests;
 #[cfg(test)]
 mod dispatch_tests;
