@@ -1,0 +1,99 @@
+"""DHCP messages as hexadecimal digits: what cases/README.md says that words between braces stand for."""
+import ipaddress
+import re
+
+TYPES = {name: number for number, name in enumerate(
+    ("DISCOVER", "OFFER", "REQUEST", "DECLINE", "ACK", "NAK", "RELEASE", "INFORM"), 1)}
+FROM_SERVER = ("OFFER", "ACK", "NAK")
+# the header of a DHCPv4 message, RFC 2131 section 2
+HEADER = (("op", 1), ("htype", 1), ("hlen", 1), ("hops", 1), ("xid", 4), ("secs", 2), ("flags", 2),
+          ("ciaddr", 4), ("yiaddr", 4), ("siaddr", 4), ("giaddr", 4), ("chaddr", 16), ("sname", 64), ("file", 128))
+COOKIE = "63825363"
+
+# RFC 8415, section 7.3; a 6 parts them from DHCPv4's
+TYPES6 = {name + "6": number for number, name in enumerate(
+    ("SOLICIT", "ADVERTISE", "REQUEST", "CONFIRM", "RENEW", "REBIND", "REPLY", "RELEASE", "DECLINE",
+     "RECONFIGURE", "INFORMATION"), 1)}
+FROM_SERVER6 = ("ADVERTISE6", "REPLY6")
+
+
+def raw(words):
+    """Hexadecimal digits, where DIGITS*N is these digits N times."""
+    digits = ""
+    for word in words:
+        part, _, times = word.partition("*")
+        digits += part * int(times or 1)
+    return digits
+
+
+def message(kind, client, *words):
+    """A DHCPv4 message of this type and client, with these header fields and options."""
+    fields = dict(word.split("=") for word in words if "=" in word)
+    options = raw(word for word in words if "=" not in word)
+    number = f"{int(client):08x}"
+    values = {"op": "02" if kind in FROM_SERVER else "01", "htype": "01", "hlen": "06", "xid": number,
+              "chaddr": "0200" + number, "cookie": COOKIE, **fields}
+    length = int(values.pop("length", 0)) * 2
+    digits = "".join(values.pop(name, "").ljust(size * 2, "0") for name, size in HEADER)
+    digits += values.pop("cookie") + f"3501{TYPES[kind]:02x}" + options + "ff"
+    if values:
+        raise ValueError(f"no header fields: {values}")
+    return digits.ljust(length, "0")[:length] if length else digits
+
+
+# the server's id in every configuration of the cases, and what a lease of 600 seconds has for T1, T2 and its lifetimes
+DUID = "00030001020000000001"
+T1_AND_T2 = f"{600 // 2:08x}{600 * 4 // 5:08x}"
+LIFETIMES = f"{600:08x}" * 2
+
+
+def option6(code, value):
+    """A DHCPv6 option, RFC 8415 section 21.1."""
+    return f"{code:04x}{len(value) // 2:04x}{value}"
+
+
+def address6(word, lifetimes):
+    """An IA Address option with these lifetimes, or with lifetimes of 0 where the address ends with /0."""
+    address, mark, _ = word.partition("/0")
+    digits = ipaddress.IPv6Address(address).packed.hex() if ":" in address else raw([address])
+    return option6(5, digits + ("0" * 16 if mark else lifetimes))
+
+
+def message6(kind, client, *words):
+    """The frame of a DHCPv6 message of this type and client: its link-local address, then the message with
+    these fields, and with these addresses in its IA_NA. Or the server's message of this type to this client,
+    where the IA_NA has addresses or a status, or is left out."""
+    number = f"{int(client):08x}"
+    values = {"peer": "fe80" + "0" * 20 + number, "xid": number[2:], "duid": "000300010200" + number,
+              "iaid": "00000001", **dict(word.split("=") for word in words if "=" in word)}
+    values = {name: raw(value.split("+")) for name, value in values.items()}
+    is_server = kind in FROM_SERVER6
+    addresses = [word for word in words if "=" not in word and word != "ours"]
+    options = "".join(address6(word, LIFETIMES if is_server else "0" * 16) for word in addresses)
+    digits = ("" if is_server else values["peer"]) + f"{TYPES6[kind]:02x}" + values.pop("xid")
+    digits += option6(1, values.pop("duid"))
+    if is_server or "ours" in words:
+        values.setdefault("server", DUID)
+    for name, code in ("server", 2), ("status", 13):
+        if name in values:
+            digits += option6(code, values.pop(name))
+    if "ia" in values:
+        options = option6(13, values.pop("ia"))
+    iaid, times = values.pop("iaid"), T1_AND_T2 if is_server and addresses else "0" * 16
+    if options or not is_server:
+        digits += option6(3, iaid + times + options)
+    digits += values.pop("more", "")
+    if set(values) - {"peer"}:
+        raise ValueError(f"no fields: {values}")
+    return digits
+
+
+def bytes_of(words):
+    """What stands between braces, as hexadecimal digits."""
+    if words and words[0] in TYPES:
+        return message(*words)
+    return message6(*words) if words and words[0] in TYPES6 else raw(words)
+
+
+def expand(text):
+    return re.sub(r"\{([^{}]*)\}", lambda found: bytes_of(found[1].split()), text)
