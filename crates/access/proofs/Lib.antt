@@ -1,2 +1,7 @@
+pub mod AnswerLemmas
+pub mod CarryLemmas
 pub mod ClockLemmas
 pub mod FormatLemmas
+pub mod RelayLemmas
+pub mod TurnLemmas
+pub mod CountLemmas

@@ -1,5 +1,5 @@
 -- The addresses that sockets are bound to.
-use Rattle.std.specs.Prelude.{◌≡◌, ◌<◌, ◌+◌, ◌*◌, ◌⊎◌, ℕ, List, [], ◌∷◌, ⊤, length, Some, slice_get}
+use Rattle.std.specs.Prelude.{◌≡◌, ◌<◌, ◌+◌, ◌*◌, ◌⊎◌, ℕ, List, [], ◌∷◌, ◌++◌, ⊤, length, Some, slice_get}
 use Rattle.std.specs.Net.Socket.{socket_ip, socket_port}
 use Rattle.std.specs.declared.net.ip_addr.IpAddr.TheVariants.{V4}
 use Rattle.std.specs.declared.net.socket_addr.SocketAddr.{SocketAddr}
@@ -8,8 +8,10 @@ use Rattle.types.specs.declared.dest.Dest.{Dest}
 use Rattle.types.specs.declared.dest.Dest.TheVariants.{Broadcast, Unicast, Peer}
 use Rattle.settings.specs.declared.settings.RelayConfig.{RelayConfig}
 use Rattle.settings.specs.Settings.{Settings}
+use Rattle.config.specs.CircuitPart.{CircuitPart}
 use Rattle.access.specs.declared.access.AccessFault.{AccessFault}
 use Rattle.access.specs.declared.access.AccessFault.TheVariants as fault
+use Rattle.access.specs.declared.sockets.CircuitSockets.{CircuitSockets}
 use Rattle.access.specs.declared.sockets.SocketFault.{SocketFault}
 use Rattle.access.specs.declared.sockets.SocketFault.TheVariants as socket
 
@@ -45,8 +47,13 @@ RefusesSocket Bound fault.Disk = ⊤
 RefusesSocket Bound (fault.Socket at) = Bound at
 RefusesSocket Bound fault.TooManyCircuits = ⊤
 
--- the byte before a DHCPv4 frame on its way to a client
-abbrev pub destination_byte : Dest → ℕ
-destination_byte Broadcast = 0
-destination_byte (Unicast chaddr yiaddr) = 1
-destination_byte (Peer address) = 0
+-- what goes to a client: before a DHCPv4 frame a byte for broadcast or unicast, before a DHCPv6 frame the peer's address
+abbrev pub framed : Dest → List ℕ → List ℕ
+framed Broadcast frame = 0 ∷ frame
+framed (Unicast chaddr yiaddr) frame = 1 ∷ frame
+framed (Peer address) frame = address.0 ++ frame
+
+-- The sockets of each circuit use the socket of its own relay, whose datagrams come from the relay's source.
+abbrev pub AreOwnRelays : List Source → List CircuitPart → List CircuitSockets → Type 0
+AreOwnRelays relays parts circuits =
+    (c : ℕ) (part : CircuitPart) (sockets : CircuitSockets) → slice_get parts c ≡ Some part → slice_get circuits c ≡ Some sockets → slice_get relays sockets.relay ≡ Some part.relay

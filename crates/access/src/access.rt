@@ -1,16 +1,18 @@
 //! Relay and server over sockets.
 ghost use Rattle.std.specs.Prelude.{◌≡◌, ◌≤◌, ◌<◌, ◌+◌, ◌↔◌, length, map, true, is_some, Some, slice_get, Err, IfOk, IfErr};
-ghost use Rattle.access.specs.Access.{HasReached, HasReceived};
-ghost use Rattle.access.specs.Counts.{more_by};
-ghost use Rattle.access.specs.Sockets.{IsSocket, RefusesSocket, destination_byte};
+ghost use Rattle.access.specs.Access.{HasAnswered, HasCarried, HasCounted, HasKept, HasReached, HasServed, HasTurned, IsDown, IsUp, StayClosed, books_at};
+ghost use Rattle.access.specs.Counts.{more_by, none};
+ghost use Rattle.access.specs.Sockets.{IsSocket, RefusesSocket};
 ghost use Rattle.access.specs.declared.access.AccessFault.TheVariants as fault;
 ghost use Rattle.config.specs.CircuitPart.{parts_of};
 ghost use Rattle.dispatch.specs.Leases.{HasRegions};
 ghost use Rattle.dispatch.specs.ServerValue.{books_in, parts_in};
 ghost use Rattle.config.specs.Topology.{topology_of};
 
-use crate::counts::Counts;
-use crate::datagram_socket::{BUFFER_LEN, DatagramSocket};
+use crate::clock::moment;
+use crate::counts::{Counts, Outcome};
+use crate::datagram_socket::BUFFER_LEN;
+use crate::frame::{Framed, put_frame};
 use crate::sockets::{MAX_SERVED, SocketFault, Sockets};
 use config::Config;
 use dispatch::{OpenFault, Server};
@@ -19,8 +21,11 @@ use relay::Relays;
 use std::alloc::Global;
 use std::marker::Model;
 use std::net::Net;
+use std::rt::Clock;
+use std::thread;
+use std::time::Duration;
 use thiserror::Error;
-use types::{Circuit, Dest, Discard, Moment, Proto, RelayNo, Source};
+use types::{Circuit, Count, Dest, Moment, Proto, RelayNo, Source};
 use wire::PacketBuf;
 
 /// Why relay and server were not opened.
@@ -41,32 +46,38 @@ pub enum AccessFault {
 }
 
 /// The relays and the server of a configuration, with the sockets that they use and the device that
-/// keeps the leases. Clients and relays are reached by UDP on IPv4 alone; what comes in by DHCPv6 is
-/// not served.
+/// keeps the leases. Clients and relays are reached by UDP on IPv4 alone, for DHCPv6 too.
 #[derive(Drop)]
 pub struct Access {
     relays: Relays,
     server: Server,
     disk: FileDisk,
     sockets: Sockets,
+    /// Where the server receives what the relays send on.
     listen4: Source,
+    listen6: Source,
+    /// The datagram that came in, what is made of it, and that with what stands before it towards a client.
     buffer: [u8; BUFFER_LEN],
     out: PacketBuf,
+    frame: Framed,
     counts: Counts,
+    taken: Count,
+    turns: Count,
 }
 
 impl Model for Access {
     ghost use Rattle.std.specs.Prelude.{◌≡◌, ◌≤◌, ◌<◌, length, All};
     ghost use Rattle.access.specs.Access.{AccessValue};
+    ghost use Rattle.access.specs.Sockets.{AreOwnRelays};
     ghost use Rattle.dispatch.specs.Leases.{HasRegions};
     ghost use Rattle.dispatch.specs.ServerValue.{parts_in};
 
     ghost Value = { AccessValue };
 
-    ghost view = { λ a. record { topology = a.relays.topology; server = a.server; regions = a.disk.regions; counts = a.counts } };
+    ghost view = { λ a. record { topology = a.relays.topology; server = a.server; disk = a.disk; counts = a.counts; taken = a.taken.count; turns = a.turns.count } };
 
-    // each circuit and each relay has its sockets, each circuit a relay and a region
-    ghost invariant = { λ a. (length a.sockets.circuits.items ≡ length a.relays.topology.circuits) × (length a.sockets.circuits.items ≤ 16) × All (λ circuit. circuit.relay < length a.sockets.relays.items) a.sockets.circuits.items × (length a.sockets.relays.items ≡ length a.relays.topology.relays) × (length a.sockets.relays.items ≤ 8) × HasRegions (parts_in a.server) a.disk.regions };
+    // each circuit and each relay has its sockets, each circuit its own relay's and a region
+    ghost invariant = { λ a. (length a.sockets.circuits.items ≡ length a.relays.topology.circuits) × (length a.sockets.circuits.items ≤ 16) × All (λ circuit. circuit.relay < length a.sockets.relays.items) a.sockets.circuits.items × (length a.sockets.relays.items ≡ length a.relays.topology.relays) × (length a.sockets.relays.items ≤ 8) × HasRegions (parts_in a.server) a.disk.regions × AreOwnRelays a.relays.topology.relays a.relays.topology.circuits a.sockets.circuits.items };
 }
 
 impl Access {
@@ -88,6 +99,10 @@ impl Access {
         requires most { port ≤ 65472 }
         ensures topology { IfOk result (λ access. access.topology ≡ topology_of config.now) }
         ensures parts { IfOk result (λ access. parts_in access.server ≡ parts_of config.now) }
+        ensures large { IfOk result (λ access. HasRegions (parts_of config.now) access.disk.regions) }
+        ensures counts { IfOk result (λ access. access.counts ≡ none) }
+        ensures taken { IfOk result (λ access. access.taken ≡ 0) }
+        ensures turns { IfOk result (λ access. access.turns ≡ 0) }
         ensures circuits { result ≡ Err fault.TooManyCircuits ↔ (16 < length config.now.circuits) }
         ensures small { IfErr result (λ why. why ≡ fault.Disk → ¬ HasRegions (parts_of config.now) disk.regions) }
         ensures socket { IfErr result (RefusesSocket (λ at. IsSocket config.now port at × HasRegions (parts_of config.now) disk.regions)) }
@@ -114,28 +129,60 @@ impl Access {
             disk,
             sockets,
             listen4: config.server().listen4,
+            listen6: config.server().listen6,
             buffer: [0; BUFFER_LEN],
             out: PacketBuf::new(),
+            frame: Framed::new(),
             counts: Counts::new(),
+            taken: Count::new(),
+            turns: Count::new(),
         })
+    }
+
+    /// Makes so many turns by the system's clock. A turn that took no datagram is followed by a sleep of so
+    /// many milliseconds.
+    pub fn serve<R: Clock>(&mut self, rt: &R, turns: u32, pause: u16)
+        ensures turns { self.new.turns ≡ self.old.turns + turns }
+        ensures topology { self.new.topology ≡ self.old.topology }
+        ensures parts { parts_in self.new.server ≡ parts_in self.old.server }
+        ensures relays { self.new.server.relays ≡ self.old.server.relays }
+        ensures regions { self.new.disk.regions ≡ self.old.disk.regions }
+        ensures closed { StayClosed self.old.server self.new.server }
+    {
+        let mut now = Moment::first();
+        'turns: for _ in 0..turns {
+            now = moment(rt, now);
+            if self.turn(now) == 0 && pause > 0 {
+                thread::sleep(rt, Duration::from_millis(u64::from(pause)));
+            }
+        }
     }
 
     /// Tries each socket once without waiting: those of the circuits in order, the server's, those of
     /// the relays. What comes in is carried on at once; a datagram that can't be received or sent is
-    /// lost. Then moves all clocks to this moment. Returns how many datagrams were received.
+    /// lost. Then moves all clocks to this moment. Returns how many datagrams were taken.
     pub fn turn(&mut self, now: Moment) -> u32
         ensures most { result ≤ 42 }
+        ensures turned { HasTurned now result self.old self.new }
+        ensures taken { self.new.taken ≡ self.old.taken + result }
+        ensures turns { self.new.turns ≡ self.old.turns + 1 }
+        ensures counts { HasCounted result self.old.counts self.new.counts }
+        ensures received { self.new.counts.received ≡ more_by result self.old.counts.received }
+        ensures quiet { result ≡ 0 → books_in self.new.server ≡ books_at now (books_in self.old.server) }
+        ensures closed { StayClosed self.old.server self.new.server }
         ensures clocks { HasReached now self.new.server }
         ensures topology { self.new.topology ≡ self.old.topology }
         ensures parts { parts_in self.new.server ≡ parts_in self.old.server }
-        ensures regions { self.new.regions ≡ self.old.regions }
-        ensures received { self.new.counts.received ≡ more_by result self.old.counts.received }
+        ensures relays { self.new.server.relays ≡ self.old.server.relays }
+        ensures regions { self.new.disk.regions ≡ self.old.disk.regions }
     {
-        let received = self.receive_from_circuits()
-            + self.receive_from_server(now)
-            + self.receive_from_relays();
+        let frames = self.take_from_circuits();
+        let datagrams4 = self.take_at_server(Proto::V4, now);
+        let datagrams6 = self.take_at_server(Proto::V6, now);
+        let answers = self.take_from_relays();
         self.server.tick(now);
-        received
+        self.turns.tick();
+        frames + datagrams4 + datagrams6 + answers
     }
 
     /// Whether there is a circuit of this index that is open: its region was read and is not damaged, and
@@ -146,173 +193,150 @@ impl Access {
         self.server.is_open(circuit)
     }
 
-    /// What became of the datagrams that were received.
+    /// What became of the datagrams that were taken.
     pub fn counts(&self) -> &Counts
         ensures { result.now ≡ self.now.counts }
     {
         &self.counts
     }
 
-    /// Takes a frame from each of the circuits' sockets to its relay.
-    fn receive_from_circuits(&mut self) -> u32
-        ensures most { result ≤ 32 }
-        ensures received { HasReceived result self.old self.new }
-    {
-        let mut received = 0;
-        'circuits: for index in 0..self.sockets.circuits.len() {
-            received += self.receive_from_circuit(index);
+    /// Where the server receives datagrams of a protocol.
+    fn listen(&self, proto: Proto) -> Source {
+        match proto {
+            Proto::V4 => self.listen4,
+            Proto::V6 => self.listen6,
         }
-        received
     }
 
-    /// Takes a frame from each of a circuit's sockets to its relay.
-    fn receive_from_circuit(&mut self, index: usize) -> u32
-        requires { index < length self.old.topology.circuits }
-        ensures most { result ≤ 2 }
-        ensures received { HasReceived result self.old self.new }
+    /// Takes a frame from each of the circuits' sockets to its relay.
+    fn take_from_circuits(&mut self) -> u32
+        ensures most { result ≤ 32 }
+        ensures carried { HasCarried IsUp result self.old self.new }
     {
-        let mut received = 0;
-        let sockets = &self.sockets.circuits[index];
-        if let Some((len, _)) = sockets.socket4.receive(&mut self.buffer) {
-            received += 1;
-            self.relay_up(index, len);
+        let mut taken = 0;
+        'circuits: for index in 0..self.sockets.circuits.len() {
+            taken += self.take_frame(index, Proto::V4);
+            taken += self.take_frame(index, Proto::V6);
         }
-        let sockets = &self.sockets.circuits[index];
-        if sockets.socket6.receive(&mut self.buffer).is_some() {
-            received += 1;
-            self.drop_unserved();
-        }
-        received
+        taken
+    }
+
+    /// Takes a frame from a circuit's socket to its relay.
+    fn take_frame(&mut self, index: usize, proto: Proto) -> u32
+        requires { index < length self.old.topology.circuits }
+        ensures most { result ≤ 1 }
+        ensures carried { HasCarried IsUp result self.old self.new }
+    {
+        let socket = self.sockets.circuits[index].socket(proto);
+        let Some((len, _)) = socket.take(&mut self.buffer, &mut self.taken) else {
+            return 0;
+        };
+        let outcome = self.relay_up(index, proto, len);
+        self.counts.count(outcome);
+        1
     }
 
     /// Sends a client's frame on to the server.
-    fn relay_up(&mut self, index: usize, len: usize)
+    fn relay_up(&mut self, index: usize, proto: Proto, len: usize) -> Outcome
         requires index { index < length self.old.topology.circuits }
         requires len { len ≤ 1281 }
-        ensures { HasReceived 1 self.old self.new }
+        ensures same { self.new ≡ self.old }
+        ensures up { IsUp result }
     {
-        self.counts.count_received();
+        let relay = self.sockets.circuits[index].relay;
         let Some(circuit) = Circuit::new(index) else {
             unreachable!()
         };
         let frame = &self.buffer[..len];
-        match self.relays.up(circuit, Proto::V4, frame, &mut self.out) {
+        match self.relays.up(circuit, proto, frame, &mut self.out) {
             Ok(()) => {
-                let relay = self.sockets.circuits[index].relay;
-                let sent = self.sockets.relays[relay].send(self.out.as_slice(), self.listen4);
-                self.counts.count_relayed(sent);
+                let to = self.listen(proto);
+                let sent = self.sockets.relays[relay].send(self.out.as_slice(), to);
+                Outcome::Relayed.if_sent(sent)
             }
-            Err(why) => self.counts.count_dropped(why),
+            Err(why) => Outcome::Dropped(why),
         }
     }
 
-    /// Takes a datagram from each of the server's sockets to the server.
-    fn receive_from_server(&mut self, now: Moment) -> u32
-        ensures most { result ≤ 2 }
-        ensures received { HasReceived result self.old self.new }
-    {
-        let mut received = 0;
-        if let Some((len, from)) = self.sockets.listen4.receive(&mut self.buffer) {
-            received += 1;
-            self.answer(len, from, now);
-        }
-        if self.sockets.listen6.receive(&mut self.buffer).is_some() {
-            received += 1;
-            self.drop_unserved();
-        }
-        received
-    }
-
-    /// Answers a relay's datagram.
-    fn answer(&mut self, len: usize, from: Source, now: Moment)
-        requires { len ≤ 1281 }
-        ensures { HasReceived 1 self.old self.new }
-    {
-        let datagram = &self.buffer[..len];
-        self.counts.count_received();
-        let answer = self.server.receive(
-            Proto::V4,
-            from,
-            datagram,
-            now,
-            &mut self.disk,
-            &mut self.out,
-        );
-        match answer {
-            Ok(()) => {
-                let sent = self.sockets.listen4.send(self.out.as_slice(), from);
-                self.counts.count_answered(sent);
-            }
-            Err(why) => self.counts.count_dropped(why),
-        }
-    }
-
-    /// Takes a datagram from each relay's socket to the circuit that it is for.
-    fn receive_from_relays(&mut self) -> u32
-        ensures most { result ≤ 8 }
-        ensures received { HasReceived result self.old self.new }
-    {
-        let mut received = 0;
-        'relays: for index in 0..self.sockets.relays.len() {
-            received += self.receive_from_relay(index);
-        }
-        received
-    }
-
-    /// Takes a datagram from a relay's socket to the circuit that it is for.
-    fn receive_from_relay(&mut self, index: usize) -> u32
-        requires { index < length self.old.topology.relays }
+    /// Takes a datagram from the server's socket of a protocol to the server.
+    fn take_at_server(&mut self, proto: Proto, now: Moment) -> u32
         ensures most { result ≤ 1 }
-        ensures received { HasReceived result self.old self.new }
+        ensures served { HasServed proto now result self.old self.new }
     {
-        let Some((len, from)) = self.sockets.relays[index].receive(&mut self.buffer) else {
+        let socket = self.sockets.server(proto);
+        let Some((len, from)) = socket.take(&mut self.buffer, &mut self.taken) else {
             return 0;
         };
-        let Some(relay) = RelayNo::new(index) else {
-            unreachable!()
-        };
-        let datagram = &self.buffer[..len];
-        self.counts.count_received();
-        match self.relays.down(relay, from, datagram, &mut self.out) {
-            Ok((circuit, dest)) => self.deliver(circuit, dest),
-            Err(why) => self.counts.count_dropped(why),
-        }
+        self.answer(proto, from, len, now);
         1
     }
 
-    /// Sends a frame to the client of a circuit, from the circuit's own socket.
-    fn deliver(&mut self, circuit: Circuit, dest: Dest)
-        requires { circuit < length self.old.topology.circuits }
-        ensures topology { self.new.topology ≡ self.old.topology }
-        ensures parts { parts_in self.new.server ≡ parts_in self.old.server }
-        ensures regions { self.new.regions ≡ self.old.regions }
-        ensures received { self.new.counts.received ≡ self.old.counts.received }
+    /// Answers a relay's datagram.
+    fn answer(&mut self, proto: Proto, from: Source, len: usize, now: Moment)
+        requires { len ≤ 1281 }
+        ensures { HasAnswered proto now self.old (record self.new { taken = self.new.taken + 1 }) }
     {
-        let sockets = &self.sockets.circuits[circuit.index()];
-        let frame = self.out.as_slice();
-        self.buffer[0] = destination_byte(dest);
-        self.buffer[1..frame.len() + 1].copy_from_slice(frame);
-        let sent = sockets
-            .socket4
-            .send(&self.buffer[..frame.len() + 1], sockets.client4);
-        self.counts.count_delivered(sent);
+        let datagram = &self.buffer[..len];
+        let answer = self
+            .server
+            .receive(proto, from, datagram, now, &mut self.disk, &mut self.out);
+        let outcome = match answer {
+            Ok(()) => {
+                let socket = self.sockets.server(proto);
+                let sent = socket.send(self.out.as_slice(), from);
+                Outcome::Answered.if_sent(sent)
+            }
+            Err(why) => Outcome::Dropped(why),
+        };
+        self.counts.count(outcome);
     }
 
-    /// Drops a DHCPv6 datagram, which is not served.
-    fn drop_unserved(&mut self)
-        ensures { HasReceived 1 self.old self.new }
+    /// Takes a datagram from each relay's socket to the circuit that it is for.
+    fn take_from_relays(&mut self) -> u32
+        ensures most { result ≤ 8 }
+        ensures carried { HasCarried IsDown result self.old self.new }
     {
-        self.counts.count_received();
-        self.counts.count_dropped(Discard::NotServed);
+        let mut taken = 0;
+        'relays: for index in 0..self.sockets.relays.len() {
+            taken += self.take_answer(index);
+        }
+        taken
     }
-}
 
-/// What stands before a DHCPv4 frame on its way to a client: how the relay would send it there.
-fn destination_byte(dest: Dest) -> u8
-    ensures { result ≡ destination_byte dest }
-{
-    match dest {
-        Dest::Unicast(_, _) => 1,
-        _ => 0,
+    /// Takes a datagram from a relay's socket to the circuit that it is for.
+    fn take_answer(&mut self, index: usize) -> u32
+        requires { index < length self.old.topology.relays }
+        ensures most { result ≤ 1 }
+        ensures carried { HasCarried IsDown result self.old self.new }
+    {
+        let socket = &self.sockets.relays[index];
+        let Some((len, from)) = socket.take(&mut self.buffer, &mut self.taken) else {
+            return 0;
+        };
+        let outcome = self.relay_down(index, from, len);
+        self.counts.count(outcome);
+        1
+    }
+
+    /// Sends the server's answer on to the client, from the circuit's own socket.
+    fn relay_down(&mut self, index: usize, from: Source, len: usize) -> Outcome
+        requires index { index < length self.old.topology.relays }
+        requires len { len ≤ 1281 }
+        ensures same { self.new ≡ self.old }
+        ensures down { IsDown result }
+    {
+        let datagram = &self.buffer[..len];
+        let Some(relay) = RelayNo::new(index) else {
+            unreachable!()
+        };
+        match self.relays.down(relay, from, datagram, &mut self.out) {
+            Ok((circuit, dest)) => {
+                put_frame(dest, self.out.as_slice(), &mut self.frame);
+                let sockets = &self.sockets.circuits[circuit.index()];
+                let sent = sockets.deliver(dest, self.frame.as_slice());
+                Outcome::Delivered.if_sent(sent)
+            }
+            Err(why) => Outcome::Dropped(why),
+        }
     }
 }

@@ -3,7 +3,7 @@ ghost use Rattle.std.specs.Prelude.{◌≡◌, ◌↔◌, ℕ, Bool, List, Some,
 ghost use Rattle.std.specs.Prelude.{string_bytes, IfOk, IfErr, IfSome, IsNone};
 ghost use Rattle.clap.specs.Words.{app_of, rule_of, found_of, first_value, rows_of};
 ghost use Rattle.command_line.specs.CommandLine.{IsRefused};
-ghost use Rattle.access.specs.Words.{disk_rule, turns_rule, format_rule, port_rule};
+ghost use Rattle.access.specs.Words.{disk_rule, format_rule, pause_rule, port_rule, turns_rule};
 ghost use Rattle.access.specs.Words.{bare_app, access_app, HasValues, Spells, SpellsSomething};
 
 use clap::{Arg, ArgAction, ArgMatches, Command};
@@ -15,6 +15,8 @@ const MAX_TURNS: u32 = 1_000_000;
 const MIN_PORT: u32 = 1024;
 
 const MAX_PORT: u32 = 65472;
+
+const MAX_PAUSE: u32 = 1000;
 
 /// The values of the words after the program's name.
 #[derive(Clone, Copy, Debug, PartialEq, Eq)]
@@ -29,6 +31,8 @@ pub struct AccessWords<'a> {
     pub format: bool,
     /// The first port of the first circuit, 1024 to 65472.
     pub port: u16,
+    /// How long the program sleeps after a turn that took no datagram, in milliseconds, 0 to 1000.
+    pub pause: u16,
 }
 
 fn disk_arg<'a>(alloc: Global) -> Arg<'a>
@@ -79,6 +83,19 @@ fn port_arg<'a>(alloc: Global) -> Arg<'a>
         .help("The first port of the first circuit, 1024 to 65472")
 }
 
+fn pause_arg<'a>(alloc: Global) -> Arg<'a>
+    ensures rule { rule_of result ≡ pause_rule }
+    ensures local { result.global ≡ false }
+{
+    Arg::new(alloc, "pause")
+        .long("pause")
+        .value_name("MS")
+        .action(ArgAction::Set)
+        .value_parser(clap::value_parser!(u16).range(0..=i64::from(MAX_PAUSE)))
+        .default_value("0")
+        .help("How many milliseconds to sleep after a turn that took nothing, 0 to 1000")
+}
+
 fn named<'a>(alloc: Global) -> Command<'a>
     ensures { app_of result ≡ bare_app }
 {
@@ -99,11 +116,13 @@ fn command<'a>(alloc: Global) -> Result<Command<'a>, AllocError>
     let turns = turns_arg(alloc);
     let format = format_arg(alloc);
     let port = port_arg(alloc);
+    let pause = pause_arg(alloc);
     let with_config = named(alloc).arg(config)?;
     let with_disk = with_config.arg(disk)?;
     let with_turns = with_disk.arg(turns)?;
     let with_format = with_turns.arg(format)?;
-    with_format.arg(port)
+    let with_port = with_format.arg(port)?;
+    with_port.arg(pause)
 }
 
 /// Whether a flag is there.
@@ -118,8 +137,8 @@ fn is_set<'a>(matches: &ArgMatches<'a>, id: &str) -> bool
 
 /// The values that clap has read, where all are there and within their limits.
 fn values<'a>(matches: ArgMatches<'a>) -> Option<AccessWords<'a>>
-    ensures some { IfSome result (λ values. HasValues (rows_of (found_of matches.entry)) values.config.now values.disk.now values.turns values.format values.port) }
-    ensures none { IsNone result → (config disk : List ℕ) (turns : ℕ) (format : Bool) (port : ℕ) → ¬ HasValues (rows_of (found_of matches.entry)) config disk turns format port }
+    ensures some { IfSome result (λ values. HasValues (rows_of (found_of matches.entry)) values.config.now values.disk.now values.turns values.format values.port values.pause) }
+    ensures none { IsNone result → (config disk : List ℕ) (turns : ℕ) (format : Bool) (port pause : ℕ) → ¬ HasValues (rows_of (found_of matches.entry)) config disk turns format port pause }
 {
     let config = matches.get_str("CONFIG")?;
     let disk = matches.get_str("disk")?;
@@ -127,18 +146,21 @@ fn values<'a>(matches: ArgMatches<'a>) -> Option<AccessWords<'a>>
     let format = is_set(&matches, "format");
     let port = number(&matches, "port", MIN_PORT, MAX_PORT)?;
     let port = u16::try_from(port).ok()?;
+    let pause = number(&matches, "pause", 0, MAX_PAUSE)?;
+    let pause = u16::try_from(pause).ok()?;
     Some(AccessWords {
         config,
         disk,
         turns,
         format,
         port,
+        pause,
     })
 }
 
 /// The values of the words after the program's name.
 pub fn words<'a>(alloc: Global, words: &'a [String]) -> Result<AccessWords<'a>, Refusal>
-    ensures values { IfOk result (λ values. Spells (map string_bytes words.entry.now) values.config.now values.disk.now values.turns values.format values.port) }
+    ensures values { IfOk result (λ values. Spells (map string_bytes words.entry.now) values.config.now values.disk.now values.turns values.format values.port values.pause) }
     ensures refused { IfErr result (IsRefused access_app SpellsSomething (map string_bytes words.entry.now)) }
 {
     let Ok(command) = command(alloc) else {

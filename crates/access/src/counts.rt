@@ -1,9 +1,10 @@
 //! What became of the datagrams that were received.
-ghost use Rattle.std.specs.Prelude.{◌≡◌, if◌then◌else◌, replicate, slice_index, Some};
+ghost use Rattle.std.specs.Prelude.{◌≡◌, if◌then◌else◌, slice_index, Some};
 ghost use Rattle.std.specs.Fmt.{WritesOnOk};
 ghost use Rattle.std.specs.List.{flat_map};
 ghost use Rattle.types.specs.Discard.{number_of};
-ghost use Rattle.access.specs.Counts.{one_more, one_more_for, reasons, totals_text, dropped_text, counts_text};
+ghost use Rattle.access.specs.Counts.{counted, counts_text, dropped_text, none, one_more, reasons, totals_text};
+ghost use Rattle.access.specs.declared.counts.Outcome.TheVariants as outcome;
 
 use std::fmt;
 use types::Discard;
@@ -38,6 +39,29 @@ const REASONS: [Discard; 26] = [
     Discard::WrongLinkDown,
 ];
 
+/// What became of a datagram that was taken from a socket.
+#[derive(Clone, Copy, Debug, PartialEq, Eq)]
+pub enum Outcome {
+    /// A relay sent the frame on to the server.
+    Relayed,
+    /// The server answered it.
+    Answered,
+    /// A relay sent the answer on to a circuit.
+    Delivered,
+    /// The system did not take what was to be sent.
+    Unsent,
+    Dropped(Discard),
+}
+
+impl Outcome {
+    /// What became of a datagram by whether the system took what was to be sent.
+    pub fn if_sent(self, sent: bool) -> Outcome
+        ensures { result ≡ (if sent then self else outcome.Unsent) }
+    {
+        if sent { self } else { Outcome::Unsent }
+    }
+}
+
 /// One more than the greatest number of a reason.
 const NUMBERS: usize = 35;
 
@@ -58,6 +82,7 @@ pub struct Counts {
     dropped: [u64; NUMBERS],
 }
 
+/// One more, up to the greatest value.
 fn count(counter: &mut u64)
     ensures { counter.new ≡ one_more counter.old }
 {
@@ -65,13 +90,9 @@ fn count(counter: &mut u64)
 }
 
 impl Counts {
+    /// Nothing was taken yet.
     pub fn new() -> Counts
-        ensures received { result.received ≡ 0 }
-        ensures relayed { result.relayed ≡ 0 }
-        ensures answered { result.answered ≡ 0 }
-        ensures delivered { result.delivered ≡ 0 }
-        ensures unsent { result.unsent ≡ 0 }
-        ensures dropped { result.dropped ≡ replicate 35 0 }
+        ensures { result ≡ none }
     {
         Counts {
             received: 0,
@@ -83,51 +104,18 @@ impl Counts {
         }
     }
 
-    /// One more datagram was received from a socket.
-    pub fn count_received(&mut self)
-        ensures { self.new ≡ record self.old { received = one_more self.old.received } }
+    /// One more datagram was taken, and this became of it.
+    pub fn count(&mut self, outcome: Outcome)
+        ensures { self.new ≡ counted outcome self.old }
     {
         count(&mut self.received);
-    }
-
-    /// One more frame was to go on to the server, and the system took it or not.
-    pub fn count_relayed(&mut self, sent: bool)
-        ensures { self.new ≡ (if sent then record self.old { relayed = one_more self.old.relayed } else record self.old { unsent = one_more self.old.unsent }) }
-    {
-        if sent {
-            count(&mut self.relayed);
-        } else {
-            count(&mut self.unsent);
+        match outcome {
+            Outcome::Relayed => count(&mut self.relayed),
+            Outcome::Answered => count(&mut self.answered),
+            Outcome::Delivered => count(&mut self.delivered),
+            Outcome::Unsent => count(&mut self.unsent),
+            Outcome::Dropped(why) => count(&mut self.dropped[usize::from(why.number())]),
         }
-    }
-
-    /// One more datagram was answered, and the system took the answer or not.
-    pub fn count_answered(&mut self, sent: bool)
-        ensures { self.new ≡ (if sent then record self.old { answered = one_more self.old.answered } else record self.old { unsent = one_more self.old.unsent }) }
-    {
-        if sent {
-            count(&mut self.answered);
-        } else {
-            count(&mut self.unsent);
-        }
-    }
-
-    /// One more frame was to go to a circuit, and the system took it or not.
-    pub fn count_delivered(&mut self, sent: bool)
-        ensures { self.new ≡ (if sent then record self.old { delivered = one_more self.old.delivered } else record self.old { unsent = one_more self.old.unsent }) }
-    {
-        if sent {
-            count(&mut self.delivered);
-        } else {
-            count(&mut self.unsent);
-        }
-    }
-
-    /// One more datagram was dropped for this reason.
-    pub fn count_dropped(&mut self, why: Discard)
-        ensures { self.new ≡ record self.old { dropped = one_more_for why self.old.dropped } }
-    {
-        count(&mut self.dropped[usize::from(why.number())]);
     }
 
     /// How many datagrams were dropped for this reason.

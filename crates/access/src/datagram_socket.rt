@@ -1,11 +1,11 @@
 //! A UDP socket that never waits.
-ghost use Rattle.std.specs.Prelude.{◌≤◌, IfSome, IfNone};
+ghost use Rattle.std.specs.Prelude.{◌≡◌, ◌≤◌, ◌+◌, IfSome, IfNone};
 ghost use Rattle.types.specs.declared.addr.Source.{Source};
 ghost use Rattle.access.specs.Sockets.{IsSystemForm};
 
 use std::io;
 use std::net::{IpAddr, Ipv4Addr, Net, SocketAddr, UdpSocket};
-use types::{Addr4, MAX_DATAGRAM, Source};
+use types::{Addr4, Count, MAX_DATAGRAM, Source};
 
 /// The length of the buffer that a datagram is received in. It has one byte more than the longest that is
 /// served, so that of a longer one enough arrives to be refused for its length.
@@ -47,15 +47,19 @@ impl DatagramSocket {
         Ok(DatagramSocket { socket })
     }
 
-    /// Receives a datagram that waits, if there is one: how many bytes of it are in `buffer`, and where it
+    /// Takes a datagram that waits, if there is one: how many bytes of it are in `buffer`, and where it
     /// came from. One whose receive fails is lost.
-    pub fn receive(&self, buffer: &mut [u8; BUFFER_LEN]) -> Option<(usize, Source)>
-        ensures { IfSome result (λ received. received.0 ≤ 1281) }
+    pub fn take(&self, buffer: &mut [u8; BUFFER_LEN], taken: &mut Count) -> Option<(usize, Source)>
+        ensures len { IfSome result (λ received. received.0 ≤ 1281) }
+        ensures some { IfSome result (λ received. taken.new.count ≡ taken.old.count + 1) }
+        ensures none { IfNone result (taken.new.count ≡ taken.old.count) }
     {
         let Ok((len, from)) = self.socket.recv_from(buffer) else {
             return None;
         };
-        Some((len, source_of(from)?))
+        let from = source_of(from)?;
+        taken.tick();
+        Some((len, from))
     }
 
     /// Sends a datagram, or loses it. Returns whether the system took it.

@@ -70,6 +70,7 @@ pub fn format_device<R: Files<File = File>>(
     config: &Config,
 ) -> Result<FileDisk, DeviceFault>
     ensures writes { length config.now.circuits ≤ 16 → IfOk result (λ disk. disk.writes ≡ 2 * length config.now.circuits) }
+    ensures none { 16 < length config.now.circuits → IfOk result (λ disk. disk.writes ≡ 0) }
     ensures regions { IfOk result (λ disk. (c : ℕ) (circuit : CircuitConfig) → slice_get config.now.circuits c ≡ Some circuit → circuit.region < disk.regions) }
 {
     let mut disk = FileDisk::create(rt, path, region_count(config)).map_err(fault_of)?;

@@ -4,13 +4,18 @@
 
 mod access;
 mod arguments;
+mod clock;
 mod counts;
 mod datagram_socket;
 mod device;
+mod frame;
+mod laws;
 mod sockets;
 
 pub use access::{Access, AccessFault};
 pub use arguments::{AccessWords, words};
-pub use counts::Counts;
+pub use clock::moment_of;
+pub use counts::{Counts, Outcome};
 pub use device::{DeviceFault, format_device, open_device};
+pub use laws::counts_grow_together;
 pub use sockets::MAX_SERVED;

@@ -1,6 +1,7 @@
 //! The sockets of relay, server and circuits.
-ghost use Rattle.std.specs.Prelude.{◌≡◌, ◌≤◌, ◌<◌, ◌+◌, ◌*◌, ◌⊎◌, length, All, Some, slice_get, option_map, IfOk, IfErr};
-ghost use Rattle.access.specs.Sockets.{local_port, Refuses, IsCircuitSocket, IsRelaySocket, IsSocket};
+ghost use Rattle.std.specs.Prelude.{◌≡◌, ◌≤◌, ◌<◌, ◌+◌, ◌*◌, ◌⊎◌, length, map, All, Some, slice_get, option_map, IfOk, IfErr};
+ghost use Rattle.config.specs.CircuitPart.{CircuitPart, part_in, parts_of};
+ghost use Rattle.access.specs.Sockets.{AreOwnRelays, IsCircuitSocket, IsRelaySocket, IsSocket, Refuses, local_port};
 
 use crate::datagram_socket::DatagramSocket;
 use config::Config;
@@ -8,7 +9,7 @@ use std::alloc::{AllocError, Global};
 use std::io;
 use std::net::Net;
 use thiserror::Error;
-use types::{Addr4, Circuit, RelayNo, Source};
+use types::{Addr4, Circuit, Dest, Proto, RelayNo, Source};
 
 /// The most circuits that are served.
 pub const MAX_SERVED: usize = 16;
@@ -36,8 +37,9 @@ pub struct CircuitSockets {
     pub socket4: DatagramSocket,
     /// The same for DHCPv6.
     pub socket6: DatagramSocket,
-    /// Where its DHCPv4 frames go.
+    /// Where its DHCPv4 frames go, and its DHCPv6 frames.
     pub client4: Source,
+    pub client6: Source,
     /// The index of its relay.
     pub relay: usize,
 }
@@ -86,7 +88,9 @@ impl CircuitSockets {
         requires most { port ≤ 65472 }
         ensures behind { IfOk result (λ circuit. circuit.relay < length config.now.relays) }
         ensures relay { IfOk result (λ circuit. option_map (λ values. values.relay) (slice_get config.now.circuits index) ≡ Some circuit.relay) }
-        ensures client { IfOk result (λ circuit. circuit.client4 ≡ local_port (port + 4 * index + 2)) }
+        ensures own { IfOk result (λ circuit. (part : CircuitPart) → part_in config.now index ≡ Some part → slice_get (map (λ relay. relay.source) config.now.relays) circuit.relay ≡ Some part.relay) }
+        ensures client4 { IfOk result (λ circuit. circuit.client4 ≡ local_port (port + 4 * index + 2)) }
+        ensures client6 { IfOk result (λ circuit. circuit.client6 ≡ local_port (port + 4 * index + 3)) }
         ensures refused { IfErr result (Refuses (IsCircuitSocket (length config.now.circuits) port)) }
     {
         let Some(circuit) = Circuit::new(index) else {
@@ -98,8 +102,27 @@ impl CircuitSockets {
             socket4: bind(net, local(first))?,
             socket6: bind(net, local(first + 1))?,
             client4: local(first + 2),
+            client6: local(first + 3),
             relay,
         })
+    }
+}
+
+impl CircuitSockets {
+    /// Where frames of a protocol come from.
+    pub fn socket(&self, proto: Proto) -> &DatagramSocket {
+        match proto {
+            Proto::V4 => &self.socket4,
+            Proto::V6 => &self.socket6,
+        }
+    }
+
+    /// Sends a frame to the clients, from the circuit's own socket. Returns whether the system took it.
+    pub fn deliver(&self, dest: Dest, frame: &[u8]) -> bool {
+        match dest {
+            Dest::Peer(_) => self.socket6.send(frame, self.client6),
+            Dest::Broadcast | Dest::Unicast(_, _) => self.socket4.send(frame, self.client4),
+        }
     }
 }
 
@@ -113,6 +136,7 @@ fn bind_circuits<R: Net>(
     requires most { port ≤ 65472 }
     ensures count { IfOk result (λ circuits. length circuits.items ≡ length config.now.circuits) }
     ensures behind { IfOk result (λ circuits. All (λ circuit. circuit.relay < length config.now.relays) circuits.items) }
+    ensures own { IfOk result (λ circuits. AreOwnRelays (map (λ relay. relay.source) config.now.relays) (parts_of config.now) circuits.items) }
     ensures refused { IfErr result (Refuses (IsCircuitSocket (length config.now.circuits) port)) }
 {
     let Ok(mut circuits) = Vec::with_capacity(alloc, config.circuit_count()) else {
@@ -120,9 +144,9 @@ fn bind_circuits<R: Net>(
     };
     'circuits: for index in 0..config.circuit_count() {
         let sockets = CircuitSockets::bind(net, config, port, index)?;
-        if circuits.push(sockets).is_err() {
+        let Ok(()) = circuits.push(sockets) else {
             return Err(SocketFault::Memory);
-        }
+        };
     }
     Ok(circuits)
 }
@@ -151,6 +175,14 @@ fn bind_relays<R: Net>(
 }
 
 impl Sockets {
+    /// The server's socket of a protocol.
+    pub fn server(&self, proto: Proto) -> &DatagramSocket {
+        match proto {
+            Proto::V4 => &self.listen4,
+            Proto::V6 => &self.listen6,
+        }
+    }
+
     /// Binds all sockets of a configuration. Those of the first circuit begin at `port`, those of each
     /// other one 4 later.
     pub fn bind<R: Net>(
@@ -164,6 +196,7 @@ impl Sockets {
         ensures circuits { IfOk result (λ sockets. length sockets.circuits.items ≡ length config.now.circuits) }
         ensures relays { IfOk result (λ sockets. length sockets.relays.items ≡ length config.now.relays) }
         ensures behind { IfOk result (λ sockets. All (λ circuit. circuit.relay < length config.now.relays) sockets.circuits.items) }
+        ensures own { IfOk result (λ sockets. AreOwnRelays (map (λ relay. relay.source) config.now.relays) (parts_of config.now) sockets.circuits.items) }
         ensures refused { IfErr result (Refuses (IsSocket config.now port)) }
     {
         let server = config.server();

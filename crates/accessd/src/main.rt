@@ -10,8 +10,7 @@ use config::Config;
 use dispatch::region_count;
 use lease_disk::FileDisk;
 use std::process::ExitCode;
-use std::rt::Clock;
-use types::{Addr4, Circuit, Moment, Source};
+use types::{Addr4, Circuit, Source};
 
 /// The status of a device that does not serve.
 fn device_status(fault: DeviceFault) -> u8
@@ -80,14 +79,6 @@ fn refuse(rt: &HostRuntime, config: &Config, disk: &str, fault: AccessFault) -> 
     }
 }
 
-/// This moment by the system's clock, or the one before where the clock can't be read.
-fn moment(rt: &HostRuntime, before: Moment) -> Moment {
-    let Ok(since) = rt.since_1970() else {
-        return before;
-    };
-    Moment::new(since.as_secs()).unwrap_or(before)
-}
-
 /// Reports in one line what is served: the circuits, those that are closed as such, their ports and the
 /// file with the leases.
 fn report_start(rt: &HostRuntime, config: &Config, access: &Access, values: &AccessWords<'_>) {
@@ -135,11 +126,7 @@ fn run(rt: &HostRuntime, values: AccessWords<'_>) -> u8
         Err(fault) => return refuse(rt, &config, values.disk, fault),
     };
     report_start(rt, &config, &access, &values);
-    let mut now = Moment::first();
-    for _ in 0..values.turns {
-        now = moment(rt, now);
-        access.turn(now);
-    }
+    access.serve(rt, values.turns, values.pause);
     complain(rt, *access.counts(), 0)
 }
 

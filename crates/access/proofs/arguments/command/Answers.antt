@@ -9,6 +9,7 @@ returns c =
     let disk = c.in_ok-with_disk.ensures.shape c.disk_arg-disk.ensures.local ∙ ap₂ with_rule config c.disk_arg-disk.ensures.rule in
     let turns = c.in_ok-with_turns.ensures.shape c.turns_arg-turns.ensures.local ∙ ap₂ with_rule disk c.turns_arg-turns.ensures.rule in
     let format = c.in_ok-with_format.ensures.shape c.format_arg-format.ensures.local ∙ ap₂ with_rule turns c.format_arg-format.ensures.rule in
-    IfOk-weaker c.arg-5.result _ _
-    (λ made h. h.shape c.port_arg-port.ensures.local ∙ ap₂ with_rule format c.port_arg-port.ensures.rule)
-    c.arg-5.ensures
+    let port = c.in_ok-with_port.ensures.shape c.port_arg-port.ensures.local ∙ ap₂ with_rule format c.port_arg-port.ensures.rule in
+    IfOk-weaker c.arg-6.result _ _
+    (λ made h. h.shape c.pause_arg-pause.ensures.local ∙ ap₂ with_rule port c.pause_arg-pause.ensures.rule)
+    c.arg-6.ensures

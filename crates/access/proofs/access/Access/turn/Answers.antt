@@ -1,6 +1,47 @@
+use Rattle.std.proofs.Common.{◌≡◌, ◌∙◌, refl, ap, subst, rules}
+use Rattle.std.specs.Prelude.{Some, slice_get}
 use Rattle.lease_disk.specs.FileDisk.{untold}
-use Rattle.access.proofs.ClockLemmas.{of_books}
+use Rattle.dispatch.specs.ServerValue.{books_in}
+use Rattle.access.specs.Access.{AccessValue, books_at}
+use Rattle.access.proofs.ClockLemmas.{reached, ticked}
+use Rattle.access.proofs.TurnLemmas.{counted_received, quiet, turned_closed, turned_counts}
 use Rattle.access.proofs.access.Access.turn.Goals as goal
 
+pub returns-clause-turned : goal.returns-clause-turned
+returns-clause-turned c = record {
+  relayed = c.take_from_circuits-frames.new.self;
+  served4 = c.take_at_server-datagrams4.new.self;
+  served6 = c.take_at_server-datagrams6.new.self;
+  delivered = c.take_from_relays-answers.new.self;
+  frames = c.take_from_circuits-frames.result;
+  datagrams4 = c.take_at_server-datagrams4.result;
+  datagrams6 = c.take_at_server-datagrams6.result;
+  answers = c.take_from_relays-answers.result;
+  from_circuits = c.take_from_circuits-frames.ensures.carried;
+  at_server4 = c.take_at_server-datagrams4.ensures.served;
+  at_server6 = c.take_at_server-datagrams6.ensures.served;
+  from_relays = c.take_from_relays-answers.ensures.carried;
+  ticked = ticked (λ region. untold) c.args.now c.tick.new.self.circuits c.self.inside.server.circuits (c.tick.ensures.leases (λ region. untold))
+      ∙ ap (λ (s : AccessValue). books_at c.args.now (books_in s.server)) c.self.view_is;
+  counts = ap (λ (s : AccessValue). s.counts) c.self.view_is;
+  taken = ap (λ (s : AccessValue). s.taken) c.self.view_is;
+  many = refl;
+}
+
+pub returns-clause-counts : goal.returns-clause-counts
+returns-clause-counts c = turned_counts c.args.now _ c.args.self.now _ (returns-clause-turned c)
+
+pub returns-clause-received : goal.returns-clause-received
+returns-clause-received c = counted_received _ c.args.self.now.counts c.self.inside.counts (returns-clause-counts c) (search rules)
+
+pub returns-clause-quiet : goal.returns-clause-quiet
+returns-clause-quiet c = quiet c.args.now _ c.args.self.now _ (returns-clause-turned c)
+
+pub returns-clause-closed : goal.returns-clause-closed
+returns-clause-closed c = turned_closed c.args.now _ c.args.self.now _ (returns-clause-turned c)
+
 pub returns-clause-clocks : goal.returns-clause-clocks
-returns-clause-clocks c = of_books (λ region. untold) c.args.now c.tick.new.self.circuits _ (c.tick.ensures.leases (λ region. untold))
+unfolding returns-clause-turned
+returns-clause-clocks c = λ k book found.
+    reached c.args.now (books_in c.take_from_relays-answers.new.self.server) k book
+    (subst (λ books. slice_get books k ≡ Some (Some book)) (returns-clause-turned c).ticked found)

@@ -1,12 +1,12 @@
 use Rattle.std.proofs.Common.{◌≡◌, ◌≤◌, length}
-use Rattle.access.specs.Access.{HasReceived}
-use Rattle.access.proofs.access.Access.receive_from_relays.Given as goal
+use Rattle.access.specs.Access.{HasCarried, IsDown}
+use Rattle.access.proofs.access.Access.take_from_relays.Given as goal
 
 abbrev pub invariant-relays : goal.invariant-relays
 invariant-relays l = record {
   index : l.index ≤ l.index-end;
   end : l.index-end ≡ length l.self.topology.relays;
   few : l.index-end ≤ 8;
-  received : l.received ≤ l.index;
-  so_far : HasReceived l.received l.fn.self l.self;
+  taken : l.taken ≤ l.index;
+  so_far : HasCarried IsDown l.taken l.fn.self l.self;
 }

@@ -1,12 +1,12 @@
 use Rattle.std.proofs.Common.{◌≡◌, ◌≤◌, ◌*◌, length}
-use Rattle.access.specs.Access.{HasReceived}
-use Rattle.access.proofs.access.Access.receive_from_circuits.Given as goal
+use Rattle.access.specs.Access.{HasCarried, IsUp}
+use Rattle.access.proofs.access.Access.take_from_circuits.Given as goal
 
 abbrev pub invariant-circuits : goal.invariant-circuits
 invariant-circuits l = record {
   index : l.index ≤ l.index-end;
   end : l.index-end ≡ length l.self.topology.circuits;
   few : l.index-end ≤ 16;
-  received : l.received ≤ 2 * l.index;
-  so_far : HasReceived l.received l.fn.self l.self;
+  taken : l.taken ≤ 2 * l.index;
+  so_far : HasCarried IsUp l.taken l.fn.self l.self;
 }

@@ -1,0 +1,15 @@
+use Rattle.std.proofs.Common.{◌≡◌, ◌≤◌, ◌+◌}
+use Rattle.dispatch.specs.ServerValue.{parts_in}
+use Rattle.access.specs.Access.{StayClosed}
+use Rattle.access.proofs.access.Access.serve.Given as goal
+
+abbrev pub invariant-turns : goal.invariant-turns
+invariant-turns g l = record {
+  counter : l.counter ≤ l.turns;
+  turns : l.self.turns ≡ l.fn.self.turns + l.counter;
+  topology : l.self.topology ≡ l.fn.self.topology;
+  parts : parts_in l.self.server ≡ parts_in l.fn.self.server;
+  relays : l.self.server.relays ≡ l.fn.self.server.relays;
+  regions : l.self.disk.regions ≡ l.fn.self.disk.regions;
+  closed : StayClosed l.fn.self.server l.self.server;
+}

@@ -1,0 +1,28 @@
+use Rattle.std.proofs.Common.{◌≡◌, ◌<◌, length, map, sym, subst, rules}
+use Rattle.std.specs.Prelude.{All, Some, slice_get}
+use Rattle.std.proofs.lemmas.List.Elements.{All-push}
+use Rattle.config.specs.CircuitPart.{parts_of}
+use Rattle.access.specs.Sockets.{AreOwnRelays}
+use Rattle.access.specs.declared.sockets.CircuitSockets.{CircuitSockets}
+use Rattle.access.proofs.RelayLemmas.{own_pushed}
+use Rattle.access.proofs.sockets.bind_circuits.Goals as goal
+
+pub circuits-preserved : goal.circuits-preserved
+circuits-preserved g c =
+    let config = c.args.config.now in
+    let relays = map (λ relay. relay.source) config.relays in
+    let was = c.circuits.invariant in
+    let items = c.circuits.circuits.items in
+    let next = c.in_ok-sockets.sockets in
+    let is_behind = λ (circuit : CircuitSockets). circuit.relay < length config.relays in
+    record {
+      index = search rules;
+      end = was.end;
+      few = was.few;
+      port = was.port;
+      count = search rules;
+      behind = subst (λ circuits. All is_behind circuits) (sym c.in-Ok-push.ensures.items) (All-push is_behind items next was.behind c.in_ok-sockets.ensures.behind);
+      own = subst (λ circuits. AreOwnRelays relays (parts_of config) circuits) (sym c.in-Ok-push.ensures.items)
+          (own_pushed relays (parts_of config) items next was.own
+          (λ part there. c.in_ok-sockets.ensures.own part (subst (λ n. slice_get (parts_of config) n ≡ Some part) was.count there)));
+    }
