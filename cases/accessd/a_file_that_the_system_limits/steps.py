@@ -1,0 +1,18 @@
+"""The system lets the server write no byte from 32768 on, where region 1 begins: circuit `a1` sends nothing and is
+closed for both protocols, and circuit `a` is served."""
+import resource
+
+from client import DISCOVER, REQUEST, Circuit, Server, frame, frame6, select
+
+# without it the signal of a file that may not grow ends the server
+server = Server("accessd", "config.toml", "leases", "--format", restore_signals=False)
+first, second = Circuit(20000), Circuit(20004)
+offers = [circuit.exchange(DISCOVER, 1) for circuit in (first, second)]
+resource.prlimit(server.process.pid, resource.RLIMIT_FSIZE, (32768, 32768))
+for circuit, offer in zip((second, first), offers[::-1]):
+    circuit.send(frame(REQUEST, 1, select(offer)))
+    print(circuit.receive(0.2))
+for circuit in (second, first):
+    circuit.send6(frame6("REQUEST6", 1, "ours"))
+    print(circuit.receive6(0.2))
+print(server.report(), end="")
