@@ -35,17 +35,17 @@ moment_of seconds before = if nat_le seconds 1099511627775 then seconds else bef
 -- ---- one datagram
 
 -- What can become of a client's frame, and of a datagram that a relay takes.
-abbrev pub IsUp : Outcome → Type 0
-IsUp outcome.Relayed = ⊤
-IsUp outcome.Unsent = ⊤
-IsUp (outcome.Dropped why) = ⊤
-IsUp o = ⊥
+abbrev pub CanRelay : Outcome → Type 0
+CanRelay outcome.Relayed = ⊤
+CanRelay outcome.Unsent = ⊤
+CanRelay (outcome.Dropped why) = ⊤
+CanRelay o = ⊥
 
-abbrev pub IsDown : Outcome → Type 0
-IsDown outcome.Delivered = ⊤
-IsDown outcome.Unsent = ⊤
-IsDown (outcome.Dropped why) = ⊤
-IsDown o = ⊥
+abbrev pub CanDeliver : Outcome → Type 0
+CanDeliver outcome.Delivered = ⊤
+CanDeliver outcome.Unsent = ⊤
+CanDeliver (outcome.Dropped why) = ⊤
+CanDeliver o = ⊥
 
 -- What becomes of a datagram that the server takes, by its answer and whether the system took that.
 abbrev pub answer_outcome : Result (List ℕ) Discard → Bool → Outcome
@@ -99,10 +99,10 @@ pub record HasTurned (now count : ℕ) (old new : AccessValue) : Type 0 where
   pub datagrams4 : ℕ
   pub datagrams6 : ℕ
   pub answers : ℕ
-  pub from_circuits : HasCarried IsUp frames old relayed
+  pub from_circuits : HasCarried CanRelay frames old relayed
   pub at_server4 : HasServed V4 now datagrams4 relayed served4
   pub at_server6 : HasServed V6 now datagrams6 served4 served6
-  pub from_relays : HasCarried IsDown answers served6 delivered
+  pub from_relays : HasCarried CanDeliver answers served6 delivered
   pub ticked : books_in new.server ≡ books_at now (books_in delivered.server)
   pub counts : new.counts ≡ delivered.counts
   pub taken : new.taken ≡ delivered.taken

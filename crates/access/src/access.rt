@@ -1,6 +1,6 @@
 //! Relay and server over sockets.
 ghost use Rattle.std.specs.Prelude.{◌≡◌, ◌≤◌, ◌<◌, ◌+◌, ◌↔◌, length, map, true, is_some, Some, slice_get, Err, IfOk, IfErr};
-ghost use Rattle.access.specs.Access.{HasAnswered, HasCarried, HasCounted, HasKept, HasReached, HasServed, HasTurned, IsDown, IsUp, StayClosed, books_at};
+ghost use Rattle.access.specs.Access.{CanDeliver, CanRelay, HasAnswered, HasCarried, HasCounted, HasKept, HasReached, HasServed, HasTurned, StayClosed, books_at};
 ghost use Rattle.access.specs.Counts.{more_by, none};
 ghost use Rattle.access.specs.Sockets.{IsSocket, RefusesSocket};
 ghost use Rattle.access.specs.declared.access.AccessFault.TheVariants as fault;
@@ -211,7 +211,7 @@ impl Access {
     /// Takes a frame from each of the circuits' sockets to its relay.
     fn take_from_circuits(&mut self) -> u32
         ensures most { result ≤ 32 }
-        ensures carried { HasCarried IsUp result self.old self.new }
+        ensures carried { HasCarried CanRelay result self.old self.new }
     {
         let mut taken = 0;
         'circuits: for index in 0..self.sockets.circuits.len() {
@@ -225,7 +225,7 @@ impl Access {
     fn take_frame(&mut self, index: usize, proto: Proto) -> u32
         requires { index < length self.old.topology.circuits }
         ensures most { result ≤ 1 }
-        ensures carried { HasCarried IsUp result self.old self.new }
+        ensures carried { HasCarried CanRelay result self.old self.new }
     {
         let socket = self.sockets.circuits[index].socket(proto);
         let Some((len, _)) = socket.take(&mut self.buffer, &mut self.taken) else {
@@ -241,7 +241,7 @@ impl Access {
         requires index { index < length self.old.topology.circuits }
         requires len { len ≤ 1281 }
         ensures same { self.new ≡ self.old }
-        ensures up { IsUp result }
+        ensures up { CanRelay result }
     {
         let relay = self.sockets.circuits[index].relay;
         let Some(circuit) = Circuit::new(index) else {
@@ -294,7 +294,7 @@ impl Access {
     /// Takes a datagram from each relay's socket to the circuit that it is for.
     fn take_from_relays(&mut self) -> u32
         ensures most { result ≤ 8 }
-        ensures carried { HasCarried IsDown result self.old self.new }
+        ensures carried { HasCarried CanDeliver result self.old self.new }
     {
         let mut taken = 0;
         'relays: for index in 0..self.sockets.relays.len() {
@@ -307,7 +307,7 @@ impl Access {
     fn take_answer(&mut self, index: usize) -> u32
         requires { index < length self.old.topology.relays }
         ensures most { result ≤ 1 }
-        ensures carried { HasCarried IsDown result self.old self.new }
+        ensures carried { HasCarried CanDeliver result self.old self.new }
     {
         let socket = &self.sockets.relays[index];
         let Some((len, from)) = socket.take(&mut self.buffer, &mut self.taken) else {
@@ -323,7 +323,7 @@ impl Access {
         requires index { index < length self.old.topology.relays }
         requires len { len ≤ 1281 }
         ensures same { self.new ≡ self.old }
-        ensures down { IsDown result }
+        ensures down { CanDeliver result }
     {
         let datagram = &self.buffer[..len];
         let Some(relay) = RelayNo::new(index) else {

@@ -110,7 +110,10 @@ impl CircuitSockets {
 
 impl CircuitSockets {
     /// Where frames of a protocol come from.
-    pub fn socket(&self, proto: Proto) -> &DatagramSocket {
+    pub fn socket(&self, proto: Proto) -> &DatagramSocket
+        ensures v4 { proto ≡ Proto.V4 → result.now ≡ self.now.socket4 }
+        ensures v6 { proto ≡ Proto.V6 → result.now ≡ self.now.socket6 }
+    {
         match proto {
             Proto::V4 => &self.socket4,
             Proto::V6 => &self.socket6,
@@ -176,7 +179,10 @@ fn bind_relays<R: Net>(
 
 impl Sockets {
     /// The server's socket of a protocol.
-    pub fn server(&self, proto: Proto) -> &DatagramSocket {
+    pub fn server(&self, proto: Proto) -> &DatagramSocket
+        ensures v4 { proto ≡ Proto.V4 → result.now ≡ self.now.listen4 }
+        ensures v6 { proto ≡ Proto.V6 → result.now ≡ self.now.listen6 }
+    {
         match proto {
             Proto::V4 => &self.listen4,
             Proto::V6 => &self.listen6,

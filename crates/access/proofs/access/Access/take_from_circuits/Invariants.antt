@@ -1,5 +1,5 @@
 use Rattle.std.proofs.Common.{◌≡◌, ◌≤◌, ◌*◌, length}
-use Rattle.access.specs.Access.{HasCarried, IsUp}
+use Rattle.access.specs.Access.{CanRelay, HasCarried}
 use Rattle.access.proofs.access.Access.take_from_circuits.Given as goal
 
 abbrev pub invariant-circuits : goal.invariant-circuits
@@ -8,5 +8,5 @@ invariant-circuits l = record {
   end : l.index-end ≡ length l.self.topology.circuits;
   few : l.index-end ≤ 16;
   taken : l.taken ≤ 2 * l.index;
-  so_far : HasCarried IsUp l.taken l.fn.self l.self;
+  so_far : HasCarried CanRelay l.taken l.fn.self l.self;
 }

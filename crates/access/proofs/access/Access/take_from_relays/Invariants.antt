@@ -1,5 +1,5 @@
 use Rattle.std.proofs.Common.{◌≡◌, ◌≤◌, length}
-use Rattle.access.specs.Access.{HasCarried, IsDown}
+use Rattle.access.specs.Access.{CanDeliver, HasCarried}
 use Rattle.access.proofs.access.Access.take_from_relays.Given as goal
 
 abbrev pub invariant-relays : goal.invariant-relays
@@ -8,5 +8,5 @@ invariant-relays l = record {
   end : l.index-end ≡ length l.self.topology.relays;
   few : l.index-end ≤ 8;
   taken : l.taken ≤ l.index;
-  so_far : HasCarried IsDown l.taken l.fn.self l.self;
+  so_far : HasCarried CanDeliver l.taken l.fn.self l.self;
 }
