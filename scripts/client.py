@@ -4,7 +4,7 @@ import socket
 import struct
 import subprocess
 
-from messages import expand
+from messages import expand, read_options4, read_options6
 
 LOOPBACK = "127.0.0.1"
 DISCOVER, OFFER, REQUEST, ACK, NAK, RELEASE = 1, 2, 3, 5, 6, 7
@@ -46,15 +46,7 @@ class Answer:
         self.xid = struct.unpack(">I", message[4:8])[0]
         self.client = struct.unpack(">I", message[30:34])[0]
         self.address = message[16:20]
-        options = {}
-        at = 240
-        while message[at] != 255:
-            if message[at] == 0:
-                at += 1
-                continue
-            length = message[at + 1]
-            options[message[at]] = message[at + 2:at + 2 + length]
-            at += 2 + length
+        options = read_options4(message)
         self.kind = options[53][0]
         self.server = options[54]
         self.lease = struct.unpack(">I", options[51])[0] if 51 in options else 0
@@ -69,16 +61,6 @@ def frame6(kind, client, *words):
     return bytes.fromhex(expand("{" + " ".join((kind, str(client), *words)) + "}"))
 
 
-def options6(data):
-    """Each option's value by its code."""
-    options = {}
-    while data:
-        code, length = struct.unpack(">HH", data[:4])
-        options[code] = data[4:4 + length]
-        data = data[4 + length:]
-    return options
-
-
 class Answer6:
     """What a client reads in a DHCPv6 answer, which comes after the client's address on the link: the address
     that it is given, and for how long, or why it is given none."""
@@ -86,9 +68,9 @@ class Answer6:
     def __init__(self, datagram):
         self.peer, message = datagram[:16], datagram[16:]
         self.kind, self.xid = message[0], int.from_bytes(message[1:4], "big")
-        options = options6(message[4:])
+        options = read_options6(message[4:])
         self.client = int.from_bytes(options[1][-4:], "big")
-        inside = options6(options[3][12:]) if 3 in options else {}
+        inside = read_options6(options[3][12:]) if 3 in options else {}
         self.address, self.lease = None, 0
         if 5 in inside:
             self.address = ipaddress.IPv6Address(inside[5][:16])

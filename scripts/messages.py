@@ -1,4 +1,5 @@
-"""DHCP messages as hexadecimal digits: what cases/README.md says that words between braces stand for."""
+"""DHCP messages as hexadecimal digits: what cases/README.md says that words between braces stand for. And the options
+of messages that are bytes."""
 import ipaddress
 import re
 
@@ -9,6 +10,8 @@ FROM_SERVER = ("OFFER", "ACK", "NAK")
 HEADER = (("op", 1), ("htype", 1), ("hlen", 1), ("hops", 1), ("xid", 4), ("secs", 2), ("flags", 2),
           ("ciaddr", 4), ("yiaddr", 4), ("siaddr", 4), ("giaddr", 4), ("chaddr", 16), ("sname", 64), ("file", 128))
 COOKIE = "63825363"
+# options that are one byte, without a length (RFC 2132, sections 3.1 and 3.2)
+PAD, END = 0, 255
 
 # RFC 8415, section 7.3; a 6 parts them from DHCPv4's
 TYPES6 = {name + "6": number for number, name in enumerate(
@@ -97,3 +100,31 @@ def bytes_of(words):
 
 def expand(text):
     return re.sub(r"\{([^{}]*)\}", lambda found: bytes_of(found[1].split()), text)
+
+
+def read_options4(message):
+    """Each option's value by its code, of a DHCPv4 message: those before the end option, or before one that is cut off,
+    and of two with one code the first."""
+    options, at = {}, sum(size for _, size in HEADER) + len(COOKIE) // 2
+    while at + 1 < len(message) and message[at] != END:
+        if message[at] == PAD:
+            at += 1
+            continue
+        end = at + 2 + message[at + 1]
+        if end > len(message):
+            break
+        options.setdefault(message[at], message[at + 2:end])
+        at = end
+    return options
+
+
+def read_options6(data):
+    """The same of DHCPv6 options (RFC 8415, section 21.1)."""
+    options, at = {}, 0
+    while at + 4 <= len(data):
+        end = at + 4 + int.from_bytes(data[at + 2:at + 4], "big")
+        if end > len(data):
+            break
+        options.setdefault(int.from_bytes(data[at:at + 2], "big"), data[at + 4:end])
+        at = end
+    return options
