@@ -99,7 +99,8 @@ def bytes_of(words):
 
 
 def expand(text):
-    return re.sub(r"\{([^{}]*)\}", lambda found: bytes_of(found[1].split()), text)
+    """The text with digits in place of what stands between braces, where # and what follows on its line is a comment."""
+    return re.sub(r"\{([^{}]*)\}", lambda found: bytes_of(re.sub("#.*", "", found[1]).split()), text)
 
 
 def read_options4(message):
