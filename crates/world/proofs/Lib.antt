@@ -23,3 +23,4 @@ pub mod GrantLemmas
 pub mod GrantLemmas6
 pub mod GrantsOfBoth
 pub mod LedgerLemmas
+pub mod MovedLemmas

@@ -2,6 +2,7 @@ pub mod Alone
 pub mod Books
 pub mod Examples
 pub mod Headline
+pub mod Moved
 pub mod Start
 pub mod StepsAs
 pub mod World
