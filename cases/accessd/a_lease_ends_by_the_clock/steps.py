@@ -1,0 +1,26 @@
+"""A lease is kept until 600 seconds from now, at bytes 40 to 47 of the bank that counts, which is the second after one
+save (docs/FORMATS.md, The disk). Once these bytes are of a second that is past, the pool's only address is another
+client's; while they are of a second that is to come, it is nobody else's."""
+import time
+
+from client import DISCOVER, REQUEST, Circuit, Server, frame, select
+
+END = 4096 + 32 + 8
+
+circuit = Circuit(20000)
+server = Server("accessd", "config.toml", "leases", "--format")
+began = int(time.time())
+print(circuit.exchange(REQUEST, 1, select(circuit.exchange(DISCOVER, 1))))
+server.kill()
+with open("leases", "rb") as file:
+    file.seek(END)
+    end = int.from_bytes(file.read(8), "big")
+print(began + 600 <= end <= int(time.time()) + 600)
+for seconds in (60, -1):
+    with open("leases", "r+b") as file:
+        file.seek(END)
+        file.write((int(time.time()) + seconds).to_bytes(8, "big"))
+    server = Server("accessd", "config.toml", "leases")
+    circuit.send(frame(DISCOVER, 2))
+    print(circuit.receive(0.3))
+    server.kill()
