@@ -1,0 +1,3 @@
+pub mod LeaseLemmas
+pub mod CopyLemmas
+pub mod LineLemmas

@@ -1,0 +1,6 @@
+pub mod Lease
+pub mod Line
+pub mod Listing
+pub mod RegionCopy
+pub mod Row
+pub mod Words

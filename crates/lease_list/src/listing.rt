@@ -1,0 +1,66 @@
+//! The lines of a circuit, by the bytes of its region.
+ghost use Rattle.std.specs.Prelude.{◌≡◌, IfOk, slice_index, string_bytes, ◌∷◌, []};
+ghost use Rattle.std.specs.List.{AllZip};
+ghost use Rattle.lease_disk.specs.Recovered.{recovered};
+ghost use Rattle.lease_list.specs.Line.{IsLeaseLine};
+ghost use Rattle.lease_list.specs.Listing.{AreLines};
+
+use crate::lease::{Lease, leases};
+use crate::line::{Closed, Form, closed_line, lease_line};
+use crate::region_copy::RegionCopy;
+use config::CircuitPart;
+use lease_disk::REGION;
+use std::alloc::{AllocError, Global};
+use types::CircuitId;
+
+/// The id as text: its bytes are ASCII.
+pub fn text_of(id: &CircuitId) -> &str
+    ensures { result.now ≡ id.now }
+{
+    let Ok(text) = std::str::from_utf8(id.as_bytes()) else {
+        unreachable!()
+    };
+    text
+}
+
+/// The line of each lease, in their order.
+fn lease_lines(
+    alloc: Global,
+    circuit: &str,
+    leases: &[Lease],
+    at: u64,
+    form: Form,
+) -> Result<Vec<String>, AllocError>
+    ensures { IfOk result (λ lines. AllZip (λ lease line. IsLeaseLine circuit.now lease at form (string_bytes line)) leases.now lines.items) }
+{
+    let mut lines = Vec::new(alloc);
+    for (i, lease) in leases.iter().enumerate() {
+        let line = lease_line(alloc, circuit, lease, at, form)?;
+        lines.push(line)?;
+    }
+    Ok(lines)
+}
+
+/// The lines of a circuit whose region has these bytes: one for each of its leases that is live at a moment,
+/// in seconds, by address, DHCPv4 before DHCPv6; or one that its region is damaged. They have no line feeds.
+/// The bytes are copied into `copy`, and what was in it is lost.
+pub fn region_lines(
+    alloc: Global,
+    part: &CircuitPart,
+    bytes: &[u8; REGION],
+    copy: &mut RegionCopy,
+    at: u64,
+    form: Form,
+) -> Result<Vec<String>, AllocError>
+    ensures { IfOk result (λ lines. AreLines part.now at form (recovered (part.now.count4 ∷ part.now.count6 ∷ []) (slice_index bytes.now)) lines.items) }
+{
+    let circuit = text_of(part.id());
+    if let Some(slots) = copy.slots(bytes, part.counts()) {
+        let found = leases(alloc, part, &slots, at)?;
+        return lease_lines(alloc, circuit, &found, at, form);
+    }
+    let line = closed_line(alloc, circuit, Closed::Damaged, form)?;
+    let mut lines = Vec::new(alloc);
+    lines.push(line)?;
+    Ok(lines)
+}

@@ -1,0 +1,74 @@
+//! The file of an `accessd`, read only.
+ghost use Rattle.std.specs.Prelude.{◌≡◌, ◌↔◌};
+ghost use Rattle.std.specs.IoError.{error_kind};
+
+use crate::steady::RegionReader;
+use lease_disk::REGION;
+use std::fs::File;
+use std::io::{self, ErrorKind};
+use std::os::unix::fs::FileExt;
+use std::rt::Files;
+use thiserror::Error;
+use types::Count;
+
+/// Why a file is not read.
+#[derive(Clone, Copy, Debug, PartialEq, Eq, Error)]
+pub enum FileFault {
+    #[error("the file can't be read")]
+    File,
+    #[error("out of memory")]
+    Memory,
+}
+
+/// What an error of the system says of the file.
+fn fault_of(error: io::Error) -> FileFault
+    ensures { (result ≡ FileFault.Memory) ↔ (error_kind error ≡ ErrorKind.OutOfMemory) }
+{
+    match error.kind() {
+        ErrorKind::OutOfMemory => FileFault::Memory,
+        _ => FileFault::File,
+    }
+}
+
+/// A file of whole regions that is only read, without a lock, so that the `accessd` that serves it runs on.
+#[derive(Drop)]
+pub struct RegionFile {
+    file: File,
+    length: u64,
+    reads: Count,
+}
+
+impl RegionFile {
+    /// Opens a file for reading. A folder is refused.
+    pub fn open<R: Files<File = File>>(rt: &R, path: &str) -> Result<RegionFile, FileFault> {
+        RegionFile::opened(rt, path).map_err(fault_of)
+    }
+
+    fn opened<R: Files<File = File>>(rt: &R, path: &str) -> io::Result<RegionFile> {
+        let file = File::open(rt, path)?;
+        let metadata = file.metadata()?;
+        if metadata.is_dir() {
+            return Err(io::Error::from(ErrorKind::IsADirectory));
+        }
+        Ok(RegionFile {
+            file,
+            length: metadata.len(),
+            reads: Count::new(),
+        })
+    }
+
+    /// How many regions were whole in the file when it was opened.
+    pub fn regions(&self) -> u64 {
+        self.length / REGION as u64
+    }
+}
+
+impl RegionReader for RegionFile {
+    ghost reads = { λ file. file.reads.count };
+
+    fn read(&mut self, region: u16, out: &mut [u8; REGION]) -> bool {
+        self.reads.tick();
+        let at = u64::from(region) * REGION as u64;
+        self.file.read_exact_at(&mut out[..], at).is_ok()
+    }
+}

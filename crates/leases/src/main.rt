@@ -1,0 +1,175 @@
+//! Lists the leases of all circuits in the file of an `accessd`, which may run meanwhile.
+#![tactic(auto)]
+
+ghost use Rattle.std.specs.Prelude.{◌≡◌, ◌⊎◌, IfErr};
+ghost use Rattle.leases.specs.Status.{IsExitStatus};
+
+use command_line::{FAILED, UNOPENED, UNREADABLE, complain, given_words, read_configuration};
+use config::{CircuitPart, Config};
+use dispatch::region_count;
+use lease_disk::REGION;
+use lease_list::{
+    Closed, FileFault, Form, LeaseWords, RegionCopy, RegionFile, Unsteady, closed_line,
+    read_steadily, region_lines, text_of,
+};
+use std::alloc::AllocError;
+use std::process::ExitCode;
+use std::rt::Clock;
+use types::Circuit;
+
+/// Reports that the file is not read, and returns the status.
+fn refuse_file(rt: &HostRuntime, path: &str, fault: FileFault) -> u8
+    ensures { (result ≡ 4) ⊎ (result ≡ 5) }
+{
+    let status = match fault {
+        FileFault::File => UNREADABLE,
+        FileFault::Memory => UNOPENED,
+    };
+    let _ = eprint!(rt; "{path}: ");
+    complain(rt, fault, status)
+}
+
+/// The file with the leases, which has the region of each circuit.
+fn open_file(rt: &HostRuntime, config: &Config, path: &str) -> Result<RegionFile, u8>
+    ensures { IfErr result (λ status. (status ≡ 4) ⊎ (status ≡ 5)) }
+{
+    let file = match RegionFile::open(rt, path) {
+        Ok(file) => file,
+        Err(fault) => return Err(refuse_file(rt, path, fault)),
+    };
+    let needed = region_count(config);
+    if file.regions() < u64::from(needed) {
+        let _ = eprintln!(rt;
+            "{path}: the file has fewer regions than the circuits need, {needed}"
+        );
+        return Err(UNOPENED);
+    }
+    Ok(file)
+}
+
+/// The moment at which the leases are listed.
+fn moment(rt: &HostRuntime, at: Option<u64>) -> Result<u64, u8>
+    ensures { IfErr result (λ status. status ≡ 4) }
+{
+    if let Some(at) = at {
+        return Ok(at);
+    }
+    match rt.since_1970() {
+        Ok(since) => Ok(since.as_secs()),
+        Err(_) => Err(complain(rt, "the clock can't be read; --at gives a moment", UNOPENED)),
+    }
+}
+
+/// What lists a file's regions one after the other.
+#[derive(Drop)]
+struct Lister<'a> {
+    rt: &'a HostRuntime,
+    file: RegionFile,
+    bytes: [u8; REGION],
+    copy: RegionCopy,
+    at: u64,
+    form: Form,
+    is_busy: bool,
+}
+
+impl Lister<'_> {
+    /// The lines of a circuit.
+    fn lines(&mut self, part: &CircuitPart) -> Result<Vec<String>, AllocError> {
+        let alloc = self.rt.alloc();
+        let why = match read_steadily(&mut self.file, part.region(), &mut self.bytes) {
+            Ok(()) => return region_lines(
+                alloc,
+                part,
+                &self.bytes,
+                &mut self.copy,
+                self.at,
+                self.form,
+            ),
+            Err(Unsteady::Unreadable) => Closed::Unreadable,
+            Err(Unsteady::Busy) => Closed::Busy,
+        };
+        self.is_busy = self.is_busy || why == Closed::Busy;
+        let line = closed_line(alloc, text_of(part.id()), why, self.form)?;
+        let mut lines = Vec::new(alloc);
+        lines.push(line)?;
+        Ok(lines)
+    }
+
+    /// Writes the lines of a circuit.
+    fn list(&mut self, part: &CircuitPart) -> Result<(), u8>
+        ensures { IfErr result (λ status. (status ≡ 4) ⊎ (status ≡ 6)) }
+    {
+        let Ok(lines) = self.lines(part) else {
+            return Err(complain(self.rt, "out of memory", UNOPENED));
+        };
+        for line in lines.iter() {
+            if println!(self.rt; "{line}").is_err() {
+                return Err(FAILED);
+            }
+        }
+        Ok(())
+    }
+
+    /// Writes the lines of all circuits, and returns the status.
+    fn list_all(&mut self, config: &Config) -> u8
+        ensures { (result ≡ 0) ⊎ (result ≡ 4) ⊎ (result ≡ 6) }
+    {
+        for index in 0..config.circuit_count() {
+            let Some(circuit) = Circuit::new(index) else {
+                unreachable!()
+            };
+            if let Err(status) = self.list(&CircuitPart::of(config, circuit)) {
+                return status;
+            }
+        }
+        if self.is_busy { UNOPENED } else { 0 }
+    }
+}
+
+/// Lists what the words ask for, and returns the status.
+fn run(rt: &HostRuntime, values: LeaseWords<'_>) -> u8
+    ensures { IsExitStatus result }
+{
+    let config = match read_configuration(rt, values.config) {
+        Ok(config) => config,
+        Err(status) => return status,
+    };
+    let file = match open_file(rt, &config, values.disk) {
+        Ok(file) => file,
+        Err(status) => return status,
+    };
+    let at = match moment(rt, values.at) {
+        Ok(at) => at,
+        Err(status) => return status,
+    };
+    let Ok(copy) = RegionCopy::new(rt.alloc()) else {
+        return complain(rt, "out of memory", UNOPENED);
+    };
+    let mut lister = Lister {
+        rt,
+        file,
+        bytes: [0; REGION],
+        copy,
+        at,
+        form: if values.json { Form::Json } else { Form::Text },
+        is_busy: false,
+    };
+    lister.list_all(&config)
+}
+
+fn status(rt: &HostRuntime) -> u8
+    ensures { IsExitStatus result }
+{
+    let given = match given_words(rt) {
+        Ok(given) => given,
+        Err(status) => return status,
+    };
+    match lease_list::words(rt.alloc(), &given) {
+        Ok(values) => run(rt, values),
+        Err(refusal) => refusal.show(rt),
+    }
+}
+
+fn main(rt: HostRuntime) -> ExitCode {
+    ExitCode::from(status(&rt))
+}
