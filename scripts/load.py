@@ -11,8 +11,8 @@ PATIENCE = 0.1
 
 
 class Client:
-    """One client: what it was offered or holds, which message of it is not answered yet, which addresses it asked for, and
-    how many it has given back."""
+    """One client: what it was offered or holds, which message of it is not answered yet and what that asks, which addresses
+    it was ever leased, and how many it has given back."""
 
     def __init__(self, number):
         self.number = number
@@ -20,7 +20,8 @@ class Client:
         self.held = None
         self.waits_for = None
         self.since = 0.0
-        self.asked = set()
+        self.asks = None
+        self.leased = set()
         self.releases = 0
 
 
@@ -64,7 +65,7 @@ class Load:
 
     def send(self, client, what):
         self.xid += 1
-        client.waits_for = self.xid
+        client.waits_for, client.asks = self.xid, what
         client.since = time.monotonic()
         self.send_frame(client.frame(what, self.xid))
 
@@ -78,7 +79,6 @@ class Load:
         elif client.held:
             self.send(client, "renew")
         elif client.offer:
-            client.asked.add(client.offer.address)
             self.send(client, "take")
             client.offer = None
         else:
@@ -97,6 +97,7 @@ class Load:
             self.acks += 1
             self.check(client, answer)
             client.held = answer.address
+            client.leased.add(answer.address)
         else:
             if client.held:
                 self.faults.append(f"client {client.number} lost its lease")

@@ -1,6 +1,6 @@
 """While clients of both protocols ask for leases, renew them and give them back: a listing has every lease that a
-client holds from before it until after it, and none that its client never asked for; once the clients rest, it has
-exactly theirs."""
+client holds from before it until after it, and none but those that were acknowledged or whose acknowledgement is on its
+way; once the clients rest, it has exactly theirs."""
 import ipaddress
 import json
 import random
@@ -26,6 +26,11 @@ def held(clients):
     return {(lease(client, client.held), client.releases) for client in clients if client.held}
 
 
+def leased():
+    """What was ever acknowledged."""
+    return {lease(client, address) for client in clients for address in client.leased}
+
+
 def listed(text):
     lines = [json.loads(line) for line in text.splitlines()]
     return {(line["client"], line["address"]) for line in lines if line["state"] == "bound"}
@@ -41,7 +46,7 @@ for load in loads:
     load.clients = load.clients[:12]
 clients = [client for load in loads for client in load.clients]
 run(loads, 0.5)
-listings = 0
+listings, every = 0, set()
 for _ in range(40):
     before = held(clients)
     listing = subprocess.Popen(COMMAND, stdout=subprocess.PIPE, text=True)
@@ -52,11 +57,13 @@ for _ in range(40):
         print("status", listing.returncode, text)
     now = listed(text)
     steady = {each for each, _ in before & held(clients)}
-    asked = {lease(client, address) for client in clients for address in client.asked}
     if steady - now:
         print("not listed, though held:", steady - now)
-    if now - asked:
-        print("listed, though never asked for:", now - asked)
+    waiting = {IDENTIFIERS[type(client)] + f"{client.number:08x}" for client in clients if client.waits_for and client.asks == "take"}
+    unknown = {each for each in now - leased() if each[0] not in waiting}
+    if unknown:
+        print("listed, though neither acknowledged nor asked for:", unknown)
+    every |= now
     listings += 1
 # what is on its way arrives, without new messages
 end = time.monotonic() + 0.5
@@ -66,5 +73,7 @@ while time.monotonic() < end:
             load.take(answer)
 now = listed(subprocess.run(COMMAND, capture_output=True, text=True).stdout)
 theirs = {each for each, _ in held(clients)}
+if every - leased():
+    print("listed, though never acknowledged:", every - leased())
 print(listings, "listings,", "exactly what is held" if now == theirs and len(now) > 8 else f"{now - theirs} and {theirs - now}")
 server.kill()
