@@ -1,0 +1,10 @@
+pub mod Halves
+pub mod Entries
+pub mod ReadBack
+pub mod Changes
+pub mod Steps
+pub mod Exits
+pub mod Reading
+pub mod Books
+pub mod Marking
+pub mod FormatLemmas

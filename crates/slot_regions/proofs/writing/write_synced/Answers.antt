@@ -1,0 +1,14 @@
+use Rattle.lease_disk.proofs.WrittenLemmas.{not_written, then_synced}
+use Rattle.slot_regions.proofs.writing.write_synced.Goals as goal
+
+pub returns-in_err-write_at : goal.returns-in_err-write_at
+returns-in_err-write_at g c =
+    let e = c.in_err-write_at.ensures in
+    not_written g.D.Disk.tells c.args.region c.args.at c.args.bytes.now c.from_residual.result (g.D.Disk.device c.args.disk.now) (g.D.Disk.device c.write_at.new.self) c.from_residual.ensures.0 e.err e.answer e.frame e.writes e.failures
+
+pub returns : goal.returns
+returns g c =
+    let e = c.in_ok-write_at.ensures in
+    then_synced g.D.Disk.tells c.args.region c.args.at c.args.bytes.now c.sync.result (g.D.Disk.device c.args.disk.now) (g.D.Disk.device c.write_at.new.self) (g.D.Disk.device c.sync.new.self)
+    (record { ok = e.ok; answer = e.answer; fuse = e.fuse; frame = e.frame; writes = e.writes; failures = e.failures })
+    (record { ok = c.sync.ensures.ok; err = c.sync.ensures.err; answer = c.sync.ensures.answer; fuse = c.sync.ensures.fuse; frame = c.sync.ensures.frame; writes = c.sync.ensures.writes; failures = c.sync.ensures.failures })

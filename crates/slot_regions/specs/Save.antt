@@ -1,0 +1,77 @@
+-- What a save is given, and what it leaves.
+use Rattle.std.specs.Prelude.{◌≡◌, ℕ, ◌-◌, ◌==◌, ◌<◌, ◌≤◌, Bool, true, false, ◌&&◌, nat_le, nat_lt, if◌then◌else◌, List, map, slice_index, slice_index_or, slice_set, Option, Some}
+use Rattle.types.specs.declared.slots.Slots.{Slots}
+use Rattle.types.specs.Slots.{live4, live6}
+use Rattle.slot_regions.specs.declared.content.Content.{Content}
+use Rattle.slot_regions.specs.declared.content.Content.TheVariants.{Four, Six}
+use Rattle.slot_regions.specs.declared.half.Half.{Half}
+use Rattle.slot_regions.specs.declared.half.Half.TheVariants.{First, Second}
+use Rattle.slot_regions.specs.declared.half.Mark.{Mark}
+use Rattle.slot_regions.specs.declared.half.Marks.{Marks}
+use Rattle.slot_regions.specs.Book.{IsBook, half_bytes}
+use Rattle.slot_regions.specs.Layout.{gate_open, half_at}
+use Rattle.slot_regions.specs.Recovered.{half, is_open, sequence, next, is_counting, recovered}
+use Rattle.lease_disk.specs.Region.{Region, is_within, IsCrash, IsClean}
+
+abbrev pub other : Half → Half
+other First = Second
+other Second = First
+
+-- the mark of a slot: which half counts, its sequence, and whether the other's gate reads open
+pub record IsMark (region : ℕ → ℕ) (s : ℕ) (mark : Mark) : Type 0 where
+  pub counting : is_counting (half region s mark.half) (half region s (other mark.half)) ≡ true
+  pub sequence : mark.sequence ≡ sequence (half region s mark.half)
+  pub other_open : mark.other_open ≡ is_open (half region s (other mark.half))
+
+abbrev pub mark_at : Marks → ℕ → Mark
+mark_at marks s = slice_index_or marks.slots s (record { half = First; sequence = 0; other_open = false })
+
+-- whether a slot lies below its pool's count
+abbrev pub is_read : List ℕ → ℕ → Bool
+is_read counts s = if nat_lt s 16 then nat_lt s (slice_index counts 0) else nat_lt s 32 && nat_lt (s - 16) (slice_index counts 1)
+
+-- the marks of a region, for pools of so many addresses
+abbrev pub AreMarks : List ℕ → (ℕ → ℕ) → Marks → Type 0
+AreMarks counts region marks = (s : ℕ) → is_read counts s ≡ true → IsMark region s (mark_at marks s)
+
+-- a DHCPv4 slot is below 16, a DHCPv6 slot from there on
+abbrev pub Fits : ℕ → Content → Type 0
+Fits s (Four slot) = s < 16
+Fits s (Six slot) = (16 ≤ s) × (s < 32)
+
+-- the slots at a clock, with one that holds this from then on
+abbrev pub with_slot : ℕ → ℕ → Content → Slots → Slots
+with_slot clock s (Four slot) slots = record { four = slice_set (map (live4 clock) slots.four) s slot; six = map (live6 clock) slots.six; clock = clock }
+with_slot clock s (Six slot) slots = record { four = map (live4 clock) slots.four; six = slice_set (map (live6 clock) slots.six) (s - 16) slot; clock = clock }
+
+-- a change that may be saved: a slot of its pool, not before the kept clock, and it makes a book
+pub record IsChange (counts : List ℕ) (clock s : ℕ) (content : Content) (slots : Slots) : Type 0 where
+  pub later : slots.clock ≤ clock
+  pub below : is_read counts s ≡ true
+  pub book : IsBook counts (with_slot clock s content slots)
+
+-- after a save that did not fail
+pub record IsSaved (counts : List ℕ) (slots : Slots) (r : Region) : Type 0 where
+  pub clean : IsClean r
+  pub kept : recovered counts r.byte ≡ Some slots
+
+-- the half that a save writes
+abbrev pub gate_at : ℕ → Mark → ℕ
+gate_at s mark = half_at s (other mark.half)
+
+-- a byte after a save that did not fail: the half that did not count has the next sequence, the clock and
+-- the slot, with its gate open
+abbrev pub saved_byte : ℕ → Mark → ℕ → Content → (ℕ → ℕ) → ℕ → ℕ
+saved_byte s mark clock content region i =
+    if is_within (gate_at s mark) 256 i then slice_index (half_bytes (next mark.sequence) clock content) (i - gate_at s mark) else region i
+
+-- every byte outside n from an offset on is as it was, and as sure as it was
+pub record SameBeside (at n : ℕ) (old new : Region) : Type 0 where
+  pub byte : (i : ℕ) → is_within at n i ≡ false → new.byte i ≡ old.byte i
+  pub unsynced : (i : ℕ) → is_within at n i ≡ false → new.unsynced i ≡ old.unsynced i
+
+-- After a save whose k-th call failed: whatever the unsynced bytes have become, the region recovers
+-- to what it was before, but from the fifth call on to the new slots where the gate is open.
+pub record IsLeft (k gate : ℕ) (before after : Option Slots) (counts : List ℕ) (r : Region) : Type 0 where
+  pub crash : (f : ℕ → ℕ) → IsCrash r f → recovered counts f ≡ (if nat_le 5 k && f gate == gate_open then after else before)
+  pub doubt : 5 ≤ k → r.unsynced gate ≡ true
