@@ -111,6 +111,9 @@ module _ (pool : PoolValue) (region : RegionSlots) (t n : ℕ) (ss : Holders4) (
       ap (λ xs. book_of region.clock (record { pool = pool; slots = xs })) (begun_is form4 region.four region.clock pool.count t n ss clock count e)
       ∙ ap (book4_at region.clock) (same_book (number4 pool.first) (take pool.count all) all (take_at pool.count all (λ i h. there i ∙ ap (held form4 region.clock) (past i h))))
 
+  pub begun_kept : length region.four ≡ 16 → length ss ≡ n → ((i : ℕ) → pool.count ≤ i → get_or region.four i slot4.Free ≡ slot4.Free) → kept_slots region.clock ss ≡ map (live4 region.clock) region.four
+  begun_kept long sized past = form.begun_kept form4 region.four region.clock pool.count t n ss clock count e long sized past
+
   pub begun_within : All IsWithin4 region.four → AreWithin ss
   begun_within w = form.begun_within form4 region.four region.clock pool.count t n ss clock count e IsWithin4 holder_within w
 
@@ -160,3 +163,12 @@ book_put v are region four =
 
 pub past_free : (pool : PoolValue) (t : ℕ) (ss : Holders4) (xs : List Slot4) → AreSlots pool ss → xs ≡ kept_slots t ss → (i : ℕ) → pool.count ≤ i → get_or xs i slot4.Free ≡ slot4.Free
 past_free pool t ss xs are e i h = form.past_free form4 t ss xs e i (omega (arith, h, are.size))
+
+-- ---- the same of what is kept, at any clock
+
+pub kept_size : (pool : PoolValue) (t : ℕ) (ss : Holders4) → AreSlots pool ss → length (kept_slots t ss) ≡ 16
+kept_size pool t ss are = form.kept_length form4 t ss (omega (arith, are.size, are.limits.most))
+
+pub book_kept : (v : PoolSlots) (t : ℕ) → AreSlots v.pool v.slots → (region : RegionSlots) → region.four ≡ kept_slots t v.slots → region.clock ≡ t → book4_in v.pool region ≡ kept_book (book_of t v)
+book_kept v t are region four clock =
+    book_put v are region (four ∙ ap (λ n. kept_slots n v.slots) (sym clock)) ∙ ap (λ n. kept_book (book_of n v)) clock

@@ -1,6 +1,6 @@
 -- A row of the table is what its decision makes of the slots.
-use Rattle.std.proofs.Common.{◌≡◌, ℕ, ◌+◌, ◌-◌, ◌<◌, Bool, true, false, cond, List, get_or, refl, sym, ap, subst, ◌∙◌, arith}
-use Rattle.std.specs.Prelude.{Option, Some, None, ◌==◌, is_some, option_map}
+use Rattle.std.proofs.Common.{◌≡◌, ℕ, ◌+◌, ◌-◌, ◌<◌, Bool, true, false, cond, List, map, set, get_or, refl, sym, ap, subst, ◌∙◌, arith}
+use Rattle.std.specs.Prelude.{Option, Some, None, IfSome, ◌==◌, is_some, option_map}
 use Rattle.std.specs.List.{position}
 use Rattle.std.specs.Str.{bytes_eq}
 use Rattle.std.proofs.lemmas.Bool.Decides.{nat_tests}
@@ -11,7 +11,9 @@ use Rattle.slots.specs.Lookup.{live, is_bound_to, is_offered_to, slot_in, picked
 use Rattle.slots.specs.Maps.{Lease, is_live, address_of, or_else}
 use Rattle.slots.specs.Slots.{bound_to, offered_to, barred_until, with_slot}
 use Rattle.slots.proofs.FitLemmas.{Fit, bound_own, bound_clients, offered_own, offered_clients, fit_bound, fit_offered, fit_picked}
+use Rattle.slots.proofs.FormLemmas.{form_set, form_given}
 use Rattle.slots.proofs.FreeLemmas.{from, bound_test, offered_test, binding_is}
+use Rattle.slots.proofs.KeptWrites.{IsClear, clear_bound, clear_offered, kept_same, kept_bound, kept_barred, kept_offered, offered_unkept}
 use Rattle.slots.proofs.ShownLemmas.{not_true, live_slots, bound_sort, offered_sort}
 use Rattle.slots.proofs.WriteLemmas.{distinct_slot, length_slot, leases_kept, leases_with, leases_gone, leases_without, leases_same, bars_kept, bars_same, bars_with}
 use Rattle.types.specs.Addr.{number4}
@@ -20,17 +22,21 @@ use Rattle.types.specs.declared.kind4.Kind4.TheVariants.{Discover, Offer, Reques
 use Rattle.types.specs.Pool4.{PoolValue}
 use Rattle.types.specs.declared.request4.Reply4.TheVariants as reply
 use Rattle.types.specs.declared.request4.Request4.{Request4}
+use Rattle.types.specs.declared.slot4.Slot4.{Slot4}
+use Rattle.types.specs.declared.slot4.Slot4.TheVariants as slot4
 use Rattle.bindings_v4.specs.declared.decision4.Decision4.{Decision4}
 use Rattle.bindings_v4.specs.declared.decision4.KeptSlot.{KeptSlot}
 use Rattle.bindings_v4.specs.declared.decision4.OfferChange.{OfferChange}
 use Rattle.bindings_v4.specs.declared.decision4.OfferChange.TheVariants as offer
-use Rattle.bindings_v4.specs.Book4.{in_pool}
-use Rattle.bindings_v4.specs.Decision4.{keep_of, decision_of}
+use Rattle.bindings_v4.specs.Book4.{Book4, in_pool}
+use Rattle.bindings_v4.specs.Decision4.{offer_of, keep_of, decision_of}
+use Rattle.bindings_v4.specs.Kept4.{keep_in, slot_of, kept_slots}
 use Rattle.bindings_v4.specs.Slots4.{Holders4, PoolSlots, book_of_slots, book_of, AreSlots, with_offer, holder_of, with_kept, with_decision}
 use Rattle.bindings_v4.specs.declared.server4.Server4.{Server4}
 use Rattle.bindings_v4.specs.declared.server4.Server4.TheVariants.{Anybody, This, Another}
 use Rattle.bindings_v4.specs.Table4.{Change, Unchanged, Offers, Withdraws, Binds, Bars, Frees, with_change, is_kept, Row, replies, grants, discover_row, other_server_row, selecting_row, known_address_row, no_server_row, decline_row, release_row, inform_row, where_is, where_specified, server_of, Lookup, lookup_in, row_of, answer4}
 use Rattle.bindings_v4.proofs.FreeLemmas.{picked, pick_is, bound_is, offered_is}
+use Rattle.bindings_v4.proofs.KeptLemmas.{form4}
 use Rattle.bindings_v4.proofs.ShownLemmas.{shown}
 
 -- ---- what is written is a pool's slots still
@@ -187,8 +193,14 @@ module _ (v : PoolSlots) (t : ℕ) (k : List ℕ) (are : AreSlots v.pool v.slots
   abbrev offered : Option ℕ
   offered = position (is_offered_to bytes_eq t k) v.slots
 
-  abbrev IsRow : Row → Type 0
-  IsRow row = book_of t (with_decision (decision_of a t k row) v) ≡ with_change k row.change (book_of t v)
+  -- it holds of every change that a row makes
+  pub record OfChanges (P : Change → Type 0) : Type 0 where
+    pub unchanged : P Unchanged
+    pub offers : (i : ℕ) → Fit key4_is_key t k v.slots i → bound ≡ None → P (Offers (a + i) (t + 60))
+    pub withdraws : (i : ℕ) → offered ≡ Some i → P (Withdraws (a + i))
+    pub binds : (i : ℕ) → Fit key4_is_key t k v.slots i → IsClear key4_is_key t k v.slots i → P (Binds (a + i) (t + v.pool.lease))
+    pub bars : (i : ℕ) → bound ≡ Some i → P (Bars (a + i) (t + 3600))
+    pub frees : (i : ℕ) → bound ≡ Some i → P (Frees (a + i))
 
   -- whom the client's slot is
   held_fits : (i : ℕ) → or_else bound offered ≡ Some i → Fit key4_is_key t k v.slots i
@@ -200,92 +212,141 @@ module _ (v : PoolSlots) (t : ℕ) (k : List ℕ) (are : AreSlots v.pool v.slots
   fit_pick : (wanted : Option ℕ) (i : ℕ) → picked t v.pool v.slots k wanted ≡ Some i → Fit key4_is_key t k v.slots i
   fit_pick wanted i e = fit_picked key4_is_key t a k v.slots (or_else bound offered) wanted i held_fits (ap (λ n. picked_slot t v.slots (or_else bound offered) (slot_in a n wanted)) are.size ∙ e)
 
-  discovered : (wanted found bound_slot : Option ℕ) → picked t v.pool v.slots k wanted ≡ found → bound ≡ bound_slot → IsRow (discover_row t (from a found) (from a bound_slot))
-  discovered wanted None bound_slot is_picked is_bound = refl
-  discovered wanted (Some i) (Some j) is_picked is_bound = refl
-  discovered wanted (Some i) None is_picked is_bound =
-      ap (λ n. book_of t (record v { slots = with_slot bytes_eq n (Some (Offered k (t + 60))) v.slots })) (slot_there a i)
-      ∙ offered_book v t k (t + 60) i are (fit_pick wanted i is_picked) is_bound (lasting t 60 (omega arith))
-
-  granted : (address i : ℕ) → address ≡ a + i → Fit key4_is_key t k v.slots i → IsRow (grants address (t + v.pool.lease))
-  granted address i e fit =
-      let term : 0 < v.pool.lease = omega (arith, are.limits.shortest) in
-      subst (λ x. IsRow (grants x (t + v.pool.lease))) (sym e)
-      (ap (λ n. book_of t (record v { slots = with_slot bytes_eq n (Some (Bound k (t + v.pool.lease))) v.slots })) (slot_there a i)
-      ∙ bound_book v t k (t + v.pool.lease) i are fit (lasting t v.pool.lease term))
-
-  withdrawn : (found : Option ℕ) → offered ≡ found → IsRow (other_server_row (from a found))
-  withdrawn None is = refl
-  withdrawn (Some i) is =
-      ap (λ n. book_of t (record v { slots = with_slot bytes_eq n None v.slots })) (slot_there a i) ∙ withdrawn_book v t k i are is
-
-  -- an address that is the client's binding or offer
-  selected : (wanted held : Option ℕ) → ((address : ℕ) → held ≡ Some address → (i : ℕ) × (address ≡ a + i) × Fit key4_is_key t k v.slots i) → IsRow (selecting_row (t + v.pool.lease) wanted held)
-  selected None held is = refl
-  selected (Some wanted) None is = refl
-  selected (Some wanted) (Some address) is = let p = is address refl in granted address p.0 p.1 p.2
-
-  held_is : (wanted : Option ℕ) (address : ℕ) → or_else (where_is (from a bound) wanted) (where_is (from a offered) wanted) ≡ Some address
-      → (i : ℕ) × (address ≡ a + i) × Fit key4_is_key t k v.slots i
-  held_is wanted address e = by (where_is (from a bound) wanted) refl e where
-    by : (o : Option ℕ) → where_is (from a bound) wanted ≡ o → or_else o (where_is (from a offered) wanted) ≡ Some address → (i : ℕ) × (address ≡ a + i) × Fit key4_is_key t k v.slots i
-    by None is e = let p = named_is a offered wanted address e in (p.0, p.1, fit_offered key4_is_key t k v.slots p.0 p.2)
-    by (Some x) is e = let p = named_is a bound wanted address (is ∙ e) in (p.0, p.1, fit_bound key4_is_key t k v.slots p.0 p.2)
-
-  verified : (inside : Bool) (found : Option ℕ) (address : ℕ) → bound ≡ found → IsRow (known_address_row (t + v.pool.lease) inside (from a found) address)
-  verified false found address is = refl
-  verified true None address is = refl
-  verified true (Some i) address is = by (a + i == address) where
-    by : (b : Bool) → IsRow (cond b (grants (a + i) (t + v.pool.lease)) (replies reply.Nak Unchanged))
-    by true = granted (a + i) i refl (fit_bound key4_is_key t k v.slots i is)
-    by false = refl
-
-  requested : (wanted ciaddr : Option ℕ) → IsRow (no_server_row v.pool (t + v.pool.lease) (from a bound) wanted ciaddr)
-  requested (Some wanted) (Some ciaddr) = refl
-  requested None None = refl
-  requested (Some wanted) None = verified (in_pool v.pool wanted) bound wanted refl
-  requested None (Some ciaddr) = verified (in_pool v.pool ciaddr) bound ciaddr refl
-
-  declined : (o : Option ℕ) → IsOf a bound o → IsRow (decline_row t o)
-  declined None is = refl
-  declined (Some address) is =
-      let p = is address refl in
-      subst (λ x. IsRow (decline_row t (Some x))) (sym p.1)
-      (ap (λ n. book_of t (record v { slots = with_slot bytes_eq n (Some (Barred (t + 3600))) v.slots })) (slot_there a p.0)
-      ∙ barred_book v t k (t + 3600) p.0 are p.2 (lasting t 3600 (omega arith)))
-
-  released : (o : Option ℕ) → IsOf a bound o → IsRow (release_row o)
-  released None is = refl
-  released (Some address) is =
-      let p = is address refl in
-      subst (λ x. IsRow (release_row (Some x))) (sym p.1)
-      (ap (λ n. book_of t (record v { slots = with_slot bytes_eq n None v.slots })) (slot_there a p.0) ∙ freed_book v t k p.0 are p.2)
-
-  informed : (ciaddr : Option ℕ) → IsRow (inform_row ciaddr)
-  informed None = refl
-  informed (Some ciaddr) = refl
-
   -- what is looked up, by slots
   abbrev by_slots : Option ℕ → Lookup
   by_slots wanted = record { binding = from a bound; offer = from a offered; pick = from a (picked t v.pool v.slots k wanted) }
 
-  row_is : (m : Request4) (kind : Kind4) (server : Server4) → IsRow (row_of v.pool t (by_slots (option_map number4 m.wanted)) m kind server)
-  row_is m Discover server = discovered (option_map number4 m.wanted) (picked t v.pool v.slots k (option_map number4 m.wanted)) bound refl refl
-  row_is m Request Another = withdrawn offered refl
-  row_is m Request This = let wanted = option_map number4 m.wanted in selected wanted _ (held_is wanted)
-  row_is m Request Anybody = requested (option_map number4 m.wanted) (where_specified m.ciaddr)
-  row_is m Decline Another = refl
-  row_is m Decline This = declined _ (named_is a bound (option_map number4 m.wanted))
-  row_is m Decline Anybody = declined _ (named_is a bound (option_map number4 m.wanted))
-  row_is m Release Another = refl
-  row_is m Release This = released _ (named_is a bound (Some (number4 m.ciaddr)))
-  row_is m Release Anybody = released _ (named_is a bound (Some (number4 m.ciaddr)))
-  row_is m Inform Another = refl
-  row_is m Inform This = informed (where_specified m.ciaddr)
-  row_is m Inform Anybody = informed (where_specified m.ciaddr)
-  row_is m Offer server = refl
-  row_is m Ack server = refl
-  row_is m Nak server = refl
+  module _ (P : Change → Type 0) (of : OfChanges P) where
+    discovered : (wanted found bound_slot : Option ℕ) → picked t v.pool v.slots k wanted ≡ found → bound ≡ bound_slot → P (discover_row t (from a found) (from a bound_slot)).change
+    discovered wanted None bound_slot is_picked is_bound = of.unchanged
+    discovered wanted (Some i) (Some j) is_picked is_bound = of.unchanged
+    discovered wanted (Some i) None is_picked is_bound = of.offers i (fit_pick wanted i is_picked) is_bound
+
+    withdrawn : (found : Option ℕ) → offered ≡ found → P (other_server_row (from a found)).change
+    withdrawn None is = of.unchanged
+    withdrawn (Some i) is = of.withdraws i is
+
+    bound_granted : (i : ℕ) → bound ≡ Some i → P (Binds (a + i) (t + v.pool.lease))
+    bound_granted i is = of.binds i (fit_bound key4_is_key t k v.slots i is) (clear_bound key4_is_key t k v.slots i is)
+
+    offered_granted : (i : ℕ) → offered ≡ Some i → P (Binds (a + i) (t + v.pool.lease))
+    offered_granted i is = of.binds i (fit_offered key4_is_key t k v.slots i is) (clear_offered key4_is_key t k v.slots i is)
+
+    -- an address that is the client's binding or offer
+    selected : (wanted held : Option ℕ) → ((address : ℕ) → held ≡ Some address → P (Binds address (t + v.pool.lease))) → P (selecting_row (t + v.pool.lease) wanted held).change
+    selected None held is = of.unchanged
+    selected (Some wanted) None is = of.unchanged
+    selected (Some wanted) (Some address) is = is address refl
+
+    held_is : (wanted : Option ℕ) (address : ℕ) → or_else (where_is (from a bound) wanted) (where_is (from a offered) wanted) ≡ Some address → P (Binds address (t + v.pool.lease))
+    held_is wanted address e = by (where_is (from a bound) wanted) refl e where
+      by : (o : Option ℕ) → where_is (from a bound) wanted ≡ o → or_else o (where_is (from a offered) wanted) ≡ Some address → P (Binds address (t + v.pool.lease))
+      by None is e = let p = named_is a offered wanted address e in subst (λ x. P (Binds x (t + v.pool.lease))) (sym p.1) (offered_granted p.0 p.2)
+      by (Some x) is e = let p = named_is a bound wanted address (is ∙ e) in subst (λ x. P (Binds x (t + v.pool.lease))) (sym p.1) (bound_granted p.0 p.2)
+
+    verified : (inside : Bool) (found : Option ℕ) (address : ℕ) → bound ≡ found → P (known_address_row (t + v.pool.lease) inside (from a found) address).change
+    verified false found address is = of.unchanged
+    verified true None address is = of.unchanged
+    verified true (Some i) address is = by (a + i == address) where
+      by : (b : Bool) → P (cond b (grants (a + i) (t + v.pool.lease)) (replies reply.Nak Unchanged)).change
+      by true = bound_granted i is
+      by false = of.unchanged
+
+    requested : (wanted ciaddr : Option ℕ) → P (no_server_row v.pool (t + v.pool.lease) (from a bound) wanted ciaddr).change
+    requested (Some wanted) (Some ciaddr) = of.unchanged
+    requested None None = of.unchanged
+    requested (Some wanted) None = verified (in_pool v.pool wanted) bound wanted refl
+    requested None (Some ciaddr) = verified (in_pool v.pool ciaddr) bound ciaddr refl
+
+    declined : (o : Option ℕ) → IsOf a bound o → P (decline_row t o).change
+    declined None is = of.unchanged
+    declined (Some address) is = let p = is address refl in subst (λ x. P (Bars x (t + 3600))) (sym p.1) (of.bars p.0 p.2)
+
+    released : (o : Option ℕ) → IsOf a bound o → P (release_row o).change
+    released None is = of.unchanged
+    released (Some address) is = let p = is address refl in subst (λ x. P (Frees x)) (sym p.1) (of.frees p.0 p.2)
+
+    informed : (ciaddr : Option ℕ) → P (inform_row ciaddr).change
+    informed None = of.unchanged
+    informed (Some ciaddr) = of.unchanged
+
+    row_is : (m : Request4) (kind : Kind4) (server : Server4) → P (row_of v.pool t (by_slots (option_map number4 m.wanted)) m kind server).change
+    row_is m Discover server = discovered (option_map number4 m.wanted) (picked t v.pool v.slots k (option_map number4 m.wanted)) bound refl refl
+    row_is m Request Another = withdrawn offered refl
+    row_is m Request This = let wanted = option_map number4 m.wanted in selected wanted _ (held_is wanted)
+    row_is m Request Anybody = requested (option_map number4 m.wanted) (where_specified m.ciaddr)
+    row_is m Decline Another = of.unchanged
+    row_is m Decline This = declined _ (named_is a bound (option_map number4 m.wanted))
+    row_is m Decline Anybody = declined _ (named_is a bound (option_map number4 m.wanted))
+    row_is m Release Another = of.unchanged
+    row_is m Release This = released _ (named_is a bound (Some (number4 m.ciaddr)))
+    row_is m Release Anybody = released _ (named_is a bound (Some (number4 m.ciaddr)))
+    row_is m Inform Another = of.unchanged
+    row_is m Inform This = informed (where_specified m.ciaddr)
+    row_is m Inform Anybody = informed (where_specified m.ciaddr)
+    row_is m Offer server = of.unchanged
+    row_is m Ack server = of.unchanged
+    row_is m Nak server = of.unchanged
+
+  -- ---- what holds of every change
+
+  abbrev changed_by : Change → Holders4
+  changed_by c = with_kept (keep_of a k c) (with_offer (offer_of a k c) v.slots)
+
+  -- the slots with it show the book with it
+  abbrev ShowsItsBook : Change → Type 0
+  ShowsItsBook c = book_of t (record v { slots = changed_by c }) ≡ with_change k c (book_of t v)
+
+  shows_its_book : OfChanges ShowsItsBook
+  shows_its_book =
+      let written : ℕ → Option (Holder (List ℕ)) → Book4 = λ n new. book_of t (record v { slots = with_slot bytes_eq n new v.slots }) in
+      let term : 0 < v.pool.lease = omega (arith, are.limits.shortest) in
+      record {
+        unchanged = refl;
+        offers = λ i fit none. ap (λ n. written n (Some (Offered k (t + 60)))) (slot_there a i) ∙ offered_book v t k (t + 60) i are fit none (lasting t 60 (omega arith));
+        withdraws = λ i is. ap (λ n. written n None) (slot_there a i) ∙ withdrawn_book v t k i are is;
+        binds = λ i fit clear. ap (λ n. written n (Some (Bound k (t + v.pool.lease)))) (slot_there a i) ∙ bound_book v t k (t + v.pool.lease) i are fit (lasting t v.pool.lease term);
+        bars = λ i is. ap (λ n. written n (Some (Barred (t + 3600)))) (slot_there a i) ∙ barred_book v t k (t + 3600) i are is (lasting t 3600 (omega arith));
+        frees = λ i is. ap (λ n. written n None) (slot_there a i) ∙ freed_book v t k i are is;
+      }
+
+  -- what is kept of the slots changes at the slot that is kept alone
+  abbrev KeepsItsSlot : Change → Type 0
+  KeepsItsSlot c = kept_slots t (changed_by c) ≡ keep_in (keep_of a k c) (kept_slots t v.slots)
+
+  keeps_its_slot : OfChanges KeepsItsSlot
+  keeps_its_slot =
+      let ss = v.slots in
+      let IsSet : Slot4 → ℕ → Type 0 = λ content n. kept_slots t (with_slot bytes_eq n (holder_of content) ss) ≡ set (kept_slots t ss) n content in
+      let IsSame : Option (Holder (List ℕ)) → ℕ → Type 0 = λ new n. kept_slots t (with_slot bytes_eq n new ss) ≡ kept_slots t ss in
+      let term : 0 < v.pool.lease = omega (arith, are.limits.shortest) in
+      let stays = kept_bound t k (t + v.pool.lease) (lasting t v.pool.lease term) in
+      let bar_stays = kept_barred {K = List ℕ} t (t + 3600) (lasting t 3600 (omega arith)) in
+      record {
+        unchanged = refl;
+        offers = λ i fit none. subst (IsSame (Some (Offered k (t + 60)))) (sym (slot_there a i)) (ap (map slot_of) (kept_offered key4_is_key t k (t + 60) i ss are.distinct fit none));
+        withdraws = λ i is. subst (IsSame None) (sym (slot_there a i)) (ap (map slot_of) (kept_same t i None ss (sym (offered_unkept key4_is_key t k ss i is))));
+        binds = λ i fit clear. subst (IsSet (slot4.Bound k (t + v.pool.lease))) (sym (slot_there a i))
+            (form_given form4 key4_is_key t k i (Some (Bound k (t + v.pool.lease))) ss (slot4.Bound k (t + v.pool.lease)) are.distinct fit.below clear (ap slot_of stays));
+        bars = λ i is. subst (IsSet (slot4.Barred (t + 3600))) (sym (slot_there a i))
+            (form_set form4 t i (Some (Barred (t + 3600))) ss (slot4.Barred (t + 3600)) (bound_own key4_is_key t k ss i is).0 (ap slot_of bar_stays));
+        frees = λ i is. subst (IsSet slot4.Free) (sym (slot_there a i)) (form_set form4 t i None ss slot4.Free (bound_own key4_is_key t k ss i is).0 refl);
+      }
+
+  -- and that slot is the pool's
+  abbrev KeepsInPool : Change → Type 0
+  KeepsInPool c = IfSome (keep_of a k c) (λ kept. kept.slot < v.pool.count)
+
+  keeps_in_pool : OfChanges KeepsInPool
+  keeps_in_pool =
+      record {
+        unchanged = tt;
+        offers = λ i fit none. tt;
+        withdraws = λ i is. tt;
+        binds = λ i fit clear. omega (arith, fit.below, are.size);
+        bars = λ i is. omega (arith, (bound_own key4_is_key t k v.slots i is).0, are.size);
+        frees = λ i is. omega (arith, (bound_own key4_is_key t k v.slots i is).0, are.size);
+      }
 
 kept_is : (first : ℕ) (k : List ℕ) (change : Change) → is_some (keep_of first k change) ≡ is_kept change
 kept_is first k Unchanged = refl
@@ -296,7 +357,7 @@ kept_is first k (Bars address until) = refl
 kept_is first k (Frees address) = refl
 
 module _ (v : PoolSlots) (t : ℕ) (m : Request4) (are : AreSlots v.pool v.slots) where
-  abbrev found : Lookup
+  abbrev pub found : Lookup
   found = lookup_in v.pool (book_of t v) m
 
   found_is : found ≡ by_slots v t m.key are (option_map number4 m.wanted)
@@ -304,13 +365,12 @@ module _ (v : PoolSlots) (t : ℕ) (m : Request4) (are : AreSlots v.pool v.slots
       let wanted = option_map number4 m.wanted in
       λ i. record { binding = bound_is v t m.key are i; offer = offered_is v t m.key are i; pick = pick_is v t m.key wanted are i }
 
-  abbrev row : PoolValue → Lookup → Row
+  abbrev pub row : PoolValue → Lookup → Row
   row pool f = row_of pool t f m m.kind (server_of pool m.server)
 
-  row_book : book_of t (with_decision (decision_of (number4 v.pool.first) t m.key (row v.pool found)) v) ≡ with_change m.key (row v.pool found).change (book_of t v)
-  row_book =
-      let P : Lookup → Type 0 = λ f. book_of t (with_decision (decision_of (number4 v.pool.first) t m.key (row v.pool f)) v) ≡ with_change m.key (row v.pool f).change (book_of t v) in
-      subst P (sym found_is) (row_is v t m.key are m m.kind (server_of v.pool m.server))
+  -- it holds of the change that the message calls for
+  pub of_row : (P : Change → Type 0) → OfChanges v t m.key are P → P (row v.pool found).change
+  of_row P of = subst (λ f. P (row v.pool f).change) (sym found_is) (row_is v t m.key are P of m m.kind (server_of v.pool m.server))
 
   -- the code's pool and what it looked up
   pub decision_is : (pool : PoolValue) (looked_up : Lookup) (d : Decision4) → pool ≡ v.pool → looked_up ≡ found → d ≡ decision_of (number4 pool.first) t m.key (row pool looked_up)
@@ -328,4 +388,12 @@ module _ (v : PoolSlots) (t : ℕ) (m : Request4) (are : AreSlots v.pool v.slots
 
   pub book_is : (d : Decision4) → d ≡ decision_of (number4 v.pool.first) t m.key (row v.pool found) → book_of t (with_decision d v) ≡ (answer4 v.pool t (book_of t v) m).book
   unfolding answer4
-  book_is d e = ap (λ (x : Decision4). book_of t (with_decision x v)) e ∙ row_book
+  book_is d e = ap (λ (x : Decision4). book_of t (with_decision x v)) e ∙ of_row (ShowsItsBook v t m.key are) (shows_its_book v t m.key are)
+
+  pub slot_is : (d : Decision4) → d ≡ decision_of (number4 v.pool.first) t m.key (row v.pool found) → IfSome d.keep (λ kept. kept.slot < v.pool.count)
+  slot_is d e =
+      subst (λ (x : Decision4). IfSome x.keep (λ kept. kept.slot < v.pool.count)) (sym e) (of_row (KeepsInPool v t m.key are) (keeps_in_pool v t m.key are))
+
+  pub slots_are : (d : Decision4) → d ≡ decision_of (number4 v.pool.first) t m.key (row v.pool found) → kept_slots t (with_decision d v).slots ≡ keep_in d.keep (kept_slots t v.slots)
+  slots_are d e =
+      subst (λ (x : Decision4). kept_slots t (with_decision x v).slots ≡ keep_in x.keep (kept_slots t v.slots)) (sym e) (of_row (KeepsItsSlot v t m.key are) (keeps_its_slot v t m.key are))

@@ -1,5 +1,5 @@
 -- What of a book a region keeps, and which book the slots of a region mean.
-use Rattle.std.specs.Prelude.{ℕ, ◌≤◌, List, map, Option, Some, None}
+use Rattle.std.specs.Prelude.{ℕ, ◌≤◌, List, map, slice_set, Option, Some, None}
 use Rattle.std.specs.FinMap.{empty}
 use Rattle.slots.specs.Kept as table
 use Rattle.slots.specs.declared.holder.Holder.{Holder}
@@ -9,6 +9,7 @@ use Rattle.types.specs.Slots.{live4}
 use Rattle.types.specs.declared.slot4.Slot4.{Slot4}
 use Rattle.types.specs.declared.slot4.Slot4.TheVariants as slot4
 use Rattle.types.specs.declared.slots.Slots.{Slots}
+use Rattle.bindings_v4.specs.declared.decision4.KeptSlot.{KeptSlot}
 use Rattle.bindings_v4.specs.Book4.{Book4}
 use Rattle.bindings_v4.specs.Slots4.{Holders4, holder_of, book_of}
 
@@ -32,6 +33,11 @@ slot_of (Some (Barred until)) = slot4.Barred until
 -- what is kept of a pool's slots, 16 slots of a region: those past the pool are free
 abbrev pub kept_slots : ℕ → Holders4 → List Slot4
 kept_slots clock holders = map slot_of (table.kept_slots clock holders)
+
+-- the slots of a region with the one that a decision keeps
+abbrev pub keep_in : Option KeptSlot → List Slot4 → List Slot4
+keep_in None slots = slots
+keep_in (Some kept) slots = slice_set slots kept.slot kept.content
 
 -- a slot that is held until this moment at most
 abbrev pub EndsBy : ℕ → Slot4 → Type 0

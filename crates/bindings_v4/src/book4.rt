@@ -6,7 +6,7 @@ ghost use Rattle.types.specs.Addr.{number4};
 ghost use Rattle.types.specs.Slots.{IsWithin4, live4, none_twice, same_client4};
 ghost use Rattle.types.specs.declared.slot4.Slot4.TheVariants.{Free};
 ghost use Rattle.bindings_v4.specs.Decision4.{decision_of};
-ghost use Rattle.bindings_v4.specs.Kept4.{EndsBy, book4_in, kept_book, kept_slots};
+ghost use Rattle.bindings_v4.specs.Kept4.{EndsBy, book4_in, keep_in, kept_book, kept_slots};
 ghost use Rattle.bindings_v4.specs.Lookup4.{IsAt, IsLookup, lookup_of};
 ghost use Rattle.bindings_v4.specs.Slots4.{AreSlots, book_of, with_decision};
 ghost use Rattle.bindings_v4.specs.Table4.{answer4, lookup_in, row4};
@@ -48,6 +48,7 @@ impl Book4 {
         ensures pool { result.pool ≡ pool }
         ensures book { book_of slots.now.clock result ≡ book4_in pool slots.now }
         ensures within { All IsWithin4 slots.now.four → AreWithin result.slots }
+        ensures kept { kept_slots slots.now.clock result.slots ≡ map (live4 slots.now.clock) slots.now.four }
     {
         let holders = live_holders(&slots.four, pool.count(), slots.clock.seconds());
         Book4 {
@@ -79,6 +80,9 @@ impl Book4 {
         ensures answer { result.answer ≡ (answer4 self.now.pool clock (book_of clock self.now) request.now).answer }
         ensures book { book_of clock (with_decision result self.now) ≡ (answer4 self.now.pool clock (book_of clock self.now) request.now).book }
         ensures within { IfSome result.keep (λ kept. EndsBy (clock + 604800) kept.content) }
+        ensures slot { IfSome result.keep (λ kept. kept.slot < self.now.pool.count) }
+        ensures few { self.now.pool.count ≤ 16 }
+        ensures kept { kept_slots clock (with_decision result self.now).slots ≡ keep_in result.keep (kept_slots clock self.now.slots) }
     {
         let found = self.look_up(request, clock);
         let case = Case4 {

@@ -47,6 +47,7 @@ pub fn live_holders(
     requires { count ≤ 16 }
     ensures holders { result.items ≡ map (λ slot. holder_of (live4 clock slot)) (take count kept.now) }
     ensures size { length result.items ≡ count }
+    ensures whole { length kept.now ≡ 16 }
 {
     let mut holders = ArrayVec::new();
     for slot in &kept[..usize::from(count)] {

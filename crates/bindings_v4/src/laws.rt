@@ -1,17 +1,19 @@
 //! What holds of every book and every decision: functions that do nothing, for their contracts.
-ghost use Rattle.std.specs.Prelude.{◌≡◌, ◌<◌, ◌≤◌, ℕ, true, length, map, All, List, Some, Ok};
+ghost use Rattle.std.specs.Prelude.{◌≡◌, ◌<◌, ◌≤◌, ℕ, true, length, map, slice_index_or, All, List, Some, Ok};
 ghost use Rattle.std.specs.FinMap.{get};
+ghost use Rattle.slots.specs.Kept.{AreWithin};
 ghost use Rattle.slots.specs.Maps.{Lease};
 ghost use Rattle.types.specs.Pool4.{IsPool4, PoolValue};
 ghost use Rattle.types.specs.declared.addr.Addr4.{Addr4};
 ghost use Rattle.types.specs.declared.request4.Reply4.TheVariants as reply;
 ghost use Rattle.types.specs.declared.request4.Request4.{Request4};
-ghost use Rattle.types.specs.Slots.{live4, none_twice, same_client4};
+ghost use Rattle.types.specs.Slots.{IsWithin4, live4, none_twice, same_client4};
+ghost use Rattle.types.specs.declared.slot4.Slot4.TheVariants.{Free};
 ghost use Rattle.types.specs.declared.slots.Slots.{Slots};
 ghost use Rattle.bindings_v4.specs.Book4.{book4_at, empty_book};
 ghost use Rattle.bindings_v4.specs.Book4 as maps;
 ghost use Rattle.bindings_v4.specs.IsBook4.{IsBook4, LeavesABook, KeepsOthers, ChangesOffersAlone, GrantsItsOwn, RenewsInTime, KeepsItsLease};
-ghost use Rattle.bindings_v4.specs.Kept4.{book4_in, kept_book};
+ghost use Rattle.bindings_v4.specs.Kept4.{book4_in, kept_book, kept_slots};
 ghost use Rattle.bindings_v4.specs.Slots4.{book_of};
 ghost use Rattle.bindings_v4.specs.Table4.{answer4};
 
@@ -22,7 +24,8 @@ use types::{Moment, Pool4, Request4};
 /// clock moves has nothing to do.
 pub fn expires_by_the_clock(book: &Book4, clock: Moment, later: Moment)
     requires { clock ≤ later }
-    ensures { book4_at later (book_of clock book.now) ≡ book_of later book.now }
+    ensures book { book4_at later (book_of clock book.now) ≡ book_of later book.now }
+    ensures kept { kept_slots later book.now.slots ≡ map (live4 later) (kept_slots clock book.now.slots) }
 {}
 
 /// What a book shows is a book: nothing has to be known of how it came about.
@@ -78,6 +81,19 @@ pub fn begins_a_book()
     ensures later { (clock : ℕ) (b : maps.Book4) → kept_book (book4_at clock b) ≡ book4_at clock (kept_book b) }
     ensures live { (slots : Slots) → All (λ slot. live4 slots.clock slot ≡ slot) slots.four → none_twice same_client4 slots.four ≡ true → none_twice same_client4 (map (live4 slots.clock) slots.four) ≡ true }
 {}
+
+/// What a region keeps of a book's slots at a clock is what `Book4::put` writes: slots that are live, of
+/// the pool alone, no client twice, and they mean the book without its offers.
+pub fn keeps_a_book(book: &Book4, clock: Moment)
+    ensures size { length (kept_slots clock book.now.slots) ≡ 16 }
+    ensures past { (i : ℕ) → book.now.pool.count ≤ i → slice_index_or (kept_slots clock book.now.slots) i Free ≡ Free }
+    ensures live { All (λ slot. live4 clock slot ≡ slot) (kept_slots clock book.now.slots) }
+    ensures once { none_twice same_client4 (kept_slots clock book.now.slots) ≡ true }
+    ensures within { AreWithin book.now.slots → All IsWithin4 (kept_slots clock book.now.slots) }
+    ensures book { (region : Slots) → region.four ≡ kept_slots clock book.now.slots → region.clock ≡ clock → book4_in book.now.pool region ≡ kept_book (book_of clock book.now) }
+{
+    let _slots = book.slots();
+}
 
 /// A client's lease is changed by the client alone, and by the clock when it comes to its end.
 pub fn keeps_its_lease()

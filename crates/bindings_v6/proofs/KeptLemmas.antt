@@ -111,6 +111,9 @@ module _ (pool : Pool6Value) (region : RegionSlots) (t n : ℕ) (ss : Holders6) 
       ap (λ xs. book_of region.clock (record { pool = pool; slots = xs })) (begun_is form6 region.six region.clock pool.count t n ss clock count e)
       ∙ ap (book6_at region.clock) (same_book (number6 pool.first) (take pool.count all) all (take_at pool.count all (λ i h. there i ∙ ap (held form6 region.clock) (past i h))))
 
+  pub begun_kept : length region.six ≡ 16 → length ss ≡ n → ((i : ℕ) → pool.count ≤ i → get_or region.six i slot6.Free ≡ slot6.Free) → kept_slots region.clock ss ≡ map (live6 region.clock) region.six
+  begun_kept long sized past = form.begun_kept form6 region.six region.clock pool.count t n ss clock count e long sized past
+
   pub begun_within : All IsWithin6 region.six → AreWithin ss
   begun_within w = form.begun_within form6 region.six region.clock pool.count t n ss clock count e IsWithin6 holder_within w
 
@@ -139,3 +142,11 @@ book_put v are region six =
 
 pub past_free : (pool : Pool6Value) (t : ℕ) (ss : Holders6) (xs : List Slot6) → AreSlots pool ss → xs ≡ kept_slots t ss → (i : ℕ) → pool.count ≤ i → get_or xs i slot6.Free ≡ slot6.Free
 past_free pool t ss xs are e i h = form.past_free form6 t ss xs e i (omega (arith, h, are.size))
+
+-- ---- the same of what is kept, at any clock
+
+pub kept_size : (pool : Pool6Value) (t : ℕ) (ss : Holders6) → AreSlots pool ss → length (kept_slots t ss) ≡ 16
+kept_size pool t ss are = form.kept_length form6 t ss (omega (arith, are.size, are.limits.most))
+
+pub book_kept : (v : PoolSlots) (t : ℕ) → AreSlots v.pool v.slots → (region : RegionSlots) → region.six ≡ kept_slots t v.slots → region.clock ≡ t → book6_in v.pool region ≡ book_of t v
+book_kept v t are region six clock = book_put v are region (six ∙ ap (λ n. kept_slots n v.slots) (sym clock)) ∙ ap (λ n. book_of n v) clock

@@ -1,6 +1,6 @@
 -- A row of the table is what its decision makes of the slots.
-use Rattle.std.proofs.Common.{◌≡◌, ℕ, zero, suc, ◌+◌, ◌-◌, ◌<◌, Bool, true, false, cond, List, [], ◌∷◌, set, get_or, refl, sym, ap, subst, ◌∙◌, arith}
-use Rattle.std.specs.Prelude.{Option, Some, None, is_some}
+use Rattle.std.proofs.Common.{◌≡◌, inr, ℕ, zero, suc, ◌+◌, ◌-◌, ◌<◌, Bool, true, false, cond, List, [], ◌∷◌, set, get_or, refl, sym, ap, subst, ◌∙◌, arith}
+use Rattle.std.specs.Prelude.{Option, Some, None, IfSome, is_some}
 use Rattle.std.specs.List.{position}
 use Rattle.std.proofs.lemmas.Bool.Decides.{nat_tests}
 use Rattle.slots.specs.declared.holder.Holder.{Holder}
@@ -10,7 +10,9 @@ use Rattle.slots.specs.Lookup.{live, is_bound_to, slot_in, picked_slot}
 use Rattle.slots.specs.Maps.{is_live}
 use Rattle.slots.specs.Slots.{bound_to, offered_to, barred_until, is_clients, with_vacancy, with_slot}
 use Rattle.slots.proofs.FitLemmas.{Fit, bound_own, bound_clients, fit_bound, fit_picked}
+use Rattle.slots.proofs.FormLemmas.{form_set, form_given}
 use Rattle.slots.proofs.FreeLemmas.{from}
+use Rattle.slots.proofs.KeptWrites.{IsClear, clear_bound, kept_bound, kept_barred}
 use Rattle.slots.proofs.ShownLemmas.{live_slots, bound_sort}
 use Rattle.slots.proofs.WriteLemmas.{distinct_slot, length_slot, leases_with, leases_without, bars_kept, bars_same, bars_with}
 use Rattle.types.specs.Addr.{number6}
@@ -21,11 +23,16 @@ use Rattle.types.specs.declared.discard.Discard.TheVariants as reason
 use Rattle.types.specs.declared.kind6.Kind6.{Kind6}
 use Rattle.types.specs.declared.kind6.Kind6.TheVariants.{Solicit, Request, Confirm, Renew, Rebind, Release, Decline}
 use Rattle.types.specs.declared.request6.Request6.{Request6}
+use Rattle.types.specs.declared.slots.Slot6.{Slot6}
+use Rattle.types.specs.declared.slots.Slot6.TheVariants as slot6
 use Rattle.bindings_v6.specs.declared.decision6.Decision6.{Decision6}
+use Rattle.bindings_v6.specs.Book6.{Book6}
 use Rattle.bindings_v6.specs.Decision6.{keep_of, decision_of}
-use Rattle.bindings_v6.specs.Slots6.{Holders6, PoolSlots, book_of_slots, book_of, HaveNoOffers, AreSlots, with_decision}
-use Rattle.bindings_v6.specs.Table6.{Change, Unchanged, Binds, Bars, Frees, with_change, is_kept, Row, drops, grants, solicit_row, request_row, renew_row, confirm_row, release_row, decline_row, first_listed, where_listed, is_off_link, others, Lookup, lookup_in, row_of, is_for_us, answer6}
+use Rattle.bindings_v6.specs.Kept6.{keep_in, slot_of, kept_slots}
+use Rattle.bindings_v6.specs.Slots6.{Holders6, PoolSlots, book_of_slots, book_of, HaveNoOffers, AreSlots, holder_of, with_kept, with_decision}
+use Rattle.bindings_v6.specs.Table6.{Change, Unchanged, Binds, Bars, Frees, with_change, is_kept, Row, drops, solicit_row, request_row, renew_row, confirm_row, release_row, decline_row, first_listed, where_listed, is_off_link, Lookup, lookup_in, row_of, is_for_us, answer6}
 use Rattle.bindings_v6.proofs.FreeLemmas.{picked, pick_is, bound_is}
+use Rattle.bindings_v6.proofs.KeptLemmas.{form6}
 use Rattle.bindings_v6.proofs.ShownLemmas.{shown}
 
 -- ---- what is written is a pool's slots still
@@ -120,61 +127,113 @@ module _ (v : PoolSlots) (t : ℕ) (k : Key6Value) (are : AreSlots v.pool v.slot
   abbrev bound : Option ℕ
   bound = position (is_bound_to same_key6 t k) v.slots
 
-  abbrev IsRow : Row → Type 0
-  IsRow row = book_of t (with_decision (decision_of a t k row) v) ≡ with_change k row.change (book_of t v)
+  -- it holds of every change that a row makes
+  pub record OfChanges (P : Change → Type 0) : Type 0 where
+    pub unchanged : P Unchanged
+    pub binds : (i : ℕ) → Fit key6_is_key t k v.slots i → IsClear key6_is_key t k v.slots i → P (Binds (a + i) (t + v.pool.lease))
+    pub bars : (i : ℕ) → bound ≡ Some i → P (Bars (a + i) (t + 3600))
+    pub frees : (i : ℕ) → bound ≡ Some i → P (Frees (a + i))
 
   fit_pick : (wanted : Option ℕ) (i : ℕ) → picked t v.pool v.slots k wanted ≡ Some i → Fit key6_is_key t k v.slots i
   fit_pick wanted i e = fit_picked key6_is_key t a k v.slots bound wanted i (fit_bound key6_is_key t k v.slots) (ap (λ n. picked_slot t v.slots bound (slot_in a n wanted)) are.size ∙ e)
 
-  granted : (zeroed : List Addr6) (i : ℕ) → Fit key6_is_key t k v.slots i → IsRow (grants zeroed (a + i) (t + v.pool.lease))
-  granted zeroed i fit =
-      let term : 0 < v.pool.lease = omega (arith, are.limits.shortest) in
-      ap (λ n. book_of t (record v { slots = with_slot same_key6 n (Some (Bound k (t + v.pool.lease))) v.slots })) (slot_there a i)
-      ∙ bound_book v t k (t + v.pool.lease) i are fit (lasting t v.pool.lease term)
-
-  solicited : (picked : Option ℕ) → IsRow (solicit_row picked)
-  solicited (Some address) = refl
-  solicited None = refl
-
-  requested : (off_link : Bool) (wanted found : Option ℕ) → picked t v.pool v.slots k wanted ≡ found → IsRow (request_row (t + v.pool.lease) off_link (from a found))
-  requested true wanted found is = refl
-  requested false wanted (Some i) is = granted [] i (fit_pick wanted i is)
-  requested false wanted None is = refl
-
-  renewed : (listed : List Addr6) (found : Option ℕ) → bound ≡ found → IsRow (renew_row (t + v.pool.lease) listed (from a found))
-  renewed listed (Some i) is = granted (others (a + i) listed) i (fit_bound key6_is_key t k v.slots i is)
-  renewed listed None is = refl
-
-  confirmed : (listed : List Addr6) (off_link : Bool) → IsRow (confirm_row listed off_link)
-  confirmed [] off_link = refl
-  confirmed (x ∷ xs) true = refl
-  confirmed (x ∷ xs) false = refl
-
-  released : (found : Option ℕ) (listed : Bool) → bound ≡ found → IsRow (release_row (from a found) listed)
-  released (Some i) true is =
-      ap (λ n. book_of t (record v { slots = with_slot same_key6 n None v.slots })) (slot_there a i) ∙ freed_book v t k i are is
-  released (Some i) false is = refl
-  released None listed is = refl
-
-  declined : (found : Option ℕ) (listed : Bool) → bound ≡ found → IsRow (decline_row t (from a found) listed)
-  declined (Some i) true is =
-      ap (λ n. book_of t (record v { slots = with_slot same_key6 n (Some (Barred (t + 3600))) v.slots })) (slot_there a i)
-      ∙ barred_book v t k (t + 3600) i are is (lasting t 3600 (omega arith))
-  declined (Some i) false is = refl
-  declined None listed is = refl
+  clear_pick : (wanted : Option ℕ) (i : ℕ) → picked t v.pool v.slots k wanted ≡ Some i → IsClear key6_is_key t k v.slots i
+  clear_pick wanted i e = by bound refl e where
+    by : (o : Option ℕ) → bound ≡ o → picked_slot t v.slots o (slot_in a v.pool.count wanted) ≡ Some i → IsClear key6_is_key t k v.slots i
+    by None is e = inr is
+    by (Some j) is e = clear_bound key6_is_key t k v.slots i (is ∙ e)
 
   -- what is looked up, by slots
   abbrev by_slots : Option ℕ → Lookup
   by_slots wanted = record { binding = from a bound; pick = from a (picked t v.pool v.slots k wanted) }
 
-  row_is : (listed : List Addr6) (kind : Kind6) → IsRow (row_of v.pool t (by_slots (first_listed listed)) listed kind)
-  row_is listed Solicit = solicited (from a (picked t v.pool v.slots k (first_listed listed)))
-  row_is listed Request = requested (is_off_link v.pool listed) (first_listed listed) (picked t v.pool v.slots k (first_listed listed)) refl
-  row_is listed Renew = renewed listed bound refl
-  row_is listed Rebind = renewed listed bound refl
-  row_is listed Confirm = confirmed listed (is_off_link v.pool listed)
-  row_is listed Release = released bound (where_listed listed (from a bound)) refl
-  row_is listed Decline = declined bound (where_listed listed (from a bound)) refl
+  module _ (P : Change → Type 0) (of : OfChanges P) where
+    solicited : (picked : Option ℕ) → P (solicit_row picked).change
+    solicited (Some address) = of.unchanged
+    solicited None = of.unchanged
+
+    requested : (off_link : Bool) (wanted found : Option ℕ) → picked t v.pool v.slots k wanted ≡ found → P (request_row (t + v.pool.lease) off_link (from a found)).change
+    requested true wanted found is = of.unchanged
+    requested false wanted (Some i) is = of.binds i (fit_pick wanted i is) (clear_pick wanted i is)
+    requested false wanted None is = of.unchanged
+
+    renewed : (listed : List Addr6) (found : Option ℕ) → bound ≡ found → P (renew_row (t + v.pool.lease) listed (from a found)).change
+    renewed listed (Some i) is = of.binds i (fit_bound key6_is_key t k v.slots i is) (clear_bound key6_is_key t k v.slots i is)
+    renewed listed None is = of.unchanged
+
+    confirmed : (listed : List Addr6) (off_link : Bool) → P (confirm_row listed off_link).change
+    confirmed [] off_link = of.unchanged
+    confirmed (x ∷ xs) true = of.unchanged
+    confirmed (x ∷ xs) false = of.unchanged
+
+    released : (found : Option ℕ) (listed : Bool) → bound ≡ found → P (release_row (from a found) listed).change
+    released (Some i) true is = of.frees i is
+    released (Some i) false is = of.unchanged
+    released None listed is = of.unchanged
+
+    declined : (found : Option ℕ) (listed : Bool) → bound ≡ found → P (decline_row t (from a found) listed).change
+    declined (Some i) true is = of.bars i is
+    declined (Some i) false is = of.unchanged
+    declined None listed is = of.unchanged
+
+    row_is : (listed : List Addr6) (kind : Kind6) → P (row_of v.pool t (by_slots (first_listed listed)) listed kind).change
+    row_is listed Solicit = solicited (from a (picked t v.pool v.slots k (first_listed listed)))
+    row_is listed Request = requested (is_off_link v.pool listed) (first_listed listed) (picked t v.pool v.slots k (first_listed listed)) refl
+    row_is listed Renew = renewed listed bound refl
+    row_is listed Rebind = renewed listed bound refl
+    row_is listed Confirm = confirmed listed (is_off_link v.pool listed)
+    row_is listed Release = released bound (where_listed listed (from a bound)) refl
+    row_is listed Decline = declined bound (where_listed listed (from a bound)) refl
+
+  -- ---- what holds of every change
+
+  -- the slots with it show the book with it
+  abbrev ShowsItsBook : Change → Type 0
+  ShowsItsBook c = book_of t (record v { slots = with_kept (keep_of a k c) v.slots }) ≡ with_change k c (book_of t v)
+
+  shows_its_book : OfChanges ShowsItsBook
+  shows_its_book =
+      let written : ℕ → Option (Holder Key6Value) → Book6 = λ n new. book_of t (record v { slots = with_slot same_key6 n new v.slots }) in
+      let term : 0 < v.pool.lease = omega (arith, are.limits.shortest) in
+      record {
+        unchanged = refl;
+        binds = λ i fit clear. ap (λ n. written n (Some (Bound k (t + v.pool.lease)))) (slot_there a i) ∙ bound_book v t k (t + v.pool.lease) i are fit (lasting t v.pool.lease term);
+        bars = λ i is. ap (λ n. written n (Some (Barred (t + 3600)))) (slot_there a i) ∙ barred_book v t k (t + 3600) i are is (lasting t 3600 (omega arith));
+        frees = λ i is. ap (λ n. written n None) (slot_there a i) ∙ freed_book v t k i are is;
+      }
+
+  -- what is kept of the slots changes at the slot that is kept alone
+  abbrev KeepsItsSlot : Change → Type 0
+  KeepsItsSlot c = kept_slots t (with_kept (keep_of a k c) v.slots) ≡ keep_in (keep_of a k c) (kept_slots t v.slots)
+
+  keeps_its_slot : OfChanges KeepsItsSlot
+  keeps_its_slot =
+      let ss = v.slots in
+      let IsSet : Slot6 → ℕ → Type 0 = λ content n. kept_slots t (with_slot same_key6 n (holder_of content) ss) ≡ set (kept_slots t ss) n content in
+      let term : 0 < v.pool.lease = omega (arith, are.limits.shortest) in
+      let stays = kept_bound t k (t + v.pool.lease) (lasting t v.pool.lease term) in
+      let bar_stays = kept_barred {K = Key6Value} t (t + 3600) (lasting t 3600 (omega arith)) in
+      record {
+        unchanged = refl;
+        binds = λ i fit clear. subst (IsSet (slot6.Bound k (t + v.pool.lease))) (sym (slot_there a i))
+            (form_given form6 key6_is_key t k i (Some (Bound k (t + v.pool.lease))) ss (slot6.Bound k (t + v.pool.lease)) are.distinct fit.below clear (ap slot_of stays));
+        bars = λ i is. subst (IsSet (slot6.Barred (t + 3600))) (sym (slot_there a i))
+            (form_set form6 t i (Some (Barred (t + 3600))) ss (slot6.Barred (t + 3600)) (bound_own key6_is_key t k ss i is).0 (ap slot_of bar_stays));
+        frees = λ i is. subst (IsSet slot6.Free) (sym (slot_there a i)) (form_set form6 t i None ss slot6.Free (bound_own key6_is_key t k ss i is).0 refl);
+      }
+
+  -- and that slot is the pool's
+  abbrev KeepsInPool : Change → Type 0
+  KeepsInPool c = IfSome (keep_of a k c) (λ kept. kept.slot < v.pool.count)
+
+  keeps_in_pool : OfChanges KeepsInPool
+  keeps_in_pool =
+      record {
+        unchanged = tt;
+        binds = λ i fit clear. omega (arith, fit.below, are.size);
+        bars = λ i is. omega (arith, (bound_own key6_is_key t k v.slots i is).0, are.size);
+        frees = λ i is. omega (arith, (bound_own key6_is_key t k v.slots i is).0, are.size);
+      }
 
 kept_is : (first : ℕ) (k : Key6Value) (change : Change) → is_some (keep_of first k change) ≡ is_kept change
 kept_is first k Unchanged = refl
@@ -186,7 +245,7 @@ abbrev pub other_server : Row
 other_server = drops reason.OtherServer Unchanged
 
 module _ (v : PoolSlots) (t : ℕ) (m : Request6) (are : AreSlots v.pool v.slots) where
-  abbrev found : Lookup
+  abbrev pub found : Lookup
   found = lookup_in v.pool (book_of t v) m
 
   found_is : found ≡ by_slots v t m.key are (first_listed m.listed.items)
@@ -194,20 +253,18 @@ module _ (v : PoolSlots) (t : ℕ) (m : Request6) (are : AreSlots v.pool v.slots
       let wanted = first_listed m.listed.items in
       λ i. record { binding = bound_is v t m.key are i; pick = pick_is v t m.key wanted are i }
 
-  abbrev row : Pool6Value → Lookup → Row
+  abbrev pub row : Pool6Value → Lookup → Row
   row pool f = cond (is_for_us m.kind m.server) (row_of pool t f m.listed.items m.kind) other_server
 
-  abbrev IsRight : Row → Type 0
-  IsRight r = book_of t (with_decision (decision_of (number6 v.pool.first) t m.key r) v) ≡ with_change m.key r.change (book_of t v)
+  row_if : (P : Change → Type 0) (b : Bool) (met other : Row) → P met.change → P other.change → P (cond b met other).change
+  row_if P true met other h k = h
+  row_if P false met other h k = k
 
-  row_if : (b : Bool) (met other : Row) → IsRight met → IsRight other → IsRight (cond b met other)
-  row_if true met other h k = h
-  row_if false met other h k = k
-
-  row_book : IsRight (row v.pool found)
-  row_book =
-      row_if (is_for_us m.kind m.server) (row_of v.pool t found m.listed.items m.kind) other_server
-      (subst (λ f. IsRight (row_of v.pool t f m.listed.items m.kind)) (sym found_is) (row_is v t m.key are m.listed.items m.kind)) refl
+  -- it holds of the change that the message calls for
+  pub of_row : (P : Change → Type 0) → OfChanges v t m.key are P → P (row v.pool found).change
+  of_row P of =
+      row_if P (is_for_us m.kind m.server) (row_of v.pool t found m.listed.items m.kind) other_server
+      (subst (λ f. P (row_of v.pool t f m.listed.items m.kind).change) (sym found_is) (row_is v t m.key are P of m.listed.items m.kind)) of.unchanged
 
   -- the code's pool and what it looked up
   pub decision_is : (pool : Pool6Value) (looked_up : Lookup) (d : Decision6) → pool ≡ v.pool → looked_up ≡ found → d ≡ decision_of (number6 pool.first) t m.key (row pool looked_up)
@@ -225,4 +282,12 @@ module _ (v : PoolSlots) (t : ℕ) (m : Request6) (are : AreSlots v.pool v.slots
 
   pub book_is : (d : Decision6) → d ≡ decision_of (number6 v.pool.first) t m.key (row v.pool found) → book_of t (with_decision d v) ≡ (answer6 v.pool t (book_of t v) m).book
   unfolding answer6
-  book_is d e = ap (λ (x : Decision6). book_of t (with_decision x v)) e ∙ row_book
+  book_is d e = ap (λ (x : Decision6). book_of t (with_decision x v)) e ∙ of_row (ShowsItsBook v t m.key are) (shows_its_book v t m.key are)
+
+  pub slot_is : (d : Decision6) → d ≡ decision_of (number6 v.pool.first) t m.key (row v.pool found) → IfSome d.keep (λ kept. kept.slot < v.pool.count)
+  slot_is d e =
+      subst (λ (x : Decision6). IfSome x.keep (λ kept. kept.slot < v.pool.count)) (sym e) (of_row (KeepsInPool v t m.key are) (keeps_in_pool v t m.key are))
+
+  pub slots_are : (d : Decision6) → d ≡ decision_of (number6 v.pool.first) t m.key (row v.pool found) → kept_slots t (with_decision d v).slots ≡ keep_in d.keep (kept_slots t v.slots)
+  slots_are d e =
+      subst (λ (x : Decision6). kept_slots t (with_decision x v).slots ≡ keep_in x.keep (kept_slots t v.slots)) (sym e) (of_row (KeepsItsSlot v t m.key are) (keeps_its_slot v t m.key are))

@@ -1,5 +1,5 @@
 -- What of a book a region keeps, and which book the slots of a region mean.
-use Rattle.std.specs.Prelude.{ℕ, ◌≤◌, List, map, Option, Some, None}
+use Rattle.std.specs.Prelude.{ℕ, ◌≤◌, List, map, slice_set, Option, Some, None}
 use Rattle.slots.specs.Kept as table
 use Rattle.slots.specs.declared.holder.Holder.{Holder}
 use Rattle.slots.specs.declared.holder.Holder.TheVariants.{Bound, Offered, Barred}
@@ -9,6 +9,7 @@ use Rattle.types.specs.Slots.{live6}
 use Rattle.types.specs.declared.slots.Slot6.{Slot6}
 use Rattle.types.specs.declared.slots.Slot6.TheVariants as slot6
 use Rattle.types.specs.declared.slots.Slots.{Slots}
+use Rattle.bindings_v6.specs.declared.decision6.KeptSlot.{KeptSlot}
 use Rattle.bindings_v6.specs.Book6.{Book6}
 use Rattle.bindings_v6.specs.Slots6.{Holders6, holder_of, book_of}
 
@@ -28,6 +29,11 @@ slot_of (Some (Barred until)) = slot6.Barred until
 -- what is kept of a pool's slots, 16 slots of a region: those past the pool are free
 abbrev pub kept_slots : ℕ → Holders6 → List Slot6
 kept_slots clock holders = map slot_of (table.kept_slots clock holders)
+
+-- the slots of a region with the one that a decision keeps
+abbrev pub keep_in : Option KeptSlot → List Slot6 → List Slot6
+keep_in None slots = slots
+keep_in (Some kept) slots = slice_set slots kept.slot kept.content
 
 -- a slot that is held until this moment at most
 abbrev pub EndsBy : ℕ → Slot6 → Type 0

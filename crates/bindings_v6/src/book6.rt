@@ -6,7 +6,7 @@ ghost use Rattle.types.specs.Addr.{number6};
 ghost use Rattle.types.specs.Slots.{IsWithin6, live6, none_twice, same_client6};
 ghost use Rattle.types.specs.declared.slots.Slot6.TheVariants.{Free};
 ghost use Rattle.bindings_v6.specs.Decision6.{decision_of};
-ghost use Rattle.bindings_v6.specs.Kept6.{EndsBy, book6_in, kept_slots};
+ghost use Rattle.bindings_v6.specs.Kept6.{EndsBy, book6_in, keep_in, kept_slots};
 ghost use Rattle.bindings_v6.specs.Lookup6.{IsAt, IsLookup, lookup_of};
 ghost use Rattle.bindings_v6.specs.Slots6.{AreSlots, book_of, with_decision};
 ghost use Rattle.bindings_v6.specs.Table6.{answer6, lookup_in, row6};
@@ -47,6 +47,7 @@ impl Book6 {
         ensures pool { result.pool ≡ pool }
         ensures book { book_of slots.now.clock result ≡ book6_in pool slots.now }
         ensures within { All IsWithin6 slots.now.six → AreWithin result.slots }
+        ensures kept { kept_slots slots.now.clock result.slots ≡ map (live6 slots.now.clock) slots.now.six }
     {
         let holders = live_holders(&slots.six, pool.count(), slots.clock.seconds());
         Book6 {
@@ -77,6 +78,9 @@ impl Book6 {
         ensures answer { result.answer ≡ (answer6 self.now.pool clock (book_of clock self.now) request.now).answer }
         ensures book { book_of clock (with_decision result self.now) ≡ (answer6 self.now.pool clock (book_of clock self.now) request.now).book }
         ensures within { IfSome result.keep (λ kept. EndsBy (clock + 604800) kept.content) }
+        ensures slot { IfSome result.keep (λ kept. kept.slot < self.now.pool.count) }
+        ensures few { self.now.pool.count ≤ 16 }
+        ensures kept { kept_slots clock (with_decision result self.now).slots ≡ keep_in result.keep (kept_slots clock self.now.slots) }
     {
         let found = self.look_up(request, clock);
         let case = Case6 {

@@ -1,6 +1,7 @@
 //! What holds of every book and every decision: functions that do nothing, for their contracts.
-ghost use Rattle.std.specs.Prelude.{◌≡◌, ◌<◌, ◌≤◌, ℕ, true, length, map, All, List, Some, Ok};
+ghost use Rattle.std.specs.Prelude.{◌≡◌, ◌<◌, ◌≤◌, ℕ, true, length, map, slice_index_or, All, List, Some, Ok};
 ghost use Rattle.std.specs.FinMap.{get};
+ghost use Rattle.slots.specs.Kept.{AreWithin};
 ghost use Rattle.slots.specs.Maps.{Lease};
 ghost use Rattle.types.specs.Addr.{addr6};
 ghost use Rattle.types.specs.Key6.{Key6Value};
@@ -8,12 +9,13 @@ ghost use Rattle.types.specs.Pool6.{IsPool6, Pool6Value};
 ghost use Rattle.types.specs.declared.addr.Addr6.{Addr6};
 ghost use Rattle.types.specs.declared.request6.Reply6.{Reply6};
 ghost use Rattle.types.specs.declared.request6.Request6.{Request6};
-ghost use Rattle.types.specs.Slots.{live6, none_twice, same_client6};
+ghost use Rattle.types.specs.Slots.{IsWithin6, live6, none_twice, same_client6};
+ghost use Rattle.types.specs.declared.slots.Slot6.TheVariants.{Free};
 ghost use Rattle.types.specs.declared.slots.Slots.{Slots};
 ghost use Rattle.bindings_v6.specs.Book6.{book6_at, empty_book};
 ghost use Rattle.bindings_v6.specs.Book6 as maps;
 ghost use Rattle.bindings_v6.specs.IsBook6.{IsBook6, LeavesABook, KeepsOthers, ChangesNothing, GrantsItsOwn, RenewsInTime, KeepsItsLease};
-ghost use Rattle.bindings_v6.specs.Kept6.{book6_in};
+ghost use Rattle.bindings_v6.specs.Kept6.{book6_in, kept_slots};
 ghost use Rattle.bindings_v6.specs.Slots6.{book_of};
 ghost use Rattle.bindings_v6.specs.Table6.{answer6};
 
@@ -24,7 +26,8 @@ use types::{Moment, Pool6, Request6};
 /// clock moves has nothing to do.
 pub fn expires_by_the_clock(book: &Book6, clock: Moment, later: Moment)
     requires { clock ≤ later }
-    ensures { book6_at later (book_of clock book.now) ≡ book_of later book.now }
+    ensures book { book6_at later (book_of clock book.now) ≡ book_of later book.now }
+    ensures kept { kept_slots later book.now.slots ≡ map (live6 later) (kept_slots clock book.now.slots) }
 {}
 
 /// What a book shows is a book: nothing has to be known of how it came about.
@@ -70,6 +73,19 @@ pub fn begins_a_book()
     ensures begun { (pool : Pool6Value) (slots : Slots) → none_twice same_client6 (map (live6 slots.clock) slots.six) ≡ true → IsBook6 slots.clock (book6_in pool slots) }
     ensures live { (slots : Slots) → All (λ slot. live6 slots.clock slot ≡ slot) slots.six → none_twice same_client6 slots.six ≡ true → none_twice same_client6 (map (live6 slots.clock) slots.six) ≡ true }
 {}
+
+/// What a region keeps of a book's slots at a clock is what `Book6::put` writes: slots that are live, of
+/// the pool alone, no client twice, and they mean the book.
+pub fn keeps_a_book(book: &Book6, clock: Moment)
+    ensures size { length (kept_slots clock book.now.slots) ≡ 16 }
+    ensures past { (i : ℕ) → book.now.pool.count ≤ i → slice_index_or (kept_slots clock book.now.slots) i Free ≡ Free }
+    ensures live { All (λ slot. live6 clock slot ≡ slot) (kept_slots clock book.now.slots) }
+    ensures once { none_twice same_client6 (kept_slots clock book.now.slots) ≡ true }
+    ensures within { AreWithin book.now.slots → All IsWithin6 (kept_slots clock book.now.slots) }
+    ensures book { (region : Slots) → region.six ≡ kept_slots clock book.now.slots → region.clock ≡ clock → book6_in book.now.pool region ≡ book_of clock book.now }
+{
+    let _slots = book.slots();
+}
 
 /// A client's lease is changed by the client alone, and by the clock when it comes to its end.
 pub fn keeps_its_lease()

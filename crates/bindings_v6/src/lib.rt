@@ -14,6 +14,6 @@ mod table6;
 pub use book6::Book6;
 pub use decision6::{Decision6, KeptSlot};
 pub use laws::{
-    begins_a_book, changes_nothing, expires_by_the_clock, grants_its_own, is_a_book,
+    begins_a_book, changes_nothing, expires_by_the_clock, grants_its_own, is_a_book, keeps_a_book,
     keeps_its_lease, keeps_others, leaves_a_book, renews_in_time,
 };

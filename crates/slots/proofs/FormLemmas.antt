@@ -3,7 +3,7 @@ use Rattle.std.proofs.Common.{◌≡◌, ℕ, zero, suc, ◌+◌, ◌-◌, ◌<�
 use Rattle.std.specs.Prelude.{Option, None, All}
 use Rattle.std.specs.declared.cmp.Ordering.{Ordering}
 use Rattle.std.specs.List.{list_any}
-use Rattle.std.proofs.lemmas.List.{map-set, get_or_past}
+use Rattle.std.proofs.lemmas.List.{map-set, length-map, length-append, length-replicate, get_or_past}
 use Rattle.std.proofs.lemmas.List.Folds.{map_fixed}
 use Rattle.std.proofs.Math.ListN.{get_or-map}
 use Rattle.types.specs.Slots.{none_twice}
@@ -11,8 +11,9 @@ use Rattle.slots.specs.declared.holder.Holder.{Holder}
 use Rattle.slots.specs.Kept.{unoffered, kept, kept_slots, same_client, IsWithin, AreWithin}
 use Rattle.slots.specs.Key.{IsKey}
 use Rattle.slots.specs.Lookup.{live}
-use Rattle.slots.specs.Slots.{offered_to, AreDistinct}
-use Rattle.slots.proofs.KeptLemmas.{unoffered_own, get_or_any, kept_at, kept_more, kept_live, kept_within, live_within, within_at, are_within, kept_once, AreUnoffered, once_distinct, take_distinct, map_take}
+use Rattle.slots.specs.Slots.{offered_to, AreDistinct, without_client}
+use Rattle.slots.proofs.KeptLemmas.{unoffered_own, get_or_any, kept_at, kept_more, kept_live, kept_later, live_twice, kept_within, live_within, within_at, are_within, kept_once, AreUnoffered, once_distinct, take_distinct, map_take}
+use Rattle.slots.proofs.KeptWrites.{kept_set, IsClear, kept_given}
 use Rattle.slots.proofs.ShownLemmas.{Slots, live_slots}
 
 -- a slot of a region is a holder without an offer
@@ -66,6 +67,33 @@ module _ {K C : Type 0} {eqk : K → K → Bool} {holder_of : C → Option (Hold
   all_within P slot_within t ss xs e w i d h =
       subst P (sym (kept_any t ss xs e i d h)) (slot_within (kept t (get_or ss i None)) (kept_within t (get_or ss i None) (within_at ss w i)))
 
+  pub kept_length : (t : ℕ) (ss : Slots K) → length ss ≤ 16 → length (map slot_of (kept_slots t ss)) ≡ 16
+  kept_length t ss few =
+      length-map (kept_slots t ss) slot_of ∙ length-append (map (kept t) ss) (replicate (16 - length ss) None)
+      ∙ omega (arith, few, length-map ss (kept t), length-replicate {A = Option (Holder K)} (16 - length ss) None)
+
+  -- ---- a slot that is written
+
+  pub form_set : (t i : ℕ) (new : Option (Holder K)) (ss : Slots K) (c : C) → i < length ss → slot_of (kept t new) ≡ c → map slot_of (kept_slots t (set ss i new)) ≡ set (map slot_of (kept_slots t ss)) i c
+  form_set t i new ss c below is =
+      ap (map slot_of) (kept_set t i new ss below) ∙ map-set slot_of (kept_slots t ss) i (kept t new) ∙ ap (set (map slot_of (kept_slots t ss)) i) is
+
+  -- ---- what a later clock leaves
+
+  later_slot : (t later : ℕ) → t ≤ later → (s : Option (Holder K)) → slot_of (kept later s) ≡ live_at later (slot_of (kept t s))
+  later_slot t later h s =
+      sym (ap slot_of (form.held_is later (slot_of (kept t s)) ∙ ap (live later) (kept_back t s) ∙ kept_later t later h s)) ∙ form.slot_back (live_at later (slot_of (kept t s)))
+
+  later_from : (t later n : ℕ) → t ≤ later → (ss : Slots K) → map slot_of (map (kept later) ss ++ replicate n None) ≡ map (live_at later) (map slot_of (map (kept t) ss ++ replicate n None))
+  later_from t later zero h [] = refl
+  later_from t later (suc n) h [] =
+      ap (λ c. c ∷ map slot_of (replicate n None)) (later_slot t later h None) ∙ ap (λ cs. live_at later (slot_of None) ∷ cs) (later_from t later n h [])
+  later_from t later n h (s ∷ ss) =
+      ap (λ c. c ∷ map slot_of (map (kept later) ss ++ replicate n None)) (later_slot t later h s) ∙ ap (λ cs. live_at later (slot_of (kept t s)) ∷ cs) (later_from t later n h ss)
+
+  pub form_later : (t later : ℕ) → t ≤ later → (ss : Slots K) → map slot_of (kept_slots later ss) ≡ map (live_at later) (map slot_of (kept_slots t ss))
+  form_later t later h ss = later_from t later (16 - length ss) h ss
+
   -- ---- no client has two
 
   any_holder : (x : C) (xs : List C) → list_any (same x) xs ≡ list_any (same_client eqk (holder_of x)) (map holder_of xs)
@@ -105,6 +133,13 @@ module _ {K C : Type 0} {eqk : K → K → Bool} {holder_of : C → Option (Hold
     held_distinct t xs once =
         once_distinct lawk (map (held t) xs) (unoffered_all t xs) (ap (none_twice (same_client eqk)) (sym (map_twice t xs)) ∙ sym (once_is (map (live_at t) xs)) ∙ once)
 
+    -- ---- a slot that a client gets
+
+    pub form_given : (t : ℕ) (k : K) (i : ℕ) (new : Option (Holder K)) (ss : Slots K) (c : C) → AreDistinct eqk ss → i < length ss → IsClear lawk t k ss i → slot_of (kept t new) ≡ c
+        → map slot_of (kept_slots t (set (without_client eqk k ss) i new)) ≡ set (map slot_of (kept_slots t ss)) i c
+    form_given t k i new ss c d below clear is =
+        ap (map slot_of) (kept_given lawk t k i new ss d below clear) ∙ map-set slot_of (kept_slots t ss) i (kept t new) ∙ ap (set (map slot_of (kept_slots t ss)) i) is
+
     -- ---- slots that were kept, again
 
     pub again_distinct : (t : ℕ) (ss : Slots K) → AreDistinct eqk ss → AreDistinct eqk (map (held t) (map slot_of (kept_slots t ss)))
@@ -123,12 +158,43 @@ module _ {K C : Type 0} {eqk : K → K → Bool} {holder_of : C → Option (Hold
 
   -- ---- a table begins from slots
 
+  -- what is kept of a slot's holder is what the slot has at that clock
+  held_stays : (t : ℕ) (c : C) → slot_of (kept t (held t c)) ≡ live_at t c
+  held_stays t c =
+      let h = held t c in
+      let stays : live t h ≡ h = ap (live t) (form.held_is t c) ∙ live_twice t (holder_of c) ∙ sym (form.held_is t c) in
+      ap (λ x. slot_of (unoffered x)) stays ∙ ap slot_of (sym (form.holder_back h)) ∙ form.slot_back (slot_of h) ∙ form.slot_back (live_at t c)
+
+  free_from : (t : ℕ) (xs : List C) → ((i : ℕ) → get_or xs i (slot_of None) ≡ slot_of None) → map slot_of (replicate (length xs) None) ≡ map (live_at t) xs
+  free_from t [] free = refl
+  free_from t (x ∷ xs) free =
+      ap (λ c. c ∷ map slot_of (replicate (length xs) None)) (sym (ap (live_at t) (free 0) ∙ kept_stays t None))
+      ∙ ap (λ cs. live_at t x ∷ cs) (free_from t xs (λ i. free (suc i)))
+
+  begun_from : (t n : ℕ) (xs : List C) → ((i : ℕ) → n ≤ i → get_or xs i (slot_of None) ≡ slot_of None)
+      → map slot_of (map (kept t) (map (held t) (take n xs)) ++ replicate (length xs - n) None) ≡ map (live_at t) xs
+  begun_from t zero xs past = ap (λ m. map slot_of (replicate m None)) (omega arith) ∙ free_from t xs (λ i. past i (omega arith))
+  begun_from t (suc n) [] past = let none : 0 - suc n ≡ 0 = omega arith in ap (λ m. map slot_of (replicate m None)) none
+  begun_from t (suc n) (x ∷ xs) past =
+      let rest : ℕ → List C = λ m. map slot_of (map (kept t) (map (held t) (take n xs)) ++ replicate m None) in
+      let room : suc (length xs) - suc n ≡ length xs - n = omega arith in
+      ap (λ m. slot_of (kept t (held t x)) ∷ rest m) room ∙ ap (λ c. c ∷ rest (length xs - n)) (held_stays t x)
+      ∙ ap (λ cs. live_at t x ∷ cs) (begun_from t n xs (λ i h. past (suc i) (omega (arith, h))))
+
   module _ (xs : List C) (now size t n : ℕ) (ss : Slots K) (clock : t ≡ now) (count : n ≡ size) (e : ss ≡ map (held t) (take n xs)) where
     pub begun_is : ss ≡ take size (map (held now) xs)
     begun_is = e ∙ map_take (held t) n xs ∙ ap (λ c. take n (map (held c) xs)) clock ∙ ap (λ m. take m (map (held now) xs)) count
 
     pub begun_distinct : {cmpk : K → K → Ordering} → IsKey eqk cmpk → none_twice same (map (live_at now) xs) ≡ true → AreDistinct eqk ss
     begun_distinct lawk once = subst (λ (ys : Slots K). AreDistinct eqk ys) (sym begun_is) (take_distinct lawk size _ (held_distinct lawk now xs once))
+
+    -- what is kept of it is what the slots have at their clock
+    pub begun_kept : length xs ≡ 16 → length ss ≡ n → ((i : ℕ) → size ≤ i → get_or xs i (slot_of None) ≡ slot_of None) → map slot_of (kept_slots now ss) ≡ map (live_at now) xs
+    begun_kept long sized past =
+        let room : 16 - length ss ≡ length xs - size = omega (arith, long, sized, count) in
+        ap (λ m. map slot_of (map (kept now) ss ++ replicate m None)) room
+        ∙ ap (λ ys. map slot_of (map (kept now) ys ++ replicate (length xs - size) None)) (e ∙ ap (λ c. map (held c) (take n xs)) clock ∙ ap (λ m. map (held now) (take m xs)) count)
+        ∙ begun_from now size xs past
 
     pub begun_within : (P : C → Type 0) → ((c : C) → P c → IsWithin (holder_of c)) → All P xs → AreWithin ss
     begun_within P holder_within w = are_within ss (λ i. subst (λ (ys : Slots K). IsWithin (get_or ys i None)) (sym e) (by i n xs w)) where

@@ -13,7 +13,7 @@ use Rattle.slots.specs.Key.{IsKey}
 use Rattle.slots.specs.Lookup.{until_of, live}
 use Rattle.slots.specs.Maps.{is_live}
 use Rattle.slots.specs.Slots.{bound_to, offered_to, barred_until, leases, with_lease, bars_of, is_clients, IsWithout, AreDistinct, with_vacancy, without_lessee, client_of, with_slot}
-use Rattle.slots.proofs.ShownLemmas.{Slots, Lessee, not_true, live_clients_only, same_is, itself, of_cond, both_same, bars_below, bars_at, same_bars}
+use Rattle.slots.proofs.ShownLemmas.{Slots, Lessee, not_true, live_clients_only, same_is, itself, of_cond, both_same, lasts, bars_below, bars_at, same_bars}
 
 pub get_or_any : {X : Type 0} (xs : List X) (i : ℕ) (d e : X) → i < length xs → get_or xs i d ≡ get_or xs i e
 get_or_any [] i d e h = absurd (omega (arith, h))
@@ -100,6 +100,19 @@ module _ {K : Type 0} where
 
   pub kept_live : (t : ℕ) (s : Option (Holder K)) → live t (kept t s) ≡ kept t s
   kept_live t s = live_unoffered t (live t s) ∙ ap unoffered (live_twice t s)
+
+  -- ---- what a later clock leaves
+
+  live_later : (t later : ℕ) → t ≤ later → (s : Option (Holder K)) → live later (live t s) ≡ live later s
+  live_later t later h None = refl
+  live_later t later h (Some holder) = by (is_live t (until_of holder)) (is_live later (until_of holder)) refl refl where
+    by : (now then : Bool) → is_live t (until_of holder) ≡ now → is_live later (until_of holder) ≡ then → live later (cond now (Some holder) None) ≡ cond then (Some holder) None
+    by true then is is_then = ap (λ b. cond b (Some holder) None) is_then
+    by false true is is_then = absurd (not_true (sym is ∙ lasts t later (until_of holder) h is_then))
+    by false false is is_then = refl
+
+  pub kept_later : (t later : ℕ) → t ≤ later → (s : Option (Holder K)) → live later (kept t s) ≡ kept later s
+  kept_later t later h s = live_unoffered later (live t s) ∙ ap unoffered (live_later t later h s)
 
   -- ---- what is kept is within the limit
 

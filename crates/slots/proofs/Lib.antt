@@ -3,4 +3,5 @@ pub mod WriteLemmas
 pub mod FreeLemmas
 pub mod FitLemmas
 pub mod KeptLemmas
+pub mod KeptWrites
 pub mod FormLemmas

@@ -76,7 +76,7 @@ get-live_bars t m q =
 
 -- ---- a later clock
 
-lasts : (t later u : ℕ) → t ≤ later → is_live later u ≡ true → is_live t u ≡ true
+pub lasts : (t later u : ℕ) → t ≤ later → is_live later u ≡ true → is_live t u ≡ true
 lasts t later u h is = grind (arith, nat_tests)
 
 keep_later : (t later u : ℕ) → t ≤ later → (now then : Bool) → is_live t u ≡ now → is_live later u ≡ then
@@ -232,7 +232,7 @@ module _ {K : Type 0} {eqk : K → K → Bool} {cmpk : K → K → Ordering} (la
   without_live t q [] w = tt
   without_live t q (s ∷ ss) w = (live_clients_only t q s w.0, without_live t q ss w.1)
 
-  live_clients_own : (t : ℕ) (q : K) (s : Option (Holder K)) → is_clients eqk q (live t s) ≡ true → is_clients eqk q s ≡ true
+  pub live_clients_own : (t : ℕ) (q : K) (s : Option (Holder K)) → is_clients eqk q (live t s) ≡ true → is_clients eqk q s ≡ true
   live_clients_own t q s e = by (is_clients eqk q s) refl where
     by : (b : Bool) → is_clients eqk q s ≡ b → is_clients eqk q s ≡ true
     by true is = is

@@ -101,14 +101,18 @@ module _ {K : Type 0} {eqk : K → K → Bool} {cmpk : K → K → Ordering} (la
         by q e true is = absurd (not_true (sym (only q is).0 ∙ e))
         by q e false is = is
 
+  -- the slot before a client's is not the client's
+  pub first_other : (q : K) (i : ℕ) (s : Option (Holder K)) (ss : Slots K) → AreDistinct eqk (s ∷ ss) → is_clients eqk q (get_or ss i None) ≡ true → is_clients eqk q s ≡ false
+  first_other q i s ss d own = by (is_clients eqk q s) refl where
+    by : (b : Bool) → is_clients eqk q s ≡ b → is_clients eqk q s ≡ false
+    by true is = absurd (not_true (sym (without_at q i ss (d.0 q is)) ∙ own))
+    by false is = is
+
   -- where a client's slot is vacated, it has none
   pub sole : (q : K) (i : ℕ) (new : Option (Holder K)) (ss : Slots K) → AreDistinct eqk ss → is_clients eqk q (get_or ss i None) ≡ true → is_clients eqk q new ≡ false → IsWithout eqk q (set ss i new)
   sole q i new [] d own apart = tt
   sole q zero new (s ∷ ss) d own apart = (apart, d.0 q own)
-  sole q (suc i) new (s ∷ ss) d own apart = (by (is_clients eqk q s) refl, sole q i new ss d.1 own apart) where
-    by : (b : Bool) → is_clients eqk q s ≡ b → is_clients eqk q s ≡ false
-    by true is = absurd (not_true (sym (without_at q i ss (d.0 q is)) ∙ own))
-    by false is = is
+  sole q (suc i) new (s ∷ ss) d own apart = (first_other q i s ss d own, sole q i new ss d.1 own apart)
 
   -- a slot is at most one client's
   pub one_client : (q k : K) (s : Option (Holder K)) → is_clients eqk k s ≡ true → eqk q k ≡ false → is_clients eqk q s ≡ false
@@ -284,10 +288,7 @@ module _ {K : Type 0} {eqk : K → K → Bool} {cmpk : K → K → Ordering} (la
   other_sort f sort k a i [] d own other = refl
   other_sort f sort k a zero (s ∷ ss) d own other = missed lawk k a (f s) (got eqk f k (a + 1) ss) other ∙ got_none lawk f sort k (a + 1) ss (d.0 k own)
   other_sort f sort k a (suc i) (s ∷ ss) d own other =
-      missed lawk k a (f s) (got eqk f k (a + 1) ss) (sort.other k s (by (is_clients eqk k s) refl)) ∙ other_sort f sort k (a + 1) i ss d.1 own other where
-        by : (b : Bool) → is_clients eqk k s ≡ b → is_clients eqk k s ≡ false
-        by true is = absurd (not_true (sym (without_at k i ss (d.0 k is)) ∙ own))
-        by false is = is
+      missed lawk k a (f s) (got eqk f k (a + 1) ss) (sort.other k s (first_other k i s ss d own)) ∙ other_sort f sort k (a + 1) i ss d.1 own other
 
   module _ (t : ℕ) (k : K) (i : ℕ) (new : Option (Holder K)) (ss : Slots K) (d : AreDistinct eqk ss) (own : is_clients eqk k (live t (get_or ss i None)) ≡ true)
       (nobody : (q : K) → is_clients eqk q new ≡ false) where

@@ -1,8 +1,13 @@
+use Rattle.slots.proofs.FormLemmas.{form_later}
 use Rattle.types.specs.Addr.{number6}
 use Rattle.bindings_v6.specs.Slots6.{book_of_slots}
+use Rattle.bindings_v6.proofs.KeptLemmas.{form6}
 use Rattle.bindings_v6.proofs.ShownLemmas.{at_later}
 use Rattle.bindings_v6.proofs.laws.expires_by_the_clock.Goals as goal
 
-pub returns : goal.returns
-returns c =
+pub returns-clause-book : goal.returns-clause-book
+returns-clause-book c =
     let v = c.args.book.now in at_later c.args.clock c.args.later c.requires (book_of_slots (number6 v.pool.first) v.slots)
+
+pub returns-clause-kept : goal.returns-clause-kept
+returns-clause-kept c = form_later form6 c.args.clock c.args.later c.requires c.args.book.now.slots

@@ -1,5 +1,5 @@
 use Rattle.std.proofs.Common.{◌∙◌, ap, length, arith}
-use Rattle.bindings_v4.proofs.KeptLemmas.{begun_distinct, begun_slots, begun_book, begun_within}
+use Rattle.bindings_v4.proofs.KeptLemmas.{begun_distinct, begun_slots, begun_book, begun_kept, begun_within}
 use Rattle.bindings_v4.proofs.book4.Book4.new.Goals as goal
 
 pub of-requires : goal.of-requires
@@ -25,3 +25,8 @@ returns-clause-book c =
 pub returns-clause-within : goal.returns-clause-within
 returns-clause-within c =
     begun_within c.args.pool c.args.slots.now c.seconds.result c.count.result c.of.result c.seconds.ensures.value c.count.ensures.value (c.of.ensures ∙ c.live_holders-holders.ensures.holders)
+
+pub returns-clause-kept : goal.returns-clause-kept
+returns-clause-kept c =
+    begun_kept c.args.pool c.args.slots.now c.seconds.result c.count.result c.of.result c.seconds.ensures.value c.count.ensures.value (c.of.ensures ∙ c.live_holders-holders.ensures.holders)
+    c.live_holders-holders.ensures.whole (ap length c.of.ensures ∙ c.live_holders-holders.ensures.size) c.requires.past

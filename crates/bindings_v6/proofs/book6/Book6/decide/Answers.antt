@@ -1,8 +1,5 @@
-use Rattle.std.proofs.Common.{◌≤◌, sym, subst}
-use Rattle.types.specs.Addr.{number6}
-use Rattle.types.specs.Pool6.{Pool6Value}
 use Rattle.bindings_v6.specs.Lookup6.{lookup_of}
-use Rattle.bindings_v6.proofs.RowLemmas.{decision_is, answer_is, keep_is, book_is}
+use Rattle.bindings_v6.proofs.RowLemmas.{decision_is, answer_is, keep_is, book_is, slot_is, slots_are}
 use Rattle.bindings_v6.proofs.LimitLemmas.{decided_in_time}
 use Rattle.bindings_v6.proofs.book6.Book6.decide.Goals as goal
 
@@ -39,5 +36,27 @@ returns-clause-book c =
 
 pub returns-clause-within : goal.returns-clause-within
 returns-clause-within c =
-    let longest = subst (λ (p : Pool6Value). p.lease ≤ 604800) (sym c.pool.ensures) c.look_up-found.ensures.slots.limits.longest in
-    decided_in_time c.pool.result longest c.args.clock (lookup_of c.look_up-found.result) c.args.request.now (number6 c.pool.result.first) c.decision_for.result c.decision_for.ensures
+    let v = c.args.self.now in
+    let m = c.args.request.now in
+    let are = c.look_up-found.ensures.slots in
+    let d = c.decision_for.result in
+    decided_in_time v c.args.clock are m d (decision_is v c.args.clock m are c.pool.result (lookup_of c.look_up-found.result) d c.pool.ensures c.look_up-found.ensures.found c.decision_for.ensures)
+
+pub returns-clause-slot : goal.returns-clause-slot
+returns-clause-slot c =
+    let v = c.args.self.now in
+    let m = c.args.request.now in
+    let are = c.look_up-found.ensures.slots in
+    let d = c.decision_for.result in
+    slot_is v c.args.clock m are d (decision_is v c.args.clock m are c.pool.result (lookup_of c.look_up-found.result) d c.pool.ensures c.look_up-found.ensures.found c.decision_for.ensures)
+
+pub returns-clause-kept : goal.returns-clause-kept
+returns-clause-kept c =
+    let v = c.args.self.now in
+    let m = c.args.request.now in
+    let are = c.look_up-found.ensures.slots in
+    let d = c.decision_for.result in
+    slots_are v c.args.clock m are d (decision_is v c.args.clock m are c.pool.result (lookup_of c.look_up-found.result) d c.pool.ensures c.look_up-found.ensures.found c.decision_for.ensures)
+
+pub returns-clause-few : goal.returns-clause-few
+returns-clause-few c = c.look_up-found.ensures.slots.limits.most
