@@ -1,10 +1,10 @@
-"""One byte of a DHCPv6 slot, its state 3 (docs/FORMATS.md, The disk: 0 to 2, at byte 1312 of a bank), closes
+"""One byte of a DHCPv6 slot, its state 3 (docs/FORMATS.md, The disk: 0 to 2, at byte 1 of a half; slot 16 begins at 24576), closes
 the circuit alone, for its DHCPv4 clients too."""
 from client import DISCOVER, Circuit, Server, frame
 
 Server("accessd", "config.toml", "leases", "--format", turns=1).report()
 with open("leases", "r+b") as file:
-    file.seek(1312)
+    file.seek(24577)
     file.write(bytes([3]))
 server = Server("accessd", "config.toml", "leases", turns=1_000_000)
 print(server.first_line)

@@ -1,4 +1,4 @@
-"""A region without an open bank closes its circuit alone."""
+"""A region of format 2 without an open half closes its circuit alone."""
 from client import DISCOVER, Circuit, Server, frame
 
 Server("accessd", "config.toml", "leases", "--format", turns=1).report()

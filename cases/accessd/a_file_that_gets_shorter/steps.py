@@ -1,4 +1,4 @@
-"""The file is cut to no bytes while the server runs. A save writes a whole bank, so that the lease is kept;
+"""The file is cut to no bytes while the server runs. A save writes its slot past the end all the same, and succeeds;
 opened anew, a file without a whole region is refused."""
 import os
 from client import DISCOVER, REQUEST, Circuit, Server, select

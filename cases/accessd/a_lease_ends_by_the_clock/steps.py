@@ -1,11 +1,11 @@
-"""A lease is kept until 600 seconds from now, at bytes 40 to 47 of the bank that counts, which is the second after one
-save (docs/FORMATS.md, The disk). Once these bytes are of a second that is past, the pool's only address is another
+"""A lease is kept until 600 seconds from now, at bytes 16 to 23 of the half of its slot that counts, which is the second
+after one save (docs/FORMATS.md, The disk). Once these bytes are of a second that is past, the pool's only address is another
 client's; while they are of a second that is to come, it is nobody else's."""
 import time
 
 from client import DISCOVER, REQUEST, Circuit, Server, frame, select
 
-END = 4096 + 32 + 8
+END = 16384 + 256 + 16
 
 circuit = Circuit(20000)
 server = Server("accessd", "config.toml", "leases", "--format")

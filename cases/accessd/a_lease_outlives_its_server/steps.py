@@ -9,9 +9,9 @@ print(lease)
 server.kill()
 with open("leases", "rb") as file:
     region = file.read()
-bank, slot = region[4096:8192], region[4128:4208]
-clock, until = (int.from_bytes(part, "big") for part in (bank[8:16], slot[8:16]))
-print(len(region), bank[:2].hex(), slot[:2].hex(), until - clock, slot[16:24].hex(), region[8192])
+half = region[16640:16896]
+clock, until = (int.from_bytes(part, "big") for part in (half[8:16], half[16:24]))
+print(len(region), half[:4].hex(), until - clock, half[32:40].hex(), region[8192])
 server = Server("accessd", "config.toml", "leases")
 print(circuit.exchange(REQUEST, 1, reboot(lease.address)))
 print(circuit.exchange(DISCOVER, 2))

@@ -12,7 +12,9 @@ for row in rows:
     text = configuration.replace("count4 = 1\n", f"count4 = {count4}\n").replace("count6 = 1\n", f"count6 = {count6}\n")
     Path("config.toml").write_text(text)
     region = bytearray(32768)
-    region[0], region[8192] = 0xA5, 1
+    region[8192] = 2
+    for slot in range(32):
+        region[16384 + 512 * slot] = 0xA5
     for change in changes.split():
         at, byte = change.split("=")
         region[int(at)] = int(byte, 16)

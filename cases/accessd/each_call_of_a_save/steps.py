@@ -1,6 +1,7 @@
 """What the server asks of the system, in order. A file that is made is lengthened and synced, and so is its folder; each
-region is formatted by a write and a sync; a lease is saved by three writes, each with a sync, before it is acknowledged,
-but the first save after the formatting has no gate to close, and no first write (docs/FORMATS.md, The disk). Where one of
+region is formatted by two writes, each with a sync; a lease is saved by three writes, each with a sync, before it is
+acknowledged, but the first save of a slot after the formatting has no gate to close, and no first write (docs/FORMATS.md,
+The disk). Where one of
 these calls fails, no acknowledgement is sent, and the circuit is closed."""
 from client import DISCOVER, REQUEST, Circuit, Server, frame, frame6, select
 from system_calls import Watch
@@ -39,7 +40,7 @@ for k in range(1, 7):
     for proto in (4, 6):
         watch, server = started()
         offer = circuit.exchange(DISCOVER, 1)
-        request(4, offer)
+        request(proto, offer)
         # the relay's send is the first call
         watch.fail(1 + k)
         print(request(proto, offer))

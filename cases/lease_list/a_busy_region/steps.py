@@ -7,18 +7,20 @@ COMMAND = ["leases", "config.toml", "--disk", "leases", "--at", "5"]
 BUSY = (4, "a busy: no two of 100 readings of its region were equal\n", "")
 QUIET = (0, "", "")
 region = bytearray(32768)
-region[0], region[8192] = 0xA5, 1
+region[8192] = 2
+for slot in range(32):
+    region[16384 + 512 * slot] = 0xA5
 Path("leases").write_bytes(bytes(region) * 3)
 stop = threading.Event()
 
 
 def write():
-    """Changes bytes of `a`'s region that no bank has, again and again."""
+    """Changes bytes of `a`'s region that no slot has, again and again."""
     with open("leases", "r+b", buffering=0) as file:
         count = 0
         while not stop.is_set():
             count += 1
-            file.seek(32768 + 20000)
+            file.seek(32768 + 100)
             file.write(count.to_bytes(8, "big"))
 
 

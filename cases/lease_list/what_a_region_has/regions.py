@@ -7,31 +7,40 @@ NOW = 1700000000
 
 
 def held4(key, until):
-    return bytes([1, len(key)]) + bytes(6) + struct.pack(">Q", until) + key
+    return 1, key, 0, until
 
 
 def held6(duid, iaid, until):
-    return bytes([1, len(duid)]) + bytes(2) + struct.pack(">IQ", iaid, until) + duid
+    return 1, duid, iaid, until
 
 
 def barred(until):
-    return bytes([2]) + bytes(7) + struct.pack(">Q", until)
+    return 2, b"", 0, until
+
+
+FREE = 0, b"", 0, 0
+
+
+def half(sequence, clock, slot):
+    """A half whose gate is open."""
+    state, key, iaid, until = slot
+    head = struct.pack(">BBBBIQQ", 0xA5, state, len(key), sequence, iaid, clock, until)
+    return (head.ljust(32, b"\0") + key).ljust(256, b"\0")
 
 
 def region(clock, four, six, second=False):
-    """A region whose second bank counts, or whose first."""
+    """A region the second half of whose slots counts, or the first. The last slot alone has the kept clock."""
     data = bytearray(32768)
-    at = 4096 if second else 0
-    data[at:at + 2] = bytes([0xA5, 1 if second else 0])
-    # the other bank is older by one save, and has other leases
-    if second:
-        data[0:2] = bytes([0xA5, 0])
-        data[32:32 + 23] = held4(b"\x01\x02\0\0\0\0\x63", clock + 9999)
-    struct.pack_into(">Q", data, at + 8, clock)
-    for start, size, slots in (32, 80, four), (1312, 152, six):
-        for i, slot in slots.items():
-            data[at + start + size * i:at + start + size * i + len(slot)] = slot
-    data[8192] = 1
+    data[8192] = 2
+    for slot in range(32):
+        at, own = 16384 + 512 * slot, clock if slot == 31 else max(clock - 500, 0)
+        held = four.get(slot, FREE) if slot < 16 else six.get(slot - 16, FREE)
+        if second:
+            # the first half is older by one save, and has another lease and a later clock
+            data[at:at + 256] = half(0, clock + 5000, held4(b"\x01\x02\0\0\0\0\x63", clock + 9999))
+            data[at + 256:at + 512] = half(1, own, held)
+        else:
+            data[at:at + 256] = half(0, own, held)
     return bytes(data)
 
 

@@ -31,7 +31,7 @@ fn format_regions<D: Disk>(config: &Config, disk: &mut D) -> Result<(), DeviceFa
     requires { (c : ℕ) (circuit : CircuitConfig) → slice_get config.now.circuits c ≡ Some circuit → circuit.region < (D.device disk.old).count }
     ensures formatted { D.tells ≡ true → OnOk result ((c : ℕ) (circuit : CircuitConfig) → slice_get config.now.circuits c ≡ Some circuit → IsFormatted ((D.device disk.new).region circuit.region)) }
     ensures count { (D.device disk.new).count ≡ (D.device disk.old).count }
-    ensures writes { OnOk result ((D.device disk.new).writes ≡ (D.device disk.old).writes + 2 * length config.now.circuits) }
+    ensures writes { OnOk result ((D.device disk.new).writes ≡ (D.device disk.old).writes + 4 * length config.now.circuits) }
 {
     'circuits: for index in 0..config.circuit_count() {
         let Some(circuit) = Circuit::new(index) else {
@@ -69,7 +69,7 @@ pub fn format_device<R: Files<File = File>>(
     path: &str,
     config: &Config,
 ) -> Result<FileDisk, DeviceFault>
-    ensures writes { length config.now.circuits ≤ 16 → IfOk result (λ disk. disk.writes ≡ 2 * length config.now.circuits) }
+    ensures writes { length config.now.circuits ≤ 16 → IfOk result (λ disk. disk.writes ≡ 4 * length config.now.circuits) }
     ensures none { 16 < length config.now.circuits → IfOk result (λ disk. disk.writes ≡ 0) }
     ensures regions { IfOk result (λ disk. (c : ℕ) (circuit : CircuitConfig) → slice_get config.now.circuits c ≡ Some circuit → circuit.region < disk.regions) }
 {

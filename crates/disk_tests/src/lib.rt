@@ -5,3 +5,5 @@
 mod recovery_tests;
 #[cfg(test)]
 mod save_tests;
+#[cfg(test)]
+mod stop_tests;

@@ -1,11 +1,16 @@
 -- What shows of the server in the code.
-use Rattle.std.specs.Prelude.{◌≡◌, ℕ, List, [], ◌∷◌, length, map, Option, Some, None, IfSome, option_map, All, slice_get}
+use Rattle.std.specs.Prelude.{◌≡◌, ◌≤◌, ℕ, List, [], ◌∷◌, length, map, Option, Some, None, IfSome, option_map, All, slice_get}
 use Rattle.types.specs.declared.addr.Source.{Source}
 use Rattle.config.specs.CircuitPart.{CircuitPart, pool4_of, pool6_of}
-use Rattle.lease_disk.specs.declared.format1.bank.Marks.{Marks}
+use Rattle.lease_disk.specs.declared.format2.half.Marks.{Marks}
+use Rattle.lease_disk.specs.Recovered.{recovered}
 use Rattle.lease_disk.specs.Region.{Region, IsClean}
 use Rattle.lease_disk.specs.Save.{AreMarks}
+use Rattle.types.specs.Slots.{live4, live6}
+use Rattle.types.specs.declared.slots.Slots.{Slots}
+use Rattle.bindings_v4.specs.Kept4 as kept4
 use Rattle.bindings_v4.specs.Slots4 as slots4
+use Rattle.bindings_v6.specs.Kept6 as kept6
 use Rattle.bindings_v6.specs.Slots6 as slots6
 use Rattle.dispatch.specs.Leases.{Leases, restarts_of}
 use Rattle.dispatch.specs.Server.{Book}
@@ -49,10 +54,26 @@ HasPools part state = IfSome state (λ o. (o.four.pool ≡ pool4_of part) × (o.
 abbrev pub HasItsPools : CircuitServerValue → Type 0
 HasItsPools s = HasPools s.part s.state
 
--- an open circuit's region can be saved to
+-- how many addresses its pools have
+abbrev pub counts_in : OpenCircuitValue → List ℕ
+counts_in o = o.four.pool.count ∷ o.six.pool.count ∷ []
+
+-- what a region keeps of an open circuit
+abbrev pub kept_slots : OpenCircuitValue → Slots
+kept_slots o = record { four = kept4.kept_slots o.clock o.four.slots; six = kept6.kept_slots o.clock o.six.slots; clock = o.clock }
+
+-- the region recovers to slots that hold, at the circuit's clock, what is kept of it
+pub record IsKeptIn (region : ℕ → ℕ) (o : OpenCircuitValue) : Type 0 where
+  pub slots : Slots
+  pub recovers : recovered (counts_in o) region ≡ Some slots
+  pub later : slots.clock ≤ o.clock
+  pub four : map (live4 o.clock) slots.four ≡ (kept_slots o).four
+  pub six : map (live6 o.clock) slots.six ≡ (kept_slots o).six
+
+-- an open circuit's region keeps it, and can be saved to
 abbrev pub IsReadyFor : Region → Option OpenCircuitValue → Type 0
 IsReadyFor region None = Unit {0}
-IsReadyFor region (Some o) = IsClean region × AreMarks region.byte o.marks
+IsReadyFor region (Some o) = IsClean region × AreMarks (counts_in o) region.byte o.marks × IsKeptIn region.byte o
 
 abbrev pub IsReady : (ℕ → Region) → CircuitServerValue → Type 0
 IsReady regions s = IsReadyFor (regions s.part.region) s.state

@@ -55,7 +55,7 @@ impl CircuitServer {
         ensures book { D.tells ≡ true → option_map open_book self.new ≡ found_book part.now ((D.device disk.old).region part.now.region) }
         ensures ready { D.tells ≡ true → (((D.device disk.old).region part.now.region).readable ≡ true → IsClean ((D.device disk.old).region part.now.region)) → IsReadyFor ((D.device disk.old).region part.now.region) self.new }
         ensures frame { TouchesNothing D.tells (D.device disk.old) (D.device disk.new) }
-        ensures reads { (D.device disk.new).reads ≤ (D.device disk.old).reads + 4 }
+        ensures reads { (D.device disk.new).reads ≤ (D.device disk.old).reads + 2 }
     {
         self.state = OpenCircuit::recover(part, disk);
     }

@@ -1,17 +1,21 @@
 //! What a circuit's server decides on a client's message, in either protocol.
-ghost use Rattle.std.specs.Prelude.{◌≡◌, []};
-ghost use Rattle.dispatch.specs.CircuitDecision.{answer_of, is_kept};
+ghost use Rattle.std.specs.Prelude.{◌≡◌, ◌<◌, IfSome, []};
+ghost use Rattle.dispatch.specs.CircuitDecision.{answer_of, kept_in};
 ghost use Rattle.dispatch.specs.Received.{IsAnswer};
 ghost use Rattle.dispatch.specs.Server.{reply4_to, reply6_to};
 
 use bindings_v4::Decision4;
 use bindings_v6::Decision6;
 use config::CircuitPart;
+use lease_disk::Content;
 use replies::{write4, write6};
 use types::{Discard, Key6, Reply4, Reply6};
 use v4_message::Message;
 use v6_message::{Message6, Relay6};
 use wire::PacketBuf;
+
+/// In a region, the first slot of the DHCPv6 pool.
+const SIX_SLOTS_FROM: usize = 16;
 
 /// A decision of a circuit's book, and the message that it is on. Nothing is changed and nothing is sent
 /// before it is kept.
@@ -23,13 +27,20 @@ pub(crate) enum CircuitDecision<'a> {
 }
 
 impl CircuitDecision<'_> {
-    /// Whether a slot has to be saved before the reply leaves.
-    pub(crate) fn is_kept(&self) -> bool
-        ensures { result ≡ is_kept self.now }
+    /// The slot of the region that has to be saved before the reply leaves, and what it is to hold.
+    pub(crate) fn kept(&self) -> Option<(usize, Content)>
+        requires { IfSome (kept_in self.now) (λ kept. kept.0 < 32) }
+        ensures { result ≡ kept_in self.now }
     {
         match self {
-            CircuitDecision::V4(_, decision) => decision.keep.is_some(),
-            CircuitDecision::V6(_, _, _, decision) => decision.keep.is_some(),
+            CircuitDecision::V4(_, decision) => {
+                let kept = decision.keep?;
+                Some((kept.slot, Content::Four(kept.content)))
+            }
+            CircuitDecision::V6(_, _, _, decision) => {
+                let kept = decision.keep?;
+                Some((SIX_SLOTS_FROM + kept.slot, Content::Six(kept.content)))
+            }
         }
     }
 

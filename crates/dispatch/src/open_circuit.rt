@@ -6,14 +6,15 @@ ghost use Rattle.v6_options.specs.Codes.{RELAY_MESSAGE};
 ghost use Rattle.v6_options.specs.Spelling.{look_up};
 ghost use Rattle.config.specs.CircuitPart as parts;
 ghost use Rattle.config.specs.CircuitPart.{pool4_of, pool6_of};
-ghost use Rattle.dispatch.specs.CircuitDecision.{IsWithin, is_kept, served_by, with_decision};
+ghost use Rattle.dispatch.specs.CircuitDecision.{IsToSave, IsWithin, KeepsItsSlot, is_kept, served_by, with_decision};
 ghost use Rattle.dispatch.specs.Leases.{found_book, restarts_after, restarts_of};
 ghost use Rattle.dispatch.specs.RelayedMessage.{IsRelayedMessage};
 ghost use Rattle.dispatch.specs.Request4.{request4_in};
 ghost use Rattle.dispatch.specs.Server.{book_at, datagram_served, drop, message6_served, request4_served};
 ghost use Rattle.dispatch.specs.ServerValue.{HasPools, IsReadyFor, open_book};
 ghost use Rattle.lease_disk.specs.Device.{Touches, TouchesNothing};
-ghost use Rattle.lease_disk.specs.Region.{IsClean, effective, faults_after};
+ghost use Rattle.lease_disk.specs.Region.{IsClean, Region, effective, faults_after};
+ghost use Rattle.lease_disk.specs.Save.{Fits};
 
 use crate::addressee::RelayedMessage;
 use crate::decision::CircuitDecision;
@@ -22,9 +23,9 @@ use crate::request6::request6_in;
 use bindings_v4::Book4;
 use bindings_v6::Book6;
 use config::CircuitPart;
-use lease_disk::{Disk, Fault, Marks, recover, save};
+use lease_disk::{Content, Disk, Fault, Marks, recover, save};
 use std::marker::Model;
-use types::{Discard, Moment, Slot4, Slot6, Slots};
+use types::{Discard, Moment};
 use v4_message::Message;
 use v6_message::Relay6;
 
@@ -58,7 +59,7 @@ impl OpenCircuit {
         ensures book { D.tells ≡ true → option_map open_book result ≡ found_book part.now ((D.device disk.old).region part.now.region) }
         ensures ready { D.tells ≡ true → (((D.device disk.old).region part.now.region).readable ≡ true → IsClean ((D.device disk.old).region part.now.region)) → IsReadyFor ((D.device disk.old).region part.now.region) result }
         ensures frame { TouchesNothing D.tells (D.device disk.old) (D.device disk.new) }
-        ensures reads { (D.device disk.new).reads ≤ (D.device disk.old).reads + 4 }
+        ensures reads { (D.device disk.new).reads ≤ (D.device disk.old).reads + 2 }
     {
         let Ok((slots, marks)) = recover(part.region(), disk, part.counts()) else {
             return None;
@@ -77,6 +78,7 @@ impl OpenCircuit {
         ensures pool6 { self.new.six.pool ≡ self.old.six.pool }
         ensures marks { self.new.marks ≡ self.old.marks }
         ensures book { open_book self.new ≡ book_at now (open_book self.old) }
+        ensures ready { (region : Region) → IsReadyFor region (Some self.old) → IsReadyFor region (Some self.new) }
     {
         let later = self.clock.later(now);
         bindings_v4::expires_by_the_clock(&self.four, self.clock, later);
@@ -94,6 +96,7 @@ impl OpenCircuit {
         ensures ok { (proto : Proto) (bytes : List ℕ) → IsRelayedMessage proto bytes relayed.entry → IfOk result (λ decision. datagram_served part.now proto bytes (open_book self.now) ≡ served_by part.now self.now decision) }
         ensures err { (proto : Proto) (bytes : List ℕ) → IsRelayedMessage proto bytes relayed.entry → IfErr result (λ why. datagram_served part.now proto bytes (open_book self.now) ≡ drop why (open_book self.now)) }
         ensures within { IfOk result IsWithin }
+        ensures keeps { IfOk result (λ decision. KeepsItsSlot decision self.now) }
     {
         match relayed {
             RelayedMessage::V4(message) => self.decide4(message),
@@ -106,6 +109,7 @@ impl OpenCircuit {
         ensures ok { (part : parts.CircuitPart) → HasPools part (Some self.now) → IfOk result (λ decision. request4_served part message.entry (open_book self.now) (request4_in message.entry) ≡ served_by part self.now decision) }
         ensures err { IfErr result (λ why. request4_in message.entry ≡ Err why) }
         ensures within { IfOk result IsWithin }
+        ensures keeps { IfOk result (λ decision. KeepsItsSlot decision self.now) }
     {
         let request = match request4_in(&message) {
             Ok(request) => request,
@@ -125,6 +129,7 @@ impl OpenCircuit {
         ensures ok { IfOk result (λ decision. message6_served part.now forward.entry (open_book self.now) (look_up RELAY_MESSAGE forward.entry.options) ≡ served_by part.now self.now decision) }
         ensures err { IfErr result (λ why. message6_served part.now forward.entry (open_book self.now) (look_up RELAY_MESSAGE forward.entry.options) ≡ drop why (open_book self.now)) }
         ensures within { IfOk result IsWithin }
+        ensures keeps { IfOk result (λ decision. KeepsItsSlot decision self.now) }
     {
         let Some(bytes) = forward.relay_message() else {
             return Err(Discard::Malformed);
@@ -137,7 +142,7 @@ impl OpenCircuit {
         Ok(CircuitDecision::V6(forward, message, request.key, decision))
     }
 
-    /// Makes a decision's changes, and saves both books where one of them has to be kept. After an error
+    /// Makes a decision's changes, and saves the slot that has to be kept, if there is one. After an error
     /// the circuit has to be closed: its region holds the old books or the new ones.
     pub(crate) fn keep<D: Disk>(
         &mut self,
@@ -149,6 +154,7 @@ impl OpenCircuit {
         requires pools { HasPools part.now (Some self.old) }
         requires ready { D.tells ≡ true → IsReadyFor ((D.device disk.old).region part.now.region) (Some self.old) }
         requires within { IsWithin decision.now }
+        requires keeps { KeepsItsSlot decision.now self.old }
         ensures pools { HasPools part.now (Some self.new) }
         ensures book { open_book self.new ≡ open_book (with_decision decision.now self.old) }
         ensures cause { OnErr result (is_kept decision.now ≡ true) }
@@ -161,10 +167,10 @@ impl OpenCircuit {
         ensures failures { (D.device disk.new).failures ≡ faults_after result (D.device disk.old).failures }
     {
         self.commit(decision);
-        if !decision.is_kept() {
-            return Ok(());
+        match decision.kept() {
+            Some((slot, content)) => self.save(part, slot, &content, disk),
+            None => Ok(()),
         }
-        self.save(part, disk)
     }
 
     /// Makes a decision's change of its protocol's book.
@@ -178,11 +184,18 @@ impl OpenCircuit {
         }
     }
 
-    /// Saves the books without offers, and the clock.
-    fn save<D: Disk>(&mut self, part: &CircuitPart, disk: &mut D) -> Result<(), Fault>
+    /// Saves what a slot of the region is to hold from the circuit's clock on.
+    fn save<D: Disk>(
+        &mut self,
+        part: &CircuitPart,
+        slot: usize,
+        content: &Content,
+        disk: &mut D,
+    ) -> Result<(), Fault>
         requires exists { part.now.region < (D.device disk.old).count }
         requires pools { HasPools part.now (Some self.old) }
-        requires ready { D.tells ≡ true → IsReadyFor ((D.device disk.old).region part.now.region) (Some self.old) }
+        requires fits { Fits slot content.now }
+        requires changed { D.tells ≡ true → IsToSave ((D.device disk.old).region part.now.region) slot content.now self.old }
         ensures four { self.new.four ≡ self.old.four }
         ensures six { self.new.six ≡ self.old.six }
         ensures clock { self.new.clock ≡ self.old.clock }
@@ -192,13 +205,9 @@ impl OpenCircuit {
         ensures frame { Touches D.tells part.now.region (D.device disk.old) (D.device disk.new) }
         ensures failures { (D.device disk.new).failures ≡ faults_after result (D.device disk.old).failures }
     {
-        let mut slots = Slots {
-            four: [Slot4::Free; 16],
-            six: [Slot6::Free; 16],
-            clock: self.clock,
-        };
-        self.four.put(&mut slots);
-        self.six.put(&mut slots);
-        save(part.region(), disk, &mut self.marks, &slots)
+        bindings_v4::keeps_a_book(&self.four, self.clock);
+        bindings_v6::keeps_a_book(&self.six, self.clock);
+        let region = part.region();
+        save(region, disk, &mut self.marks, self.clock, slot, content)
     }
 }

@@ -98,7 +98,7 @@ fn restart_all<D: Disk>(parts: &[CircuitPart], servers: &mut [CircuitServer], di
     ensures ready { D.tells ≡ true → AreSynced parts.now (D.device disk.old).region → All (IsReady (D.device disk.new).region) (with_states parts.now servers.new) }
     ensures pools { All HasItsPools (with_states parts.now servers.new) }
     ensures frame { TouchesNothing D.tells (D.device disk.old) (D.device disk.new) }
-    ensures reads { (D.device disk.new).reads ≤ (D.device disk.old).reads + 4 * length parts.now }
+    ensures reads { (D.device disk.new).reads ≤ (D.device disk.old).reads + 2 * length parts.now }
 {
     'circuits: for index in 0..parts.len() {
         servers[index].restart(&parts[index], disk);
@@ -121,7 +121,7 @@ impl Server {
         ensures small { IfErr result (λ why. why ≡ fault.DiskTooSmall → ¬ HasRegions (parts_of config.now) (D.device disk.old).count) }
         ensures untouched { OnErr result (D.device disk.new ≡ D.device disk.old) }
         ensures frame { TouchesNothing D.tells (D.device disk.old) (D.device disk.new) }
-        ensures reads { (D.device disk.new).reads ≤ (D.device disk.old).reads + 4 * length config.now.circuits }
+        ensures reads { (D.device disk.new).reads ≤ (D.device disk.old).reads + 2 * length config.now.circuits }
     {
         let Ok(circuits) = Circuits::of(alloc, config) else {
             return Err(OpenFault::Memory);
@@ -224,7 +224,7 @@ impl Server {
         ensures leases { D.tells ≡ true → leases_in (D.device disk.new).region self.new ≡ map (found_leases (D.device disk.old).region) (parts_in self.old) }
         ensures ready { D.tells ≡ true → AreReady (D.device disk.new).region self.new }
         ensures frame { TouchesNothing D.tells (D.device disk.old) (D.device disk.new) }
-        ensures reads { (D.device disk.new).reads ≤ (D.device disk.old).reads + 4 * length self.old.circuits }
+        ensures reads { (D.device disk.new).reads ≤ (D.device disk.old).reads + 2 * length self.old.circuits }
     {
         restart_all(self.circuits.parts(), &mut self.servers, disk);
     }

@@ -1,18 +1,125 @@
 -- A region whose bytes were all written.
-use Rattle.std.proofs.Common.{◌≡◌, ℕ, List, length, slice_index, Result, OnOk, Ok, Err, refl, ap, ◌∙◌, subst, sym, arith}
+use Rattle.std.proofs.Common.{◌≡◌, ℕ, ◌+◌, ◌-◌, ◌*◌, ◌%◌, ◌<◌, ◌≤◌, Bool, true, false, ◌&&◌, ◌||◌, nat_le, nat_lt, List, [], ◌∷◌, length, set, get_or, slice_index, Some, None, Result, OnOk, OnErr, Ok, Err, refl, ap, ◌∙◌, subst, sym, arith}
+use Rattle.std.specs.Prelude.{if◌then◌else◌, ◌==◌}
+use Rattle.std.proofs.lemmas.List.{get_or-set_same, get_or-set_other, length-set}
 use Rattle.lease_disk.specs.Layout.{formatted}
-use Rattle.lease_disk.specs.Crash.{IsFormatted}
-use Rattle.lease_disk.specs.Region.{Region, written, synced}
-use Rattle.lease_disk.proofs.Banks.{is_inside}
+use Rattle.lease_disk.specs.Book.{empty_book}
+use Rattle.lease_disk.specs.Crash.{IsFormatted, IsHalfFormatted}
+use Rattle.lease_disk.specs.Recovered.{recovered}
+use Rattle.lease_disk.specs.Region.{Region, is_within, written, synced, IsCrash, IsTorn, effective}
+use Rattle.lease_disk.proofs.Books.{formatted_book}
+use Rattle.lease_disk.proofs.Halves.{is_inside}
+use Rattle.lease_disk.proofs.Reading.{no_format}
+
+-- the gates of the first slots are open
+pub record AreOpen (slot : ℕ) (bytes : List ℕ) : Type 0 where
+  pub size : length bytes ≡ 32768
+  pub each : (k : ℕ) → slice_index bytes k ≡ (if nat_le 16384 k && nat_lt k (16384 + 512 * slot) && k % 512 == 0 then 0xa5 else 0)
+
+none_open : (k : ℕ) → (nat_le 16384 k && nat_lt k (16384 + 512 * 0) && k % 512 == 0) ≡ false
+none_open k = by_past (nat_lt k 16384) refl where
+  by_past : (b : Bool) → nat_lt k 16384 ≡ b → (nat_le 16384 k && nat_lt k (16384 + 512 * 0) && k % 512 == 0) ≡ false
+  by_past true e = let p : nat_le 16384 k ≡ false = grind (arith, e) in ap (λ b. b && nat_lt k (16384 + 512 * 0) && k % 512 == 0) p
+  by_past false e = let p : nat_le 16384 k ≡ true = grind (arith, e) in let q : nat_lt k (16384 + 512 * 0) ≡ false = grind (arith, e) in rw (p, q) refl
+
+pub open_none : (bytes : List ℕ) → length bytes ≡ 32768 → ((i : ℕ) → slice_index bytes i ≡ 0) → AreOpen 0 bytes
+open_none bytes size zero = record { size = size; each = λ k. zero k ∙ sym (ap (λ b. if b then 0xa5 else 0) (none_open k)) }
+
+and_late : (a b : Bool) → (a && b && false) ≡ false
+and_late true true = refl
+and_late true false = refl
+and_late false b = refl
+
+before : (k slot : ℕ) (b : Bool) → nat_lt k (16384 + 512 * slot) ≡ b → (k ≡ 16384 + 512 * slot → ⊥) → k % 512 ≡ 0 → nat_lt k (16384 + 512 * (slot + 1)) ≡ b
+before k slot true e ne m = grind (arith, e)
+before k slot false e ne m =
+    let past : 16384 + 512 * slot ≤ k = grind (arith, e) in
+    let far : 16384 + 512 * (slot + 1) ≤ k = omega (arith, past, ne, m) in
+    grind (arith, far)
+
+same_gates : (k slot : ℕ) (m : Bool) → (k % 512 == 0) ≡ m → (k ≡ 16384 + 512 * slot → ⊥)
+    → (nat_le 16384 k && nat_lt k (16384 + 512 * (slot + 1)) && m) ≡ (nat_le 16384 k && nat_lt k (16384 + 512 * slot) && m)
+same_gates k slot false e ne = and_late (nat_le 16384 k) (nat_lt k (16384 + 512 * (slot + 1))) ∙ sym (and_late (nat_le 16384 k) (nat_lt k (16384 + 512 * slot)))
+same_gates k slot true e ne = let m : k % 512 ≡ 0 = grind (arith, e) in ap (λ b. nat_le 16384 k && b && true) (before k slot (nat_lt k (16384 + 512 * slot)) refl ne m)
+
+here_open : (slot : ℕ) → (nat_le 16384 (16384 + 512 * slot) && nat_lt (16384 + 512 * slot) (16384 + 512 * (slot + 1)) && (16384 + 512 * slot) % 512 == 0) ≡ true
+here_open slot =
+    let a : nat_le 16384 (16384 + 512 * slot) ≡ true = grind arith in
+    let b : nat_lt (16384 + 512 * slot) (16384 + 512 * (slot + 1)) ≡ true = grind arith in
+    let c : (16384 + 512 * slot) % 512 ≡ 0 = omega arith in
+    rw (a, b, c) refl
+
+pub open_more : (slot at : ℕ) (bytes : List ℕ) → slot < 32 → at ≡ 16384 + 512 * slot → AreOpen slot bytes → AreOpen (slot + 1) (set bytes at 0xa5)
+open_more slot at bytes few is so = record { size = length-set bytes at 0xa5 ∙ so.size; each = λ k. by k (k == at) refl } where
+  by : (k : ℕ) (b : Bool) → (k == at) ≡ b → slice_index (set bytes at 0xa5) k ≡ (if nat_le 16384 k && nat_lt k (16384 + 512 * (slot + 1)) && k % 512 == 0 then 0xa5 else 0)
+  by k true e =
+      let same : k ≡ at = grind (arith, e) in
+      ap (slice_index (set bytes at 0xa5)) same ∙ get_or-set_same bytes at 0xa5 0 (omega (arith, is, few, so.size))
+      ∙ sym (ap (λ b. if b then 0xa5 else 0) (ap (λ j. nat_le 16384 j && nat_lt j (16384 + 512 * (slot + 1)) && j % 512 == 0) (same ∙ is) ∙ here_open slot))
+  by k false e =
+      let ne : k ≡ at → ⊥ = λ same. absurd (grind (arith, e, same)) in
+      get_or-set_other bytes at k 0xa5 0 ne ∙ so.each k ∙ sym (ap (λ b. if b then 0xa5 else 0) (same_gates k slot (k % 512 == 0) refl (λ same. ne (same ∙ sym is))))
+
+pub open_all : (slot : ℕ) (bytes : List ℕ) → slot ≡ 32 → AreOpen slot bytes → (k : ℕ) → slice_index bytes k ≡ (if nat_le 16384 k && nat_lt k 32768 && k % 512 == 0 then 0xa5 else 0)
+open_all slot bytes e so k = so.each k ∙ ap (λ n. if nat_le 16384 k && nat_lt k (16384 + 512 * n) && k % 512 == 0 then 0xa5 else 0) e
 
 pub on_ok : {T E : Type 0} → (r : Result T E) → {P Q : Type 0} → (P → Q) → OnOk r P → OnOk r Q
 on_ok (Ok x) f p = f p
 on_ok (Err e) f p = tt
 
-pub is_formatted : (bytes : List ℕ) (old new : Region) → length bytes ≡ 32768 → ((i : ℕ) → slice_index bytes i ≡ formatted i) → new ≡ synced (written 0 bytes old) → IsFormatted new
-is_formatted bytes old new size h e =
-    let w : IsFormatted (synced (written 0 bytes old)) = record {
-      byte = λ i k. rw (size, is_inside 0 32768 i (omega arith) (omega arith)) (ap (slice_index bytes) (omega arith) ∙ h i);
+pub on_err : {T E : Type 0} → (r : Result T E) → {P Q : Type 0} → (P → Q) → OnErr r P → OnErr r Q
+on_err (Ok x) f p = tt
+on_err (Err e) f p = f p
+
+pub at_err : {T E : Type 0} → (r : Result T E) → {P : Type 0} → P → OnErr r P
+at_err (Ok x) p = tt
+at_err (Err e) p = p
+
+formatted_byte : (bytes : List ℕ) (old : Region) (i : ℕ) → length bytes ≡ 32768 → i < 32768
+    → ((k : ℕ) → slice_index bytes k ≡ (if nat_le 16384 k && nat_lt k 32768 && k % 512 == 0 then 0xa5 else 0))
+    → (b : Bool) → (i == 8192) ≡ b → (written 8192 (2 ∷ []) (synced (written 0 bytes old))).byte i ≡ formatted i
+formatted_byte bytes old i size h open_are true e =
+    let here : i ≡ 8192 = grind (arith, e) in
+    let none : i - 8192 ≡ 0 = omega arith in
+    rw (e, is_inside 8192 1 i (omega arith) (omega arith), none) refl
+formatted_byte bytes old i size h open_are false e =
+    let out : is_within 8192 1 i ≡ false = grind (arith, e) in
+    let zero : i - 0 ≡ i = omega arith in
+    rw (e, out, size, is_inside 0 32768 i (omega arith) (omega arith), zero) (open_are i)
+
+pub is_formatted : (bytes : List ℕ) (old middle new : Region) → length bytes ≡ 32768 → ((k : ℕ) → slice_index bytes k ≡ (if nat_le 16384 k && nat_lt k 32768 && k % 512 == 0 then 0xa5 else 0))
+    → middle ≡ synced (written 0 bytes old) → new ≡ synced (written 8192 (2 ∷ []) middle) → IsFormatted new
+is_formatted bytes old middle new size open_are f e =
+    let w : IsFormatted (synced (written 8192 (2 ∷ []) (synced (written 0 bytes old)))) = record {
+      byte = λ i k. formatted_byte bytes old i size k open_are (i == 8192) refl;
       clean = record { each = λ i. refl };
     } in
-    subst (λ (r : Region). IsFormatted r) (sym e) w
+    subst (λ (r : Region). IsFormatted r) (sym (e ∙ ap (λ r. synced (written 8192 (2 ∷ []) r)) f)) w
+
+outside_one : (i : ℕ) → (i == 8192) ≡ false → is_within 8192 1 i ≡ false
+outside_one i h = grind (arith, h)
+
+too_early : (k : ℕ) → false ≡ (effective 2 k == 0) → 3 ≤ k → ⊥
+too_early k e h = grind arith
+
+-- the first write or its sync failed
+pub left_first : (k : ℕ) (r : Region) → false ≡ (effective 2 k == 0) → IsHalfFormatted k r
+left_first k r e late counts f crash = absurd (too_early k e late)
+
+by_format : (counts : List ℕ) (f : ℕ → ℕ) (b : Bool) → (f 8192 == 2) ≡ b → ((i : ℕ) → i < 32768 → (i == 8192) ≡ false → f i ≡ formatted i) → recovered counts f ≡ (if b then Some empty_book else None)
+by_format counts f true e same =
+    formatted_book counts (record { byte = f; unsynced = λ i. false; readable = true }) (record { byte = λ i k. by i k (i == 8192) refl; clean = record { each = λ i. refl } }) where
+  by : (i : ℕ) → i < 32768 → (b : Bool) → (i == 8192) ≡ b → f i ≡ formatted i
+  by i k true h = let here : i ≡ 8192 = grind (arith, h) in let two : f 8192 ≡ 2 = grind (arith, e) in ap f here ∙ two ∙ sym (ap formatted here)
+  by i k false h = same i k h
+by_format counts f false e same = no_format counts f e
+
+-- the write of the byte of the format or its sync failed
+pub left_last : (k : ℕ) (bytes : List ℕ) (old middle new : Region) → length bytes ≡ 32768 → ((k : ℕ) → slice_index bytes k ≡ (if nat_le 16384 k && nat_lt k 32768 && k % 512 == 0 then 0xa5 else 0))
+    → middle ≡ synced (written 0 bytes old) → IsTorn 8192 1 middle new → IsHalfFormatted k new
+left_last k bytes old middle new size open_are f torn late counts g crash =
+    by_format counts g (g 8192 == 2) refl (λ i few ne.
+    let out = outside_one i ne in
+    let u : new.unsynced i ≡ false = torn.unsynced i ∙ ap (λ b. b || middle.unsynced i) out ∙ ap (λ (r : Region). r.unsynced i) f in
+    let zero : i - 0 ≡ i = omega arith in
+    crash.same i u ∙ torn.byte i out ∙ ap (λ (r : Region). r.byte i) f ∙ rw (size, is_inside 0 32768 i (omega arith) (omega arith), zero, ne) (open_are i))

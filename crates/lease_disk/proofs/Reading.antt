@@ -1,16 +1,21 @@
 -- Reading slots one after the other.
-use Rattle.std.proofs.Common.{◌≡◌, ℕ, ◌+◌, ◌-◌, ◌<◌, ◌≤◌, Bool, true, false, ◌&&◌, suc, zero, List, [], ◌∷◌, ◌++◌, length, take, drop, set, get_or, slice_index, Option, Some, None, refl, sym, ap, ◌∙◌, arith, append_assoc, drop-cons, add-one}
-use Rattle.std.specs.Prelude.{nat_le, nat_lt, if◌then◌else◌, option_map}
+use Rattle.std.proofs.Common.{◌≡◌, ℕ, ◌+◌, ◌-◌, ◌*◌, ◌<◌, ◌≤◌, Bool, true, false, suc, zero, List, [], ◌∷◌, ◌++◌, length, take, drop, set, get_or, slice_index, Option, Some, None, refl, sym, ap, subst, ◌∙◌, arith, append_assoc, drop-cons, add-one}
+use Rattle.std.specs.Prelude.{nat_lt, if◌then◌else◌, max}
 use Rattle.std.specs.List.{list_any}
-use Rattle.types.specs.declared.slot4.Slot4.{Slot4}
-use Rattle.types.specs.declared.slot4.Slot4.TheVariants as S4
-use Rattle.types.specs.declared.slots.Slot6.{Slot6}
-use Rattle.types.specs.declared.slots.Slot6.TheVariants as S6
-use Rattle.std.proofs.lemmas.List.{append-nil, length-drop, length-set, get_or-drop, take_more_set, take_all}
-use Rattle.types.specs.Slots.{same_client4, same_client6, live4, live6, none_twice}
-use Rattle.lease_disk.proofs.ReadBack.{book_of_slots}
-use Rattle.lease_disk.specs.Layout.{four_at, six_at}
-use Rattle.lease_disk.specs.Recovered.{book_of, book_with, bytes_at, from, clock_of, slot4_of, slot6_of, four_in, six_in, cons_some, slots_from}
+use Rattle.std.proofs.lemmas.List.{append-nil, length-drop, length-set, length-take, get_or-drop, get_or-take, get_or_past, take_more_set, take_all, drop_all}
+use Rattle.types.specs.Slots.{none_twice}
+use Rattle.lease_disk.specs.declared.format2.entry.Entry.{Entry}
+use Rattle.lease_disk.specs.declared.format2.half.Half.{Half}
+use Rattle.lease_disk.specs.declared.format2.half.Half.TheVariants.{First, Second}
+use Rattle.lease_disk.specs.declared.format2.half.Mark.{Mark}
+use Rattle.lease_disk.specs.Layout.{half_at}
+use Rattle.lease_disk.specs.Recover.{with_halves}
+use Rattle.lease_disk.specs.Recovered.{bytes_at, half, is_format2, is_open, sequence, is_counting, slot4_of, slot6_of, held, entry_of, entry, cons_some, all_from, latest, book_in, recovered}
+use Rattle.lease_disk.specs.Region.{Region, IsRead}
+use Rattle.lease_disk.specs.Save.{IsMark, other}
+use Rattle.lease_disk.proofs.Changes.{book_alike}
+use Rattle.lease_disk.proofs.Entries.{max_is, max_so}
+use Rattle.lease_disk.proofs.Halves.{same_bytes, first_of, second_of, neither_of}
 
 pub bytes_at_slice : (xs : List ℕ) (at n : ℕ) → at + n ≤ length xs → bytes_at (slice_index xs) at n ≡ take n (drop at xs)
 bytes_at_slice xs at zero h = refl
@@ -19,16 +24,13 @@ bytes_at_slice xs at (suc n) h =
     let k : at < length xs = omega arith in
     rw (drop-cons xs at 0 k, rest) refl
 
-pub from_drop : (xs : List ℕ) (at : ℕ) → slice_index (drop at xs) ≡ from at (slice_index xs)
-from_drop xs at = λ i. λ k. get_or-drop at xs k 0 i
-
 pub prepend : {A : Type 0} → List A → Option (List A) → Option (List A)
 prepend xs None = None
 prepend xs (Some ys) = Some (xs ++ ys)
 
--- n slots are the first i and those from there on
+-- n of them are the first i and those from there on
 pub record Goes {A : Type 0} (read : ℕ → Option A) (n i : ℕ) (xs : List A) : Type 0 where
-  pub so_far : slots_from read 0 n ≡ prepend (take i xs) (slots_from read i (n - i))
+  pub so_far : all_from read 0 n ≡ prepend (take i xs) (all_from read i (n - i))
   pub size : length xs ≡ n
 
 prepend_none : {A : Type 0} → (o : Option (List A)) → o ≡ prepend [] o
@@ -37,7 +39,7 @@ prepend_none None = refl
 prepend_none (Some xs) = refl
 
 pub goes_first : {A : Type 0} → (read : ℕ → Option A) (n : ℕ) (xs : List A) → length xs ≡ n → Goes read n 0 xs
-goes_first read n xs size = record { so_far = let e : n - 0 ≡ n = omega arith in rw e (prepend_none (slots_from read 0 n)); size = size }
+goes_first read n xs size = record { so_far = let e : n - 0 ≡ n = omega arith in rw e (prepend_none (all_from read 0 n)); size = size }
 
 prepend_cons : {A : Type 0} → (xs : List A) (x : A) (o : Option (List A)) → prepend xs (cons_some (Some x) o) ≡ prepend (xs ++ x ∷ []) o
 unfolding prepend
@@ -49,41 +51,37 @@ unfolding prepend
 cons_none xs None = refl
 cons_none xs (Some ys) = refl
 
-rest_of : {A : Type 0} → (read : ℕ → Option A) (n i : ℕ) → i < n → slots_from read i (n - i) ≡ cons_some (read i) (slots_from read (i + 1) (n - (i + 1)))
-rest_of read n i h = let e : n - i ≡ suc (n - (i + 1)) = omega arith in rw e (ap (λ k. cons_some (read i) (slots_from read k (n - (i + 1)))) (omega arith))
+rest_of : {A : Type 0} → (read : ℕ → Option A) (n i : ℕ) → i < n → all_from read i (n - i) ≡ cons_some (read i) (all_from read (i + 1) (n - (i + 1)))
+rest_of read n i h = let e : n - i ≡ suc (n - (i + 1)) = omega arith in rw e (ap (λ k. cons_some (read i) (all_from read k (n - (i + 1)))) (omega arith))
 
 pub goes_on : {A : Type 0} → (read : ℕ → Option A) (n i : ℕ) (xs : List A) (x : A) → Goes read n i xs → i < n → Some x ≡ read i → Goes read n (i + 1) (set xs i x)
 goes_on read n i xs x g h e = let k : i < length xs = rw g.size h in record {
   size = length-set xs i x ∙ g.size;
-  so_far = g.so_far ∙ ap (λ o. prepend (take i xs) o) (rest_of read n i h ∙ ap (λ r. cons_some r (slots_from read (i + 1) (n - (i + 1)))) (sym e))
-      ∙ prepend_cons (take i xs) x (slots_from read (i + 1) (n - (i + 1)))
-      ∙ ap (λ ys. prepend ys (slots_from read (i + 1) (n - (i + 1)))) (sym (take_more_set xs i x k));
+  so_far = g.so_far ∙ ap (λ o. prepend (take i xs) o) (rest_of read n i h ∙ ap (λ r. cons_some r (all_from read (i + 1) (n - (i + 1)))) (sym e))
+      ∙ prepend_cons (take i xs) x (all_from read (i + 1) (n - (i + 1)))
+      ∙ ap (λ ys. prepend ys (all_from read (i + 1) (n - (i + 1)))) (sym (take_more_set xs i x k));
 }
 
-pub goes_not : {A : Type 0} → (read : ℕ → Option A) (n i : ℕ) (xs : List A) → Goes read n i xs → i < n → None ≡ read i → None ≡ slots_from read 0 n
-goes_not read n i xs g h e = sym (g.so_far ∙ ap (λ o. prepend (take i xs) o) (rest_of read n i h ∙ ap (λ r. cons_some r (slots_from read (i + 1) (n - (i + 1)))) (sym e))
-    ∙ cons_none (take i xs) (slots_from read (i + 1) (n - (i + 1))))
+pub goes_not : {A : Type 0} → (read : ℕ → Option A) (n i : ℕ) (xs : List A) → Goes read n i xs → i < n → None ≡ read i → None ≡ all_from read 0 n
+goes_not read n i xs g h e = sym (g.so_far ∙ ap (λ o. prepend (take i xs) o) (rest_of read n i h ∙ ap (λ r. cons_some r (all_from read (i + 1) (n - (i + 1)))) (sym e))
+    ∙ cons_none (take i xs) (all_from read (i + 1) (n - (i + 1))))
 
 prepend_all : {A : Type 0} → (xs : List A) → prepend xs (Some []) ≡ Some xs
 unfolding prepend
 prepend_all xs = ap Some (append-nil xs)
 
-pub goes_all : {A : Type 0} → (read : ℕ → Option A) (n i : ℕ) (xs : List A) → Goes read n i xs → i ≡ n → Some xs ≡ slots_from read 0 n
+pub goes_all : {A : Type 0} → (read : ℕ → Option A) (n i : ℕ) (xs : List A) → Goes read n i xs → i ≡ n → Some xs ≡ all_from read 0 n
 goes_all read n i xs g e =
     let size : length xs ≡ n = g.size in
     let k : n - n ≡ 0 = omega arith in
     let s = rw (e, k, take_all n xs (omega arith)) at g.so_far in
     sym (s ∙ prepend_all xs)
 
-pub twice_not_here : {A : Type 0} → (alike : A → A → Bool) (xs : List A) (i : ℕ) (x : A) → i < length xs → x ≡ get_or xs i x → list_any (alike x) (drop (i + 1) xs) ≡ false → none_twice alike (drop i xs) ≡ none_twice alike (drop (i + 1) xs)
+twice_not_here : {A : Type 0} → (alike : A → A → Bool) (xs : List A) (i : ℕ) (x : A) → i < length xs → x ≡ get_or xs i x → list_any (alike x) (drop (i + 1) xs) ≡ false → none_twice alike (drop i xs) ≡ none_twice alike (drop (i + 1) xs)
 twice_not_here alike xs i x h e p = let n : i + 1 ≡ suc i = omega arith in let q : list_any (alike x) (drop (suc i) xs) ≡ false = rw n at p in rw (n, drop-cons xs i x h, ← e, q) refl
 
-pub twice_here : {A : Type 0} → (alike : A → A → Bool) (xs : List A) (i : ℕ) (x : A) → i < length xs → x ≡ get_or xs i x → list_any (alike x) (drop (i + 1) xs) ≡ true → none_twice alike (drop i xs) ≡ false
+twice_here : {A : Type 0} → (alike : A → A → Bool) (xs : List A) (i : ℕ) (x : A) → i < length xs → x ≡ get_or xs i x → list_any (alike x) (drop (i + 1) xs) ≡ true → none_twice alike (drop i xs) ≡ false
 twice_here alike xs i x h e p = rw (drop-cons xs i x h, ← add-one i, ← e, p) refl
-
--- what is read of the bytes from there on
-pub behind : {A : Type 0} → (reads : (ℕ → ℕ) → A) (bank : List ℕ) (at : ℕ) → reads (slice_index (take (length bank - at) (drop at bank))) ≡ reads (from at (slice_index bank))
-behind reads bank at = ap (λ ys. reads (slice_index ys)) (take_all (length bank - at) (drop at bank) (omega (arith, length-drop {A = ℕ}))) ∙ ap reads (from_drop bank at)
 
 rest_is : {A : Type 0} → (xs : List A) (at : ℕ) → take (length xs - at) (drop at xs) ≡ drop at xs
 rest_is {A} xs at = take_all (length xs - at) (drop at xs) (omega (arith, length-drop {A = A}))
@@ -96,60 +94,88 @@ pub twin_behind : {A : Type 0} → (alike : A → A → Bool) (xs : List A) (i :
     → true ≡ list_any (alike x) (take (length xs - (i + 1)) (drop (i + 1) xs)) → all ≡ none_twice alike (drop i xs) → false ≡ all
 twin_behind alike xs i x all h e p q = sym (q ∙ twice_here alike xs i x h e (ap (λ ys. list_any (alike x) ys) (sym (rest_is xs (i + 1))) ∙ sym p))
 
--- slots read at a clock that is the kept one
-pub four_at_clock : (count : ℕ) (bank : ℕ → ℕ) (clock : ℕ) (o : Option (List Slot4)) → clock ≡ clock_of bank
-    → o ≡ slots_from (λ i. if nat_lt i count then option_map (live4 clock) (slot4_of (from (four_at i) bank)) else Some S4.Free) 0 16 → o ≡ slots_from (four_in count bank) 0 16
-four_at_clock count bank clock o c e = e ∙ (λ j. slots_from (λ i. if nat_lt i count then option_map (live4 (c j)) (slot4_of (from (four_at i) bank)) else Some S4.Free) 0 16)
+-- the greatest clock so far, and that of the rest
+pub latest_first : {A : Type 0} → (es : List (Entry A)) → latest es ≡ max 0 (latest (drop 0 es))
+latest_first es = sym (max_so 0 (latest es) (omega arith))
 
-pub six_at_clock : (count : ℕ) (bank : ℕ → ℕ) (clock : ℕ) (o : Option (List Slot6)) → clock ≡ clock_of bank
-    → o ≡ slots_from (λ i. if nat_lt i count then option_map (live6 clock) (slot6_of (from (six_at i) bank)) else Some S6.Free) 0 16 → o ≡ slots_from (six_in count bank) 0 16
-six_at_clock count bank clock o c e = e ∙ (λ j. slots_from (λ i. if nat_lt i count then option_map (live6 (c j)) (slot6_of (from (six_at i) bank)) else Some S6.Free) 0 16)
+max_assoc : (a b c : ℕ) → max a (max b c) ≡ max (max a b) c
+max_assoc a b c = grind arith
 
-pub no_four : (counts : List ℕ) (bank : ℕ → ℕ) → None ≡ slots_from (four_in (slice_index counts 0) bank) 0 16 → None ≡ book_of counts bank
-unfolding book_of
-no_four counts bank e = ap (λ (o : Option (List Slot4)). book_with (clock_of bank) o (slots_from (six_in (slice_index counts 1) bank) 0 16)) e
+pub latest_more : {A : Type 0} → (es : List (Entry A)) (i c : ℕ) (e : Entry A) → i < length es → e ≡ get_or es i e → latest es ≡ max c (latest (drop i es)) → latest es ≡ max (max c e.clock) (latest (drop (i + 1) es))
+latest_more es i c e h is so_far =
+    let n : i + 1 ≡ suc i = omega arith in
+    so_far ∙ ap (λ ys. max c (latest ys)) (drop-cons es i e h ∙ ap (λ x. x ∷ drop (suc i) es) (sym is)) ∙ max_assoc c e.clock (latest (drop (suc i) es))
+    ∙ ap (λ k. max (max c e.clock) (latest (drop k es))) (sym n)
 
-without_six : (clock : ℕ) (o : Option (List Slot4)) → book_with clock o None ≡ None
-without_six clock None = refl
-without_six clock (Some x) = refl
+max_zero : (c : ℕ) → max c 0 ≡ c
+max_zero c = max_is c 0 (omega arith)
 
-pub no_six : (counts : List ℕ) (bank : ℕ → ℕ) → None ≡ slots_from (six_in (slice_index counts 1) bank) 0 16 → None ≡ book_of counts bank
-unfolding book_of
-no_six counts bank e = sym (without_six (clock_of bank) (slots_from (four_in (slice_index counts 0) bank) 0 16)) ∙ ap (λ (o : Option (List Slot6)). book_with (clock_of bank) (slots_from (four_in (slice_index counts 0) bank) 0 16) o) e
+pub latest_all : {A : Type 0} → (es : List (Entry A)) (i c : ℕ) → length es ≤ i → latest es ≡ max c (latest (drop i es)) → c ≡ latest es
+latest_all es i c h so_far = sym (so_far ∙ ap (λ ys. max c (latest ys)) (drop_all i es h) ∙ max_zero c)
 
-pub book_is : (counts : List ℕ) (bank : ℕ → ℕ) (clock : ℕ) (four : List Slot4) (six : List Slot6) → clock ≡ clock_of bank
-    → Some four ≡ slots_from (four_in (slice_index counts 0) bank) 0 16 → Some six ≡ slots_from (six_in (slice_index counts 1) bank) 0 16 → book_with clock (Some four) (Some six) ≡ book_of counts bank
-unfolding book_of
-book_is counts bank clock four six c e f = λ i. book_with (c i) (e i) (f i)
+-- the bytes of a half, of those of all slots
+half_byte : (halves : List ℕ) (at : ℕ) (i : ℕ) (b : Bool) → nat_lt i 256 ≡ b → at + 256 ≤ length halves → get_or (take 256 (drop at halves)) i 0 ≡ (if b then with_halves halves (16384 + at + i) else 0)
+half_byte halves at i true e h =
+    let k : i < 256 = grind (arith, e) in
+    let late : nat_lt (16384 + at + i) 16384 ≡ false = grind arith in
+    let there : 16384 + at + i - 16384 ≡ at + i = omega arith in
+    get_or-take 256 (drop at halves) i 0 k ∙ get_or-drop at halves i 0 ∙ sym (rw (late, there) refl)
+half_byte halves at i false e h = let k : 256 ≤ i = grind (arith, e) in get_or_past (take 256 (drop at halves)) i 0 (omega (arith, k, length-take {A = ℕ}))
 
-pub book_late : (clock : ℕ) (four : List Slot4) (six : List Slot6) → (clock ≤ 1099511627775 → ⊥) → None ≡ book_with clock (Some four) (Some six)
-book_late clock four six h = let e : nat_le clock 1099511627775 ≡ false = grind arith in rw e refl
+pub half_bytes_at : (halves : List ℕ) (s : ℕ) (h : Half) (at : ℕ) → 16384 + at ≡ half_at s h → at + 256 ≤ length halves → slice_index (take 256 (drop at halves)) ≡ half (with_halves halves) s h
+half_bytes_at halves s h at is within = λ j. λ i. (half_byte halves at i (nat_lt i 256) refl within ∙ ap (λ a. if nat_lt i 256 then with_halves halves (a + i) else 0) is) j
 
-pub book_whole : (counts : List ℕ) (bank : ℕ → ℕ) (seconds clock : ℕ) (four : List Slot4) (six : List Slot6) (a b : Bool)
-    → seconds ≡ clock_of bank → Some four ≡ slots_from (four_in (slice_index counts 0) bank) 0 16 → Some six ≡ slots_from (six_in (slice_index counts 1) bank) 0 16
-    → clock ≡ seconds → seconds ≤ 1099511627775 → a ≡ none_twice same_client4 four → b ≡ none_twice same_client6 six → a ≡ true → b ≡ true
-    → Some (record { four = four; six = six; clock = clock }) ≡ book_of counts bank
-book_whole counts bank seconds clock four six a b c e f v small p q h k =
-    (λ i. Some (record { four = four; six = six; clock = v i })) ∙ sym (book_of_slots seconds four six small (sym p ∙ h) (sym q ∙ k)) ∙ book_is counts bank seconds four six c e f
+-- a region that has these bytes
+pub with_halves_as : (region : ℕ → ℕ) (halves : List ℕ) → ((i : ℕ) → i < length halves → slice_index halves i ≡ region (16384 + i)) → length halves ≡ 16384 → (s : ℕ) (h : Half) → s < 32 → half (with_halves halves) s h ≡ half region s h
+with_halves_as region halves same size s h few = same_bytes region (with_halves halves) s h (λ i l. at s h i few l) where
+  there : (a : ℕ) → 16384 ≤ a → a < 32768 → with_halves halves a ≡ region a
+  there a least most =
+      let late : nat_lt a 16384 ≡ false = grind (arith, least) in
+      let back : 16384 + (a - 16384) ≡ a = omega arith in
+      rw late (same (a - 16384) (omega (arith, size)) ∙ ap region back)
+  at : (s : ℕ) (h : Half) (i : ℕ) → s < 32 → i < 256 → with_halves halves (half_at s h + i) ≡ region (half_at s h + i)
+  at s First i few l = there (16384 + 512 * s + i) (omega arith) (omega arith)
+  at s Second i few l = there (16640 + 512 * s + i) (omega arith) (omega arith)
 
-and_false : (b : Bool) → (b && false) ≡ false
-and_false true = refl
-and_false false = refl
+pub recovered_as : (counts : List ℕ) (region : ℕ → ℕ) (halves : List ℕ) → is_format2 region ≡ true → ((i : ℕ) → i < length halves → slice_index halves i ≡ region (16384 + i)) → length halves ≡ 16384 → recovered counts (with_halves halves) ≡ recovered counts region
+unfolding recovered
+recovered_as counts region halves two same size =
+    ap (λ b. book_in counts b (entry slot4_of (with_halves halves)) (entry slot6_of (with_halves halves))) (sym two)
+    ∙ book_alike counts (is_format2 region) (entry slot4_of region) (entry slot4_of (with_halves halves)) (entry slot6_of region) (entry slot6_of (with_halves halves)) (entry_as slot4_of) (entry_as slot6_of) where
+  entry_as : {A : Type 0} → (read : (ℕ → ℕ) → Option A) (s : ℕ) → s < 32 → entry read (with_halves halves) s ≡ entry read region s
+  entry_as read s few = let a = with_halves_as region halves same size s First few in let b = with_halves_as region halves same size s Second few in λ j. entry_of read (a j) (b j)
 
-pub book_twice4 : (counts : List ℕ) (bank : ℕ → ℕ) (clock : ℕ) (four : List Slot4) (six : List Slot6) (a : Bool)
-    → clock ≡ clock_of bank → Some four ≡ slots_from (four_in (slice_index counts 0) bank) 0 16 → Some six ≡ slots_from (six_in (slice_index counts 1) bank) 0 16
-    → a ≡ none_twice same_client4 four → a ≡ false → None ≡ book_of counts bank
-book_twice4 counts bank clock four six a c e f p h =
-    let q : none_twice same_client4 four ≡ false = sym p ∙ h in
-    (rw (q, and_false (nat_le clock 1099511627775)) refl) ∙ book_is counts bank clock four six c e f
+pub counted_as : (region : ℕ → ℕ) (halves : List ℕ) → ((i : ℕ) → i < length halves → slice_index halves i ≡ region (16384 + i)) → length halves ≡ 16384 → (s : ℕ) (mark : Mark) → s < 32 → IsMark (with_halves halves) s mark → IsMark region s mark
+counted_as region halves same size s mark few m =
+    let a : half (with_halves halves) s mark.half ≡ half region s mark.half = with_halves_as region halves same size s mark.half few in
+    let b : half (with_halves halves) s (other mark.half) ≡ half region s (other mark.half) = with_halves_as region halves same size s (other mark.half) few in
+    record {
+      counting = (λ j. is_counting (sym a j) (sym b j)) ∙ m.counting;
+      sequence = m.sequence ∙ ap sequence a;
+      other_open = m.other_open ∙ ap is_open b;
+    }
 
-and_late : (a b : Bool) → (a && b && false) ≡ false
-and_late true b = and_false b
-and_late false b = refl
+pub place_at : (s : ℕ) (h : Half) (at : ℕ) → at ≡ half_at s h → 16384 + (at - 16384) ≡ half_at s h
+place_at s First at e = omega (arith, e)
+place_at s Second at e = omega (arith, e)
 
-pub book_twice6 : (counts : List ℕ) (bank : ℕ → ℕ) (clock : ℕ) (four : List Slot4) (six : List Slot6) (b : Bool)
-    → clock ≡ clock_of bank → Some four ≡ slots_from (four_in (slice_index counts 0) bank) 0 16 → Some six ≡ slots_from (six_in (slice_index counts 1) bank) 0 16
-    → b ≡ none_twice same_client6 six → b ≡ false → None ≡ book_of counts bank
-book_twice6 counts bank clock four six b c e f p h =
-    let q : none_twice same_client6 six ≡ false = sym p ∙ h in
-    (rw (q, and_late (nat_le clock 1099511627775) (none_twice same_client4 four)) refl) ∙ book_is counts bank clock four six c e f
+module _ {A : Type 0} (read : (ℕ → ℕ) → Option A) (own rival : ℕ → ℕ) where
+  pub entry_first : (f g : ℕ → ℕ) → f ≡ own → g ≡ rival → true ≡ is_counting f g → held read f ≡ entry_of read own rival
+  entry_first f g e h p =
+      ap (held read) e ∙ sym (first_of (is_counting own rival) (is_counting rival own) (held read own) (held read rival) None (sym (p ∙ (λ j. is_counting (e j) (h j)))))
+
+  pub entry_second : (f g : ℕ → ℕ) → f ≡ own → g ≡ rival → false ≡ is_counting f g → true ≡ is_counting g f → held read g ≡ entry_of read own rival
+  entry_second f g e h p q =
+      ap (held read) h ∙ sym (second_of (is_counting own rival) (is_counting rival own) (held read own) (held read rival) None (sym (p ∙ (λ j. is_counting (e j) (h j)))) (sym (q ∙ (λ j. is_counting (h j) (e j)))))
+
+  pub entry_none : (f g : ℕ → ℕ) → f ≡ own → g ≡ rival → false ≡ is_counting f g → false ≡ is_counting g f → None ≡ entry_of read own rival
+  entry_none f g e h p q =
+      sym (neither_of (is_counting own rival) (is_counting rival own) (held read own) (held read rival) None (sym (p ∙ (λ j. is_counting (e j) (h j)))) (sym (q ∙ (λ j. is_counting (h j) (e j)))))
+
+pub no_format : (counts : List ℕ) (region : ℕ → ℕ) → is_format2 region ≡ false → recovered counts region ≡ None
+unfolding recovered
+no_format counts region e = ap (λ b. book_in counts b (entry slot4_of region) (entry slot6_of region)) e
+
+-- what was read, though the device was called in between
+pub still_read : (old new : ℕ → Region) (r : ℕ) (halves : List ℕ) → new ≡ old → IsRead (new r) 16384 halves → IsRead (old r) 16384 halves
+still_read old new r halves same read = subst (λ (regions : ℕ → Region). IsRead (regions r) 16384 halves) same read

@@ -1,16 +1,24 @@
 -- What a crash leaves after each step of a save.
-use Rattle.std.proofs.Common.{◌≡◌, ℕ, ◌+◌, ◌-◌, ◌<◌, ◌≤◌, Bool, true, false, not, ◌&&◌, ◌||◌, nat_le, nat_lt, suc, zero, List, [], ◌∷◌, length, slice_index, Option, refl, sym, ap, ◌∙◌, arith}
-use Rattle.std.specs.Prelude.{if◌then◌else◌, ◌==◌}
+use Rattle.std.proofs.Common.{◌≡◌, ℕ, ◌+◌, ◌-◌, ◌<◌, ◌≤◌, Bool, true, false, ◌&&◌, ◌||◌, nat_le, nat_lt, suc, zero, List, [], ◌∷◌, length, slice_index, Option, Some, refl, sym, ap, subst, ◌∙◌, arith}
+use Rattle.std.specs.Prelude.{if◌then◌else◌, ◌==◌, drop}
 use Rattle.std.proofs.lemmas.List.{get_or_past}
+use Rattle.types.specs.declared.slot4.Slot4.TheVariants as S4
+use Rattle.types.specs.declared.slots.Slot6.TheVariants as S6
 use Rattle.types.specs.declared.slots.Slots.{Slots}
-use Rattle.lease_disk.specs.declared.format1.bank.Bank.{Bank}
-use Rattle.lease_disk.specs.declared.format1.bank.Bank.TheVariants.{First, Second}
-use Rattle.lease_disk.specs.declared.format1.bank.Marks.{Marks}
-use Rattle.lease_disk.specs.Layout.{gate_open, bank_at}
-use Rattle.lease_disk.specs.Recovered.{other, is_format2, is_open, sequence, next, is_counting, body, book_of, recovered}
+use Rattle.types.specs.Slots.{IsWithin4, IsWithin6}
+use Rattle.lease_disk.specs.declared.format2.content.Content.{Content}
+use Rattle.lease_disk.specs.declared.format2.content.Content.TheVariants.{Four, Six}
+use Rattle.lease_disk.specs.declared.format2.half.Half.{Half}
+use Rattle.lease_disk.specs.declared.format2.half.Mark.{Mark}
+use Rattle.lease_disk.specs.Book.{half_bytes}
+use Rattle.lease_disk.specs.Keys.{HasKey}
+use Rattle.lease_disk.specs.Layout.{gate_open, half_at}
+use Rattle.lease_disk.specs.Recovered.{half, is_format2, is_open, sequence, next, is_counting, last_clock, slot4_of, slot6_of, held, entry, book_in, recovered}
 use Rattle.lease_disk.specs.Region.{Region, is_within, written, synced, effective, IsCrash, IsClean, IsTorn}
-use Rattle.lease_disk.specs.Save.{AreMarks, IsLeft}
-use Rattle.lease_disk.proofs.Banks.{SameIn, SameButGate, is_below, is_above, is_inside, same_gate, same_format, same_sequence, same_book, other_other, recovered_by, while_closed, while_closing, beside_gate, behind_gate, same_open}
+use Rattle.lease_disk.specs.Save.{Fits, IsChange, IsLeft, IsMark, other, with_slot}
+use Rattle.lease_disk.proofs.Changes.{book_alike, changed4, changed6, here4, here6}
+use Rattle.lease_disk.proofs.Halves.{SameBut, but_both, is_below, is_above, is_inside, same_own, same_format, same_bytes, other_other, entry_by, entry_elsewhere, entries_stay, while_shut, while_closing, when_open, counting_open}
+use Rattle.lease_disk.proofs.ReadBack.{held4, held6}
 
 -- which call failed
 
@@ -32,193 +40,243 @@ outside at n old new f clean torn crash i h =
     let u : new.unsynced i ≡ false = torn.unsynced i ∙ rw (h, clean.each i) refl in
     crash.same i u ∙ torn.byte i h
 
-pub same_trans : (bank : Bank) (f g h : ℕ → ℕ) → SameIn bank f g → SameIn bank g h → SameIn bank f h
-same_trans bank f g h s t = record { each = λ i k. t.each i k ∙ s.each i k; format = t.format ∙ s.format }
+narrow : (at n m i : ℕ) → n ≤ m → is_within at m i ≡ false → is_within at n i ≡ false
+narrow at n m i h e = grind (arith, e)
 
--- what is outside a body
-pub record SameButBody (bank : Bank) (f g : ℕ → ℕ) : Type 0 where
-  pub each : (i : ℕ) → is_within (bank_at bank + 1) 4095 i ≡ false → g i ≡ f i
+narrow_behind : (at i : ℕ) → is_within at 256 i ≡ false → is_within (at + 1) 255 i ≡ false
+narrow_behind at i e = grind (arith, e)
 
-pub beside_body : (bank : Bank) (f g : ℕ → ℕ) → SameButBody (other bank) f g → SameIn bank f g
-beside_body First f g s = record { each = λ i k. s.each (0 + i) (is_below 4097 4095 (0 + i) (omega arith)); format = s.each 8192 (is_above 4097 4095 8192 (omega arith)) }
-beside_body Second f g s = record { each = λ i k. s.each (4096 + i) (is_above 1 4095 (4096 + i) (omega arith)); format = s.each 8192 (is_above 1 4095 8192 (omega arith)) }
+-- What a region recovers to
 
-pub gate_stays : (bank : Bank) (f g : ℕ → ℕ) → SameButBody bank f g → is_open g bank ≡ is_open f bank
-gate_stays First f g s = λ i. s.each 0 (is_below 1 4095 0 (omega arith)) i == gate_open
-gate_stays Second f g s = λ i. s.each 4096 (is_below 4097 4095 4096 (omega arith)) i == gate_open
+pub same_recovered : (counts : List ℕ) (s : ℕ) (h : Half) (f g : ℕ → ℕ) → SameBut s (other h) f g → is_counting (half f s h) (half f s (other h)) ≡ true → is_counting (half g s h) (half g s (other h)) ≡ true → recovered counts g ≡ recovered counts f
+unfolding recovered
+same_recovered counts s h f g same p q =
+    ap (λ two. book_in counts two (entry slot4_of g) (entry slot6_of g)) (same_format s (other h) f g same)
+    ∙ book_alike counts (is_format2 f) (entry slot4_of f) (entry slot4_of g) (entry slot6_of f) (entry slot6_of g)
+    (λ j l. entries_stay slot4_of s h f g same p q j) (λ j l. entries_stay slot6_of s h f g same p q j)
 
--- the other bank is closed, and this one as it was
-pub record IsShut (bank : Bank) (f g : ℕ → ℕ) : Type 0 where
-  pub same : SameIn bank f g
-  pub shut : is_open g (other bank) ≡ false
+-- what is written, and that it is a change
+pub record IsNew (counts : List ℕ) (s clock n : ℕ) (content : Content) (slots : Slots) (f : ℕ → ℕ) : Type 0 where
+  pub fits : Fits s content
+  pub key : HasKey content
+  pub small : clock ≤ last_clock
+  pub was : recovered counts f ≡ Some slots
+  pub change : IsChange counts clock s content slots
 
--- the other bank's body is written, and this bank as it was
-pub record IsFilled (bank : Bank) (whole f g : ℕ → ℕ) : Type 0 where
-  pub same : SameIn bank f g
-  pub sequence : sequence g (other bank) ≡ next (sequence f bank)
-  pub body : body g (other bank) ≡ whole
+pub new_recovered : (counts : List ℕ) (s : ℕ) (o : Half) (clock n : ℕ) (content : Content) (slots : Slots) (f g : ℕ → ℕ) → IsNew counts s clock n content slots f → SameBut s o f g
+    → is_counting (half g s o) (half g s (other o)) ≡ true → half g s o ≡ slice_index (half_bytes n clock content) → recovered counts g ≡ Some (with_slot clock s content slots)
+unfolding recovered
+new_recovered counts s o clock n (Four slot) slots f g w same p whole =
+    let others4 = entry_elsewhere slot4_of s o f g same in
+    let others6 = entry_elsewhere slot6_of s o f g same in
+    let within : IsWithin4 slot = here4 counts (is_format2 f) (entry slot4_of f) (entry slot4_of g) (entry slot6_of f) (entry slot6_of g) s clock slots w.was others4 others6 slot w.fits w.change IsWithin4 w.change.book.within4 in
+    ap (λ two. book_in counts two (entry slot4_of g) (entry slot6_of g)) (same_format s o f g same)
+    ∙ changed4 counts (is_format2 f) (entry slot4_of f) (entry slot4_of g) (entry slot6_of f) (entry slot6_of g) s clock slots w.was others4 others6 slot w.fits w.change
+    (entry_by slot4_of g s o p ∙ ap (held slot4_of) whole ∙ held4 slot n clock w.small w.key within)
+new_recovered counts s o clock n (Six slot) slots f g w same p whole =
+    let others4 = entry_elsewhere slot4_of s o f g same in
+    let others6 = entry_elsewhere slot6_of s o f g same in
+    let within : IsWithin6 slot = here6 counts (is_format2 f) (entry slot4_of f) (entry slot4_of g) (entry slot6_of f) (entry slot6_of g) s clock slots w.was others4 others6 slot w.fits.0 w.fits.1 w.change IsWithin6 w.change.book.within6 in
+    ap (λ two. book_in counts two (entry slot4_of g) (entry slot6_of g)) (same_format s o f g same)
+    ∙ changed6 counts (is_format2 f) (entry slot4_of f) (entry slot4_of g) (entry slot6_of f) (entry slot6_of g) s clock slots w.was others4 others6 slot w.fits.0 w.fits.1 w.change
+    (entry_by slot6_of g s o p ∙ ap (held slot6_of) whole ∙ held6 slot n clock w.small w.key within)
 
-closes : (bank : Bank) (was_open : Bool) (r : Region) → SameButGate bank (if was_open then 1 else 0) r.byte (written (bank_at bank) (if was_open then 0 ∷ [] else []) r).byte
-closes bank true r = record { each = λ i h. rw h refl }
-closes bank false r = record { each = λ i h. rw h refl }
+-- the other half is closed, and all else as it was
+pub record IsShut (s : ℕ) (h : Half) (f g : ℕ → ℕ) : Type 0 where
+  pub same : SameBut s (other h) f g
+  pub shut : is_open (half g s (other h)) ≡ false
 
-closed_to : (bank : Bank) (r : Region) → is_open (written (bank_at bank) (0 ∷ []) r).byte bank ≡ false
-closed_to First r = refl
-closed_to Second r = refl
+-- the other half is written, and all else as it was
+pub record IsFilled (s : ℕ) (h : Half) (whole : List ℕ) (f g : ℕ → ℕ) : Type 0 where
+  pub same : SameBut s (other h) f g
+  pub body : (i : ℕ) → half g s (other h) (suc i) ≡ slice_index whole (suc i)
 
-pub shut : (bank : Bank) (was_open : Bool) (r : Region) → was_open ≡ is_open r.byte (other bank) → IsShut bank r.byte (synced (written (bank_at (other bank)) (if was_open then 0 ∷ [] else []) r)).byte
-shut bank true r e = record { same = beside_gate bank 1 _ _ (omega arith) (closes (other bank) true r); shut = closed_to (other bank) r }
-shut bank false r e = record { same = beside_gate bank 0 _ _ (omega arith) (closes (other bank) false r); shut = same_open (other bank) _ _ (closes (other bank) false r) ∙ sym e }
+gate_is : (b : ℕ) → (b == 165) ≡ true → b ≡ 165
+gate_is b e = grind (arith, e)
 
-writes : (bank : Bank) (bytes : List ℕ) (r : Region) → length bytes ≡ 4095 → SameButBody bank r.byte (written (bank_at bank + 1) bytes r).byte
-writes bank bytes r size = record { each = λ i h. rw (size, h) refl }
+-- with its gate open
+opened_byte : (s : ℕ) (h : Half) (whole : List ℕ) (f g : ℕ → ℕ) → IsFilled s h whole f g → slice_index whole 0 ≡ 165 → is_open (half g s (other h)) ≡ true → (i : ℕ) → half g s (other h) i ≡ slice_index whole i
+opened_byte s h whole f g filled first o zero = gate_is (half g s (other h) 0) o ∙ sym first
+opened_byte s h whole f g filled first o (suc i) = filled.body i
 
-counted : (o : Bool) (a : ℕ) (w : Bool) → ((o && nat_le a 2) && w) ≡ true → (o ≡ true) × (nat_le a 2 ≡ true)
-counted true a true h = (refl, grind arith)
-counted true a false h = (refl, grind arith)
-counted false a w h = cc
+opened_half : (s : ℕ) (h : Half) (whole : List ℕ) (f g : ℕ → ℕ) → IsFilled s h whole f g → slice_index whole 0 ≡ 165 → is_open (half g s (other h)) ≡ true → half g s (other h) ≡ slice_index whole
+opened_half s h whole f g filled first o = λ j. λ i. opened_byte s h whole f g filled first o i j
 
-is_le_two : (a : ℕ) → nat_le a 2 ≡ true → a ≤ 2
-is_le_two a h = grind arith
+pub first_byte : (n clock : ℕ) (content : Content) → slice_index (half_bytes n clock content) 0 ≡ 165
+first_byte n clock (Four S4.Free) = refl
+first_byte n clock (Four (S4.Bound key until)) = refl
+first_byte n clock (Four (S4.Barred until)) = refl
+first_byte n clock (Six S6.Free) = refl
+first_byte n clock (Six (S6.Bound key until)) = refl
+first_byte n clock (Six (S6.Barred until)) = refl
 
-pub counted_sequence : (f : ℕ → ℕ) (bank : Bank) → is_counting f bank ≡ true → sequence f bank ≤ 2
-counted_sequence f bank p = is_le_two (sequence f bank) (counted (is_open f bank) (sequence f bank) _ p).1
+pub fourth_byte : (n clock : ℕ) (content : Content) → slice_index (half_bytes n clock content) 3 ≡ n
+fourth_byte n clock (Four S4.Free) = refl
+fourth_byte n clock (Four (S4.Bound key until)) = refl
+fourth_byte n clock (Four (S4.Barred until)) = refl
+fourth_byte n clock (Six S6.Free) = refl
+fourth_byte n clock (Six (S6.Bound key until)) = refl
+fourth_byte n clock (Six (S6.Barred until)) = refl
 
-counts_open : (o : Bool) (a b : ℕ) → nat_le b 2 ≡ true → a ≡ next b → ((true && nat_le a 2) && (not o || ((o && nat_le b 2) && a == next b))) ≡ true
-counts_open true a b h e = grind arith
-counts_open false a b h e = grind arith
+-- a filled half whose gate is open counts
+filled_counts : (s : ℕ) (h : Half) (whole : List ℕ) (f g : ℕ → ℕ) → is_counting (half f s h) (half f s (other h)) ≡ true → IsFilled s h whole f g → slice_index whole 3 ≡ next (sequence (half f s h)) → is_open (half g s (other h)) ≡ true
+    → is_counting (half g s (other h)) (half g s (other (other h))) ≡ true
+filled_counts s h whole f g p filled n o =
+    let own : half g s (other (other h)) ≡ half f s h = ap (half g s) (other_other h) ∙ same_own s h f g filled.same in
+    ap (is_counting (half g s (other h))) own ∙ when_open (half f s h) (half f s (other h)) (half g s (other h)) p o (filled.body 2 ∙ n)
 
-filled_counts : (bank : Bank) (whole f g : ℕ → ℕ) → is_counting f bank ≡ true → IsFilled bank whole f g → is_open g (other bank) ≡ true → is_counting g (other bank) ≡ true
-filled_counts First whole f g p s o =
-    rw (o) (counts_open (is_open g First) (sequence g Second) (sequence g First) (rw (same_sequence First f g s.same) (counted (is_open f First) (sequence f First) _ p).1) (s.sequence ∙ ap next (sym (same_sequence First f g s.same))))
-filled_counts Second whole f g p s o =
-    rw (o) (counts_open (is_open g Second) (sequence g First) (sequence g Second) (rw (same_sequence Second f g s.same) (counted (is_open f Second) (sequence f Second) _ p).1) (s.sequence ∙ ap next (sym (same_sequence Second f g s.same))))
+stays_counting : (s : ℕ) (h : Half) (f g : ℕ → ℕ) → SameBut s (other h) f g → is_counting (half f s h) (half g s (other h)) ≡ true → is_counting (half g s h) (half g s (other h)) ≡ true
+stays_counting s h f g same p = ap (λ own. is_counting own (half g s (other h))) (same_own s h f g same) ∙ p
 
-beside_closing : (bank : Bank) (was_open : Bool) (f g : ℕ → ℕ) → SameButGate (other bank) (if was_open then 1 else 0) f g → SameIn bank f g
-beside_closing bank true f g s = beside_gate bank 1 f g (omega arith) s
-beside_closing bank false f g s = beside_gate bank 0 f g (omega arith) s
+-- with the other half written, its gate decides
+pub by_open : (counts : List ℕ) (s : ℕ) (h : Half) (clock n : ℕ) (content : Content) (slots : Slots) (f g : ℕ → ℕ) (b : Bool) → is_open (half g s (other h)) ≡ b
+    → is_counting (half f s h) (half f s (other h)) ≡ true → IsNew counts s clock n content slots f → n ≡ next (sequence (half f s h)) → IsFilled s h (half_bytes n clock content) f g
+    → recovered counts g ≡ (if b then Some (with_slot clock s content slots) else Some slots)
+by_open counts s h clock n content slots f g true e p w seq filled =
+    new_recovered counts s (other h) clock n content slots f g w filled.same (filled_counts s h (half_bytes n clock content) f g p filled (fourth_byte n clock content ∙ seq) e)
+    (opened_half s h (half_bytes n clock content) f g filled (first_byte n clock content) e)
+by_open counts s h clock n content slots f g false e p w seq filled =
+    same_recovered counts s h f g filled.same p (stays_counting s h f g filled.same (while_shut (half f s h) (half f s (other h)) (half g s (other h)) p e)) ∙ w.was
 
-body_behind_byte : (bank : Bank) (f g : ℕ → ℕ) → SameButGate bank 1 f g → (i : ℕ) → body g bank i ≡ body f bank i
-body_behind_byte First f g s zero = refl
-body_behind_byte First f g s (suc j) = let e = s.each (0 + suc j) (is_above 0 1 (0 + suc j) (omega arith)) in rw e refl
-body_behind_byte Second f g s zero = refl
-body_behind_byte Second f g s (suc j) = let e = s.each (4096 + suc j) (is_above 4096 1 (4096 + suc j) (omega arith)) in rw e refl
+-- Bytes of a half
 
-body_behind : (bank : Bank) (f g : ℕ → ℕ) → SameButGate bank 1 f g → body g bank ≡ body f bank
-body_behind bank f g s = λ j. λ i. body_behind_byte bank f g s i j
+at_gate : (s : ℕ) (o : Half) (f : ℕ → ℕ) → half f s o 0 ≡ f (half_at s o)
+at_gate s o f = ap f (omega arith)
+
+gate_bool : (s : ℕ) (o : Half) (f : ℕ → ℕ) → is_open (half f s o) ≡ (f (half_at s o) == gate_open)
+gate_bool s o f = λ i. at_gate s o f i == 165
+
+beside_gate : (at n i : ℕ) → n ≤ 1 → 1 ≤ i → is_within at n (at + i) ≡ false
+beside_gate at n i h k = grind arith
+
+-- while the gate of the other half is closed, or in doubt
+pub left_closing : (k : ℕ) (counts : List ℕ) (after : Option Slots) (s : ℕ) (mark : Mark) (was_open : Bool) (slots : Slots) (old new : Region) → IsMark old.byte s mark → was_open ≡ mark.other_open → IsClean old
+    → IsTorn (half_at s (other mark.half)) (if was_open then 1 else 0) old new → recovered counts old.byte ≡ Some slots → nat_le 5 k ≡ false
+    → IsLeft k (half_at s (other mark.half)) (Some slots) after counts new
+left_closing k counts after s mark true slots old new m reads clean torn was e = record {
+  crash = λ f crash.
+      let at = half_at s (other mark.half) in
+      let beside = outside at 1 old new f clean torn crash in
+      let same : SameBut s (other mark.half) old.byte f = record { each = λ i h. beside i (narrow at 1 256 i (omega arith) h) } in
+      let behind : sequence (half f s (other mark.half)) ≡ sequence (half old.byte s (other mark.half)) = beside (at + 3) (beside_gate at 1 3 (omega arith) (omega arith)) in
+      let gate : is_open (half old.byte s (other mark.half)) ≡ false → is_open (half f s (other mark.half)) ≡ false = λ c. absurd (let o = reads ∙ m.other_open ∙ c in cc) in
+      rw e (same_recovered counts s mark.half old.byte f same m.counting
+      (stays_counting s mark.half old.byte f same (while_closing (half old.byte s mark.half) (half old.byte s (other mark.half)) (half f s (other mark.half)) m.counting behind gate)) ∙ was);
+  doubt = λ h. absurd (not_late k e h);
+}
+left_closing k counts after s mark false slots old new m reads clean torn was e = record {
+  crash = λ f crash.
+      let at = half_at s (other mark.half) in
+      let beside = outside at 0 old new f clean torn crash in
+      let same : SameBut s (other mark.half) old.byte f = record { each = λ i h. beside i (narrow at 0 256 i (omega arith) h) } in
+      let shut : is_open (half f s (other mark.half)) ≡ false = (λ j. beside (at + 0) (is_above at 0 (at + 0) (omega arith)) j == 165) ∙ sym (reads ∙ m.other_open) in
+      rw e (same_recovered counts s mark.half old.byte f same m.counting
+      (stays_counting s mark.half old.byte f same (while_shut (half old.byte s mark.half) (half old.byte s (other mark.half)) (half f s (other mark.half)) m.counting shut)) ∙ was);
+  doubt = λ h. absurd (not_late k e h);
+}
+
+pub left_writing : (k : ℕ) (counts : List ℕ) (after : Option Slots) (s : ℕ) (mark : Mark) (slots : Slots) (first old new : Region) → IsMark first.byte s mark → IsShut s mark.half first.byte old.byte → IsClean old
+    → IsTorn (half_at s (other mark.half) + 1) 255 old new → recovered counts first.byte ≡ Some slots → nat_le 5 k ≡ false
+    → IsLeft k (half_at s (other mark.half)) (Some slots) after counts new
+left_writing k counts after s mark slots first old new m shut clean torn was e = record {
+  crash = λ f crash.
+      let at = half_at s (other mark.half) in
+      let beside = outside (at + 1) 255 old new f clean torn crash in
+      let now : SameBut s (other mark.half) old.byte f = record { each = λ i h. beside i (narrow_behind at i h) } in
+      let same = but_both s (other mark.half) first.byte old.byte f shut.same now in
+      let still : is_open (half f s (other mark.half)) ≡ false = (λ j. beside (at + 0) (is_below (at + 1) 255 (at + 0) (omega arith)) j == 165) ∙ shut.shut in
+      rw e (same_recovered counts s mark.half first.byte f same m.counting
+      (stays_counting s mark.half first.byte f same (while_shut (half first.byte s mark.half) (half first.byte s (other mark.half)) (half f s (other mark.half)) m.counting still)) ∙ was);
+  doubt = λ h. absurd (not_late k e h);
+}
+
+within_half : (at i j : ℕ) (b : Bool) → nat_lt i 256 ≡ b → i ≡ suc j → b ≡ true → is_within at 1 (at + i) ≡ false
+within_half at i j b e k t = is_above at 1 (at + i) (omega arith)
+
+behind_byte : (at : ℕ) (f g : ℕ → ℕ) → ((i : ℕ) → is_within at 1 i ≡ false → g i ≡ f i) → (i : ℕ) (b : Bool) → (if b then g (at + suc i) else 0) ≡ (if b then f (at + suc i) else 0)
+behind_byte at f g same i true = same (at + suc i) (is_above at 1 (at + suc i) (omega arith))
+behind_byte at f g same i false = refl
 
 -- opening the gate, or leaving it in doubt, changes nothing else
-pub still_filled : (bank : Bank) (whole f g h : ℕ → ℕ) → IsFilled bank whole f g → SameButGate (other bank) 1 g h → IsFilled bank whole f h
-still_filled bank whole f g h s t = record {
-  same = same_trans bank f g h s.same (beside_gate bank 1 g h (omega arith) t);
-  sequence = behind_gate (other bank) 1 g h (omega arith) t ∙ s.sequence;
-  body = body_behind (other bank) g h t ∙ s.body;
+pub still_filled : (s : ℕ) (h : Half) (whole : List ℕ) (f g x : ℕ → ℕ) → IsFilled s h whole f g → ((i : ℕ) → is_within (half_at s (other h)) 1 i ≡ false → x i ≡ g i) → IsFilled s h whole f x
+still_filled s h whole f g x filled beside = record {
+  same = but_both s (other h) f g x filled.same (record { each = λ i k. beside i (narrow (half_at s (other h)) 1 256 i (omega arith) k) });
+  body = λ i. behind_byte (half_at s (other h)) g x beside i (nat_lt (suc i) 256) ∙ filled.body i;
 }
 
--- with the other bank written, its gate decides
-by_open : (counts : List ℕ) (bank : Bank) (whole f g : ℕ → ℕ) (o : Bool) → is_open g (other bank) ≡ o → is_format2 f ≡ false → is_counting f bank ≡ true → IsFilled bank whole f g → recovered counts g ≡ (if o then book_of counts whole else recovered counts f)
-by_open counts bank whole f g true e n p s = recovered_by counts g (other bank) (same_format bank f g s.same ∙ n) (filled_counts bank whole f g p s e) ∙ ap (λ b. book_of counts b) s.body
-by_open counts bank whole f g false e n p s = same_book counts f g bank s.same n p (while_closed f g bank s.same p e)
-
-is_positive : (j : ℕ) → nat_lt 0 (suc j) ≡ true
-is_positive j = grind arith
-
-positive : (j : ℕ) → (nat_lt 0 (suc j) && true) ≡ true
-positive j = rw (is_positive j) refl
-
-and_false : (b : Bool) → (b && false) ≡ false
-and_false true = refl
-and_false false = refl
-
--- behind a bank's gate, byte by byte
-in_body : (bank : Bank) (bytes : List ℕ) (r : Region) → length bytes ≡ 4095 → (j : ℕ) (b : Bool) → nat_lt (suc j) 4096 ≡ b
-    → (if nat_lt 0 (suc j) && b then (written (bank_at bank + 1) bytes r).byte (bank_at bank + suc j) else 0) ≡ slice_index bytes j
-in_body bank bytes r size j true e =
-    let k : suc j < 4096 = grind (arith, e) in
-    let at : bank_at bank + suc j - (bank_at bank + 1) ≡ j = omega arith in
-    rw (size, is_inside (bank_at bank + 1) 4095 (bank_at bank + suc j) (omega arith) (omega arith), at, positive j) refl
-in_body bank bytes r size j false e =
-    let k : 4096 ≤ suc j = grind (arith, e) in
-    let past : length bytes ≤ j = omega arith in
-    rw (and_false (nat_lt 0 (suc j))) (sym (get_or_past bytes j 0 past))
-
-body_at_one : (bank : Bank) (f : ℕ → ℕ) → sequence f bank ≡ body f bank 1
-body_at_one bank f = refl
-
-still_open : (bank : Bank) (f g : ℕ → ℕ) → SameIn bank f g → is_counting f bank ≡ true → is_open g bank ≡ true
-still_open bank f g s p = (λ i. same_gate bank f g s i == gate_open) ∙ (counted (is_open f bank) (sequence f bank) _ p).0
-
-body_written_byte : (bank : Bank) (bytes : List ℕ) (r : Region) → length bytes ≡ 4095 → (i : ℕ) → body (written (bank_at bank + 1) bytes r).byte bank i ≡ slice_index (0 ∷ bytes) i
-body_written_byte bank bytes r size zero = refl
-body_written_byte bank bytes r size (suc j) = in_body bank bytes r size j (nat_lt (suc j) 4096) refl
-
-body_written : (bank : Bank) (bytes : List ℕ) (r : Region) → length bytes ≡ 4095 → body (written (bank_at bank + 1) bytes r).byte bank ≡ slice_index (0 ∷ bytes)
-body_written bank bytes r size = λ j. λ i. body_written_byte bank bytes r size i j
-
--- the other bank's body is written over a closed gate
-pub fills : (bank : Bank) (bytes : List ℕ) (f : ℕ → ℕ) (r : Region) → length bytes ≡ 4095 → SameIn bank f r.byte → slice_index bytes 0 ≡ next (sequence f bank) → IsFilled bank (slice_index (0 ∷ bytes)) f (synced (written (bank_at (other bank) + 1) bytes r)).byte
-fills bank bytes f r size same e = record {
-  same = same_trans bank f r.byte _ same (beside_body bank _ _ (writes (other bank) bytes r size));
-  sequence = body_at_one (other bank) (written (bank_at (other bank) + 1) bytes r).byte ∙ ap (λ b. b 1) (body_written (other bank) bytes r size) ∙ e;
-  body = body_written (other bank) bytes r size;
-}
-
-opens : (bank : Bank) (r : Region) → SameButGate bank 1 r.byte (written (bank_at bank) (gate_open ∷ []) r).byte
-opens bank r = record { each = λ i h. rw h refl }
-
-opened_to : (bank : Bank) (r : Region) → is_open (written (bank_at bank) (gate_open ∷ []) r).byte bank ≡ true
-opened_to First r = refl
-opened_to Second r = refl
-
--- The exits of a save
-
-pub left_closing : (k : ℕ) (counts : List ℕ) (after : Option Slots) (marks : Marks) (old new : Region) → AreMarks old.byte marks → IsClean old
-    → IsTorn (bank_at (other marks.bank)) (if marks.other_open then 1 else 0) old new → nat_le 5 k ≡ false
-    → IsLeft k (other marks.bank) (recovered counts old.byte) after counts new
-left_closing k counts after marks old new m clean torn e = record {
+pub left_opening : (k : ℕ) (counts : List ℕ) (s : ℕ) (mark : Mark) (clock n : ℕ) (content : Content) (slots : Slots) (first old new : Region) → IsMark first.byte s mark → IsNew counts s clock n content slots first.byte
+    → n ≡ next (sequence (half first.byte s mark.half)) → IsFilled s mark.half (half_bytes n clock content) first.byte old.byte → IsClean old
+    → IsTorn (half_at s (other mark.half)) 1 old new → nat_le 5 k ≡ true
+    → IsLeft k (half_at s (other mark.half)) (Some slots) (Some (with_slot clock s content slots)) counts new
+left_opening k counts s mark clock n content slots first old new m w seq filled clean torn e = record {
   crash = λ f crash.
-      let s : SameButGate (other marks.bank) (if marks.other_open then 1 else 0) old.byte f = record { each = outside _ _ old new f clean torn crash } in
-      rw e (same_book counts old.byte f marks.bank (beside_closing marks.bank marks.other_open old.byte f s) m.format m.counting
-      (while_closing old.byte f marks.bank marks.other_open m.other_open s m.counting));
-  doubt = λ h. absurd (not_late k e h);
+      let at = half_at s (other mark.half) in
+      let now = still_filled s mark.half (half_bytes n clock content) first.byte old.byte f filled (outside at 1 old new f clean torn crash) in
+      rw e (by_open counts s mark.half clock n content slots first.byte f (f at == gate_open) (gate_bool s (other mark.half) f) m.counting w seq now);
+  doubt = λ h. torn.unsynced (half_at s (other mark.half)) ∙ rw (is_inside (half_at s (other mark.half)) 1 (half_at s (other mark.half)) (omega arith) (omega arith)) refl;
 }
 
-pub left_writing : (k : ℕ) (counts : List ℕ) (after : Option Slots) (marks : Marks) (first old new : Region) → AreMarks first.byte marks → IsShut marks.bank first.byte old.byte → IsClean old
-    → IsTorn (bank_at (other marks.bank) + 1) 4095 old new → nat_le 5 k ≡ false
-    → IsLeft k (other marks.bank) (recovered counts first.byte) after counts new
-left_writing k counts after marks first old new m s clean torn e = record {
-  crash = λ f crash.
-      let t : SameButBody (other marks.bank) old.byte f = record { each = outside _ _ old new f clean torn crash } in
-      let same : SameIn marks.bank first.byte f = same_trans marks.bank first.byte old.byte f s.same (beside_body marks.bank old.byte f t) in
-      rw e (same_book counts first.byte f marks.bank same m.format m.counting
-      (while_closed first.byte f marks.bank same m.counting (gate_stays (other marks.bank) old.byte f t ∙ s.shut)));
-  doubt = λ h. absurd (not_late k e h);
+-- The regions of a save that does not fail
+
+closes_to : (at : ℕ) (was_open : Bool) (r : Region) (i : ℕ) → is_within at 256 i ≡ false → (written at (if was_open then 0 ∷ [] else []) r).byte i ≡ r.byte i
+closes_to at true r i h = rw (narrow at 1 256 i (omega arith) h) refl
+closes_to at false r i h = rw (narrow at 0 256 i (omega arith) h) refl
+
+shut_to : (s : ℕ) (o : Half) (was_open : Bool) (r : Region) → was_open ≡ is_open (half r.byte s o) → (written (half_at s o) (if was_open then 0 ∷ [] else []) r).byte (half_at s o + 0) == 165 ≡ false
+shut_to s o true r e = let none : half_at s o + 0 - half_at s o ≡ 0 = omega arith in rw (is_inside (half_at s o) 1 (half_at s o + 0) (omega arith) (omega arith), none) refl
+shut_to s o false r e = rw (is_above (half_at s o) 0 (half_at s o + 0) (omega arith)) (sym e)
+
+pub shut : (s : ℕ) (h : Half) (was_open : Bool) (r : Region) → was_open ≡ is_open (half r.byte s (other h)) → IsShut s h r.byte (synced (written (half_at s (other h)) (if was_open then 0 ∷ [] else []) r)).byte
+shut s h was_open r e = record { same = record { each = closes_to (half_at s (other h)) was_open r }; shut = shut_to s (other h) was_open r e }
+
+pub index_behind : (xs : List ℕ) (j : ℕ) → slice_index (drop 1 xs) j ≡ slice_index xs (suc j)
+index_behind [] zero = refl
+index_behind [] (suc j) = refl
+index_behind (x ∷ xs) j = refl
+
+writes : (at : ℕ) (bytes : List ℕ) (r : Region) → length bytes ≡ 255 → (i : ℕ) → is_within at 256 i ≡ false → (written (at + 1) bytes r).byte i ≡ r.byte i
+writes at bytes r size i h = rw (size, narrow_behind at i h) refl
+
+in_body : (at : ℕ) (whole : List ℕ) (r : Region) → length (drop 1 whole) ≡ 255 → length whole ≡ 256 → (i : ℕ) (b : Bool) → nat_lt (suc i) 256 ≡ b
+    → (if b then (written (at + 1) (drop 1 whole) r).byte (at + suc i) else 0) ≡ slice_index whole (suc i)
+in_body at whole r size all i true e =
+    let k : suc i < 256 = grind (arith, e) in
+    let there : at + suc i - (at + 1) ≡ i = omega arith in
+    rw (size, is_inside (at + 1) 255 (at + suc i) (omega arith) (omega arith), there) (index_behind whole i)
+in_body at whole r size all i false e =
+    let k : 256 ≤ suc i = grind (arith, e) in
+    sym (get_or_past whole (suc i) 0 (omega (arith, all, k)))
+
+-- the other half's body is written over a closed gate
+pub fills : (s : ℕ) (h : Half) (whole : List ℕ) (f : ℕ → ℕ) (r : Region) → length (drop 1 whole) ≡ 255 → length whole ≡ 256 → SameBut s (other h) f r.byte
+    → IsFilled s h whole f (synced (written (half_at s (other h) + 1) (drop 1 whole) r)).byte
+fills s h whole f r size all same = record {
+  same = but_both s (other h) f r.byte _ same (record { each = writes (half_at s (other h)) (drop 1 whole) r size });
+  body = λ i. in_body (half_at s (other h)) whole r size all i (nat_lt (suc i) 256) refl;
 }
 
-pub left_opening : (k : ℕ) (counts : List ℕ) (after : Option Slots) (marks : Marks) (whole : ℕ → ℕ) (first old new : Region) → AreMarks first.byte marks → IsFilled marks.bank whole first.byte old.byte → IsClean old
-    → book_of counts whole ≡ after
-    → IsTorn (bank_at (other marks.bank)) 1 old new → nat_le 5 k ≡ true
-    → IsLeft k (other marks.bank) (recovered counts first.byte) after counts new
-left_opening k counts after marks whole first old new m s clean book torn e = record {
-  crash = λ f crash.
-      let t : SameButGate (other marks.bank) 1 old.byte f = record { each = outside _ _ old new f clean torn crash } in
-      rw (e, ← book) (by_open counts marks.bank whole first.byte f (is_open f (other marks.bank)) refl m.format m.counting (still_filled marks.bank whole first.byte old.byte f s t));
-  doubt = λ h. torn.unsynced (bank_at (other marks.bank)) ∙ rw (is_inside (bank_at (other marks.bank)) 1 (bank_at (other marks.bank)) (omega arith) (omega arith)) refl;
-}
+pub opens : (at : ℕ) (r : Region) (i : ℕ) → is_within at 1 i ≡ false → (written at (gate_open ∷ []) r).byte i ≡ r.byte i
+opens at r i h = rw h refl
 
-pub saved_book : (counts : List ℕ) (after : Option Slots) (marks : Marks) (whole : ℕ → ℕ) (first old : Region) → AreMarks first.byte marks → IsFilled marks.bank whole first.byte old.byte
-    → book_of counts whole ≡ after
-    → recovered counts (written (bank_at (other marks.bank)) (gate_open ∷ []) old).byte ≡ after
-saved_book counts after marks whole first old m s book =
-    by_open counts marks.bank whole first.byte _ true (opened_to (other marks.bank) old) m.format m.counting (still_filled marks.bank whole first.byte old.byte _ s (opens (other marks.bank) old)) ∙ book
+pub opened_to : (s : ℕ) (o : Half) (r : Region) → is_open (half (written (half_at s o) (gate_open ∷ []) r).byte s o) ≡ true
+opened_to s o r = let none : half_at s o + 0 - half_at s o ≡ 0 = omega arith in rw (is_inside (half_at s o) 1 (half_at s o + 0) (omega arith) (omega arith), none) refl
 
-pub saved_marks : (marks : Marks) (whole : ℕ → ℕ) (first old : Region) → AreMarks first.byte marks → IsFilled marks.bank whole first.byte old.byte
-    → AreMarks (written (bank_at (other marks.bank)) (gate_open ∷ []) old).byte (record { bank = other marks.bank; sequence = next marks.sequence; other_open = true })
-saved_marks marks whole first old m s =
-    let t = still_filled marks.bank whole first.byte old.byte _ s (opens (other marks.bank) old) in
+pub saved_book : (counts : List ℕ) (s : ℕ) (mark : Mark) (clock n : ℕ) (content : Content) (slots : Slots) (first old : Region) → IsMark first.byte s mark → IsNew counts s clock n content slots first.byte
+    → n ≡ next (sequence (half first.byte s mark.half)) → IsFilled s mark.half (half_bytes n clock content) first.byte old.byte
+    → recovered counts (written (half_at s (other mark.half)) (gate_open ∷ []) old).byte ≡ Some (with_slot clock s content slots)
+saved_book counts s mark clock n content slots first old m w seq filled =
+    by_open counts s mark.half clock n content slots first.byte _ true (opened_to s (other mark.half) old) m.counting w seq
+    (still_filled s mark.half (half_bytes n clock content) first.byte old.byte _ filled (opens (half_at s (other mark.half)) old))
+
+-- the mark after it
+pub saved_mark : (s : ℕ) (mark : Mark) (n : ℕ) (whole : List ℕ) (first old : Region) → IsMark first.byte s mark → slice_index whole 3 ≡ n → n ≡ next (sequence (half first.byte s mark.half)) → IsFilled s mark.half whole first.byte old.byte
+    → IsMark (written (half_at s (other mark.half)) (gate_open ∷ []) old).byte s (record { half = other mark.half; sequence = n; other_open = true })
+saved_mark s mark n whole first old m third seq filled =
+    let new = written (half_at s (other mark.half)) (gate_open ∷ []) old in
+    let now = still_filled s mark.half whole first.byte old.byte new.byte filled (opens (half_at s (other mark.half)) old) in
+    let own : half new.byte s (other (other mark.half)) ≡ half first.byte s mark.half = ap (half new.byte s) (other_other mark.half) ∙ same_own s mark.half first.byte new.byte now.same in
     record {
-      format = same_format marks.bank first.byte _ t.same ∙ m.format;
-      counting = filled_counts marks.bank whole first.byte _ m.counting t (opened_to (other marks.bank) old);
-      sequence = ap next m.sequence ∙ sym t.sequence;
-      other_open = rw (other_other marks.bank) (sym (still_open marks.bank first.byte _ t.same m.counting));
+      counting = filled_counts s mark.half whole first.byte new.byte m.counting now (third ∙ seq) (opened_to s (other mark.half) old);
+      sequence = sym (now.body 2 ∙ third);
+      other_open = sym (ap is_open own ∙ counting_open (half first.byte s mark.half) (half first.byte s (other mark.half)) m.counting);
     }

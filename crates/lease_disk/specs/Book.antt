@@ -1,13 +1,12 @@
--- What a bank is written for: slots within their limits, and their bytes. Bytes not named are 0.
-use Rattle.std.specs.Prelude.{◌≡◌, ℕ, ◌-◌, ◌≤◌, true, List, ◌∷◌, ◌++◌, length, replicate, All, slice_index, slice_index_or}
+-- What a half is written for: a slot within its limits, and its bytes. Bytes not named are 0.
+use Rattle.std.specs.Prelude.{◌≡◌, ℕ, ◌-◌, ◌≤◌, true, List, [], ◌∷◌, ◌++◌, length, replicate, All, slice_index, slice_index_or}
 use Rattle.std.specs.Int.{w32, w64, to_be_bytes}
-use Rattle.std.specs.List.{flat_map}
-use Rattle.types.specs.declared.slot4.Slot4.{Slot4}
 use Rattle.types.specs.declared.slot4.Slot4.TheVariants as S4
-use Rattle.types.specs.declared.slots.Slot6.{Slot6}
 use Rattle.types.specs.declared.slots.Slot6.TheVariants as S6
 use Rattle.types.specs.declared.slots.Slots.{Slots}
 use Rattle.types.specs.Slots.{IsWithin4, IsWithin6, live4, live6, none_twice, same_client4, same_client6}
+use Rattle.lease_disk.specs.declared.format2.content.Content.{Content}
+use Rattle.lease_disk.specs.declared.format2.content.Content.TheVariants.{Four, Six}
 
 -- the slots of a book for pools of so many addresses: a slot past the pool is free, what is not free
 -- is live, and no client has two
@@ -25,18 +24,16 @@ pub record IsBook (counts : List ℕ) (slots : Slots) : Type 0 where
 abbrev pub empty_book : Slots
 empty_book = record { four = replicate 16 S4.Free; six = replicate 16 S6.Free; clock = 0 }
 
-abbrev pub slot4_bytes : Slot4 → List ℕ
-slot4_bytes S4.Free = replicate 80 0
-slot4_bytes (S4.Bound key until) = (1 ∷ length key ∷ replicate 6 0) ++ to_be_bytes w64 until ++ (key ++ replicate (64 - length key) 0)
-slot4_bytes (S4.Barred until) = (2 ∷ replicate 7 0) ++ to_be_bytes w64 until ++ replicate 64 0
+-- a half whose gate is open, by its sequence, state, IAID, clock, until, and key or DUID
+abbrev pub half_with : ℕ → ℕ → ℕ → ℕ → ℕ → List ℕ → List ℕ
+half_with sequence state iaid clock until key =
+    (0xa5 ∷ state ∷ length key ∷ sequence ∷ []) ++ to_be_bytes w32 iaid ++ to_be_bytes w64 clock ++ to_be_bytes w64 until
+    ++ replicate 8 0 ++ key ++ replicate (224 - length key) 0
 
-abbrev pub slot6_bytes : Slot6 → List ℕ
-slot6_bytes S6.Free = replicate 152 0
-slot6_bytes (S6.Bound key until) = (1 ∷ length key.duid ∷ replicate 2 0) ++ to_be_bytes w32 key.iaid ++ to_be_bytes w64 until ++ (key.duid ++ replicate (136 - length key.duid) 0)
-slot6_bytes (S6.Barred until) = (2 ∷ replicate 7 0) ++ to_be_bytes w64 until ++ replicate 136 0
-
--- a bank whose gate is closed
-unfoldable pub bank_bytes : ℕ → Slots → List ℕ
-bank_bytes sequence slots =
-    (0 ∷ sequence ∷ replicate 6 0) ++ to_be_bytes w64 slots.clock ++ replicate 16 0
-    ++ flat_map slot4_bytes slots.four ++ flat_map slot6_bytes slots.six ++ replicate 352 0
+abbrev pub half_bytes : ℕ → ℕ → Content → List ℕ
+half_bytes sequence clock (Four S4.Free) = half_with sequence 0 0 clock 0 []
+half_bytes sequence clock (Four (S4.Bound key until)) = half_with sequence 1 0 clock until key
+half_bytes sequence clock (Four (S4.Barred until)) = half_with sequence 2 0 clock until []
+half_bytes sequence clock (Six S6.Free) = half_with sequence 0 0 clock 0 []
+half_bytes sequence clock (Six (S6.Bound key until)) = half_with sequence 1 key.iaid clock until key.duid
+half_bytes sequence clock (Six (S6.Barred until)) = half_with sequence 2 0 clock until []

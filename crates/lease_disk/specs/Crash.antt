@@ -1,9 +1,11 @@
 -- What a restart finds of a region.
-use Rattle.std.specs.Prelude.{◌≡◌, ◌<◌, ℕ, true, false, nat_lt, if◌then◌else◌}
+use Rattle.std.specs.Prelude.{◌≡◌, ◌<◌, ◌≤◌, ◌==◌, ℕ, true, false, nat_lt, if◌then◌else◌, List, Some, None}
 use Rattle.lease_disk.specs.declared.image.Image.{Image}
 use Rattle.lease_disk.specs.declared.image.Image.TheVariants.{Byte, Unreadable}
+use Rattle.lease_disk.specs.Book.{empty_book}
 use Rattle.lease_disk.specs.Layout.{formatted}
-use Rattle.lease_disk.specs.Region.{Region, image, IsClean}
+use Rattle.lease_disk.specs.Recovered.{recovered}
+use Rattle.lease_disk.specs.Region.{Region, image, IsClean, IsCrash}
 
 -- an unreadable region keeps its bytes and what is in doubt
 abbrev pub crashed : Image → Region → Region
@@ -22,3 +24,8 @@ formatted_region = record { byte = formatted; unsynced = λ i. false; readable =
 pub record IsFormatted (r : Region) : Type 0 where
   pub byte : (i : ℕ) → i < 32768 → r.byte i ≡ formatted i
   pub clean : IsClean r
+
+-- After a formatting whose k-th call failed: once all but the byte of the format is synced, whatever that
+-- byte has become, the region is damaged or has an empty book.
+abbrev pub IsHalfFormatted : ℕ → Region → Type 0
+IsHalfFormatted k r = 3 ≤ k → (counts : List ℕ) (f : ℕ → ℕ) → IsCrash r f → recovered counts f ≡ (if f 8192 == 2 then Some empty_book else None)

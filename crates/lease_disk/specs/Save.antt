@@ -1,39 +1,72 @@
--- What a save leaves.
-use Rattle.std.specs.Prelude.{◌≡◌, ℕ, ◌+◌, ◌-◌, ◌==◌, ◌≤◌, true, false, ◌&&◌, nat_le, if◌then◌else◌, List, slice_index, Option, Some}
+-- What a save is given, and what it leaves.
+use Rattle.std.specs.Prelude.{◌≡◌, ℕ, ◌+◌, ◌-◌, ◌==◌, ◌<◌, ◌≤◌, Bool, true, false, ◌&&◌, nat_le, nat_lt, if◌then◌else◌, List, map, slice_index, slice_index_or, slice_set, Option, Some}
 use Rattle.types.specs.declared.slots.Slots.{Slots}
-use Rattle.lease_disk.specs.declared.format1.bank.Bank.{Bank}
-use Rattle.lease_disk.specs.declared.format1.bank.Marks.{Marks}
-use Rattle.lease_disk.specs.Book.{bank_bytes}
-use Rattle.lease_disk.specs.Layout.{gate_open, bank_at}
-use Rattle.lease_disk.specs.Recovered.{other, is_format2, is_open, sequence, next, is_counting, recovered}
+use Rattle.types.specs.Slots.{live4, live6}
+use Rattle.lease_disk.specs.declared.format2.content.Content.{Content}
+use Rattle.lease_disk.specs.declared.format2.content.Content.TheVariants.{Four, Six}
+use Rattle.lease_disk.specs.declared.format2.half.Half.{Half}
+use Rattle.lease_disk.specs.declared.format2.half.Half.TheVariants.{First, Second}
+use Rattle.lease_disk.specs.declared.format2.half.Mark.{Mark}
+use Rattle.lease_disk.specs.declared.format2.half.Marks.{Marks}
+use Rattle.lease_disk.specs.Book.{IsBook, half_bytes}
+use Rattle.lease_disk.specs.Layout.{gate_open, half_at}
+use Rattle.lease_disk.specs.Recovered.{half, is_open, sequence, next, is_counting, recovered}
 use Rattle.lease_disk.specs.Region.{Region, is_within, IsCrash, IsClean}
 
--- the marks of a region: which bank counts, its sequence, and whether the other's gate reads open
-pub record AreMarks (region : ℕ → ℕ) (marks : Marks) : Type 0 where
-  pub format : is_format2 region ≡ false
-  pub counting : is_counting region marks.bank ≡ true
-  pub sequence : marks.sequence ≡ sequence region marks.bank
-  pub other_open : marks.other_open ≡ is_open region (other marks.bank)
+abbrev pub other : Half → Half
+other First = Second
+other Second = First
+
+-- the mark of a slot: which half counts, its sequence, and whether the other's gate reads open
+pub record IsMark (region : ℕ → ℕ) (s : ℕ) (mark : Mark) : Type 0 where
+  pub counting : is_counting (half region s mark.half) (half region s (other mark.half)) ≡ true
+  pub sequence : mark.sequence ≡ sequence (half region s mark.half)
+  pub other_open : mark.other_open ≡ is_open (half region s (other mark.half))
+
+abbrev pub mark_at : Marks → ℕ → Mark
+mark_at marks s = slice_index_or marks.slots s (record { half = First; sequence = 0; other_open = false })
+
+-- whether a slot lies below its pool's count
+abbrev pub is_read : List ℕ → ℕ → Bool
+is_read counts s = if nat_lt s 16 then nat_lt s (slice_index counts 0) else nat_lt s 32 && nat_lt (s - 16) (slice_index counts 1)
+
+-- the marks of a region, for pools of so many addresses
+abbrev pub AreMarks : List ℕ → (ℕ → ℕ) → Marks → Type 0
+AreMarks counts region marks = (s : ℕ) → is_read counts s ≡ true → IsMark region s (mark_at marks s)
+
+-- a DHCPv4 slot is below 16, a DHCPv6 slot from there on
+abbrev pub Fits : ℕ → Content → Type 0
+Fits s (Four slot) = s < 16
+Fits s (Six slot) = (16 ≤ s) × (s < 32)
+
+-- the slots at a clock, with one that holds this from then on
+abbrev pub with_slot : ℕ → ℕ → Content → Slots → Slots
+with_slot clock s (Four slot) slots = record { four = slice_set (map (live4 clock) slots.four) s slot; six = map (live6 clock) slots.six; clock = clock }
+with_slot clock s (Six slot) slots = record { four = map (live4 clock) slots.four; six = slice_set (map (live6 clock) slots.six) (s - 16) slot; clock = clock }
+
+-- a change that may be saved: a slot of its pool, not before the kept clock, and it makes a book
+pub record IsChange (counts : List ℕ) (clock s : ℕ) (content : Content) (slots : Slots) : Type 0 where
+  pub later : slots.clock ≤ clock
+  pub below : is_read counts s ≡ true
+  pub book : IsBook counts (with_slot clock s content slots)
 
 -- after a save that did not fail
 pub record IsSaved (counts : List ℕ) (slots : Slots) (r : Region) : Type 0 where
   pub clean : IsClean r
   pub kept : recovered counts r.byte ≡ Some slots
 
--- A byte of a region in which one bank has an open gate and these bytes behind it, and which is as it
--- was elsewhere.
-abbrev pub byte_in : Bank → List ℕ → (ℕ → ℕ) → ℕ → ℕ
-byte_in bank bytes region i =
-    if i == bank_at bank then gate_open
-    else if is_within (bank_at bank + 1) 4095 i then slice_index bytes (i - bank_at bank)
-    else region i
+-- the half that a save writes
+abbrev pub gate_at : ℕ → Mark → ℕ
+gate_at s mark = half_at s (other mark.half)
 
--- a byte after a save that did not fail: the bank that did not count has the next sequence and the slots
-abbrev pub saved_byte : Marks → Slots → (ℕ → ℕ) → ℕ → ℕ
-saved_byte marks slots region i = byte_in (other marks.bank) (bank_bytes (next marks.sequence) slots) region i
+-- a byte after a save that did not fail: the half that did not count has the next sequence, the clock and
+-- the slot, with its gate open
+abbrev pub saved_byte : ℕ → Mark → ℕ → Content → (ℕ → ℕ) → ℕ → ℕ
+saved_byte s mark clock content region i =
+    if is_within (gate_at s mark) 256 i then slice_index (half_bytes (next mark.sequence) clock content) (i - gate_at s mark) else region i
 
 -- After a save whose k-th call failed: whatever the unsynced bytes have become, the region recovers
 -- to what it was before, but from the fifth call on to the new slots where the gate is open.
-pub record IsLeft (k : ℕ) (gate : Bank) (before after : Option Slots) (counts : List ℕ) (r : Region) : Type 0 where
-  pub crash : (f : ℕ → ℕ) → IsCrash r f → recovered counts f ≡ (if nat_le 5 k && is_open f gate then after else before)
-  pub doubt : 5 ≤ k → r.unsynced (bank_at gate) ≡ true
+pub record IsLeft (k gate : ℕ) (before after : Option Slots) (counts : List ℕ) (r : Region) : Type 0 where
+  pub crash : (f : ℕ → ℕ) → IsCrash r f → recovered counts f ≡ (if nat_le 5 k && f gate == gate_open then after else before)
+  pub doubt : 5 ≤ k → r.unsynced gate ≡ true

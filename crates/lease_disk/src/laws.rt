@@ -1,21 +1,18 @@
 //! What holds of every region: functions that do nothing, for their contracts.
-ghost use Rattle.std.specs.Prelude.{◌≡◌, ℕ, List, Some, false};
+ghost use Rattle.std.specs.Prelude.{◌≡◌, ℕ, List, Some};
 ghost use Rattle.types.specs.declared.slots.Slots.{Slots};
-ghost use Rattle.lease_disk.specs.declared.format1.bank.Bank.TheVariants.{First};
 ghost use Rattle.lease_disk.specs.Book.{IsBook, empty_book};
 ghost use Rattle.lease_disk.specs.Crash.{IsFormatted};
 ghost use Rattle.lease_disk.specs.Recovered.{recovered};
 ghost use Rattle.lease_disk.specs.Region.{Region};
-ghost use Rattle.lease_disk.specs.Save.{AreMarks};
 
-/// A region that was formatted recovers to an empty book at clock 0, for pools of any sizes, and its
-/// first bank counts, with the other one closed.
+/// A region that was formatted recovers to an empty book at clock 0, for pools of any sizes.
 pub fn formats_an_empty_book()
-    ensures book { (counts : List ℕ) (r : Region) → IsFormatted r → recovered counts r.byte ≡ Some empty_book }
-    ensures marks { (r : Region) → IsFormatted r → AreMarks r.byte (record { bank = First; sequence = 0; other_open = false }) }
+    ensures { (counts : List ℕ) (r : Region) → IsFormatted r → recovered counts r.byte ≡ Some empty_book }
 {}
 
-/// What a region recovers to is a book for pools of these sizes, so that it may be saved as it is.
+/// What a region recovers to is a book for pools of these sizes, so that each of its slots may be saved
+/// as it is.
 pub fn recovers_a_book()
     ensures { (counts : List ℕ) (region : ℕ → ℕ) (slots : Slots) → recovered counts region ≡ Some slots → IsBook counts slots }
 {}

@@ -6,7 +6,7 @@ ghost use Rattle.lease_disk.specs.Model.{region_of};
 ghost use Rattle.lease_disk.specs.Region.{is_within};
 
 use crate::device::{Disk, Fault, REGION};
-use crate::format1::{format_bytes, overwrite, put};
+use crate::format2::{format_bytes, overwrite, put};
 use crate::image::Image;
 use std::alloc::{AllocError, Global};
 use std::marker::Model;

@@ -3,11 +3,11 @@ use Rattle.std.proofs.Common.{◌≡◌, ◌⊎◌, ◌∙◌, ℕ, ◌-◌, ◌
 use Rattle.std.specs.Prelude.{slice_index, if◌then◌else◌, Some, None, Result, Ok, Err}
 use Rattle.std.proofs.lemmas.Bool.{cases_lt}
 use Rattle.std.proofs.lemmas.List.{get_or_past}
-use Rattle.lease_disk.proofs.Banks.{is_above, is_inside}
+use Rattle.lease_disk.proofs.Halves.{is_above, is_inside}
 use Rattle.types.specs.declared.slots.Slots.{Slots}
-use Rattle.lease_disk.specs.declared.format1.bank.Marks.{Marks}
-use Rattle.lease_disk.specs.declared.format1.recovering.RecoverFault.{RecoverFault}
-use Rattle.lease_disk.specs.declared.format1.recovering.RecoverFault.TheVariants.{Damaged}
+use Rattle.lease_disk.specs.declared.format2.half.Marks.{Marks}
+use Rattle.lease_disk.specs.declared.format2.recovering.RecoverFault.{RecoverFault}
+use Rattle.lease_disk.specs.declared.format2.recovering.RecoverFault.TheVariants.{Damaged}
 use Rattle.lease_disk.specs.Layout.{formatted}
 use Rattle.lease_disk.specs.Recover.{Answers}
 use Rattle.lease_disk.specs.Recovered.{recovered}

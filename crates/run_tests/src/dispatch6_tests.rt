@@ -126,7 +126,7 @@ fn what_moves_the_clock(rt: HostRuntime) {
 #[test]
 fn a_damaged_slot(rt: HostRuntime) {
     let mut disk = disk_of(&rt, rt.alloc(), 2);
-    let Ok(()) = put_byte(&mut disk, 1312, 3) else {
+    let Ok(()) = put_byte(&mut disk, 24577, 3) else {
         return assert!(rt; false);
     };
     let mut bench = Bench::open(&rt, rt.alloc(), TWO_CIRCUITS, disk).expect(&rt, "a server");

@@ -126,8 +126,12 @@ fn each_comes_to(world: &mut World, events: &[Event<'_>], expected: Outcome) -> 
 
 /// Whether client 1's frame of this type goes up as so many bytes and is answered at the moment 101.
 fn is_answered(world: &mut World, kind: Kind4, options: &[u8], len: usize) -> bool {
+    is_answered_at(world, kind, options, len, 101)
+}
+
+fn is_answered_at(world: &mut World, kind: Kind4, options: &[u8], len: usize, now: u64) -> bool {
     let frame = client_frame(kind, 1, options);
-    let (a, now) = (circuit(0), Moment::new(101).unwrap());
+    let (a, now) = (circuit(0), Moment::new(now).unwrap_or(Moment::first()));
     each_comes_to(
         world,
         &[Event::Frame(a, Proto::V4, frame.as_slice())],
@@ -147,24 +151,31 @@ fn has(world: &World, at: usize, expected: &[u8]) -> bool {
     }
 }
 
-/// Whether the region is as it should be before and after the first lease: docs/FORMATS.md, the disk.
+/// Whether the region is as it should be before and after the first lease, and when it is extended:
+/// docs/FORMATS.md, the disk.
 fn keeps_a_lease(alloc: Global) -> bool {
     let Ok(mut world) = opened(alloc, 1) else {
         return false;
     };
     let offered = is_answered(&mut world, Kind4::Discover, &[], 255)
-        && has(&world, 0, &[0xa5, 0, 0])
-        && has(&world, 4096, &[0; 4096])
-        && has(&world, 8192, &[1, 0]);
+        && has(&world, 8192, &[2, 0])
+        && has(&world, 16384, &[0xa5, 0, 0, 0, 0, 0, 0, 0])
+        && has(&world, 16640, &[0; 256])
+        && has(&world, 16896, &[0xa5, 0, 0, 0, 0, 0, 0, 0]);
     let leased = is_answered(&mut world, Kind4::Request, SELECTS, 267)
-        && has(&world, 0, &[0xa5, 0, 0])
-        && has(&world, 4096, &[0xa5, 1, 0, 0, 0, 0, 0, 0])
-        && has(&world, 4104, &[0, 0, 0, 0, 0, 0, 0, 101])
-        && has(&world, 4128, &[1, 7, 0, 0, 0, 0, 0, 0])
-        && has(&world, 4136, &[0, 0, 0, 0, 0, 0, 2, 0xbd])
-        && has(&world, 4144, &[1, 2, 0, 0, 0, 0, 1, 0])
-        && has(&world, 8192, &[1, 0]);
-    offered && leased
+        && has(&world, 16384, &[0xa5, 0, 0, 0])
+        && has(&world, 16640, &[0xa5, 1, 7, 1, 0, 0, 0, 0])
+        && has(&world, 16648, &[0, 0, 0, 0, 0, 0, 0, 0x65])
+        && has(&world, 16656, &[0, 0, 0, 0, 0, 0, 2, 0xbd])
+        && has(&world, 16664, &[0; 8])
+        && has(&world, 16672, &[1, 2, 0, 0, 0, 0, 1, 0])
+        && has(&world, 8192, &[2, 0]);
+    let renewed = is_answered_at(&mut world, Kind4::Request, SELECTS, 267, 102)
+        && has(&world, 16384, &[0xa5, 1, 7, 2, 0, 0, 0, 0])
+        && has(&world, 16392, &[0, 0, 0, 0, 0, 0, 0, 0x66])
+        && has(&world, 16400, &[0, 0, 0, 0, 0, 0, 2, 0xbe])
+        && has(&world, 16640, &[0xa5, 1, 7, 1]);
+    offered && leased && renewed
 }
 
 #[test]

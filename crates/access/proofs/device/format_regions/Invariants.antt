@@ -11,6 +11,6 @@ invariant-circuits g l = record {
   end : l.index-end ≡ length l.config.circuits;
   sound : IsSound l.config;
   count : (g.D.Disk.device l.disk).count ≡ (g.D.Disk.device l.fn.disk).count;
-  writes : (g.D.Disk.device l.disk).writes ≡ (g.D.Disk.device l.fn.disk).writes + 2 * l.index;
+  writes : (g.D.Disk.device l.disk).writes ≡ (g.D.Disk.device l.fn.disk).writes + 4 * l.index;
   formatted : g.D.Disk.tells ≡ true → (c : ℕ) (circuit : CircuitConfig) → c < l.index → slice_get l.config.circuits c ≡ Some circuit → IsFormatted ((g.D.Disk.device l.disk).region circuit.region);
 }

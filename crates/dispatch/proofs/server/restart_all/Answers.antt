@@ -24,8 +24,8 @@ more : (P : CircuitServerValue → Type 0) (xs : List CircuitServerValue) (i : �
 more P xs i y within all p =
     All-more P (slice_set xs i y) i y (subst (λ n. i < n) (sym (length-set xs i y)) within) (subst (All P) (sym (take-set xs i y)) all) (subst P (sym (get_or-set_same xs i y y within)) p)
 
-four_more : (first middle last n : ℕ) → middle ≤ first + 4 * n → last ≤ middle + 4 → last ≤ first + 4 * (n + 1)
-four_more first middle last n h k = omega arith
+two_more : (first middle last n : ℕ) → middle ≤ first + 2 * n → last ≤ middle + 2 → last ≤ first + 2 * (n + 1)
+two_more first middle last n h k = omega arith
 
 pub circuits-preserved : goal.circuits-preserved
 circuits-preserved g c =
@@ -53,7 +53,7 @@ circuits-preserved g c =
           at (IsReady first) (loop.ready tells synced) (subst (λ regions. IsReady regions new) (loop.frame.region tells) (c.restart.ensures.ready tells part_synced));
       pools = at HasItsPools loop.pools c.restart.ensures.pools;
       frame = nothing_then g.D.Disk.tells (g.D.Disk.device c.args.disk.now) (g.D.Disk.device c.circuits.disk) (g.D.Disk.device c.restart.new.disk) loop.frame c.restart.ensures.frame;
-      reads = four_more _ _ _ i loop.reads c.restart.ensures.reads;
+      reads = two_more _ _ _ i loop.reads c.restart.ensures.reads;
       size = length-set states i c.restart.new.self ∙ loop.size;
     }
 

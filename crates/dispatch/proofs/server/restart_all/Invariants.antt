@@ -12,6 +12,6 @@ invariant-circuits g l = record {
   ready : g.D.Disk.tells ≡ true → AreSynced l.parts (g.D.Disk.device l.fn.disk).region → All (IsReady (g.D.Disk.device l.fn.disk).region) (take l.index (with_states l.parts l.servers));
   pools : All HasItsPools (take l.index (with_states l.parts l.servers));
   frame : TouchesNothing g.D.Disk.tells (g.D.Disk.device l.fn.disk) (g.D.Disk.device l.disk);
-  reads : (g.D.Disk.device l.disk).reads ≤ (g.D.Disk.device l.fn.disk).reads + 4 * l.index;
+  reads : (g.D.Disk.device l.disk).reads ≤ (g.D.Disk.device l.fn.disk).reads + 2 * l.index;
   size : length l.servers ≡ length l.fn.servers;
 }

@@ -7,7 +7,7 @@ use Rattle.lease_disk.proofs.Frames.{touches_none}
 use Rattle.dispatch.specs.Received.{IsAnswer}
 use Rattle.dispatch.specs.CircuitDecision.{served_by}
 use Rattle.dispatch.specs.Server.{book_at, drop}
-use Rattle.dispatch.specs.ServerValue.{open_book}
+use Rattle.dispatch.specs.ServerValue.{IsReadyFor, open_book}
 use Rattle.dispatch.proofs.AnswerLemmas.{IsServed, asked, counted, fails_by, not_more, held, failed, fails_as, leases_as, writes_as}
 use Rattle.dispatch.proofs.circuit_server.CircuitServer.answer.Given as given
 use Rattle.dispatch.proofs.circuit_server.CircuitServer.answer.Goals.{In-Err, After-keep}
@@ -34,6 +34,11 @@ decision g c =
       was = λ i. record { part = c.args.part.now; state = (sym c.self.view_is ∙ c.in-Some.is) i };
       served_so = asked c.args.part.now d (open_book c.in-Some.circuit) (open_book c.tick.new.self) _ ticked (c.in-Ok.ensures.ok d.proto d.bytes c.requires.read);
     }
+
+pub keep-requires-clause-ready : goal.keep-requires-clause-ready
+keep-requires-clause-ready g c tells =
+    let region = (g.D.Disk.device c.args.disk.now).region c.args.part.now.region in
+    c.tick.ensures.ready region (subst (IsReadyFor region) (sym c.self.view_is ∙ c.in-Some.is) (c.requires.ready tells))
 
 -- ---- the request is refused
 

@@ -1,58 +1,100 @@
-use Rattle.std.proofs.Common.{refl, sym, ap, subst, ◌∙◌, ◌≡◌, ℕ, arith}
-use Rattle.std.specs.Prelude.{All, slice_index_or}
+use Rattle.std.proofs.Common.{refl, sym, ap, subst, ◌∙◌, ◌≡◌, ℕ, List, arith, Ok, Err, Result, OnOk, OnErr}
+use Rattle.std.specs.Prelude.{[], ◌∷◌, All, Some, map, slice_index_or}
 use Rattle.lease_disk.specs.Book.{IsBook}
-use Rattle.lease_disk.specs.Recovered.{other}
-use Rattle.lease_disk.specs.Region.{IsClean, effective}
-use Rattle.bindings_v4.specs.Kept4.{book4_in}
+use Rattle.lease_disk.specs.Recovered.{recovered}
+use Rattle.lease_disk.specs.Region.{Region, IsClean, effective}
+use Rattle.lease_disk.specs.Save.{IsChange, IsSaved, IsLeft, AreMarks, gate_at, mark_at, with_slot}
 use Rattle.bindings_v4.specs.Slots4 as slots4
-use Rattle.bindings_v6.specs.Kept6.{book6_in}
 use Rattle.bindings_v6.specs.Slots6 as slots6
 use Rattle.config.specs.CircuitPart.{pool4_of, pool6_of}
+use Rattle.dispatch.specs.CircuitDecision.{IsToSave}
 use Rattle.dispatch.specs.Leases.{book_in, counts_of, restarts_after, restarts_of}
 use Rattle.dispatch.specs.Server.{Book, kept_book}
-use Rattle.dispatch.specs.ServerValue.{HasPools}
-use Rattle.types.specs.Slots.{IsWithin4, live4, live6, none_twice, same_client4}
-use Rattle.types.specs.declared.slot4.Slot4.TheVariants as S4
+use Rattle.dispatch.specs.ServerValue.{OpenCircuitValue, IsReadyFor, counts_in, kept_slots}
+use Rattle.bindings_v4.specs.Kept4.{book4_in}
+use Rattle.bindings_v6.specs.Kept6.{book6_in}
+use Rattle.types.specs.Slots.{live4, live6}
 use Rattle.types.specs.declared.slots.Slots.{Slots}
-use Rattle.dispatch.proofs.SaveLemmas.{after_save}
+use Rattle.dispatch.proofs.SaveLemmas.{after_save, all_kept4, all_kept6}
 use Rattle.dispatch.proofs.open_circuit.OpenCircuit.save.Goals as goal
-
--- DHCPv4's slots are those of the first write: the second one leaves them and the clock
-kept4 : (P : Slots → Type 0) (first last : Slots) → last.four ≡ first.four → last.clock ≡ first.clock
-    → P (record first { six = last.six }) → P last
-kept4 P first last four clock h = subst P (λ i. record { four = sym four i; six = last.six; clock = sym clock i }) h
 
 pub returns-clause-restarts : goal.returns-clause-restarts
 returns-clause-restarts g c tells =
     let part = c.args.part.now in
-    let first = c.put.new.slots in
-    let slots = c.put-2.new.slots in
-    let region = c.region.result in
+    let region = c.region-region.result in
     let inside = c.self.inside in
+    let o : OpenCircuitValue = record { clock = inside.clock; four = inside.four; six = inside.six; marks = inside.marks } in
     let b : Book = record { clock = inside.clock; four = slots4.book_of inside.clock inside.four; six = slots6.book_of inside.clock inside.six } in
+    let slots : Slots = kept_slots o in
     let P : ℕ → Type 0 = λ n. restarts_of part ((g.D.Disk.device c.save.new.disk).region n) ≡ restarts_after (effective 6 ((g.D.Disk.device c.args.disk.now).fuse n)) b (restarts_of part ((g.D.Disk.device c.args.disk.now).region n)) in
     let pools = c.requires.pools in
-    let pool4 : inside.four.pool ≡ pool4_of part = ap (λ o. o.four.pool) c.self.view_is ∙ pools.0 in
-    let pool6 : inside.six.pool ≡ pool6_of part = ap (λ o. o.six.pool) c.self.view_is ∙ pools.1 in
-    let clock1 : first.clock ≡ inside.clock = c.put.ensures.clock in
-    let clock : slots.clock ≡ inside.clock = c.put-2.ensures.clock ∙ clock1 in
-    let six : book6_in (pool6_of part) slots ≡ b.six = ap (λ p. book6_in p slots) (sym pool6) ∙ c.put-2.ensures.book ∙ ap (λ t. slots6.book_of t inside.six) clock1 in
-    let four : book4_in (pool4_of part) slots ≡ (kept_book b).four =
-    kept4 (λ s. book4_in (pool4_of part) s ≡ (kept_book b).four) first slots c.put-2.ensures.four c.put-2.ensures.clock (ap (λ p. book4_in p first) (sym pool4) ∙ c.put.ensures.book) in
-    let means : book_in part slots ≡ kept_book b = λ i. record { clock = clock i; four = four i; six = six i } in
-    let count4 : inside.four.pool.count ≡ part.count4 = ap (λ p. p.count) pool4 in
-    let count6 : inside.six.pool.count ≡ part.count6 = ap (λ p. p.count) pool6 in
-    let book : IsBook (counts_of part) slots = record {
-      past4 = λ i h. ap (λ xs. slice_index_or xs i S4.Free) c.put-2.ensures.four ∙ c.put.ensures.past i (omega (arith, h, count4));
-      past6 = λ i h. c.put-2.ensures.past i (omega (arith, h, count6));
-      live4 = kept4 (λ s. All (λ slot. live4 s.clock slot ≡ slot) s.four) first slots c.put-2.ensures.four c.put-2.ensures.clock (subst (λ t. All (λ slot. live4 t slot ≡ slot) first.four) (sym clock1) c.put.ensures.live);
-      live6 = subst (λ t. All (λ slot. live6 t slot ≡ slot) slots.six) (sym c.put-2.ensures.clock) c.put-2.ensures.live;
-      within4 = subst (All IsWithin4) (sym c.put-2.ensures.four) (c.put.ensures.within c.self.invariant.0);
-      within6 = c.put-2.ensures.within c.self.invariant.1;
-      once4 = ap (none_twice same_client4) c.put-2.ensures.four ∙ c.put.ensures.once;
-      once6 = c.put-2.ensures.once;
+    let pool4 : inside.four.pool ≡ pool4_of part = ap (λ x. x.four.pool) c.self.view_is ∙ pools.0 in
+    let pool6 : inside.six.pool ≡ pool6_of part = ap (λ x. x.six.pool) c.self.view_is ∙ pools.1 in
+    let counts : counts_in o ≡ counts_of part = λ i. (pool4 i).count ∷ (pool6 i).count ∷ [] in
+    let old : Region = (g.D.Disk.device c.args.disk.now).region region in
+    let to_save : IsToSave old c.args.slot c.args.content.now o =
+    subst (λ x. IsToSave old c.args.slot c.args.content.now x) (sym c.self.view_is) (subst (λ n. IsToSave ((g.D.Disk.device c.args.disk.now).region n) c.args.slot c.args.content.now c.args.self.now) (sym c.region-region.ensures) (c.requires.changed tells)) in
+    let means : book_in part slots ≡ kept_book b = λ i. record {
+      clock = inside.clock;
+      four = (ap (λ p. book4_in p slots) (sym pool4) ∙ c.keeps_a_book.ensures.book slots refl refl) i;
+      six = (ap (λ p. book6_in p slots) (sym pool6) ∙ c.keeps_a_book-2.ensures.book slots refl refl) i;
     } in
-    let clean : IsClean ((g.D.Disk.device c.args.disk.now).region region) = subst (λ n. IsClean ((g.D.Disk.device c.args.disk.now).region n)) (sym c.region.ensures) (c.requires.ready tells).0 in
-    subst P c.region.ensures
-    (after_save part b slots ((g.D.Disk.device c.args.disk.now).region region) ((g.D.Disk.device c.save.new.disk).region region) means ((g.D.Disk.device c.args.disk.now).fuse region) (other inside.marks.bank) c.save.result clean
-    (c.save.ensures.answer tells) (c.save.ensures.ok tells (counts_of part) book) (c.save.ensures.err tells (counts_of part) book))
+    let book : IsBook (counts_in o) slots = record {
+      past4 = c.keeps_a_book.ensures.past;
+      past6 = c.keeps_a_book-2.ensures.past;
+      live4 = c.keeps_a_book.ensures.live;
+      live6 = c.keeps_a_book-2.ensures.live;
+      within4 = c.keeps_a_book.ensures.within c.self.invariant.0;
+      within6 = c.keeps_a_book-2.ensures.within c.self.invariant.1;
+      once4 = c.keeps_a_book.ensures.once;
+      once6 = c.keeps_a_book-2.ensures.once;
+    } in
+    let change : IsChange (counts_in o) inside.clock c.args.slot c.args.content.now to_save.slots = record {
+      later = to_save.later;
+      below = to_save.below;
+      book = subst (IsBook (counts_in o)) (sym to_save.kept) book;
+    } in
+    let new : Region = (g.D.Disk.device c.save.new.disk).region region in
+    let saved = subst (λ s. OnOk c.save.result (IsSaved (counts_in o) s new)) to_save.kept (c.save.ensures.ok tells (counts_in o) to_save.slots to_save.recovers change) in
+    let left = subst (λ s. OnErr c.save.result (IsLeft ((g.D.Disk.device c.args.disk.now).fuse region) (gate_at c.args.slot (mark_at inside.marks c.args.slot)) (Some to_save.slots) (Some s) (counts_in o) new)) to_save.kept (c.save.ensures.err tells (counts_in o) to_save.slots to_save.recovers change) in
+    subst P c.region-region.ensures
+    (after_save part b to_save.slots slots old new (ap (λ cs. recovered cs old.byte) (sym counts) ∙ to_save.recovers) means ((g.D.Disk.device c.args.disk.now).fuse region) (gate_at c.args.slot (mark_at inside.marks c.args.slot)) c.save.result to_save.clean
+    (c.save.ensures.answer tells)
+    (subst (λ cs. OnOk c.save.result (IsSaved cs slots new)) counts saved)
+    (subst (λ cs. OnErr c.save.result (IsLeft ((g.D.Disk.device c.args.disk.now).fuse region) (gate_at c.args.slot (mark_at inside.marks c.args.slot)) (Some to_save.slots) (Some slots) cs new)) counts left))
+
+ready_after : {T E : Type 0} (result : Result T E) (region : Region) (o : OpenCircuitValue) → OnOk result (IsSaved (counts_in o) (kept_slots o) region) → OnOk result (AreMarks (counts_in o) region.byte o.marks)
+    → map (live4 o.clock) (kept_slots o).four ≡ (kept_slots o).four → map (live6 o.clock) (kept_slots o).six ≡ (kept_slots o).six → OnOk result (IsReadyFor region (Some o))
+ready_after (Ok x) region o saved marks four six =
+    (saved.clean, marks, record { slots = kept_slots o; recovers = saved.kept; later = omega arith; four = four; six = six })
+ready_after (Err e) region o saved marks four six = tt
+
+pub returns-clause-ready : goal.returns-clause-ready
+returns-clause-ready g c tells =
+    let region = c.region-region.result in
+    let inside = c.self.inside in
+    let o : OpenCircuitValue = record { clock = inside.clock; four = inside.four; six = inside.six; marks = inside.marks } in
+    let n : OpenCircuitValue = record { clock = inside.clock; four = inside.four; six = inside.six; marks = c.save.new.marks } in
+    let old : Region = (g.D.Disk.device c.args.disk.now).region region in
+    let new : Region = (g.D.Disk.device c.save.new.disk).region region in
+    let to_save : IsToSave old c.args.slot c.args.content.now o =
+    subst (λ x. IsToSave old c.args.slot c.args.content.now x) (sym c.self.view_is) (subst (λ n. IsToSave ((g.D.Disk.device c.args.disk.now).region n) c.args.slot c.args.content.now c.args.self.now) (sym c.region-region.ensures) (c.requires.changed tells)) in
+    let book : IsBook (counts_in o) (kept_slots o) = record {
+      past4 = c.keeps_a_book.ensures.past;
+      past6 = c.keeps_a_book-2.ensures.past;
+      live4 = c.keeps_a_book.ensures.live;
+      live6 = c.keeps_a_book-2.ensures.live;
+      within4 = c.keeps_a_book.ensures.within c.self.invariant.0;
+      within6 = c.keeps_a_book-2.ensures.within c.self.invariant.1;
+      once4 = c.keeps_a_book.ensures.once;
+      once6 = c.keeps_a_book-2.ensures.once;
+    } in
+    let change : IsChange (counts_in o) inside.clock c.args.slot c.args.content.now to_save.slots = record {
+      later = to_save.later;
+      below = to_save.below;
+      book = subst (IsBook (counts_in o)) (sym to_save.kept) book;
+    } in
+    let saved = subst (λ s. OnOk c.save.result (IsSaved (counts_in o) s new)) to_save.kept (c.save.ensures.ok tells (counts_in o) to_save.slots to_save.recovers change) in
+    subst (λ m. OnOk c.save.result (IsReadyFor ((g.D.Disk.device c.save.new.disk).region m) (Some n))) c.region-region.ensures
+    (ready_after c.save.result new n saved (c.save.ensures.marks tells (counts_in o) to_save.marks)
+    (all_kept4 inside.clock (kept_slots o).four c.keeps_a_book.ensures.live) (all_kept6 inside.clock (kept_slots o).six c.keeps_a_book-2.ensures.live))

@@ -58,4 +58,4 @@ returns-clause-ready g c tells =
 pub returns-clause-reads : goal.returns-clause-reads
 returns-clause-reads g c =
     let count = ap (λ (ps : List CircuitPart). length ps) c.parts.ensures ∙ sym (size_with c.self.inside.circuits.circuits c.self.inside.servers.items) ∙ ap (λ (s : ServerValue). length s.circuits) c.self.view_is in
-    subst (λ (n : ℕ). (g.D.Disk.device c.restart_all.new.disk).reads ≤ (g.D.Disk.device c.args.disk.now).reads + 4 * n) count c.restart_all.ensures.reads
+    subst (λ (n : ℕ). (g.D.Disk.device c.restart_all.new.disk).reads ≤ (g.D.Disk.device c.args.disk.now).reads + 2 * n) count c.restart_all.ensures.reads

@@ -1,0 +1,188 @@
+-- Which half of a slot counts while a save writes the other one, over regions as functions of the offset.
+use Rattle.std.proofs.Common.{◌≡◌, ℕ, ◌+◌, ◌*◌, ◌<◌, ◌≤◌, ◌%◌, ◌⊎◌, inl, inr, Bool, true, false, not, ◌&&◌, ◌||◌, nat_le, nat_lt, refl, sym, ap, ◌∙◌, arith}
+use Rattle.std.specs.Prelude.{if◌then◌else◌, ◌==◌, Option}
+use Rattle.std.proofs.lemmas.Bool.{cases_lt}
+use Rattle.lease_disk.specs.declared.format2.entry.Entry.{Entry}
+use Rattle.lease_disk.specs.declared.format2.half.Half.{Half}
+use Rattle.lease_disk.specs.declared.format2.half.Half.TheVariants.{First, Second}
+use Rattle.lease_disk.specs.Layout.{half_at}
+use Rattle.lease_disk.specs.Recovered.{half, is_format2, is_open, sequence, is_valid, next, is_counting, held, entry_of, entry}
+use Rattle.lease_disk.specs.Region.{is_within}
+use Rattle.lease_disk.specs.Save.{other}
+
+pub is_below : (at n i : ℕ) → i < at → is_within at n i ≡ false
+is_below at n i h = grind arith
+
+pub is_above : (at n i : ℕ) → at + n ≤ i → is_within at n i ≡ false
+is_above at n i h = grind arith
+
+pub is_inside : (at n i : ℕ) → at ≤ i → i < at + n → is_within at n i ≡ true
+is_inside at n i h k = grind arith
+
+-- Halves stand apart
+
+from_below : (s t : ℕ) (h g : Half) (i : ℕ) → s < t → is_within (half_at s h) 256 (half_at t g + i) ≡ false
+from_below s t First First i k = is_above (half_at s First) 256 (half_at t First + i) (omega arith)
+from_below s t First Second i k = is_above (half_at s First) 256 (half_at t Second + i) (omega arith)
+from_below s t Second First i k = is_above (half_at s Second) 256 (half_at t First + i) (omega arith)
+from_below s t Second Second i k = is_above (half_at s Second) 256 (half_at t Second + i) (omega arith)
+
+from_above : (s t : ℕ) (h g : Half) (i : ℕ) → t < s → i < 256 → is_within (half_at s h) 256 (half_at t g + i) ≡ false
+from_above s t First First i k l = is_below (half_at s First) 256 (half_at t First + i) (omega arith)
+from_above s t First Second i k l = is_below (half_at s First) 256 (half_at t Second + i) (omega arith)
+from_above s t Second First i k l = is_below (half_at s Second) 256 (half_at t First + i) (omega arith)
+from_above s t Second Second i k l = is_below (half_at s Second) 256 (half_at t Second + i) (omega arith)
+
+is_apart : (s t : ℕ) (h g : Half) (i : ℕ) → (t ≡ s → ⊥) → i < 256 → is_within (half_at s h) 256 (half_at t g + i) ≡ false
+is_apart s t h g i ne l = by (cases_lt s t) where
+  or_above : (t < s) ⊎ (s ≤ t) → t ≤ s → is_within (half_at s h) 256 (half_at t g + i) ≡ false
+  or_above (inl k) e = from_above s t h g i k l
+  or_above (inr k) e = absurd (ne (omega arith))
+  by : (s < t) ⊎ (t ≤ s) → is_within (half_at s h) 256 (half_at t g + i) ≡ false
+  by (inl k) = from_below s t h g i k
+  by (inr k) = or_above (cases_lt t s) k
+
+own_apart : (s : ℕ) (h : Half) (i : ℕ) → i < 256 → is_within (half_at s (other h)) 256 (half_at s h + i) ≡ false
+own_apart s First i l = is_below (half_at s Second) 256 (half_at s First + i) (omega arith)
+own_apart s Second i l = is_above (half_at s First) 256 (half_at s Second + i) (omega arith)
+
+format_apart : (s : ℕ) (h : Half) → is_within (half_at s h) 256 8192 ≡ false
+format_apart s First = is_below (half_at s First) 256 8192 (omega arith)
+format_apart s Second = is_below (half_at s Second) 256 8192 (omega arith)
+
+-- all but one half of a slot is the same
+pub record SameBut (s : ℕ) (h : Half) (f g : ℕ → ℕ) : Type 0 where
+  pub each : (i : ℕ) → is_within (half_at s h) 256 i ≡ false → g i ≡ f i
+
+pub but_both : (s : ℕ) (o : Half) (f g h : ℕ → ℕ) → SameBut s o f g → SameBut s o g h → SameBut s o f h
+but_both s o f g h a b = record { each = λ i k. b.each i k ∙ a.each i k }
+
+half_byte : (f g : ℕ → ℕ) (t : ℕ) (k : Half) → ((i : ℕ) → i < 256 → g (half_at t k + i) ≡ f (half_at t k + i)) → (i : ℕ) (b : Bool) → nat_lt i 256 ≡ b
+    → (if b then g (half_at t k + i) else 0) ≡ (if b then f (half_at t k + i) else 0)
+half_byte f g t k h i true e = h i (grind (arith, e))
+half_byte f g t k h i false e = refl
+
+pub same_bytes : (f g : ℕ → ℕ) (t : ℕ) (k : Half) → ((i : ℕ) → i < 256 → g (half_at t k + i) ≡ f (half_at t k + i)) → half g t k ≡ half f t k
+same_bytes f g t k h = λ j. λ i. half_byte f g t k h i (nat_lt i 256) refl j
+
+pub same_elsewhere : (s : ℕ) (h : Half) (f g : ℕ → ℕ) → SameBut s h f g → (t : ℕ) (k : Half) → (t ≡ s → ⊥) → half g t k ≡ half f t k
+same_elsewhere s h f g same t k ne = same_bytes f g t k (λ i l. same.each (half_at t k + i) (is_apart s t h k i ne l))
+
+pub same_own : (s : ℕ) (h : Half) (f g : ℕ → ℕ) → SameBut s (other h) f g → half g s h ≡ half f s h
+same_own s h f g same = same_bytes f g s h (λ i l. same.each (half_at s h + i) (own_apart s h i l))
+
+pub same_format : (s : ℕ) (h : Half) (f g : ℕ → ℕ) → SameBut s h f g → is_format2 g ≡ is_format2 f
+same_format s h f g same = λ i. same.each 8192 (format_apart s h) i == 2
+
+pub other_other : (h : Half) → other (other h) ≡ h
+other_other First = refl
+other_other Second = refl
+
+-- Which half counts
+
+not_next : (a b : ℕ) → a ≤ 2 → b ≤ 2 → a ≡ (b + 1) % 3 → b ≡ (a + 1) % 3 → ⊥
+not_next a b h k p q = omega arith
+
+both_count : (o p : Bool) (a b : ℕ)
+    → ((o && nat_le a 2) && (not p || ((p && nat_le b 2) && a == next b))) ≡ true
+    → ((p && nat_le b 2) && (not o || ((o && nat_le a 2) && b == next a))) ≡ true → ⊥
+both_count true true a b h k = grind (arith, not_next)
+both_count true false a b h k = cc
+both_count false true a b h k = cc
+both_count false false a b h k = cc
+
+false_of : (b : Bool) → (b ≡ true → ⊥) → b ≡ false
+false_of true h = absurd (h refl)
+false_of false h = refl
+
+-- not both halves count
+pub only_one : (own rival : ℕ → ℕ) → is_counting own rival ≡ true → is_counting rival own ≡ false
+only_one own rival p = false_of (is_counting rival own) (λ q. both_count (is_open own) (is_open rival) (sequence own) (sequence rival) p q)
+
+pub first_of : {B : Type 0} → (a b : Bool) (x y z : B) → a ≡ true → (if a then x else if b then y else z) ≡ x
+first_of true b x y z e = refl
+first_of false b x y z e = cc
+
+pub second_of : {B : Type 0} → (a b : Bool) (x y z : B) → a ≡ false → b ≡ true → (if a then x else if b then y else z) ≡ y
+second_of false true x y z e f = refl
+second_of false false x y z e f = cc
+second_of true b x y z e f = cc
+
+pub neither_of : {B : Type 0} → (a b : Bool) (x y z : B) → a ≡ false → b ≡ false → (if a then x else if b then y else z) ≡ z
+neither_of false false x y z e f = refl
+neither_of false true x y z e f = cc
+neither_of true b x y z e f = cc
+
+module _ {A : Type 0} (read : (ℕ → ℕ) → Option A) where
+  -- the half that counts decides
+  pub entry_by : (f : ℕ → ℕ) (s : ℕ) (h : Half) → is_counting (half f s h) (half f s (other h)) ≡ true → entry read f s ≡ held read (half f s h)
+  entry_by f s First p = first_of (is_counting (half f s First) (half f s Second)) (is_counting (half f s Second) (half f s First)) (held read (half f s First)) _ _ p
+  entry_by f s Second p =
+      second_of (is_counting (half f s First) (half f s Second)) (is_counting (half f s Second) (half f s First)) _ (held read (half f s Second)) _ (only_one (half f s Second) (half f s First) p) p
+
+  pub entry_elsewhere : (s : ℕ) (h : Half) (f g : ℕ → ℕ) → SameBut s h f g → (t : ℕ) → (t ≡ s → ⊥) → entry read g t ≡ entry read f t
+  entry_elsewhere s h f g same t ne = λ j. entry_of read (same_elsewhere s h f g same t First ne j) (same_elsewhere s h f g same t Second ne j)
+
+  entry_at : (s : ℕ) (h : Half) (f g : ℕ → ℕ) → SameBut s h f g → entry read g s ≡ entry read f s → (t : ℕ) → (b : Bool) → (t == s) ≡ b → entry read g t ≡ entry read f t
+  entry_at s h f g same own t true e = let k : t ≡ s = grind (arith, e) in ap (entry read g) k ∙ own ∙ ap (entry read f) (sym k)
+  entry_at s h f g same own t false e = entry_elsewhere s h f g same t (λ k. absurd (grind (arith, e, k)))
+
+  -- while the same half counts, all slots hold what they held
+  pub entries_stay : (s : ℕ) (h : Half) (f g : ℕ → ℕ) → SameBut s (other h) f g → is_counting (half f s h) (half f s (other h)) ≡ true → is_counting (half g s h) (half g s (other h)) ≡ true
+      → (t : ℕ) → entry read g t ≡ entry read f t
+  entries_stay s h f g same p q t =
+      entry_at s (other h) f g same (entry_by g s h q ∙ ap (held read) (same_own s h f g same) ∙ sym (entry_by f s h p)) t (t == s) refl
+
+-- What closes, writes or opens the other half
+
+counting_valid : (v w x : Bool) → (v && w) ≡ true → (v && (true || x)) ≡ true
+counting_valid true w x h = refl
+counting_valid false w x h = h
+
+by_shut : (v w o x : Bool) → (v && w) ≡ true → o ≡ false → (v && (not o || x)) ≡ true
+by_shut v w false x h e = counting_valid v w x h
+by_shut v w true x h e = cc
+
+-- a half counts while the other's gate is closed
+pub while_shut : (own rival shut : ℕ → ℕ) → is_counting own rival ≡ true → is_open shut ≡ false → is_counting own shut ≡ true
+while_shut own rival shut p e = by_shut (is_valid own) _ (is_open shut) _ p e
+
+by_gate : (v p q : Bool) (a b : ℕ) → (q ≡ false → p ≡ false)
+    → (v && (not q || ((q && nat_le b 2) && a == next b))) ≡ true
+    → (v && (not p || ((p && nat_le b 2) && a == next b))) ≡ true
+by_gate v true true a b e h = h
+by_gate v true false a b e h = absurd (let x = e refl in cc)
+by_gate v false q a b e h = counting_valid v (not q || ((q && nat_le b 2) && a == next b)) false h
+
+-- while the other's gate is in doubt, if it was open, the half counts: the other, if open, is as it was
+pub while_closing : (own rival closing : ℕ → ℕ) → is_counting own rival ≡ true → sequence closing ≡ sequence rival → (is_open rival ≡ false → is_open closing ≡ false) → is_counting own closing ≡ true
+while_closing own rival closing p e gate =
+    ap (λ b. is_valid own && (not (is_open closing) || ((is_open closing && nat_le b 2) && sequence own == next b))) e
+    ∙ by_gate (is_valid own) (is_open closing) (is_open rival) (sequence own) (sequence rival) gate p
+
+counted : (o : Bool) (a : ℕ) (w : Bool) → ((o && nat_le a 2) && w) ≡ true → (o ≡ true) × (nat_le a 2 ≡ true)
+counted true a true h = (refl, grind arith)
+counted true a false h = (refl, grind arith)
+counted false a w h = cc
+
+counts_open : (o : Bool) (a b : ℕ) → nat_le b 2 ≡ true → a ≡ next b → ((true && nat_le a 2) && (not o || ((o && nat_le b 2) && a == next b))) ≡ true
+counts_open true a b h e = grind arith
+counts_open false a b h e = grind arith
+
+opened : (o p : Bool) (a b : ℕ) (w : Bool) → ((o && nat_le a 2) && w) ≡ true → p ≡ true → b ≡ next a → ((p && nat_le b 2) && (not o || ((o && nat_le a 2) && b == next a))) ≡ true
+opened o true a b w h e f = counts_open o b a (counted o a w h).1 f
+opened o false a b w h e f = cc
+
+-- a half that is open with the next sequence counts
+pub when_open : (own rival new : ℕ → ℕ) → is_counting own rival ≡ true → is_open new ≡ true → sequence new ≡ next (sequence own) → is_counting new own ≡ true
+when_open own rival new p o e = opened (is_open own) (is_open new) (sequence own) (sequence new) _ p o e
+
+is_le_two : (a : ℕ) → nat_le a 2 ≡ true → a ≤ 2
+is_le_two a h = grind arith
+
+-- the sequence of a half that counts is from 0 to 2
+pub counting_sequence : (own rival : ℕ → ℕ) → is_counting own rival ≡ true → sequence own ≤ 2
+counting_sequence own rival p = is_le_two (sequence own) (counted (is_open own) (sequence own) _ p).1
+
+pub counting_open : (own rival : ℕ → ℕ) → is_counting own rival ≡ true → is_open own ≡ true
+counting_open own rival p = (counted (is_open own) (sequence own) _ p).0

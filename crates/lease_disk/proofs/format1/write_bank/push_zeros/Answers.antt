@@ -1,6 +1,0 @@
-use Rattle.std.proofs.Common.{◌++◌, ap, ◌∙◌}
-use Rattle.std.proofs.lemmas.List.{take-replicate}
-use Rattle.lease_disk.proofs.format1.write_bank.push_zeros.Goals as goal
-
-pub returns : goal.returns
-returns c = c.extend.ensures ∙ ap (λ xs. c.args.bank.now.items ++ xs) (take-replicate c.args.n 352 0 c.requires.few)

@@ -1,0 +1,19 @@
+//! Regions of format 2: two halves a slot, of which a save writes the one that does not count.
+
+mod content;
+mod entry;
+mod formatting;
+mod half;
+mod layout;
+mod pool;
+mod read_half;
+mod recovering;
+mod saving;
+mod write_half;
+
+pub use content::Content;
+pub use formatting::{format, format_bytes, overwrite, put};
+pub use half::Marks;
+pub use layout::{FORMAT, FORMAT_AT, GATE_OPEN};
+pub use recovering::{RecoverFault, recover};
+pub use saving::save;

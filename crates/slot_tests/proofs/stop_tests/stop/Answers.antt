@@ -1,7 +1,0 @@
-use Rattle.std.proofs.Common.{[], ◌∷◌, sym, subst}
-use Rattle.lease_disk.specs.Region.{Region}
-use Rattle.slot_regions.specs.Save.{AreMarks}
-use Rattle.slot_tests.proofs.stop_tests.stop.Goals as goal
-
-pub keep-requires-clause-marks : goal.keep-requires-clause-marks
-keep-requires-clause-marks c = subst (λ (r : Region). AreMarks (16 ∷ 16 ∷ []) r.byte c.args.marks.now) (sym c.fail_at.ensures.state) c.requires.marks

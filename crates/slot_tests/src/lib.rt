@@ -1,9 +1,0 @@
-//! Regions on a device in memory: their bytes, and saves that stop.
-#![tactic(auto)]
-
-#[cfg(test)]
-mod recovery_tests;
-#[cfg(test)]
-mod save_tests;
-#[cfg(test)]
-mod stop_tests;
