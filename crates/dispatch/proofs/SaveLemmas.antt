@@ -197,11 +197,14 @@ pub later_ready : (o n : OpenCircuitValue) (region : Region) → n.four ≡ o.fo
     → IsReadyFor region (Some o) → IsReadyFor region (Some n)
 later_ready o n region four six marks later kept4 kept6 ready =
     let counts : counts_in n ≡ counts_in o = λ i. (four i).pool.count ∷ (six i).pool.count ∷ [] in
-    let slots = ready.2.slots in
-    (ready.0, (subst (λ m. AreMarks (counts_in n) region.byte m) (sym marks) (subst (λ cs. AreMarks cs region.byte o.marks) (sym counts) ready.1)), record {
-      slots = slots;
-      recovers = ap (λ cs. recovered cs region.byte) counts ∙ ready.2.recovers;
-      later = omega (arith, ready.2.later, later);
-      four = sym (later_map4 o.clock n.clock slots.four later) ∙ ap (map (live4 n.clock)) ready.2.four ∙ sym kept4 ∙ ap (λ v. kept_slots4 n.clock v.slots) (sym four);
-      six = sym (later_map6 o.clock n.clock slots.six later) ∙ ap (map (live6 n.clock)) ready.2.six ∙ sym kept6 ∙ ap (λ v. kept_slots6 n.clock v.slots) (sym six);
-    })
+    let slots = ready.2.slots in (
+      ready.0,
+      (subst (λ m. AreMarks (counts_in n) region.byte m) (sym marks) (subst (λ cs. AreMarks cs region.byte o.marks) (sym counts) ready.1)),
+      record {
+        slots = slots;
+        recovers = ap (λ cs. recovered cs region.byte) counts ∙ ready.2.recovers;
+        later = omega (arith, ready.2.later, later);
+        four = sym (later_map4 o.clock n.clock slots.four later) ∙ ap (map (live4 n.clock)) ready.2.four ∙ sym kept4 ∙ ap (λ v. kept_slots4 n.clock v.slots) (sym four);
+        six = sym (later_map6 o.clock n.clock slots.six later) ∙ ap (map (live6 n.clock)) ready.2.six ∙ sym kept6 ∙ ap (λ v. kept_slots6 n.clock v.slots) (sym six);
+      },
+    )

@@ -109,9 +109,9 @@ left_first k r e late counts f crash = absurd (too_early k e late)
 by_format : (counts : List ℕ) (f : ℕ → ℕ) (b : Bool) → (f 8192 == 2) ≡ b → ((i : ℕ) → i < 32768 → (i == 8192) ≡ false → f i ≡ formatted i) → recovered counts f ≡ (if b then Some empty_book else None)
 by_format counts f true e same =
     formatted_book counts (record { byte = f; unsynced = λ i. false; readable = true }) (record { byte = λ i k. by i k (i == 8192) refl; clean = record { each = λ i. refl } }) where
-  by : (i : ℕ) → i < 32768 → (b : Bool) → (i == 8192) ≡ b → f i ≡ formatted i
-  by i k true h = let here : i ≡ 8192 = grind (arith, h) in let two : f 8192 ≡ 2 = grind (arith, e) in ap f here ∙ two ∙ sym (ap formatted here)
-  by i k false h = same i k h
+      by : (i : ℕ) → i < 32768 → (b : Bool) → (i == 8192) ≡ b → f i ≡ formatted i
+      by i k true h = let here : i ≡ 8192 = grind (arith, h) in let two : f 8192 ≡ 2 = grind (arith, e) in ap f here ∙ two ∙ sym (ap formatted here)
+      by i k false h = same i k h
 by_format counts f false e same = no_format counts f e
 
 -- the write of the byte of the format or its sync failed

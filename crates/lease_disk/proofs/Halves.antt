@@ -38,6 +38,7 @@ is_apart s t h g i ne l = by (cases_lt s t) where
   or_above : (t < s) ⊎ (s ≤ t) → t ≤ s → is_within (half_at s h) 256 (half_at t g + i) ≡ false
   or_above (inl k) e = from_above s t h g i k l
   or_above (inr k) e = absurd (ne (omega arith))
+
   by : (s < t) ⊎ (t ≤ s) → is_within (half_at s h) 256 (half_at t g + i) ≡ false
   by (inl k) = from_below s t h g i k
   by (inr k) = or_above (cases_lt t s) k

@@ -133,6 +133,7 @@ with_halves_as region halves same size s h few = same_bytes region (with_halves 
       let late : nat_lt a 16384 ≡ false = grind (arith, least) in
       let back : 16384 + (a - 16384) ≡ a = omega arith in
       rw late (same (a - 16384) (omega (arith, size)) ∙ ap region back)
+
   at : (s : ℕ) (h : Half) (i : ℕ) → s < 32 → i < 256 → with_halves halves (half_at s h + i) ≡ region (half_at s h + i)
   at s First i few l = there (16384 + 512 * s + i) (omega arith) (omega arith)
   at s Second i few l = there (16640 + 512 * s + i) (omega arith) (omega arith)
@@ -142,8 +143,8 @@ unfolding recovered
 recovered_as counts region halves two same size =
     ap (λ b. book_in counts b (entry slot4_of (with_halves halves)) (entry slot6_of (with_halves halves))) (sym two)
     ∙ book_alike counts (is_format2 region) (entry slot4_of region) (entry slot4_of (with_halves halves)) (entry slot6_of region) (entry slot6_of (with_halves halves)) (entry_as slot4_of) (entry_as slot6_of) where
-  entry_as : {A : Type 0} → (read : (ℕ → ℕ) → Option A) (s : ℕ) → s < 32 → entry read (with_halves halves) s ≡ entry read region s
-  entry_as read s few = let a = with_halves_as region halves same size s First few in let b = with_halves_as region halves same size s Second few in λ j. entry_of read (a j) (b j)
+      entry_as : {A : Type 0} → (read : (ℕ → ℕ) → Option A) (s : ℕ) → s < 32 → entry read (with_halves halves) s ≡ entry read region s
+      entry_as read s few = let a = with_halves_as region halves same size s First few in let b = with_halves_as region halves same size s Second few in λ j. entry_of read (a j) (b j)
 
 pub counted_as : (region : ℕ → ℕ) (halves : List ℕ) → ((i : ℕ) → i < length halves → slice_index halves i ≡ region (16384 + i)) → length halves ≡ 16384 → (s : ℕ) (mark : Mark) → s < 32 → IsMark (with_halves halves) s mark → IsMark region s mark
 counted_as region halves same size s mark few m =

@@ -15,5 +15,5 @@ pub use content::Content;
 pub use formatting::{format, format_bytes, overwrite, put};
 pub use half::Marks;
 pub use layout::{FORMAT, FORMAT_AT, GATE_OPEN};
-pub use recovering::{RecoverFault, recover};
+pub use recovering::{RecoverFault, read_format, recover};
 pub use saving::save;

@@ -27,6 +27,21 @@ pub enum RecoverFault {
     Damaged,
 }
 
+/// Reads the byte that says which format a region has. A region that leases were kept in by an earlier
+/// version has 1 there.
+pub fn read_format<D: Disk>(region: u16, disk: &mut D) -> Result<u8, Fault>
+    requires { region < (D.device disk.old).count }
+    ensures format { D.tells ≡ true → IfOk result (λ format. format ≡ ((D.device disk.old).region region).byte 8192) }
+    ensures answer { D.tells ≡ true → is_ok result ≡ ((D.device disk.old).region region).readable }
+    ensures frame { TouchesNothing D.tells (D.device disk.old) (D.device disk.new) }
+    ensures reads { (D.device disk.new).reads ≡ (D.device disk.old).reads + 1 }
+    ensures failures { (D.device disk.new).failures ≡ faults_after result (D.device disk.old).failures }
+{
+    let mut bytes = [0; 1];
+    disk.read(region, FORMAT_AT, &mut bytes)?;
+    Ok(bytes[0])
+}
+
 /// Reads whether a region has the format that is read.
 fn has_format2<D: Disk>(region: u16, disk: &mut D) -> Result<bool, Fault>
     requires { region < (D.device disk.old).count }
@@ -36,9 +51,8 @@ fn has_format2<D: Disk>(region: u16, disk: &mut D) -> Result<bool, Fault>
     ensures reads { (D.device disk.new).reads ≡ (D.device disk.old).reads + 1 }
     ensures failures { (D.device disk.new).failures ≡ faults_after result (D.device disk.old).failures }
 {
-    let mut bytes = [0; 1];
-    disk.read(region, FORMAT_AT, &mut bytes)?;
-    Ok(bytes[0] == FORMAT)
+    let format = read_format(region, disk)?;
+    Ok(format == FORMAT)
 }
 
 /// Reads all slots of a region.

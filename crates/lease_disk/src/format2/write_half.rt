@@ -45,7 +45,10 @@ fn half_with(head: Head, key: &[u8]) -> HalfBytes
     ensures size { length result.items ≡ 256 }
 {
     let mut half = HalfBytes::new();
-    extend(&mut half, &[GATE_OPEN, head.state, key.len() as u8, head.sequence]);
+    extend(
+        &mut half,
+        &[GATE_OPEN, head.state, key.len() as u8, head.sequence],
+    );
     extend(&mut half, &head.iaid.to_be_bytes());
     extend(&mut half, &head.clock.to_be_bytes());
     extend(&mut half, &head.until.to_be_bytes());
@@ -67,7 +70,21 @@ pub fn write_half(sequence: u8, clock: Moment, content: &Content) -> HalfBytes
         Content::Four(Slot4::Free) | Content::Six(Slot6::Free) => (0, 0, 0, &[]),
         Content::Four(Slot4::Bound(key, until)) => (1, 0, *until, key.as_bytes()),
         Content::Six(Slot6::Bound(key, until)) => (1, key.iaid(), *until, key.duid()),
-        Content::Four(Slot4::Barred(until)) | Content::Six(Slot6::Barred(until)) => (2, 0, *until, &[]),
+        Content::Four(Slot4::Barred(until)) | Content::Six(Slot6::Barred(until)) => (
+            2,
+            0,
+            *until,
+            &[],
+        ),
     };
-    half_with(Head { sequence, state, iaid, clock, until }, key)
+    half_with(
+        Head {
+            sequence,
+            state,
+            iaid,
+            clock,
+            until,
+        },
+        key,
+    )
 }
