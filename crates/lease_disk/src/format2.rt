@@ -14,6 +14,6 @@ mod write_half;
 pub use content::Content;
 pub use formatting::{format, format_bytes, overwrite, put};
 pub use half::Marks;
-pub use layout::{FORMAT, FORMAT_AT, GATE_OPEN};
+pub use layout::{FORMAT, FORMAT_AT, GATE_OPEN, OLD_FORMAT};
 pub use recovering::{RecoverFault, read_format, recover};
 pub use saving::save;

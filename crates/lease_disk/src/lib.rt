@@ -12,7 +12,8 @@ mod writing;
 pub use device::{Disk, Fault, REGION};
 pub use file_disk::{FileDisk, FileFault};
 pub use format2::{
-    Content, FORMAT, FORMAT_AT, GATE_OPEN, Marks, RecoverFault, format, read_format, recover, save,
+    Content, FORMAT, FORMAT_AT, GATE_OPEN, Marks, OLD_FORMAT, RecoverFault, format, read_format,
+    recover, save,
 };
 pub use image::Image;
 pub use laws::{formats_an_empty_book, recovers_a_book};

@@ -9,6 +9,9 @@ pub const FORMAT_AT: usize = 8192;
 /// The format of the regions that this crate reads and writes. One of another format counts as damaged.
 pub const FORMAT: u8 = 2;
 
+/// What an earlier version wrote in place of `FORMAT`.
+pub const OLD_FORMAT: u8 = 1;
+
 /// Where the slots begin, and the bytes of all of them.
 pub const SLOTS_AT: usize = 16384;
 

@@ -27,8 +27,7 @@ pub enum RecoverFault {
     Damaged,
 }
 
-/// Reads the byte that says which format a region has. A region that leases were kept in by an earlier
-/// version has 1 there.
+/// Reads the byte that says which format a region has, which `recover` wants to be `FORMAT`.
 pub fn read_format<D: Disk>(region: u16, disk: &mut D) -> Result<u8, Fault>
     requires { region < (D.device disk.old).count }
     ensures format { D.tells ≡ true → IfOk result (λ format. format ≡ ((D.device disk.old).region region).byte 8192) }
