@@ -16,7 +16,7 @@ use crate::frame::{Framed, put_frame};
 use crate::sockets::{MAX_SERVED, SocketFault, Sockets};
 use config::Config;
 use dispatch::{OpenFault, Server};
-use lease_disk::FileDisk;
+use lease_disk::{Disk, FileDisk, OLD_FORMAT, read_format};
 use relay::Relays;
 use std::alloc::Global;
 use std::marker::Model;
@@ -191,6 +191,17 @@ impl Access {
         ensures { (result ≡ true) ↔ (slice_get (map is_some (books_in self.now.server)) circuit ≡ Some true) }
     {
         self.server.is_open(circuit)
+    }
+
+    /// Whether there is a region of this number whose format is that of an earlier version, as far as it can
+    /// be read.
+    pub fn has_old_format(&mut self, region: u16) -> bool
+        ensures rest { self.new ≡ record self.old { disk = self.new.disk } }
+        ensures regions { self.new.disk.regions ≡ self.old.disk.regions }
+        ensures writes { self.new.disk.writes ≡ self.old.disk.writes }
+        ensures exists { result ≡ true → region < self.old.disk.regions }
+    {
+        region < self.disk.regions() && read_format(region, &mut self.disk) == Ok(OLD_FORMAT)
     }
 
     /// What became of the datagrams that were taken.

@@ -79,19 +79,30 @@ fn refuse(rt: &HostRuntime, config: &Config, disk: &str, fault: AccessFault) -> 
     }
 }
 
+/// Why the circuit with this region is closed at the start.
+fn closed_by(access: &mut Access, region: u16) -> &'static str {
+    if access.has_old_format(region) {
+        "its region is of format 1, which this version does not serve"
+    } else {
+        "its region is damaged or can't be read"
+    }
+}
+
 /// Reports in one line what is served: the circuits, those that are closed as such, their ports and the
 /// file with the leases.
-fn report_start(rt: &HostRuntime, config: &Config, access: &Access, values: &AccessWords<'_>) {
+fn report_start(rt: &HostRuntime, config: &Config, access: &mut Access, values: &AccessWords<'_>) {
     let count = config.circuit_count();
     for index in 0..count {
         let Some(circuit) = Circuit::new(index) else {
             unreachable!()
         };
         let before = if index == 0 { "serving " } else { ", " };
-        let id = text_of(config.at(circuit).id.as_bytes());
+        let part = config.at(circuit);
+        let id = text_of(part.id.as_bytes());
         let _ = eprint!(rt; "{before}{id}");
         if !access.is_open(circuit) {
-            let _ = eprint!(rt; " (closed: its region is damaged or can't be read)");
+            let why = closed_by(access, part.region);
+            let _ = eprint!(rt; " (closed: {why})");
         }
     }
     let first = usize::from(values.port);
@@ -125,7 +136,7 @@ fn run(rt: &HostRuntime, values: AccessWords<'_>) -> u8
         Ok(access) => access,
         Err(fault) => return refuse(rt, &config, values.disk, fault),
     };
-    report_start(rt, &config, &access, &values);
+    report_start(rt, &config, &mut access, &values);
     access.serve(rt, values.turns, values.pause);
     complain(rt, *access.counts(), 0)
 }

@@ -3,13 +3,13 @@ ghost use Rattle.std.specs.Prelude.{◌≡◌, IfOk, slice_index, string_bytes, 
 ghost use Rattle.std.specs.List.{AllZip};
 ghost use Rattle.lease_disk.specs.Recovered.{recovered};
 ghost use Rattle.lease_list.specs.Line.{IsLeaseLine};
-ghost use Rattle.lease_list.specs.Listing.{AreLines};
+ghost use Rattle.lease_list.specs.Listing.{AreLines, closed_by};
 
 use crate::lease::{Lease, leases};
 use crate::line::{Closed, Form, closed_line, lease_line};
 use crate::region_copy::RegionCopy;
 use config::CircuitPart;
-use lease_disk::REGION;
+use lease_disk::{FORMAT_AT, OLD_FORMAT, REGION};
 use std::alloc::{AllocError, Global};
 use types::CircuitId;
 
@@ -41,8 +41,19 @@ fn lease_lines(
     Ok(lines)
 }
 
+/// Why a circuit is closed whose region has these bytes, which are those of no book.
+fn closed_by(bytes: &[u8; REGION]) -> Closed
+    ensures { result ≡ closed_by (slice_index bytes.now) }
+{
+    if bytes[FORMAT_AT] == OLD_FORMAT {
+        Closed::OldFormat
+    } else {
+        Closed::Damaged
+    }
+}
+
 /// The lines of a circuit whose region has these bytes: one for each of its leases that is live at a moment,
-/// in seconds, by address, DHCPv4 before DHCPv6; or one that its region is damaged. They have no line feeds.
+/// in seconds, by address, DHCPv4 before DHCPv6; or one that says why it is closed. They have no line feeds.
 /// The bytes are copied into `copy`, and what was in it is lost.
 pub fn region_lines(
     alloc: Global,
@@ -52,14 +63,14 @@ pub fn region_lines(
     at: u64,
     form: Form,
 ) -> Result<Vec<String>, AllocError>
-    ensures { IfOk result (λ lines. AreLines part.now at form (recovered (part.now.count4 ∷ part.now.count6 ∷ []) (slice_index bytes.now)) lines.items) }
+    ensures { IfOk result (λ lines. AreLines part.now at form (closed_by (slice_index bytes.now)) (recovered (part.now.count4 ∷ part.now.count6 ∷ []) (slice_index bytes.now)) lines.items) }
 {
     let circuit = text_of(part.id());
     if let Some(slots) = copy.slots(bytes, part.counts()) {
         let found = leases(alloc, part, &slots, at)?;
         return lease_lines(alloc, circuit, &found, at, form);
     }
-    let line = closed_line(alloc, circuit, Closed::Damaged, form)?;
+    let line = closed_line(alloc, circuit, closed_by(bytes), form)?;
     let mut lines = Vec::new(alloc);
     lines.push(line)?;
     Ok(lines)
