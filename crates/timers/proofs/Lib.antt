@@ -1,0 +1,2 @@
+pub mod DeadlineLemmas
+pub mod TreeLemmas

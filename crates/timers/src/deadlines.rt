@@ -1,0 +1,117 @@
+//! The table of deadlines.
+ghost use Rattle.std.specs.Prelude.{◌≡◌, ℕ, ◌+◌, ◌<◌, ◌≤◌, ◌↔◌, map, length, replicate, slice_set, count_by, IfOk, IfSome, IsNone};
+ghost use Rattle.types.specs.Slots.{last_until};
+ghost use Rattle.timers.specs.Deadlines.{deadline, is_due, entry_after_sweep};
+
+use crate::tree::Tree;
+use std::alloc::{AllocError, Global};
+use std::marker::Model;
+use types::{Count, Moment};
+
+/// The most slots of a table: 32 for each of 1024 circuits.
+pub const MAX_SLOTS: usize = 32768;
+
+/// Stands for no deadline: later than every deadline.
+const NEVER: u64 = u64::MAX;
+
+/// Until when each slot has a deadline, in seconds. A slot has one deadline at most.
+#[derive(Drop)]
+pub struct Deadlines {
+    tree: Tree,
+    looks: Count,
+}
+
+impl Model for Deadlines {
+    ghost use Rattle.std.specs.Prelude.{ℕ, ◌≤◌, map, slice_index};
+    ghost use Rattle.timers.specs.Deadlines.{DeadlinesValue};
+    ghost use Rattle.timers.specs.Layout.{entry_of};
+    ghost use Rattle.timers.specs.declared.deadlines.TheConstants.{NEVER};
+
+    ghost Value = { DeadlinesValue };
+
+    ghost view = { λ d. record { slots = map entry_of d.tree; looks = d.looks.count } };
+
+    ghost invariant = { λ d. (k : ℕ) → slice_index d.tree k ≤ NEVER };
+}
+
+impl Deadlines {
+    /// No deadline of so many slots. Takes all memory, in one request; an error only where that is
+    /// refused.
+    pub fn new(alloc: Global, slots: usize) -> Result<Deadlines, AllocError>
+        requires least { 1 ≤ slots }
+        requires most { slots ≤ MAX_SLOTS }
+        ensures { IfOk result (λ d. d ≡ record { slots = replicate slots None; looks = 0 }) }
+    {
+        Ok(Deadlines {
+            tree: Tree::new(alloc, slots, NEVER)?,
+            looks: Count::new(),
+        })
+    }
+
+    /// How many slots there are.
+    pub fn count(&self) -> usize
+        ensures { result ≡ length self.now.slots }
+    {
+        self.tree.count()
+    }
+
+    /// Replaces the slot's deadline.
+    pub fn set(&mut self, slot: usize, until: u64)
+        requires slot { slot < length self.old.slots }
+        requires until { until ≤ last_until }
+        ensures { self.new ≡ record self.old { slots = slice_set self.old.slots slot (Some until) } }
+    {
+        self.tree.set(slot, until);
+    }
+
+    pub fn clear(&mut self, slot: usize)
+        requires { slot < length self.old.slots }
+        ensures { self.new ≡ record self.old { slots = slice_set self.old.slots slot None } }
+    {
+        self.tree.set(slot, NEVER);
+    }
+
+    pub fn get(&self, slot: usize) -> Option<u64>
+        requires { slot < length self.now.slots }
+        ensures { result ≡ deadline self.now.slots slot }
+    {
+        let until = self.tree.get(slot);
+        if until == NEVER { None } else { Some(until) }
+    }
+
+    /// A slot with the least deadline, and that deadline. Counts as one look.
+    pub fn last(&mut self) -> Option<(usize, u64)>
+        ensures slots { self.new.slots ≡ self.old.slots }
+        ensures looks { self.new.looks ≡ self.old.looks + 1 }
+        ensures none { IsNone result ↔ ((slot : ℕ) → deadline self.old.slots slot ≡ None) }
+        ensures there { IfSome result (λ entry. entry.0 < length self.old.slots) }
+        ensures entry { IfSome result (λ entry. deadline self.old.slots entry.0 ≡ Some entry.1) }
+        ensures least { IfSome result (λ entry. (slot until : ℕ) → deadline self.old.slots slot ≡ Some until → entry.1 ≤ until) }
+    {
+        self.looks.tick();
+        let slot = self.tree.least_below(NEVER)?;
+        Some((slot, self.tree.get(slot)))
+    }
+
+    /// Removes every deadline that is due, which is at most `now`. It reads them by `last` alone.
+    pub fn sweep(&mut self, now: Moment)
+        ensures slots { self.new.slots ≡ map (entry_after_sweep now) self.old.slots }
+        ensures looks { self.new.looks ≤ count_by (is_due now) self.old.slots + 1 }
+    {
+        self.looks = Count::new();
+        self.remove_due(now.seconds());
+    }
+
+    /// The same, with the looks added to those before.
+    fn remove_due(&mut self, now: u64)
+        ensures slots { self.new.slots ≡ map (entry_after_sweep now) self.old.slots }
+        ensures looks { self.new.looks ≡ self.old.looks + count_by (is_due now) self.old.slots + 1 }
+    {
+        while let Some((slot, until)) = self.last() {
+            if until > now {
+                return;
+            }
+            self.clear(slot);
+        }
+    }
+}

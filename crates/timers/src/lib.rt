@@ -1,0 +1,7 @@
+//! When the slots of all circuits are due.
+#![tactic(auto)]
+
+mod deadlines;
+mod tree;
+
+pub use deadlines::{Deadlines, MAX_SLOTS};
