@@ -1,7 +1,7 @@
 -- The deadlines that a row of numbers shows, and what a sweep leaves of them.
-use Rattle.std.proofs.Common.{◌≡◌, ℕ, zero, suc, ◌+◌, ◌<◌, ◌≤◌, ◌⊎◌, Bool, true, false, cond, Option, Some, None, List, [], ◌∷◌, map, length, get_or, set, replicate, count_by, ap, ap₂, sym, subst, refl, ◌∙◌, arith, inl, inr}
-use Rattle.std.specs.Prelude.{nat_le, ◌==◌}
-use Rattle.std.proofs.lemmas.Bool.{cases_eq, cases_lt, cond-true, cond-false}
+use Rattle.std.proofs.Common.{◌≡◌, ℕ, zero, suc, ◌+◌, ◌<◌, ◌≤◌, Bool, true, false, cond, Option, Some, None, List, [], ◌∷◌, map, length, get_or, set, replicate, count_by, ap, ap₂, sym, subst, refl, ◌∙◌, arith, inl, inr}
+use Rattle.std.specs.Prelude.{nat_le, nat_lt}
+use Rattle.std.proofs.lemmas.Bool.{cases_lt, cond-true, cond-false}
 use Rattle.std.proofs.lemmas.Bool.Decides.{nat_tests}
 use Rattle.std.proofs.lemmas.List.{map-set, get_or-map, get_or_past, set-get_or, length-map}
 use Rattle.std.proofs.lemmas.List.Sums.{sum_by-cons, sum_by-set}
@@ -13,18 +13,18 @@ use Rattle.timers.specs.declared.deadlines.TheConstants.{NEVER}
 -- ---- one entry
 
 pub entry_of_until : (until : ℕ) → until ≤ last_until → entry_of until ≡ Some until
-entry_of_until until within = cond-false (until == NEVER) None (Some until) (grind (arith, nat_tests))
+entry_of_until until within = cond-true (nat_lt until NEVER) (Some until) None (grind (arith, nat_tests))
 
-entry_cases : (number : ℕ) → ((number ≡ NEVER) × (entry_of number ≡ None)) ⊎ (entry_of number ≡ Some number)
-entry_cases number = elim (cases_eq number NEVER) [
-  | inl never ↦ inl (never, cond-true (number == NEVER) None (Some number) (grind (arith, nat_tests)))
-  | inr other ↦ inr (cond-false (number == NEVER) None (Some number) (grind (arith, nat_tests)))
-]
+entry_of_never : (number : ℕ) → NEVER ≤ number → entry_of number ≡ None
+entry_of_never number never = cond-false (nat_lt number NEVER) (Some number) None (grind (arith, nat_tests))
+
+entry_of_number : (number : ℕ) → number < NEVER → entry_of number ≡ Some number
+entry_of_number number below = cond-true (nat_lt number NEVER) (Some number) None (grind (arith, nat_tests))
 
 until_of_entry : (number until : ℕ) → entry_of number ≡ Some until → number ≡ until
-until_of_entry number until entry = elim (entry_cases number) [
-  | inl never ↦ let none = never.1 in cc
-  | inr some ↦ cc
+until_of_entry number until entry = elim (cases_lt number NEVER) [
+  | inl below ↦ let some = entry_of_number number below in cc
+  | inr never ↦ let none = entry_of_never number never in cc
 ]
 
 -- ---- the deadlines that a row of numbers shows
@@ -52,41 +52,37 @@ shown_at_first row looks count all none =
     let made : List (Option ℕ) → ℕ → DeadlinesValue = λ s n. record { slots = s; looks = n } in
     ap₂ made (ap (map entry_of) all ∙ none_at_first count) none
 
-deadline_shown : (row : List ℕ) (slot : ℕ) → slot < length row → deadline (map entry_of row) slot ≡ entry_of (get_or row slot 0)
-deadline_shown row slot low = get_or-map entry_of row slot 0 None low
+entry_there : (row : List ℕ) (slot : ℕ) → slot < length row → get_or (map entry_of row) slot None ≡ entry_of (get_or row slot 0)
+entry_there row slot low = get_or-map entry_of row slot 0 None low
 
-deadline_past : (row : List ℕ) (slot : ℕ) → length row ≤ slot → deadline (map entry_of row) slot ≡ None
-deadline_past row slot past = get_or_past (map entry_of row) slot None (let count = length-map row entry_of in omega arith)
+entry_past : (row : List ℕ) (slot : ℕ) → length row ≤ slot → get_or (map entry_of row) slot None ≡ None
+entry_past row slot past = get_or_past (map entry_of row) slot None (let count = length-map row entry_of in omega arith)
 
--- a deadline that is shown is a number of the row
-pub deadline_in_row : (row : List ℕ) (looks slot until : ℕ) (old : DeadlinesValue) → shown row looks ≡ old → deadline old.slots slot ≡ Some until → (slot < length row) × (get_or row slot 0 ≡ until)
-deadline_in_row row looks slot until old view has =
-    let here : deadline (map entry_of row) slot ≡ Some until = ap (λ (o : DeadlinesValue). deadline o.slots slot) view ∙ has in
-    elim (cases_lt slot (length row)) [
-      | inl low ↦ (low, until_of_entry (get_or row slot 0) until (sym (deadline_shown row slot low) ∙ here))
-      | inr past ↦ let none = deadline_past row slot past in cc
-    ]
+-- `table` is what a row shows
+module _ (row : List ℕ) (looks : ℕ) (table : DeadlinesValue) (view : shown row looks ≡ table) where
+  entry_is : (slot : ℕ) → get_or (map entry_of row) slot None ≡ deadline table slot
+  entry_is slot = ap (λ t. deadline t slot) view
 
-pub none_in_row : (row : List ℕ) (looks : ℕ) (old : DeadlinesValue) → shown row looks ≡ old
-    → ((k : ℕ) → get_or row k 0 ≤ NEVER) → ((k : ℕ) → k < length row → NEVER ≤ get_or row k 0) → (slot : ℕ) → deadline old.slots slot ≡ None
-none_in_row row looks old view most least slot =
-    ap (λ (o : DeadlinesValue). deadline o.slots slot) (sym view)
-    ∙ elim (cases_lt slot (length row)) [
-      | inl low ↦
-          let never : get_or row slot 0 ≡ NEVER = omega (arith, most slot, least slot low) in
-          deadline_shown row slot low ∙ ap entry_of never
-      | inr past ↦ deadline_past row slot past
-    ]
+  -- a deadline is a number of the row
+  pub deadline_in_row : (slot until : ℕ) → deadline table slot ≡ Some until → (slot < length row) × (get_or row slot 0 ≡ until)
+  deadline_in_row slot until has = elim (cases_lt slot (length row)) [
+    | inl low ↦ (low, until_of_entry (get_or row slot 0) until (sym (entry_there row slot low) ∙ entry_is slot ∙ has))
+    | inr past ↦ let none = entry_past row slot past in let same = entry_is slot in cc
+  ]
 
-pub some_in_row : (row : List ℕ) (looks slot : ℕ) (old : DeadlinesValue) → shown row looks ≡ old → slot < length row → get_or row slot 0 < NEVER
-    → ((s : ℕ) → deadline old.slots s ≡ None) → ⊥
-some_in_row row looks slot old view low below none =
-    let here : deadline (map entry_of row) slot ≡ None = ap (λ (o : DeadlinesValue). deadline o.slots slot) view ∙ none slot in
-    let entry : entry_of (get_or row slot 0) ≡ None = sym (deadline_shown row slot low) ∙ here in
-    elim (entry_cases (get_or row slot 0)) [
-      | inl never ↦ absurd (omega (arith, never.0))
-      | inr some ↦ cc
-    ]
+  pub none_in_row : ((k : ℕ) → k < length row → NEVER ≤ get_or row k 0) → (slot : ℕ) → deadline table slot ≡ None
+  none_in_row never slot = sym (entry_is slot) ∙ elim (cases_lt slot (length row)) [
+    | inl low ↦ entry_there row slot low ∙ entry_of_never (get_or row slot 0) (never slot low)
+    | inr past ↦ entry_past row slot past
+  ]
+
+  pub some_in_row : (slot : ℕ) → slot < length row → get_or row slot 0 < NEVER → ((s : ℕ) → deadline table s ≡ None) → ⊥
+  some_in_row slot low below none =
+      let there = entry_there row slot low in
+      let some = entry_of_number (get_or row slot 0) below in
+      let same = entry_is slot in
+      let gone = none slot in
+      cc
 
 -- ---- a sweep
 
@@ -106,8 +102,8 @@ due_count now entry = cond (is_due now entry) 1 0
 due_count_of : (now : ℕ) (entry : Option ℕ) (b : Bool) → is_due now entry ≡ b → due_count now entry ≡ cond b 1 0
 due_count_of now entry b is = let count : Bool → ℕ = λ t. cond t 1 0 in ap count is
 
--- a sweep of a table in which nothing is due
-pub none_due : (now : ℕ) (slots : List (Option ℕ)) → ((slot until : ℕ) → deadline slots slot ≡ Some until → now < until)
+-- entries of which none is due
+none_due : (now : ℕ) (slots : List (Option ℕ)) → ((slot until : ℕ) → get_or slots slot None ≡ Some until → now < until)
     → (map (entry_after_sweep now) slots ≡ slots) × (count_by (is_due now) slots ≡ 0)
 none_due now [] later = (refl, refl)
 none_due now (None ∷ slots) later =
@@ -120,8 +116,8 @@ none_due now (Some until ∷ slots) later =
     let counted : due_count now (Some until) ≡ 0 = due_count_of now (Some until) false stays in
     (ap₂ (λ (x : Option ℕ) s. x ∷ s) entry rest.0, omega (arith, sum_by-cons (due_count now) (Some until) slots, counted, rest.1))
 
--- a sweep of a table from which one due entry was removed
-pub one_less : (now slot until : ℕ) (slots : List (Option ℕ)) → deadline slots slot ≡ Some until → slot < length slots → until ≤ now
+-- entries from which one was removed that is due
+one_less : (now slot until : ℕ) (slots : List (Option ℕ)) → get_or slots slot None ≡ Some until → slot < length slots → until ≤ now
     → (map (entry_after_sweep now) (set slots slot None) ≡ map (entry_after_sweep now) slots) × (count_by (is_due now) (set slots slot None) + 1 ≡ count_by (is_due now) slots)
 one_less now slot until slots has low past =
     let gone : None ≡ get_or (map (entry_after_sweep now) slots) slot None =
@@ -133,33 +129,37 @@ one_less now slot until slots has low past =
     let one : due_count now (get_or slots slot None) ≡ 1 = ap (due_count now) has ∙ due_count_of now (Some until) true (due now until past) in
     (same, omega (arith, sum_by-set (due_count now) slots slot None None low, one))
 
--- where no slot has a deadline, none is due
-pub all_later : (now : ℕ) (slots : List (Option ℕ)) → ((slot : ℕ) → deadline slots slot ≡ None) → (slot until : ℕ) → deadline slots slot ≡ Some until → now < until
-all_later now slots none slot until has = let gone = none slot in absurd (cc)
+-- a sweep has come from one table to another: it will leave the same, and each look so far removed an entry
+pub record HasSwept (now : ℕ) (old reached : DeadlinesValue) : Type 0 where
+  pub left : map (entry_after_sweep now) reached.slots ≡ map (entry_after_sweep now) old.slots
+  pub looks : reached.looks + count_by (is_due now) reached.slots ≡ old.looks + count_by (is_due now) old.slots
 
--- the last look of a sweep: nothing is due that is left
-pub swept : (now : ℕ) (old reached after : DeadlinesValue)
-    → map (entry_after_sweep now) reached.slots ≡ map (entry_after_sweep now) old.slots
-    → reached.looks + count_by (is_due now) reached.slots ≡ old.looks + count_by (is_due now) old.slots
-    → after.slots ≡ reached.slots → after.looks ≡ reached.looks + 1
-    → ((slot until : ℕ) → deadline reached.slots slot ≡ Some until → now < until)
-    → (after.slots ≡ map (entry_after_sweep now) old.slots) × (after.looks ≡ old.looks + count_by (is_due now) old.slots + 1)
-swept now old reached after left looks slots look later =
-    let none = none_due now reached.slots later in
-    (slots ∙ sym none.0 ∙ left, omega (arith, none.1, looks, look))
+-- a look changes no entry
+pub record IsLook (old looked : DeadlinesValue) : Type 0 where
+  pub slots : looked.slots ≡ old.slots
+  pub looks : looked.looks ≡ old.looks + 1
 
--- one turn of a sweep: a look, and an entry that is due removed
-pub one_removed : (now slot until : ℕ) (old reached looked cleared : DeadlinesValue)
-    → map (entry_after_sweep now) reached.slots ≡ map (entry_after_sweep now) old.slots
-    → reached.looks + count_by (is_due now) reached.slots ≡ old.looks + count_by (is_due now) old.slots
-    → looked.slots ≡ reached.slots → looked.looks ≡ reached.looks + 1
-    → cleared ≡ record { slots = set looked.slots slot None; looks = looked.looks }
-    → deadline reached.slots slot ≡ Some until → slot < length reached.slots → until ≤ now
-    → (map (entry_after_sweep now) cleared.slots ≡ map (entry_after_sweep now) old.slots)
-    × (cleared.looks + count_by (is_due now) cleared.slots ≡ old.looks + count_by (is_due now) old.slots)
-one_removed now slot until old reached looked cleared left looks slots look clear has low past =
-    let less = one_less now slot until reached.slots has low past in
-    let same : cleared.slots ≡ set reached.slots slot None = ap (λ (d : DeadlinesValue). d.slots) clear ∙ ap (λ s. set s slot None) slots in
-    let counted : cleared.looks ≡ looked.looks = ap (λ (d : DeadlinesValue). d.looks) clear in
-    let fewer : count_by (is_due now) cleared.slots ≡ count_by (is_due now) (set reached.slots slot None) = ap (count_by (is_due now)) same in
-    (ap (map (entry_after_sweep now)) same ∙ less.0 ∙ left, omega (arith, less.1, counted, fewer))
+module _ {now : ℕ} {old reached looked : DeadlinesValue} (so_far : HasSwept now old reached) (look : IsLook reached looked) where
+  -- the last look finds nothing that is due
+  pub swept : ((slot until : ℕ) → deadline reached slot ≡ Some until → now < until)
+      → (looked.slots ≡ map (entry_after_sweep now) old.slots) × (looked.looks ≡ old.looks + count_by (is_due now) old.slots + 1)
+  swept later =
+      let none = none_due now reached.slots later in
+      (look.slots ∙ sym none.0 ∙ so_far.left, omega (arith, none.1, so_far.looks, look.looks))
+
+  pub swept_all : ((slot : ℕ) → deadline reached slot ≡ None)
+      → (looked.slots ≡ map (entry_after_sweep now) old.slots) × (looked.looks ≡ old.looks + count_by (is_due now) old.slots + 1)
+  swept_all none = swept (λ slot until has. let gone = none slot in absurd (cc))
+
+  -- each look before it finds an entry that is due
+  pub one_removed : (slot until : ℕ) (cleared : DeadlinesValue) → cleared ≡ record { slots = set looked.slots slot None; looks = looked.looks }
+      → deadline reached slot ≡ Some until → slot < length reached.slots → until ≤ now → HasSwept now old cleared
+  one_removed slot until cleared clear has low past =
+      let less = one_less now slot until reached.slots has low past in
+      let same : cleared.slots ≡ set reached.slots slot None = ap (λ (d : DeadlinesValue). d.slots) clear ∙ ap (λ s. set s slot None) look.slots in
+      let counted : cleared.looks ≡ looked.looks = ap (λ (d : DeadlinesValue). d.looks) clear in
+      let fewer : count_by (is_due now) cleared.slots ≡ count_by (is_due now) (set reached.slots slot None) = ap (count_by (is_due now)) same in
+      record {
+        left = ap (map (entry_after_sweep now)) same ∙ less.0 ∙ so_far.left;
+        looks = omega (arith, less.1, counted, fewer, so_far.looks, look.looks);
+      }

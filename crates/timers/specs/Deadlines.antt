@@ -8,8 +8,8 @@ pub record DeadlinesValue : Type 0 where
   pub looks : ℕ
 
 -- until when a slot has its deadline; None where it has none, or is not there
-abbrev pub deadline : List (Option ℕ) → ℕ → Option ℕ
-deadline slots slot = slice_index_or slots slot None
+abbrev pub deadline : DeadlinesValue → ℕ → Option ℕ
+deadline table slot = slice_index_or table.slots slot None
 
 -- an entry is due from its deadline on
 abbrev pub is_due : ℕ → Option ℕ → Bool

@@ -22,16 +22,13 @@ pub struct Deadlines {
 }
 
 impl Model for Deadlines {
-    ghost use Rattle.std.specs.Prelude.{ℕ, ◌≤◌, map, slice_index};
+    ghost use Rattle.std.specs.Prelude.{map};
     ghost use Rattle.timers.specs.Deadlines.{DeadlinesValue};
     ghost use Rattle.timers.specs.Layout.{entry_of};
-    ghost use Rattle.timers.specs.declared.deadlines.TheConstants.{NEVER};
 
     ghost Value = { DeadlinesValue };
 
     ghost view = { λ d. record { slots = map entry_of d.tree; looks = d.looks.count } };
-
-    ghost invariant = { λ d. (k : ℕ) → slice_index d.tree k ≤ NEVER };
 }
 
 impl Deadlines {
@@ -73,20 +70,20 @@ impl Deadlines {
 
     pub fn get(&self, slot: usize) -> Option<u64>
         requires { slot < length self.now.slots }
-        ensures { result ≡ deadline self.now.slots slot }
+        ensures { result ≡ deadline self.now slot }
     {
         let until = self.tree.get(slot);
-        if until == NEVER { None } else { Some(until) }
+        if until < NEVER { Some(until) } else { None }
     }
 
     /// A slot with the least deadline, and that deadline. Counts as one look.
     pub fn last(&mut self) -> Option<(usize, u64)>
         ensures slots { self.new.slots ≡ self.old.slots }
         ensures looks { self.new.looks ≡ self.old.looks + 1 }
-        ensures none { IsNone result ↔ ((slot : ℕ) → deadline self.old.slots slot ≡ None) }
-        ensures there { IfSome result (λ entry. entry.0 < length self.old.slots) }
-        ensures entry { IfSome result (λ entry. deadline self.old.slots entry.0 ≡ Some entry.1) }
-        ensures least { IfSome result (λ entry. (slot until : ℕ) → deadline self.old.slots slot ≡ Some until → entry.1 ≤ until) }
+        ensures none { IsNone result ↔ ((slot : ℕ) → deadline self.old slot ≡ None) }
+        ensures within { IfSome result (λ entry. entry.0 < length self.old.slots) }
+        ensures entry { IfSome result (λ entry. deadline self.old entry.0 ≡ Some entry.1) }
+        ensures least { IfSome result (λ entry. (slot until : ℕ) → deadline self.old slot ≡ Some until → entry.1 ≤ until) }
     {
         self.looks.tick();
         let slot = self.tree.least_below(NEVER)?;

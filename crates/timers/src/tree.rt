@@ -1,5 +1,5 @@
 //! A row of numbers whose least is always known.
-ghost use Rattle.std.specs.Prelude.{◌≡◌, ◌*◌, ◌/◌, ◌<◌, ◌≤◌, drop, length, replicate, slice_index, slice_set, EachIndex, IfOk, IfSome, IfNone};
+ghost use Rattle.std.specs.Prelude.{◌≡◌, ◌*◌, ◌/◌, ◌^◌, ◌<◌, ◌≤◌, drop, length, replicate, slice_index, slice_set, EachIndex, IfOk, IfSome, IfNone};
 ghost use Rattle.timers.specs.Tree.{AreLesser, AreLesserBut};
 
 use std::alloc::{AllocError, Global};
@@ -30,7 +30,7 @@ impl Tree {
     /// So many numbers, all of them this one.
     pub(crate) fn new(alloc: Global, leaves: usize, number: u64) -> Result<Tree, AllocError>
         requires least { 1 ≤ leaves }
-        requires most { leaves ≤ 32768 }
+        requires most { 2 * leaves < 2 ^ 64 }
         ensures { IfOk result (λ tree. tree ≡ replicate leaves number) }
     {
         let nodes = Vec::from_elem(alloc, number, 2 * leaves)?;
@@ -75,7 +75,7 @@ impl Tree {
     }
 }
 
-/// Makes the nodes above this one right again.
+/// Makes each node above this one the lesser again, up to the first that stays as it is.
 fn carry_up(nodes: &mut [u64], leaves: usize, changed: usize)
     requires nodes { length nodes.old ≡ 2 * leaves }
     requires changed { changed < 2 * leaves }
@@ -94,7 +94,7 @@ fn carry_up(nodes: &mut [u64], leaves: usize, changed: usize)
     }
 }
 
-/// A leaf that is as low as the root, by its node.
+/// A leaf with the least number, by its node: the way down from the root goes by nodes as low as it.
 fn least_node(nodes: &[u64], leaves: usize) -> usize
     requires some { 1 ≤ leaves }
     requires nodes { length nodes.now ≡ 2 * leaves }
