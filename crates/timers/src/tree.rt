@@ -75,7 +75,8 @@ impl Tree {
     }
 }
 
-/// Makes each node above this one the lesser again, up to the first that stays as it is.
+/// Makes each node above the changed one the lesser of the two below it again, up to the first that
+/// stays as it is.
 fn carry_up(nodes: &mut [u64], leaves: usize, changed: usize)
     requires nodes { length nodes.old ≡ 2 * leaves }
     requires changed { changed < 2 * leaves }
@@ -94,7 +95,7 @@ fn carry_up(nodes: &mut [u64], leaves: usize, changed: usize)
     }
 }
 
-/// A leaf with the least number, by its node: the way down from the root goes by nodes as low as it.
+/// The node of a leaf with the least number: down from the root, always to a node as low as the root.
 fn least_node(nodes: &[u64], leaves: usize) -> usize
     requires some { 1 ≤ leaves }
     requires nodes { length nodes.now ≡ 2 * leaves }
