@@ -8,9 +8,6 @@ use std::alloc::{AllocError, Global};
 use std::marker::Model;
 use types::{Count, Moment};
 
-/// The most slots of a table: 32 for each of 1024 circuits.
-pub const MAX_SLOTS: usize = 32768;
-
 /// Stands for no deadline: later than every deadline.
 const NEVER: u64 = u64::MAX;
 
@@ -32,11 +29,11 @@ impl Model for Deadlines {
 }
 
 impl Deadlines {
-    /// No deadline of so many slots. Takes all memory, in one request; an error only where that is
-    /// refused.
+    /// No deadline of so many slots, which are at most those of 1024 circuits. Takes all memory, in one
+    /// request; an error only where that is refused.
     pub fn new(alloc: Global, slots: usize) -> Result<Deadlines, AllocError>
         requires least { 1 ≤ slots }
-        requires most { slots ≤ MAX_SLOTS }
+        requires most { slots ≤ 32768 }
         ensures { IfOk result (λ d. d ≡ record { slots = replicate slots None; looks = 0 }) }
     {
         Ok(Deadlines {

@@ -4,4 +4,4 @@
 mod deadlines;
 mod tree;
 
-pub use deadlines::{Deadlines, MAX_SLOTS};
+pub use deadlines::Deadlines;
