@@ -4,6 +4,8 @@ use Rattle.std.specs.Prelude.{Option, Some, None, IfSome}
 use Rattle.std.specs.Str.{bytes_eq}
 use Rattle.slots.specs.Kept.{AreWithin}
 use Rattle.slots.specs.declared.holder.Holder.TheVariants.{Offered}
+use Rattle.slots.specs.KeyLaws.{key4_is_key}
+use Rattle.slots.proofs.FitLemmas.{offered_own}
 use Rattle.slots.proofs.KeptLemmas.{slot_within}
 use Rattle.types.specs.Addr.{number4}
 use Rattle.types.specs.Slots.{IsWithin4}
@@ -15,26 +17,26 @@ use Rattle.bindings_v4.specs.declared.decision4.KeptSlot.{KeptSlot}
 use Rattle.bindings_v4.specs.declared.decision4.OfferChange.{OfferChange}
 use Rattle.bindings_v4.specs.declared.decision4.OfferChange.TheVariants as offer
 use Rattle.bindings_v4.specs.Kept4.{EndsBy}
-use Rattle.bindings_v4.specs.Decision4.{keep_of, decision_of}
-use Rattle.bindings_v4.specs.Slots4.{Holders4, PoolSlots, AreSlots, with_offer, with_kept, holder_of}
+use Rattle.bindings_v4.specs.Decision4.{IsOffer, offer_of, keep_of, decision_of}
+use Rattle.bindings_v4.specs.Slots4.{Holders4, PoolSlots, AreSlots, IsOfferWithin, with_offer, with_kept, holder_of}
 use Rattle.bindings_v4.specs.Table4.{Change}
 use Rattle.bindings_v4.proofs.KeptLemmas.{holder_within}
 use Rattle.bindings_v4.proofs.RowLemmas.{OfChanges, found, row, of_row}
 
 -- ---- what is committed
 
-offer_within : (change : Option OfferChange) (ss : Holders4) → AreWithin ss → AreWithin (with_offer change ss)
-offer_within None ss w = w
-offer_within (Some (offer.Made i k u)) ss w = slot_within bytes_eq i (Some (Offered k u)) ss w tt
-offer_within (Some (offer.Withdrawn i)) ss w = slot_within bytes_eq i None ss w tt
+offer_within : (change : Option OfferChange) (ss : Holders4) → AreWithin ss → IfSome change IsOfferWithin → AreWithin (with_offer change ss)
+offer_within None ss w h = w
+offer_within (Some (offer.Made i k u)) ss w h = slot_within bytes_eq i (Some (Offered k u)) ss w h
+offer_within (Some (offer.Withdrawn i)) ss w h = slot_within bytes_eq i None ss w tt
 
 keep_within : (keep : Option KeptSlot) (ss : Holders4) → AreWithin ss → IfSome keep (λ kept. IsWithin4 kept.content) → AreWithin (with_kept keep ss)
 keep_within None ss w h = w
 keep_within (Some kept) ss w h = slot_within bytes_eq kept.slot (holder_of kept.content) ss w (holder_within kept.content h)
 
 pub committed_within : (change : Option OfferChange) (keep : Option KeptSlot) (ss new : Holders4) → new ≡ with_kept keep (with_offer change ss)
-    → AreWithin ss → IfSome keep (λ kept. IsWithin4 kept.content) → AreWithin new
-committed_within change keep ss new e w h = subst (λ (xs : Holders4). AreWithin xs) (sym e) (keep_within keep (with_offer change ss) (offer_within change ss w) h)
+    → AreWithin ss → IfSome keep (λ kept. IsWithin4 kept.content) → IfSome change IsOfferWithin → AreWithin new
+committed_within change keep ss new e w h o = subst (λ (xs : Holders4). AreWithin xs) (sym e) (keep_within keep (with_offer change ss) (offer_within change ss w o) h)
 
 -- ---- what is decided
 
@@ -58,6 +60,25 @@ module _ (v : PoolSlots) (t : ℕ) (are : AreSlots v.pool v.slots) where
   decided_in_time m d e =
       subst (λ (x : Decision4). IfSome x.keep (λ kept. EndsBy (t + 604800) kept.content)) (sym e) (of_row v t m are (EndsInTime m.key) (ends_in_time m.key))
 
+  -- and what is offered is a slot of the pool, for a minute
+  abbrev OffersInTime : List ℕ → Change → Type 0
+  OffersInTime k c = IfSome (offer_of (number4 v.pool.first) k c) (IsOffer t v.pool.count)
+
+  offers_in_time : (k : List ℕ) → OfChanges v t k are (OffersInTime k)
+  offers_in_time k =
+      record {
+        unchanged = tt;
+        offers = λ i fit none. (omega (arith, fit.below, are.size), omega arith);
+        withdraws = λ i is. omega (arith, (offered_own key4_is_key t k v.slots i is).0, are.size);
+        binds = λ i fit clear. tt;
+        bars = λ i is. tt;
+        frees = λ i is. tt;
+      }
+
+  pub offered_in_time : (m : Request4) (d : Decision4) → d ≡ decision_of (number4 v.pool.first) t m.key (row v t m are v.pool (found v t m are)) → IfSome d.offer (IsOffer t v.pool.count)
+  offered_in_time m d e =
+      subst (λ (x : Decision4). IfSome x.offer (IsOffer t v.pool.count)) (sym e) (of_row v t m are (OffersInTime m.key) (offers_in_time m.key))
+
 -- what ends within a week of a clock is within the limit of what a region keeps
 pub ends_within : (clock : ℕ) → clock ≤ 1099511627775 → (content : Slot4) → EndsBy (clock + 604800) content → IsWithin4 content
 ends_within clock limit slot4.Free h = tt
@@ -68,3 +89,9 @@ ends_within clock limit (slot4.Barred until) h = omega (arith, limit, h)
 pub keep_ends_within : (clock : ℕ) → clock ≤ 1099511627775 → (keep : Option KeptSlot) → IfSome keep (λ kept. EndsBy (clock + 604800) kept.content) → IfSome keep (λ kept. IsWithin4 kept.content)
 keep_ends_within clock limit None h = tt
 keep_ends_within clock limit (Some kept) h = ends_within clock limit kept.content h
+
+-- and so with an offer that it makes
+pub offer_ends_within : (clock count : ℕ) → clock ≤ 1099511627775 → (change : Option OfferChange) → IfSome change (IsOffer clock count) → IfSome change IsOfferWithin
+offer_ends_within clock count limit None h = tt
+offer_ends_within clock count limit (Some (offer.Made i k u)) h = omega (arith, limit, h.1)
+offer_ends_within clock count limit (Some (offer.Withdrawn i)) h = tt

@@ -1,6 +1,6 @@
 -- A row of the table as a decision about slots: the change of offers, and the one slot that is kept on
 -- the disk. Slot i is the pool's address i; `first` is the address of slot 0.
-use Rattle.std.specs.Prelude.{ℕ, ◌-◌, List, Option, Some, None}
+use Rattle.std.specs.Prelude.{ℕ, ◌+◌, ◌-◌, ◌<◌, ◌≤◌, List, Option, Some, None}
 use Rattle.types.specs.declared.slot4.Slot4.TheVariants as content
 use Rattle.bindings_v4.specs.declared.decision4.Decision4.{Decision4}
 use Rattle.bindings_v4.specs.declared.decision4.KeptSlot.{KeptSlot}
@@ -27,3 +27,8 @@ keep_of first client (Frees address) = Some (record { slot = address - first; co
 abbrev pub decision_of : ℕ → ℕ → List ℕ → Row → Decision4
 decision_of first clock client row =
     record { clock = clock; answer = row.answer; offer = offer_of first client row.change; keep = keep_of first client row.change }
+
+-- an offer is of a slot of the pool, and lasts a minute at most
+abbrev pub IsOffer : ℕ → ℕ → OfferChange → Type 0
+IsOffer clock count (offer.Made slot client until) = (slot < count) × (until ≤ clock + 60)
+IsOffer clock count (offer.Withdrawn slot) = slot < count

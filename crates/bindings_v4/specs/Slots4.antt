@@ -1,5 +1,5 @@
 -- Which book the slots of a pool show: slot i is the pool's address i, the lowest is 0.
-use Rattle.std.specs.Prelude.{◌≡◌, ℕ, length, List, Option, Some, None}
+use Rattle.std.specs.Prelude.{◌≡◌, ◌≤◌, ℕ, length, List, Option, Some, None}
 use Rattle.std.specs.Str.{bytes_eq}
 use Rattle.slots.specs.Key.{key4_cmp}
 use Rattle.slots.specs.Slots.{bound_to, offered_to, leases, bars_of, AreDistinct, with_slot}
@@ -7,6 +7,7 @@ use Rattle.slots.specs.declared.holder.Holder.{Holder}
 use Rattle.slots.specs.declared.holder.Holder.TheVariants.{Bound, Offered, Barred}
 use Rattle.types.specs.Addr.{number4}
 use Rattle.types.specs.Pool4.{IsPool4, PoolValue}
+use Rattle.types.specs.Slots.{last_until}
 use Rattle.types.specs.declared.slot4.Slot4.{Slot4}
 use Rattle.types.specs.declared.slot4.Slot4.TheVariants as slot4
 use Rattle.bindings_v4.specs.declared.decision4.Decision4.{Decision4}
@@ -48,6 +49,11 @@ abbrev pub with_offer : Option OfferChange → Holders4 → Holders4
 with_offer None slots = slots
 with_offer (Some (offer.Made slot key until)) slots = with_slot bytes_eq slot (Some (Offered key until)) slots
 with_offer (Some (offer.Withdrawn slot)) slots = with_slot bytes_eq slot None slots
+
+-- an offer that ends within the limit of what a region keeps
+abbrev pub IsOfferWithin : OfferChange → Type 0
+IsOfferWithin (offer.Made slot key until) = until ≤ last_until
+IsOfferWithin (offer.Withdrawn slot) = Unit {0}
 
 abbrev pub with_kept : Option KeptSlot → Holders4 → Holders4
 with_kept None slots = slots

@@ -1,14 +1,14 @@
 //! The book of one circuit's DHCPv4 leases.
 ghost use Rattle.std.specs.Prelude.{◌≡◌, ◌+◌, ◌<◌, ◌≤◌, ℕ, true, is_some, option_map, map, slice_index_or, IfSome, All};
 ghost use Rattle.slots.specs.Kept.{AreWithin};
-ghost use Rattle.slots.specs.Lookup.{slot_in};
+ghost use Rattle.slots.specs.Lookup.{slot_in, until_of};
 ghost use Rattle.types.specs.Addr.{number4};
 ghost use Rattle.types.specs.Slots.{IsWithin4, live4, none_twice, same_client4};
 ghost use Rattle.types.specs.declared.slot4.Slot4.TheVariants.{Free};
-ghost use Rattle.bindings_v4.specs.Decision4.{decision_of};
+ghost use Rattle.bindings_v4.specs.Decision4.{IsOffer, decision_of};
 ghost use Rattle.bindings_v4.specs.Kept4.{EndsBy, book4_in, keep_in, kept_book, kept_slots};
 ghost use Rattle.bindings_v4.specs.Lookup4.{IsAt, IsLookup, lookup_of};
-ghost use Rattle.bindings_v4.specs.Slots4.{AreSlots, book_of, with_decision};
+ghost use Rattle.bindings_v4.specs.Slots4.{AreSlots, IsOfferWithin, book_of, with_decision};
 ghost use Rattle.bindings_v4.specs.Table4.{answer4, lookup_in, row4};
 
 use crate::case4::{Case4, SlotAddress};
@@ -81,6 +81,7 @@ impl Book4 {
         ensures book { book_of clock (with_decision result self.now) ≡ (answer4 self.now.pool clock (book_of clock self.now) request.now).book }
         ensures within { IfSome result.keep (λ kept. EndsBy (clock + 604800) kept.content) }
         ensures slot { IfSome result.keep (λ kept. kept.slot < self.now.pool.count) }
+        ensures offer { IfSome result.offer (IsOffer clock self.now.pool.count) }
         ensures few { self.now.pool.count ≤ 16 }
         ensures kept { kept_slots clock (with_decision result self.now).slots ≡ keep_in result.keep (kept_slots clock self.now.slots) }
     {
@@ -97,10 +98,21 @@ impl Book4 {
     pub fn commit(&mut self, decision: &Decision4)
         ensures slots { self.new ≡ with_decision decision.now self.old }
         ensures pool { self.new.pool ≡ self.old.pool }
-        ensures within { AreWithin self.old.slots → IfSome decision.now.keep (λ kept. IsWithin4 kept.content) → AreWithin self.new.slots }
+        ensures within { AreWithin self.old.slots → IfSome decision.now.keep (λ kept. IsWithin4 kept.content) → IfSome decision.now.offer IsOfferWithin → AreWithin self.new.slots }
     {
         write_offer(&mut self.slots, decision.offer);
         write_kept(&mut self.slots, decision.keep);
+    }
+
+    /// Until when a slot of the pool is held, live or expired, in seconds; `None` where nobody holds it, or
+    /// there is none.
+    pub fn until(&self, slot: usize) -> Option<u64>
+        ensures { result ≡ option_map until_of (slice_index_or self.now.slots slot None) }
+    {
+        match self.slots().get(slot) {
+            Some(Some(holder)) => Some(holder.until()),
+            _ => None,
+        }
     }
 
     /// What the table looks at of this client.

@@ -1,7 +1,7 @@
 //! The book of one circuit's DHCPv6 leases.
 ghost use Rattle.std.specs.Prelude.{◌≡◌, ◌+◌, ◌<◌, ◌≤◌, ℕ, true, is_some, option_map, map, slice_index_or, IfSome, All};
 ghost use Rattle.slots.specs.Kept.{AreWithin};
-ghost use Rattle.slots.specs.Lookup.{slot_in};
+ghost use Rattle.slots.specs.Lookup.{slot_in, until_of};
 ghost use Rattle.types.specs.Addr.{number6};
 ghost use Rattle.types.specs.Slots.{IsWithin6, live6, none_twice, same_client6};
 ghost use Rattle.types.specs.declared.slots.Slot6.TheVariants.{Free};
@@ -99,6 +99,17 @@ impl Book6 {
     {
         if let Some(kept) = decision.keep {
             self.slots.write(kept.slot, holder_of(kept.content));
+        }
+    }
+
+    /// Until when a slot of the pool is held, live or expired, in seconds; `None` where nobody holds it, or
+    /// there is none.
+    pub fn until(&self, slot: usize) -> Option<u64>
+        ensures { result ≡ option_map until_of (slice_index_or self.now.slots slot None) }
+    {
+        match self.slots().get(slot) {
+            Some(Some(holder)) => Some(holder.until()),
+            _ => None,
         }
     }
 

@@ -1,4 +1,5 @@
 pub mod FaultLemmas
+pub mod IndexLemmas
 pub mod LawLemmas
 pub mod PartLemmas
 pub mod PoolLemmas

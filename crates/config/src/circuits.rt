@@ -6,11 +6,12 @@ ghost use Rattle.config.specs.CircuitPart.{IsPart, parts_of};
 ghost use Rattle.config.specs.Rules.{IsSound};
 ghost use Rattle.config.specs.Topology.{is_relay, is_server, topology_of};
 
+use crate::circuit_index::CircuitIndex;
 use crate::circuit_part::CircuitPart;
 use crate::config::Config;
 use std::alloc::{AllocError, Global};
 use std::marker::Model;
-use types::{Circuit, RelayNo, Source};
+use types::{Circuit, CircuitId, RelayNo, Source};
 
 /// The server's addresses, where each relay's datagrams come from, and the parts of all circuits. It
 /// is a copy, made once, in which circuits and relays are found.
@@ -20,17 +21,19 @@ pub struct Circuits {
     listen6: Source,
     relays: Vec<Source>,
     parts: Vec<CircuitPart>,
+    index: CircuitIndex,
 }
 
 impl Model for Circuits {
-    ghost use Rattle.std.specs.Prelude.{◌≤◌, length};
+    ghost use Rattle.std.specs.Prelude.{◌≡◌, ◌≤◌, All, length, map};
+    ghost use Rattle.config.specs.CircuitPart.{IsPart};
     ghost use Rattle.config.specs.Topology.{Topology};
 
     ghost Value = { Topology };
 
     ghost view = { λ c. record { listen4 = c.listen4; listen6 = c.listen6; relays = c.relays.items; circuits = c.parts.items } };
 
-    ghost invariant = { λ c. length c.parts.items ≤ 1024 };
+    ghost invariant = { λ c. (length c.parts.items ≤ 1024) × All IsPart c.parts.items × (c.index ≡ map (λ part. part.id) c.parts.items) };
 }
 
 impl Circuits {
@@ -44,23 +47,25 @@ impl Circuits {
         let server = config.server();
         let relays = relays_of(alloc, config)?;
         let parts = parts_of(alloc, config)?;
+        let index = CircuitIndex::of(alloc, config.circuits())?;
         Ok(Circuits {
             listen4: server.listen4,
             listen6: server.listen6,
             relays,
             parts,
+            index,
         })
     }
 
     /// The circuit with exactly these bytes as its id.
+    #[tactic(auto, using(crate::proofs::IndexLemmas::no_part, crate::proofs::IndexLemmas::position_of))]
     pub fn find(&self, id: &[u8]) -> Option<Circuit>
         ensures found { result ≡ position (λ part. bytes_eq id.now part.id) self.now.circuits }
         ensures within { IfSome result (λ circuit. circuit < length self.now.circuits) }
     {
-        match index_of(&self.parts, id) {
-            Some(index) => Circuit::new(index),
-            None => None,
-        }
+        let index = &self.index;
+        let id = CircuitId::new(id)?;
+        Circuit::new(index.find(&id)?)
     }
 
     pub fn part(&self, circuit: Circuit) -> &CircuitPart
@@ -127,13 +132,6 @@ impl Circuits {
     {
         source == self.listen4 || source == self.listen6
     }
-}
-
-/// The index of the first circuit with exactly this id.
-fn index_of(parts: &[CircuitPart], id: &[u8]) -> Option<usize>
-    ensures { result ≡ position (λ part. bytes_eq id.now part.id) parts.now }
-{
-    parts.iter().position(|part| id == part.id().as_bytes())
 }
 
 /// Where the datagrams of each relay come from, in the order of the configuration.

@@ -8,11 +8,12 @@ ghost use Rattle.config.specs.Rules.{IsSound, IsIdAt, KeepsRules};
 ghost use Rattle.settings.specs.Settings.{IsServerWithinLimits, IsRelayWithinLimits, IsWithinLimits};
 ghost use Rattle.config.specs.Valid.{IsConfig, IsFaultOf};
 
+use crate::circuit_index::CircuitIndex;
 use crate::rules::rules;
 use settings::{
     CircuitConfig, ConfigFault, RelayConfig, ServerConfig, Values, tables_in, values_in,
 };
-use std::alloc::Global;
+use std::alloc::{AllocError, Global};
 use std::marker::Model;
 use toml::Table;
 use types::{Circuit, CircuitId, RelayNo};
@@ -23,9 +24,11 @@ pub struct Config {
     server: ServerConfig,
     relays: Vec<RelayConfig>,
     circuits: Vec<CircuitConfig>,
+    index: CircuitIndex,
 }
 
 impl Model for Config {
+    ghost use Rattle.std.specs.Prelude.{◌≡◌, map};
     ghost use Rattle.config.specs.Rules.{IsSound};
     ghost use Rattle.settings.specs.Settings.{Settings};
 
@@ -33,7 +36,7 @@ impl Model for Config {
 
     ghost view = { λ c. record { server = c.server; relays = c.relays.items; circuits = c.circuits.items } };
 
-    ghost invariant = { λ c. IsSound (record { server = c.server; relays = c.relays.items; circuits = c.circuits.items }) };
+    ghost invariant = { λ c. IsSound (record { server = c.server; relays = c.relays.items; circuits = c.circuits.items }) × (c.index ≡ map (λ circuit. circuit.id) c.circuits.items) };
 }
 
 /// The text's data, or the fault that it is not TOML.
@@ -52,23 +55,9 @@ fn document(alloc: Global, text: &str) -> Result<Table, ConfigFault>
     }
 }
 
-/// The index of the first circuit with exactly this id.
-fn index_of(circuits: &[CircuitConfig], id: &CircuitId) -> Option<usize>
-    ensures found { IfSome result (λ index. IsIdAt circuits.now index id.now) }
-    ensures within { IfSome result (λ index. index < length circuits.now) }
-    ensures none { IfNone result ((index : ℕ) → ¬ IsIdAt circuits.now index id.now) }
-{
-    for (index, circuit) in circuits.iter().enumerate() {
-        if circuit.id.as_bytes() == id.as_bytes() {
-            return Some(index);
-        }
-    }
-    None
-}
-
 impl Config {
-    /// The configuration of values that keep the rules.
-    fn of(values: Values) -> Config
+    /// The configuration of values that keep the rules; an error where memory is refused.
+    fn of(alloc: Global, values: Values) -> Result<Config, AllocError>
         requires server { IsServerWithinLimits values.server }
         requires some_relay { 1 ≤ length values.relays.items }
         requires few_relays { length values.relays.items ≤ 8 }
@@ -77,13 +66,15 @@ impl Config {
         requires few_circuits { length values.circuits.items ≤ 1024 }
         requires circuits { All (IsWithinLimits values.relays.items) values.circuits.items }
         requires rules { KeepsRules (record { server = values.server; relays = values.relays.items; circuits = values.circuits.items }) }
-        ensures { result ≡ record { server = values.server; relays = values.relays.items; circuits = values.circuits.items } }
+        ensures { IfOk result (λ config. config ≡ record { server = values.server; relays = values.relays.items; circuits = values.circuits.items }) }
     {
-        Config {
+        let index = CircuitIndex::of(alloc, &values.circuits)?;
+        Ok(Config {
             server: values.server,
             relays: values.relays,
             circuits: values.circuits,
-        }
+            index,
+        })
     }
 
     /// Reads a text: its configuration, or the lowest rule that it breaks and what breaks it.
@@ -106,7 +97,10 @@ impl Config {
         if let Err(fault) = rules(&values.server, &values.relays, &values.circuits) {
             return Err(fault);
         }
-        Ok(Config::of(values))
+        match Config::of(alloc, values) {
+            Ok(config) => Ok(config),
+            Err(_) => Err(ConfigFault::Memory),
+        }
     }
 
     pub fn server(&self) -> &ServerConfig
@@ -153,15 +147,21 @@ impl Config {
         &self.circuits[circuit.index()]
     }
 
+    /// All circuits, in their order.
+    pub(crate) fn circuits(&self) -> &[CircuitConfig]
+        ensures value { result.now ≡ self.now.circuits }
+        ensures sound { IsSound self.now }
+    {
+        &self.circuits
+    }
+
     /// The circuit with exactly this id.
+    #[tactic(auto, using(crate::proofs::IndexLemmas::is_id_at, crate::proofs::IndexLemmas::no_id_at))]
     pub fn circuit(&self, id: &CircuitId) -> Option<Circuit>
         ensures found { IfSome result (λ circuit. IsIdAt self.now.circuits circuit id.now) }
         ensures within { IfSome result (λ circuit. circuit < length self.now.circuits) }
         ensures none { IfNone result ((index : ℕ) → ¬ IsIdAt self.now.circuits index id.now) }
     {
-        match index_of(&self.circuits, id) {
-            Some(index) => Circuit::new(index),
-            None => None,
-        }
+        Circuit::new(self.index.find(id)?)
     }
 }

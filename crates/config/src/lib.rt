@@ -1,6 +1,7 @@
 //! The configuration: read from TOML, checked by numbered rules, and looked up by circuit and relay.
 #![tactic(auto)]
 
+mod circuit_index;
 mod circuit_part;
 mod circuits;
 mod config;

@@ -1,5 +1,6 @@
 pub mod AddresseeLemmas
 pub mod AnswerLemmas
+pub mod DeadlineLemmas
 pub mod IndexLemmas
 pub mod ReceivedLemmas
 pub mod RequestLemmas6

@@ -10,6 +10,7 @@ use Rattle.lease_disk.specs.Recovered.{recovered}
 use Rattle.lease_disk.specs.Region.{Region, IsClean}
 use Rattle.lease_disk.specs.Save.{AreMarks, is_read, with_slot}
 use Rattle.bindings_v4.specs.Kept4 as kept4
+use Rattle.bindings_v4.specs.Decision4.{IsOffer}
 use Rattle.bindings_v4.specs.Slots4 as slots4
 use Rattle.bindings_v6.specs.Kept6 as kept6
 use Rattle.bindings_v6.specs.Slots6 as slots6
@@ -41,14 +42,14 @@ kept_in (V6 forward m client decision) = option_map (λ kept. (16 + kept.slot, c
 abbrev pub KeepsItsSlot : CircuitDecision → OpenCircuitValue → Type 0
 KeepsItsSlot (V4 m decision) o =
     (kept4.kept_slots o.clock (slots4.with_decision decision o.four).slots ≡ kept4.keep_in decision.keep (kept4.kept_slots o.clock o.four.slots))
-    × IfSome decision.keep (λ kept. kept.slot < o.four.pool.count) × (o.four.pool.count ≤ 16)
+    × IfSome decision.keep (λ kept. kept.slot < o.four.pool.count) × (o.four.pool.count ≤ 16) × IfSome decision.offer (IsOffer o.clock o.four.pool.count)
 KeepsItsSlot (V6 forward m client decision) o =
     (kept6.kept_slots o.clock (slots6.with_decision decision o.six).slots ≡ kept6.keep_in decision.keep (kept6.kept_slots o.clock o.six.slots))
     × IfSome decision.keep (λ kept. kept.slot < o.six.pool.count) × (o.six.pool.count ≤ 16)
 
--- a slot that is kept is held within its limit
+-- a slot that is kept or offered is held within its limit
 abbrev pub IsWithin : CircuitDecision → Type 0
-IsWithin (V4 m decision) = IfSome decision.keep (λ kept. IsWithin4 kept.content)
+IsWithin (V4 m decision) = IfSome decision.keep (λ kept. IsWithin4 kept.content) × IfSome decision.offer slots4.IsOfferWithin
 IsWithin (V6 forward m client decision) = IfSome decision.keep (λ kept. IsWithin6 kept.content)
 
 -- what an open circuit serves by a decision

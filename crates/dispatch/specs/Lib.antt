@@ -2,6 +2,7 @@ pub mod Addressee
 pub mod Addressee4
 pub mod Addressee6
 pub mod CircuitDecision
+pub mod Deadlines
 pub mod Leases
 pub mod NamedCircuit
 pub mod Received

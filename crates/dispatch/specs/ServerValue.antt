@@ -8,6 +8,7 @@ use Rattle.lease_disk.specs.Region.{Region, IsClean}
 use Rattle.lease_disk.specs.Save.{AreMarks}
 use Rattle.types.specs.Slots.{live4, live6}
 use Rattle.types.specs.declared.slots.Slots.{Slots}
+use Rattle.timers.specs.Deadlines.{DeadlinesValue}
 use Rattle.bindings_v4.specs.Kept4 as kept4
 use Rattle.bindings_v4.specs.Slots4 as slots4
 use Rattle.bindings_v6.specs.Kept6 as kept6
@@ -78,10 +79,11 @@ IsReadyFor region (Some o) = IsClean region × AreMarks (counts_in o) region.byt
 abbrev pub IsReady : (ℕ → Region) → CircuitServerValue → Type 0
 IsReady regions s = IsReadyFor (regions s.part.region) s.state
 
--- of all circuits, and where each relay's datagrams come from
+-- of all circuits, where each relay's datagrams come from, and when what is held in the circuits' slots is due
 pub record ServerValue : Type 0 where
   pub relays : List Source
   pub circuits : List CircuitServerValue
+  pub deadlines : DeadlinesValue
 
 -- each circuit's part of the configuration, its book, and its leases
 abbrev pub parts_in : ServerValue → List CircuitPart
@@ -89,6 +91,9 @@ parts_in s = map part_of s.circuits
 
 abbrev pub books_in : ServerValue → List (Option Book)
 books_in s = map book_of s.circuits
+
+abbrev pub states_in : ServerValue → List (Option OpenCircuitValue)
+states_in s = map (λ circuit. circuit.state) s.circuits
 
 abbrev pub leases_in : (ℕ → Region) → ServerValue → List Leases
 leases_in regions s = map (leases_of regions) s.circuits
@@ -104,6 +109,7 @@ RegionsDiffer parts =
 
 -- what the fields of a server keep: a state for each part, with the slots of its pools
 pub record IsServer (parts : List CircuitPart) (states : List (Option OpenCircuitValue)) : Type 0 where
+  pub few : length parts ≤ 1024
   pub size : length states ≡ length parts
   pub regions : RegionsDiffer parts
   pub pools : All HasItsPools (with_states parts states)

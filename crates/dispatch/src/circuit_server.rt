@@ -1,7 +1,10 @@
 //! The server of one circuit: what it has while it is open, and what it makes of a message.
-ghost use Rattle.std.specs.Prelude.{◌≡◌, ◌<◌, ◌≤◌, ◌+◌, [], Some, None, true, is_some, nat_lt, option_map};
+ghost use Rattle.std.specs.Prelude.{◌≡◌, ◌<◌, ◌≤◌, ◌+◌, ℕ, length, [], Some, None, IfSome, true, is_some, nat_lt, option_map};
 ghost use Rattle.config.specs.CircuitPart as parts;
+ghost use Rattle.dispatch.specs.Deadlines.{HasDeadlines, SameBeside, held_in, swept};
 ghost use Rattle.dispatch.specs.Leases.{after_datagram, found_book};
+ghost use Rattle.timers.specs.Deadlines.{DeadlinesValue};
+ghost use Rattle.types.specs.Slots.{last_until};
 ghost use Rattle.dispatch.specs.Received.{IsAnswer, answered, circuit_saves, fails_at};
 ghost use Rattle.dispatch.specs.RelayedMessage.{IsRelayedMessage};
 ghost use Rattle.dispatch.specs.Server.{book_at};
@@ -10,10 +13,12 @@ ghost use Rattle.lease_disk.specs.Device.{Touches, TouchesNothing, WritesAt};
 ghost use Rattle.lease_disk.specs.Region.{IsClean, Region};
 
 use crate::addressee::RelayedMessage;
+use crate::decision::put;
 use crate::open_circuit::OpenCircuit;
 use config::CircuitPart;
 use lease_disk::Disk;
 use std::marker::Model;
+use timers::Deadlines;
 use types::{Delivery, Discard, Moment};
 use wire::PacketBuf;
 
@@ -68,13 +73,20 @@ impl CircuitServer {
         relayed: RelayedMessage<'_>,
         disk: &mut D,
         out: &mut PacketBuf,
+        table: &mut Deadlines,
+        first: usize,
     ) -> Result<(), Discard>
         requires read { IsRelayedMessage delivery.now.proto delivery.now.bytes relayed }
         requires empty { out.old ≡ [] }
         requires exists { part.now.region < (D.device disk.old).count }
+        requires room { first + 32 ≤ length table.old.slots }
+        requires most { first ≤ 32736 }
+        requires deadlines { HasDeadlines table.old first self.old }
         requires pools { HasPools part.now self.old }
         requires ready { D.tells ≡ true → IsReadyFor ((D.device disk.old).region part.now.region) self.old }
         ensures pools { HasPools part.now self.new }
+        ensures deadlines { HasDeadlines table.new first self.new }
+        ensures beside { SameBeside first table.old table.new }
         ensures answer { IsAnswer (answered part.now delivery.now (nat_lt (D.device disk.old).failures (D.device disk.new).failures) (option_map open_book self.old)).answer result out.new }
         ensures book { option_map open_book self.new ≡ (answered part.now delivery.now (nat_lt (D.device disk.old).failures (D.device disk.new).failures) (option_map open_book self.old)).book }
         ensures fails { D.tells ≡ true → nat_lt (D.device disk.old).failures (D.device disk.new).failures ≡ fails_at (D.device disk.old).fuse (circuit_saves delivery.now (Some part.now) (Some (option_map open_book self.old))) }
@@ -94,11 +106,39 @@ impl CircuitServer {
             Err(why) => return Err(why),
         };
         match circuit.keep(part, &decision, disk) {
-            Ok(()) => decision.reply(part, out),
+            Ok(()) => {
+                decision.set_deadlines(table, first);
+                decision.reply(part, out)
+            }
             Err(_) => {
                 self.state = None;
+                self.set_deadlines(table, first);
                 Err(Discard::DiskFault)
             }
+        }
+    }
+
+    /// Until when a slot of the circuit is held, live or expired, in seconds; `None` where the circuit is closed.
+    fn until(&self, slot: usize) -> Option<u64>
+        requires { slot < 32 }
+        ensures value { result ≡ held_in self.now slot }
+        ensures most { IfSome result (λ until. until ≤ last_until) }
+    {
+        match &self.state {
+            Some(circuit) => circuit.until(slot),
+            None => None,
+        }
+    }
+
+    /// Gives all slots of the circuit their deadlines, where this is the number of the first one.
+    pub(crate) fn set_deadlines(&self, table: &mut Deadlines, first: usize)
+        requires room { first + 32 ≤ length table.old.slots }
+        requires most { first ≤ 32736 }
+        ensures deadlines { HasDeadlines table.new first self.now }
+        ensures beside { SameBeside first table.old table.new }
+    {
+        'slots: for slot in 0..32 {
+            put(table, first + slot, self.until(slot));
         }
     }
 
@@ -106,6 +146,7 @@ impl CircuitServer {
     pub(crate) fn tick(&mut self, now: Moment)
         ensures book { option_map open_book self.new ≡ option_map (book_at now) (option_map open_book self.old) }
         ensures pools { (part : parts.CircuitPart) → HasPools part self.old → HasPools part self.new }
+        ensures deadlines { (table : DeadlinesValue) (first : ℕ) → HasDeadlines table first self.old → HasDeadlines (swept now table) first self.new }
         ensures ready { (region : Region) → IsReadyFor region self.old → IsReadyFor region self.new }
     {
         if let Some(circuit) = &mut self.state {

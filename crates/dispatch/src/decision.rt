@@ -1,21 +1,27 @@
 //! What a circuit's server decides on a client's message, in either protocol.
-ghost use Rattle.std.specs.Prelude.{◌≡◌, ◌<◌, IfSome, []};
-ghost use Rattle.dispatch.specs.CircuitDecision.{answer_of, kept_in};
+ghost use Rattle.std.specs.Prelude.{◌≡◌, ◌<◌, ◌≤◌, ◌+◌, IfSome, [], length, option_map};
+ghost use Rattle.types.specs.Slots.{last_until};
+ghost use Rattle.slots.specs.Lookup.{until_of};
+ghost use Rattle.bindings_v4.specs.Slots4 as slots4;
+ghost use Rattle.bindings_v6.specs.Slots6 as slots6;
+ghost use Rattle.dispatch.specs.CircuitDecision.{IsWithin, answer_of, kept_in};
+ghost use Rattle.dispatch.specs.Deadlines.{HasItsSlots, with_deadlines, with_until};
 ghost use Rattle.dispatch.specs.Received.{IsAnswer};
 ghost use Rattle.dispatch.specs.Server.{reply4_to, reply6_to};
 
-use bindings_v4::Decision4;
+use bindings_v4::{Decision4, OfferChange};
 use bindings_v6::Decision6;
 use config::CircuitPart;
 use lease_disk::Content;
 use replies::{write4, write6};
-use types::{Discard, Key6, Reply4, Reply6};
+use timers::Deadlines;
+use types::{Discard, Key6, Reply4, Reply6, Slot4, Slot6};
 use v4_message::Message;
 use v6_message::{Message6, Relay6};
 use wire::PacketBuf;
 
-/// In a region, the first slot of the DHCPv6 pool.
-const SIX_SLOTS_FROM: usize = 16;
+/// Of a circuit's slots, the first one of the DHCPv6 pool.
+pub(crate) const SIX_SLOTS_FROM: usize = 16;
 
 /// A decision of a circuit's book, and the message that it is on. Nothing is changed and nothing is sent
 /// before it is kept.
@@ -44,6 +50,37 @@ impl CircuitDecision<'_> {
         }
     }
 
+    /// Gives the slots that the decision changes their deadlines, where this is the number of the circuit's
+    /// first slot. A slot that is free now because its client has another one may keep what it had until
+    /// that is due.
+    pub(crate) fn set_deadlines(&self, table: &mut Deadlines, first: usize)
+        requires room { first + 32 ≤ length table.old.slots }
+        requires most { first ≤ 32736 }
+        requires slots { HasItsSlots self.now }
+        requires within { IsWithin self.now }
+        ensures { table.new ≡ with_deadlines self.now first table.old }
+    {
+        match self {
+            CircuitDecision::V4(_, decision) => {
+                if let Some(OfferChange::Made(slot, _, until)) = decision.offer {
+                    table.set(first + slot, until);
+                }
+                if let Some(kept) = decision.keep {
+                    put(table, first + kept.slot, until4(&kept.content));
+                }
+            }
+            CircuitDecision::V6(_, _, _, decision) => {
+                if let Some(kept) = decision.keep {
+                    put(
+                        table,
+                        first + (SIX_SLOTS_FROM + kept.slot),
+                        until6(&kept.content),
+                    );
+                }
+            }
+        }
+    }
+
     /// Writes the reply where there is one.
     pub(crate) fn reply(&self, part: &CircuitPart, out: &mut PacketBuf) -> Result<(), Discard>
         requires { out.old ≡ [] }
@@ -57,6 +94,38 @@ impl CircuitDecision<'_> {
                 reply6(part, forward, message, client, &decision.answer, out)
             }
         }
+    }
+}
+
+/// Until when a slot with this content is held.
+fn until4(content: &Slot4) -> Option<u64>
+    ensures { result ≡ option_map until_of (slots4.holder_of content.now) }
+{
+    match content {
+        Slot4::Free => None,
+        Slot4::Bound(_, until) | Slot4::Barred(until) => Some(*until),
+    }
+}
+
+/// Until when a slot with this content is held.
+fn until6(content: &Slot6) -> Option<u64>
+    ensures { result ≡ option_map until_of (slots6.holder_of content.now) }
+{
+    match content {
+        Slot6::Free => None,
+        Slot6::Bound(_, until) | Slot6::Barred(until) => Some(*until),
+    }
+}
+
+/// Gives a slot this deadline, or none.
+pub(crate) fn put(table: &mut Deadlines, slot: usize, until: Option<u64>)
+    requires exists { slot < length table.old.slots }
+    requires within { IfSome until (λ until. until ≤ last_until) }
+    ensures { table.new ≡ with_until slot until table.old }
+{
+    match until {
+        Some(until) => table.set(slot, until),
+        None => table.clear(slot),
     }
 }
 

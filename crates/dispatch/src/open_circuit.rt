@@ -1,5 +1,6 @@
 //! What the server has of an open circuit.
 ghost use Rattle.std.specs.Prelude.{◌≡◌, ◌<◌, ◌≤◌, ◌==◌, ◌&&◌, ◌+◌, ℕ, true, false, not, is_ok, option_map, List, OnOk, OnErr, IfOk, IfErr, IfSome, Some};
+ghost use Rattle.types.specs.Slots.{last_until};
 ghost use Rattle.types.specs.declared.dest.Proto.{Proto};
 ghost use Rattle.slots.specs.Kept.{AreWithin};
 ghost use Rattle.v6_options.specs.Codes.{RELAY_MESSAGE};
@@ -7,6 +8,7 @@ ghost use Rattle.v6_options.specs.Spelling.{look_up};
 ghost use Rattle.config.specs.CircuitPart as parts;
 ghost use Rattle.config.specs.CircuitPart.{pool4_of, pool6_of};
 ghost use Rattle.dispatch.specs.CircuitDecision.{IsToSave, IsWithin, KeepsItsSlot, is_kept, served_by, with_decision};
+ghost use Rattle.dispatch.specs.Deadlines.{held_until};
 ghost use Rattle.dispatch.specs.Leases.{found_book, restarts_after, restarts_of};
 ghost use Rattle.dispatch.specs.RelayedMessage.{IsRelayedMessage};
 ghost use Rattle.dispatch.specs.Request4.{request4_in};
@@ -17,7 +19,7 @@ ghost use Rattle.lease_disk.specs.Region.{IsClean, Region, effective, faults_aft
 ghost use Rattle.lease_disk.specs.Save.{Fits};
 
 use crate::addressee::RelayedMessage;
-use crate::decision::CircuitDecision;
+use crate::decision::{CircuitDecision, SIX_SLOTS_FROM};
 use crate::request4::request4_in;
 use crate::request6::request6_in;
 use bindings_v4::Book4;
@@ -76,6 +78,10 @@ impl OpenCircuit {
     pub(crate) fn tick(&mut self, now: Moment)
         ensures pool4 { self.new.four.pool ≡ self.old.four.pool }
         ensures pool6 { self.new.six.pool ≡ self.old.six.pool }
+        ensures four { self.new.four ≡ self.old.four }
+        ensures six { self.new.six ≡ self.old.six }
+        ensures later { self.old.clock ≤ self.new.clock }
+        ensures now { now ≤ self.new.clock }
         ensures marks { self.new.marks ≡ self.old.marks }
         ensures book { open_book self.new ≡ book_at now (open_book self.old) }
         ensures ready { (region : Region) → IsReadyFor region (Some self.old) → IsReadyFor region (Some self.new) }
@@ -84,6 +90,19 @@ impl OpenCircuit {
         bindings_v4::expires_by_the_clock(&self.four, self.clock, later);
         bindings_v6::expires_by_the_clock(&self.six, self.clock, later);
         self.clock = later;
+    }
+
+    /// Until when a slot of the circuit is held, live or expired, in seconds.
+    pub(crate) fn until(&self, slot: usize) -> Option<u64>
+        requires { slot < 32 }
+        ensures value { result ≡ held_until self.now slot }
+        ensures most { IfSome result (λ until. until ≤ last_until) }
+    {
+        if slot < SIX_SLOTS_FROM {
+            self.four.until(slot)
+        } else {
+            self.six.until(slot - SIX_SLOTS_FROM)
+        }
     }
 
     /// What a client's message calls for, or why it calls for nothing. Nothing is changed.
@@ -157,6 +176,7 @@ impl OpenCircuit {
         requires keeps { KeepsItsSlot decision.now self.old }
         ensures pools { HasPools part.now (Some self.new) }
         ensures book { open_book self.new ≡ open_book (with_decision decision.now self.old) }
+        ensures after { self.new ≡ record (with_decision decision.now self.old) { marks = self.new.marks } }
         ensures cause { OnErr result (is_kept decision.now ≡ true) }
         ensures fails { D.tells ≡ true → is_ok result ≡ not (is_kept decision.now && not (effective 6 ((D.device disk.old).fuse part.now.region) == 0)) }
         ensures kept { D.tells ≡ true → is_kept decision.now ≡ true

@@ -1,14 +1,16 @@
 //! The server of all circuits, over a device that keeps their leases.
-ghost use Rattle.std.specs.Prelude.{◌≡◌, ◌<◌, ◌≤◌, ◌+◌, ◌*◌, ◌↔◌, [], ℕ, List, length, map, slice_get, All, Some, true, false, is_some, nat_lt, IfOk, IfErr, OnErr};
+ghost use Rattle.std.specs.Prelude.{◌≡◌, ◌<◌, ◌≤◌, ◌+◌, ◌*◌, ◌↔◌, [], ℕ, List, length, map, slice_get, All, Some, true, false, is_some, nat_lt, count_by, IfOk, IfErr, OnErr};
 ghost use Rattle.config.specs.CircuitPart as parts;
 ghost use Rattle.config.specs.CircuitPart.{IsPart, parts_of};
+ghost use Rattle.dispatch.specs.Deadlines.{HoldsDeadlines, swept};
 ghost use Rattle.dispatch.specs.Leases.{AreSynced, HasRegions, after_tick, found_leases, received_leases};
 ghost use Rattle.dispatch.specs.Received.{IsAnswer, fails_at, received, received_saves};
-ghost use Rattle.dispatch.specs.ServerValue.{AreReady, HasItsPools, IsReady, RegionsDiffer, books_in, leases_in, leases_of, parts_in, with_states};
+ghost use Rattle.dispatch.specs.ServerValue.{AreReady, HasItsPools, IsReady, RegionsDiffer, books_in, leases_in, leases_of, parts_in, states_in, with_states};
 ghost use Rattle.dispatch.specs.declared.server.OpenFault.TheVariants as fault;
 ghost use Rattle.lease_disk.specs.Device.{TouchesNothing, WritesAt};
 ghost use Rattle.types.specs.Delivery.{delivery};
 ghost use Rattle.lease_disk.specs.Region.{Region};
+ghost use Rattle.timers.specs.Deadlines.{DeadlinesValue, deadline, is_due};
 
 use crate::addressee::addressee;
 use crate::circuit_server::CircuitServer;
@@ -17,8 +19,12 @@ use lease_disk::Disk;
 use std::alloc::{AllocError, Global};
 use std::marker::Model;
 use thiserror::Error;
+use timers::Deadlines;
 use types::{Circuit, Delivery, Discard, Moment, Proto, Source};
 use wire::PacketBuf;
+
+/// How many slots a circuit has, of both pools.
+const SLOTS: usize = 32;
 
 /// Why a server was not opened.
 #[derive(Clone, Copy, Debug, PartialEq, Eq, Error)]
@@ -38,16 +44,19 @@ pub enum OpenFault {
 pub struct Server {
     circuits: Circuits,
     servers: Vec<CircuitServer>,
+    /// When the slots of all circuits are due: slot s of circuit c has the number 32 c + s.
+    deadlines: Deadlines,
 }
 
 impl Model for Server {
+    ghost use Rattle.dispatch.specs.Deadlines.{HoldsDeadlines};
     ghost use Rattle.dispatch.specs.ServerValue.{IsServer, ServerValue, with_states};
 
     ghost Value = { ServerValue };
 
-    ghost view = { λ s. record { relays = s.circuits.relays; circuits = with_states s.circuits.circuits s.servers.items } };
+    ghost view = { λ s. record { relays = s.circuits.relays; circuits = with_states s.circuits.circuits s.servers.items; deadlines = s.deadlines } };
 
-    ghost invariant = { λ s. IsServer s.circuits.circuits s.servers.items };
+    ghost invariant = { λ s. IsServer s.circuits.circuits s.servers.items × HoldsDeadlines s.deadlines s.servers.items };
 }
 
 /// A server for each of so many circuits. Each is closed.
@@ -83,6 +92,7 @@ fn tick_all(servers: &mut [CircuitServer], now: Moment)
         → All (IsReady regions) (with_states parts servers.old) → All (IsReady regions) (with_states parts servers.new) }
     ensures pools { (parts : List parts.CircuitPart) → length parts ≡ length servers.old
         → All HasItsPools (with_states parts servers.old) → All HasItsPools (with_states parts servers.new) }
+    ensures deadlines { (table : DeadlinesValue) → HoldsDeadlines table servers.old → HoldsDeadlines (swept now table) servers.new }
 {
     'servers: for index in 0..servers.len() {
         servers[index].tick(now);
@@ -90,18 +100,27 @@ fn tick_all(servers: &mut [CircuitServer], now: Moment)
 }
 
 /// Begins each with what its region holds.
-fn restart_all<D: Disk>(parts: &[CircuitPart], servers: &mut [CircuitServer], disk: &mut D)
+fn restart_all<D: Disk>(
+    parts: &[CircuitPart],
+    servers: &mut [CircuitServer],
+    disk: &mut D,
+    table: &mut Deadlines,
+)
+    requires room { length table.old.slots ≡ 32 * length parts.now }
+    requires few { length parts.now ≤ 1024 }
     requires size { length servers.old ≡ length parts.now }
     requires regions { HasRegions parts.now (D.device disk.old).count }
     ensures size { length servers.new ≡ length servers.old }
     ensures leases { D.tells ≡ true → map (leases_of (D.device disk.new).region) (with_states parts.now servers.new) ≡ map (found_leases (D.device disk.old).region) parts.now }
     ensures ready { D.tells ≡ true → AreSynced parts.now (D.device disk.old).region → All (IsReady (D.device disk.new).region) (with_states parts.now servers.new) }
     ensures pools { All HasItsPools (with_states parts.now servers.new) }
+    ensures deadlines { HoldsDeadlines table.new servers.new }
     ensures frame { TouchesNothing D.tells (D.device disk.old) (D.device disk.new) }
     ensures reads { (D.device disk.new).reads ≤ (D.device disk.old).reads + 2 * length parts.now }
 {
     'circuits: for index in 0..parts.len() {
         servers[index].restart(&parts[index], disk);
+        servers[index].set_deadlines(table, SLOTS * index);
     }
 }
 
@@ -129,11 +148,18 @@ impl Server {
         let Ok(mut servers) = closed_servers(alloc, circuits.count()) else {
             return Err(OpenFault::Memory);
         };
+        let Ok(mut deadlines) = Deadlines::new(alloc, SLOTS * circuits.count()) else {
+            return Err(OpenFault::Memory);
+        };
         if !has_regions(circuits.parts(), disk.regions()) {
             return Err(OpenFault::DiskTooSmall);
         }
-        restart_all(circuits.parts(), &mut servers, disk);
-        Ok(Server { circuits, servers })
+        restart_all(circuits.parts(), &mut servers, disk, &mut deadlines);
+        Ok(Server {
+            circuits,
+            servers,
+            deadlines,
+        })
     }
 
     /// How many circuits there are.
@@ -158,6 +184,15 @@ impl Server {
     {
         let index = circuit.index();
         index < self.servers.len() && self.servers[index].is_open()
+    }
+
+    /// When the slots of all circuits are due, slot s of circuit c by the number 32 c + s: until when each slot of
+    /// an open circuit is held that is live, and nothing of a closed one.
+    pub fn deadlines(&self) -> &Deadlines
+        ensures value { result.now ≡ self.now.deadlines }
+        ensures held { HoldsDeadlines self.now.deadlines (states_in self.now) }
+    {
+        &self.deadlines
     }
 
     /// Takes a datagram of this protocol from this source at this moment, for the circuit that it is of. What the answer
@@ -201,7 +236,9 @@ impl Server {
             Err(why) => return Err(why),
         };
         let part = self.circuits.part(circuit);
-        self.servers[circuit.index()].answer(part, &delivery, relayed, disk, out)
+        let table = &mut self.deadlines;
+        let first = SLOTS * circuit.index();
+        self.servers[circuit.index()].answer(part, &delivery, relayed, disk, out, table, first)
     }
 
     /// Moves the clock of every open circuit to this moment, where it is a later one.
@@ -210,8 +247,11 @@ impl Server {
         ensures parts { parts_in self.new ≡ parts_in self.old }
         ensures leases { (regions : ℕ → Region) → leases_in regions self.new ≡ map (after_tick now) (leases_in regions self.old) }
         ensures ready { (regions : ℕ → Region) → AreReady regions self.old → AreReady regions self.new }
+        ensures due { (n until : ℕ) → deadline self.new.deadlines n ≡ Some until → now < until }
+        ensures looks { self.new.deadlines.looks ≤ count_by (is_due now) self.old.deadlines.slots + 1 }
     {
         tick_all(&mut self.servers, now);
+        self.deadlines.sweep(now);
     }
 
     /// Begins each circuit anew with what its region holds, without offers. One whose region cannot be
@@ -226,6 +266,7 @@ impl Server {
         ensures frame { TouchesNothing D.tells (D.device disk.old) (D.device disk.new) }
         ensures reads { (D.device disk.new).reads ≤ (D.device disk.old).reads + 2 * length self.old.circuits }
     {
-        restart_all(self.circuits.parts(), &mut self.servers, disk);
+        let table = &mut self.deadlines;
+        restart_all(self.circuits.parts(), &mut self.servers, disk, table);
     }
 }

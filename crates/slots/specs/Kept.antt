@@ -24,11 +24,11 @@ module _ {K : Type 0} where
   same_client eqk (Some (Bound a _)) (Some (Bound b _)) = eqk a b
   same_client eqk _ _ = false
 
-  -- a binding or a bar that ends within the limit of what a region keeps
+  -- held until a moment within the limit of what a region keeps
   abbrev pub IsWithin : Option (Holder K) → Type 0
   IsWithin None = Unit {0}
   IsWithin (Some (Bound key until)) = until ≤ last_until
-  IsWithin (Some (Offered key until)) = Unit {0}
+  IsWithin (Some (Offered key until)) = until ≤ last_until
   IsWithin (Some (Barred until)) = until ≤ last_until
 
   abbrev pub AreWithin : List (Option (Holder K)) → Type 0

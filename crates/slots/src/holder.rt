@@ -19,7 +19,7 @@ pub enum Holder<K> {
 }
 
 impl<K> Holder<K> {
-    fn until(&self) -> u64
+    pub fn until(&self) -> u64
         ensures { result ≡ until_of self.now }
     {
         match self {

@@ -5,11 +5,13 @@ use Rattle.std.proofs.lemmas.Option.{slice_get_read}
 use Rattle.std.proofs.lemmas.List.Elements.{All-more}
 use Rattle.config.specs.CircuitPart.{CircuitPart}
 use Rattle.lease_disk.specs.Region.{IsClean, Region}
+use Rattle.dispatch.specs.Deadlines.{HasDeadlines}
 use Rattle.dispatch.specs.Leases.{found_book, found_leases, restarts_of}
 use Rattle.dispatch.specs.ServerValue.{CircuitServerValue, HasItsPools, IsReady, leases_of, with_states}
 use Rattle.lease_disk.proofs.Frames.{nothing_then}
 use Rattle.dispatch.proofs.ServerLemmas.{all_found}
 use Rattle.dispatch.proofs.WithStates.{parts_with, server, set_with, size_with}
+use Rattle.dispatch.proofs.DeadlineLemmas.{all_held, holds_more}
 use Rattle.dispatch.proofs.server.restart_all.Goals as goal
 
 pub restart-requires : goal.restart-requires
@@ -54,8 +56,23 @@ circuits-preserved g c =
       pools = at HasItsPools loop.pools c.restart.ensures.pools;
       frame = nothing_then g.D.Disk.tells (g.D.Disk.device c.args.disk.now) (g.D.Disk.device c.circuits.disk) (g.D.Disk.device c.restart.new.disk) loop.frame c.restart.ensures.frame;
       reads = two_more _ _ _ i loop.reads c.restart.ensures.reads;
+      room = c.set_deadlines.ensures.beside.size ∙ loop.room;
+      deadlines =
+          let inside : i < length states = omega (arith, c.circuits-test.true, loop.size, c.requires.size) in
+          let own = subst (HasDeadlines c.set_deadlines.new.table (32 * i)) (get_or-set_same states i c.restart.new.self c.index-servers-index-in-circuits.result inside) c.set_deadlines.ensures.deadlines in
+          holds_more i c.circuits.table c.set_deadlines.new.table states c.restart.new.self inside loop.deadlines own c.set_deadlines.ensures.beside;
       size = length-set states i c.restart.new.self ∙ loop.size;
     }
+
+pub set_deadlines-requires-clause-room : goal.set_deadlines-requires-clause-room
+set_deadlines-requires-clause-room g c = omega (arith, c.circuits-test.true, c.circuits.invariant.room)
+
+pub returns-clause-deadlines : goal.returns-clause-deadlines
+returns-clause-deadlines g c =
+    let loop = c.circuits.invariant in
+    let sizes : length c.args.parts.now ≡ length c.circuits.servers = sym c.requires.size ∙ sym loop.size in
+    all_held c.circuits.table c.circuits.servers c.circuits.index (omega (arith, c.circuits-test.false, loop.size, c.requires.size))
+    (loop.room ∙ ap (λ n. 32 * n) sizes) loop.deadlines
 
 pub returns-clause-leases : goal.returns-clause-leases
 returns-clause-leases g c tells =

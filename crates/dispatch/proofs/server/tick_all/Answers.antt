@@ -1,9 +1,13 @@
-use Rattle.std.proofs.Common.{map, length, ◌<◌, ◌≤◌, ◌++◌, sym, ap, subst, ◌∙◌, arith}
+use Rattle.std.proofs.Common.{◌≡◌, ◌*◌, map, length, ◌<◌, ◌≤◌, ◌++◌, refl, sym, ap, subst, ◌∙◌, arith, slice_get, Some}
 use Rattle.std.specs.Prelude.{All}
 use Rattle.std.proofs.lemmas.List.{append-nil, drop_all, length-map, length-set, take_all}
 use Rattle.std.proofs.lemmas.List.Elements.{All-set}
 use Rattle.dispatch.specs.Leases.{after_tick, restarts_of}
 use Rattle.dispatch.specs.ServerValue.{HasItsPools, IsReady, leases_of, with_states}
+use Rattle.timers.specs.Deadlines.{entry_after_sweep}
+use Rattle.dispatch.specs.Deadlines.{HasDeadlines, swept}
+use Rattle.dispatch.proofs.DeadlineLemmas.{all_held, get_set_other, holds_more, unchanged}
+use Rattle.std.proofs.lemmas.Option.{slice_get_read}
 use Rattle.dispatch.proofs.ServerLemmas.{one_changed}
 use Rattle.dispatch.proofs.WithStates.{get_with, server, set_with, size_with, there_is}
 use Rattle.dispatch.proofs.server.tick_all.Goals as goal
@@ -41,6 +45,13 @@ servers-preserved c =
           subst (All HasItsPools) (sym (set_with parts xs i at.0 new at.1 within))
           (All-set HasItsPools (with_states parts xs) i (server at.0 new)
           (c.tick.ensures.pools at.0 (subst HasItsPools its (was i (server at.0 old) (omega (arith, within, loop.size, size, size_with parts xs))))) was);
+      deadlines = λ table holds.
+          let there : slice_get xs i ≡ Some old = slice_get_read xs (length xs) i old refl within c.index-servers-index.is in
+          let own = c.tick.ensures.deadlines table (32 * i) (subst (HasDeadlines table (32 * i)) c.index-servers-index.is (holds.each i old (sym (loop.rest i (omega arith)) ∙ there))) in
+          holds_more i (swept c.args.now table) (swept c.args.now table) xs new within (loop.deadlines table holds) own (unchanged (32 * i) (swept c.args.now table));
+      rest = λ k behind.
+          let other : k ≡ i → ⊥ = λ same. omega (arith, behind, same) in
+          get_set_other xs i k new other ∙ loop.rest k (omega (arith, behind));
       size = length-set xs i new ∙ loop.size;
     }
 
@@ -52,3 +63,9 @@ returns-clause-leases c parts regions size =
     c.servers.invariant.leases parts regions size
     ∙ (λ j. map (after_tick c.args.now) (take_all c.servers.index before past j) ++ drop_all c.servers.index before past j)
     ∙ append-nil (map (after_tick c.args.now) before)
+
+pub returns-clause-deadlines : goal.returns-clause-deadlines
+returns-clause-deadlines c table holds =
+    let loop = c.servers.invariant in
+    all_held (swept c.args.now table) c.servers.servers c.servers.index (omega (arith, c.servers-test.false, loop.size))
+    (length-map table.slots (entry_after_sweep c.args.now) ∙ holds.size ∙ ap (λ n. 32 * n) (sym loop.size)) (loop.deadlines table holds)

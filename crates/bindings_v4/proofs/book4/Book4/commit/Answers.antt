@@ -13,5 +13,5 @@ invariant_of-self c =
 pub returns-clause-within : goal.returns-clause-within
 returns-clause-within c =
     let d = c.args.decision.now in
-    λ within keep. committed_within d.offer d.keep c.self.inside.slots _ (c.write_kept.ensures ∙ ap (with_kept d.keep) c.write_offer.ensures)
-    (subst (λ (v : PoolSlots). AreWithin v.slots) (sym c.self.view_is) within) keep
+    λ within keep offer. committed_within d.offer d.keep c.self.inside.slots _ (c.write_kept.ensures ∙ ap (with_kept d.keep) c.write_offer.ensures)
+    (subst (λ (v : PoolSlots). AreWithin v.slots) (sym c.self.view_is) within) keep offer

@@ -1,6 +1,6 @@
 use Rattle.bindings_v4.specs.Lookup4.{lookup_of}
 use Rattle.bindings_v4.proofs.RowLemmas.{decision_is, answer_is, keep_is, book_is, slot_is, slots_are}
-use Rattle.bindings_v4.proofs.LimitLemmas.{decided_in_time}
+use Rattle.bindings_v4.proofs.LimitLemmas.{decided_in_time, offered_in_time}
 use Rattle.bindings_v4.proofs.book4.Book4.decide.Goals as goal
 
 pub returns-clause-exact : goal.returns-clause-exact
@@ -41,6 +41,14 @@ returns-clause-within c =
     let are = c.look_up-found.ensures.slots in
     let d = c.decision_for.result in
     decided_in_time v c.args.clock are m d (decision_is v c.args.clock m are c.pool.result (lookup_of c.look_up-found.result) d c.pool.ensures c.look_up-found.ensures.found c.decision_for.ensures)
+
+pub returns-clause-offer : goal.returns-clause-offer
+returns-clause-offer c =
+    let v = c.args.self.now in
+    let m = c.args.request.now in
+    let are = c.look_up-found.ensures.slots in
+    let d = c.decision_for.result in
+    offered_in_time v c.args.clock are m d (decision_is v c.args.clock m are c.pool.result (lookup_of c.look_up-found.result) d c.pool.ensures c.look_up-found.ensures.found c.decision_for.ensures)
 
 pub returns-clause-slot : goal.returns-clause-slot
 returns-clause-slot c =

@@ -1,4 +1,4 @@
-use Rattle.std.proofs.Common.{◌≡◌, ℕ, List, not, true, false, refl, sym, ap, subst, ◌∙◌, Err, Result, Some, is_ok}
+use Rattle.std.proofs.Common.{◌≡◌, ℕ, List, not, true, false, refl, sym, ap, subst, ◌∙◌, Err, Result, Some, is_ok, arith}
 use Rattle.types.specs.Delivery.{DeliveryValue}
 use Rattle.types.specs.declared.discard.Discard.{Discard}
 use Rattle.types.specs.declared.discard.Discard.TheVariants.{DiskFault}
@@ -11,6 +11,11 @@ use Rattle.dispatch.specs.ServerValue.{IsReadyFor, open_book}
 use Rattle.dispatch.proofs.AnswerLemmas.{IsServed, asked, counted, fails_by, not_more, held, failed, fails_as, leases_as, writes_as}
 use Rattle.dispatch.proofs.circuit_server.CircuitServer.answer.Given as given
 use Rattle.dispatch.proofs.circuit_server.CircuitServer.answer.Goals.{In-Err, After-keep}
+use Rattle.timers.specs.Deadlines.{DeadlinesValue}
+use Rattle.dispatch.specs.CircuitDecision.{with_decision}
+use Rattle.dispatch.specs.Deadlines.{HasDeadlines, SameBeside, with_deadlines}
+use Rattle.dispatch.specs.ServerValue.{OpenCircuitValue}
+use Rattle.dispatch.proofs.DeadlineLemmas.{after_decision, beside_decision, slots_inside, stays_at}
 use Rattle.dispatch.proofs.circuit_server.CircuitServer.answer.Goals as goal
 
 -- ---- the cases of an open circuit
@@ -112,3 +117,28 @@ returns-in-Err-keep-clause-leases g c tells =
 pub returns-in-Err-keep-clause-writes : goal.returns-in-Err-keep-clause-writes
 returns-in-Err-keep-clause-writes g c =
     writes_as (decision g (goal.at.returns-in-Err-keep-clause-writes g c).After-keep) g.D.Disk.tells (g.D.Disk.device c.args.disk.now) (g.D.Disk.device c.keep.new.disk) c.keep.ensures.stays c.keep.ensures.frame
+
+-- ---- the deadlines
+
+pub returns-in-Err-clause-deadlines : goal.returns-in-Err-clause-deadlines
+returns-in-Err-clause-deadlines g c =
+    let table = c.args.table.now in
+    stays_at c.args.first table c.in-Some.circuit c.tick.new.self c.tick.ensures.four c.tick.ensures.six c.tick.ensures.later
+    (subst (HasDeadlines table c.args.first) (sym c.self.view_is ∙ c.in-Some.is) c.requires.deadlines)
+
+pub returns-in-Ok-keep-clause-deadlines : goal.returns-in-Ok-keep-clause-deadlines
+returns-in-Ok-keep-clause-deadlines g c =
+    let table = c.args.table.now in
+    let first = c.args.first in
+    let ticked = stays_at first table c.in-Some.circuit c.tick.new.self c.tick.ensures.four c.tick.ensures.six c.tick.ensures.later (subst (HasDeadlines table first) (sym c.self.view_is ∙ c.in-Some.is) c.requires.deadlines) in
+    let d = c.in-Ok.decision in
+    let decided = after_decision d table first c.tick.new.self c.requires.room (slots_inside d c.tick.new.self c.in-Ok.ensures.keeps) ticked in
+    let o = with_decision d c.tick.new.self in
+    let clock : c.keep.new.self.clock ≡ o.clock = ap (λ (x : OpenCircuitValue). x.clock) c.keep.ensures.after in
+    subst (λ (t : DeadlinesValue). HasDeadlines t first (Some c.keep.new.self)) (sym c.set_deadlines.ensures)
+    (stays_at first (with_deadlines d first table) o c.keep.new.self (ap (λ (x : OpenCircuitValue). x.four) c.keep.ensures.after) (ap (λ (x : OpenCircuitValue). x.six) c.keep.ensures.after) (omega (arith, clock)) decided)
+
+pub returns-in-Ok-keep-clause-beside : goal.returns-in-Ok-keep-clause-beside
+returns-in-Ok-keep-clause-beside g c =
+    let d = c.in-Ok.decision in
+    subst (SameBeside c.args.first c.args.table.now) (sym c.set_deadlines.ensures) (beside_decision d c.args.table.now c.args.first (slots_inside d c.tick.new.self c.in-Ok.ensures.keeps))

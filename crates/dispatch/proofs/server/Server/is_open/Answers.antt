@@ -11,10 +11,10 @@ returns-then-index-len c =
     let states = c.self.inside.servers.items in
     let k = c.index-index.result in
     let within : k < length states = omega (arith, c.if-index-len.true, c.len.ensures) in
-    let at = there_is parts k (omega (arith, within, c.self.invariant.size)) in
+    let at = there_is parts k (omega (arith, within, c.self.invariant.0.size)) in
     let s = server at.0 c.index.result.now in
     let its = get_with parts states k at.0 c.index.result.now s at.1 within in
-    let seen = open_at (with_states parts states) k s c.is_open.result (omega (arith, within, c.self.invariant.size, size_with parts states))
+    let seen = open_at (with_states parts states) k s c.is_open.result (omega (arith, within, c.self.invariant.0.size, size_with parts states))
     (sym (its ∙ ap (server at.0) (sym c.index.ensures))) c.is_open.ensures in
     subst (λ n. (c.is_open.result ≡ true) ↔ (slice_get (map is_some (books_in c.args.self.now)) n ≡ Some true)) c.index-index.ensures.value
     (subst (λ (v : ServerValue). (c.is_open.result ≡ true) ↔ (slice_get (map is_some (books_in v)) k ≡ Some true)) c.self.view_is seen)
@@ -24,6 +24,6 @@ returns-else-index-len c =
     let parts = c.self.inside.circuits.circuits in
     let states = c.self.inside.servers.items in
     let k = c.index-index.result in
-    let seen = none_past (with_states parts states) k c.len.result (omega (arith, c.len.ensures, c.self.invariant.size, size_with parts states)) c.if-index-len.false in
+    let seen = none_past (with_states parts states) k c.len.result (omega (arith, c.len.ensures, c.self.invariant.0.size, size_with parts states)) c.if-index-len.false in
     subst (λ n. (nat_lt k c.len.result ≡ true) ↔ (slice_get (map is_some (books_in c.args.self.now)) n ≡ Some true)) c.index-index.ensures.value
     (subst (λ (v : ServerValue). (nat_lt k c.len.result ≡ true) ↔ (slice_get (map is_some (books_in v)) k ≡ Some true)) c.self.view_is seen)

@@ -1,5 +1,6 @@
 use Rattle.std.proofs.Common.{List, map, length, drop, sym, ap, subst, ◌∙◌, arith}
 use Rattle.std.specs.Prelude.{All, Option}
+use Rattle.dispatch.specs.Deadlines.{HoldsDeadlines}
 use Rattle.dispatch.specs.Leases.{AreSynced, found_leases}
 use Rattle.dispatch.specs.ServerValue.{HasItsPools, IsReady, OpenCircuitValue, RegionsDiffer, leases_of, with_states}
 use Rattle.dispatch.proofs.IndexLemmas.{regions_differ}
@@ -11,14 +12,17 @@ pub invariant_of-result : goal.invariant_of-result
 invariant_of-result g c =
     let new = c.restart_all.new.servers in
     let items = c.in-Ok-closed_servers.servers.items in
-    let whole = written_through c.in-Ok-closed_servers.servers.len new (drop (length new) items) (omega (arith, c.restart_all.ensures.size, c.deref_mut.ensures.len, c.in-Ok-closed_servers.servers.ok.0)) in
-    record {
-      size =
-          ap (λ (xs : List (Option OpenCircuitValue)). length xs) whole ∙ c.restart_all.ensures.size
-          ∙ ap (λ (xs : List (Option OpenCircuitValue)). length xs) c.deref_mut.ensures.value ∙ c.in-Ok-closed_servers.ensures ∙ c.count.ensures.value;
-      regions = subst RegionsDiffer (sym (ap (λ topology. topology.circuits) c.in-Ok.ensures.topology)) (regions_differ c.args.config.now c.of.ensures.sound);
-      pools = subst (All HasItsPools) (λ i. with_states (c.parts-2.ensures i) (sym whole i)) c.restart_all.ensures.pools;
-    }
+    let whole = written_through c.in-Ok-closed_servers.servers.len new (drop (length new) items) (omega (arith, c.restart_all.ensures.size, c.deref_mut.ensures.len, c.in-Ok-closed_servers.servers.ok.0)) in (
+      record {
+        few = c.count.ensures.most;
+        size =
+            ap (λ (xs : List (Option OpenCircuitValue)). length xs) whole ∙ c.restart_all.ensures.size
+            ∙ ap (λ (xs : List (Option OpenCircuitValue)). length xs) c.deref_mut.ensures.value ∙ c.in-Ok-closed_servers.ensures ∙ c.count.ensures.value;
+        regions = subst RegionsDiffer (sym (ap (λ topology. topology.circuits) c.in-Ok.ensures.topology)) (regions_differ c.args.config.now c.of.ensures.sound);
+        pools = subst (All HasItsPools) (λ i. with_states (c.parts-2.ensures i) (sym whole i)) c.restart_all.ensures.pools;
+      },
+      subst (HoldsDeadlines c.restart_all.new.table) (sym whole) c.restart_all.ensures.deadlines,
+    )
 
 pub returns-clause-parts : goal.returns-clause-parts
 returns-clause-parts g c = parts_with c.in-Ok.circuits.circuits _ ∙ ap (λ topology. topology.circuits) c.in-Ok.ensures.topology

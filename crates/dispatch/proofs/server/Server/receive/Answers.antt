@@ -1,4 +1,4 @@
-use Rattle.std.proofs.Common.{◌≡◌, ◌<◌, ℕ, nat_lt, List, map, set, length, sym, ap, subst, ◌∙◌, arith, Err, refl}
+use Rattle.std.proofs.Common.{◌≡◌, ◌<◌, ◌*◌, ℕ, nat_lt, List, map, set, length, sym, ap, subst, ◌∙◌, arith, Err, refl}
 use Rattle.std.specs.Prelude.{Option, Some, Ok, slice_get, option_map, All}
 use Rattle.std.proofs.lemmas.List.{length-set, map-set}
 use Rattle.std.proofs.lemmas.List.Elements.{All-set}
@@ -10,7 +10,9 @@ use Rattle.dispatch.specs.Addressee.{addressee}
 use Rattle.dispatch.specs.Leases.{addressee_leases, received_leases, restarts_of}
 use Rattle.dispatch.specs.Received.{Received, IsAnswer, addressee_answered, addressee_saves, fails_at, received, received_saves}
 use Rattle.dispatch.specs.ServerValue.{CircuitServerValue, HasItsPools, IsReady, IsReadyFor, ServerValue, book_of, books_in, leases_in, leases_of, part_of, parts_in, with_states}
+use Rattle.dispatch.specs.Deadlines.{HasDeadlines, SameBeside}
 use Rattle.dispatch.proofs.AnswerLemmas.{not_more}
+use Rattle.dispatch.proofs.DeadlineLemmas.{one_held}
 use Rattle.dispatch.proofs.ReceivedLemmas.{received_at, leases_at, saves_at}
 use Rattle.dispatch.proofs.ServerLemmas.{all_moved, one_moved}
 use Rattle.dispatch.proofs.WithStates.{at_index, parts_with, server, set_with, there_with}
@@ -52,7 +54,7 @@ there_in : (g : given.Over) (c : goal.After-self-1 g) → slice_get c.self.insid
 there_in g c = ap (slice_get c.self.inside.circuits.circuits) c.index.ensures.value ∙ c.part-part.ensures
 
 within : (g : given.Over) (c : goal.After-self-1 g) → c.index.result < length c.self.inside.servers.items
-within g c = omega (arith, c.self.invariant.size, c.index.ensures.value, slice_get_within c.self.inside.circuits.circuits c.in-Ok.found.0 c.part-part.result.now c.part-part.ensures)
+within g c = omega (arith, c.self.invariant.0.size, c.index.ensures.value, slice_get_within c.self.inside.circuits.circuits c.in-Ok.found.0 c.part-part.result.now c.part-part.ensures)
 
 abbrev before : (g : given.Over) (c : goal.After-self-1 g) → List CircuitServerValue
 before g c = with_states c.self.inside.circuits.circuits c.self.inside.servers.items
@@ -81,7 +83,7 @@ elsewhere : (g : given.Over) (c : goal.After-self-1 g) (k : ℕ) (x : CircuitSer
     → x.part.region ≡ c.part-part.result.now.region → ⊥
 elsewhere g c k x there apart same =
     let of_part = ap (λ parts. slice_get parts k) (sym (parts_with c.self.inside.circuits.circuits c.self.inside.servers.items)) ∙ slice_get-map part_of (before g c) k ∙ ap (option_map part_of) there in
-    apart (c.self.invariant.regions k c.index.result x.part c.part-part.result.now of_part (there_in g c) same)
+    apart (c.self.invariant.0.regions k c.index.result x.part c.part-part.result.now of_part (there_in g c) same)
 
 -- ---- what the answer requires
 
@@ -97,9 +99,9 @@ answer-requires-clause-pools g c =
     let parts = c.self.inside.circuits.circuits in
     let states = c.self.inside.servers.items in
     let there = ap (slice_get parts) c.index.ensures.value ∙ c.part-part.ensures in
-    let inside : c.index.result < length states = omega (arith, c.self.invariant.size, slice_get_within parts c.index.result c.part-part.result.now there) in
+    let inside : c.index.result < length states = omega (arith, c.self.invariant.0.size, slice_get_within parts c.index.result c.part-part.result.now there) in
     at_index HasItsPools (with_states parts states) c.index.result (server c.part-part.result.now c.index_mut.result.now)
-    (there_with parts states c.index.result c.part-part.result.now c.index_mut.result.now there inside c.index_mut.ensures.value) c.self.invariant.pools
+    (there_with parts states c.index.result c.part-part.result.now c.index_mut.result.now there inside c.index_mut.ensures.value) c.self.invariant.0.pools
 
 pub answer-requires-clause-ready : goal.answer-requires-clause-ready
 answer-requires-clause-ready g c tells =
@@ -107,21 +109,30 @@ answer-requires-clause-ready g c tells =
     let states = c.self.inside.servers.items in
     let regions = (g.D.Disk.device c.args.disk.now).region in
     let there = ap (slice_get parts) c.index.ensures.value ∙ c.part-part.ensures in
-    let inside : c.index.result < length states = omega (arith, c.self.invariant.size, slice_get_within parts c.index.result c.part-part.result.now there) in
+    let inside : c.index.result < length states = omega (arith, c.self.invariant.0.size, slice_get_within parts c.index.result c.part-part.result.now there) in
     at_index (IsReady regions) (with_states parts states) c.index.result (server c.part-part.result.now c.index_mut.result.now)
     (there_with parts states c.index.result c.part-part.result.now c.index_mut.result.now there inside c.index_mut.ensures.value)
     (subst (λ (s : ServerValue). All (IsReady regions) s.circuits) (sym c.self.view_is) (c.requires.ready tells))
 
 -- ---- after the answer
 
+its_first : (g : given.Over) (c : goal.After-self-1 g) → 32 * c.index-first.result ≡ 32 * c.index.result
+its_first g c = ap (λ n. 32 * n) (c.index-first.ensures.value ∙ sym c.index.ensures.value)
+
 pub invariant_of-self : goal.invariant_of-self
-invariant_of-self g c = record {
-  size = length-set c.self.inside.servers.items c.index.result c.answer.new.self ∙ c.self.invariant.size;
-  regions = c.self.invariant.regions;
-  pools =
-      subst (All HasItsPools) (sym (written g c))
-      (All-set HasItsPools (before g c) c.index.result (server c.part-part.result.now c.answer.new.self) c.answer.ensures.pools c.self.invariant.pools);
-}
+invariant_of-self g c = (
+  record {
+    few = c.self.invariant.0.few;
+    size = length-set c.self.inside.servers.items c.index.result c.answer.new.self ∙ c.self.invariant.0.size;
+    regions = c.self.invariant.0.regions;
+    pools =
+        subst (All HasItsPools) (sym (written g c))
+        (All-set HasItsPools (before g c) c.index.result (server c.part-part.result.now c.answer.new.self) c.answer.ensures.pools c.self.invariant.0.pools);
+  },
+  one_held c.index.result c.self.inside.deadlines c.answer.new.table c.self.inside.servers.items c.answer.new.self (within g c) c.self.invariant.1
+      (subst (λ n. HasDeadlines c.answer.new.table n c.answer.new.self) (its_first g c) c.answer.ensures.deadlines)
+      (subst (λ n. SameBeside n c.self.inside.deadlines c.answer.new.table) (its_first g c) c.answer.ensures.beside),
+)
 
 pub returns-clause-parts : goal.returns-clause-parts
 returns-clause-parts g c =

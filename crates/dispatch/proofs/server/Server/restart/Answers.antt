@@ -1,6 +1,7 @@
 use Rattle.std.proofs.Common.{◌≡◌, ◌<◌, ◌≤◌, ◌+◌, ◌*◌, ◌++◌, ℕ, List, map, take, length, drop, sym, ap, subst, ◌∙◌, arith}
 use Rattle.std.specs.Prelude.{All, Option}
 use Rattle.config.specs.CircuitPart.{CircuitPart}
+use Rattle.dispatch.specs.Deadlines.{HoldsDeadlines}
 use Rattle.dispatch.specs.Leases.{AreSynced, found_leases}
 use Rattle.dispatch.specs.ServerValue.{HasItsPools, IsReady, OpenCircuitValue, ServerValue, leases_of, parts_in, with_states}
 use Rattle.dispatch.proofs.ServerLemmas.{written_through}
@@ -16,7 +17,10 @@ whole g c =
 
 pub restart_all-requires-clause-size : goal.restart_all-requires-clause-size
 restart_all-requires-clause-size g c =
-    ap (λ (xs : List (Option OpenCircuitValue)). length xs) c.deref_mut.ensures.value ∙ c.self.invariant.size ∙ ap (λ (ps : List CircuitPart). length ps) (sym c.parts.ensures)
+    ap (λ (xs : List (Option OpenCircuitValue)). length xs) c.deref_mut.ensures.value ∙ c.self.invariant.0.size ∙ ap (λ (ps : List CircuitPart). length ps) (sym c.parts.ensures)
+
+pub restart_all-requires-clause-few : goal.restart_all-requires-clause-few
+restart_all-requires-clause-few g c = subst (λ (ps : List CircuitPart). length ps ≤ 1024) (sym c.parts.ensures) c.self.invariant.0.few
 
 pub restart_all-requires-clause-regions : goal.restart_all-requires-clause-regions
 restart_all-requires-clause-regions g c =
@@ -25,13 +29,17 @@ restart_all-requires-clause-regions g c =
     (subst (λ (s : ServerValue). All P (parts_in s)) (sym c.self.view_is) c.requires.regions)
 
 pub invariant_of-self : goal.invariant_of-self
-invariant_of-self g c = record {
-  size =
-      ap (λ (xs : List (Option OpenCircuitValue)). length xs) (whole g c) ∙ c.restart_all.ensures.size
-      ∙ ap (λ (xs : List (Option OpenCircuitValue)). length xs) c.deref_mut.ensures.value ∙ c.self.invariant.size;
-  regions = c.self.invariant.regions;
-  pools = subst (All HasItsPools) (λ i. with_states (c.parts.ensures i) (sym (whole g c) i)) c.restart_all.ensures.pools;
-}
+invariant_of-self g c = (
+  record {
+    few = c.self.invariant.0.few;
+    size =
+        ap (λ (xs : List (Option OpenCircuitValue)). length xs) (whole g c) ∙ c.restart_all.ensures.size
+        ∙ ap (λ (xs : List (Option OpenCircuitValue)). length xs) c.deref_mut.ensures.value ∙ c.self.invariant.0.size;
+    regions = c.self.invariant.0.regions;
+    pools = subst (All HasItsPools) (λ i. with_states (c.parts.ensures i) (sym (whole g c) i)) c.restart_all.ensures.pools;
+  },
+  subst (HoldsDeadlines c.restart_all.new.table) (sym (whole g c)) c.restart_all.ensures.deadlines,
+)
 
 pub returns-clause-parts : goal.returns-clause-parts
 returns-clause-parts g c =
