@@ -1,5 +1,5 @@
 -- What decisions, clocks and sweeps make of the deadlines of a circuit.
-use Rattle.std.proofs.Common.{◌≡◌, ℕ, zero, suc, ◌+◌, ◌-◌, ◌*◌, ◌<◌, ◌≤◌, ◌==◌, nat_le, nat_lt, Bool, true, false, cond, List, [], ◌∷◌, length, map, set, get_or, refl, sym, ap, subst, ◌∙◌, arith, inl, inr}
+use Rattle.std.proofs.Common.{◌≡◌, ℕ, zero, suc, ◌+◌, ◌-◌, ◌*◌, ◌<◌, ◌≤◌, ◌==◌, nat_le, nat_lt, Bool, true, false, List, [], ◌∷◌, length, map, set, get_or, refl, sym, ap, subst, ◌∙◌, arith, inl, inr}
 use Rattle.std.specs.Prelude.{Option, Some, None, IfSome, option_map, slice_get, if◌then◌else◌, ◌⊎◌}
 use Rattle.std.specs.List.{position}
 use Rattle.std.specs.Str.{bytes_eq}
@@ -245,6 +245,11 @@ kept4_aside (Some kept) table first clock ss its has = put_others table (first +
 kept6_aside : {K : Type 0} (keep : Option KeptSlot6) (table : DeadlinesValue) (first clock : ℕ) (ss : List (Option (Holder K))) → HasThose table first clock ss → HasThose (with_kept6 first keep table) first clock ss
 kept6_aside None table first clock ss has = has
 kept6_aside (Some kept) table first clock ss has = put_others table first clock (first + (16 + kept.slot)) (option_map until_of (slots6.holder_of kept.content)) ss (inr (omega arith)) has
+
+-- a decision moves no clock
+pub clock_of_decision : (d : CircuitDecision) (o : OpenCircuitValue) → (with_decision d o).clock ≡ o.clock
+clock_of_decision (V4 m d) o = refl
+clock_of_decision (V6 forward m client d) o = refl
 
 pub after_decision : (d : CircuitDecision) (table : DeadlinesValue) (first : ℕ) (o : OpenCircuitValue) → first + 32 ≤ length table.slots → HasItsSlots d → HasDeadlines table first (Some o)
     → HasDeadlines (with_deadlines d first table) first (Some (with_decision d o))

@@ -7,4 +7,5 @@ pub mod RequestLemmas6
 pub mod RegionLemmas
 pub mod SaveLemmas
 pub mod ServerLemmas
+pub mod TickLemmas
 pub mod WithStates

@@ -1,6 +1,6 @@
 -- What restarts find after a save, and that what is saved is a book.
-use Rattle.std.proofs.Common.{◌≡◌, ℕ, arith, ◌+◌, ◌-◌, ◌<◌, ◌≤◌, ◌==◌, ◌&&◌, ◌||◌, nat_le, nat_lt, Bool, true, false, cond, List, [], ◌∷◌, length, map, set, All, refl, sym, ap, subst, ◌∙◌, Ok, Err, Result, is_ok, OnOk, OnErr}
-use Rattle.std.specs.Prelude.{Some, IfSome, Option, None, option_map, slice_index, slice_set, if◌then◌else◌}
+use Rattle.std.proofs.Common.{◌≡◌, ℕ, arith, ◌+◌, ◌-◌, ◌<◌, ◌≤◌, ◌==◌, ◌&&◌, ◌||◌, nat_le, nat_lt, Bool, true, false, cond, List, [], ◌∷◌, map, All, refl, sym, ap, subst, ◌∙◌, Ok, Err, Result, is_ok, OnOk, OnErr}
+use Rattle.std.specs.Prelude.{Some, IfSome, Option, None, option_map, slice_set, if◌then◌else◌}
 use Rattle.std.proofs.lemmas.Bool.{eqb-true, leb-true}
 use Rattle.std.proofs.lemmas.List.Folds.{map_fixed}
 use Rattle.types.specs.declared.slot4.Slot4.{Slot4}

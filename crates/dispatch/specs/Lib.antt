@@ -11,3 +11,4 @@ pub mod Request4
 pub mod Request6
 pub mod Server
 pub mod ServerValue
+pub mod Ticked

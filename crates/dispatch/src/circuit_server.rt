@@ -1,16 +1,14 @@
 //! The server of one circuit: what it has while it is open, and what it makes of a message.
 ghost use Rattle.std.specs.Prelude.{◌≡◌, ◌<◌, ◌≤◌, ◌+◌, ℕ, length, [], Some, None, IfSome, true, is_some, nat_lt, option_map};
-ghost use Rattle.config.specs.CircuitPart as parts;
-ghost use Rattle.dispatch.specs.Deadlines.{HasDeadlines, SameBeside, held_in, swept};
+ghost use Rattle.dispatch.specs.Deadlines.{HasDeadlines, SameBeside, held_in};
 ghost use Rattle.dispatch.specs.Leases.{after_datagram, found_book};
-ghost use Rattle.timers.specs.Deadlines.{DeadlinesValue};
 ghost use Rattle.types.specs.Slots.{last_until};
 ghost use Rattle.dispatch.specs.Received.{IsAnswer, answered, circuit_saves, fails_at};
 ghost use Rattle.dispatch.specs.RelayedMessage.{IsRelayedMessage};
-ghost use Rattle.dispatch.specs.Server.{book_at};
 ghost use Rattle.dispatch.specs.ServerValue.{HasPools, IsReadyFor, leases_of, open_book};
+ghost use Rattle.dispatch.specs.Ticked.{IsLater, state_at};
 ghost use Rattle.lease_disk.specs.Device.{Touches, TouchesNothing, WritesAt};
-ghost use Rattle.lease_disk.specs.Region.{IsClean, Region};
+ghost use Rattle.lease_disk.specs.Region.{IsClean};
 
 use crate::addressee::RelayedMessage;
 use crate::decision::put;
@@ -84,6 +82,7 @@ impl CircuitServer {
         requires deadlines { HasDeadlines table.old first self.old }
         requires pools { HasPools part.now self.old }
         requires ready { D.tells ≡ true → IsReadyFor ((D.device disk.old).region part.now.region) self.old }
+        ensures later { (moment : ℕ) → IsLater moment self.old → IsLater moment self.new }
         ensures pools { HasPools part.now self.new }
         ensures deadlines { HasDeadlines table.new first self.new }
         ensures beside { SameBeside first table.old table.new }
@@ -144,10 +143,7 @@ impl CircuitServer {
 
     /// Moves the clock of an open circuit to this moment, where it is a later one.
     pub(crate) fn tick(&mut self, now: Moment)
-        ensures book { option_map open_book self.new ≡ option_map (book_at now) (option_map open_book self.old) }
-        ensures pools { (part : parts.CircuitPart) → HasPools part self.old → HasPools part self.new }
-        ensures deadlines { (table : DeadlinesValue) (first : ℕ) → HasDeadlines table first self.old → HasDeadlines (swept now table) first self.new }
-        ensures ready { (region : Region) → IsReadyFor region self.old → IsReadyFor region self.new }
+        ensures { self.new ≡ state_at now self.old }
     {
         if let Some(circuit) = &mut self.state {
             circuit.tick(now);

@@ -5,6 +5,7 @@ mod addressee;
 mod addressee4;
 mod addressee6;
 mod circuit_server;
+mod circuit_servers;
 mod decision;
 mod laws;
 mod named_circuit;

@@ -14,6 +14,7 @@ ghost use Rattle.dispatch.specs.RelayedMessage.{IsRelayedMessage};
 ghost use Rattle.dispatch.specs.Request4.{request4_in};
 ghost use Rattle.dispatch.specs.Server.{book_at, datagram_served, drop, message6_served, request4_served};
 ghost use Rattle.dispatch.specs.ServerValue.{HasPools, IsReadyFor, open_book};
+ghost use Rattle.dispatch.specs.Ticked.{open_at};
 ghost use Rattle.lease_disk.specs.Device.{Touches, TouchesNothing};
 ghost use Rattle.lease_disk.specs.Region.{IsClean, Region, effective, faults_after};
 ghost use Rattle.lease_disk.specs.Save.{Fits};
@@ -76,12 +77,12 @@ impl OpenCircuit {
 
     /// Moves the clock to this moment, where it is a later one.
     pub(crate) fn tick(&mut self, now: Moment)
+        ensures value { self.new ≡ open_at now self.old }
         ensures pool4 { self.new.four.pool ≡ self.old.four.pool }
         ensures pool6 { self.new.six.pool ≡ self.old.six.pool }
         ensures four { self.new.four ≡ self.old.four }
         ensures six { self.new.six ≡ self.old.six }
         ensures later { self.old.clock ≤ self.new.clock }
-        ensures now { now ≤ self.new.clock }
         ensures marks { self.new.marks ≡ self.old.marks }
         ensures book { open_book self.new ≡ book_at now (open_book self.old) }
         ensures ready { (region : Region) → IsReadyFor region (Some self.old) → IsReadyFor region (Some self.new) }

@@ -13,18 +13,15 @@ ghost use Rattle.lease_disk.specs.Region.{Region};
 ghost use Rattle.timers.specs.Deadlines.{DeadlinesValue, deadline, is_due};
 
 use crate::addressee::addressee;
-use crate::circuit_server::CircuitServer;
+use crate::circuit_servers::{CircuitServers, SLOTS};
 use config::{CircuitPart, Circuits, Config};
 use lease_disk::Disk;
-use std::alloc::{AllocError, Global};
+use std::alloc::Global;
 use std::marker::Model;
 use thiserror::Error;
 use timers::Deadlines;
 use types::{Circuit, Delivery, Discard, Moment, Proto, Source};
 use wire::PacketBuf;
-
-/// How many slots a circuit has, of both pools.
-const SLOTS: usize = 32;
 
 /// Why a server was not opened.
 #[derive(Clone, Copy, Debug, PartialEq, Eq, Error)]
@@ -43,7 +40,7 @@ pub enum OpenFault {
 #[derive(Drop)]
 pub struct Server {
     circuits: Circuits,
-    servers: Vec<CircuitServer>,
+    servers: CircuitServers,
     /// When the slots of all circuits are due: slot s of circuit c has the number 32 c + s.
     deadlines: Deadlines,
 }
@@ -54,20 +51,9 @@ impl Model for Server {
 
     ghost Value = { ServerValue };
 
-    ghost view = { λ s. record { relays = s.circuits.relays; circuits = with_states s.circuits.circuits s.servers.items; deadlines = s.deadlines } };
+    ghost view = { λ s. record { relays = s.circuits.relays; circuits = with_states s.circuits.circuits s.servers; deadlines = s.deadlines } };
 
-    ghost invariant = { λ s. IsServer s.circuits.circuits s.servers.items × HoldsDeadlines s.deadlines s.servers.items };
-}
-
-/// A server for each of so many circuits. Each is closed.
-fn closed_servers(alloc: Global, count: usize) -> Result<Vec<CircuitServer>, AllocError>
-    ensures { IfOk result (λ servers. length servers.items ≡ count) }
-{
-    let mut servers = Vec::with_capacity(alloc, count)?;
-    'servers: for _ in 0..count {
-        servers.push(CircuitServer::closed())?;
-    }
-    Ok(servers)
+    ghost invariant = { λ s. IsServer s.circuits.circuits s.servers × HoldsDeadlines s.deadlines s.servers };
 }
 
 /// Whether the device has the region of each circuit.
@@ -81,47 +67,6 @@ fn has_regions(parts: &[CircuitPart], count: u16) -> bool
         }
     }
     true
-}
-
-/// Moves the clock of each to this moment, where it is a later one.
-fn tick_all(servers: &mut [CircuitServer], now: Moment)
-    ensures size { length servers.new ≡ length servers.old }
-    ensures leases { (parts : List parts.CircuitPart) (regions : ℕ → Region) → length parts ≡ length servers.old
-        → map (leases_of regions) (with_states parts servers.new) ≡ map (after_tick now) (map (leases_of regions) (with_states parts servers.old)) }
-    ensures ready { (parts : List parts.CircuitPart) (regions : ℕ → Region) → length parts ≡ length servers.old
-        → All (IsReady regions) (with_states parts servers.old) → All (IsReady regions) (with_states parts servers.new) }
-    ensures pools { (parts : List parts.CircuitPart) → length parts ≡ length servers.old
-        → All HasItsPools (with_states parts servers.old) → All HasItsPools (with_states parts servers.new) }
-    ensures deadlines { (table : DeadlinesValue) → HoldsDeadlines table servers.old → HoldsDeadlines (swept now table) servers.new }
-{
-    'servers: for index in 0..servers.len() {
-        servers[index].tick(now);
-    }
-}
-
-/// Begins each with what its region holds.
-fn restart_all<D: Disk>(
-    parts: &[CircuitPart],
-    servers: &mut [CircuitServer],
-    disk: &mut D,
-    table: &mut Deadlines,
-)
-    requires room { length table.old.slots ≡ 32 * length parts.now }
-    requires few { length parts.now ≤ 1024 }
-    requires size { length servers.old ≡ length parts.now }
-    requires regions { HasRegions parts.now (D.device disk.old).count }
-    ensures size { length servers.new ≡ length servers.old }
-    ensures leases { D.tells ≡ true → map (leases_of (D.device disk.new).region) (with_states parts.now servers.new) ≡ map (found_leases (D.device disk.old).region) parts.now }
-    ensures ready { D.tells ≡ true → AreSynced parts.now (D.device disk.old).region → All (IsReady (D.device disk.new).region) (with_states parts.now servers.new) }
-    ensures pools { All HasItsPools (with_states parts.now servers.new) }
-    ensures deadlines { HoldsDeadlines table.new servers.new }
-    ensures frame { TouchesNothing D.tells (D.device disk.old) (D.device disk.new) }
-    ensures reads { (D.device disk.new).reads ≤ (D.device disk.old).reads + 2 * length parts.now }
-{
-    'circuits: for index in 0..parts.len() {
-        servers[index].restart(&parts[index], disk);
-        servers[index].set_deadlines(table, SLOTS * index);
-    }
 }
 
 impl Server {
@@ -145,7 +90,7 @@ impl Server {
         let Ok(circuits) = Circuits::of(alloc, config) else {
             return Err(OpenFault::Memory);
         };
-        let Ok(mut servers) = closed_servers(alloc, circuits.count()) else {
+        let Ok(mut servers) = CircuitServers::closed(alloc, circuits.count()) else {
             return Err(OpenFault::Memory);
         };
         let Ok(mut deadlines) = Deadlines::new(alloc, SLOTS * circuits.count()) else {
@@ -154,7 +99,7 @@ impl Server {
         if !has_regions(circuits.parts(), disk.regions()) {
             return Err(OpenFault::DiskTooSmall);
         }
-        restart_all(circuits.parts(), &mut servers, disk, &mut deadlines);
+        servers.restart(circuits.parts(), disk, &mut deadlines);
         Ok(Server {
             circuits,
             servers,
@@ -183,7 +128,7 @@ impl Server {
         ensures { (result ≡ true) ↔ (slice_get (map is_some (books_in self.now)) circuit ≡ Some true) }
     {
         let index = circuit.index();
-        index < self.servers.len() && self.servers[index].is_open()
+        index < self.servers.count() && self.servers.is_open(index)
     }
 
     /// When the slots of all circuits are due, slot s of circuit c by the number 32 c + s: until when each slot of
@@ -237,8 +182,9 @@ impl Server {
         };
         let part = self.circuits.part(circuit);
         let table = &mut self.deadlines;
-        let first = SLOTS * circuit.index();
-        self.servers[circuit.index()].answer(part, &delivery, relayed, disk, out, table, first)
+        let index = circuit.index();
+        self.servers
+            .answer(index, part, &delivery, relayed, disk, out, table)
     }
 
     /// Moves the clock of every open circuit to this moment, where it is a later one.
@@ -250,7 +196,7 @@ impl Server {
         ensures due { (n until : ℕ) → deadline self.new.deadlines n ≡ Some until → now < until }
         ensures looks { self.new.deadlines.looks ≤ count_by (is_due now) self.old.deadlines.slots + 1 }
     {
-        tick_all(&mut self.servers, now);
+        self.servers.tick(now);
         self.deadlines.sweep(now);
     }
 
@@ -267,6 +213,6 @@ impl Server {
         ensures reads { (D.device disk.new).reads ≤ (D.device disk.old).reads + 2 * length self.old.circuits }
     {
         let table = &mut self.deadlines;
-        restart_all(self.circuits.parts(), &mut self.servers, disk, table);
+        self.servers.restart(self.circuits.parts(), disk, table);
     }
 }

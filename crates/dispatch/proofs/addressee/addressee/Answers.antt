@@ -1,9 +1,7 @@
-use Rattle.std.proofs.Common.{◌≡◌, ℕ, List, length, Ok, Err, sym, ap, subst, ◌∙◌}
+use Rattle.std.proofs.Common.{◌≡◌, ℕ, Ok, Err, sym, ap, subst, ◌∙◌}
 use Rattle.std.specs.Prelude.{Result, IfOk, IfErr}
-use Rattle.types.specs.declared.dest.Proto.{Proto}
 use Rattle.types.specs.declared.discard.Discard.{Discard}
 use Rattle.dispatch.specs.Addressee.{addressee, datagram_check}
-use Rattle.dispatch.specs.RelayedMessage.{IsRelayedMessage}
 use Rattle.dispatch.proofs.AddresseeLemmas.{unknown_source, too_long, within}
 use Rattle.dispatch.proofs.addressee.addressee.Goals as goal
 

@@ -1,4 +1,4 @@
-use Rattle.std.proofs.Common.{◌≡◌, ◌+◌, ◌++◌, ℕ, List, length, map, sym, ap, ◌∙◌, arith}
+use Rattle.std.proofs.Common.{◌++◌, length, map, ap, ◌∙◌, arith}
 use Rattle.types.specs.declared.addr.Addr6.{Addr6}
 use Rattle.v6_message.specs.Ia.{AddressValue}
 use Rattle.dispatch.proofs.RequestLemmas6.{length_addresses}

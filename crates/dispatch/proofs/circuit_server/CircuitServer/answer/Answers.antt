@@ -1,4 +1,4 @@
-use Rattle.std.proofs.Common.{◌≡◌, ℕ, List, not, true, false, refl, sym, ap, subst, ◌∙◌, Err, Result, Some, is_ok, arith}
+use Rattle.std.proofs.Common.{◌≡◌, ◌≤◌, ℕ, List, not, true, false, refl, sym, ap, subst, ◌∙◌, Err, Result, Some, is_ok, arith}
 use Rattle.types.specs.Delivery.{DeliveryValue}
 use Rattle.types.specs.declared.discard.Discard.{Discard}
 use Rattle.types.specs.declared.discard.Discard.TheVariants.{DiskFault}
@@ -15,7 +15,8 @@ use Rattle.timers.specs.Deadlines.{DeadlinesValue}
 use Rattle.dispatch.specs.CircuitDecision.{with_decision}
 use Rattle.dispatch.specs.Deadlines.{HasDeadlines, SameBeside, with_deadlines}
 use Rattle.dispatch.specs.ServerValue.{OpenCircuitValue}
-use Rattle.dispatch.proofs.DeadlineLemmas.{after_decision, beside_decision, slots_inside, stays_at}
+use Rattle.dispatch.specs.Ticked.{IsLater}
+use Rattle.dispatch.proofs.DeadlineLemmas.{after_decision, beside_decision, clock_of_decision, slots_inside, stays_at}
 use Rattle.dispatch.proofs.circuit_server.CircuitServer.answer.Goals as goal
 
 -- ---- the cases of an open circuit
@@ -142,3 +143,16 @@ pub returns-in-Ok-keep-clause-beside : goal.returns-in-Ok-keep-clause-beside
 returns-in-Ok-keep-clause-beside g c =
     let d = c.in-Ok.decision in
     subst (SameBeside c.args.first c.args.table.now) (sym c.set_deadlines.ensures) (beside_decision d c.args.table.now c.args.first (slots_inside d c.tick.new.self c.in-Ok.ensures.keeps))
+
+-- ---- the clock
+
+pub returns-in-Err-clause-later : goal.returns-in-Err-clause-later
+returns-in-Err-clause-later g c moment was =
+    let before : moment ≤ c.in-Some.circuit.clock = subst (IsLater moment) (sym c.self.view_is ∙ c.in-Some.is) was in
+    omega (arith, before, c.tick.ensures.later)
+
+pub returns-in-Ok-keep-clause-later : goal.returns-in-Ok-keep-clause-later
+returns-in-Ok-keep-clause-later g c moment was =
+    let before : moment ≤ c.in-Some.circuit.clock = subst (IsLater moment) (sym c.self.view_is ∙ c.in-Some.is) was in
+    let kept : c.keep.new.self.clock ≡ c.tick.new.self.clock = ap (λ (x : OpenCircuitValue). x.clock) c.keep.ensures.after ∙ clock_of_decision c.in-Ok.decision c.tick.new.self in
+    omega (arith, before, kept, c.tick.ensures.later)

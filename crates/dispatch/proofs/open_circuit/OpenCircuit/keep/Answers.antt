@@ -1,6 +1,4 @@
-use Rattle.std.proofs.Common.{sym, ap, ◌∙◌, ◌≡◌, ℕ}
-use Rattle.std.specs.Prelude.{Some, None}
-use Rattle.lease_disk.specs.declared.format2.content.Content.{Content}
+use Rattle.std.proofs.Common.{sym, ◌∙◌}
 use Rattle.dispatch.proofs.SaveLemmas.{few_kept, is_fit, is_to_save, still_ready}
 use Rattle.dispatch.proofs.open_circuit.OpenCircuit.keep.Goals as goal
 

@@ -1,9 +1,9 @@
-use Rattle.std.proofs.Common.{refl, sym, ap, subst, ◌∙◌, ◌≡◌, ℕ, List, arith, Ok, Err, Result, OnOk, OnErr}
-use Rattle.std.specs.Prelude.{[], ◌∷◌, All, Some, map, slice_index_or}
+use Rattle.std.proofs.Common.{refl, sym, ap, subst, ◌∙◌, ◌≡◌, ℕ, arith, Ok, Err, Result, OnOk, OnErr}
+use Rattle.std.specs.Prelude.{[], ◌∷◌, Some, map}
 use Rattle.lease_disk.specs.Book.{IsBook}
 use Rattle.lease_disk.specs.Recovered.{recovered}
-use Rattle.lease_disk.specs.Region.{Region, IsClean, effective}
-use Rattle.lease_disk.specs.Save.{IsChange, IsSaved, IsLeft, AreMarks, gate_at, mark_at, with_slot}
+use Rattle.lease_disk.specs.Region.{Region, effective}
+use Rattle.lease_disk.specs.Save.{IsChange, IsSaved, IsLeft, AreMarks, gate_at, mark_at}
 use Rattle.bindings_v4.specs.Slots4 as slots4
 use Rattle.bindings_v6.specs.Slots6 as slots6
 use Rattle.config.specs.CircuitPart.{pool4_of, pool6_of}

@@ -1,4 +1,4 @@
-use Rattle.std.proofs.Common.{◌≤◌, refl, arith, ap, sym, subst}
+use Rattle.std.proofs.Common.{◌≤◌, refl, arith, sym, subst}
 use Rattle.dispatch.specs.ServerValue.{IsReadyFor}
 use Rattle.std.specs.Prelude.{Some}
 use Rattle.dispatch.proofs.SaveLemmas.{later_ready}

@@ -7,9 +7,9 @@ use Rattle.dispatch.proofs.server.Server.part.Goals as goal
 pub part-requires : goal.part-requires
 part-requires c =
     let there = subst (λ (s : ServerValue). c.args.circuit < length s.circuits) (sym c.self.view_is) c.requires in
-    omega (arith, there, size_with c.self.inside.circuits.circuits c.self.inside.servers.items)
+    omega (arith, there, size_with c.self.inside.circuits.circuits c.self.inside.servers)
 
 pub returns : goal.returns
 returns c =
     ap (λ s. slice_get (parts_in s) c.args.circuit) (sym c.self.view_is)
-    ∙ ap (λ parts. slice_get parts c.args.circuit) (parts_with c.self.inside.circuits.circuits c.self.inside.servers.items) ∙ c.part.ensures
+    ∙ ap (λ parts. slice_get parts c.args.circuit) (parts_with c.self.inside.circuits.circuits c.self.inside.servers) ∙ c.part.ensures

@@ -1,4 +1,4 @@
-use Rattle.std.proofs.Common.{◌≡◌, ◌<◌, ◌*◌, ℕ, nat_lt, List, map, set, length, sym, ap, subst, ◌∙◌, arith, Err, refl}
+use Rattle.std.proofs.Common.{◌≡◌, ◌<◌, ℕ, nat_lt, List, map, set, length, sym, ap, subst, ◌∙◌, arith, Err, refl}
 use Rattle.std.specs.Prelude.{Option, Some, Ok, slice_get, option_map, All}
 use Rattle.std.proofs.lemmas.List.{length-set, map-set}
 use Rattle.std.proofs.lemmas.List.Elements.{All-set}
@@ -9,12 +9,14 @@ use Rattle.lease_disk.specs.Device.{WritesAt}
 use Rattle.dispatch.specs.Addressee.{addressee}
 use Rattle.dispatch.specs.Leases.{addressee_leases, received_leases, restarts_of}
 use Rattle.dispatch.specs.Received.{Received, IsAnswer, addressee_answered, addressee_saves, fails_at, received, received_saves}
-use Rattle.dispatch.specs.ServerValue.{CircuitServerValue, HasItsPools, IsReady, IsReadyFor, ServerValue, book_of, books_in, leases_in, leases_of, part_of, parts_in, with_states}
-use Rattle.dispatch.specs.Deadlines.{HasDeadlines, SameBeside}
+use Rattle.dispatch.specs.ServerValue.{CircuitServerValue, HasItsPools, IsReady, IsReadyFor, OpenCircuitValue, ServerValue, book_of, books_in, leases_in, leases_of, part_of, parts_in, with_states}
+use Rattle.dispatch.specs.Deadlines.{HoldsDeadlines}
+use Rattle.dispatch.specs.Ticked.{state_of}
 use Rattle.dispatch.proofs.AnswerLemmas.{not_more}
 use Rattle.dispatch.proofs.DeadlineLemmas.{one_held}
 use Rattle.dispatch.proofs.ReceivedLemmas.{received_at, leases_at, saves_at}
 use Rattle.dispatch.proofs.ServerLemmas.{all_moved, one_moved}
+use Rattle.dispatch.proofs.TickLemmas.{own_state}
 use Rattle.dispatch.proofs.WithStates.{at_index, parts_with, server, set_with, there_with}
 use Rattle.dispatch.proofs.server.Server.receive.Given as given
 use Rattle.dispatch.proofs.server.Server.receive.Goals as goal
@@ -24,7 +26,7 @@ use Rattle.dispatch.proofs.server.Server.receive.Goals as goal
 none_of : (g : given.Over) (c : goal.In-Err g) → addressee c.args.self.now.relays (parts_in c.args.self.now) c.args.proto c.args.source c.args.datagram.now ≡ Err c.in-Err.why
 none_of g c =
     ap (λ s. addressee s.relays (parts_in s) c.args.proto c.args.source c.args.datagram.now) (sym c.self.view_is)
-    ∙ ap (λ parts. addressee c.self.inside.circuits.relays parts c.args.proto c.args.source c.args.datagram.now) (parts_with c.self.inside.circuits.circuits c.self.inside.servers.items)
+    ∙ ap (λ parts. addressee c.self.inside.circuits.relays parts c.args.proto c.args.source c.args.datagram.now) (parts_with c.self.inside.circuits.circuits c.self.inside.servers)
     ∙ c.in-Err.ensures.err
 
 pub returns-in-Err-clause-answer : goal.returns-in-Err-clause-answer
@@ -50,40 +52,45 @@ returns-in-Err-clause-leases g c tells =
 
 -- ---- the server of the datagram's circuit, before
 
-there_in : (g : given.Over) (c : goal.After-self-1 g) → slice_get c.self.inside.circuits.circuits c.index.result ≡ Some c.part-part.result.now
-there_in g c = ap (slice_get c.self.inside.circuits.circuits) c.index.ensures.value ∙ c.part-part.ensures
+there_in : (g : given.Over) (c : goal.After-answer g) → slice_get c.self.inside.circuits.circuits c.index-index.result ≡ Some c.part-part.result.now
+there_in g c = ap (slice_get c.self.inside.circuits.circuits) c.index-index.ensures.value ∙ c.part-part.ensures
 
-within : (g : given.Over) (c : goal.After-self-1 g) → c.index.result < length c.self.inside.servers.items
-within g c = omega (arith, c.self.invariant.0.size, c.index.ensures.value, slice_get_within c.self.inside.circuits.circuits c.in-Ok.found.0 c.part-part.result.now c.part-part.ensures)
+within : (g : given.Over) (c : goal.After-answer g) → c.index-index.result < length c.self.inside.servers
+within g c = omega (arith, c.self.invariant.0.size, c.index-index.ensures.value, slice_get_within c.self.inside.circuits.circuits c.in-Ok.found.0 c.part-part.result.now c.part-part.ensures)
 
-abbrev before : (g : given.Over) (c : goal.After-self-1 g) → List CircuitServerValue
-before g c = with_states c.self.inside.circuits.circuits c.self.inside.servers.items
+abbrev before : (g : given.Over) (c : goal.After-answer g) → List CircuitServerValue
+before g c = with_states c.self.inside.circuits.circuits c.self.inside.servers
 
-abbrev asked : (g : given.Over) (c : goal.After-self-1 g) → CircuitServerValue
-asked g c = server c.part-part.result.now c.index_mut.result.now
+abbrev asked : (g : given.Over) (c : goal.After-answer g) → CircuitServerValue
+asked g c = server c.part-part.result.now (state_of c.self.inside.servers c.index-index.result)
 
-its_server : (g : given.Over) (c : goal.After-self-1 g) → slice_get (before g c) c.index.result ≡ Some (asked g c)
-its_server g c = there_with c.self.inside.circuits.circuits c.self.inside.servers.items c.index.result c.part-part.result.now c.index_mut.result.now (there_in g c) (within g c) c.index_mut.ensures.value
+its_server : (g : given.Over) (c : goal.After-answer g) → slice_get (before g c) c.index-index.result ≡ Some (asked g c)
+its_server g c = there_with c.self.inside.circuits.circuits c.self.inside.servers c.index-index.result c.part-part.result.now (state_of c.self.inside.servers c.index-index.result) (there_in g c) (within g c) (own_state c.self.inside.servers c.index-index.result (within g c))
 
 -- all servers, after
-written : (g : given.Over) (c : goal.After-self-1 g)
-    → with_states c.self.inside.circuits.circuits (set c.self.inside.servers.items c.index.result c.answer.new.self) ≡ set (before g c) c.index.result (server c.part-part.result.now c.answer.new.self)
-written g c = set_with c.self.inside.circuits.circuits c.self.inside.servers.items c.index.result c.part-part.result.now c.answer.new.self (there_in g c) (within g c)
+abbrev answered_state : (g : given.Over) (c : goal.After-answer g) → Option OpenCircuitValue
+answered_state g c = state_of c.answer.new.self c.index-index.result
 
-its : {B : Type 0} (f : CircuitServerValue → B) (g : given.Over) (c : goal.After-self-1 g) → slice_get (map f (before g c)) c.index.result ≡ Some (f (asked g c))
-its f g c = slice_get-map f (before g c) c.index.result ∙ ap (option_map f) (its_server g c)
+written : (g : given.Over) (c : goal.After-answer g)
+    → with_states c.self.inside.circuits.circuits c.answer.new.self ≡ set (before g c) c.index-index.result (server c.part-part.result.now (answered_state g c))
+written g c =
+    ap (with_states c.self.inside.circuits.circuits) c.answer.ensures.others
+    ∙ set_with c.self.inside.circuits.circuits c.self.inside.servers c.index-index.result c.part-part.result.now (answered_state g c) (there_in g c) (within g c)
 
-found : (g : given.Over) (c : goal.After-self-1 g) → addressee c.self.inside.circuits.relays (map part_of (before g c)) c.args.proto c.args.source c.args.datagram.now ≡ Ok c.index.result
+its : {B : Type 0} (f : CircuitServerValue → B) (g : given.Over) (c : goal.After-answer g) → slice_get (map f (before g c)) c.index-index.result ≡ Some (f (asked g c))
+its f g c = slice_get-map f (before g c) c.index-index.result ∙ ap (option_map f) (its_server g c)
+
+found : (g : given.Over) (c : goal.After-answer g) → addressee c.self.inside.circuits.relays (map part_of (before g c)) c.args.proto c.args.source c.args.datagram.now ≡ Ok c.index-index.result
 found g c =
-    ap (λ parts. addressee c.self.inside.circuits.relays parts c.args.proto c.args.source c.args.datagram.now) (parts_with c.self.inside.circuits.circuits c.self.inside.servers.items)
-    ∙ c.in-Ok.ensures.circuit ∙ ap Ok (sym c.index.ensures.value)
+    ap (λ parts. addressee c.self.inside.circuits.relays parts c.args.proto c.args.source c.args.datagram.now) (parts_with c.self.inside.circuits.circuits c.self.inside.servers)
+    ∙ c.in-Ok.ensures.circuit ∙ ap Ok (sym c.index-index.ensures.value)
 
 -- another circuit's region is another one
-elsewhere : (g : given.Over) (c : goal.After-self-1 g) (k : ℕ) (x : CircuitServerValue) → slice_get (before g c) k ≡ Some x → (k ≡ c.index.result → ⊥)
+elsewhere : (g : given.Over) (c : goal.After-answer g) (k : ℕ) (x : CircuitServerValue) → slice_get (before g c) k ≡ Some x → (k ≡ c.index-index.result → ⊥)
     → x.part.region ≡ c.part-part.result.now.region → ⊥
 elsewhere g c k x there apart same =
-    let of_part = ap (λ parts. slice_get parts k) (sym (parts_with c.self.inside.circuits.circuits c.self.inside.servers.items)) ∙ slice_get-map part_of (before g c) k ∙ ap (option_map part_of) there in
-    apart (c.self.invariant.0.regions k c.index.result x.part c.part-part.result.now of_part (there_in g c) same)
+    let of_part = ap (λ parts. slice_get parts k) (sym (parts_with c.self.inside.circuits.circuits c.self.inside.servers)) ∙ slice_get-map part_of (before g c) k ∙ ap (option_map part_of) there in
+    apart (c.self.invariant.0.regions k c.index-index.result x.part c.part-part.result.now of_part (there_in g c) same)
 
 -- ---- what the answer requires
 
@@ -92,51 +99,47 @@ answer-requires-clause-exists g c =
     let parts = c.self.inside.circuits.circuits in
     let P : CircuitPart → Type 0 = λ part. part.region < (g.D.Disk.device c.args.disk.now).count in
     at_index P parts c.in-Ok.found.0 c.part-part.result.now c.part-part.ensures
-    (subst (All P) (parts_with parts c.self.inside.servers.items) (subst (λ (s : ServerValue). All P (parts_in s)) (sym c.self.view_is) c.requires.regions))
+    (subst (All P) (parts_with parts c.self.inside.servers) (subst (λ (s : ServerValue). All P (parts_in s)) (sym c.self.view_is) c.requires.regions))
 
 pub answer-requires-clause-pools : goal.answer-requires-clause-pools
 answer-requires-clause-pools g c =
     let parts = c.self.inside.circuits.circuits in
-    let states = c.self.inside.servers.items in
-    let there = ap (slice_get parts) c.index.ensures.value ∙ c.part-part.ensures in
-    let inside : c.index.result < length states = omega (arith, c.self.invariant.0.size, slice_get_within parts c.index.result c.part-part.result.now there) in
-    at_index HasItsPools (with_states parts states) c.index.result (server c.part-part.result.now c.index_mut.result.now)
-    (there_with parts states c.index.result c.part-part.result.now c.index_mut.result.now there inside c.index_mut.ensures.value) c.self.invariant.0.pools
+    let states = c.self.inside.servers in
+    let there = ap (slice_get parts) c.index-index.ensures.value ∙ c.part-part.ensures in
+    let inside : c.index-index.result < length states = omega (arith, c.self.invariant.0.size, slice_get_within parts c.index-index.result c.part-part.result.now there) in
+    at_index HasItsPools (with_states parts states) c.index-index.result (server c.part-part.result.now (state_of c.self.inside.servers c.index-index.result))
+    (there_with parts states c.index-index.result c.part-part.result.now (state_of c.self.inside.servers c.index-index.result) there inside (own_state c.self.inside.servers c.index-index.result inside)) c.self.invariant.0.pools
 
 pub answer-requires-clause-ready : goal.answer-requires-clause-ready
 answer-requires-clause-ready g c tells =
     let parts = c.self.inside.circuits.circuits in
-    let states = c.self.inside.servers.items in
+    let states = c.self.inside.servers in
     let regions = (g.D.Disk.device c.args.disk.now).region in
-    let there = ap (slice_get parts) c.index.ensures.value ∙ c.part-part.ensures in
-    let inside : c.index.result < length states = omega (arith, c.self.invariant.0.size, slice_get_within parts c.index.result c.part-part.result.now there) in
-    at_index (IsReady regions) (with_states parts states) c.index.result (server c.part-part.result.now c.index_mut.result.now)
-    (there_with parts states c.index.result c.part-part.result.now c.index_mut.result.now there inside c.index_mut.ensures.value)
+    let there = ap (slice_get parts) c.index-index.ensures.value ∙ c.part-part.ensures in
+    let inside : c.index-index.result < length states = omega (arith, c.self.invariant.0.size, slice_get_within parts c.index-index.result c.part-part.result.now there) in
+    at_index (IsReady regions) (with_states parts states) c.index-index.result (server c.part-part.result.now (state_of c.self.inside.servers c.index-index.result))
+    (there_with parts states c.index-index.result c.part-part.result.now (state_of c.self.inside.servers c.index-index.result) there inside (own_state c.self.inside.servers c.index-index.result inside))
     (subst (λ (s : ServerValue). All (IsReady regions) s.circuits) (sym c.self.view_is) (c.requires.ready tells))
 
 -- ---- after the answer
-
-its_first : (g : given.Over) (c : goal.After-self-1 g) → 32 * c.index-first.result ≡ 32 * c.index.result
-its_first g c = ap (λ n. 32 * n) (c.index-first.ensures.value ∙ sym c.index.ensures.value)
 
 pub invariant_of-self : goal.invariant_of-self
 invariant_of-self g c = (
   record {
     few = c.self.invariant.0.few;
-    size = length-set c.self.inside.servers.items c.index.result c.answer.new.self ∙ c.self.invariant.0.size;
+    size = ap (λ (xs : List (Option OpenCircuitValue)). length xs) c.answer.ensures.others ∙ length-set c.self.inside.servers c.index-index.result (answered_state g c) ∙ c.self.invariant.0.size;
     regions = c.self.invariant.0.regions;
     pools =
         subst (All HasItsPools) (sym (written g c))
-        (All-set HasItsPools (before g c) c.index.result (server c.part-part.result.now c.answer.new.self) c.answer.ensures.pools c.self.invariant.0.pools);
+        (All-set HasItsPools (before g c) c.index-index.result (server c.part-part.result.now (answered_state g c)) c.answer.ensures.pools c.self.invariant.0.pools);
   },
-  one_held c.index.result c.self.inside.deadlines c.answer.new.table c.self.inside.servers.items c.answer.new.self (within g c) c.self.invariant.1
-      (subst (λ n. HasDeadlines c.answer.new.table n c.answer.new.self) (its_first g c) c.answer.ensures.deadlines)
-      (subst (λ n. SameBeside n c.self.inside.deadlines c.answer.new.table) (its_first g c) c.answer.ensures.beside),
+  subst (HoldsDeadlines c.answer.new.table) (sym c.answer.ensures.others)
+      (one_held c.index-index.result c.self.inside.deadlines c.answer.new.table c.self.inside.servers (answered_state g c) (within g c) c.self.invariant.1 c.answer.ensures.deadlines c.answer.ensures.beside),
 )
 
 pub returns-clause-parts : goal.returns-clause-parts
 returns-clause-parts g c =
-    parts_with c.self.inside.circuits.circuits _ ∙ sym (parts_with c.self.inside.circuits.circuits c.self.inside.servers.items) ∙ ap parts_in c.self.view_is
+    parts_with c.self.inside.circuits.circuits _ ∙ sym (parts_with c.self.inside.circuits.circuits c.self.inside.servers) ∙ ap parts_in c.self.view_is
 
 pub returns-clause-answer : goal.returns-clause-answer
 returns-clause-answer g c =
@@ -145,7 +148,7 @@ returns-clause-answer g c =
     let P : ServerValue → Type 0 = λ s. IsAnswer (received s.relays (parts_in s) (delivery c.args.proto c.args.source c.args.now c.args.datagram.now) fails (books_in s)).answer c.answer.result c.answer.new.out in
     let Q : Received → Type 0 = λ r. IsAnswer r.answer c.answer.result c.answer.new.out in
     subst P c.self.view_is
-    (subst Q (sym (received_at c.self.inside.circuits.relays (map part_of (before g c)) (delivery c.args.proto c.args.source c.args.now c.args.datagram.now) c.index.result x.part (found g c) (its part_of g c) fails (map book_of (before g c)) (book_of x) (its book_of g c)))
+    (subst Q (sym (received_at c.self.inside.circuits.relays (map part_of (before g c)) (delivery c.args.proto c.args.source c.args.now c.args.datagram.now) c.index-index.result x.part (found g c) (its part_of g c) fails (map book_of (before g c)) (book_of x) (its book_of g c)))
     c.answer.ensures.answer)
 
 pub returns-clause-books : goal.returns-clause-books
@@ -153,8 +156,8 @@ returns-clause-books g c =
     let fails = nat_lt (g.D.Disk.device c.args.disk.now).failures (g.D.Disk.device c.answer.new.disk).failures in
     let x = asked g c in
     let items = before g c in
-    let k = c.index.result in
-    let new = server x.part c.answer.new.self in
+    let k = c.index-index.result in
+    let new = server x.part (answered_state g c) in
     let P : ServerValue → Type 0 = λ s. map book_of (set items k new) ≡ (received s.relays (parts_in s) (delivery c.args.proto c.args.source c.args.now c.args.datagram.now) fails (books_in s)).books in
     ap (map book_of) (written g c)
     ∙ subst P c.self.view_is
@@ -171,7 +174,7 @@ returns-clause-fails g c tells =
     let P : ServerValue → Type 0 = λ s. fails ≡ fails_at faults (received_saves s.relays (parts_in s) (delivery c.args.proto c.args.source c.args.now c.args.datagram.now) (books_in s)) in
     subst P c.self.view_is
     (c.answer.ensures.fails tells
-    ∙ sym (ap (fails_at faults) (saves_at c.self.inside.circuits.relays (map part_of items) (delivery c.args.proto c.args.source c.args.now c.args.datagram.now) c.index.result x.part (found g c) (its part_of g c) (map book_of items) (book_of x) (its book_of g c))))
+    ∙ sym (ap (fails_at faults) (saves_at c.self.inside.circuits.relays (map part_of items) (delivery c.args.proto c.args.source c.args.now c.args.datagram.now) c.index-index.result x.part (found g c) (its part_of g c) (map book_of items) (book_of x) (its book_of g c))))
 
 pub returns-clause-frame : goal.returns-clause-frame
 returns-clause-frame g c =
@@ -182,7 +185,7 @@ returns-clause-frame g c =
     let P : ServerValue → Type 0 = λ s. WritesAt g.D.Disk.tells (received_saves s.relays (parts_in s) (delivery c.args.proto c.args.source c.args.now c.args.datagram.now) (books_in s)) old new in
     let Q : Option ℕ → Type 0 = λ region. WritesAt g.D.Disk.tells region old new in
     subst P c.self.view_is
-    (subst Q (sym (saves_at c.self.inside.circuits.relays (map part_of items) (delivery c.args.proto c.args.source c.args.now c.args.datagram.now) c.index.result x.part (found g c) (its part_of g c) (map book_of items) (book_of x) (its book_of g c)))
+    (subst Q (sym (saves_at c.self.inside.circuits.relays (map part_of items) (delivery c.args.proto c.args.source c.args.now c.args.datagram.now) c.index-index.result x.part (found g c) (its part_of g c) (map book_of items) (book_of x) (its book_of g c)))
     c.answer.ensures.writes)
 
 pub returns-clause-leases : goal.returns-clause-leases
@@ -192,8 +195,8 @@ returns-clause-leases g c tells =
     let faults = (g.D.Disk.device c.args.disk.now).fuse in
     let x = asked g c in
     let items = before g c in
-    let k = c.index.result in
-    let new = server x.part c.answer.new.self in
+    let k = c.index-index.result in
+    let new = server x.part (answered_state g c) in
     let P : ServerValue → Type 0 = λ s. map (leases_of later) (set items k new) ≡ received_leases s.relays (parts_in s) (delivery c.args.proto c.args.source c.args.now c.args.datagram.now) faults (leases_in regions s) in
     ap (map (leases_of later)) (written g c)
     ∙ subst P c.self.view_is
@@ -208,5 +211,5 @@ returns-clause-ready g c tells =
     let later = (g.D.Disk.device c.answer.new.disk).region in
     let was : All (IsReady regions) (before g c) = subst (λ (s : ServerValue). All (IsReady regions) s.circuits) (sym c.self.view_is) (c.requires.ready tells) in
     subst (All (IsReady later)) (sym (written g c))
-    (all_moved (IsReady regions) (IsReady later) (before g c) c.index.result (server c.part-part.result.now c.answer.new.self) (c.answer.ensures.ready tells) was
+    (all_moved (IsReady regions) (IsReady later) (before g c) c.index-index.result (server c.part-part.result.now (answered_state g c)) (c.answer.ensures.ready tells) was
     (λ n y there apart. subst (λ r. IsReadyFor r y.state) (sym (c.answer.ensures.frame.region tells y.part.region (elsewhere g c n y there apart)))))

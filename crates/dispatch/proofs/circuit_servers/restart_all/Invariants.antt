@@ -4,7 +4,7 @@ use Rattle.lease_disk.specs.Device.{TouchesNothing}
 use Rattle.dispatch.specs.Leases.{AreSynced, found_leases}
 use Rattle.dispatch.specs.ServerValue.{HasItsPools, IsReady, leases_of, with_states}
 use Rattle.dispatch.proofs.DeadlineLemmas.{HoldsFirst}
-use Rattle.dispatch.proofs.server.restart_all.Given as goal
+use Rattle.dispatch.proofs.circuit_servers.restart_all.Given as goal
 
 abbrev pub invariant-circuits : goal.invariant-circuits
 invariant-circuits g l = record {

@@ -12,7 +12,7 @@ use Rattle.lease_disk.proofs.Frames.{nothing_then}
 use Rattle.dispatch.proofs.ServerLemmas.{all_found}
 use Rattle.dispatch.proofs.WithStates.{parts_with, server, set_with, size_with}
 use Rattle.dispatch.proofs.DeadlineLemmas.{all_held, holds_more}
-use Rattle.dispatch.proofs.server.restart_all.Goals as goal
+use Rattle.dispatch.proofs.circuit_servers.restart_all.Goals as goal
 
 pub restart-requires : goal.restart-requires
 restart-requires g c =

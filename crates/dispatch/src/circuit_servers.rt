@@ -1,0 +1,176 @@
+//! The servers of all circuits: one tick moves the clocks of all at once.
+ghost use Rattle.std.specs.Prelude.{◌≡◌, ◌<◌, ◌≤◌, ◌+◌, ◌*◌, ℕ, [], List, Some, None, length, map, slice_set, All, true, is_some, nat_lt, option_map, IfOk};
+ghost use Rattle.config.specs.CircuitPart as parts;
+ghost use Rattle.dispatch.specs.Deadlines.{HasDeadlines, HoldsDeadlines, SameBeside};
+ghost use Rattle.dispatch.specs.Leases.{AreSynced, HasRegions, after_datagram, found_leases};
+ghost use Rattle.dispatch.specs.Received.{IsAnswer, answered, circuit_saves, fails_at};
+ghost use Rattle.dispatch.specs.RelayedMessage.{IsRelayedMessage};
+ghost use Rattle.dispatch.specs.ServerValue.{HasItsPools, HasPools, IsReady, IsReadyFor, leases_of, open_book, with_states};
+ghost use Rattle.dispatch.specs.Ticked.{state_at, state_of};
+ghost use Rattle.lease_disk.specs.Device.{Touches, TouchesNothing, WritesAt};
+
+use crate::addressee::RelayedMessage;
+use crate::circuit_server::CircuitServer;
+use config::CircuitPart;
+use lease_disk::Disk;
+use std::alloc::{AllocError, Global};
+use std::marker::Model;
+use timers::Deadlines;
+use types::{Delivery, Discard, Moment};
+use wire::PacketBuf;
+
+/// How many slots a circuit has, of both pools.
+pub(crate) const SLOTS: usize = 32;
+
+/// The servers of all circuits, by index. The clock of an open circuit is the later of its own and the
+/// moment of the ticks since the last restart, so that a tick looks at none of them.
+#[derive(Drop)]
+pub(crate) struct CircuitServers {
+    servers: Vec<CircuitServer>,
+    ticked: Moment,
+}
+
+impl Model for CircuitServers {
+    ghost use Rattle.std.specs.Prelude.{List, Option, map};
+    ghost use Rattle.dispatch.specs.ServerValue.{OpenCircuitValue};
+    ghost use Rattle.dispatch.specs.Ticked.{state_at};
+
+    ghost Value = { List (Option OpenCircuitValue) };
+
+    ghost view = { λ s. map (state_at s.ticked) s.servers.items };
+}
+
+impl CircuitServers {
+    /// A server for each of so many circuits. Each is closed.
+    pub(crate) fn closed(alloc: Global, count: usize) -> Result<CircuitServers, AllocError>
+        ensures { IfOk result (λ servers. length servers ≡ count) }
+    {
+        let servers = closed_servers(alloc, count)?;
+        Ok(CircuitServers {
+            servers,
+            ticked: Moment::first(),
+        })
+    }
+
+    /// How many circuits there are.
+    pub(crate) fn count(&self) -> usize
+        ensures { result ≡ length self.now }
+    {
+        self.servers.len()
+    }
+
+    /// Whether the circuit is open.
+    pub(crate) fn is_open(&self, index: usize) -> bool
+        requires { index < length self.now }
+        ensures { result ≡ is_some (option_map open_book (state_of self.now index)) }
+    {
+        self.servers[index].is_open()
+    }
+
+    /// Answers a datagram of the circuit, of which this was read. A save that fails closes the circuit.
+    pub(crate) fn answer<D: Disk>(
+        &mut self,
+        index: usize,
+        part: &CircuitPart,
+        delivery: &Delivery<'_>,
+        relayed: RelayedMessage<'_>,
+        disk: &mut D,
+        out: &mut PacketBuf,
+        table: &mut Deadlines,
+    ) -> Result<(), Discard>
+        requires index { index < length self.old }
+        requires few { index < 1024 }
+        requires read { IsRelayedMessage delivery.now.proto delivery.now.bytes relayed }
+        requires empty { out.old ≡ [] }
+        requires exists { part.now.region < (D.device disk.old).count }
+        requires room { 32 * index + 32 ≤ length table.old.slots }
+        requires deadlines { HasDeadlines table.old (32 * index) (state_of self.old index) }
+        requires pools { HasPools part.now (state_of self.old index) }
+        requires ready { D.tells ≡ true → IsReadyFor ((D.device disk.old).region part.now.region) (state_of self.old index) }
+        ensures others { self.new ≡ slice_set self.old index (state_of self.new index) }
+        ensures pools { HasPools part.now (state_of self.new index) }
+        ensures deadlines { HasDeadlines table.new (32 * index) (state_of self.new index) }
+        ensures beside { SameBeside (32 * index) table.old table.new }
+        ensures answer { IsAnswer (answered part.now delivery.now (nat_lt (D.device disk.old).failures (D.device disk.new).failures) (option_map open_book (state_of self.old index))).answer result out.new }
+        ensures book { option_map open_book (state_of self.new index) ≡ (answered part.now delivery.now (nat_lt (D.device disk.old).failures (D.device disk.new).failures) (option_map open_book (state_of self.old index))).book }
+        ensures fails { D.tells ≡ true → nat_lt (D.device disk.old).failures (D.device disk.new).failures ≡ fails_at (D.device disk.old).fuse (circuit_saves delivery.now (Some part.now) (Some (option_map open_book (state_of self.old index)))) }
+        ensures leases { D.tells ≡ true
+            → leases_of (D.device disk.new).region (record { part = part.now; state = state_of self.new index })
+            ≡ after_datagram part.now delivery.now ((D.device disk.old).fuse part.now.region) (leases_of (D.device disk.old).region (record { part = part.now; state = state_of self.old index })) }
+        ensures ready { D.tells ≡ true → IsReadyFor ((D.device disk.new).region part.now.region) (state_of self.new index) }
+        ensures writes { WritesAt D.tells (circuit_saves delivery.now (Some part.now) (Some (option_map open_book (state_of self.old index)))) (D.device disk.old) (D.device disk.new) }
+        ensures frame { Touches D.tells part.now.region (D.device disk.old) (D.device disk.new) }
+    {
+        let ticked = self.ticked;
+        let server = &mut self.servers[index];
+        server.tick(ticked);
+        server.answer(part, delivery, relayed, disk, out, table, SLOTS * index)
+    }
+
+    /// Moves the clock of every open circuit to this moment, where it is a later one.
+    pub(crate) fn tick(&mut self, now: Moment)
+        ensures { self.new ≡ map (state_at now) self.old }
+    {
+        self.ticked = self.ticked.later(now);
+    }
+
+    /// Begins each with what its region holds, and gives its slots their deadlines.
+    pub(crate) fn restart<D: Disk>(
+        &mut self,
+        parts: &[CircuitPart],
+        disk: &mut D,
+        table: &mut Deadlines,
+    )
+        requires room { length table.old.slots ≡ 32 * length parts.now }
+        requires few { length parts.now ≤ 1024 }
+        requires size { length self.old ≡ length parts.now }
+        requires regions { HasRegions parts.now (D.device disk.old).count }
+        ensures size { length self.new ≡ length self.old }
+        ensures leases { D.tells ≡ true → map (leases_of (D.device disk.new).region) (with_states parts.now self.new) ≡ map (found_leases (D.device disk.old).region) parts.now }
+        ensures ready { D.tells ≡ true → AreSynced parts.now (D.device disk.old).region → All (IsReady (D.device disk.new).region) (with_states parts.now self.new) }
+        ensures pools { All HasItsPools (with_states parts.now self.new) }
+        ensures deadlines { HoldsDeadlines table.new self.new }
+        ensures frame { TouchesNothing D.tells (D.device disk.old) (D.device disk.new) }
+        ensures reads { (D.device disk.new).reads ≤ (D.device disk.old).reads + 2 * length parts.now }
+    {
+        // each begins with the clock that its region keeps, however late the last tick was
+        self.ticked = Moment::first();
+        restart_all(parts, &mut self.servers, disk, table);
+    }
+}
+
+/// A server for each of so many circuits. Each is closed.
+fn closed_servers(alloc: Global, count: usize) -> Result<Vec<CircuitServer>, AllocError>
+    ensures { IfOk result (λ servers. length servers.items ≡ count) }
+{
+    let mut servers = Vec::with_capacity(alloc, count)?;
+    'servers: for _ in 0..count {
+        servers.push(CircuitServer::closed())?;
+    }
+    Ok(servers)
+}
+
+/// Begins each with what its region holds.
+fn restart_all<D: Disk>(
+    parts: &[CircuitPart],
+    servers: &mut [CircuitServer],
+    disk: &mut D,
+    table: &mut Deadlines,
+)
+    requires room { length table.old.slots ≡ 32 * length parts.now }
+    requires few { length parts.now ≤ 1024 }
+    requires size { length servers.old ≡ length parts.now }
+    requires regions { HasRegions parts.now (D.device disk.old).count }
+    ensures size { length servers.new ≡ length servers.old }
+    ensures leases { D.tells ≡ true → map (leases_of (D.device disk.new).region) (with_states parts.now servers.new) ≡ map (found_leases (D.device disk.old).region) parts.now }
+    ensures ready { D.tells ≡ true → AreSynced parts.now (D.device disk.old).region → All (IsReady (D.device disk.new).region) (with_states parts.now servers.new) }
+    ensures pools { All HasItsPools (with_states parts.now servers.new) }
+    ensures deadlines { HoldsDeadlines table.new servers.new }
+    ensures frame { TouchesNothing D.tells (D.device disk.old) (D.device disk.new) }
+    ensures reads { (D.device disk.new).reads ≤ (D.device disk.old).reads + 2 * length parts.now }
+{
+    'circuits: for index in 0..parts.len() {
+        servers[index].restart(&parts[index], disk);
+        servers[index].set_deadlines(table, SLOTS * index);
+    }
+}
