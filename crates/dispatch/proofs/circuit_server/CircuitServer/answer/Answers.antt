@@ -156,3 +156,6 @@ returns-in-Ok-keep-clause-later g c moment was =
     let before : moment ≤ c.in-Some.circuit.clock = subst (IsLater moment) (sym c.self.view_is ∙ c.in-Some.is) was in
     let kept : c.keep.new.self.clock ≡ c.tick.new.self.clock = ap (λ (x : OpenCircuitValue). x.clock) c.keep.ensures.after ∙ clock_of_decision c.in-Ok.decision c.tick.new.self in
     omega (arith, before, kept, c.tick.ensures.later)
+
+pub returns-in-Err-keep-clause-deadlines : goal.returns-in-Err-keep-clause-deadlines
+returns-in-Err-keep-clause-deadlines g c = c.set_deadlines-in-Err-keep.ensures.deadlines
