@@ -5,16 +5,25 @@
 //! all, and prints `right`, `memory` or `wrong`. `opening` opens a world, `run` also runs it, and
 //! both then print how many further requests are granted before one is refused. Where the two numbers
 //! are equal, a run takes no memory.
+//!
+//! Or it reads a configuration whose first line is `# disk`, `# server` or `# world`, makes a disk, opens
+//! over both what that line names, and prints how many further requests are granted before the 100000th
+//! of all is refused. The difference between its number and that of `# disk` is what the opening made.
 #![tactic(auto)]
 
 mod client;
+mod openings;
 
 use client::{Judgement, opened, right};
+use openings::Opening;
 use std::alloc::Global;
 use std::io::{self, Read};
 
 /// The number of the request that is refused.
 const REFUSED: u32 = 1000;
+
+/// The same where a configuration is read, which makes some 25,000 requests for 1024 circuits.
+const REFUSED_LATE: u32 = 100_000;
 
 /// Makes at most `most` requests until one is refused, and returns how many were granted.
 fn granted(alloc: Global, most: u32) -> u32 {
@@ -44,6 +53,19 @@ fn left(alloc: Global, runs: bool) -> Option<u32> {
     Some(granted(alloc, REFUSED))
 }
 
+/// Reads the rest of the configuration that begins with these bytes, opens what its first line names, and
+/// returns how many requests are granted after that.
+fn left_by_opening(rt: &HostRuntime, beginning: &[u8]) -> Option<u32> {
+    let mut bytes = Vec::new(rt.alloc());
+    bytes.extend_from_slice(beginning).ok()?;
+    rt.reader().read_to_end(&mut bytes).ok()?;
+    let text = str::from_utf8(&bytes).ok()?;
+    if !Opening::of(beginning).succeeds(rt.alloc(), text) {
+        return None;
+    }
+    Some(granted(rt.alloc(), REFUSED_LATE))
+}
+
 /// The number that the decimal digits of a text spell; other bytes are ignored.
 fn number(digits: &[u8]) -> u32 {
     let mut number: u32 = 0;
@@ -65,7 +87,12 @@ fn main(rt: HostRuntime) -> io::Result<()> {
         let judgement = refused(rt.alloc(), number(line));
         return println!(rt; "{judgement}");
     }
-    match left(rt.alloc(), line.starts_with(b"run")) {
+    let left = if line.starts_with(b"# ") {
+        left_by_opening(&rt, line)
+    } else {
+        left(rt.alloc(), line.starts_with(b"run"))
+    };
+    match left {
         Some(granted) => println!(rt; "{granted}"),
         None => println!(rt; "wrong"),
     }
