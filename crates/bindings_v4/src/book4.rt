@@ -16,7 +16,7 @@ use crate::decision4::Decision4;
 use crate::kept::{kept_slots, live_holders};
 use crate::table4::{Lookup4, decision_for};
 use crate::write::{write_kept, write_offer};
-use slots::{Holder, SlotTable, bound_slot, offered_slot, picked_slot};
+use slots::{Holder, SlotTable};
 use std::marker::Model;
 use types::{Addr4, Key4, Moment, Pool4, Request4, Slots};
 
@@ -121,11 +121,11 @@ impl Book4 {
         ensures at { IsLookup self.now.pool result }
         ensures slots { AreSlots self.now.pool self.now.slots }
     {
-        let (slots, key, seconds) = (self.slots(), &request.key, clock.seconds());
-        let bound = bound_slot(slots, key, seconds);
-        let offered = offered_slot(slots, key, seconds);
+        let (slots, key, seconds) = (&self.slots, &request.key, clock.seconds());
+        let bound = slots.bound_slot(key, seconds);
+        let offered = slots.offered_slot(key, seconds);
         let wanted = self.slot_of(request.wanted);
-        let picked = picked_slot(slots, bound.or(offered), wanted, seconds);
+        let picked = slots.picked_slot(bound.or(offered), wanted, seconds);
         Lookup4 {
             binding: self.located(bound),
             offer: self.located(offered),

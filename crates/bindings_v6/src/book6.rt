@@ -15,7 +15,7 @@ use crate::case6::{Case6, SlotAddress};
 use crate::decision6::Decision6;
 use crate::kept::{holder_of, kept_slots, live_holders};
 use crate::table6::{Lookup6, decision_for, first_listed};
-use slots::{Holder, SlotTable, bound_slot, picked_slot};
+use slots::{Holder, SlotTable};
 use std::marker::Model;
 use types::{Addr6, Key6, Moment, Pool6, Request6, Slots};
 
@@ -119,10 +119,10 @@ impl Book6 {
         ensures at { IsLookup self.now.pool result }
         ensures slots { AreSlots self.now.pool self.now.slots }
     {
-        let (slots, key, seconds) = (self.slots(), &request.key, clock.seconds());
-        let bound = bound_slot(slots, key, seconds);
+        let (slots, key, seconds) = (&self.slots, &request.key, clock.seconds());
+        let bound = slots.bound_slot(key, seconds);
         let wanted = self.slot_of(first_listed(request.listed.as_slice()));
-        let picked = picked_slot(slots, bound, wanted, seconds);
+        let picked = slots.picked_slot(bound, wanted, seconds);
         Lookup6 {
             binding: self.located(bound),
             pick: self.located(picked),

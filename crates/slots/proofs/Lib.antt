@@ -1,5 +1,6 @@
 pub mod ShownLemmas
 pub mod WriteLemmas
+pub mod UsedLemmas
 pub mod FreeLemmas
 pub mod FitLemmas
 pub mod KeptLemmas

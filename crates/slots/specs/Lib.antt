@@ -4,3 +4,4 @@ pub mod KeyLaws
 pub mod Lookup
 pub mod Maps
 pub mod Slots
+pub mod Used

@@ -10,5 +10,4 @@ mod write;
 
 pub use holder::{Holder, kept, live};
 pub use key::SlotKey;
-pub use lookup::{bound_slot, offered_slot, picked_slot};
 pub use table::SlotTable;

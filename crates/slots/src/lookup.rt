@@ -1,12 +1,13 @@
-//! Looking slots up.
+//! The first slot of a list that passes a test.
 ghost use Rattle.std.specs.Prelude.{◌≡◌, ◌<◌, length, IfSome};
 ghost use Rattle.std.specs.List.{position};
-ghost use Rattle.slots.specs.Lookup.{is_vacant, is_bound_to, is_offered_to, picked_slot};
+ghost use Rattle.slots.specs.Lookup.{is_vacant, is_bound_to, is_offered_to};
+ghost use Rattle.slots.specs.Slots.{is_clients};
 
-use crate::holder::{Holder, is_bound_to, is_offered_to, is_vacant};
+use crate::holder::{Holder, is_bound_to, is_clients, is_offered_to, is_vacant};
 
 /// The slot that this client has a live binding of.
-pub fn bound_slot<K: PartialEq>(
+pub(crate) fn first_bound<K: PartialEq>(
     slots: &[Option<Holder<K>>],
     client: &K,
     clock: u64,
@@ -20,7 +21,7 @@ pub fn bound_slot<K: PartialEq>(
 }
 
 /// The slot that this client has a live offer of.
-pub fn offered_slot<K: PartialEq>(
+pub(crate) fn first_offered<K: PartialEq>(
     slots: &[Option<Holder<K>>],
     client: &K,
     clock: u64,
@@ -34,33 +35,20 @@ pub fn offered_slot<K: PartialEq>(
 }
 
 /// The first vacant slot.
-fn first_vacant_slot<K>(slots: &[Option<Holder<K>>], clock: u64) -> Option<usize>
+pub(crate) fn first_vacant<K>(slots: &[Option<Holder<K>>], clock: u64) -> Option<usize>
     ensures slot { result ≡ position (is_vacant clock) slots.now }
     ensures below { IfSome result (λ slot. slot < length slots.now) }
 {
     slots.iter().position(|slot| is_vacant(slot, clock))
 }
 
-/// The slot for a client: the one that it has, the one that it asks for where that is vacant, the first
-/// vacant one.
-pub fn picked_slot<K>(
+/// The first slot that is this client's, expired or not.
+pub(crate) fn first_of_client<K: PartialEq>(
     slots: &[Option<Holder<K>>],
-    own_slot: Option<usize>,
-    requested_slot: Option<usize>,
-    clock: u64,
+    client: &K,
 ) -> Option<usize>
-    requires own { IfSome own_slot (λ slot. slot < length slots.now) }
-    requires requested { IfSome requested_slot (λ slot. slot < length slots.now) }
-    ensures slot { result ≡ picked_slot clock slots.now own_slot requested_slot }
+    ensures slot { result ≡ position (is_clients K.eq client.now) slots.now }
     ensures below { IfSome result (λ slot. slot < length slots.now) }
 {
-    if own_slot.is_some() {
-        return own_slot;
-    }
-    if let Some(slot) = requested_slot {
-        if is_vacant(&slots[slot], clock) {
-            return requested_slot;
-        }
-    }
-    first_vacant_slot(slots, clock)
+    slots.iter().position(|slot| is_clients(slot, client))
 }
