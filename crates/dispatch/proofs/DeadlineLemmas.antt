@@ -157,17 +157,6 @@ module _ {K : Type 0} where
         let apart : first + s ≡ first + i → ⊥ = λ same. grind arith in
         put_other table (first + i) (first + s) (option_map until_of new) apart ∙ has s until below (elsewhere eqk i new ss s until other held) live
 
-  vacate_its : (eqk : K → K → Bool) (table : DeadlinesValue) (first clock i : ℕ) (ss : List (Option (Holder K))) → HasThose table first clock ss → HasThose table first clock (with_slot eqk i None ss)
-  vacate_its eqk table first clock i ss has = λ s until below held live. by s until below held live (s == i) refl where
-    by : (s until : ℕ) → s < 16 → until_at (with_slot eqk i None ss) s ≡ Some until → clock < until → (b : Bool) → (s == i) ≡ b → deadline table (first + s) ≡ Some until
-    by s until below held live true e =
-        let same : s ≡ i = grind arith in
-        let none : None ≡ Some until = there eqk i None ss until (subst (λ n. until_at (with_slot eqk i None ss) n ≡ Some until) same held) in
-        absurd cc
-    by s until below held live false e =
-        let other : s ≡ i → ⊥ = λ same. grind arith in
-        has s until below (elsewhere eqk i None ss s until other held) live
-
   put_others : (table : DeadlinesValue) (first clock n : ℕ) (until : Option ℕ) (ss : List (Option (Holder K))) → (n < first) ⊎ (first + 16 ≤ n) → HasThose table first clock ss → HasThose (with_until n until table) first clock ss
   put_others table first clock n until ss out has = λ s u below held live.
       let apart : first + s ≡ n → ⊥ = λ same. omega (arith, same, out, below) in
@@ -210,7 +199,7 @@ after_offer : (change : Option OfferChange) (table : DeadlinesValue) (first cloc
     → HasThose (with_offered first change table) first clock (slots4.with_offer change ss)
 after_offer None table first clock ss room its has = has
 after_offer (Some (offer.Made i k u)) table first clock ss room its has = put_its bytes_eq table first clock i (Some (Offered k u)) ss its (omega (arith, room)) has
-after_offer (Some (offer.Withdrawn i)) table first clock ss room its has = vacate_its bytes_eq table first clock i ss has
+after_offer (Some (offer.Withdrawn i)) table first clock ss room its has = put_its bytes_eq table first clock i None ss its (omega (arith, room)) has
 
 after_keep4 : (keep : Option KeptSlot4) (table : DeadlinesValue) (first clock : ℕ) (ss : slots4.Holders4) → first + 32 ≤ length table.slots → IfSome keep (λ kept. kept.slot < 16) → HasThose table first clock ss
     → HasThose (with_kept4 first keep table) first clock (slots4.with_kept keep ss)
@@ -228,14 +217,14 @@ after_keep6 (Some kept) table first clock ss room its has =
 size_offered : (change : Option OfferChange) (table : DeadlinesValue) (first : ℕ) → length (with_offered first change table).slots ≡ length table.slots
 size_offered None table first = refl
 size_offered (Some (offer.Made i k u)) table first = length-set table.slots (first + i) (Some u)
-size_offered (Some (offer.Withdrawn i)) table first = refl
+size_offered (Some (offer.Withdrawn i)) table first = length-set table.slots (first + i) None
 
 -- the other pool's slots stay
 offered_aside : {K : Type 0} (change : Option OfferChange) (table : DeadlinesValue) (first clock : ℕ) (ss : List (Option (Holder K))) → IfSome change IsOfferIn → HasThose table (first + 16) clock ss
     → HasThose (with_offered first change table) (first + 16) clock ss
 offered_aside None table first clock ss its has = has
 offered_aside (Some (offer.Made i k u)) table first clock ss its has = put_others table (first + 16) clock (first + i) (Some u) ss (inl (omega (arith, its))) has
-offered_aside (Some (offer.Withdrawn i)) table first clock ss its has = has
+offered_aside (Some (offer.Withdrawn i)) table first clock ss its has = put_others table (first + 16) clock (first + i) None ss (inl (omega (arith, its))) has
 
 kept4_aside : {K : Type 0} (keep : Option KeptSlot4) (table : DeadlinesValue) (first clock : ℕ) (ss : List (Option (Holder K))) → IfSome keep (λ kept. kept.slot < 16) → HasThose table (first + 16) clock ss
     → HasThose (with_kept4 first keep table) (first + 16) clock ss
@@ -294,7 +283,7 @@ beside_one first n until old table least below same =
 beside_offered : (change : Option OfferChange) (first : ℕ) (old table : DeadlinesValue) → IfSome change IsOfferIn → SameBeside first old table → SameBeside first old (with_offered first change table)
 beside_offered None first old table its same = same
 beside_offered (Some (offer.Made i k u)) first old table its same = beside_one first (first + i) (Some u) old table (omega arith) (omega (arith, its)) same
-beside_offered (Some (offer.Withdrawn i)) first old table its same = same
+beside_offered (Some (offer.Withdrawn i)) first old table its same = beside_one first (first + i) None old table (omega arith) (omega (arith, its)) same
 
 beside_kept4 : (keep : Option KeptSlot4) (first : ℕ) (old table : DeadlinesValue) → IfSome keep (λ kept. kept.slot < 16) → SameBeside first old table → SameBeside first old (with_kept4 first keep table)
 beside_kept4 None first old table its same = same

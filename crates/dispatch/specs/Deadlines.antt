@@ -52,7 +52,7 @@ with_until n until table = record table { slots = slice_set table.slots n until 
 abbrev pub with_offered : ℕ → Option OfferChange → DeadlinesValue → DeadlinesValue
 with_offered first None table = table
 with_offered first (Some (offer.Made slot client until)) table = with_until (first + slot) (Some until) table
-with_offered first (Some (offer.Withdrawn slot)) table = table
+with_offered first (Some (offer.Withdrawn slot)) table = with_until (first + slot) None table
 
 abbrev pub with_kept4 : ℕ → Option KeptSlot4 → DeadlinesValue → DeadlinesValue
 with_kept4 first None table = table

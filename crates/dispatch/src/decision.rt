@@ -1,16 +1,16 @@
 //! What a circuit's server decides on a client's message, in either protocol.
 ghost use Rattle.std.specs.Prelude.{◌≡◌, ◌<◌, ◌≤◌, ◌+◌, IfSome, [], length, option_map};
-ghost use Rattle.types.specs.Slots.{last_until};
+ghost use Rattle.types.specs.Slots.{IsWithin4, IsWithin6, last_until};
 ghost use Rattle.slots.specs.Lookup.{until_of};
 ghost use Rattle.bindings_v4.specs.Slots4 as slots4;
 ghost use Rattle.bindings_v6.specs.Slots6 as slots6;
 ghost use Rattle.dispatch.specs.CircuitDecision.{IsWithin, answer_of, kept_in};
-ghost use Rattle.dispatch.specs.Deadlines.{HasItsSlots, with_deadlines, with_until};
+ghost use Rattle.dispatch.specs.Deadlines.{HasItsSlots, IsOfferIn, with_deadlines, with_kept4, with_kept6, with_offered, with_until};
 ghost use Rattle.dispatch.specs.Received.{IsAnswer};
 ghost use Rattle.dispatch.specs.Server.{reply4_to, reply6_to};
 
-use bindings_v4::{Decision4, OfferChange};
-use bindings_v6::Decision6;
+use bindings_v4::{Decision4, KeptSlot as KeptSlot4, OfferChange};
+use bindings_v6::{Decision6, KeptSlot as KeptSlot6};
 use config::CircuitPart;
 use lease_disk::Content;
 use replies::{write4, write6};
@@ -62,22 +62,10 @@ impl CircuitDecision<'_> {
     {
         match self {
             CircuitDecision::V4(_, decision) => {
-                if let Some(OfferChange::Made(slot, _, until)) = decision.offer {
-                    table.set(first + slot, until);
-                }
-                if let Some(kept) = decision.keep {
-                    put(table, first + kept.slot, until4(&kept.content));
-                }
+                set_offered(table, first, decision.offer);
+                set_kept4(table, first, decision.keep);
             }
-            CircuitDecision::V6(_, _, _, decision) => {
-                if let Some(kept) = decision.keep {
-                    put(
-                        table,
-                        first + (SIX_SLOTS_FROM + kept.slot),
-                        until6(&kept.content),
-                    );
-                }
-            }
+            CircuitDecision::V6(_, _, _, decision) => set_kept6(table, first, decision.keep),
         }
     }
 
@@ -94,6 +82,48 @@ impl CircuitDecision<'_> {
                 reply6(part, forward, message, client, &decision.answer, out)
             }
         }
+    }
+}
+
+/// What a change of offers makes of the deadlines.
+fn set_offered(table: &mut Deadlines, first: usize, change: Option<OfferChange>)
+    requires room { first + 32 ≤ length table.old.slots }
+    requires most { first ≤ 32736 }
+    requires slot { IfSome change IsOfferIn }
+    requires within { IfSome change slots4.IsOfferWithin }
+    ensures { table.new ≡ with_offered first change table.old }
+{
+    match change {
+        Some(OfferChange::Made(slot, _, until)) => table.set(first + slot, until),
+        Some(OfferChange::Withdrawn(slot)) => table.clear(first + slot),
+        None => {}
+    }
+}
+
+/// What a slot of the DHCPv4 pool that is kept makes of them.
+fn set_kept4(table: &mut Deadlines, first: usize, keep: Option<KeptSlot4>)
+    requires room { first + 32 ≤ length table.old.slots }
+    requires most { first ≤ 32736 }
+    requires slot { IfSome keep (λ kept. kept.slot < 16) }
+    requires within { IfSome keep (λ kept. IsWithin4 kept.content) }
+    ensures { table.new ≡ with_kept4 first keep table.old }
+{
+    if let Some(kept) = keep {
+        put(table, first + kept.slot, until4(&kept.content));
+    }
+}
+
+/// The same of the DHCPv6 pool.
+fn set_kept6(table: &mut Deadlines, first: usize, keep: Option<KeptSlot6>)
+    requires room { first + 32 ≤ length table.old.slots }
+    requires most { first ≤ 32736 }
+    requires slot { IfSome keep (λ kept. kept.slot < 16) }
+    requires within { IfSome keep (λ kept. IsWithin6 kept.content) }
+    ensures { table.new ≡ with_kept6 first keep table.old }
+{
+    if let Some(kept) = keep {
+        let slot = SIX_SLOTS_FROM + kept.slot;
+        put(table, first + slot, until6(&kept.content));
     }
 }
 
