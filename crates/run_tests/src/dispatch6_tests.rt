@@ -33,6 +33,19 @@ const LINK: &[u8] = &[0x20, 1, 0x0d, 0xb8, 0, 0, 0, 0, 0, 0, 0, 0, 0, 0, 0, 1];
 /// The link-address of circuit `a1`, 2001:db8:1::1.
 const LINK_A1: &[u8] = &[0x20, 1, 0x0d, 0xb8, 0, 1, 0, 0, 0, 0, 0, 0, 0, 0, 0, 1];
 
+fn joined(parts: [&[u8]; 5]) -> PacketBuf {
+    let mut datagram = PacketBuf::new();
+    for part in parts {
+        let _ = datagram.extend(part);
+    }
+    datagram
+}
+
+/// What the relay of circuit `a` sends up for a Solicit without an address.
+pub fn relayed_solicit() -> PacketBuf {
+    joined([&[12, 0], LINK, &[9; 16], A, SOLICIT_OF_A_CLIENT])
+}
+
 /// What the server makes of a DHCPv6 datagram in parts, from this port; it sends nothing where it drops one.
 fn receive(
     rt: &impl Abort,
@@ -41,10 +54,7 @@ fn receive(
     parts: [&[u8]; 5],
     now: u64,
 ) -> Result<(), Discard> {
-    let mut datagram = PacketBuf::new();
-    for part in parts {
-        let _ = datagram.extend(part);
-    }
+    let datagram = joined(parts);
     let mut out = PacketBuf::new();
     let _ = out.push(7);
     let result = bench.receive(rt, Proto::V6, port, datagram.as_slice(), now, &mut out);
@@ -137,4 +147,18 @@ fn a_damaged_slot(rt: HostRuntime) {
     assert!(rt; discover(&rt, &mut bench, 1, 100) == closed);
     let other = [&[12, 0], LINK_A1, peer, A1, SOLICIT_OF_A_CLIENT];
     assert!(rt; receive(&rt, &mut bench, 6801, other, 100) == Ok(()));
+}
+
+/// A relay's message inside that of the relay, or the beginning of one, is no client's.
+#[test]
+fn a_relay_behind_the_relay(rt: HostRuntime) {
+    let nested: &[u8] = &[0, 9, 0, 4, 12, 0, 0, 0];
+    let cut: &[u8] = &[0, 9, 0, 3, 12, 0, 0];
+    let mut bench = Bench::new(&rt, rt.alloc(), TWO_CIRCUITS);
+    for (link, id) in [(LINK, A), (LINK_A1, A1)] {
+        for (message, why) in [(nested, Discard::NotServed), (cut, Discard::Malformed)] {
+            let parts = [&[12, 0], link, &[9; 16], id, message];
+            assert!(rt; receive(&rt, &mut bench, 6801, parts, 100) == Err(why));
+        }
+    }
 }

@@ -51,10 +51,14 @@ fn receive(
     result
 }
 
+/// What the relay of circuit `a` sends up for client n's DHCPDISCOVER.
+pub fn relayed_discover(client: u8) -> PacketBuf {
+    message(1, client, [10, 0, 0, 1], AGENT)
+}
+
 /// Client n's DHCPDISCOVER from the circuit's relay.
 pub fn discover(rt: &impl Abort, bench: &mut Bench, client: u8, now: u64) -> Result<(), Discard> {
-    let datagram = message(1, client, [10, 0, 0, 1], AGENT);
-    receive(rt, bench, 6801, &datagram, now)
+    receive(rt, bench, 6801, &relayed_discover(client), now)
 }
 
 #[test]

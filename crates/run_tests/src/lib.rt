@@ -8,6 +8,8 @@ mod dispatch6_tests;
 #[cfg(test)]
 mod dispatch_tests;
 #[cfg(test)]
+mod forged_tests;
+#[cfg(test)]
 mod lab_tests;
 #[cfg(test)]
 mod relay_tests;
