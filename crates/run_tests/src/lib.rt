@@ -12,6 +12,8 @@ mod forged_tests;
 #[cfg(test)]
 mod lab_tests;
 #[cfg(test)]
+mod noise_tests;
+#[cfg(test)]
 mod relay_tests;
 #[cfg(test)]
 mod world_tests;
