@@ -63,7 +63,7 @@ impl RelayBench {
     }
 }
 
-/// Strings of 0 to 1300 bytes, the same in every run: what no rule of either protocol made.
+/// Strings of 0 to 1300 bytes that look random and are the same in every run.
 #[derive(Drop)]
 struct Noise {
     number: u32,
@@ -71,7 +71,8 @@ struct Noise {
 }
 
 impl Noise {
-    /// The next number of a linear congruential generator, without its lower bits, which repeat early.
+    /// The next number of a linear congruential generator, whose constants give it the period 2^32, without its
+    /// lower bits, which repeat early.
     fn next_number(&mut self) -> u32
         ensures { result ≤ 65535 }
     {
