@@ -1,4 +1,5 @@
 pub mod Windows
+pub mod Places
 pub mod Segments
 pub mod Lists
 pub mod Sends

@@ -20,8 +20,8 @@ use Rattle.lossy_net.proofs.Segments.{length-segment, get_or-segment}
 
 abbrev queues_at : Inside → ℕ → Queues
 queues_at n c = record {
-  up = ring_items n.quota n.rings.items n.packets.items (ring_of c Up);
-  down = ring_items n.quota n.rings.items n.packets.items (ring_of c Down);
+  up = ring_items n.quota n.rings.items n.packets (ring_of c Up);
+  down = ring_items n.quota n.rings.items n.packets (ring_of c Down);
 }
 
 pub length-circuits : (n : Inside) → length (net_value n).circuits ≡ n.circuits
@@ -34,7 +34,7 @@ queues_there n c there =
     ∙ ap Some (get_or-map-range_with_len (queues_at n) 0 n.circuits c c (queues_at n c) there (omega arith))
 
 -- a circuit that is there has the datagrams of its rings, and any other has none
-pub datagrams_there : (n : Inside) (c : ℕ) (dir : Dir) → c < n.circuits → datagrams (net_value n) c dir ≡ ring_items n.quota n.rings.items n.packets.items (ring_of c dir)
+pub datagrams_there : (n : Inside) (c : ℕ) (dir : Dir) → c < n.circuits → datagrams (net_value n) c dir ≡ ring_items n.quota n.rings.items n.packets (ring_of c dir)
 datagrams_there n c Up there = ap (queue_of Up) (queues_there n c there)
 datagrams_there n c Down there = ap (queue_of Down) (queues_there n c there)
 
@@ -78,11 +78,11 @@ module _ {n : Inside} {c : ℕ} {dir : Dir} {r : ℕ} (is : IsRingOf n c dir r) 
   pub below_rings : r < n.rings.len
   below_rings = omega (arith, below, is.laid.rings, n.rings.ok.0)
 
-  pub items_whole : length (segment n.quota r n.packets.items) ≡ n.quota
-  items_whole = length-segment n.quota r n.packets.items (2 * n.circuits) below is.laid.packets
+  pub items_whole : length (segment n.quota r n.packets) ≡ n.quota
+  items_whole = length-segment n.quota r n.packets (2 * n.circuits) below is.laid.packets
 
-  pub datagrams_of : datagrams (net_value n) c dir ≡ ring_items n.quota n.rings.items n.packets.items r
-  datagrams_of = datagrams_there n c dir is.there ∙ ap (ring_items n.quota n.rings.items n.packets.items) (sym is.at)
+  pub datagrams_of : datagrams (net_value n) c dir ≡ ring_items n.quota n.rings.items n.packets r
+  datagrams_of = datagrams_there n c dir is.there ∙ ap (ring_items n.quota n.rings.items n.packets) (sym is.at)
 
   -- the list has as many datagrams as the ring says
   length-datagrams : length (datagrams (net_value n) c dir) ≡ (ring_at n.rings.items r).len
@@ -90,12 +90,12 @@ module _ {n : Inside} {c : ℕ} {dir : Dir} {r : ℕ} (is : IsRingOf n c dir r) 
       let ring = ring_at n.rings.items r in
       ap length datagrams_of ∙ length-window n.quota ring.newest ring.len _ (is.laid.each r).newest (is.laid.each r).len items_whole
 
-  -- a packet of the ring is one of the row, and its number is small
-  pub packet_below : (h : ℕ) → h < n.quota → (r * n.quota + h < n.packets.len) × (r * n.quota + h < 2 ^ 64)
-  packet_below h low =
+  -- a place of the ring is one of all, and its number is small
+  pub place_below : (h : ℕ) → h < n.quota → (r * n.quota + h < length n.packets) × (r * n.quota + h < 2 ^ 64)
+  place_below h low =
       let row : r * n.quota + n.quota ≤ 2 * n.circuits * n.quota = row_fits r n.quota (2 * n.circuits) n.quota below (omega arith) in
       let all : 2 * n.circuits * n.quota ≤ 2048 * 256 = mul-le (2 * n.circuits) n.quota 2048 256 (omega (arith, is.laid.few)) is.laid.most in
-      (omega (arith, is.laid.packets, n.packets.ok.0), omega arith)
+      (omega (arith, is.laid.packets), omega arith)
 
   -- `ring` is what a read of `rings[r]` gives
   module _ (ring : Ring) (read : ring ≡ get_or n.rings.items r ring) where
@@ -108,15 +108,15 @@ module _ {n : Inside} {c : ℕ} {dir : Dir} {r : ℕ} (is : IsRingOf n c dir r) 
     pub length-read : length (datagrams (net_value n) c dir) ≡ ring.len
     length-read = length-datagrams ∙ sym (ap (λ (s : Ring). s.len) ring_is)
 
-    -- the datagram with a number, and the packet that has it
-    pub datagram_at : (i : ℕ) (x : Datagram) → i < ring.len → x ≡ get_or n.packets.items (r * n.quota + (ring.newest + i) % n.quota) x
+    -- the datagram with a number, and the place that it lies in
+    pub datagram_at : (i : ℕ) (x : Datagram) → i < ring.len → x ≡ get_or n.packets (r * n.quota + (ring.newest + i) % n.quota) x
         → Some x ≡ slice_get (datagrams (net_value n) c dir) i
     datagram_at i x low here =
-        let items = segment n.quota r n.packets.items in
+        let items = segment n.quota r n.packets in
         let position : (ring.newest + i) % n.quota < n.quota = position_below n.quota ring.newest i ring_ok.newest (omega (arith, ring_ok.len)) in
         let shown : x ≡ get_or (window ring.newest ring.len items) i x =
         here
-        ∙ sym (get_or-segment n.quota r n.packets.items ((ring.newest + i) % n.quota) x position)
+        ∙ sym (get_or-segment n.quota r n.packets ((ring.newest + i) % n.quota) x position)
         ∙ sym (get_or-window n.quota ring.newest ring.len items ring_ok.newest ring_ok.len items_whole i x low) in
         let same = datagrams_of ∙ ap (λ (s : Ring). window s.newest s.len items) (sym ring_is) in
         sym (slice_get_read _ ring.len i x (sym length-read) low (shown ∙ ap (λ list. get_or list i x) (sym same)))
@@ -150,6 +150,6 @@ nothing_yet n count c dir all = elim (cases_lt c n.circuits) [
   | inl there ↦
       let r = ring_of c dir in
       datagrams_there n c dir there
-      ∙ ap (λ (s : Ring). window s.newest s.len (segment n.quota r n.packets.items)) (ap (λ rings. ring_at rings r) all ∙ no_ring count r)
+      ∙ ap (λ (s : Ring). window s.newest s.len (segment n.quota r n.packets)) (ap (λ rings. ring_at rings r) all ∙ no_ring count r)
   | inr past ↦ datagrams_past n c dir past
 ]

@@ -23,8 +23,8 @@ abbrev pub net_value : Inside → NetValue
 net_value n = record {
   quota = n.quota;
   circuits = map (λ c. record {
-    up = ring_items n.quota n.rings.items n.packets.items (ring_of c Up);
-    down = ring_items n.quota n.rings.items n.packets.items (ring_of c Down);
+    up = ring_items n.quota n.rings.items n.packets (ring_of c Up);
+    down = ring_items n.quota n.rings.items n.packets (ring_of c Down);
   }) (range_with_len 0 n.circuits);
 }
 
@@ -37,5 +37,5 @@ pub record IsLaidOut (n : Inside) : Type 0 where
   pub most : n.quota ≤ 256
   pub few : n.circuits ≤ 1024
   pub rings : length n.rings.items ≡ 2 * n.circuits
-  pub packets : length n.packets.items ≡ 2 * n.circuits * n.quota
+  pub packets : length n.packets ≡ 2 * n.circuits * n.quota
   pub each : (r : ℕ) → IsRing n.quota (ring_at n.rings.items r)

@@ -1,3 +1,4 @@
 pub mod Net
+pub mod Places
 pub mod Ring
 pub mod Layout

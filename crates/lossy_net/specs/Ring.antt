@@ -1,7 +1,7 @@
--- How the code lays a list out in a ring of packets. No public clause says anything of it.
+-- How the code lays a list out in a ring of places. No public clause says anything of it.
 use Rattle.std.specs.Prelude.{ℕ, ◌-◌, ◌*◌, ◌==◌, if◌then◌else◌, List, ◌++◌, take, drop}
 
--- the position before h in a ring of q packets
+-- the position before h in a ring of q places
 abbrev pub before : ℕ → ℕ → ℕ
 before q h = if h == 0 then q - 1 else h - 1
 

@@ -5,7 +5,7 @@
 mod dir;
 mod memory;
 mod net;
-mod packet;
+mod packets;
 mod ring;
 
 pub use dir::Dir;

@@ -6,7 +6,7 @@ ghost use Rattle.lossy_net.specs.declared.dir.Dir.{Dir};
 
 use crate::dir::Dir;
 use crate::memory::Memory;
-use crate::packet::Packet;
+use crate::packets::Packets;
 use crate::ring::Ring;
 use std::alloc::Global;
 use std::marker::Model;
@@ -22,8 +22,8 @@ pub const MAX_QUOTA: usize = 256;
 pub struct Net {
     circuits: usize,
     quota: usize,
-    // `quota` for each ring
-    packets: Vec<Packet>,
+    // `quota` places for each ring
+    packets: Packets,
     // two for each circuit: towards the server, and towards the relay
     rings: Vec<Ring>,
 }
@@ -53,7 +53,7 @@ impl Net {
         ensures empty { IfOk result (λ net. (circuit : ℕ) (dir : Dir) → datagrams net circuit dir ≡ []) }
     {
         let lists = 2 * circuits;
-        let packets = empty_packets(alloc, lists * quota)?;
+        let packets = Packets::new(alloc, lists * quota)?;
         let rings = empty_rings(alloc, lists)?;
         Ok(Net {
             circuits,
@@ -78,8 +78,8 @@ impl Net {
         let old = self.rings[index];
         let new = old.next(self.quota);
         self.rings[index] = new;
-        let newest = &mut self.packets[index * self.quota + new.newest];
-        newest.replace(proto, packet);
+        let place = index * self.quota + new.newest;
+        self.packets.replace(place, proto, packet.as_slice());
         old.len == self.quota
     }
 
@@ -97,8 +97,8 @@ impl Net {
         if number >= ring.len {
             return None;
         }
-        let packet = &self.packets[index * self.quota + ring.position(number, self.quota)];
-        Some((packet.proto(), packet.bytes()))
+        let place = index * self.quota + ring.position(number, self.quota);
+        Some(self.packets.get(place))
     }
 
     /// How many circuits there are.
@@ -126,17 +126,6 @@ fn ring_index(circuit: Circuit, dir: Dir) -> usize
     match dir {
         Dir::Up => 2 * circuit.index(),
         Dir::Down => 2 * circuit.index() + 1,
-    }
-}
-
-/// Room for this many datagrams.
-fn empty_packets(alloc: Global, count: usize) -> Result<Vec<Packet>, Memory>
-    ensures { IfOk result (λ packets. length packets.items ≡ count) }
-{
-    let mut packets = Vec::new(alloc);
-    match packets.resize_with(count, || Packet::new()) {
-        Ok(()) => Ok(packets),
-        Err(_) => Err(Memory),
     }
 }
 

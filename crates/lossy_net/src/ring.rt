@@ -1,9 +1,9 @@
-//! Where the datagrams of one circuit and direction lie among their packets.
+//! Where the datagrams of one circuit and direction lie among their places.
 ghost use Rattle.std.specs.Prelude.{◌≡◌, ◌+◌, ◌≤◌, ◌<◌, ◌%◌, min};
 ghost use Rattle.lossy_net.specs.Ring.{before};
 
-/// The newest lies in packet `newest`, and each older one in the packet behind; behind the last
-/// packet is the first.
+/// The newest lies in place `newest`, and each older one in the place behind; behind the last place
+/// is the first.
 #[derive(Clone, Copy)]
 pub(crate) struct Ring {
     pub(crate) newest: usize,
@@ -14,8 +14,8 @@ impl Ring {
     /// A ring of no datagrams.
     pub(crate) const EMPTY: Ring = Ring { newest: 0, len: 0 };
 
-    /// The ring with one datagram more, in the packet before the newest. The oldest is lost where
-    /// all packets are in use.
+    /// The ring with one datagram more, in the place before the newest. The oldest is lost where all
+    /// places are in use.
     pub(crate) fn next(self, quota: usize) -> Ring
         requires newest { self.newest < quota }
         requires len { self.len ≤ quota }
@@ -35,7 +35,7 @@ impl Ring {
         Ring { newest, len }
     }
 
-    /// The packet of the datagram with this number, 0 the newest.
+    /// The place of the datagram with this number, 0 the newest.
     pub(crate) fn position(self, number: usize, quota: usize) -> usize
         requires newest { self.newest < quota }
         requires number { number < quota }
