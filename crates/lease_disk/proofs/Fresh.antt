@@ -1,11 +1,12 @@
 -- A region that was just formatted.
-use Rattle.std.proofs.Common.{◌≡◌, ◌<◌, ◌≤◌, ◌⊎◌, inl, inr, ℕ, false, length, sym, subst, refl, Result, Ok, Err, OnOk, ap}
+use Rattle.std.proofs.Common.{◌≡◌, ◌<◌, ◌≤◌, ◌⊎◌, inl, inr, ℕ, false, List, length, sym, subst, refl, Result, Ok, Err, OnOk, ap}
 use Rattle.std.specs.Prelude.{if◌then◌else◌}
 use Rattle.std.proofs.lemmas.Bool.{cases_lt}
 use Rattle.std.proofs.lemmas.List.{get_or_past}
 use Rattle.lease_disk.specs.declared.image.Image.TheVariants.{Byte}
 use Rattle.lease_disk.specs.Crash.{formatted_region, crashed}
-use Rattle.lease_disk.specs.Model.{ModelDiskValue, absent, region_of, state_of}
+use Rattle.lease_disk.specs.declared.model_disk.Stored.{Stored}
+use Rattle.lease_disk.specs.Model.{absent, region_of, stored_at}
 use Rattle.lease_disk.specs.Region.{Region, synced, image, IsClean}
 
 pub fresh_clean : (r : Region) → r ≡ formatted_region → IsClean r
@@ -28,8 +29,8 @@ clean_image r clean byte = λ j. λ i. if clean.each i j then byte else r.byte i
 -- ---- a device in memory
 
 -- of regions that are all formatted; one that does not exist has no bytes
-pub new_clean : (disk : ModelDiskValue) → ((q : ℕ) → q < length disk.regions → state_of disk q ≡ formatted_region) → (q : ℕ) → IsClean (state_of disk q)
-new_clean disk formatted q = by (cases_lt q (length disk.regions)) where
-  by : (q < length disk.regions) ⊎ (length disk.regions ≤ q) → IsClean (state_of disk q)
-  by (inl within) = fresh_clean (state_of disk q) (formatted q within)
-  by (inr past) = none_unsynced (state_of disk q) (ap (λ s. (region_of s).unsynced) (get_or_past disk.regions q absent past))
+pub new_clean : (regions : List Stored) → ((q : ℕ) → q < length regions → region_of (stored_at regions q) ≡ formatted_region) → (q : ℕ) → IsClean (region_of (stored_at regions q))
+new_clean regions formatted q = by (cases_lt q (length regions)) where
+  by : (q < length regions) ⊎ (length regions ≤ q) → IsClean (region_of (stored_at regions q))
+  by (inl within) = fresh_clean (region_of (stored_at regions q)) (formatted q within)
+  by (inr past) = none_unsynced (region_of (stored_at regions q)) (ap (λ s. (region_of s).unsynced) (get_or_past regions q absent past))

@@ -4,6 +4,7 @@ pub mod Device
 pub mod FileDisk
 pub mod Keys
 pub mod Layout
+pub mod Marked
 pub mod Model
 pub mod Recover
 pub mod Recovered

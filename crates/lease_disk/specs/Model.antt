@@ -6,6 +6,7 @@ use Rattle.lease_disk.specs.Region.{Region, is_within}
 
 pub record ModelDiskValue : Type 0 where
   pub regions : List Stored
+  pub fuses : List ℕ
   pub reads : ℕ
   pub writes : ℕ
   pub failures : ℕ
@@ -15,7 +16,7 @@ region_of stored = record { byte = slice_index stored.bytes; unsynced = λ i. sl
 
 -- a region that does not exist
 abbrev pub absent : Stored
-absent = record { bytes = []; unsynced = []; readable = false; fuse = 0 }
+absent = record { bytes = []; unsynced = []; readable = false }
 
 abbrev pub stored_at : List Stored → ℕ → Stored
 stored_at regions region = slice_index_or regions region absent
@@ -25,7 +26,7 @@ state_of disk region = region_of (stored_at disk.regions region)
 
 -- which of a region's writes and syncs from now on fails
 abbrev pub fuse_of : ModelDiskValue → ℕ → ℕ
-fuse_of disk region = (stored_at disk.regions region).fuse
+fuse_of disk region = slice_index disk.fuses region
 
 -- the device as the contracts of every device see it
 abbrev pub device_of : ModelDiskValue → Device
@@ -39,6 +40,7 @@ spoilt at n r = record { byte = r.byte; unsynced = λ i. is_within at n i || r.u
 pub record SameBut (region : ℕ) (old new : ModelDiskValue) : Type 0 where
   pub count : length new.regions ≡ length old.regions
   pub others : (q : ℕ) → q ≢ region → stored_at new.regions q ≡ stored_at old.regions q
+  pub fuses : (q : ℕ) → q ≢ region → fuse_of new q ≡ fuse_of old q
   pub reads : new.reads ≡ old.reads
   pub writes : new.writes ≡ old.writes
   pub failures : new.failures ≡ old.failures

@@ -7,6 +7,7 @@ mod format2;
 mod image;
 mod laws;
 mod model_disk;
+mod unsynced;
 mod writing;
 
 pub use device::{Disk, Fault, REGION};

@@ -1,13 +1,12 @@
 //! A device in memory.
-ghost use Rattle.std.specs.Prelude.{◌≡◌, ◌<◌, ◌≤◌, ◌+◌, ◌-◌, ℕ, length, slice_index, slice_index_or, true, false, if◌then◌else◌};
-ghost use Rattle.std.specs.Prelude.{nat_lt};
+ghost use Rattle.std.specs.Prelude.{◌≡◌, ◌-◌, ◌==◌};
 ghost use Rattle.lease_disk.specs.Crash.{formatted_region};
 ghost use Rattle.lease_disk.specs.Model.{region_of};
-ghost use Rattle.lease_disk.specs.Region.{is_within};
 
 use crate::device::{Disk, Fault, REGION};
 use crate::format2::{format_bytes, overwrite, put};
 use crate::image::Image;
+use crate::unsynced::Unsynced;
 use std::alloc::{AllocError, Global};
 use std::marker::Model;
 use types::Count;
@@ -16,77 +15,54 @@ use types::Count;
 #[derive(Drop)]
 pub struct Stored {
     bytes: [u8; REGION],
-    unsynced: [bool; REGION],
+    unsynced: Unsynced,
     readable: bool,
-    fuse: u8,
 }
 
 /// A device in memory. It tells what its regions hold.
 #[derive(Drop)]
 pub struct ModelDisk {
     regions: Vec<Stored>,
+    // which write or sync of each region fails, counted from now on; 0 for none. They lie apart from the
+    // bytes, so that setting one touches no memory of its region.
+    fuses: Vec<u8>,
     reads: Count,
     writes: Count,
     failures: Count,
 }
 
 impl Model for ModelDisk {
-    ghost use Rattle.std.specs.Prelude.{◌<◌, length};
+    ghost use Rattle.std.specs.Prelude.{◌≡◌, ◌<◌, length};
     ghost use Rattle.lease_disk.specs.Model.{ModelDiskValue};
 
     ghost Value = { ModelDiskValue };
 
-    ghost view = { λ d. record { regions = d.regions.items; reads = d.reads.count; writes = d.writes.count; failures = d.failures.count } };
+    ghost view = { λ d. record { regions = d.regions.items; fuses = d.fuses.items; reads = d.reads.count; writes = d.writes.count; failures = d.failures.count } };
 
-    ghost invariant = { λ d. length d.regions.items < 65536 };
-}
-
-/// Marks the n places from an offset on.
-fn mark(target: &mut [bool], at: usize, n: usize)
-    requires { at + n ≤ length target.old }
-    ensures { (i : ℕ) → slice_index_or target.new i false ≡ (if is_within at n i then true else slice_index_or target.old i false) }
-{
-    for i in 0..n {
-        target[at + i] = true;
-    }
-}
-
-/// Clears all marks.
-fn unmark(target: &mut [bool])
-    ensures { (i : ℕ) → slice_index_or target.new i false ≡ false }
-{
-    for mark in target.iter_mut() {
-        *mark = false;
-    }
-}
-
-/// Gives the marked bytes one value.
-fn settle(bytes: &mut [u8], unsynced: &[bool], byte: u8)
-    requires { length unsynced.now ≡ length bytes.old }
-    ensures { (i : ℕ) → slice_index bytes.new i ≡ (if slice_index_or unsynced.now i false then byte else slice_index bytes.old i) }
-{
-    for (i, mark) in unsynced.iter().enumerate() {
-        if *mark {
-            bytes[i] = byte;
-        }
-    }
+    ghost invariant = { λ d. (length d.regions.items < 65536) × (length d.fuses.items ≡ length d.regions.items) };
 }
 
 /// A region that was just formatted.
 fn fresh() -> Stored
-    ensures region { region_of result ≡ formatted_region }
-    ensures fuse { result.fuse ≡ 0 }
+    ensures { region_of result ≡ formatted_region }
 {
     let mut bytes = [0; REGION];
     format_bytes(&mut bytes);
-    let mut unsynced = [false; REGION];
-    unmark(&mut unsynced);
     Stored {
         bytes,
-        unsynced,
+        unsynced: Unsynced::none(),
         readable: true,
-        fuse: 0,
     }
+}
+
+/// Counts one call, and tells whether it is the one that fails.
+fn burn(fuse: &mut u8) -> bool
+    ensures fails { result ≡ (fuse.old == 1) }
+    ensures fuse { fuse.new ≡ fuse.old - 1 }
+{
+    let fails = *fuse == 1;
+    *fuse = fuse.saturating_sub(1);
+    fails
 }
 
 impl ModelDisk {
@@ -110,8 +86,10 @@ impl ModelDisk {
         'regions: for _ in 0..regions {
             stored.push(fresh())?;
         }
+        let fuses = Vec::from_elem(alloc, 0, usize::from(regions))?;
         Ok(ModelDisk {
             regions: stored,
+            fuses,
             reads: Count::new(),
             writes: Count::new(),
             failures: Count::new(),
@@ -125,7 +103,7 @@ impl ModelDisk {
         ensures state { state_of self.new region ≡ state_of self.old region }
         ensures others { SameBut region self.old self.new }
     {
-        self.regions[usize::from(region)].fuse = k;
+        self.fuses[usize::from(region)] = k;
     }
 
     /// Stops the device and starts it again: a region then is as the image says.
@@ -138,8 +116,8 @@ impl ModelDisk {
         let stored = &mut self.regions[usize::from(region)];
         match image {
             Image::Byte(byte) => {
-                settle(&mut stored.bytes, &stored.unsynced, byte);
-                unmark(&mut stored.unsynced);
+                stored.unsynced.settle(&mut stored.bytes, byte);
+                stored.unsynced.clear();
                 stored.readable = true;
             }
             Image::Unreadable => stored.readable = false,
@@ -206,10 +184,9 @@ impl Disk for ModelDisk {
         ensures spoilt { OnErr result (state_of self.new region ≡ spoilt at (length bytes.now) (state_of self.old region)) }
     {
         self.writes.tick();
+        let fails = burn(&mut self.fuses[usize::from(region)]);
         let stored = &mut self.regions[usize::from(region)];
-        mark(&mut stored.unsynced, at, bytes.len());
-        let fails = stored.fuse == 1;
-        stored.fuse = stored.fuse.saturating_sub(1);
+        stored.unsynced.mark(at, bytes.len());
         if fails {
             self.failures.tick();
             return Err(Fault);
@@ -220,14 +197,11 @@ impl Disk for ModelDisk {
 
     fn sync(&mut self, region: u16) -> Result<(), Fault> {
         self.writes.tick();
-        let stored = &mut self.regions[usize::from(region)];
-        let fails = stored.fuse == 1;
-        stored.fuse = stored.fuse.saturating_sub(1);
-        if fails {
+        if burn(&mut self.fuses[usize::from(region)]) {
             self.failures.tick();
             return Err(Fault);
         }
-        unmark(&mut stored.unsynced);
+        self.regions[usize::from(region)].unsynced.clear();
         Ok(())
     }
 }

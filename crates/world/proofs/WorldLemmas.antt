@@ -563,7 +563,7 @@ beside_written r (Some n) old new one written =
     subst P one (record { region = written.region refl; fuse = written.fuse refl })
 
 pub beside_set : (r : ℕ) (old new : ModelDiskValue) → SameBut r old new → Beside r (disk.device_of old) (disk.device_of new)
-beside_set r old new same = record { region = λ q other. ap disk.region_of (same.others q other); fuse = λ q other. ap (λ s. s.fuse) (same.others q other) }
+beside_set r old new same = record { region = λ q other. ap disk.region_of (same.others q other); fuse = same.fuses }
 
 pub spares_beside : (parts : List CircuitPart) (r : ℕ) (old new : Device) (k : ℕ) (part : CircuitPart) → slice_get parts k ≡ Some part → part.region ≡ r → Beside r old new → KeepsSpares parts old new
 spares_beside parts r old new k part there its beside = record {

@@ -7,5 +7,4 @@ abbrev pub invariant-regions : goal.invariant-regions
 invariant-regions l = record {
   count : length l.stored.items ≡ l.counter;
   formatted : (q : ℕ) → q < l.counter → region_of (stored_at l.stored.items q) ≡ formatted_region;
-  fuses : (q : ℕ) → q < l.counter → (stored_at l.stored.items q).fuse ≡ 0;
 }
