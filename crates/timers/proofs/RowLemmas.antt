@@ -97,14 +97,14 @@ rows_at_first count number =
     record {
       count = omega arith;
       each = λ k low.
-        let length_of_row = length-row numbers k in
-        let of_row : (i : ℕ) → i < length (row_of numbers k) → get_or (row_of numbers k) i 0 ≡ number =
+          let length_of_row = length-row numbers k in
+          let of_row : (i : ℕ) → i < length (row_of numbers k) → get_or (row_of numbers k) i 0 ≡ number =
           λ i within. let there = in_row numbers k i within in there.1 ∙ get_or-replicate count (ROW * k + i) number 0 (omega (arith, there.0)) in
-        let is_least : IsLeast (row_of numbers k) number = record {
-          each = λ i within. omega (arith, of_row i within);
-          one = (0, omega arith, of_row 0 (omega arith));
-        } in
-        subst (λ (n : ℕ). IsLeast (row_of numbers k) n) (sym (get_or-replicate (div_ceil count ROW) k number 0 (omega arith))) is_least;
+          let is_least : IsLeast (row_of numbers k) number = record {
+            each = λ i within. omega (arith, of_row i within);
+            one = (0, omega arith, of_row 0 (omega arith));
+          } in
+          subst (λ (n : ℕ). IsLeast (row_of numbers k) n) (sym (get_or-replicate (div_ceil count ROW) k number 0 (omega arith))) is_least;
     }
 
 -- as `new` does it
@@ -139,7 +139,7 @@ rows_renewed numbers least i number lowest rows low is_least =
         | inl same ↦
             let P : ℕ → Type 0 = λ m. IsLeast (row_of written m) (get_or (set least (i / ROW) lowest) m 0) in
             let here : IsLeast (row_of written (i / ROW)) (get_or (set least (i / ROW) lowest) (i / ROW) 0) =
-              subst (IsLeast (row_of written (i / ROW))) (sym (get_or-set_same least (i / ROW) lowest 0 there)) is_least in
+            subst (IsLeast (row_of written (i / ROW))) (sym (get_or-set_same least (i / ROW) lowest 0 there)) is_least in
             subst P (sym same) here
         | inr other ↦
             let P : List ℕ → Type 0 = λ r. IsLeast r (get_or least k 0) in

@@ -1,5 +1,5 @@
 -- How the code has numbers in rows, and of each row the least. No public clause says anything of it.
-use Rattle.std.specs.Prelude.{◌≡◌, ℕ, ◌*◌, ◌<◌, ◌≤◌, List, length, take, drop, slice_index, EachIndex, SomeIndex}
+use Rattle.std.specs.Prelude.{◌≡◌, ℕ, ◌*◌, ◌≤◌, List, length, take, drop, slice_index, EachIndex, SomeIndex}
 use Rattle.std.specs.Int.{div_ceil}
 use Rattle.timers.specs.declared.rows.TheConstants.{ROW}
 

@@ -1,4 +1,4 @@
-//! Numbers in rows of eight, whose least is always known.
+//! Numbers in rows of eight, below a tree of the least of each row.
 ghost use Rattle.std.specs.Prelude.{◌≡◌, ◌*◌, ◌^◌, ◌<◌, ◌≤◌, length, replicate, slice_index, slice_set, EachIndex, SomeIndex, IfOk, IfSome, IfNone};
 ghost use Rattle.timers.specs.Rows.{IsLeast, row_of};
 
@@ -6,15 +6,15 @@ use crate::tree::Tree;
 use std::alloc::{AllocError, Global};
 use std::marker::Model;
 
-/// How many numbers a row has: they take the 64 bytes of a cache line.
+/// How many numbers a row has: 64 bytes, as many as a line of the processor's cache.
 const ROW: usize = 8;
 
 /// At least one number. Row k has those from `ROW * k` on; the last row may have fewer than the others.
 #[derive(Drop)]
 pub(crate) struct Rows {
     numbers: Vec<u64>,
-    // of each row the least number
-    least: Tree,
+    // the least number of each row
+    tree: Tree,
 }
 
 impl Model for Rows {
@@ -25,7 +25,7 @@ impl Model for Rows {
 
     ghost view = { λ r. r.numbers.items };
 
-    ghost invariant = { λ r. AreRows r.numbers.items r.least };
+    ghost invariant = { λ r. AreRows r.numbers.items r.tree };
 }
 
 impl Rows {
@@ -36,8 +36,8 @@ impl Rows {
         ensures { IfOk result (λ rows. rows ≡ replicate count number) }
     {
         let numbers = Vec::from_elem(alloc, number, count)?;
-        let least = Tree::new(alloc, count.div_ceil(ROW), number)?;
-        Ok(Rows { numbers, least })
+        let tree = Tree::new(alloc, count.div_ceil(ROW), number)?;
+        Ok(Rows { numbers, tree })
     }
 
     /// How many numbers there are.
@@ -61,7 +61,7 @@ impl Rows {
         self.numbers[place] = number;
         let row = place / ROW;
         let least = least_of(row_at(self.numbers.as_slice(), row));
-        self.least.set(row, least);
+        self.tree.set(row, least);
     }
 
     /// The place of a least number; `None` exactly where no number is below the limit.
@@ -71,8 +71,8 @@ impl Rows {
         ensures below { IfSome result (λ place. slice_index self.now place < limit) }
         ensures least { IfSome result (λ place. EachIndex self.now (λ k. slice_index self.now place ≤ slice_index self.now k)) }
     {
-        let row = self.least.least_below(limit)?;
-        let least = self.least.get(row);
+        let row = self.tree.least_below(limit)?;
+        let least = self.tree.get(row);
         Some(ROW * row + first_of(row_at(self.numbers.as_slice(), row), least))
     }
 }
