@@ -41,10 +41,6 @@ least_more bound numbers least number low here up_to = record {
 
 -- ---- all rows
 
--- a row that there is has a number
-pub row_begins : (numbers least : List ℕ) → AreRows numbers least → (k : ℕ) → k < length least → ROW * k < length numbers
-row_begins numbers least rows k low = let count = rows.count in omega arith
-
 -- each number is in a row that there is
 row_there : (numbers least : List ℕ) → AreRows numbers least → (i : ℕ) → i < length numbers → i / ROW < length least
 row_there numbers least rows i low = let count = rows.count in omega arith
