@@ -1,4 +1,4 @@
--- The deadlines that a row of numbers shows, and what a sweep leaves of them.
+-- The deadlines that numbers show, and what a sweep leaves of them.
 use Rattle.std.proofs.Common.{◌≡◌, ℕ, zero, suc, ◌+◌, ◌<◌, ◌≤◌, Bool, true, false, cond, Option, Some, None, List, [], ◌∷◌, map, length, get_or, set, replicate, count_by, ap, ap₂, sym, subst, refl, ◌∙◌, arith, inl, inr}
 use Rattle.std.specs.Prelude.{nat_le, nat_lt}
 use Rattle.std.proofs.lemmas.Bool.{cases_lt, cond-true, cond-false}
@@ -27,19 +27,19 @@ until_of_entry number until entry = elim (cases_lt number NEVER) [
   | inr never ↦ let none = entry_of_never number never in cc
 ]
 
--- ---- the deadlines that a row of numbers shows
+-- ---- the deadlines that numbers show
 
 -- the table that is shown, as `view` has it
 abbrev pub shown : List ℕ → ℕ → DeadlinesValue
-shown row looks = record { slots = map entry_of row; looks = looks }
+shown numbers looks = record { slots = map entry_of numbers; looks = looks }
 
-pub shown-set : (row written : List ℕ) (looks slot number : ℕ) (entry : Option ℕ) (old : DeadlinesValue)
-    → shown row looks ≡ old → written ≡ set row slot number → entry_of number ≡ entry
+pub shown-set : (numbers written : List ℕ) (looks slot number : ℕ) (entry : Option ℕ) (old : DeadlinesValue)
+    → shown numbers looks ≡ old → written ≡ set numbers slot number → entry_of number ≡ entry
     → shown written looks ≡ record { slots = set old.slots slot entry; looks = old.looks }
-shown-set row written looks slot number entry old view write same =
+shown-set numbers written looks slot number entry old view write same =
     let P : DeadlinesValue → Type 0 = λ o. shown written looks ≡ record { slots = set o.slots slot entry; looks = o.looks } in
-    let slots : map entry_of written ≡ set (map entry_of row) slot entry =
-    ap (map entry_of) write ∙ map-set entry_of row slot number ∙ ap (set (map entry_of row) slot) same in
+    let slots : map entry_of written ≡ set (map entry_of numbers) slot entry =
+    ap (map entry_of) write ∙ map-set entry_of numbers slot number ∙ ap (set (map entry_of numbers) slot) same in
     let made : List (Option ℕ) → DeadlinesValue = λ s. record { slots = s; looks = looks } in
     subst P view (ap made slots)
 
@@ -47,39 +47,39 @@ none_at_first : (count : ℕ) → map entry_of (replicate count NEVER) ≡ repli
 none_at_first zero = refl
 none_at_first (suc count) = ap (λ (rest : List (Option ℕ)). None ∷ rest) (none_at_first count)
 
-pub shown_at_first : (row : List ℕ) (looks count : ℕ) → row ≡ replicate count NEVER → looks ≡ 0 → shown row looks ≡ record { slots = replicate count None; looks = 0 }
-shown_at_first row looks count all none =
+pub shown_at_first : (numbers : List ℕ) (looks count : ℕ) → numbers ≡ replicate count NEVER → looks ≡ 0 → shown numbers looks ≡ record { slots = replicate count None; looks = 0 }
+shown_at_first numbers looks count all none =
     let made : List (Option ℕ) → ℕ → DeadlinesValue = λ s n. record { slots = s; looks = n } in
     ap₂ made (ap (map entry_of) all ∙ none_at_first count) none
 
-entry_there : (row : List ℕ) (slot : ℕ) → slot < length row → get_or (map entry_of row) slot None ≡ entry_of (get_or row slot 0)
-entry_there row slot low = get_or-map entry_of row slot 0 None low
+entry_there : (numbers : List ℕ) (slot : ℕ) → slot < length numbers → get_or (map entry_of numbers) slot None ≡ entry_of (get_or numbers slot 0)
+entry_there numbers slot low = get_or-map entry_of numbers slot 0 None low
 
-entry_past : (row : List ℕ) (slot : ℕ) → length row ≤ slot → get_or (map entry_of row) slot None ≡ None
-entry_past row slot past = get_or_past (map entry_of row) slot None (let count = length-map row entry_of in omega arith)
+entry_past : (numbers : List ℕ) (slot : ℕ) → length numbers ≤ slot → get_or (map entry_of numbers) slot None ≡ None
+entry_past numbers slot past = get_or_past (map entry_of numbers) slot None (let count = length-map numbers entry_of in omega arith)
 
--- `table` is what a row shows
-module _ (row : List ℕ) (looks : ℕ) (table : DeadlinesValue) (view : shown row looks ≡ table) where
-  entry_is : (slot : ℕ) → get_or (map entry_of row) slot None ≡ deadline table slot
+-- `table` is what numbers show
+module _ (numbers : List ℕ) (looks : ℕ) (table : DeadlinesValue) (view : shown numbers looks ≡ table) where
+  entry_is : (slot : ℕ) → get_or (map entry_of numbers) slot None ≡ deadline table slot
   entry_is slot = ap (λ t. deadline t slot) view
 
-  -- a deadline is a number of the row
-  pub deadline_in_row : (slot until : ℕ) → deadline table slot ≡ Some until → (slot < length row) × (get_or row slot 0 ≡ until)
-  deadline_in_row slot until has = elim (cases_lt slot (length row)) [
-    | inl low ↦ (low, until_of_entry (get_or row slot 0) until (sym (entry_there row slot low) ∙ entry_is slot ∙ has))
-    | inr past ↦ let none = entry_past row slot past in let same = entry_is slot in cc
+  -- a deadline is one of the numbers
+  pub deadline_among : (slot until : ℕ) → deadline table slot ≡ Some until → (slot < length numbers) × (get_or numbers slot 0 ≡ until)
+  deadline_among slot until has = elim (cases_lt slot (length numbers)) [
+    | inl low ↦ (low, until_of_entry (get_or numbers slot 0) until (sym (entry_there numbers slot low) ∙ entry_is slot ∙ has))
+    | inr past ↦ let none = entry_past numbers slot past in let same = entry_is slot in cc
   ]
 
-  pub none_in_row : ((k : ℕ) → k < length row → NEVER ≤ get_or row k 0) → (slot : ℕ) → deadline table slot ≡ None
-  none_in_row never slot = sym (entry_is slot) ∙ elim (cases_lt slot (length row)) [
-    | inl low ↦ entry_there row slot low ∙ entry_of_never (get_or row slot 0) (never slot low)
-    | inr past ↦ entry_past row slot past
+  pub none_among : ((k : ℕ) → k < length numbers → NEVER ≤ get_or numbers k 0) → (slot : ℕ) → deadline table slot ≡ None
+  none_among never slot = sym (entry_is slot) ∙ elim (cases_lt slot (length numbers)) [
+    | inl low ↦ entry_there numbers slot low ∙ entry_of_never (get_or numbers slot 0) (never slot low)
+    | inr past ↦ entry_past numbers slot past
   ]
 
-  pub some_in_row : (slot : ℕ) → slot < length row → get_or row slot 0 < NEVER → ((s : ℕ) → deadline table s ≡ None) → ⊥
-  some_in_row slot low below none =
-      let there = entry_there row slot low in
-      let some = entry_of_number (get_or row slot 0) below in
+  pub some_among : (slot : ℕ) → slot < length numbers → get_or numbers slot 0 < NEVER → ((s : ℕ) → deadline table s ≡ None) → ⊥
+  some_among slot low below none =
+      let there = entry_there numbers slot low in
+      let some = entry_of_number (get_or numbers slot 0) below in
       let same = entry_is slot in
       let gone = none slot in
       cc

@@ -1,2 +1,3 @@
 pub mod DeadlineLemmas
+pub mod RowLemmas
 pub mod TreeLemmas

@@ -1,4 +1,4 @@
--- The tree above a row of numbers: its root is the least of them.
+-- The tree above some numbers: its root is the least of them.
 use Rattle.std.proofs.Common.{◌≡◌, ℕ, zero, suc, ◌+◌, ◌-◌, ◌*◌, ◌/◌, ◌<◌, ◌≤◌, List, length, get_or, drop, ap, sym, subst, ◌∙◌, set, arith, inl, inr, get_or-drop, length-drop}
 use Rattle.std.proofs.lemmas.Bool.{cases_eq}
 use Rattle.std.proofs.lemmas.List.{drop-set-add}
@@ -26,9 +26,9 @@ least_up_to leaves nodes all (suc bound) k within low high = elim (cases_eq k 1)
 pub root_least : (leaves k : ℕ) (nodes : List ℕ) → AreLesser leaves nodes → 1 ≤ k → k < 2 * leaves → get_or nodes 1 0 ≤ get_or nodes k 0
 root_least leaves k nodes all low high = least_up_to leaves nodes all k k (omega arith) low high
 
--- no number of the row is less than the root
-pub root_below_row : (leaves : ℕ) (nodes row : List ℕ) → IsTree leaves nodes → drop leaves nodes ≡ row → (k : ℕ) → k < length row → get_or nodes 1 0 ≤ get_or row k 0
-root_below_row leaves nodes row tree view k low =
+-- no number is less than the root
+pub root_below : (leaves : ℕ) (nodes numbers : List ℕ) → IsTree leaves nodes → drop leaves nodes ≡ numbers → (k : ℕ) → k < length numbers → get_or nodes 1 0 ≤ get_or numbers k 0
+root_below leaves nodes numbers tree view k low =
     let P : List ℕ → Type 0 = λ r. k < length r → get_or nodes 1 0 ≤ get_or r k 0 in
     let some = tree.some in
     subst P view (λ within.
@@ -36,9 +36,9 @@ root_below_row leaves nodes row tree view k low =
     let whole = tree.whole in
     rw get_or-drop (root_least leaves (leaves + k) nodes tree.lesser (omega arith) (omega arith))) low
 
--- a leaf that is as low as the root, as the row has it
-pub least_of_row : (leaves node : ℕ) (nodes lent row : List ℕ) → drop leaves nodes ≡ row → lent ≡ nodes → leaves ≤ node → get_or lent node 0 ≡ get_or lent 1 0 → get_or row (node - leaves) 0 ≡ get_or nodes 1 0
-least_of_row leaves node nodes lent row view same within least =
+-- a leaf that is as low as the root, as one of the numbers
+pub least_leaf : (leaves node : ℕ) (nodes lent numbers : List ℕ) → drop leaves nodes ≡ numbers → lent ≡ nodes → leaves ≤ node → get_or lent node 0 ≡ get_or lent 1 0 → get_or numbers (node - leaves) 0 ≡ get_or nodes 1 0
+least_leaf leaves node nodes lent numbers view same within least =
     ap (λ r. get_or r (node - leaves) 0) (sym view)
     ∙ get_or-drop leaves nodes (node - leaves) 0
     ∙ ap (λ k. get_or nodes k 0) (omega arith)
@@ -47,6 +47,6 @@ least_of_row leaves node nodes lent row view same within least =
     ∙ ap (λ l. get_or l 1 0) same
 
 -- a written leaf, once the nodes above it were made right
-pub row_after_write : (leaves leaf number : ℕ) (nodes written after row : List ℕ) → drop leaves nodes ≡ row → written ≡ set nodes (leaves + leaf) number → drop leaves after ≡ drop leaves written → drop leaves after ≡ set row leaf number
-row_after_write leaves leaf number nodes written after row view write kept =
+pub leaf_written : (leaves leaf number : ℕ) (nodes written after numbers : List ℕ) → drop leaves nodes ≡ numbers → written ≡ set nodes (leaves + leaf) number → drop leaves after ≡ drop leaves written → drop leaves after ≡ set numbers leaf number
+leaf_written leaves leaf number nodes written after numbers view write kept =
     kept ∙ ap (drop leaves) write ∙ drop-set-add leaves nodes leaf number ∙ ap (λ r. set r leaf number) view

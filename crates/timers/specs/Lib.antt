@@ -1,3 +1,4 @@
 pub mod Deadlines
 pub mod Layout
+pub mod Rows
 pub mod Tree

@@ -1,5 +1,5 @@
--- How the code knows the least of a row of numbers: by a tree in one list, of which node 1 is the root and the last
--- nodes are the row. No public clause says anything of it.
+-- How the code knows the least of some numbers: by a tree in one list, of which node 1 is the root and the last nodes
+-- are the numbers. No public clause says anything of it.
 use Rattle.std.specs.Prelude.{◌≡◌, ◌≢◌, ℕ, ◌+◌, ◌*◌, ◌<◌, ◌≤◌, List, length, slice_index, min}
 
 -- node i is the lesser of the two below it

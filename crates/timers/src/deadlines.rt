@@ -3,7 +3,7 @@ ghost use Rattle.std.specs.Prelude.{◌≡◌, ℕ, ◌+◌, ◌<◌, ◌≤◌,
 ghost use Rattle.types.specs.Slots.{last_until};
 ghost use Rattle.timers.specs.Deadlines.{deadline, is_due, entry_after_sweep};
 
-use crate::tree::Tree;
+use crate::rows::Rows;
 use std::alloc::{AllocError, Global};
 use std::marker::Model;
 use types::{Count, Moment};
@@ -14,7 +14,7 @@ const NEVER: u64 = u64::MAX;
 /// Until when each slot has a deadline, in seconds. A slot has one deadline at most.
 #[derive(Drop)]
 pub struct Deadlines {
-    tree: Tree,
+    rows: Rows,
     looks: Count,
 }
 
@@ -25,19 +25,19 @@ impl Model for Deadlines {
 
     ghost Value = { DeadlinesValue };
 
-    ghost view = { λ d. record { slots = map entry_of d.tree; looks = d.looks.count } };
+    ghost view = { λ d. record { slots = map entry_of d.rows; looks = d.looks.count } };
 }
 
 impl Deadlines {
-    /// No deadline of so many slots, which are at most those of 1024 circuits. Takes all memory, in one
-    /// request; an error only where that is refused.
+    /// No deadline of so many slots, which are at most those of 1024 circuits. Takes all memory, in two
+    /// requests; an error only where one is refused.
     pub fn new(alloc: Global, slots: usize) -> Result<Deadlines, AllocError>
         requires least { 1 ≤ slots }
         requires most { slots ≤ 32768 }
         ensures { IfOk result (λ d. d ≡ record { slots = replicate slots None; looks = 0 }) }
     {
         Ok(Deadlines {
-            tree: Tree::new(alloc, slots, NEVER)?,
+            rows: Rows::new(alloc, slots, NEVER)?,
             looks: Count::new(),
         })
     }
@@ -46,7 +46,7 @@ impl Deadlines {
     pub fn count(&self) -> usize
         ensures { result ≡ length self.now.slots }
     {
-        self.tree.count()
+        self.rows.count()
     }
 
     /// Replaces the slot's deadline.
@@ -55,21 +55,21 @@ impl Deadlines {
         requires until { until ≤ last_until }
         ensures { self.new ≡ record self.old { slots = slice_set self.old.slots slot (Some until) } }
     {
-        self.tree.set(slot, until);
+        self.rows.set(slot, until);
     }
 
     pub fn clear(&mut self, slot: usize)
         requires { slot < length self.old.slots }
         ensures { self.new ≡ record self.old { slots = slice_set self.old.slots slot None } }
     {
-        self.tree.set(slot, NEVER);
+        self.rows.set(slot, NEVER);
     }
 
     pub fn get(&self, slot: usize) -> Option<u64>
         requires { slot < length self.now.slots }
         ensures { result ≡ deadline self.now slot }
     {
-        let until = self.tree.get(slot);
+        let until = self.rows.get(slot);
         if until < NEVER { Some(until) } else { None }
     }
 
@@ -83,8 +83,8 @@ impl Deadlines {
         ensures least { IfSome result (λ entry. (slot until : ℕ) → deadline self.old slot ≡ Some until → entry.1 ≤ until) }
     {
         self.looks.tick();
-        let slot = self.tree.least_below(NEVER)?;
-        Some((slot, self.tree.get(slot)))
+        let slot = self.rows.least_below(NEVER)?;
+        Some((slot, self.rows.get(slot)))
     }
 
     /// Removes every deadline that is due, which is at most `now`. It reads them by `last` alone.

@@ -2,6 +2,7 @@
 #![tactic(auto)]
 
 mod deadlines;
+mod rows;
 mod tree;
 
 pub use deadlines::Deadlines;

@@ -1,4 +1,4 @@
-//! A row of numbers whose least is always known.
+//! Numbers in a tree, so that the least is always known.
 ghost use Rattle.std.specs.Prelude.{◌≡◌, ◌*◌, ◌/◌, ◌^◌, ◌<◌, ◌≤◌, drop, length, replicate, slice_index, slice_set, EachIndex, IfOk, IfSome, IfNone};
 ghost use Rattle.timers.specs.Tree.{AreLesser, AreLesserBut};
 
