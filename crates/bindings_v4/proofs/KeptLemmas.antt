@@ -5,7 +5,7 @@ use Rattle.std.specs.Str.{bytes_eq}
 use Rattle.std.proofs.Math.ListN.{get_or-map}
 use Rattle.slots.specs.declared.holder.Holder.{Holder}
 use Rattle.slots.specs.declared.holder.Holder.TheVariants.{Bound, Offered, Barred}
-use Rattle.slots.specs.Kept.{unoffered, same_client, IsWithin, AreWithin}
+use Rattle.slots.specs.Kept.{unoffered, same_client, IsWithin, AreWithin, AreOffersWithin}
 use Rattle.slots.specs.KeyLaws.{key4_is_key}
 use Rattle.slots.specs.Lookup.{live}
 use Rattle.slots.specs.Maps.{is_live}
@@ -116,6 +116,9 @@ module _ (pool : PoolValue) (region : RegionSlots) (t n : ℕ) (ss : Holders4) (
 
   pub begun_within : All IsWithin4 region.four → AreWithin ss
   begun_within w = form.begun_within form4 region.four region.clock pool.count t n ss clock count e IsWithin4 holder_within w
+
+  pub begun_offers : AreOffersWithin ss
+  begun_offers = form.begun_offers form4 region.four region.clock pool.count t n ss clock count e
 
 -- ---- what is written means the book without its offers
 

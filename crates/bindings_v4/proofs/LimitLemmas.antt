@@ -2,11 +2,11 @@
 use Rattle.std.proofs.Common.{◌≡◌, ℕ, ◌+◌, ◌≤◌, List, sym, subst, arith}
 use Rattle.std.specs.Prelude.{Option, Some, None, IfSome}
 use Rattle.std.specs.Str.{bytes_eq}
-use Rattle.slots.specs.Kept.{AreWithin}
+use Rattle.slots.specs.Kept.{AreWithin, AreOffersWithin}
 use Rattle.slots.specs.declared.holder.Holder.TheVariants.{Offered}
 use Rattle.slots.specs.KeyLaws.{key4_is_key}
 use Rattle.slots.proofs.FitLemmas.{offered_own}
-use Rattle.slots.proofs.KeptLemmas.{slot_within}
+use Rattle.slots.proofs.KeptLemmas.{slot_within, slot_offered_within, no_offer_within}
 use Rattle.types.specs.Addr.{number4}
 use Rattle.types.specs.Slots.{IsWithin4}
 use Rattle.types.specs.declared.request4.Request4.{Request4}
@@ -20,23 +20,38 @@ use Rattle.bindings_v4.specs.Kept4.{EndsBy}
 use Rattle.bindings_v4.specs.Decision4.{IsOffer, offer_of, keep_of, decision_of}
 use Rattle.bindings_v4.specs.Slots4.{Holders4, PoolSlots, AreSlots, IsOfferWithin, with_offer, with_kept, holder_of}
 use Rattle.bindings_v4.specs.Table4.{Change}
-use Rattle.bindings_v4.proofs.KeptLemmas.{holder_within}
+use Rattle.bindings_v4.proofs.KeptLemmas.{holder_within, never_offered}
 use Rattle.bindings_v4.proofs.RowLemmas.{OfChanges, found, row, of_row}
 
 -- ---- what is committed
 
-offer_within : (change : Option OfferChange) (ss : Holders4) → AreWithin ss → IfSome change IsOfferWithin → AreWithin (with_offer change ss)
-offer_within None ss w h = w
-offer_within (Some (offer.Made i k u)) ss w h = slot_within bytes_eq i (Some (Offered k u)) ss w h
-offer_within (Some (offer.Withdrawn i)) ss w h = slot_within bytes_eq i None ss w tt
+offer_within : (change : Option OfferChange) (ss : Holders4) → AreWithin ss → AreWithin (with_offer change ss)
+offer_within None ss w = w
+offer_within (Some (offer.Made i k u)) ss w = slot_within bytes_eq i (Some (Offered k u)) ss w tt
+offer_within (Some (offer.Withdrawn i)) ss w = slot_within bytes_eq i None ss w tt
 
 keep_within : (keep : Option KeptSlot) (ss : Holders4) → AreWithin ss → IfSome keep (λ kept. IsWithin4 kept.content) → AreWithin (with_kept keep ss)
 keep_within None ss w h = w
 keep_within (Some kept) ss w h = slot_within bytes_eq kept.slot (holder_of kept.content) ss w (holder_within kept.content h)
 
 pub committed_within : (change : Option OfferChange) (keep : Option KeptSlot) (ss new : Holders4) → new ≡ with_kept keep (with_offer change ss)
-    → AreWithin ss → IfSome keep (λ kept. IsWithin4 kept.content) → IfSome change IsOfferWithin → AreWithin new
-committed_within change keep ss new e w h o = subst (λ (xs : Holders4). AreWithin xs) (sym e) (keep_within keep (with_offer change ss) (offer_within change ss w o) h)
+    → AreWithin ss → IfSome keep (λ kept. IsWithin4 kept.content) → AreWithin new
+committed_within change keep ss new e w h = subst (λ (xs : Holders4). AreWithin xs) (sym e) (keep_within keep (with_offer change ss) (offer_within change ss w) h)
+
+-- the same of offers: what is kept is none
+offer_offered : (change : Option OfferChange) (ss : Holders4) → AreOffersWithin ss → IfSome change IsOfferWithin → AreOffersWithin (with_offer change ss)
+offer_offered None ss w h = w
+offer_offered (Some (offer.Made i k u)) ss w h = slot_offered_within bytes_eq i (Some (Offered k u)) ss w h
+offer_offered (Some (offer.Withdrawn i)) ss w h = slot_offered_within bytes_eq i None ss w tt
+
+keep_offered : (keep : Option KeptSlot) (ss : Holders4) → AreOffersWithin ss → AreOffersWithin (with_kept keep ss)
+keep_offered None ss w = w
+keep_offered (Some kept) ss w =
+    slot_offered_within bytes_eq kept.slot (holder_of kept.content) ss w (no_offer_within (holder_of kept.content) (never_offered kept.content))
+
+pub committed_offers : (change : Option OfferChange) (keep : Option KeptSlot) (ss new : Holders4) → new ≡ with_kept keep (with_offer change ss)
+    → AreOffersWithin ss → IfSome change IsOfferWithin → AreOffersWithin new
+committed_offers change keep ss new e w h = subst (λ (xs : Holders4). AreOffersWithin xs) (sym e) (keep_offered keep (with_offer change ss) (offer_offered change ss w h))
 
 -- ---- what is decided
 

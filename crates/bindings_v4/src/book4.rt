@@ -1,6 +1,6 @@
 //! The book of one circuit's DHCPv4 leases.
 ghost use Rattle.std.specs.Prelude.{◌≡◌, ◌+◌, ◌<◌, ◌≤◌, ℕ, true, is_some, option_map, map, slice_index_or, IfSome, All};
-ghost use Rattle.slots.specs.Kept.{AreWithin};
+ghost use Rattle.slots.specs.Kept.{AreOffersWithin, AreWithin};
 ghost use Rattle.slots.specs.Lookup.{slot_in, until_of};
 ghost use Rattle.types.specs.Addr.{number4};
 ghost use Rattle.types.specs.Slots.{IsWithin4, live4, none_twice, same_client4};
@@ -48,6 +48,7 @@ impl Book4 {
         ensures pool { result.pool ≡ pool }
         ensures book { book_of slots.now.clock result ≡ book4_in pool slots.now }
         ensures within { All IsWithin4 slots.now.four → AreWithin result.slots }
+        ensures offers { AreOffersWithin result.slots }
         ensures kept { kept_slots slots.now.clock result.slots ≡ map (live4 slots.now.clock) slots.now.four }
     {
         let holders = live_holders(&slots.four, pool.count(), slots.clock.seconds());
@@ -98,7 +99,8 @@ impl Book4 {
     pub fn commit(&mut self, decision: &Decision4)
         ensures slots { self.new ≡ with_decision decision.now self.old }
         ensures pool { self.new.pool ≡ self.old.pool }
-        ensures within { AreWithin self.old.slots → IfSome decision.now.keep (λ kept. IsWithin4 kept.content) → IfSome decision.now.offer IsOfferWithin → AreWithin self.new.slots }
+        ensures within { AreWithin self.old.slots → IfSome decision.now.keep (λ kept. IsWithin4 kept.content) → AreWithin self.new.slots }
+        ensures offers { AreOffersWithin self.old.slots → IfSome decision.now.offer IsOfferWithin → AreOffersWithin self.new.slots }
     {
         write_offer(&mut self.slots, decision.offer);
         write_kept(&mut self.slots, decision.keep);

@@ -4,7 +4,7 @@ use Rattle.std.specs.Prelude.{Option, Some, None, All}
 use Rattle.std.proofs.Math.ListN.{get_or-map}
 use Rattle.slots.specs.declared.holder.Holder.{Holder}
 use Rattle.slots.specs.declared.holder.Holder.TheVariants.{Bound, Offered, Barred}
-use Rattle.slots.specs.Kept.{unoffered, kept, same_client, IsWithin, AreWithin}
+use Rattle.slots.specs.Kept.{unoffered, kept, same_client, IsWithin, AreWithin, AreOffersWithin}
 use Rattle.slots.specs.KeyLaws.{key6_is_key}
 use Rattle.slots.specs.Lookup.{live}
 use Rattle.slots.specs.Maps.{is_live}
@@ -116,6 +116,9 @@ module _ (pool : Pool6Value) (region : RegionSlots) (t n : ℕ) (ss : Holders6) 
 
   pub begun_within : All IsWithin6 region.six → AreWithin ss
   begun_within w = form.begun_within form6 region.six region.clock pool.count t n ss clock count e IsWithin6 holder_within w
+
+  pub begun_offers : AreOffersWithin ss
+  begun_offers = form.begun_offers form6 region.six region.clock pool.count t n ss clock count e
 
 -- ---- what is written means the book
 

@@ -1,8 +1,8 @@
 -- What is leased or barred ends within the limit of what a region keeps.
 use Rattle.std.proofs.Common.{◌≡◌, ℕ, ◌+◌, sym, subst, arith}
 use Rattle.std.specs.Prelude.{Option, Some, None, IfSome}
-use Rattle.slots.specs.Kept.{AreWithin}
-use Rattle.slots.proofs.KeptLemmas.{slot_within}
+use Rattle.slots.specs.Kept.{AreWithin, AreOffersWithin}
+use Rattle.slots.proofs.KeptLemmas.{slot_within, slot_offered_within, no_offer_within}
 use Rattle.types.specs.Addr.{number6}
 use Rattle.types.specs.Key6.{Key6Value, same_key6}
 use Rattle.types.specs.Slots.{IsWithin6}
@@ -13,7 +13,7 @@ use Rattle.bindings_v6.specs.Kept6.{EndsBy}
 use Rattle.bindings_v6.specs.Decision6.{keep_of, decision_of}
 use Rattle.bindings_v6.specs.Slots6.{Holders6, PoolSlots, AreSlots, with_kept, holder_of}
 use Rattle.bindings_v6.specs.Table6.{Change}
-use Rattle.bindings_v6.proofs.KeptLemmas.{holder_within}
+use Rattle.bindings_v6.proofs.KeptLemmas.{holder_within, never_offered}
 use Rattle.bindings_v6.proofs.RowLemmas.{OfChanges, found, row, of_row}
 
 -- ---- what is committed
@@ -21,6 +21,12 @@ use Rattle.bindings_v6.proofs.RowLemmas.{OfChanges, found, row, of_row}
 pub keep_within : (keep : Option KeptSlot) (ss : Holders6) → AreWithin ss → IfSome keep (λ kept. IsWithin6 kept.content) → AreWithin (with_kept keep ss)
 keep_within None ss w h = w
 keep_within (Some kept) ss w h = slot_within same_key6 kept.slot (holder_of kept.content) ss w (holder_within kept.content h)
+
+-- the same of offers: what is kept is none
+pub keep_offered : (keep : Option KeptSlot) (ss : Holders6) → AreOffersWithin ss → AreOffersWithin (with_kept keep ss)
+keep_offered None ss w = w
+keep_offered (Some kept) ss w =
+    slot_offered_within same_key6 kept.slot (holder_of kept.content) ss w (no_offer_within (holder_of kept.content) (never_offered kept.content))
 
 -- ---- what is decided
 

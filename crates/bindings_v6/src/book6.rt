@@ -1,6 +1,6 @@
 //! The book of one circuit's DHCPv6 leases.
 ghost use Rattle.std.specs.Prelude.{◌≡◌, ◌+◌, ◌<◌, ◌≤◌, ℕ, true, is_some, option_map, map, slice_index_or, IfSome, All};
-ghost use Rattle.slots.specs.Kept.{AreWithin};
+ghost use Rattle.slots.specs.Kept.{AreOffersWithin, AreWithin};
 ghost use Rattle.slots.specs.Lookup.{slot_in, until_of};
 ghost use Rattle.types.specs.Addr.{number6};
 ghost use Rattle.types.specs.Slots.{IsWithin6, live6, none_twice, same_client6};
@@ -47,6 +47,7 @@ impl Book6 {
         ensures pool { result.pool ≡ pool }
         ensures book { book_of slots.now.clock result ≡ book6_in pool slots.now }
         ensures within { All IsWithin6 slots.now.six → AreWithin result.slots }
+        ensures offers { AreOffersWithin result.slots }
         ensures kept { kept_slots slots.now.clock result.slots ≡ map (live6 slots.now.clock) slots.now.six }
     {
         let holders = live_holders(&slots.six, pool.count(), slots.clock.seconds());
@@ -96,6 +97,7 @@ impl Book6 {
         ensures slots { self.new ≡ with_decision decision.now self.old }
         ensures pool { self.new.pool ≡ self.old.pool }
         ensures within { AreWithin self.old.slots → IfSome decision.now.keep (λ kept. IsWithin6 kept.content) → AreWithin self.new.slots }
+        ensures offers { AreOffersWithin self.old.slots → AreOffersWithin self.new.slots }
     {
         if let Some(kept) = decision.keep {
             self.slots.write(kept.slot, holder_of(kept.content));

@@ -8,11 +8,11 @@ use Rattle.std.proofs.lemmas.List.Folds.{map_fixed}
 use Rattle.std.proofs.Math.ListN.{get_or-map}
 use Rattle.types.specs.Slots.{none_twice}
 use Rattle.slots.specs.declared.holder.Holder.{Holder}
-use Rattle.slots.specs.Kept.{unoffered, kept, kept_slots, same_client, IsWithin, AreWithin}
+use Rattle.slots.specs.Kept.{unoffered, kept, kept_slots, same_client, IsWithin, AreWithin, AreOffersWithin}
 use Rattle.slots.specs.Key.{IsKey}
 use Rattle.slots.specs.Lookup.{live}
 use Rattle.slots.specs.Slots.{offered_to, AreDistinct, without_client}
-use Rattle.slots.proofs.KeptLemmas.{unoffered_own, get_or_any, kept_at, kept_more, kept_live, kept_later, live_twice, kept_within, live_within, within_at, are_within, kept_once, AreUnoffered, once_distinct, take_distinct, map_take}
+use Rattle.slots.proofs.KeptLemmas.{unoffered_own, get_or_any, kept_at, kept_more, kept_live, kept_later, live_twice, kept_within, live_within, at_each, all_at, no_offers_within, kept_once, AreUnoffered, once_distinct, take_distinct, map_take}
 use Rattle.slots.proofs.KeptWrites.{kept_set, IsClear, kept_given}
 use Rattle.slots.proofs.ShownLemmas.{Slots, live_slots}
 
@@ -65,7 +65,7 @@ module _ {K C : Type 0} {eqk : K → K → Bool} {holder_of : C → Option (Hold
 
   pub all_within : (P : C → Type 0) → ((h : Option (Holder K)) → IsWithin h → P (slot_of h)) → (t : ℕ) (ss : Slots K) (xs : List C) → xs ≡ map slot_of (kept_slots t ss) → AreWithin ss → All P xs
   all_within P slot_within t ss xs e w i d h =
-      subst P (sym (kept_any t ss xs e i d h)) (slot_within (kept t (get_or ss i None)) (kept_within t (get_or ss i None) (within_at ss w i)))
+      subst P (sym (kept_any t ss xs e i d h)) (slot_within (kept t (get_or ss i None)) (kept_within t (get_or ss i None) (at_each IsWithin tt ss w i)))
 
   pub kept_length : (t : ℕ) (ss : Slots K) → length ss ≤ 16 → length (map slot_of (kept_slots t ss)) ≡ 16
   kept_length t ss few =
@@ -197,10 +197,14 @@ module _ {K C : Type 0} {eqk : K → K → Bool} {holder_of : C → Option (Hold
         ∙ begun_from now size xs past
 
     pub begun_within : (P : C → Type 0) → ((c : C) → P c → IsWithin (holder_of c)) → All P xs → AreWithin ss
-    begun_within P holder_within w = are_within ss (λ i. subst (λ (ys : Slots K). IsWithin (get_or ys i None)) (sym e) (by i n xs w)) where
+    begun_within P holder_within w = all_at IsWithin tt ss (λ i. subst (λ (ys : Slots K). IsWithin (get_or ys i None)) (sym e) (by i n xs w)) where
       by : (i n : ℕ) (xs : List C) → All P xs → IsWithin (get_or (map (held t) (take n xs)) i None)
       by i zero xs w = tt
       by i (suc n) [] w = tt
       by zero (suc n) (x ∷ xs) w =
           subst (λ (h : Option (Holder K)). IsWithin h) (sym (form.held_is t x)) (live_within t (holder_of x) (holder_within x (w 0 x (omega arith))))
       by (suc i) (suc n) (x ∷ xs) w = by i n xs (λ k d h. w (suc k) d (omega (arith, h)))
+
+    -- nobody is offered a slot of it
+    pub begun_offers : AreOffersWithin ss
+    begun_offers = no_offers_within ss (λ i. ap (λ ys. offered_to (get_or ys i None)) e ∙ held_none t i (take n xs))

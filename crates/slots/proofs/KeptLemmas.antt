@@ -1,14 +1,14 @@
 -- What is kept of slots, and which slots begin a book.
 use Rattle.std.proofs.Common.{◌≡◌, ℕ, zero, suc, ◌+◌, ◌-◌, ◌<◌, ◌≤◌, Bool, true, false, not, ◌&&◌, ◌||◌, cond, List, [], ◌∷◌, ◌++◌, length, map, take, replicate, set, get_or, ltb, ltb-false, refl, sym, ap, subst, ◌∙◌, arith}
 use borrow.Author.Tests.{ltb-true}
-use Rattle.std.specs.Prelude.{Option, Some, None}
+use Rattle.std.specs.Prelude.{Option, Some, None, All, IfSome, option_map}
 use Rattle.std.specs.declared.cmp.Ordering.{Ordering}
 use Rattle.std.specs.List.{list_any, position}
 use Rattle.std.proofs.lemmas.List.{get_or_past}
-use Rattle.types.specs.Slots.{none_twice}
+use Rattle.types.specs.Slots.{last_until, none_twice}
 use Rattle.slots.specs.declared.holder.Holder.{Holder}
 use Rattle.slots.specs.declared.holder.Holder.TheVariants.{Bound, Offered, Barred}
-use Rattle.slots.specs.Kept.{unoffered, kept, kept_slots, same_client, IsWithin, AreWithin}
+use Rattle.slots.specs.Kept.{unoffered, kept, kept_slots, same_client, IsWithin, AreWithin, IsOfferedWithin, AreOffersWithin}
 use Rattle.slots.specs.Key.{IsKey}
 use Rattle.slots.specs.Lookup.{until_of, live}
 use Rattle.slots.specs.Maps.{is_live}
@@ -133,37 +133,67 @@ module _ {K : Type 0} where
   pub kept_within : (t : ℕ) (s : Option (Holder K)) → IsWithin s → IsWithin (kept t s)
   kept_within t s h = unoffered_within (live t s) (live_within t s h)
 
-  -- also past the end
-  abbrev pub WithinAt : Slots K → Type 0
-  WithinAt ss = (i : ℕ) → IsWithin (get_or ss i None)
+  -- ---- what holds of every slot, held or not
 
-  pub within_at : (ss : Slots K) → AreWithin ss → WithinAt ss
-  within_at ss w i = by (ltb i (length ss)) refl where
-    by : (b : Bool) → ltb i (length ss) ≡ b → IsWithin (get_or ss i None)
-    by true is = w i None (ltb-true i (length ss) is)
-    by false is = subst (λ (s : Option (Holder K)). IsWithin s) (sym (get_or_past ss i None (ltb-false i (length ss) is))) tt
+  module _ (P : Option (Holder K) → Type 0) (none : P None) where
+    -- also past the end
+    abbrev EachAt : Slots K → Type 0
+    EachAt ss = (i : ℕ) → P (get_or ss i None)
 
-  pub are_within : (ss : Slots K) → WithinAt ss → AreWithin ss
-  are_within ss w i d h = subst (λ (s : Option (Holder K)). IsWithin s) (get_or_any ss i None d h) (w i)
+    pub at_each : (ss : Slots K) → All P ss → EachAt ss
+    at_each ss w i = by (ltb i (length ss)) refl where
+      by : (b : Bool) → ltb i (length ss) ≡ b → P (get_or ss i None)
+      by true is = w i None (ltb-true i (length ss) is)
+      by false is = subst P (sym (get_or_past ss i None (ltb-false i (length ss) is))) none
 
-  set_within : (ss : Slots K) (i : ℕ) (new : Option (Holder K)) → WithinAt ss → IsWithin new → WithinAt (set ss i new)
-  set_within [] i new w h k = w k
-  set_within (s ∷ ss) zero new w h zero = h
-  set_within (s ∷ ss) zero new w h (suc k) = w (suc k)
-  set_within (s ∷ ss) (suc i) new w h zero = w 0
-  set_within (s ∷ ss) (suc i) new w h (suc k) = set_within ss i new (λ j. w (suc j)) h k
+    pub all_at : (ss : Slots K) → EachAt ss → All P ss
+    all_at ss w i d h = subst P (get_or_any ss i None d h) (w i)
 
-  vacated_within : (found : Option ℕ) (ss : Slots K) → WithinAt ss → WithinAt (with_vacancy found ss)
-  vacated_within None ss w = w
-  vacated_within (Some i) ss w = set_within ss i None w tt
+    each_set : (ss : Slots K) (i : ℕ) (new : Option (Holder K)) → EachAt ss → P new → EachAt (set ss i new)
+    each_set [] i new w h k = w k
+    each_set (s ∷ ss) zero new w h zero = h
+    each_set (s ∷ ss) zero new w h (suc k) = w (suc k)
+    each_set (s ∷ ss) (suc i) new w h zero = w 0
+    each_set (s ∷ ss) (suc i) new w h (suc k) = each_set ss i new (λ j. w (suc j)) h k
 
-  lessee_within : (eqk : K → K → Bool) (client : Option K) (ss : Slots K) → WithinAt ss → WithinAt (without_lessee eqk client ss)
-  lessee_within eqk None ss w = w
-  lessee_within eqk (Some client) ss w = vacated_within (position (is_clients eqk client) ss) ss w
+    each_vacated : (found : Option ℕ) (ss : Slots K) → EachAt ss → EachAt (with_vacancy found ss)
+    each_vacated None ss w = w
+    each_vacated (Some i) ss w = each_set ss i None w none
+
+    each_without : (eqk : K → K → Bool) (client : Option K) (ss : Slots K) → EachAt ss → EachAt (without_lessee eqk client ss)
+    each_without eqk None ss w = w
+    each_without eqk (Some client) ss w = each_vacated (position (is_clients eqk client) ss) ss w
+
+    pub all_with : (eqk : K → K → Bool) (i : ℕ) (new : Option (Holder K)) (ss : Slots K) → All P ss → P new → All P (with_slot eqk i new ss)
+    all_with eqk i new ss w h =
+        all_at (with_slot eqk i new ss) (each_set (without_lessee eqk (client_of new) ss) i new (each_without eqk (client_of new) ss (at_each ss w)) h)
 
   pub slot_within : (eqk : K → K → Bool) (i : ℕ) (new : Option (Holder K)) (ss : Slots K) → AreWithin ss → IsWithin new → AreWithin (with_slot eqk i new ss)
-  slot_within eqk i new ss w h =
-      are_within (with_slot eqk i new ss) (set_within (without_lessee eqk (client_of new) ss) i new (lessee_within eqk (client_of new) ss (within_at ss w)) h)
+  slot_within eqk i new ss w h = all_with IsWithin tt eqk i new ss w h
+
+  -- ---- offers end within the limit
+
+  pub slot_offered_within : (eqk : K → K → Bool) (i : ℕ) (new : Option (Holder K)) (ss : Slots K) → AreOffersWithin ss → IsOfferedWithin new → AreOffersWithin (with_slot eqk i new ss)
+  slot_offered_within eqk i new ss w h = all_with IsOfferedWithin tt eqk i new ss w h
+
+  pub no_offer_within : (s : Option (Holder K)) → offered_to s ≡ None → IsOfferedWithin s
+  no_offer_within None e = tt
+  no_offer_within (Some (Bound k u)) e = tt
+  no_offer_within (Some (Offered k u)) e = absurd cc
+  no_offer_within (Some (Barred u)) e = tt
+
+  pub no_offers_within : (ss : Slots K) → ((i : ℕ) → offered_to (get_or ss i None) ≡ None) → AreOffersWithin ss
+  no_offers_within ss none = all_at IsOfferedWithin tt ss (λ i. no_offer_within (get_or ss i None) (none i))
+
+  -- a slot's end, whoever holds it
+  until_within : (s : Option (Holder K)) → IsWithin s → IsOfferedWithin s → IfSome (option_map until_of s) (λ until. until ≤ last_until)
+  until_within None w o = tt
+  until_within (Some (Bound k u)) w o = w
+  until_within (Some (Offered k u)) w o = o
+  until_within (Some (Barred u)) w o = w
+
+  pub ends_within : (ss : Slots K) (i : ℕ) → AreWithin ss → AreOffersWithin ss → IfSome (option_map until_of (get_or ss i None)) (λ until. until ≤ last_until)
+  ends_within ss i w o = until_within (get_or ss i None) (at_each IsWithin tt ss w i) (at_each IsOfferedWithin tt ss o i)
 
   -- ---- slots that show the same maps
 

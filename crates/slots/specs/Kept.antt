@@ -24,12 +24,22 @@ module _ {K : Type 0} where
   same_client eqk (Some (Bound a _)) (Some (Bound b _)) = eqk a b
   same_client eqk _ _ = false
 
-  -- held until a moment within the limit of what a region keeps
+  -- a binding or a bar that ends within the limit of what a region keeps
   abbrev pub IsWithin : Option (Holder K) → Type 0
   IsWithin None = Unit {0}
   IsWithin (Some (Bound key until)) = until ≤ last_until
-  IsWithin (Some (Offered key until)) = until ≤ last_until
+  IsWithin (Some (Offered key until)) = Unit {0}
   IsWithin (Some (Barred until)) = until ≤ last_until
 
   abbrev pub AreWithin : List (Option (Holder K)) → Type 0
   AreWithin slots = All IsWithin slots
+
+  -- an offer that ends within the same limit: it is in memory only, but the table of deadlines has its end too
+  abbrev pub IsOfferedWithin : Option (Holder K) → Type 0
+  IsOfferedWithin None = Unit {0}
+  IsOfferedWithin (Some (Bound key until)) = Unit {0}
+  IsOfferedWithin (Some (Offered key until)) = until ≤ last_until
+  IsOfferedWithin (Some (Barred until)) = Unit {0}
+
+  abbrev pub AreOffersWithin : List (Option (Holder K)) → Type 0
+  AreOffersWithin slots = All IsOfferedWithin slots

@@ -1,7 +1,7 @@
 use Rattle.std.proofs.Common.{◌∙◌, ap, sym, subst}
-use Rattle.slots.specs.Kept.{AreWithin}
+use Rattle.slots.specs.Kept.{AreWithin, AreOffersWithin}
 use Rattle.bindings_v4.specs.Slots4.{PoolSlots, with_kept}
-use Rattle.bindings_v4.proofs.LimitLemmas.{committed_within}
+use Rattle.bindings_v4.proofs.LimitLemmas.{committed_within, committed_offers}
 use Rattle.bindings_v4.proofs.RowLemmas.{are_committed}
 use Rattle.bindings_v4.proofs.book4.Book4.commit.Goals as goal
 
@@ -13,5 +13,11 @@ invariant_of-self c =
 pub returns-clause-within : goal.returns-clause-within
 returns-clause-within c =
     let d = c.args.decision.now in
-    λ within keep offer. committed_within d.offer d.keep c.self.inside.slots _ (c.write_kept.ensures ∙ ap (with_kept d.keep) c.write_offer.ensures)
-    (subst (λ (v : PoolSlots). AreWithin v.slots) (sym c.self.view_is) within) keep offer
+    λ within keep. committed_within d.offer d.keep c.self.inside.slots _ (c.write_kept.ensures ∙ ap (with_kept d.keep) c.write_offer.ensures)
+    (subst (λ (v : PoolSlots). AreWithin v.slots) (sym c.self.view_is) within) keep
+
+pub returns-clause-offers : goal.returns-clause-offers
+returns-clause-offers c =
+    let d = c.args.decision.now in
+    λ within offer. committed_offers d.offer d.keep c.self.inside.slots _ (c.write_kept.ensures ∙ ap (with_kept d.keep) c.write_offer.ensures)
+    (subst (λ (v : PoolSlots). AreOffersWithin v.slots) (sym c.self.view_is) within) offer

@@ -1,5 +1,5 @@
 use Rattle.std.proofs.Common.{◌∙◌, ap, length, arith}
-use Rattle.bindings_v4.proofs.KeptLemmas.{begun_distinct, begun_slots, begun_book, begun_kept, begun_within}
+use Rattle.bindings_v4.proofs.KeptLemmas.{begun_distinct, begun_slots, begun_book, begun_kept, begun_within, begun_offers}
 use Rattle.bindings_v4.proofs.book4.Book4.new.Goals as goal
 
 pub of-requires : goal.of-requires
@@ -25,6 +25,10 @@ returns-clause-book c =
 pub returns-clause-within : goal.returns-clause-within
 returns-clause-within c =
     begun_within c.args.pool c.args.slots.now c.seconds.result c.count.result c.of.result c.seconds.ensures.value c.count.ensures.value (c.of.ensures ∙ c.live_holders-holders.ensures.holders)
+
+pub returns-clause-offers : goal.returns-clause-offers
+returns-clause-offers c =
+    begun_offers c.args.pool c.args.slots.now c.seconds.result c.count.result c.of.result c.seconds.ensures.value c.count.ensures.value (c.of.ensures ∙ c.live_holders-holders.ensures.holders)
 
 pub returns-clause-kept : goal.returns-clause-kept
 returns-clause-kept c =
