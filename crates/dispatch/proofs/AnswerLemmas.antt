@@ -1,6 +1,6 @@
 -- What a circuit answers to a message, by what its open circuit decides.
 use Rattle.std.proofs.Common.{◌≡◌, ℕ, ◌+◌, ◌==◌, ◌&&◌, nat_lt, Bool, true, false, not, refl, sym, ap, subst, ◌∙◌, Ok, Err, Result, is_ok, arith}
-use Rattle.std.specs.Prelude.{Option, Some, None, if◌then◌else◌}
+use Rattle.std.specs.Prelude.{Option, Some, None, IfErr, if◌then◌else◌}
 use Rattle.std.proofs.lemmas.Bool.{lt-ltb, le-ltb}
 use Rattle.types.specs.Delivery.{DeliveryValue}
 use Rattle.types.specs.declared.discard.Discard.TheVariants.{DiskFault}
@@ -11,6 +11,14 @@ use Rattle.dispatch.specs.Leases.{Leases, after_datagram, kept, restarts_of, res
 use Rattle.dispatch.specs.Received.{after_save, answered, circuit_saves, fails_at, saves}
 use Rattle.dispatch.specs.Server.{Book, Served, book_at, datagram_served, served}
 use Rattle.dispatch.specs.ServerValue.{CircuitServerValue, OpenCircuitValue, book_of, leases_of, open_book}
+
+-- ---- by whom a datagram is for
+
+pub because_err : {T E : Type 0} (P : E → Type 0) (r : Result T E) (why : E) → r ≡ Err why → P why → IfErr r P
+because_err P r why e holds = subst (λ x. IfErr x P) (sym e) holds
+
+pub because_ok : {T E : Type 0} (P : E → Type 0) (r : Result T E) (x : T) → r ≡ Ok x → IfErr r P
+because_ok P r x e = subst (λ y. IfErr y P) (sym e) tt
 
 -- ---- what is served
 

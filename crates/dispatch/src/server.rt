@@ -2,6 +2,7 @@
 ghost use Rattle.std.specs.Prelude.{◌≡◌, ◌<◌, ◌≤◌, ◌+◌, ◌*◌, ◌↔◌, [], ℕ, List, length, map, slice_get, All, Some, true, false, is_some, nat_lt, count_by, IfOk, IfErr, OnErr};
 ghost use Rattle.config.specs.CircuitPart as parts;
 ghost use Rattle.config.specs.CircuitPart.{IsPart, parts_of};
+ghost use Rattle.dispatch.specs.Addressee as who;
 ghost use Rattle.dispatch.specs.Deadlines.{HoldsDeadlines, swept};
 ghost use Rattle.dispatch.specs.Leases.{AreSynced, HasRegions, after_tick, found_leases, received_leases};
 ghost use Rattle.dispatch.specs.Received.{IsAnswer, fails_at, received, received_saves};
@@ -160,6 +161,9 @@ impl Server {
         // Over every device: the save fails where the device counts a failure.
         ensures answer { IsAnswer (received self.old.relays (parts_in self.old) (delivery proto source now datagram.now) (nat_lt (D.device disk.old).failures (D.device disk.new).failures) (books_in self.old)).answer result out.new }
         ensures books { books_in self.new ≡ (received self.old.relays (parts_in self.old) (delivery proto source now datagram.now) (nat_lt (D.device disk.old).failures (D.device disk.new).failures) (books_in self.old)).books }
+
+        // A datagram of no circuit is refused for that reason and changes nothing, not even a clock.
+        ensures unchanged { IfErr (who.addressee self.old.relays (parts_in self.old) proto source datagram.now) (λ why. (result ≡ Err why) × (self.new ≡ self.old) × (D.device disk.new ≡ D.device disk.old)) }
 
         // Over a device that tells its bytes: when the save fails, and what restarts then find.
         ensures fails { D.tells ≡ true → nat_lt (D.device disk.old).failures (D.device disk.new).failures ≡ fails_at (D.device disk.old).fuse (received_saves self.old.relays (parts_in self.old) (delivery proto source now datagram.now) (books_in self.old)) }

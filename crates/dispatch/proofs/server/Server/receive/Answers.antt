@@ -12,7 +12,7 @@ use Rattle.dispatch.specs.Received.{Received, IsAnswer, addressee_answered, addr
 use Rattle.dispatch.specs.ServerValue.{CircuitServerValue, HasItsPools, IsReady, IsReadyFor, OpenCircuitValue, ServerValue, book_of, books_in, leases_in, leases_of, part_of, parts_in, with_states}
 use Rattle.dispatch.specs.Deadlines.{HoldsDeadlines}
 use Rattle.dispatch.specs.Ticked.{state_of}
-use Rattle.dispatch.proofs.AnswerLemmas.{not_more}
+use Rattle.dispatch.proofs.AnswerLemmas.{because_err, because_ok, not_more}
 use Rattle.dispatch.proofs.DeadlineLemmas.{one_held}
 use Rattle.dispatch.proofs.ReceivedLemmas.{received_at, leases_at, saves_at}
 use Rattle.dispatch.proofs.ServerLemmas.{all_moved, one_moved}
@@ -50,6 +50,9 @@ returns-in-Err-clause-leases g c tells =
     let device = g.D.Disk.device c.args.disk.now in
     ap (addressee_leases (parts_in s) (delivery c.args.proto c.args.source c.args.now c.args.datagram.now) device.fuse (leases_in device.region s)) (sym (none_of g c))
 
+pub returns-in-Err-clause-unchanged : goal.returns-in-Err-clause-unchanged
+returns-in-Err-clause-unchanged g c = because_err _ _ _ (none_of g c) (refl, refl, refl)
+
 -- ---- the server of the datagram's circuit, before
 
 there_in : (g : given.Over) (c : goal.After-answer g) → slice_get c.self.inside.circuits.circuits c.index-index.result ≡ Some c.part-part.result.now
@@ -84,6 +87,9 @@ found : (g : given.Over) (c : goal.After-answer g) → addressee c.self.inside.c
 found g c =
     ap (λ parts. addressee c.self.inside.circuits.relays parts c.args.proto c.args.source c.args.datagram.now) (parts_with c.self.inside.circuits.circuits c.self.inside.servers)
     ∙ c.in-Ok.ensures.circuit ∙ ap Ok (sym c.index-index.ensures.value)
+
+found_in : (g : given.Over) (c : goal.After-answer g) → addressee c.args.self.now.relays (parts_in c.args.self.now) c.args.proto c.args.source c.args.datagram.now ≡ Ok c.index-index.result
+found_in g c = subst (λ (s : ServerValue). addressee s.relays (parts_in s) c.args.proto c.args.source c.args.datagram.now ≡ Ok c.index-index.result) c.self.view_is (found g c)
 
 -- another circuit's region is another one
 elsewhere : (g : given.Over) (c : goal.After-answer g) (k : ℕ) (x : CircuitServerValue) → slice_get (before g c) k ≡ Some x → (k ≡ c.index-index.result → ⊥)
@@ -150,6 +156,9 @@ returns-clause-answer g c =
     subst P c.self.view_is
     (subst Q (sym (received_at c.self.inside.circuits.relays (map part_of (before g c)) (delivery c.args.proto c.args.source c.args.now c.args.datagram.now) c.index-index.result x.part (found g c) (its part_of g c) fails (map book_of (before g c)) (book_of x) (its book_of g c)))
     c.answer.ensures.answer)
+
+pub returns-clause-unchanged : goal.returns-clause-unchanged
+returns-clause-unchanged g c = because_ok _ _ _ (found_in g c)
 
 pub returns-clause-books : goal.returns-clause-books
 returns-clause-books g c =
