@@ -43,14 +43,14 @@ pub(crate) struct OpenCircuit {
 }
 
 impl Model for OpenCircuit {
-    ghost use Rattle.slots.specs.Kept.{AreWithin};
+    ghost use Rattle.slots.specs.Kept.{AreOffersWithin, AreWithin};
     ghost use Rattle.dispatch.specs.ServerValue.{OpenCircuitValue};
 
     ghost Value = { OpenCircuitValue };
 
     ghost view = { λ o. record { clock = o.clock; four = o.four; six = o.six; marks = o.marks } };
 
-    ghost invariant = { λ o. AreWithin o.four.slots × AreWithin o.six.slots };
+    ghost invariant = { λ o. AreWithin o.four.slots × AreWithin o.six.slots × AreOffersWithin o.four.slots × AreOffersWithin o.six.slots };
 }
 
 impl OpenCircuit {
