@@ -1,11 +1,11 @@
 -- What is kept of slots, and which slots begin a book.
 use Rattle.std.proofs.Common.{◌≡◌, ℕ, zero, suc, ◌+◌, ◌-◌, ◌<◌, ◌≤◌, Bool, true, false, not, ◌&&◌, ◌||◌, cond, List, [], ◌∷◌, ◌++◌, length, map, take, replicate, set, get_or, ltb, ltb-false, refl, sym, ap, subst, ◌∙◌, arith}
 use borrow.Author.Tests.{ltb-true}
-use Rattle.std.specs.Prelude.{Option, Some, None, All, IfSome, option_map}
+use Rattle.std.specs.Prelude.{Option, Some, None, All}
 use Rattle.std.specs.declared.cmp.Ordering.{Ordering}
 use Rattle.std.specs.List.{list_any, position}
 use Rattle.std.proofs.lemmas.List.{get_or_past}
-use Rattle.types.specs.Slots.{last_until, none_twice}
+use Rattle.types.specs.Slots.{none_twice}
 use Rattle.slots.specs.declared.holder.Holder.{Holder}
 use Rattle.slots.specs.declared.holder.Holder.TheVariants.{Bound, Offered, Barred}
 use Rattle.slots.specs.Kept.{unoffered, kept, kept_slots, same_client, IsWithin, AreWithin, IsOfferedWithin, AreOffersWithin}
@@ -184,16 +184,6 @@ module _ {K : Type 0} where
 
   pub no_offers_within : (ss : Slots K) → ((i : ℕ) → offered_to (get_or ss i None) ≡ None) → AreOffersWithin ss
   no_offers_within ss none = all_at IsOfferedWithin tt ss (λ i. no_offer_within (get_or ss i None) (none i))
-
-  -- a slot's end, whoever holds it
-  until_within : (s : Option (Holder K)) → IsWithin s → IsOfferedWithin s → IfSome (option_map until_of s) (λ until. until ≤ last_until)
-  until_within None w o = tt
-  until_within (Some (Bound k u)) w o = w
-  until_within (Some (Offered k u)) w o = o
-  until_within (Some (Barred u)) w o = w
-
-  pub ends_within : (ss : Slots K) (i : ℕ) → AreWithin ss → AreOffersWithin ss → IfSome (option_map until_of (get_or ss i None)) (λ until. until ≤ last_until)
-  ends_within ss i w o = until_within (get_or ss i None) (at_each IsWithin tt ss w i) (at_each IsOfferedWithin tt ss o i)
 
   -- ---- slots that show the same maps
 
