@@ -1,4 +1,4 @@
-ghost use Rattle.std.specs.Prelude.{◌≡◌, [], ◌∷◌, length, OnOk, OnSome};
+ghost use Rattle.std.specs.Prelude.{◌≡◌, ◌≤◌, ◌<◌, [], ◌∷◌, length, OnOk, OnSome};
 ghost use Rattle.lease_disk.specs.Model.{state_of};
 ghost use Rattle.lease_disk.specs.Region.{IsClean};
 ghost use Rattle.lease_disk.specs.Save.{AreMarks, Fits};
@@ -8,7 +8,7 @@ use crate::save_tests::{Change, bound, formatted_disk, keep, lease_at, leased_at
 use lease_disk::*;
 use std::alloc::Global;
 use std::test::Fail;
-use types::{Moment, Slot4, Slots};
+use types::{Key6, Moment, Slot4, Slot6, Slots};
 
 /// Where the device stops: in its k-th call, or in none where k is 0; and what its unsynced bytes then
 /// become, which stay as they read where there is no byte, as by a stop between two calls.
@@ -178,6 +178,79 @@ const BYTES: [Option<u8>; 7] = [
     Some(0xff),
     None,
 ];
+
+/// A DHCPv6 client, which has a DUID that ends with this byte, bound until 702.
+fn bound6(client: u8) -> Slot6 {
+    let duid = [0, 3, 0, 1, 2, 0, 0, 0, 0, client];
+    Slot6::Bound(Key6::new(&duid, 1).unwrap(), 702)
+}
+
+/// What a DHCPv6 slot holds from a clock on.
+fn change6(clock: u16, slot: usize, content: Slot6) -> Change
+    requires from { 16 ≤ slot }
+    requires below { slot < 32 }
+    ensures { Fits result.slot result.content }
+{
+    Change {
+        clock: Moment::new(u64::from(clock)).unwrap(),
+        slot,
+        content: Content::Six(content),
+    }
+}
+
+/// Whether this change, behind two saves of slot 16 at 100 and 101, leaves the slots that it should where it
+/// stops there.
+fn is_kept6(
+    alloc: Global,
+    change: &Change,
+    before: &Slots,
+    after: &Slots,
+    cut: Cut,
+) -> Result<bool, Fail>
+    requires fits { Fits change.now.slot change.now.content }
+{
+    let (mut disk, mut marks) = formatted_disk(alloc)?;
+    keep(&mut disk, &mut marks, &change6(100, 16, Slot6::Barred(702)))?;
+    keep(&mut disk, &mut marks, &change6(101, 16, bound6(2)))?;
+    let Some(found) = stop(&mut disk, &mut marks, change, cut) else {
+        return Ok(false);
+    };
+    let expected = if cut.leaves_new() { after } else { before };
+    Ok(are_same(&found, expected))
+}
+
+/// Where a save that leaves this in a DHCPv6 slot at clock 102 stops and leaves other slots than it should.
+fn wrong_cut6(alloc: Global, slot: usize, content: Slot6) -> Result<Option<Cut>, Fail>
+    requires from { 16 ≤ slot }
+    requires below { slot < 32 }
+{
+    let mut before = empty();
+    before.clock = Moment::new(101).unwrap();
+    before.six[0] = bound6(2);
+    let mut after = before;
+    after.clock = Moment::new(102).unwrap();
+    after.six[slot - 16] = content;
+    let change = change6(102, slot, content);
+    for byte in BYTES {
+        for k in 0..7 {
+            let cut = Cut { k, byte };
+            if !is_kept6(alloc, &change, &before, &after, cut)? {
+                return Ok(Some(cut));
+            }
+        }
+    }
+    Ok(None)
+}
+
+#[test]
+fn stops_while_a_dhcpv6_slot_is_saved(rt: HostRuntime) -> Result<(), Fail> {
+    // the lease is released, the address declined, and given to another client, who also gets the last one
+    assert!(rt; wrong_cut6(rt.alloc(), 16, Slot6::Free)? == None);
+    assert!(rt; wrong_cut6(rt.alloc(), 16, Slot6::Barred(702))? == None);
+    assert!(rt; wrong_cut6(rt.alloc(), 16, bound6(3))? == None);
+    assert!(rt; wrong_cut6(rt.alloc(), 31, bound6(3))? == None);
+    Ok(())
+}
 
 #[test]
 fn two_stops_from_a_formatted_region(rt: HostRuntime) -> Result<(), Fail> {

@@ -161,4 +161,15 @@ fn a_relay_behind_the_relay(rt: HostRuntime) {
             assert!(rt; receive(&rt, &mut bench, 6801, parts, 100) == Err(why));
         }
     }
+
+    // the whole of one, with a Solicit inside that is answered where no relay's message is around it
+    let whole = joined([
+        &[0, 9, 0, 77, 12, 0],
+        LINK,
+        &[9; 16],
+        A,
+        SOLICIT_OF_A_CLIENT,
+    ]);
+    let parts = [&[12, 0], LINK, &[9; 16], A, whole.as_slice()];
+    assert!(rt; receive(&rt, &mut bench, 6801, parts, 100) == Err(Discard::NotServed));
 }

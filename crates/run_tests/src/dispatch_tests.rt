@@ -2,7 +2,7 @@
 use crate::bench::{Bench, disk_of};
 use dispatch::OpenFault;
 use fixtures::{ONE_CIRCUIT, TWO_CIRCUITS};
-use std::alloc::AllocError;
+use std::alloc::{AllocError, Global};
 use std::process::Abort;
 use types::{Discard, Proto};
 use wire::PacketBuf;
@@ -111,6 +111,11 @@ fn an_offer_expires_by_the_circuits_clock(rt: HostRuntime) {
 }
 
 /// Circuits `a` and `a1` behind relay `r1`, and a relay `r2` without circuits.
+pub fn two_relays(alloc: Global) -> Result<String, AllocError> {
+    let two = "[[relay]]\nname = 'r2'\nsource = '127.0.0.1:6802'\n[[circuit]]\nid = 'a'\n";
+    TWO_CIRCUITS.replace(alloc, "[[circuit]]\nid = 'a'\n", two)
+}
+
 #[test]
 #[rattlefmt::skip]
 fn reasons_among_two_circuits(rt: HostRuntime) -> Result<(), AllocError> {
@@ -126,8 +131,7 @@ fn reasons_among_two_circuits(rt: HostRuntime) -> Result<(), AllocError> {
         (6801, [10, 0, 0, 1], &[82, 9, 1, 1, 97, 11, 4, 10, 0, 1, 1, 255],           Err(Discard::NoOverride)),
         (6801, [10, 0, 0, 1], &[82, 12, 1, 1, 97, 1, 1, 97, 11, 4, 10, 0, 0, 1, 255], Err(Discard::Malformed)),
     ];
-    let two = "[[relay]]\nname = 'r2'\nsource = '127.0.0.1:6802'\n[[circuit]]\nid = 'a'\n";
-    let text = TWO_CIRCUITS.replace(rt.alloc(), "[[circuit]]\nid = 'a'\n", two)?;
+    let text = two_relays(rt.alloc())?;
     for (port, giaddr, rest, expected) in rows {
         let mut bench = Bench::new(&rt, rt.alloc(), text.as_str());
         let datagram = message(1, 1, giaddr, rest);

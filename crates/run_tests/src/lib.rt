@@ -16,4 +16,6 @@ mod noise_tests;
 #[cfg(test)]
 mod relay_tests;
 #[cfg(test)]
+mod reply_tests;
+#[cfg(test)]
 mod world_tests;
