@@ -13,8 +13,6 @@ from mutations import mutated, relayed
 STRANGER = "127.0.0.2"
 # the length of a random datagram: the relay takes 1024 bytes and the server 1280
 LONGEST = 1300
-# how long a paced attack lasts at least, in seconds
-LEAST = 1.0
 # datagrams between two looks at the sockets, and how many bytes may wait in one of them for the next ones to be sent
 BATCH, ROOM = 200, 60_000
 # the first of the clients that flood a circuit
@@ -79,17 +77,17 @@ def everything(pick, target):
     return itertools.cycle([next(kind) for _ in range(200) for kind in kinds])
 
 
-def send_all(kind, target, seed, count, is_paced):
-    """Sends so many datagrams of a kind, from an address of its own and from one with the relay's port. Where it is paced
-    it takes its time, and sends no more than the sockets have room for."""
+def send_all(kind, target, seed, count, seconds, is_paced):
+    """Sends so many datagrams of a kind in these seconds at least, from an address of its own and from one with the relay's
+    port. Where it is paced it sends no more than the sockets have room for."""
     pick = random.Random(seed)
     ends = [socket.socket(socket.AF_INET, socket.SOCK_DGRAM) for _ in range(2)]
-    if is_paced:
-        ends[1].bind((STRANGER, target.relay))
+    ends[1].setsockopt(socket.SOL_SOCKET, socket.SO_REUSEADDR, 1)
+    ends[1].bind((STRANGER, target.relay))
     began = time.monotonic()
     for number, (port, data) in enumerate(itertools.islice(kind(pick, target), count)):
-        if is_paced and number % BATCH == 0:
-            time.sleep(max(0, began + LEAST * number / count - time.monotonic()))
-            while not target.has_room():
+        if number % BATCH == 0:
+            time.sleep(max(0, began + seconds * number / count - time.monotonic()))
+            while is_paced and not target.has_room():
                 time.sleep(0.0002)
         ends[number % 2].sendto(data, (LOOPBACK, port))

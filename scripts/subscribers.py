@@ -8,15 +8,14 @@ import time
 from client import Answer, Answer6, Circuit
 from load import Client4, Client6
 
-# seconds until a message is sent again, and how often that is done at most; together longer than the server may be held up
-# on a busy machine
-PATIENCE = 0.1
-REPEATS = 30
-# seconds between two exchanges of a client
-REST = 0.02
-# seconds without an answer to anybody after which those that wait are not answered
-SILENCE = 0.5
-# the first number of a client, far from those of random_frames.py, so that no fault in one of its frames makes it another's
+# seconds until a message is sent again, which double each time up to the longest, and how often that is done at most
+PATIENCE, LONG_PATIENCE, REPEATS = 0.2, 0.8, 12
+# seconds between two exchanges of whomever: three of four save a lease, and a slow disk takes 12 ms for that
+REST = 0.015
+# seconds without an answer to anybody after which those that wait are not answered: where that is expected of them, and
+# where it may be that the machine is busy
+SILENCE, LONG_SILENCE = 0.3, 3
+# the number of each circuit's first client, far from those of random_frames.py, so that no fault in one of its frames makes it another's
 FIRST = 0x5A5A5A00
 
 
@@ -54,7 +53,7 @@ class Subscriber:
         self.line, self.steps = line, steps
         self.client = line.kind(number)
         line.subscribers[number] = self
-        self.due = 0.0
+        self.due = self.rest = 0.0
         # of the exchanges that were answered, in milliseconds from the first time that the message was sent
         self.latencies, self.repeats = [], 0
         self.restart()
@@ -76,7 +75,7 @@ class Subscriber:
         if what == "release":
             # from here on the server may have freed it
             self.client.held, self.client.waits_for = None, None
-            self.due = self.sent + REST
+            self.due = self.sent + self.rest
 
     def rests(self):
         """Whether its next exchange is due."""
@@ -85,7 +84,7 @@ class Subscriber:
     def gives_up(self, most):
         """Sends its message again where it has waited for long, or gives up where it has so often enough."""
         now = time.monotonic()
-        if not self.waits() or now - self.sent <= PATIENCE:
+        if not self.waits() or now - self.sent <= min(PATIENCE * 2 ** min(self.sent_again, 9), LONG_PATIENCE):
             return False
         if self.sent_again >= most:
             self.client.waits_for = None
@@ -98,7 +97,7 @@ class Subscriber:
     def take(self, answer, faults):
         now = time.monotonic()
         client = self.client
-        client.waits_for, self.due = None, now + REST
+        client.waits_for, self.due = None, now + self.rest
         self.latencies.append((now - client.since) * 1000)
         meaning = client.meaning(answer)
         if meaning != ("offer" if client.asks == "ask" else "lease"):
@@ -129,12 +128,13 @@ class Crowd:
                 self.ready.register(line.end, select.EPOLLIN)
         self.steps = {index: ("ask", "take", "renew", "release" if may_release(index) else "renew")
                       for index in range(circuits)}
-        self.join()
+        self.join(self.steps)
 
-    def join(self):
-        """One subscriber more on each line, which leases."""
+    def join(self, circuits):
+        """One subscriber more for each protocol of each of these circuits, which leases."""
         number = next(self.numbers)
-        self.subscribers += [Subscriber(line, number, self.steps[line.index]) for line in self.lines.values()]
+        self.subscribers += [Subscriber(line, number, self.steps[line.index])
+                             for line in self.lines.values() if line.index in circuits]
         self.settle()
 
     def take(self):
@@ -145,6 +145,9 @@ class Crowd:
 
     def run(self, goes_on, excused=nobody):
         """Lets everybody lease and renew as long as this is true. Whoever gives up and is not excused is a fault."""
+        for place, subscriber in enumerate(self.subscribers):
+            subscriber.due = time.monotonic() + place * REST
+            subscriber.rest = len(self.subscribers) * REST
         while goes_on():
             for subscriber in self.subscribers:
                 if subscriber.rests():
@@ -168,12 +171,13 @@ class Crowd:
             subscriber.begin(what)
         return self.finish(subscribers)
 
-    def once(self, what):
-        """Everybody sends this, and nobody again. Returns those that wait still when no answer came for a while."""
-        for subscriber in self.subscribers:
+    def once(self, what, subscribers, is_expected):
+        """Each of them sends this once. Returns those that wait still when no answer came for a while: a short one where
+        they are expected to be those."""
+        for subscriber in subscribers:
             subscriber.begin(what)
-        waiting, since = self.subscribers, time.monotonic()
-        while waiting and time.monotonic() - since < SILENCE:
+        waiting, since = subscribers, time.monotonic()
+        while waiting and time.monotonic() - since < (SILENCE if is_expected(waiting) else LONG_SILENCE):
             self.take()
             left = [subscriber for subscriber in waiting if subscriber.waits()]
             if len(left) < len(waiting):
