@@ -27,7 +27,7 @@ class Target:
         self.ports = [*circuit.values(), *listen.values(), relay]
 
     def queues(self):
-        """The bytes that wait at each port, and how many datagrams were lost there, as far as the system tells (proc_net)."""
+        """The bytes that wait at each port, and how many datagrams were lost there, where the system tells."""
         try:
             lines = pathlib.Path("/proc/net/udp").read_text().splitlines()[1:]
         except OSError:

@@ -1,5 +1,5 @@
 """Clients of both protocols that lease and renew all the time over the circuits of an `accessd`, for scripts/flood: whether
-each message is answered, how long that takes and how often it is sent again, and whether a client keeps its address alone."""
+each message is answered, how long that takes, how often it is sent again, and whether a client alone keeps its address."""
 import itertools
 import math
 import select
@@ -15,7 +15,7 @@ REST = 0.015
 # seconds without an answer to anybody after which those that wait are not answered: where that is expected of them, and
 # where it may be that the machine is busy
 SILENCE, LONG_SILENCE = 0.3, 3
-# the number of each circuit's first client, far from those of random_frames.py, so that no fault in one of its frames makes it another's
+# the number of each circuit's first client, so far from those of random_frames.py that no fault in a frame turns one into it
 FIRST = 0x5A5A5A00
 
 
