@@ -34,10 +34,11 @@ class Line:
         self.subscribers = {}
 
     def take(self, datagram, faults):
-        """An answer to a subscriber or to another client of the circuit: nobody else holds what it gives."""
+        """An answer to a subscriber or to another client of the circuit: nobody else holds what it gives. With a lifetime of 0
+        it gives nothing, but tells a client that an address is not its own."""
         answer = self.read(datagram)
         for number, other in self.subscribers.items():
-            if other.client.held and other.client.held == answer.address and number != answer.client:
+            if answer.lease and other.client.held == answer.address and number != answer.client:
                 faults.append(f"{other} holds what client {answer.client:x} is given: {answer}")
         subscriber = self.subscribers.get(answer.client)
         if subscriber and answer.xid == subscriber.client.waits_for:
