@@ -1,5 +1,6 @@
 """Clients of a circuit of `accessd`, of both protocols, for the scripts beside this file."""
 import ipaddress
+import re
 import socket
 import struct
 import subprocess
@@ -132,6 +133,12 @@ class Circuit:
     def close(self):
         self.socket.close()
         self.socket6.close()
+
+
+def roomy(text):
+    """A configuration with pools of 16 addresses, and with leases that outlive a script."""
+    text = re.sub(r"^count([46]) = .*", r"count\1 = 16", text, flags=re.M)
+    return re.sub(r"^lease = .*", "lease = 86400", text, flags=re.M)
 
 
 class Server:

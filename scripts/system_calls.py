@@ -47,7 +47,7 @@ class Watch:
 
     def __init__(self):
         self.calls = []
-        self.left = 0
+        self.left, self.failing = 0, ()
 
     def start(self, command, **how):
         """Starts the program, as subprocess.Popen does."""
@@ -60,9 +60,9 @@ class Watch:
         threading.Thread(target=self.answer_all, args=descriptors, daemon=True).start()
         return process
 
-    def fail(self, k):
-        """The k-th call from now on fails with EIO."""
-        self.left = k
+    def fail(self, k, names=tuple(NUMBERS)):
+        """The k-th call of these names from now on fails with EIO."""
+        self.left, self.failing = k, names
 
     def since(self, count):
         """The calls after the first so many."""
@@ -80,9 +80,11 @@ class Watch:
                 # the program ended
                 continue
             number, _, _, call = struct.unpack_from("QIIi", question)
-            self.left -= 1
-            self.calls.append(names[call] + (" fails" if self.left == 0 else ""))
-            how = (-errno.EIO, 0) if self.left == 0 else (0, CONTINUE)
+            counts = names[call] in self.failing
+            self.left -= counts
+            fails = counts and self.left == 0
+            self.calls.append(names[call] + (" fails" if fails else ""))
+            how = (-errno.EIO, 0) if fails else (0, CONTINUE)
             try:
                 fcntl.ioctl(descriptor, ANSWER, struct.pack("QqiI", number, 0, *how))
             except OSError:
