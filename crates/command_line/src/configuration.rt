@@ -5,6 +5,7 @@ ghost use Rattle.config.specs.Valid.{IsConfig};
 use crate::status::{REFUSED, UNREADABLE, complain};
 use config::Config;
 use std::fs;
+use std::io::ErrorKind;
 
 /// The configuration that bytes spell. If they are refused, reports why on standard error and returns the
 /// status.
@@ -31,9 +32,14 @@ pub fn read_configuration(rt: &HostRuntime, path: &str) -> Result<Config, u8>
     ensures value { IfOk result (λ config. (text : List ℕ) × IsConfig text config) }
     ensures status { IfErr result (λ status. (status ≡ 2) ⊎ (status ≡ 5)) }
 {
-    let Ok(bytes) = fs::read(rt, path) else {
-        let _ = eprint!(rt; "{path}: ");
-        return Err(complain(rt, "the file can't be read", UNREADABLE));
-    };
-    configuration_of(rt, &bytes)
+    match fs::read(rt, path) {
+        Ok(bytes) => configuration_of(rt, &bytes),
+        Err(error) if error.kind() == ErrorKind::OutOfMemory => {
+            Err(complain(rt, "config 40\nout of memory", REFUSED))
+        }
+        Err(_) => {
+            let _ = eprint!(rt; "{path}: ");
+            Err(complain(rt, "the file can't be read", UNREADABLE))
+        }
+    }
 }

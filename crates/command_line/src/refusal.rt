@@ -2,6 +2,7 @@
 ghost use Rattle.command_line.specs.Status.{IsRefusedWith};
 
 use crate::status::{FAILED, REFUSED, complain};
+use crate::words::out_of_memory;
 
 /// Why the words of a command line are refused.
 #[derive(Debug, Drop)]
@@ -20,7 +21,7 @@ impl Refusal {
         ensures { IsRefusedWith self.now result }
     {
         match self {
-            Refusal::Memory => complain(rt, "error: out of memory", REFUSED),
+            Refusal::Memory => out_of_memory(rt),
             Refusal::BadValue => complain(rt, "error: a value is missing or out of range", REFUSED),
             Refusal::Usage(error) => {
                 if error.print(rt).is_err() {

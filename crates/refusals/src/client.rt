@@ -1,36 +1,12 @@
-//! A world of one circuit and the clients that it answers.
-use config::Config;
-use fixtures::{ONE_CIRCUIT, client_frame, offer};
-use lease_disk::{Image, ModelDisk};
-use std::alloc::Global;
-use std::fmt;
+//! The clients that a world of one circuit answers.
+use fixtures::{client_frame, offer};
+use lease_disk::Image;
 use types::{Addr4, Circuit, Count, Dest, Discard, Kind4, Moment, Proto};
 use wire::PacketBuf;
 use world::{Event, Outcome, Sink, World};
 
-/// The number of the fault of a configuration that is refused because memory ran out.
-const MEMORY: u8 = 40;
-
 /// Option 54 and option 50 of a client that takes the offer of 10.0.0.10.
 const SELECTING: &[u8] = &[54, 4, 10, 0, 0, 1, 50, 4, 10, 0, 0, 10];
-
-/// Whether the clients were answered as they should be.
-#[derive(Clone, Copy, Debug, PartialEq, Eq)]
-pub enum Judgement {
-    Right,
-    Memory,
-    Wrong,
-}
-
-impl fmt::Display for Judgement {
-    fn fmt<W: fmt::Write>(&self, f: &mut fmt::Formatter<W>) -> fmt::Result {
-        match self {
-            Judgement::Right => f.write_str("right"),
-            Judgement::Memory => f.write_str("memory"),
-            Judgement::Wrong => f.write_str("wrong"),
-        }
-    }
-}
 
 /// A sink that refuses every frame.
 #[derive(Drop)]
@@ -48,26 +24,6 @@ impl Sink for Refusing {
     fn frame(&mut self, _circuit: Circuit, _dest: Dest, _bytes: &[u8]) -> bool {
         self.refusals.tick();
         false
-    }
-}
-
-/// The world, or why it was not opened.
-pub fn opened(alloc: Global) -> Result<World, Judgement> {
-    let config = match Config::read(alloc, ONE_CIRCUIT) {
-        Ok(config) => config,
-        Err(fault) => {
-            if fault.number() == MEMORY {
-                return Err(Judgement::Memory);
-            }
-            return Err(Judgement::Wrong);
-        }
-    };
-    let Ok(disk) = ModelDisk::new(alloc, 1) else {
-        return Err(Judgement::Memory);
-    };
-    match World::open(alloc, &config, disk, 16) {
-        Ok(world) => Ok(world),
-        Err(_) => Err(Judgement::Memory),
     }
 }
 
@@ -154,19 +110,15 @@ fn keeps_a_lease(world: &mut World, circuit: Circuit, moment: Moment) -> bool {
     gives(world, &events, &outcomes)
 }
 
-/// An offer, then faults of the disk and restarts.
-pub fn right(world: &mut World) -> Judgement {
+/// Whether the clients are answered as they should be: an offer, then faults of the disk and restarts.
+pub fn is_served(world: &mut World) -> bool {
     let (Some(circuit), Some(moment)) = (Circuit::new(0), Moment::new(100)) else {
-        return Judgement::Wrong;
+        return false;
     };
     let request = client_frame(Kind4::Request, 1, SELECTING);
     let frame = Event::Frame(circuit, Proto::V4, request.as_slice());
-    if is_offered(world, circuit, moment)
+    is_offered(world, circuit, moment)
         && gives(world, &[frame], &[Outcome::SentUp(267)])
         && loses_leases(world, circuit, moment)
         && keeps_a_lease(world, circuit, moment)
-    {
-        return Judgement::Right;
-    }
-    Judgement::Wrong
 }

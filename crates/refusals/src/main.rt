@@ -1,10 +1,10 @@
-//! Opens a world while one request for memory is refused, and runs it with faults of the disk and
-//! restarts: either all of it is right, or the opening reports that memory ran out. It reads one line:
+//! Opens a world while one request for memory is refused: either all of it is right, or what asked for the
+//! memory reports that it ran out, and does nothing else. It reads one line:
 //!
 //! `refuse K` first makes as many requests as it takes for the K-th of the opening to be the 1000th of
-//! all, and prints `right`, `memory` or `wrong`. `opening` opens a world, `run` also runs it, and
-//! both then print how many further requests are granted before one is refused. Where the two numbers
-//! are equal, a run takes no memory.
+//! all, and prints `right`, or which step reports what. `left STEP` does what is needed for a world up to
+//! this step, `run` also runs the world, and both then print how many further requests are granted before
+//! one is refused. Where the two numbers are equal, a run takes no memory.
 //!
 //! Or it reads a configuration whose first line is `# disk`, `# server` or `# world`, makes a disk, opens
 //! over both what that line names, and prints how many further requests are granted before the 100000th
@@ -13,11 +13,14 @@
 
 mod client;
 mod openings;
+mod steps;
+mod watched;
 
-use client::{Judgement, opened, right};
+use client::is_served;
 use openings::Opening;
 use std::alloc::Global;
 use std::io::{self, Read};
+use steps::{Step, opened};
 
 /// The number of the request that is refused.
 const REFUSED: u32 = 1000;
@@ -35,22 +38,29 @@ fn granted(alloc: Global, most: u32) -> u32 {
     most
 }
 
-/// The judgement of a world whose opening has its request of this number refused.
-fn refused(alloc: Global, number: u32) -> Judgement {
-    granted(alloc, REFUSED.saturating_sub(number));
-    match opened(alloc) {
-        Ok(mut world) => right(&mut world),
-        Err(judgement) => judgement,
-    }
+/// Prints what comes of an opening whose request of this number is refused.
+fn show_refused(rt: &HostRuntime, number: u32) -> io::Result<()> {
+    granted(rt.alloc(), REFUSED.saturating_sub(number));
+    let is_right = match opened(rt.alloc(), Step::World) {
+        Ok(Some(mut world)) => is_served(&mut world),
+        Ok(None) => false,
+        Err(trouble) => return println!(rt; "{trouble}"),
+    };
+    println!(rt; "{}", if is_right { "right" } else { "wrong" })
 }
 
-/// How many requests are granted after an opening, and after a run if there is one.
-fn left(alloc: Global, runs: bool) -> Option<u32> {
-    let mut world = opened(alloc).ok()?;
-    if runs && right(&mut world) != Judgement::Right {
-        return None;
+/// Prints how many requests are granted after the steps up to this one, and after a run if there is one.
+fn show_left(rt: &HostRuntime, step: Step, is_run: bool) -> io::Result<()> {
+    let world = match opened(rt.alloc(), step) {
+        Ok(world) => world,
+        Err(trouble) => return println!(rt; "{trouble}"),
+    };
+    if let Some(mut world) = world {
+        if is_run && !is_served(&mut world) {
+            return println!(rt; "wrong");
+        }
     }
-    Some(granted(alloc, REFUSED))
+    println!(rt; "{}", granted(rt.alloc(), REFUSED))
 }
 
 /// Reads the rest of the configuration that begins with these bytes, opens what its first line names, and
@@ -83,17 +93,15 @@ fn main(rt: HostRuntime) -> io::Result<()> {
     let mut buffer = [0; 32];
     let len = rt.reader().read(&mut buffer)?;
     let line = &buffer[..len];
+    if line.starts_with(b"# ") {
+        return match left_by_opening(&rt, line) {
+            Some(granted) => println!(rt; "{granted}"),
+            None => println!(rt; "wrong"),
+        };
+    }
     if line.starts_with(b"refuse ") {
-        let judgement = refused(rt.alloc(), number(line));
-        return println!(rt; "{judgement}");
+        return show_refused(&rt, number(line));
     }
-    let left = if line.starts_with(b"# ") {
-        left_by_opening(&rt, line)
-    } else {
-        left(rt.alloc(), line.starts_with(b"run"))
-    };
-    match left {
-        Some(granted) => println!(rt; "{granted}"),
-        None => println!(rt; "wrong"),
-    }
+    let step = line.trim_ascii().strip_prefix(b"left ");
+    show_left(&rt, Step::of(step.unwrap_or(b"")), line.starts_with(b"run"))
 }

@@ -5,23 +5,25 @@ use command_line::FAILED;
 use config::Config;
 use fixtures::ONE_CIRCUIT;
 use lab::*;
-use std::alloc::Global;
+use std::alloc::{AllocError, Global};
 use std::io::{self, ErrorKind, Read, Write};
 
-/// How many calls a stream takes before it fails, and whether each is interrupted once before it.
+/// How many calls a stream takes before it fails, how often each is interrupted before it, and how often the
+/// next one still is.
 #[derive(Clone, Copy, Debug)]
 struct Calls {
     left: usize,
-    interrupts: bool,
-    interrupted: bool,
+    interrupts: usize,
+    due: usize,
 }
 
 impl Calls {
     fn take(&mut self) -> io::Result<()> {
-        self.interrupted = self.interrupts && !self.interrupted;
-        if self.interrupted {
+        if self.due > 0 {
+            self.due -= 1;
             return Err(io::Error::from(ErrorKind::Interrupted));
         }
+        self.due = self.interrupts;
         if self.left == 0 {
             return Err(io::Error::from(ErrorKind::WouldBlock));
         }
@@ -70,25 +72,25 @@ impl Write for Writer {
 }
 
 /// A run over a text: how many bytes a read gives and how many reads there are before one fails, the same
-/// for writes, and whether all are interrupted.
+/// for writes, and how often each call is interrupted before it.
 #[derive(Clone, Copy, Debug)]
-struct Row {
-    text: &'static str,
+struct Row<'a> {
+    text: &'a str,
     reads: (usize, usize),
     writes: (usize, usize),
-    interrupts: bool,
+    interrupts: usize,
 }
 
-fn so_many(left: usize, interrupts: bool) -> Calls {
+fn so_many(left: usize, interrupts: usize) -> Calls {
     Calls {
         left,
         interrupts,
-        interrupted: false,
+        due: interrupts,
     }
 }
 
 /// Whether a run writes these lines and ends with this status.
-fn gives(alloc: Global, row: Row, status: u8, lines: &str) -> bool {
+fn gives(alloc: Global, row: Row<'_>, status: u8, lines: &str) -> bool {
     let Ok(config) = Config::read(alloc, ONE_CIRCUIT) else {
         return false;
     };
@@ -135,7 +137,7 @@ fn streams_that_fail(rt: HostRuntime) {
             text,
             reads,
             writes,
-            interrupts: false,
+            interrupts: 0,
         };
         assert!(rt; gives(rt.alloc(), row, status, lines), "{row:?}");
     }
@@ -146,7 +148,7 @@ fn streams_that_fail(rt: HostRuntime) {
 fn pieces_and_interruptions(rt: HostRuntime) {
     let text = "# c\nfill a 5a\ntick 1\n\nframe a 4 00\nup a 0 100 0\ndown a 0\ntick 2\ntick 03\n";
     let lines = "ok\ndrop 2\ngone\ngone\nok\nline 9 bad\n";
-    for (most, interrupts) in [(1, false), (2, false), (7, true), (8192, true)] {
+    for (most, interrupts) in [(1, 0), (2, 0), (7, 1), (8192, 1), (8192, 100_000)] {
         let row = Row {
             text,
             reads: (most, 1000),
@@ -155,4 +157,31 @@ fn pieces_and_interruptions(rt: HostRuntime) {
         };
         assert!(rt; gives(rt.alloc(), row, BAD_LINE, lines), "{row:?}");
     }
+}
+
+/// A comment of 8192 bytes, the longest line that is none too many, or of one more; and a tick.
+fn long_line(alloc: Global, length: usize) -> Result<String, AllocError> {
+    let mut text = String::new(alloc);
+    text.push_str("#")?;
+    for _ in 1..length {
+        text.push_str("x")?;
+    }
+    text.push_str("\ntick 1\n")?;
+    Ok(text)
+}
+
+/// A long line that comes byte by byte, each behind interruptions, some 100,000 in all.
+#[test]
+fn a_long_line_in_pieces(rt: HostRuntime) -> Result<(), AllocError> {
+    for (length, status, lines) in [(8192, DONE, "ok\n"), (8193, BAD_LINE, "line 1 bad\n")] {
+        let text = long_line(rt.alloc(), length)?;
+        let row = Row {
+            text: text.as_str(),
+            reads: (1, 10_000),
+            writes: (1, 100),
+            interrupts: 12,
+        };
+        assert!(rt; gives(rt.alloc(), row, status, lines), "{length} bytes");
+    }
+    Ok(())
 }
