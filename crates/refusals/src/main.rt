@@ -21,6 +21,7 @@ use openings::Opening;
 use std::alloc::Global;
 use std::io::{self, Read};
 use steps::{Step, opened};
+use world::World;
 
 /// The number of the request that is refused.
 const REFUSED: u32 = 1000;
@@ -38,15 +39,22 @@ fn granted(alloc: Global, most: u32) -> u32 {
     most
 }
 
+/// Whether there is a world, and clients are answered in it as they should be.
+fn is_right(world: Option<World>) -> bool {
+    match world {
+        Some(mut world) => is_served(&mut world),
+        None => false,
+    }
+}
+
 /// Prints what comes of an opening whose request of this number is refused.
 fn show_refused(rt: &HostRuntime, number: u32) -> io::Result<()> {
     granted(rt.alloc(), REFUSED.saturating_sub(number));
-    let is_right = match opened(rt.alloc(), Step::World) {
-        Ok(Some(mut world)) => is_served(&mut world),
-        Ok(None) => false,
+    let answer = match opened(rt.alloc(), Step::World) {
+        Ok(world) => { if is_right(world) { "right" } else { "wrong" } }
         Err(trouble) => return println!(rt; "{trouble}"),
     };
-    println!(rt; "{}", if is_right { "right" } else { "wrong" })
+    println!(rt; "{answer}")
 }
 
 /// Prints how many requests are granted after the steps up to this one, and after a run if there is one.
@@ -55,10 +63,8 @@ fn show_left(rt: &HostRuntime, step: Step, is_run: bool) -> io::Result<()> {
         Ok(world) => world,
         Err(trouble) => return println!(rt; "{trouble}"),
     };
-    if let Some(mut world) = world {
-        if is_run && !is_served(&mut world) {
-            return println!(rt; "wrong");
-        }
+    if is_run && !is_right(world) {
+        return println!(rt; "wrong");
     }
     println!(rt; "{}", granted(rt.alloc(), REFUSED))
 }
