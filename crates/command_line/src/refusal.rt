@@ -1,8 +1,7 @@
 //! Refused command lines.
 ghost use Rattle.command_line.specs.Status.{IsRefusedWith};
 
-use crate::status::{FAILED, REFUSED, complain};
-use crate::words::out_of_memory;
+use crate::status::{FAILED, REFUSED, complain, out_of_memory};
 
 /// Why the words of a command line are refused.
 #[derive(Debug, Drop)]

@@ -20,3 +20,10 @@ pub fn complain<D: std::fmt::Display + Drop>(rt: &HostRuntime, why: D, status: u
     let _ = eprintln!(rt; "{why}");
     status
 }
+
+/// Reports that memory ran out before a command line was accepted, and returns the status.
+pub fn out_of_memory(rt: &HostRuntime) -> u8
+    ensures { result ≡ 2 }
+{
+    complain(rt, "error: out of memory", REFUSED)
+}

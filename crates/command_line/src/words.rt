@@ -1,16 +1,9 @@
 //! The words of a command line.
 ghost use Rattle.std.specs.Prelude.{◌≡◌, IfErr};
 
-use crate::status::{REFUSED, complain};
+use crate::status::{REFUSED, complain, out_of_memory};
 use std::env;
 use std::io::ErrorKind;
-
-/// Reports that memory ran out before the words were known, and returns the status.
-pub fn out_of_memory(rt: &HostRuntime) -> u8
-    ensures { result ≡ 2 }
-{
-    complain(rt, "error: out of memory", REFUSED)
-}
 
 /// The words after the program's name. If they can't be read, reports why on standard error and returns
 /// the status.

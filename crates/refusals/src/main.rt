@@ -1,14 +1,14 @@
 //! Opens a world while one request for memory is refused: either all of it is right, or what asked for the
 //! memory reports that it ran out, and does nothing else. It reads one line:
 //!
-//! `refuse K` first makes as many requests as it takes for the K-th of the opening to be the 1000th of
-//! all, and prints `right`, or which step reports what. `left STEP` does what is needed for a world up to
+//! `refuse K` first makes as many requests as it takes for the K-th of the opening to be the one that is
+//! refused, `REFUSED` of all, and prints `right`, or which step reports what. `left STEP` does what is needed for a world up to
 //! this step, `run` also runs the world, and both then print how many further requests are granted before
 //! one is refused. Where the two numbers are equal, a run takes no memory.
 //!
 //! Or it reads a configuration whose first line is `# disk`, `# server` or `# world`, makes a disk, opens
-//! over both what that line names, and prints how many further requests are granted before the 100000th
-//! of all is refused. The difference between its number and that of `# disk` is what the opening made.
+//! over both what that line names, and prints how many further requests are granted before one is refused.
+//! The difference between its number and that of `# disk` is what the opening made.
 #![tactic(auto)]
 
 mod client;
@@ -23,11 +23,8 @@ use std::io::{self, Read};
 use steps::{Step, opened};
 use world::World;
 
-/// The number of the request that is refused.
-const REFUSED: u32 = 1000;
-
-/// The same where a configuration is read, which makes some 25,000 requests for 1024 circuits.
-const REFUSED_LATE: u32 = 100_000;
+/// The number of the request that is refused. The configuration of 1024 circuits makes some 25,000.
+const REFUSED: u32 = 30_000;
 
 /// Makes at most `most` requests until one is refused, and returns how many were granted.
 fn granted(alloc: Global, most: u32) -> u32 {
@@ -79,7 +76,7 @@ fn left_by_opening(rt: &HostRuntime, beginning: &[u8]) -> Option<u32> {
     if !Opening::of(beginning).succeeds(rt.alloc(), text) {
         return None;
     }
-    Some(granted(rt.alloc(), REFUSED_LATE))
+    Some(granted(rt.alloc(), REFUSED))
 }
 
 /// The number that the decimal digits of a text spell; other bytes are ignored.

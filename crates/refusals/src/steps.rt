@@ -125,7 +125,7 @@ fn server(alloc: Global, config: &Config, mut disk: ModelDisk) -> Result<(), Tro
 
 /// A world over a disk in which nothing is unsynced, whose network keeps 16 datagrams of a circuit and
 /// direction.
-pub fn open_over(alloc: Global, config: &Config, disk: ModelDisk) -> Result<World, OpenFault>
+fn open_over(alloc: Global, config: &Config, disk: ModelDisk) -> Result<World, OpenFault>
     requires synced { (q : ℕ) → IsClean (state_of disk q) }
 {
     World::open(alloc, config, disk, 16)
