@@ -1,3 +1,4 @@
 pub mod LeaseLemmas
 pub mod CopyLemmas
 pub mod LineLemmas
+pub mod SteadyLemmas

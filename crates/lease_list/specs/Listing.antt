@@ -1,14 +1,18 @@
 -- The lines of a circuit, by what its region means.
-use Rattle.std.specs.Prelude.{◌≡◌, ◌==◌, ℕ, List, [], ◌∷◌, map, Option, Some, None, String, string_bytes, if◌then◌else◌}
+use Rattle.std.specs.Prelude.{◌≡◌, ◌==◌, ℕ, List, [], ◌∷◌, map, Option, Some, None, String, string_bytes, slice_index, if◌then◌else◌}
 use Rattle.std.specs.List.{AllZip}
 use Rattle.std.specs.declared.alloc.Global.{Global}
 use Rattle.types.specs.declared.slots.Slots.{Slots}
 use Rattle.config.specs.CircuitPart.{CircuitPart}
 use Rattle.lease_list.specs.declared.line.Closed.{Closed}
-use Rattle.lease_list.specs.declared.line.Closed.TheVariants.{Damaged, OldFormat}
+use Rattle.lease_list.specs.declared.line.Closed.TheVariants.{Damaged, OldFormat, Unreadable, Busy}
 use Rattle.lease_list.specs.declared.line.Form.{Form}
+use Rattle.lease_list.specs.declared.steady.Unsteady.{Unsteady}
+use Rattle.lease_list.specs.declared.steady.Unsteady.TheVariants as unsteady
 use Rattle.lease_list.specs.Lease.{leases_at}
 use Rattle.lease_list.specs.Line.{IsLeaseLine, closed_written}
+use Rattle.lease_list.specs.Steady.{IsSettled, AreUnsettled}
+use Rattle.lease_disk.specs.Recovered.{recovered}
 
 -- why a region that is recovered to nothing is closed: one of an earlier version has 1 as its byte 8192
 abbrev pub closed_by : (ℕ → ℕ) → Closed
@@ -18,3 +22,16 @@ closed_by region = if region 8192 == 1 then OldFormat else Damaged
 abbrev pub AreLines : CircuitPart → ℕ → Form → Closed → Option Slots → List (String Global) → Type 0
 AreLines part at form why (Some slots) lines = AllZip (λ lease line. IsLeaseLine part.id lease at form (string_bytes line)) (leases_at at part slots) lines
 AreLines part at form why None lines = map string_bytes lines ≡ closed_written part.id why form ∷ []
+
+abbrev pub closed_as : Unsteady → Closed
+closed_as unsteady.Busy = Busy
+closed_as unsteady.Unreadable = Unreadable
+
+-- The lines of a circuit whose region was read until it had these bytes twice in a row; or one that says why it was
+-- not read.
+abbrev pub AreOfCircuit : CircuitPart → ℕ → Form → List ℕ → List (ℕ × List ℕ) → List (ℕ × List ℕ) → Option Unsteady → List (String Global) → Type 0
+AreOfCircuit part at form bytes before after None lines =
+    IsSettled part.region bytes before after
+    × AreLines part at form (closed_by (slice_index bytes)) (recovered (part.count4 ∷ part.count6 ∷ []) (slice_index bytes)) lines
+AreOfCircuit part at form _ before after (Some why) lines =
+    AreUnsettled part.region before after × (map string_bytes lines ≡ closed_written part.id (closed_as why) form ∷ [])

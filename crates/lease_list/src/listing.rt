@@ -1,13 +1,14 @@
 //! The lines of a circuit, by the bytes of its region.
-ghost use Rattle.std.specs.Prelude.{◌≡◌, IfOk, slice_index, string_bytes, ◌∷◌, []};
+ghost use Rattle.std.specs.Prelude.{◌≡◌, IfOk, map, slice_index, string_bytes, ◌∷◌, []};
 ghost use Rattle.std.specs.List.{AllZip};
 ghost use Rattle.lease_disk.specs.Recovered.{recovered};
-ghost use Rattle.lease_list.specs.Line.{IsLeaseLine};
-ghost use Rattle.lease_list.specs.Listing.{AreLines, closed_by};
+ghost use Rattle.lease_list.specs.Line.{IsLeaseLine, closed_written};
+ghost use Rattle.lease_list.specs.Listing.{AreLines, AreOfCircuit, closed_as, closed_by};
 
 use crate::lease::{Lease, leases};
 use crate::line::{Closed, Form, closed_line, lease_line};
 use crate::region_copy::RegionCopy;
+use crate::steady::{RegionReader, Unsteady, read_steadily};
 use config::CircuitPart;
 use lease_disk::{FORMAT_AT, OLD_FORMAT, REGION};
 use std::alloc::{AllocError, Global};
@@ -52,6 +53,31 @@ fn closed_by(bytes: &[u8; REGION]) -> Closed
     }
 }
 
+/// Why a circuit is closed whose region was not read.
+fn closed_as(why: Unsteady) -> Closed
+    ensures { result ≡ closed_as why }
+{
+    match why {
+        Unsteady::Busy => Closed::Busy,
+        Unsteady::Unreadable => Closed::Unreadable,
+    }
+}
+
+/// The one line of a circuit whose leases are not known.
+fn closed_lines(
+    alloc: Global,
+    part: &CircuitPart,
+    why: Closed,
+    form: Form,
+) -> Result<Vec<String>, AllocError>
+    ensures { IfOk result (λ lines. map string_bytes lines.items ≡ closed_written part.now.id why form ∷ []) }
+{
+    let line = closed_line(alloc, text_of(part.id()), why, form)?;
+    let mut lines = Vec::new(alloc);
+    lines.push(line)?;
+    Ok(lines)
+}
+
 /// The lines of a circuit whose region has these bytes: one for each of its leases that is live at a moment,
 /// in seconds, by address, DHCPv4 before DHCPv6; or one that says why it is closed. They have no line feeds.
 /// The bytes are copied into `copy`, and what was in it is lost.
@@ -65,13 +91,34 @@ pub fn region_lines(
 ) -> Result<Vec<String>, AllocError>
     ensures { IfOk result (λ lines. AreLines part.now at form (closed_by (slice_index bytes.now)) (recovered (part.now.count4 ∷ part.now.count6 ∷ []) (slice_index bytes.now)) lines.items) }
 {
-    let circuit = text_of(part.id());
     if let Some(slots) = copy.slots(bytes, part.counts()) {
         let found = leases(alloc, part, &slots, at)?;
-        return lease_lines(alloc, circuit, &found, at, form);
+        return lease_lines(alloc, text_of(part.id()), &found, at, form);
     }
-    let line = closed_line(alloc, circuit, closed_by(bytes), form)?;
-    let mut lines = Vec::new(alloc);
-    lines.push(line)?;
-    Ok(lines)
+    closed_lines(alloc, part, closed_by(bytes), form)
+}
+
+/// The lines of a circuit by the region that a reader has of it, and why that was not read, if it was not. What
+/// was in `bytes` and `copy` is lost; `bytes` has those of the region if it was read.
+pub fn circuit_lines<R: RegionReader>(
+    alloc: Global,
+    part: &CircuitPart,
+    reader: &mut R,
+    bytes: &mut [u8; REGION],
+    copy: &mut RegionCopy,
+    at: u64,
+    form: Form,
+) -> Result<(Vec<String>, Option<Unsteady>), AllocError>
+    ensures { IfOk result (λ listed. AreOfCircuit part.now at form bytes.new (R.readings reader.old) (R.readings reader.new) listed.1 listed.0.items) }
+{
+    match read_steadily(reader, part.region(), bytes) {
+        Ok(()) => {
+            let lines = region_lines(alloc, part, bytes, copy, at, form)?;
+            Ok((lines, None))
+        }
+        Err(why) => {
+            let lines = closed_lines(alloc, part, closed_as(why), form)?;
+            Ok((lines, Some(why)))
+        }
+    }
 }

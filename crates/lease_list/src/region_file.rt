@@ -1,8 +1,9 @@
 //! The file of an `accessd`, read only.
-ghost use Rattle.std.specs.Prelude.{◌≡◌, ◌↔◌};
+ghost use Rattle.std.specs.Prelude.{◌≡◌, ◌↔◌, ◌/◌, [], IfOk};
 ghost use Rattle.std.specs.IoError.{error_kind};
 
 use crate::steady::RegionReader;
+use http_server::Log;
 use lease_disk::REGION;
 use std::fs::File;
 use std::io::{self, ErrorKind};
@@ -35,16 +36,24 @@ fn fault_of(error: io::Error) -> FileFault
 pub struct RegionFile {
     file: File,
     length: u64,
-    reads: Count,
+    // what contracts alone see
+    readings: Log<u16, [u8; REGION]>,
+    failures: Count,
 }
 
 impl RegionFile {
     /// Opens a file for reading. A folder is refused.
-    pub fn open<R: Files<File = File>>(rt: &R, path: &str) -> Result<RegionFile, FileFault> {
+    pub fn open<R: Files<File = File>>(rt: &R, path: &str) -> Result<RegionFile, FileFault>
+        ensures unread { IfOk result (λ file. file.readings.items ≡ []) }
+        ensures quiet { IfOk result (λ file. file.failures.count ≡ 0) }
+    {
         RegionFile::opened(rt, path).map_err(fault_of)
     }
 
-    fn opened<R: Files<File = File>>(rt: &R, path: &str) -> io::Result<RegionFile> {
+    fn opened<R: Files<File = File>>(rt: &R, path: &str) -> io::Result<RegionFile>
+        ensures unread { IfOk result (λ file. file.readings.items ≡ []) }
+        ensures quiet { IfOk result (λ file. file.failures.count ≡ 0) }
+    {
         let file = File::open(rt, path)?;
         let metadata = file.metadata()?;
         if metadata.is_dir() {
@@ -53,22 +62,31 @@ impl RegionFile {
         Ok(RegionFile {
             file,
             length: metadata.len(),
-            reads: Count::new(),
+            readings: Log::new(),
+            failures: Count::new(),
         })
     }
 
     /// How many regions were whole in the file when it was opened.
-    pub fn regions(&self) -> u64 {
+    pub fn regions(&self) -> u64
+        ensures { result ≡ self.now.length / 32_768 }
+    {
         self.length / REGION as u64
     }
 }
 
 impl RegionReader for RegionFile {
-    ghost reads = { λ file. file.reads.count };
+    ghost readings = { λ file. file.readings.items };
+
+    ghost failures = { λ file. file.failures.count };
 
     fn read(&mut self, region: u16, out: &mut [u8; REGION]) -> bool {
-        self.reads.tick();
         let at = u64::from(region) * REGION as u64;
-        self.file.read_exact_at(&mut out[..], at).is_ok()
+        if self.file.read_exact_at(&mut out[..], at).is_err() {
+            self.failures.tick();
+            return false;
+        }
+        self.readings = self.readings.and(&region, out);
+        true
     }
 }

@@ -1,5 +1,6 @@
 //! Reading a region while another program may write to it.
-ghost use Rattle.std.specs.Prelude.{◌≡◌, ◌≤◌, ◌+◌, ℕ, OnOk, OnErr};
+ghost use Rattle.std.specs.Prelude.{◌≡◌, ◌≢◌, ◌≤◌, ◌+◌, ◌++◌, ◌∷◌, [], ℕ, List, length, true, false, OnOk, OnErr};
+ghost use Rattle.lease_list.specs.Steady.{IsSettled, AreUnsettled};
 ghost use Rattle.lease_list.specs.declared.steady.Unsteady.TheVariants as unsteady;
 
 use lease_disk::REGION;
@@ -16,13 +17,19 @@ pub enum Unsteady {
     Unreadable,
 }
 
-/// What regions are read from. Contracts see how often it was asked.
+/// What regions are read from. Contracts see each reading, as the region and the bytes that it had, and how
+/// often one failed.
 pub trait RegionReader {
-    ghost reads: { Self → ℕ };
+    ghost readings: { Self → List (ℕ × List ℕ) };
+
+    ghost failures: { Self → ℕ };
 
     /// Fills `out` with the bytes of a region, and returns whether it could. If not, `out` holds any bytes.
     fn read(&mut self, region: u16, out: &mut [u8; REGION]) -> bool
-        ensures { reads self.new ≡ reads self.old + 1 };
+        ensures read { result ≡ true → readings self.new ≡ readings self.old ++ (region, out.new) ∷ [] }
+        ensures quiet { result ≡ true → failures self.new ≡ failures self.old }
+        ensures none { result ≡ false → readings self.new ≡ readings self.old }
+        ensures failed { result ≡ false → failures self.new ≡ failures self.old + 1 };
 }
 
 /// Reads a region until two readings one after the other are equal, at most 100 times. At an error `out`
@@ -32,9 +39,12 @@ pub fn read_steadily<R: RegionReader>(
     region: u16,
     out: &mut [u8; REGION],
 ) -> Result<(), Unsteady>
-    ensures twice { OnOk result (R.reads reader.old + 2 ≤ R.reads reader.new) }
-    ensures most { R.reads reader.new ≤ R.reads reader.old + 100 }
-    ensures busy { result ≡ Err unsteady.Busy → R.reads reader.new ≡ R.reads reader.old + 100 }
+    ensures settled { OnOk result (IsSettled region out.new (R.readings reader.old) (R.readings reader.new)) }
+    ensures unsettled { OnErr result (AreUnsettled region (R.readings reader.old) (R.readings reader.new)) }
+    ensures most { length (R.readings reader.new) + R.failures reader.new ≤ length (R.readings reader.old) + R.failures reader.old + 100 }
+    ensures busy { result ≡ Err unsteady.Busy → length (R.readings reader.new) ≡ length (R.readings reader.old) + 100 }
+    ensures quiet { result ≢ Err unsteady.Unreadable → R.failures reader.new ≡ R.failures reader.old }
+    ensures cause { result ≡ Err unsteady.Unreadable → R.failures reader.new ≡ R.failures reader.old + 1 }
 {
     if !reader.read(region, out) {
         return Err(Unsteady::Unreadable);

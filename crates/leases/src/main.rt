@@ -1,17 +1,14 @@
 //! Lists the leases of all circuits in the file of an `accessd`, which may run meanwhile.
 #![tactic(auto)]
 
-ghost use Rattle.std.specs.Prelude.{◌≡◌, ◌⊎◌, IfErr};
-ghost use Rattle.leases.specs.Status.{IsExitStatus};
+ghost use Rattle.std.specs.Prelude.{◌≡◌, ◌⊎◌, IfErr, IfSome, Ok, true, false};
+ghost use Rattle.leases.specs.Status.{IsExitStatus, file_status};
 
 use command_line::{FAILED, UNOPENED, UNREADABLE, complain, given_words, read_configuration};
 use config::{CircuitPart, Config};
 use dispatch::region_count;
 use lease_disk::REGION;
-use lease_list::{
-    Closed, FileFault, Form, LeaseWords, RegionCopy, RegionFile, Unsteady, closed_line,
-    read_steadily, region_lines, text_of,
-};
+use lease_list::{FileFault, Form, LeaseWords, RegionCopy, RegionFile, Unsteady, circuit_lines};
 use std::alloc::AllocError;
 use std::process::ExitCode;
 use std::rt::Clock;
@@ -19,7 +16,7 @@ use types::Circuit;
 
 /// Reports that the file is not read, and returns the status.
 fn refuse_file(rt: &HostRuntime, path: &str, fault: FileFault) -> u8
-    ensures { (result ≡ 4) ⊎ (result ≡ 5) }
+    ensures { result ≡ file_status fault }
 {
     let status = match fault {
         FileFault::File => UNREADABLE,
@@ -49,7 +46,8 @@ fn open_file(rt: &HostRuntime, config: &Config, path: &str) -> Result<RegionFile
 
 /// The moment at which the leases are listed.
 fn moment(rt: &HostRuntime, at: Option<u64>) -> Result<u64, u8>
-    ensures { IfErr result (λ status. status ≡ 4) }
+    ensures given { IfSome at (λ at. result ≡ Ok at) }
+    ensures status { IfErr result (λ status. status ≡ 4) }
 {
     if let Some(at) = at {
         return Ok(at);
@@ -74,30 +72,26 @@ struct Lister<'a> {
 
 impl Lister<'_> {
     /// The lines of a circuit.
-    fn lines(&mut self, part: &CircuitPart) -> Result<Vec<String>, AllocError> {
-        let alloc = self.rt.alloc();
-        let why = match read_steadily(&mut self.file, part.region(), &mut self.bytes) {
-            Ok(()) => return region_lines(
-                alloc,
-                part,
-                &self.bytes,
-                &mut self.copy,
-                self.at,
-                self.form,
-            ),
-            Err(Unsteady::Unreadable) => Closed::Unreadable,
-            Err(Unsteady::Busy) => Closed::Busy,
-        };
-        self.is_busy = self.is_busy || why == Closed::Busy;
-        let line = closed_line(alloc, text_of(part.id()), why, self.form)?;
-        let mut lines = Vec::new(alloc);
-        lines.push(line)?;
+    fn lines(&mut self, part: &CircuitPart) -> Result<Vec<String>, AllocError>
+        ensures { self.old.is_busy ≡ true → self.new.is_busy ≡ true }
+    {
+        let (lines, why) = circuit_lines(
+            self.rt.alloc(),
+            part,
+            &mut self.file,
+            &mut self.bytes,
+            &mut self.copy,
+            self.at,
+            self.form,
+        )?;
+        self.is_busy = self.is_busy || why == Some(Unsteady::Busy);
         Ok(lines)
     }
 
     /// Writes the lines of a circuit.
     fn list(&mut self, part: &CircuitPart) -> Result<(), u8>
-        ensures { IfErr result (λ status. (status ≡ 4) ⊎ (status ≡ 6)) }
+        ensures busy { self.old.is_busy ≡ true → self.new.is_busy ≡ true }
+        ensures status { IfErr result (λ status. (status ≡ 4) ⊎ (status ≡ 6)) }
     {
         let Ok(lines) = self.lines(part) else {
             return Err(complain(self.rt, "out of memory", UNOPENED));
@@ -112,7 +106,8 @@ impl Lister<'_> {
 
     /// Writes the lines of all circuits, and returns the status.
     fn list_all(&mut self, config: &Config) -> u8
-        ensures { (result ≡ 0) ⊎ (result ≡ 4) ⊎ (result ≡ 6) }
+        ensures busy { result ≡ 0 → self.new.is_busy ≡ false }
+        ensures status { (result ≡ 0) ⊎ (result ≡ 4) ⊎ (result ≡ 6) }
     {
         for index in 0..config.circuit_count() {
             let Some(circuit) = Circuit::new(index) else {

@@ -1,5 +1,5 @@
 //! A device in memory that is asked how often it was called.
-ghost use Rattle.std.specs.Prelude.{◌≡◌};
+ghost use Rattle.std.specs.Prelude.{◌≡◌, ◌+◌, min};
 
 use lease_disk::{Disk, Fault, ModelDisk};
 
@@ -12,7 +12,8 @@ pub struct Watched {
 
 impl Watched {
     fn count(&mut self)
-        ensures { self.new.disk ≡ self.old.disk }
+        ensures disk { self.new.disk ≡ self.old.disk }
+        ensures calls { self.new.calls ≡ min (self.old.calls + 1) 4_294_967_295 }
     {
         self.calls = self.calls.saturating_add(1);
     }

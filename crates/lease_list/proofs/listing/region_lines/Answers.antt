@@ -18,7 +18,7 @@ returns-in-Some c =
     let are : List _ → List Lease → List (String Global) → Type 0 =
     λ circuit leases lines. AllZip (λ lease line. IsLeaseLine circuit lease c.args.at c.args.form (string_bytes line)) leases lines in
     let means : recovered (part.count4 ∷ part.count6 ∷ []) bytes ≡ Some slots = ap (λ counts. recovered counts bytes) (sym c.counts.ensures) ∙ sym c.slots.ensures ∙ c.in-Some.is in
-    let circuit : c.text_of-circuit.result.now ≡ part.id = c.text_of-circuit.ensures ∙ c.id.ensures in
+    let circuit : c.text_of.result.now ≡ part.id = c.text_of.ensures ∙ c.id.ensures in
     let listed : c.deref.result.now ≡ leases_at c.args.at part slots = c.deref.ensures.value ∙ c.in_ok-found.ensures in
     IfOk-weaker c.lease_lines.result _ _
     (λ lines h. subst (λ o. AreLines part c.args.at c.args.form (closed_by bytes) o lines.items) (sym means)

@@ -1,5 +1,6 @@
-use Rattle.std.proofs.Common.{◌≡◌, ◌+◌}
+use Rattle.std.proofs.Common.{◌≡◌}
+use Rattle.lease_list.proofs.SteadyLemmas.{AreRead}
 use Rattle.lease_list.proofs.steady.read_steadily.Given as goal
 
 abbrev pub invariant-readings : goal.invariant-readings
-invariant-readings g l = g.R.RegionReader.reads l.reader ≡ g.R.RegionReader.reads l.fn.reader + l.counter
+invariant-readings g l = AreRead l.fn.region l.counter l.out (g.R.RegionReader.readings l.fn.reader) (g.R.RegionReader.readings l.reader) × (g.R.RegionReader.failures l.reader ≡ g.R.RegionReader.failures l.fn.reader)
