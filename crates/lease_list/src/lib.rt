@@ -14,7 +14,7 @@ mod steady;
 pub use arguments::{LeaseWords, words};
 pub use lease::{Lease, leases};
 pub use line::{Closed, Form, closed_line, lease_line};
-pub use listing::{circuit_lines, region_lines, text_of};
+pub use listing::{circuit_lines, region_lines};
 pub use region_copy::RegionCopy;
 pub use region_file::{FileFault, RegionFile};
 pub use steady::{READINGS, RegionReader, Unsteady, read_steadily};

@@ -15,7 +15,7 @@ use std::alloc::{AllocError, Global};
 use types::CircuitId;
 
 /// The id as text: its bytes are ASCII.
-pub fn text_of(id: &CircuitId) -> &str
+fn text_of(id: &CircuitId) -> &str
     ensures { result.now ≡ id.now }
 {
     let Ok(text) = std::str::from_utf8(id.as_bytes()) else {

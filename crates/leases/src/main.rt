@@ -1,7 +1,8 @@
 //! Lists the leases of all circuits in the file of an `accessd`, which may run meanwhile.
 #![tactic(auto)]
 
-ghost use Rattle.std.specs.Prelude.{◌≡◌, ◌⊎◌, IfErr, IfSome, Ok, true, false};
+ghost use Rattle.std.specs.Prelude.{◌≡◌, ◌⊎◌, IfErr, IfOk, IfSome, Ok, true, false};
+ghost use Rattle.leases.specs.Listing.{HasListed};
 ghost use Rattle.leases.specs.Status.{IsExitStatus, file_status};
 
 use command_line::{FAILED, UNOPENED, UNREADABLE, complain, given_words, read_configuration};
@@ -73,7 +74,10 @@ struct Lister<'a> {
 impl Lister<'_> {
     /// The lines of a circuit.
     fn lines(&mut self, part: &CircuitPart) -> Result<Vec<String>, AllocError>
-        ensures { self.old.is_busy ≡ true → self.new.is_busy ≡ true }
+        ensures listed { IfOk result (λ lines. HasListed part.now self.old.at self.old.form self.new.bytes self.old.file.readings.items self.new.file.readings.items self.old.is_busy self.new.is_busy lines.items) }
+        ensures at { self.new.at ≡ self.old.at }
+        ensures form { self.new.form ≡ self.old.form }
+        ensures busy { self.old.is_busy ≡ true → self.new.is_busy ≡ true }
     {
         let (lines, why) = circuit_lines(
             self.rt.alloc(),
@@ -90,6 +94,8 @@ impl Lister<'_> {
 
     /// Writes the lines of a circuit.
     fn list(&mut self, part: &CircuitPart) -> Result<(), u8>
+        ensures at { self.new.at ≡ self.old.at }
+        ensures form { self.new.form ≡ self.old.form }
         ensures busy { self.old.is_busy ≡ true → self.new.is_busy ≡ true }
         ensures status { IfErr result (λ status. (status ≡ 4) ⊎ (status ≡ 6)) }
     {
@@ -106,10 +112,12 @@ impl Lister<'_> {
 
     /// Writes the lines of all circuits, and returns the status.
     fn list_all(&mut self, config: &Config) -> u8
+        ensures at { self.new.at ≡ self.old.at }
+        ensures form { self.new.form ≡ self.old.form }
         ensures busy { result ≡ 0 → self.new.is_busy ≡ false }
         ensures status { (result ≡ 0) ⊎ (result ≡ 4) ⊎ (result ≡ 6) }
     {
-        for index in 0..config.circuit_count() {
+        'circuits: for index in 0..config.circuit_count() {
             let Some(circuit) = Circuit::new(index) else {
                 unreachable!()
             };

@@ -1,0 +1,5 @@
+use Rattle.std.proofs.Common.{◌≡◌}
+use Rattle.leases.proofs.Lister.list_all.Given as goal
+
+abbrev pub invariant-circuits : goal.invariant-circuits
+invariant-circuits l = (l.self.at ≡ l.fn.self.at) × (l.self.form ≡ l.fn.self.form)
