@@ -3,7 +3,7 @@ use Rattle.std.proofs.Common.{◌≡◌, ◌≢◌, ◌∙◌, ℕ, ◌+◌, Lis
 use Rattle.std.specs.Prelude.{All}
 use Rattle.std.proofs.lemmas.List.{append_assoc, append-nil, length-append}
 use Rattle.std.proofs.lemmas.List.Elements.{All-nil, All-cons, All-append}
-use Rattle.lease_list.specs.Steady.{Differ, IsSettled, AreUnsettled}
+use Rattle.lease_list.specs.Steady.{Differ, IsSteady, AreUnsteady}
 
 abbrev IsOf : ℕ → ℕ × List ℕ → Type 0
 IsOf region reading = reading.0 ≡ region
@@ -44,7 +44,7 @@ read_once_more region count bytes other before between after read differs then =
       number = ap (λ n. n + 1) (length-append read.earlier (one ∷ []) ∙ read.number);
     }
 
-pub read_twice : (region count : ℕ) (bytes : List ℕ) (before between after : List (ℕ × List ℕ)) → AreRead region count bytes before between → after ≡ between ++ (region, bytes) ∷ [] → IsSettled region bytes before after
+pub read_twice : (region count : ℕ) (bytes : List ℕ) (before between after : List (ℕ × List ℕ)) → AreRead region count bytes before between → after ≡ between ++ (region, bytes) ∷ [] → IsSteady region bytes before after
 read_twice region count bytes before between after read then =
     let one : ℕ × List ℕ = (region, bytes) in
     record {
@@ -59,17 +59,7 @@ pub length_read : (region count : ℕ) (bytes : List ℕ) (before after : List (
 length_read region count bytes before after read =
     ap length read.appended ∙ length-append before (read.earlier ++ (region, bytes) ∷ []) ∙ ap (λ n. length before + n) (length-append read.earlier ((region, bytes) ∷ []) ∙ read.number)
 
--- no two readings in a row were equal, up to the last
-pub unsettled : (region count : ℕ) (bytes : List ℕ) (before after : List (ℕ × List ℕ)) → AreRead region count bytes before after → AreUnsettled region before after
-unsettled region count bytes before after read =
-    record {
-      added = read.earlier ++ (region, bytes) ∷ [];
-      appended = read.appended;
-      alone = All-append (IsOf region) read.earlier ((region, bytes) ∷ []) read.alone (all_one region bytes);
-      differ = read.differ;
-    }
-
 -- none was read
-pub none_read : (region : ℕ) (before after : List (ℕ × List ℕ)) → after ≡ before → AreUnsettled region before after
+pub none_read : (region : ℕ) (before after : List (ℕ × List ℕ)) → after ≡ before → AreUnsteady region before after
 unfolding Differ
 none_read region before after same = record { added = []; appended = same ∙ sym (append-nil before); alone = All-nil (IsOf region); differ = tt }

@@ -11,7 +11,7 @@ use Rattle.lease_list.specs.declared.steady.Unsteady.{Unsteady}
 use Rattle.lease_list.specs.declared.steady.Unsteady.TheVariants as unsteady
 use Rattle.lease_list.specs.Lease.{leases_at}
 use Rattle.lease_list.specs.Line.{IsLeaseLine, closed_written}
-use Rattle.lease_list.specs.Steady.{IsSettled, AreUnsettled}
+use Rattle.lease_list.specs.Steady.{IsSteady, AreUnsteady}
 use Rattle.lease_disk.specs.Recovered.{recovered}
 
 -- why a region that is recovered to nothing is closed: one of an earlier version has 1 as its byte 8192
@@ -29,9 +29,9 @@ closed_as unsteady.Unreadable = Unreadable
 
 -- The lines of a circuit whose region was read until it had these bytes twice in a row; or one that says why it was
 -- not read.
-abbrev pub AreOfCircuit : CircuitPart → ℕ → Form → List ℕ → List (ℕ × List ℕ) → List (ℕ × List ℕ) → Option Unsteady → List (String Global) → Type 0
-AreOfCircuit part at form bytes before after None lines =
-    IsSettled part.region bytes before after
+abbrev pub AreCircuitLines : CircuitPart → ℕ → Form → List ℕ → List (ℕ × List ℕ) → List (ℕ × List ℕ) → Option Unsteady → List (String Global) → Type 0
+AreCircuitLines part at form bytes before after None lines =
+    IsSteady part.region bytes before after
     × AreLines part at form (closed_by (slice_index bytes)) (recovered (part.count4 ∷ part.count6 ∷ []) (slice_index bytes)) lines
-AreOfCircuit part at form _ before after (Some why) lines =
-    AreUnsettled part.region before after × (map string_bytes lines ≡ closed_written part.id (closed_as why) form ∷ [])
+AreCircuitLines part at form _ before after (Some why) lines =
+    AreUnsteady part.region before after × (map string_bytes lines ≡ closed_written part.id (closed_as why) form ∷ [])

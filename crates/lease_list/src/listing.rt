@@ -1,9 +1,10 @@
 //! The lines of a circuit, by the bytes of its region.
-ghost use Rattle.std.specs.Prelude.{◌≡◌, IfOk, map, slice_index, string_bytes, ◌∷◌, []};
+ghost use Rattle.std.specs.Prelude.{◌≡◌, ◌≢◌, ◌≤◌, ◌+◌, IfOk, Some, length, map, slice_index, string_bytes, ◌∷◌, []};
 ghost use Rattle.std.specs.List.{AllZip};
 ghost use Rattle.lease_disk.specs.Recovered.{recovered};
+ghost use Rattle.lease_list.specs.declared.steady.Unsteady.TheVariants as unsteady;
 ghost use Rattle.lease_list.specs.Line.{IsLeaseLine, closed_written};
-ghost use Rattle.lease_list.specs.Listing.{AreLines, AreOfCircuit, closed_as, closed_by};
+ghost use Rattle.lease_list.specs.Listing.{AreLines, AreCircuitLines, closed_as, closed_by};
 
 use crate::lease::{Lease, leases};
 use crate::line::{Closed, Form, closed_line, lease_line};
@@ -109,7 +110,11 @@ pub fn circuit_lines<R: RegionReader>(
     at: u64,
     form: Form,
 ) -> Result<(Vec<String>, Option<Unsteady>), AllocError>
-    ensures { IfOk result (λ listed. AreOfCircuit part.now at form bytes.new (R.readings reader.old) (R.readings reader.new) listed.1 listed.0.items) }
+    ensures lines { IfOk result (λ listed. AreCircuitLines part.now at form bytes.new (R.readings reader.old) (R.readings reader.new) listed.1 listed.0.items) }
+    ensures most { length (R.readings reader.new) + R.failures reader.new ≤ length (R.readings reader.old) + R.failures reader.old + 100 }
+    ensures busy { IfOk result (λ listed. listed.1 ≡ Some unsteady.Busy → length (R.readings reader.new) ≡ length (R.readings reader.old) + 100) }
+    ensures quiet { IfOk result (λ listed. listed.1 ≢ Some unsteady.Unreadable → R.failures reader.new ≡ R.failures reader.old) }
+    ensures cause { IfOk result (λ listed. listed.1 ≡ Some unsteady.Unreadable → R.failures reader.new ≡ R.failures reader.old + 1) }
 {
     match read_steadily(reader, part.region(), bytes) {
         Ok(()) => {

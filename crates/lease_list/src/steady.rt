@@ -1,6 +1,6 @@
 //! Reading a region while another program may write to it.
 ghost use Rattle.std.specs.Prelude.{◌≡◌, ◌≢◌, ◌≤◌, ◌+◌, ◌++◌, ◌∷◌, [], ℕ, List, length, true, false, OnOk, OnErr};
-ghost use Rattle.lease_list.specs.Steady.{IsSettled, AreUnsettled};
+ghost use Rattle.lease_list.specs.Steady.{IsSteady, AreUnsteady};
 ghost use Rattle.lease_list.specs.declared.steady.Unsteady.TheVariants as unsteady;
 
 use lease_disk::REGION;
@@ -39,8 +39,8 @@ pub fn read_steadily<R: RegionReader>(
     region: u16,
     out: &mut [u8; REGION],
 ) -> Result<(), Unsteady>
-    ensures settled { OnOk result (IsSettled region out.new (R.readings reader.old) (R.readings reader.new)) }
-    ensures unsettled { OnErr result (AreUnsettled region (R.readings reader.old) (R.readings reader.new)) }
+    ensures steady { OnOk result (IsSteady region out.new (R.readings reader.old) (R.readings reader.new)) }
+    ensures not_steady { OnErr result (AreUnsteady region (R.readings reader.old) (R.readings reader.new)) }
     ensures most { length (R.readings reader.new) + R.failures reader.new ≤ length (R.readings reader.old) + R.failures reader.old + 100 }
     ensures busy { result ≡ Err unsteady.Busy → length (R.readings reader.new) ≡ length (R.readings reader.old) + 100 }
     ensures quiet { result ≢ Err unsteady.Unreadable → R.failures reader.new ≡ R.failures reader.old }

@@ -4,8 +4,8 @@ use Rattle.std.proofs.lemmas.Slice.Eq.{bytes_eq-Decides}
 use Rattle.lease_list.proofs.SteadyLemmas.{first_read, none_read, read_once_more, read_twice, length_read}
 use Rattle.lease_list.proofs.steady.read_steadily.Goals as goal
 
-pub returns-then-not-read-clause-unsettled : goal.returns-then-not-read-clause-unsettled
-returns-then-not-read-clause-unsettled g c = none_read c.args.region (g.R.RegionReader.readings c.args.reader.now) (g.R.RegionReader.readings c.read.new.self) (c.read.ensures.none c.if-not-read.true)
+pub returns-then-not-read-clause-not_steady : goal.returns-then-not-read-clause-not_steady
+returns-then-not-read-clause-not_steady g c = none_read c.args.region (g.R.RegionReader.readings c.args.reader.now) (g.R.RegionReader.readings c.read.new.self) (c.read.ensures.none c.if-not-read.true)
 
 pub readings-init : goal.readings-init
 readings-init g c =
@@ -21,8 +21,8 @@ returns-then-not-read-2-clause-most g c =
     let few = c.readings-test.true in
     omega (arith, long, same, failed, few, c.readings.invariant.1)
 
-pub returns-then-eq-clause-settled : goal.returns-then-eq-clause-settled
-returns-then-eq-clause-settled g c =
+pub returns-then-eq-clause-steady : goal.returns-then-eq-clause-steady
+returns-then-eq-clause-steady g c =
     let readings = g.R.RegionReader.readings in
     let region = c.args.region in
     let same : c.read-in-readings.new.out ≡ c.readings.out = (bytes_eq-Decides c.read-in-readings.new.out c.readings.out).0 (sym c.eq.ensures ∙ c.if-eq.true) in
