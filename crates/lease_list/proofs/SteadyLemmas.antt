@@ -15,13 +15,13 @@ all_one region bytes = All-cons (IsOf region) (region, bytes) [] refl (All-nil (
 pub record AreRead (region count : ℕ) (bytes : List ℕ) (before after : List (ℕ × List ℕ)) : Type 0 where
   pub earlier : List (ℕ × List ℕ)
   pub appended : after ≡ before ++ (earlier ++ (region, bytes) ∷ [])
-  pub alone : All (λ reading. reading.0 ≡ region) earlier
+  pub of_region : All (λ reading. reading.0 ≡ region) earlier
   pub differ : Differ (earlier ++ (region, bytes) ∷ [])
   pub number : length earlier + 1 ≡ count
 
 pub first_read : (region : ℕ) (bytes : List ℕ) (before after : List (ℕ × List ℕ)) → after ≡ before ++ (region, bytes) ∷ [] → AreRead region 1 bytes before after
 unfolding Differ
-first_read region bytes before after is = record { earlier = []; appended = is; alone = All-nil (IsOf region); differ = tt; number = refl }
+first_read region bytes before after is = record { earlier = []; appended = is; of_region = All-nil (IsOf region); differ = tt; number = refl }
 
 differ_one_more : (earlier : List (ℕ × List ℕ)) (one next : ℕ × List ℕ) → one ≢ next → Differ (earlier ++ one ∷ []) → Differ ((earlier ++ one ∷ []) ++ next ∷ [])
 unfolding Differ
@@ -39,7 +39,7 @@ read_once_more region count bytes other before between after read differs then =
     record {
       earlier = read.earlier ++ one ∷ [];
       appended = joined before read.earlier one next between after read.appended then;
-      alone = All-append (IsOf region) read.earlier (one ∷ []) read.alone (all_one region bytes);
+      of_region = All-append (IsOf region) read.earlier (one ∷ []) read.of_region (all_one region bytes);
       differ = differ_one_more read.earlier one next (λ same. differs (ap (λ reading. reading.1) same)) read.differ;
       number = ap (λ n. n + 1) (length-append read.earlier (one ∷ []) ∙ read.number);
     }
@@ -50,7 +50,7 @@ read_twice region count bytes before between after read then =
     record {
       earlier = read.earlier;
       appended = joined before read.earlier one one between after read.appended then ∙ ap (λ l. before ++ l) (append_assoc read.earlier (one ∷ []) (one ∷ []));
-      alone = read.alone;
+      of_region = read.of_region;
       differ = read.differ;
     }
 
@@ -62,4 +62,4 @@ length_read region count bytes before after read =
 -- none was read
 pub none_read : (region : ℕ) (before after : List (ℕ × List ℕ)) → after ≡ before → AreUnsteady region before after
 unfolding Differ
-none_read region before after same = record { added = []; appended = same ∙ sym (append-nil before); alone = All-nil (IsOf region); differ = tt }
+none_read region before after same = record { added = []; appended = same ∙ sym (append-nil before); of_region = All-nil (IsOf region); differ = tt }

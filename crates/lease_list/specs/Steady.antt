@@ -11,12 +11,12 @@ Differ (one ∷ next ∷ rest) = (one ≢ next) × Differ (next ∷ rest)
 pub record IsSteady (region : ℕ) (bytes : List ℕ) (before after : List (ℕ × List ℕ)) : Type 0 where
   pub earlier : List (ℕ × List ℕ)
   pub appended : after ≡ before ++ (earlier ++ (region, bytes) ∷ (region, bytes) ∷ [])
-  pub alone : All (λ reading. reading.0 ≡ region) earlier
+  pub of_region : All (λ reading. reading.0 ≡ region) earlier
   pub differ : Differ (earlier ++ (region, bytes) ∷ [])
 
 -- The region was read, and no two readings in a row were equal.
 pub record AreUnsteady (region : ℕ) (before after : List (ℕ × List ℕ)) : Type 0 where
   pub added : List (ℕ × List ℕ)
   pub appended : after ≡ before ++ added
-  pub alone : All (λ reading. reading.0 ≡ region) added
+  pub of_region : All (λ reading. reading.0 ≡ region) added
   pub differ : Differ added
