@@ -67,13 +67,12 @@ def message6(kind, client, *words):
     these fields, and with these addresses in its IA_NA. Or the server's message of this type to this client,
     where the IA_NA has addresses or a status, or is left out."""
     number = f"{int(client):08x}"
-    values = {"peer": "fe80" + "0" * 20 + number, "xid": number[2:], "duid": "000300010200" + number,
-              "iaid": "00000001", **dict(word.split("=") for word in words if "=" in word)}
-    values = {name: raw(value.split("+")) for name, value in values.items()}
+    values = {"xid": number[2:], "duid": "000300010200" + number, "iaid": "00000001", **fields6(words)}
+    peer = values.pop("peer", link_address(client))
     is_server = kind in FROM_SERVER6
     addresses = [word for word in words if "=" not in word and word != "ours"]
     options = "".join(address6(word, LIFETIMES if is_server else "0" * 16) for word in addresses)
-    digits = ("" if is_server else values["peer"]) + f"{TYPES6[kind]:02x}" + values.pop("xid")
+    digits = ("" if is_server else peer) + f"{TYPES6[kind]:02x}" + values.pop("xid")
     digits += option6(1, values.pop("duid"))
     if is_server or "ours" in words:
         values.setdefault("server", DUID)
@@ -86,21 +85,87 @@ def message6(kind, client, *words):
     if options or not is_server:
         digits += option6(3, iaid + times + options)
     digits += values.pop("more", "")
-    if set(values) - {"peer"}:
+    if values:
         raise ValueError(f"no fields: {values}")
     return digits
 
 
+def link_address(client):
+    """The address of this client on the link of its circuit."""
+    return f"fe80{int(client):028x}"
+
+
+def fields6(words):
+    return {name: raw(value.split("+")) for name, value in (word.split("=") for word in words if "=" in word)}
+
+
+# the gateway and the link address of the circuits `a` and `a1` of the cases' configurations, whose mask, name server and
+# lease (docs/FORMATS.md, "The messages that are sent") are the same
+LINKS = {"a": ("0a000001", "20010db8" + "0" * 23 + "1"), "a1": ("0a000101", "20010db80001" + "0" * 19 + "1")}
+LEASE = f"3304{600:08x}3a04{600 // 2:08x}3b04{600 * 7 // 8:08x}0104ffffff00"
+NAME_SERVER = "06040aff0035"
+
+
+def option82(circuit):
+    """What the relay writes for this circuit: suboption 1, its id, and suboption 11, its gateway."""
+    name = circuit.encode().hex()
+    value = f"01{len(circuit):02x}{name}0b04{LINKS[circuit][0]}"
+    return f"52{len(value) // 2:02x}{value}"
+
+
+def relay_message(kind, circuit, peer, digits):
+    """A Relay-forward (12) or Relay-reply (13) with an interface-id and this message (RFC 8415, section 9)."""
+    return f"{kind:02x}00{LINKS[circuit][1]}{peer}" + option6(18, circuit.encode().hex()) + option6(9, digits)
+
+
+def sent_up(circuit, kind, client, *words):
+    """What the relay of this circuit sends to the server for a client's message."""
+    if kind in TYPES6:
+        frame = message6(kind, client, *words)
+        return relay_message(12, circuit, frame[:32], frame[32:])
+    return message(kind, client, "hops=01", f"giaddr={LINKS[circuit][0]}", *words, option82(circuit))
+
+
+def sent_down(circuit, kind, client, *words):
+    """What the server sends to the relay of this circuit. `leased=` stands for yiaddr and the options of a lease."""
+    if kind in TYPES6:
+        peer = fields6(words).get("peer", link_address(client))
+        return relay_message(13, circuit, peer, message6(kind, client, *words))
+    gateway, options = LINKS[circuit][0], []
+    for word in words:
+        name, _, address = word.partition("leased=")
+        options += [word] if name else [f"yiaddr={address}", f"3604{gateway}", LEASE, f"0304{gateway}", NAME_SERVER]
+    return message(kind, client, f"giaddr={gateway}", "length=300", *options, option82(circuit))
+
+
+def replaced(digits, where, *words):
+    """The digits with others in place of the bytes from A up to B, where it says A..B."""
+    first, last = (2 * int(number) for number in where.split(".."))
+    if not first <= last <= len(digits):
+        raise ValueError(f"there are no bytes {where}")
+    return digits[:first] + raw(words) + digits[last:]
+
+
 def bytes_of(words):
     """What stands between braces, as hexadecimal digits."""
-    if words and words[0] in TYPES:
-        return message(*words)
-    return message6(*words) if words and words[0] in TYPES6 else raw(words)
+    forms = {**dict.fromkeys(TYPES, message), **dict.fromkeys(TYPES6, message6)}
+    if words[:1] == ["UP"]:
+        return sent_up(*words[1:])
+    if words[:1] == ["DOWN"]:
+        return sent_down(*words[1:])
+    return forms[words[0]](*words) if words and words[0] in forms else raw(words)
 
 
 def expand(text):
-    """The text with digits in place of what stands between braces, where # and what follows on its line is a comment."""
-    return re.sub(r"\{([^{}]*)\}", lambda found: bytes_of(re.sub("#.*", "", found[1]).split()), text)
+    """The text with digits in place of what stands between braces, where # and what follows on its line is a comment, and
+    each | is followed by what stands in the place of some bytes."""
+    def digits(found):
+        whole, *changes = re.sub("#.*", "", found[1]).split("|")
+        result = bytes_of(whole.split())
+        for change in changes:
+            result = replaced(result, *change.split())
+        return result
+    return re.sub(r"\{([^{}]*)\}", digits, text)
 
 
 def read_options4(message):

@@ -4,7 +4,7 @@ import threading
 from pathlib import Path
 
 COMMAND = ["leases", "config.toml", "--disk", "leases", "--at", "5"]
-BUSY = (4, "a busy: no two of 100 readings of its region were equal\n", "")
+BUSY = (4, "a busy: no two in a row of 100 readings of its region were equal\n", "")
 QUIET = (0, "", "")
 region = bytearray(32768)
 region[8192] = 2

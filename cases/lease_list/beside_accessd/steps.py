@@ -12,6 +12,7 @@ from client import Circuit, Server
 from load import Client4, Client6, Load, run
 
 PORT = 24000
+FEW = 9
 COMMAND = ["leases", "config.toml", "--disk", "leases", "--json"]
 # what stands before a client's number in its identifier (cases/README.md): Ethernet and 02 00, a DUID with these
 IDENTIFIERS = {Client4: "010200", Client6: "000300010200"}
@@ -65,6 +66,10 @@ for _ in range(40):
         print("listed, though neither acknowledged nor asked for:", unknown)
     every |= now
     listings += 1
+# so many hold a lease that the comparison says something
+end = time.monotonic() + 10
+while len(held(clients)) < FEW and time.monotonic() < end:
+    run(loads, 0.001)
 # what is on its way arrives, without new messages
 end = time.monotonic() + 0.5
 while time.monotonic() < end:
@@ -75,5 +80,5 @@ now = listed(subprocess.run(COMMAND, capture_output=True, text=True).stdout)
 theirs = {each for each, _ in held(clients)}
 if every - leased():
     print("listed, though never acknowledged:", every - leased())
-print(listings, "listings,", "exactly what is held" if now == theirs and len(now) > 8 else f"{now - theirs} and {theirs - now}")
+print(listings, "listings,", "exactly what is held" if now == theirs and len(now) >= FEW else f"{now - theirs} and {theirs - now}")
 server.kill()

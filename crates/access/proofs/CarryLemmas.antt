@@ -14,11 +14,6 @@ pub length_append : (a b : List Outcome) → length (a ++ b) ≡ length a + leng
 length_append [] b = omega arith
 length_append (o ∷ a) b = let inside : length (a ++ b) ≡ length a + length b = length_append a b in omega (arith, inside)
 
-pub carried_none : (Can : Outcome → Type 0) (s : AccessValue) → HasCarried Can 0 s s
-carried_none Can s =
-    let same : s.taken ≡ s.taken + 0 = omega arith in
-    record { outcomes = []; each = All-nil Can; many = refl; after = ap (λ (n : ℕ). record s { taken = n }) same }
-
 -- a datagram is taken, something becomes of it, and that is counted
 pub carried_by : (Can : Outcome → Type 0) (old mid seen : AccessValue) (counts : Counts) (o : Outcome)
     → mid ≡ record old { taken = old.taken + 1 } → seen ≡ mid → counts ≡ counted o seen.counts → Can o → HasCarried Can 1 old (record seen { counts = counts })

@@ -1,11 +1,12 @@
 -- What follows from the steps of a turn.
 use Rattle.std.proofs.Common.{inl, inr, ◌≡◌, ◌∙◌, ◌+◌, ◌≤◌, ℕ, zero, suc, Bool, List, [], ◌∷◌, ◌++◌, length, refl, sym, ap, ap₂, subst, arith}
 use Rattle.std.specs.Prelude.{Option, Some, None, Result, Ok, Err, slice_get, slice_set}
-use Rattle.types.specs.Delivery.{DeliveryValue}
+use Rattle.types.specs.Delivery.{DeliveryValue, delivery}
 use Rattle.types.specs.declared.dest.Proto.{Proto}
 use Rattle.types.specs.declared.discard.Discard.{Discard}
 use Rattle.config.specs.CircuitPart.{CircuitPart}
-use Rattle.dispatch.specs.Addressee.{addressee}
+use Rattle.config.specs.Topology.{Topology}
+use Rattle.requests.specs.Addressee.{addressee}
 use Rattle.dispatch.specs.Received.{addressee_answered, answered, circuit_answered}
 use Rattle.dispatch.specs.Server.{Book}
 use Rattle.dispatch.specs.ServerValue.{ServerValue, books_in}
@@ -93,15 +94,15 @@ circuit_closed at d fails books (Some part) (Some book) is c closed = set_closed
 circuit_closed at d fails books (Some part) None is c closed = closed
 circuit_closed at d fails books None book is c closed = closed
 
-addressee_closed : (parts : List CircuitPart) (d : DeliveryValue) (fails : Bool) (books : List (Option Book)) (who : Result ℕ Discard)
-    → (c : ℕ) → slice_get books c ≡ Some None → slice_get (addressee_answered parts d fails books who).books c ≡ Some None
-addressee_closed parts d fails books (Err why) c closed = closed
-addressee_closed parts d fails books (Ok at) c closed = circuit_closed at d fails books (slice_get parts at) (slice_get books at) refl c closed
+addressee_closed : (topology : Topology) (d : DeliveryValue) (fails : Bool) (books : List (Option Book)) (who : Result ℕ Discard)
+    → (c : ℕ) → slice_get books c ≡ Some None → slice_get (addressee_answered topology d fails books who).books c ≡ Some None
+addressee_closed topology d fails books (Err why) c closed = closed
+addressee_closed topology d fails books (Ok at) c closed = circuit_closed at d fails books (slice_get topology.circuits at) (slice_get books at) refl c closed
 
 served_closed : (proto : Proto) (now n : ℕ) (a b : AccessValue) → HasServed proto now n a b → StayClosed a.server b.server
 served_closed proto now n a b (inl (none, same)) c closed = subst (λ (s : AccessValue). slice_get (books_in s.server) c ≡ Some None) (sym same) closed
 served_closed proto now n a b (inr (one, answered)) c closed =
-    subst (λ books. slice_get books c ≡ Some None) (sym answered.books) (addressee_closed _ _ _ _ (addressee a.server.relays _ proto answered.from answered.datagram) c closed)
+    subst (λ books. slice_get books c ≡ Some None) (sym answered.books) (addressee_closed a.server.topology _ _ _ (addressee a.server.topology (delivery proto answered.from now answered.datagram)) c closed)
 
 carried_closed : (Can : Outcome → Type 0) (n : ℕ) (a b : AccessValue) → HasCarried Can n a b → StayClosed a.server b.server
 carried_closed Can n a b carried c closed = subst (λ (s : ServerValue). slice_get (books_in s) c ≡ Some None) (sym (carried_server Can n a b carried)) closed

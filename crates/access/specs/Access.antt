@@ -8,7 +8,7 @@ use Rattle.types.specs.declared.discard.Discard.{Discard}
 use Rattle.lease_disk.specs.FileDisk.{FileDiskValue}
 use Rattle.dispatch.specs.Received.{received}
 use Rattle.dispatch.specs.Server.{Book, book_at}
-use Rattle.dispatch.specs.ServerValue.{ServerValue, books_in, parts_in}
+use Rattle.dispatch.specs.ServerValue.{ServerValue, books_in}
 use Rattle.config.specs.Topology.{Topology}
 use Rattle.access.specs.Counts.{counted, counted_all}
 use Rattle.access.specs.declared.counts.Counts.{Counts}
@@ -60,11 +60,10 @@ pub record HasCarried (Can : Outcome → Type 0) (count : ℕ) (old new : Access
   pub many : length outcomes ≡ count
   pub after : new ≡ record old { counts = counted_all outcomes old.counts; taken = old.taken + count }
 
--- Topology, parts, relays' sources and the number of regions and turns stay.
+-- What relays and server know of the configuration, and the number of regions and turns, stay.
 pub record HasKept (old new : AccessValue) : Type 0 where
   pub topology : new.topology ≡ old.topology
-  pub parts : parts_in new.server ≡ parts_in old.server
-  pub relays : new.server.relays ≡ old.server.relays
+  pub served : new.server.topology ≡ old.server.topology
   pub regions : new.disk.regions ≡ old.disk.regions
   pub turns : new.turns ≡ old.turns
 
@@ -75,8 +74,8 @@ pub record HasAnswered (proto : Proto) (now : ℕ) (old new : AccessValue) : Typ
   pub datagram : List ℕ
   pub sent : Bool
   pub kept : HasKept old new
-  pub books : books_in new.server ≡ (received old.server.relays (parts_in old.server) (delivery proto from now datagram) (nat_lt old.disk.failures new.disk.failures) (books_in old.server)).books
-  pub counts : new.counts ≡ counted (answer_outcome (received old.server.relays (parts_in old.server) (delivery proto from now datagram) (nat_lt old.disk.failures new.disk.failures) (books_in old.server)).answer sent) old.counts
+  pub books : books_in new.server ≡ (received old.server.topology (delivery proto from now datagram) (nat_lt old.disk.failures new.disk.failures) (books_in old.server)).books
+  pub counts : new.counts ≡ counted (answer_outcome (received old.server.topology (delivery proto from now datagram) (nat_lt old.disk.failures new.disk.failures) (books_in old.server)).answer sent) old.counts
   pub taken : new.taken ≡ old.taken + 1
 
 -- One of the server's sockets was tried: it gave nothing, or one datagram.

@@ -1,4 +1,3 @@
 pub mod Access
 pub mod Counts
 pub mod Sockets
-pub mod Words

@@ -1,12 +1,12 @@
 //! Relay and server over sockets.
 ghost use Rattle.std.specs.Prelude.{◌≡◌, ◌≤◌, ◌<◌, ◌+◌, ◌↔◌, length, map, true, is_some, Some, slice_get, Err, IfOk, IfErr};
-ghost use Rattle.access.specs.Access.{CanDeliver, CanRelay, HasAnswered, HasCarried, HasCounted, HasKept, HasReached, HasServed, HasTurned, StayClosed, books_at};
+ghost use Rattle.access.specs.Access.{CanDeliver, CanRelay, HasAnswered, HasCarried, HasCounted, HasReached, HasServed, HasTurned, StayClosed, books_at};
 ghost use Rattle.access.specs.Counts.{more_by, none};
 ghost use Rattle.access.specs.Sockets.{IsSocket, RefusesSocket};
 ghost use Rattle.access.specs.declared.access.AccessFault.TheVariants as fault;
 ghost use Rattle.config.specs.CircuitPart.{parts_of};
 ghost use Rattle.dispatch.specs.Leases.{HasRegions};
-ghost use Rattle.dispatch.specs.ServerValue.{books_in, parts_in};
+ghost use Rattle.dispatch.specs.ServerValue.{books_in};
 ghost use Rattle.config.specs.Topology.{topology_of};
 
 use crate::clock::moment;
@@ -70,14 +70,13 @@ impl Model for Access {
     ghost use Rattle.access.specs.Access.{AccessValue};
     ghost use Rattle.access.specs.Sockets.{AreOwnRelays};
     ghost use Rattle.dispatch.specs.Leases.{HasRegions};
-    ghost use Rattle.dispatch.specs.ServerValue.{parts_in};
 
     ghost Value = { AccessValue };
 
     ghost view = { λ a. record { topology = a.relays.topology; server = a.server; disk = a.disk; counts = a.counts; taken = a.taken.count; turns = a.turns.count } };
 
     // each circuit and each relay has its sockets, each circuit its own relay's and a region
-    ghost invariant = { λ a. (length a.sockets.circuits.items ≡ length a.relays.topology.circuits) × (length a.sockets.circuits.items ≤ 16) × All (λ circuit. circuit.relay < length a.sockets.relays.items) a.sockets.circuits.items × (length a.sockets.relays.items ≡ length a.relays.topology.relays) × (length a.sockets.relays.items ≤ 8) × HasRegions (parts_in a.server) a.disk.regions × AreOwnRelays a.relays.topology.relays a.relays.topology.circuits a.sockets.circuits.items };
+    ghost invariant = { λ a. (length a.sockets.circuits.items ≡ length a.relays.topology.circuits) × (length a.sockets.circuits.items ≤ 16) × All (λ circuit. circuit.relay < length a.sockets.relays.items) a.sockets.circuits.items × (length a.sockets.relays.items ≡ length a.relays.topology.relays) × (length a.sockets.relays.items ≤ 8) × HasRegions a.server.topology.circuits a.disk.regions × AreOwnRelays a.relays.topology.relays a.relays.topology.circuits a.sockets.circuits.items };
 }
 
 impl Access {
@@ -98,7 +97,7 @@ impl Access {
         requires least { 1024 ≤ port }
         requires most { port ≤ 65472 }
         ensures topology { IfOk result (λ access. access.topology ≡ topology_of config.now) }
-        ensures parts { IfOk result (λ access. parts_in access.server ≡ parts_of config.now) }
+        ensures served { IfOk result (λ access. access.server.topology ≡ topology_of config.now) }
         ensures large { IfOk result (λ access. HasRegions (parts_of config.now) access.disk.regions) }
         ensures counts { IfOk result (λ access. access.counts ≡ none) }
         ensures taken { IfOk result (λ access. access.taken ≡ 0) }
@@ -144,8 +143,7 @@ impl Access {
     pub fn serve<R: Clock>(&mut self, rt: &R, turns: u32, pause: u16)
         ensures turns { self.new.turns ≡ self.old.turns + turns }
         ensures topology { self.new.topology ≡ self.old.topology }
-        ensures parts { parts_in self.new.server ≡ parts_in self.old.server }
-        ensures relays { self.new.server.relays ≡ self.old.server.relays }
+        ensures served { self.new.server.topology ≡ self.old.server.topology }
         ensures regions { self.new.disk.regions ≡ self.old.disk.regions }
         ensures closed { StayClosed self.old.server self.new.server }
     {
@@ -172,8 +170,7 @@ impl Access {
         ensures closed { StayClosed self.old.server self.new.server }
         ensures clocks { HasReached now self.new.server }
         ensures topology { self.new.topology ≡ self.old.topology }
-        ensures parts { parts_in self.new.server ≡ parts_in self.old.server }
-        ensures relays { self.new.server.relays ≡ self.old.server.relays }
+        ensures served { self.new.server.topology ≡ self.old.server.topology }
         ensures regions { self.new.disk.regions ≡ self.old.disk.regions }
     {
         let frames = self.take_from_circuits();
@@ -255,9 +252,7 @@ impl Access {
         ensures up { CanRelay result }
     {
         let relay = self.sockets.circuits[index].relay;
-        let Some(circuit) = Circuit::new(index) else {
-            unreachable!()
-        };
+        let circuit = Circuit::at(index);
         let frame = &self.buffer[..len];
         match self.relays.up(circuit, proto, frame, &mut self.out) {
             Ok(()) => {
@@ -337,9 +332,7 @@ impl Access {
         ensures down { CanDeliver result }
     {
         let datagram = &self.buffer[..len];
-        let Some(relay) = RelayNo::new(index) else {
-            unreachable!()
-        };
+        let relay = RelayNo::at(index);
         match self.relays.down(relay, from, datagram, &mut self.out) {
             Ok((circuit, dest)) => {
                 put_frame(dest, self.out.as_slice(), &mut self.frame);

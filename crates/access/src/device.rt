@@ -34,9 +34,7 @@ fn format_regions<D: Disk>(config: &Config, disk: &mut D) -> Result<(), DeviceFa
     ensures writes { OnOk result ((D.device disk.new).writes ≡ (D.device disk.old).writes + 4 * length config.now.circuits) }
 {
     'circuits: for index in 0..config.circuit_count() {
-        let Some(circuit) = Circuit::new(index) else {
-            unreachable!()
-        };
+        let circuit = Circuit::at(index);
         let Ok(()) = format(config.at(circuit).region, disk) else {
             return Err(DeviceFault::Format);
         };

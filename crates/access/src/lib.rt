@@ -1,9 +1,7 @@
-//! The engine of `accessd`: its command line, relay and server over UDP sockets on loopback, and a device
-//! in a file.
+//! The engine of `accessd`: relay and server over UDP sockets on loopback, and a device in a file.
 #![tactic(auto)]
 
 mod access;
-mod arguments;
 mod clock;
 mod counts;
 mod datagram_socket;
@@ -13,8 +11,8 @@ mod laws;
 mod sockets;
 
 pub use access::{Access, AccessFault};
-pub use arguments::{AccessWords, words};
 pub use clock::moment_of;
+pub use command_line::accessd_words::{AccessWords, words};
 pub use counts::{Counts, Outcome};
 pub use device::{DeviceFault, format_device, open_device};
 pub use laws::counts_grow_together;

@@ -1,5 +1,5 @@
 //! The sockets of relay, server and circuits.
-ghost use Rattle.std.specs.Prelude.{◌≡◌, ◌≤◌, ◌<◌, ◌+◌, ◌*◌, ◌⊎◌, length, map, All, Some, slice_get, option_map, IfOk, IfErr};
+ghost use Rattle.std.specs.Prelude.{◌≡◌, ◌≤◌, ◌<◌, ◌+◌, ◌*◌, length, map, All, Some, slice_get, option_map, IfOk, IfErr};
 ghost use Rattle.config.specs.CircuitPart.{CircuitPart, part_in, parts_of};
 ghost use Rattle.access.specs.Sockets.{AreOwnRelays, IsCircuitSocket, IsRelaySocket, IsSocket, Refuses, local_port};
 
@@ -93,9 +93,7 @@ impl CircuitSockets {
         ensures client6 { IfOk result (λ circuit. circuit.client6 ≡ local_port (port + 4 * index + 3)) }
         ensures refused { IfErr result (Refuses (IsCircuitSocket (length config.now.circuits) port)) }
     {
-        let Some(circuit) = Circuit::new(index) else {
-            unreachable!()
-        };
+        let circuit = Circuit::at(index);
         let relay = config.at(circuit).relay.index();
         let first = port + PORTS * index as u16;
         Ok(CircuitSockets {
@@ -166,9 +164,7 @@ fn bind_relays<R: Net>(
         return Err(SocketFault::Memory);
     };
     'relays: for index in 0..config.relay_count() {
-        let Some(relay) = RelayNo::new(index) else {
-            unreachable!()
-        };
+        let relay = RelayNo::at(index);
         let socket = bind(net, config.relay(relay).source)?;
         if relays.push(socket).is_err() {
             return Err(SocketFault::Memory);

@@ -62,7 +62,9 @@ fn refuse(rt: &HostRuntime, config: &Config, disk: &str, fault: AccessFault) -> 
         AccessFault::Disk => {
             let needed = region_count(config);
             let _ = eprintln!(rt; "open disk");
-            let _ = eprintln!(rt; "{disk}: {fault}, {needed}; --format makes them");
+            let _ = eprintln!(rt;
+                "{disk}: {fault}, {needed}; see \"Add a circuit\" in docs/OPERATING.md"
+            );
             UNOPENED
         }
         AccessFault::Socket(Source { addr, port }) => {
@@ -93,9 +95,7 @@ fn closed_by(access: &mut Access, region: u16) -> &'static str {
 fn report_start(rt: &HostRuntime, config: &Config, access: &mut Access, values: &AccessWords<'_>) {
     let count = config.circuit_count();
     for index in 0..count {
-        let Some(circuit) = Circuit::new(index) else {
-            unreachable!()
-        };
+        let circuit = Circuit::at(index);
         let before = if index == 0 { "serving " } else { ", " };
         let part = config.at(circuit);
         let id = text_of(part.id.as_bytes());

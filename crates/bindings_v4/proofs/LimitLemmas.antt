@@ -93,20 +93,3 @@ module _ (v : PoolSlots) (t : ℕ) (are : AreSlots v.pool v.slots) where
   pub offered_in_time : (m : Request4) (d : Decision4) → d ≡ decision_of (number4 v.pool.first) t m.key (row v t m are v.pool (found v t m are)) → IfSome d.offer (IsOffer t v.pool.count)
   offered_in_time m d e =
       subst (λ (x : Decision4). IfSome x.offer (IsOffer t v.pool.count)) (sym e) (of_row v t m are (OffersInTime m.key) (offers_in_time m.key))
-
--- what ends within a week of a clock is within the limit of what a region keeps
-pub ends_within : (clock : ℕ) → clock ≤ 1099511627775 → (content : Slot4) → EndsBy (clock + 604800) content → IsWithin4 content
-ends_within clock limit slot4.Free h = tt
-ends_within clock limit (slot4.Bound key until) h = omega (arith, limit, h)
-ends_within clock limit (slot4.Barred until) h = omega (arith, limit, h)
-
--- and so with the slot that a decision keeps
-pub keep_ends_within : (clock : ℕ) → clock ≤ 1099511627775 → (keep : Option KeptSlot) → IfSome keep (λ kept. EndsBy (clock + 604800) kept.content) → IfSome keep (λ kept. IsWithin4 kept.content)
-keep_ends_within clock limit None h = tt
-keep_ends_within clock limit (Some kept) h = ends_within clock limit kept.content h
-
--- and so with an offer that it makes
-pub offer_ends_within : (clock count : ℕ) → clock ≤ 1099511627775 → (change : Option OfferChange) → IfSome change (IsOffer clock count) → IfSome change IsOfferWithin
-offer_ends_within clock count limit None h = tt
-offer_ends_within clock count limit (Some (offer.Made i k u)) h = omega (arith, limit, h.1)
-offer_ends_within clock count limit (Some (offer.Withdrawn i)) h = tt

@@ -1,2 +1,5 @@
+pub mod AccessdWords
+pub mod AccesslabWords
 pub mod CommandLine
+pub mod LeasesWords
 pub mod Status

@@ -1,5 +1,5 @@
 //! What the programs share of their arguments.
-ghost use Rattle.std.specs.Prelude.{◌≡◌, ℕ, false, IfSome, IsNone};
+ghost use Rattle.std.specs.Prelude.{◌≡◌, ◌↔◌, ℕ, Some, false, true, codes, IfSome, IsNone};
 ghost use Rattle.clap.specs.Words.{rule_of, found_of, first_value};
 ghost use Rattle.command_line.specs.CommandLine.{IsNumber, config_rule};
 
@@ -27,4 +27,14 @@ pub fn number<'a>(matches: &ArgMatches<'a>, id: &str, least: u32, most: u32) -> 
         return None;
     }
     Some(number)
+}
+
+/// Whether a flag is there.
+pub(crate) fn is_set<'a>(matches: &ArgMatches<'a>, id: &str) -> bool
+    ensures { (result ≡ true) ↔ (first_value (found_of matches.now) id.now ≡ Some (codes "true")) }
+{
+    match matches.get_str(id) {
+        Some(text) => text == "true",
+        None => false,
+    }
 }

@@ -1,9 +1,12 @@
-//! What the programs do before they run: the words of the command line, what their arguments share, refused
-//! command lines, the configuration's file and the exit statuses.
+//! What the programs do before they run: the words of each command line, refused command lines, the
+//! configuration's file and the exit statuses.
 #![tactic(auto)]
 
+pub mod accessd_words;
+pub mod accesslab_words;
 mod arguments;
 mod configuration;
+pub mod leases_words;
 mod refusal;
 mod status;
 mod words;

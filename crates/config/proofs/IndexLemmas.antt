@@ -99,6 +99,3 @@ same_ids f same (c ∷ cs) = λ j. sym (same c) j ∷ same_ids f same cs j
 
 pub ids_of_parts : (settings : Settings) → map (λ c. c.id) settings.circuits ≡ map (λ part. part.id) (parts_of settings)
 ids_of_parts settings = same_ids _ (λ c. refl) settings.circuits
-
-pub few_parts : (settings : Settings) → IsSound settings → length (parts_of settings) ≤ 1024
-few_parts settings sound = subst (λ n. n ≤ 1024) (sym (length-map settings.circuits _)) sound.circuits

@@ -4,3 +4,4 @@ pub mod LawLemmas
 pub mod PartLemmas
 pub mod PoolLemmas
 pub mod RuleLemmas
+pub mod TopologyLemmas

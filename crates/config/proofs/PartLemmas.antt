@@ -20,7 +20,7 @@ use Rattle.settings.specs.declared.settings.RelayConfig.{RelayConfig}
 use Rattle.settings.specs.declared.settings.ServerConfig.{ServerConfig}
 
 -- what holds of each element holds of the one at an index
-all_at : {X : Type 0} (P : X → Type 0) (xs : List X) (i : ℕ) (x : X) → slice_get xs i ≡ Some x → All P xs → P x
+pub all_at : {X : Type 0} (P : X → Type 0) (xs : List X) (i : ℕ) (x : X) → slice_get xs i ≡ Some x → All P xs → P x
 all_at P xs i x there each = subst P (get_or_from_slice_get xs i x x there) (All-get_or P xs i x (slice_get_within xs i x there) each)
 
 -- within a list there is an element

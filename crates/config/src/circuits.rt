@@ -1,10 +1,12 @@
 //! What relays and server keep of a configuration: its addresses and the parts of its circuits.
-ghost use Rattle.std.specs.Prelude.{◌≡◌, ◌<◌, ◌≤◌, length, map, All, Some, IfOk, IfSome, slice_get};
+ghost use Rattle.std.specs.Prelude.{◌≡◌, ◌<◌, ◌≤◌, length, map, All, Some, None, IfNone, IfOk, IfSome, option_map, slice_get};
 ghost use Rattle.std.specs.List.{position};
 ghost use Rattle.std.specs.Str.{bytes_eq};
+ghost use Rattle.types.specs.Addr.{same_source};
+ghost use Rattle.config.specs.CircuitPart as parts;
 ghost use Rattle.config.specs.CircuitPart.{IsPart, parts_of};
 ghost use Rattle.config.specs.Rules.{IsSound};
-ghost use Rattle.config.specs.Topology.{is_relay, is_server, topology_of};
+ghost use Rattle.config.specs.Topology.{IsTopology, is_relay, is_server, relay_circuit, topology_of};
 
 use crate::circuit_index::CircuitIndex;
 use crate::circuit_part::CircuitPart;
@@ -25,15 +27,15 @@ pub struct Circuits {
 }
 
 impl Model for Circuits {
-    ghost use Rattle.std.specs.Prelude.{◌≡◌, ◌≤◌, All, length, map};
-    ghost use Rattle.config.specs.CircuitPart.{IsPart};
-    ghost use Rattle.config.specs.Topology.{Topology};
+    ghost use Rattle.std.specs.Prelude.{◌≡◌, map};
+    ghost use Rattle.config.specs.Topology.{IsTopology, Topology};
 
     ghost Value = { Topology };
 
     ghost view = { λ c. record { listen4 = c.listen4; listen6 = c.listen6; relays = c.relays.items; circuits = c.parts.items } };
 
-    ghost invariant = { λ c. (length c.parts.items ≤ 1024) × All IsPart c.parts.items × (c.index ≡ map (λ part. part.id) c.parts.items) };
+    ghost invariant = { λ c. IsTopology (record { listen4 = c.listen4; listen6 = c.listen6; relays = c.relays.items; circuits = c.parts.items })
+        × (c.index ≡ map (λ part. part.id) c.parts.items) };
 }
 
 impl Circuits {
@@ -41,8 +43,8 @@ impl Circuits {
     /// refused.
     pub fn of(alloc: Global, config: &Config) -> Result<Circuits, AllocError>
         ensures topology { IfOk result (λ circuits. circuits ≡ topology_of config.now) }
-        ensures parts { IfOk result (λ circuits. All IsPart (parts_of config.now)) }
-        ensures sound { IsSound config.now }
+        ensures sound { IfOk result (λ circuits. IsTopology (topology_of config.now)) }
+        ensures rules { IsSound config.now }
     {
         let server = config.server();
         let relays = relays_of(alloc, config)?;
@@ -59,13 +61,44 @@ impl Circuits {
 
     /// The circuit with exactly these bytes as its id.
     #[tactic(auto, using(crate::proofs::IndexLemmas::no_part, crate::proofs::IndexLemmas::position_of))]
-    pub fn find(&self, id: &[u8]) -> Option<Circuit>
+    fn find(&self, id: &[u8]) -> Option<Circuit>
         ensures found { result ≡ position (λ part. bytes_eq id.now part.id) self.now.circuits }
         ensures within { IfSome result (λ circuit. circuit < length self.now.circuits) }
     {
         let index = &self.index;
         let id = CircuitId::new(id)?;
         Circuit::new(index.find(&id)?)
+    }
+
+    /// The circuit with exactly this id, which has to be one of the relay that sends from this source.
+    pub fn relay_circuit(&self, relay: Source, id: Option<&[u8]>) -> Option<Circuit>
+        ensures found { IfSome result (λ circuit. (part : parts.CircuitPart) → slice_get self.now.circuits circuit ≡ Some part
+            → relay_circuit self.now relay (option_map (λ bytes. bytes.now) id.entry) ≡ Some (circuit, part)) }
+        ensures within { IfSome result (λ circuit. circuit < length self.now.circuits) }
+        ensures none { IfNone result (relay_circuit self.now relay (option_map (λ bytes. bytes.now) id.entry) ≡ None) }
+    {
+        let Some(id) = id else {
+            return None;
+        };
+        let Some(circuit) = self.find(id) else {
+            return None;
+        };
+        if self.part(circuit).relay() == relay {
+            Some(circuit)
+        } else {
+            None
+        }
+    }
+
+    /// The index of a circuit's relay.
+    pub fn relay_no(&self, circuit: Circuit) -> RelayNo
+        requires { circuit < length self.now.circuits }
+        ensures { (part : parts.CircuitPart) → slice_get self.now.circuits circuit ≡ Some part → slice_get self.now.relays result ≡ Some part.relay }
+    {
+        let Some(index) = index_of(&self.relays, self.part(circuit).relay()) else {
+            unreachable!()
+        };
+        RelayNo::at(index)
     }
 
     pub fn part(&self, circuit: Circuit) -> &CircuitPart
@@ -134,15 +167,20 @@ impl Circuits {
     }
 }
 
+/// The index of the first of these relays that sends from this source.
+fn index_of(relays: &[Source], source: Source) -> Option<usize>
+    ensures { result ≡ position (same_source source) relays.now }
+{
+    relays.iter().position(|relay| source == *relay)
+}
+
 /// Where the datagrams of each relay come from, in the order of the configuration.
 fn relays_of(alloc: Global, config: &Config) -> Result<Vec<Source>, AllocError>
     ensures { IfOk result (λ sources. sources.items ≡ map (λ relay. relay.source) config.now.relays) }
 {
     let mut sources = Vec::with_capacity(alloc, config.relay_count())?;
     'relays: for index in 0..config.relay_count() {
-        let Some(no) = RelayNo::new(index) else {
-            unreachable!()
-        };
+        let no = RelayNo::at(index);
         sources.push(config.relay(no).source)?;
     }
     Ok(sources)
@@ -155,9 +193,7 @@ fn parts_of(alloc: Global, config: &Config) -> Result<Vec<CircuitPart>, AllocErr
 {
     let mut parts = Vec::with_capacity(alloc, config.circuit_count())?;
     'circuits: for index in 0..config.circuit_count() {
-        let Some(circuit) = Circuit::new(index) else {
-            unreachable!()
-        };
+        let circuit = Circuit::at(index);
         parts.push(CircuitPart::of(config, circuit))?;
     }
     Ok(parts)

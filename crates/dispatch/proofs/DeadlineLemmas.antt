@@ -21,8 +21,7 @@ use Rattle.dispatch.specs.CircuitDecision.{KeepsItsSlot, with_decision}
 use Rattle.dispatch.specs.declared.decision.CircuitDecision.{CircuitDecision}
 use Rattle.dispatch.specs.declared.decision.CircuitDecision.TheVariants.{V4, V6}
 use Rattle.dispatch.specs.Deadlines.{HasDeadlines, HasItsSlots, HoldsDeadlines, IsOfferIn, SameBeside, held_in, held_until, swept, with_deadlines, with_kept4, with_kept6, with_offered, with_until}
-use Rattle.dispatch.specs.ServerValue.{CircuitServerValue, OpenCircuitValue, with_states}
-use Rattle.config.specs.CircuitPart.{CircuitPart}
+use Rattle.dispatch.specs.ServerValue.{OpenCircuitValue}
 use Rattle.std.proofs.lemmas.Option.{same_Some, slice_get_within}
 
 -- ---- a slot with a new holder
@@ -367,12 +366,6 @@ one_held k table after states new within holds own same =
 
 pub all_held : (table : DeadlinesValue) (states : List (Option OpenCircuitValue)) (count : ℕ) → length states ≤ count → length table.slots ≡ 32 * length states → HoldsFirst count table states → HoldsDeadlines table states
 all_held table states count whole size holds = record { size = size; each = λ c state there. holds.each c state (omega (arith, whole, slice_get_within states c state there)) there }
-
-pub states_with : (parts : List CircuitPart) (states : List (Option OpenCircuitValue)) → length states ≡ length parts → map (λ (s : CircuitServerValue). s.state) (with_states parts states) ≡ states
-states_with [] [] same = refl
-states_with [] (x ∷ states) same = absurd (omega (arith, same))
-states_with (part ∷ parts) [] same = absurd (omega (arith, same))
-states_with (part ∷ parts) (x ∷ states) same = ap (λ xs. x ∷ xs) (states_with parts states (omega (arith, same)))
 
 -- the count of looks is no part of it
 has_same : (first : ℕ) (old new : DeadlinesValue) (state : Option OpenCircuitValue) → new.slots ≡ old.slots → HasDeadlines old first state → HasDeadlines new first state

@@ -1,9 +1,6 @@
-pub mod AddresseeLemmas
 pub mod AnswerLemmas
 pub mod DeadlineLemmas
-pub mod IndexLemmas
 pub mod ReceivedLemmas
-pub mod RequestLemmas6
 pub mod RegionLemmas
 pub mod SaveLemmas
 pub mod ServerLemmas

@@ -2,29 +2,29 @@
 use Rattle.std.proofs.Common.{◌≡◌, ℕ, Bool, List, Ok, ap, ◌∙◌}
 use Rattle.std.specs.Prelude.{Option, Some, slice_get, slice_set}
 use Rattle.types.specs.Delivery.{DeliveryValue}
-use Rattle.types.specs.declared.addr.Source.{Source}
 use Rattle.config.specs.CircuitPart.{CircuitPart}
-use Rattle.dispatch.specs.Addressee.{addressee}
+use Rattle.config.specs.Topology.{Topology}
+use Rattle.requests.specs.Addressee.{addressee}
 use Rattle.dispatch.specs.Leases.{Leases, leases_with, addressee_leases, received_leases, after_datagram}
 use Rattle.dispatch.specs.Received.{received, with_answered, answered, circuit_answered, addressee_answered, circuit_saves, addressee_saves, received_saves}
 use Rattle.dispatch.specs.Server.{Book}
 
-module _ (relays : List Source) (parts : List CircuitPart) (d : DeliveryValue) (c : ℕ) (part : CircuitPart)
-    (found : addressee relays parts d.proto d.source d.bytes ≡ Ok c) (there : slice_get parts c ≡ Some part) where
+module _ (topology : Topology) (d : DeliveryValue) (c : ℕ) (part : CircuitPart)
+    (found : addressee topology d ≡ Ok c) (there : slice_get topology.circuits c ≡ Some part) where
   pub received_at : (fails : Bool) (books : List (Option Book)) (book : Option Book) → slice_get books c ≡ Some book
-      → received relays parts d fails books ≡ with_answered c books (answered part d fails book)
+      → received topology d fails books ≡ with_answered c books (answered part d fails book)
   received_at fails books book its =
-      ap (addressee_answered parts d fails books) found
+      ap (addressee_answered topology d fails books) found
       ∙ (λ i. circuit_answered c d fails books (there i) (its i))
 
   pub saves_at : (books : List (Option Book)) (book : Option Book) → slice_get books c ≡ Some book
-      → received_saves relays parts d books ≡ circuit_saves d (Some part) (Some book)
+      → received_saves topology d books ≡ circuit_saves d (Some part) (Some book)
   saves_at books book its =
-      ap (addressee_saves parts d books) found
+      ap (addressee_saves topology d books) found
       ∙ (λ i. circuit_saves d (there i) (its i))
 
   pub leases_at : (faults : ℕ → ℕ) (all : List Leases) (l : Leases) → slice_get all c ≡ Some l
-      → received_leases relays parts d faults all ≡ slice_set all c (after_datagram part d (faults part.region) l)
+      → received_leases topology d faults all ≡ slice_set all c (after_datagram part d (faults part.region) l)
   leases_at faults all l its =
-      ap (addressee_leases parts d faults all) found
+      ap (addressee_leases topology d faults all) found
       ∙ (λ i. leases_with c d faults all (there i) (its i))

@@ -16,8 +16,8 @@ use Rattle.lease_disk.specs.Save.{IsSaved, IsLeft}
 use Rattle.lease_disk.specs.declared.device.Fault.{Fault}
 use Rattle.std.proofs.lemmas.Option.{same_Some}
 use Rattle.lease_disk.specs.Save.{AreMarks, Fits}
-use Rattle.lease_disk.specs.declared.format2.content.Content.{Content}
-use Rattle.lease_disk.specs.declared.format2.content.Content.TheVariants as content
+use Rattle.lease_disk.specs.declared.content.Content.{Content}
+use Rattle.lease_disk.specs.declared.content.Content.TheVariants as content
 use Rattle.bindings_v4.specs.Kept4.{kept_slots as kept_slots4, keep_in as keep_in4}
 use Rattle.bindings_v4.specs.Slots4 as slots4
 use Rattle.bindings_v4.specs.declared.decision4.Decision4.{Decision4}

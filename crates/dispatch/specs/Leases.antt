@@ -2,7 +2,6 @@
 -- changes but offers is saved in the region before the reply leaves.
 use Rattle.std.specs.Prelude.{◌≡◌, ℕ, ◌==◌, ◌&&◌, ◌||◌, nat_le, ◌<◌, true, List, [], ◌∷◌, Option, Some, None, option_map, All, slice_get, slice_set, Result, Ok, Err, if◌then◌else◌}
 use Rattle.types.specs.Delivery.{DeliveryValue}
-use Rattle.types.specs.declared.addr.Source.{Source}
 use Rattle.types.specs.declared.discard.Discard.{Discard}
 use Rattle.types.specs.declared.slots.Slots.{Slots}
 use Rattle.lease_disk.specs.declared.image.Image.{Image}
@@ -11,9 +10,10 @@ use Rattle.lease_disk.specs.Layout.{gate_open}
 use Rattle.lease_disk.specs.Recovered.{recovered}
 use Rattle.lease_disk.specs.Region.{Region, IsClean, image, effective}
 use Rattle.config.specs.CircuitPart.{CircuitPart, pool4_of, pool6_of}
+use Rattle.config.specs.Topology.{Topology}
 use Rattle.bindings_v4.specs.Kept4.{book4_in}
 use Rattle.bindings_v6.specs.Kept6.{book6_in}
-use Rattle.dispatch.specs.Addressee.{addressee}
+use Rattle.requests.specs.Addressee.{addressee}
 use Rattle.dispatch.specs.Server.{Book, Served, book_at, kept_book, served}
 
 pub record Leases : Type 0 where
@@ -88,14 +88,14 @@ abbrev pub leases_with : ℕ → DeliveryValue → (ℕ → ℕ) → List Leases
 leases_with c d faults all (Some part) (Some l) = slice_set all c (after_datagram part d (faults part.region) l)
 leases_with c d faults all part l = all
 
-abbrev pub addressee_leases : List CircuitPart → DeliveryValue → (ℕ → ℕ) → List Leases → Result ℕ Discard → List Leases
-addressee_leases parts d faults all (Err why) = all
-addressee_leases parts d faults all (Ok c) = leases_with c d faults all (slice_get parts c) (slice_get all c)
+abbrev pub addressee_leases : Topology → DeliveryValue → (ℕ → ℕ) → List Leases → Result ℕ Discard → List Leases
+addressee_leases topology d faults all (Err why) = all
+addressee_leases topology d faults all (Ok c) = leases_with c d faults all (slice_get topology.circuits c) (slice_get all c)
 
 -- Only the leases of the datagram's circuit change. `faults` says for each region which of the device's
 -- next calls fails.
-abbrev pub received_leases : List Source → List CircuitPart → DeliveryValue → (ℕ → ℕ) → List Leases → List Leases
-received_leases relays parts d faults all = addressee_leases parts d faults all (addressee relays parts d.proto d.source d.bytes)
+abbrev pub received_leases : Topology → DeliveryValue → (ℕ → ℕ) → List Leases → List Leases
+received_leases topology d faults all = addressee_leases topology d faults all (addressee topology d)
 
 -- ---- the device
 

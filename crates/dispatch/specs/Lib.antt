@@ -1,14 +1,7 @@
-pub mod Addressee
-pub mod Addressee4
-pub mod Addressee6
 pub mod CircuitDecision
 pub mod Deadlines
 pub mod Leases
-pub mod NamedCircuit
 pub mod Received
-pub mod RelayedMessage
-pub mod Request4
-pub mod Request6
 pub mod Server
 pub mod ServerValue
 pub mod Ticked

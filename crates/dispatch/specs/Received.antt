@@ -1,12 +1,12 @@
 -- What the server makes of any datagram.
 use Rattle.std.specs.Prelude.{◌≡◌, ℕ, ◌==◌, ◌&&◌, Bool, not, false, List, [], Option, Some, None, slice_get, slice_set, Result, Ok, Err, if◌then◌else◌}
 use Rattle.types.specs.Delivery.{DeliveryValue}
-use Rattle.types.specs.declared.addr.Source.{Source}
 use Rattle.types.specs.declared.discard.Discard.{Discard}
 use Rattle.types.specs.declared.discard.Discard.TheVariants.{UnknownCircuit, CircuitClosed, DiskFault}
 use Rattle.lease_disk.specs.Region.{effective}
 use Rattle.config.specs.CircuitPart.{CircuitPart}
-use Rattle.dispatch.specs.Addressee.{addressee}
+use Rattle.config.specs.Topology.{Topology}
+use Rattle.requests.specs.Addressee.{addressee}
 use Rattle.dispatch.specs.Server.{Book, Served, served}
 
 -- ---- one circuit
@@ -45,12 +45,12 @@ circuit_answered c d fails books (Some part) (Some book) = with_answered c books
 circuit_answered c d fails books part book = drop_all UnknownCircuit books
 
 -- What is of no circuit changes nothing.
-abbrev pub addressee_answered : List CircuitPart → DeliveryValue → Bool → List (Option Book) → Result ℕ Discard → Received
-addressee_answered parts d fails books (Err why) = drop_all why books
-addressee_answered parts d fails books (Ok c) = circuit_answered c d fails books (slice_get parts c) (slice_get books c)
+abbrev pub addressee_answered : Topology → DeliveryValue → Bool → List (Option Book) → Result ℕ Discard → Received
+addressee_answered topology d fails books (Err why) = drop_all why books
+addressee_answered topology d fails books (Ok c) = circuit_answered c d fails books (slice_get topology.circuits c) (slice_get books c)
 
-abbrev pub received : List Source → List CircuitPart → DeliveryValue → Bool → List (Option Book) → Received
-received relays parts d fails books = addressee_answered parts d fails books (addressee relays parts d.proto d.source d.bytes)
+abbrev pub received : Topology → DeliveryValue → Bool → List (Option Book) → Received
+received topology d fails books = addressee_answered topology d fails books (addressee topology d)
 
 -- ---- what is written
 
@@ -62,13 +62,13 @@ abbrev pub circuit_saves : DeliveryValue → Option CircuitPart → Option (Opti
 circuit_saves d (Some part) (Some (Some b)) = saves part (served part d b)
 circuit_saves d part book = None
 
-abbrev pub addressee_saves : List CircuitPart → DeliveryValue → List (Option Book) → Result ℕ Discard → Option ℕ
-addressee_saves parts d books (Err why) = None
-addressee_saves parts d books (Ok c) = circuit_saves d (slice_get parts c) (slice_get books c)
+abbrev pub addressee_saves : Topology → DeliveryValue → List (Option Book) → Result ℕ Discard → Option ℕ
+addressee_saves topology d books (Err why) = None
+addressee_saves topology d books (Ok c) = circuit_saves d (slice_get topology.circuits c) (slice_get books c)
 
 -- The region that a datagram's save writes to, whether it fails or not; None where nothing is written.
-abbrev pub received_saves : List Source → List CircuitPart → DeliveryValue → List (Option Book) → Option ℕ
-received_saves relays parts d books = addressee_saves parts d books (addressee relays parts d.proto d.source d.bytes)
+abbrev pub received_saves : Topology → DeliveryValue → List (Option Book) → Option ℕ
+received_saves topology d books = addressee_saves topology d books (addressee topology d)
 
 -- Whether a save to this region fails, where `faults` says for each region which of the device's next calls
 -- fails.

@@ -30,8 +30,8 @@ use Rattle.bindings_v6.specs.Table6.{answer6}
 use Rattle.bindings_v6.specs.Table6 as table6
 use Rattle.replies.specs.Reply4.{reply4_bytes}
 use Rattle.replies.specs.Reply6.{reply6_bytes}
-use Rattle.dispatch.specs.Request4.{request4_in}
-use Rattle.dispatch.specs.Request6.{request6_in}
+use Rattle.requests.specs.Request4.{request4_in}
+use Rattle.requests.specs.Request6.{request6_in}
 
 -- The clock of a circuit in seconds, and its leases of both protocols.
 pub record Book : Type 0 where

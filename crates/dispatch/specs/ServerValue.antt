@@ -1,8 +1,8 @@
 -- What shows of the server in the code.
-use Rattle.std.specs.Prelude.{◌≡◌, ◌≤◌, ℕ, List, [], ◌∷◌, length, map, Option, Some, None, IfSome, option_map, All, slice_get}
-use Rattle.types.specs.declared.addr.Source.{Source}
+use Rattle.std.specs.Prelude.{◌≡◌, ◌≤◌, ℕ, List, [], ◌∷◌, length, map, Option, Some, None, IfSome, option_map, All}
 use Rattle.config.specs.CircuitPart.{CircuitPart, pool4_of, pool6_of}
-use Rattle.lease_disk.specs.declared.format2.half.Marks.{Marks}
+use Rattle.config.specs.Topology.{IsTopology, Topology}
+use Rattle.lease_disk.specs.declared.marks.Marks.{Marks}
 use Rattle.lease_disk.specs.Recovered.{recovered}
 use Rattle.lease_disk.specs.Region.{Region, IsClean}
 use Rattle.lease_disk.specs.Save.{AreMarks}
@@ -79,37 +79,29 @@ IsReadyFor region (Some o) = IsClean region × AreMarks (counts_in o) region.byt
 abbrev pub IsReady : (ℕ → Region) → CircuitServerValue → Type 0
 IsReady regions s = IsReadyFor (regions s.part.region) s.state
 
--- of all circuits, where each relay's datagrams come from, and when what is held in the circuits' slots is due
+-- what it knows of the configuration, what each circuit has while it is open, and when what is held in their
+-- slots is due
 pub record ServerValue : Type 0 where
-  pub relays : List Source
-  pub circuits : List CircuitServerValue
+  pub topology : Topology
+  pub states : List (Option OpenCircuitValue)
   pub deadlines : DeadlinesValue
 
--- each circuit's part of the configuration, its book, and its leases
-abbrev pub parts_in : ServerValue → List CircuitPart
-parts_in s = map part_of s.circuits
+abbrev pub circuits_in : ServerValue → List CircuitServerValue
+circuits_in s = with_states s.topology.circuits s.states
 
+-- each circuit's book, and its leases
 abbrev pub books_in : ServerValue → List (Option Book)
-books_in s = map book_of s.circuits
-
-abbrev pub states_in : ServerValue → List (Option OpenCircuitValue)
-states_in s = map (λ circuit. circuit.state) s.circuits
+books_in s = map book_of (circuits_in s)
 
 abbrev pub leases_in : (ℕ → Region) → ServerValue → List Leases
-leases_in regions s = map (leases_of regions) s.circuits
+leases_in regions s = map (leases_of regions) (circuits_in s)
 
 -- every open circuit's region can be saved to
 abbrev pub AreReady : (ℕ → Region) → ServerValue → Type 0
-AreReady regions s = All (IsReady regions) s.circuits
-
--- no two circuits have one region
-abbrev pub RegionsDiffer : List CircuitPart → Type 0
-RegionsDiffer parts =
-    (c d : ℕ) (one other : CircuitPart) → slice_get parts c ≡ Some one → slice_get parts d ≡ Some other → one.region ≡ other.region → c ≡ d
+AreReady regions s = All (IsReady regions) (circuits_in s)
 
 -- what the fields of a server keep: a state for each part, with the slots of its pools
-pub record IsServer (parts : List CircuitPart) (states : List (Option OpenCircuitValue)) : Type 0 where
-  pub few : length parts ≤ 1024
-  pub size : length states ≡ length parts
-  pub regions : RegionsDiffer parts
-  pub pools : All HasItsPools (with_states parts states)
+pub record IsServer (topology : Topology) (states : List (Option OpenCircuitValue)) : Type 0 where
+  pub sound : IsTopology topology
+  pub size : length states ≡ length topology.circuits
+  pub pools : All HasItsPools (with_states topology.circuits states)

@@ -1,18 +1,18 @@
 //! The servers of all circuits: one tick moves the clocks of all at once.
-ghost use Rattle.std.specs.Prelude.{◌≡◌, ◌<◌, ◌≤◌, ◌+◌, ◌*◌, ℕ, [], List, Some, None, length, map, slice_set, All, true, is_some, nat_lt, option_map, IfOk};
+ghost use Rattle.std.specs.Prelude.{◌≡◌, ◌<◌, ◌≤◌, ◌+◌, ◌*◌, [], List, Some, length, map, slice_set, All, true, is_some, nat_lt, option_map, IfOk};
 ghost use Rattle.config.specs.CircuitPart as parts;
 ghost use Rattle.dispatch.specs.Deadlines.{HasDeadlines, HoldsDeadlines, SameBeside};
 ghost use Rattle.dispatch.specs.Leases.{AreSynced, HasRegions, after_datagram, found_leases};
 ghost use Rattle.dispatch.specs.Received.{IsAnswer, answered, circuit_saves, fails_at};
-ghost use Rattle.dispatch.specs.RelayedMessage.{IsRelayedMessage};
+ghost use Rattle.requests.specs.RelayedMessage.{IsRelayedMessage};
 ghost use Rattle.dispatch.specs.ServerValue.{HasItsPools, HasPools, IsReady, IsReadyFor, leases_of, open_book, with_states};
 ghost use Rattle.dispatch.specs.Ticked.{state_at, state_of};
 ghost use Rattle.lease_disk.specs.Device.{Touches, TouchesNothing, WritesAt};
 
-use crate::addressee::RelayedMessage;
 use crate::circuit_server::CircuitServer;
 use config::CircuitPart;
 use lease_disk::Disk;
+use requests::RelayedMessage;
 use std::alloc::{AllocError, Global};
 use std::marker::Model;
 use timers::Deadlines;

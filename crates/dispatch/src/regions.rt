@@ -13,9 +13,7 @@ pub fn region_count(config: &Config) -> u16
 {
     let mut regions = 0;
     for index in 0..config.circuit_count() {
-        let Some(circuit) = Circuit::new(index) else {
-            unreachable!()
-        };
+        let circuit = Circuit::at(index);
         let needed = config.at(circuit).region + 1;
         if needed > regions {
             regions = needed;

@@ -1,22 +1,22 @@
 //! The server of all circuits, over a device that keeps their leases.
-ghost use Rattle.std.specs.Prelude.{◌≡◌, ◌<◌, ◌≤◌, ◌+◌, ◌*◌, ◌↔◌, [], ℕ, List, length, map, slice_get, All, Some, true, false, is_some, nat_lt, count_by, IfOk, IfErr, OnErr};
-ghost use Rattle.config.specs.CircuitPart as parts;
-ghost use Rattle.config.specs.CircuitPart.{IsPart, parts_of};
-ghost use Rattle.dispatch.specs.Addressee as who;
-ghost use Rattle.dispatch.specs.Deadlines.{HoldsDeadlines, swept};
+ghost use Rattle.std.specs.Prelude.{◌≡◌, ◌<◌, ◌≤◌, ◌+◌, ◌*◌, ◌↔◌, ℕ, length, map, slice_get, Some, true, false, is_some, nat_lt, count_by, IfOk, IfErr, OnErr};
+ghost use Rattle.config.specs.CircuitPart.{parts_of};
+ghost use Rattle.config.specs.Topology.{IsTopology, topology_of};
+ghost use Rattle.requests.specs.Addressee as who;
+ghost use Rattle.dispatch.specs.Deadlines.{HoldsDeadlines};
 ghost use Rattle.dispatch.specs.Leases.{AreSynced, HasRegions, after_tick, found_leases, received_leases};
 ghost use Rattle.dispatch.specs.Received.{IsAnswer, fails_at, received, received_saves};
-ghost use Rattle.dispatch.specs.ServerValue.{AreReady, HasItsPools, IsReady, RegionsDiffer, books_in, leases_in, leases_of, parts_in, states_in, with_states};
+ghost use Rattle.dispatch.specs.ServerValue.{AreReady, books_in, leases_in};
 ghost use Rattle.dispatch.specs.declared.server.OpenFault.TheVariants as fault;
 ghost use Rattle.lease_disk.specs.Device.{TouchesNothing, WritesAt};
 ghost use Rattle.types.specs.Delivery.{delivery};
 ghost use Rattle.lease_disk.specs.Region.{Region};
-ghost use Rattle.timers.specs.Deadlines.{DeadlinesValue, deadline, is_due};
+ghost use Rattle.timers.specs.Deadlines.{deadline, is_due};
 
-use crate::addressee::addressee;
 use crate::circuit_servers::{CircuitServers, SLOTS};
 use config::{CircuitPart, Circuits, Config};
 use lease_disk::Disk;
+use requests::addressee;
 use std::alloc::Global;
 use std::marker::Model;
 use thiserror::Error;
@@ -48,13 +48,13 @@ pub struct Server {
 
 impl Model for Server {
     ghost use Rattle.dispatch.specs.Deadlines.{HoldsDeadlines};
-    ghost use Rattle.dispatch.specs.ServerValue.{IsServer, ServerValue, with_states};
+    ghost use Rattle.dispatch.specs.ServerValue.{IsServer, ServerValue};
 
     ghost Value = { ServerValue };
 
-    ghost view = { λ s. record { relays = s.circuits.relays; circuits = with_states s.circuits.circuits s.servers; deadlines = s.deadlines } };
+    ghost view = { λ s. record { topology = s.circuits; states = s.servers; deadlines = s.deadlines } };
 
-    ghost invariant = { λ s. IsServer s.circuits.circuits s.servers × HoldsDeadlines s.deadlines s.servers };
+    ghost invariant = { λ s. IsServer s.circuits s.servers × HoldsDeadlines s.deadlines s.servers };
 }
 
 /// Whether the device has the region of each circuit.
@@ -76,10 +76,8 @@ impl Server {
     /// memory is taken before the device is first called.
     pub fn open<D: Disk>(alloc: Global, config: &Config, disk: &mut D) -> Result<Server, OpenFault>
         requires synced { D.tells ≡ true → AreSynced (parts_of config.now) (D.device disk.old).region }
-        ensures relays { IfOk result (λ server. server.relays ≡ map (λ relay. relay.source) config.now.relays) }
-        ensures parts { IfOk result (λ server. parts_in server ≡ parts_of config.now) }
-        ensures sound { IfOk result (λ server. All IsPart (parts_of config.now)) }
-        ensures differ { IfOk result (λ server. RegionsDiffer (parts_of config.now)) }
+        ensures topology { IfOk result (λ server. server.topology ≡ topology_of config.now) }
+        ensures sound { IfOk result (λ server. IsTopology (topology_of config.now)) }
         ensures leases { D.tells ≡ true → IfOk result (λ server. leases_in (D.device disk.new).region server ≡ map (found_leases (D.device disk.old).region) (parts_of config.now)) }
         ensures ready { D.tells ≡ true → IfOk result (λ server. AreReady (D.device disk.new).region server) }
         ensures large { IfOk result (λ server. HasRegions (parts_of config.now) (D.device disk.new).count) }
@@ -91,10 +89,11 @@ impl Server {
         let Ok(circuits) = Circuits::of(alloc, config) else {
             return Err(OpenFault::Memory);
         };
-        let Ok(mut servers) = CircuitServers::closed(alloc, circuits.count()) else {
+        let count = config.circuit_count();
+        let Ok(mut servers) = CircuitServers::closed(alloc, count) else {
             return Err(OpenFault::Memory);
         };
-        let Ok(mut deadlines) = Deadlines::new(alloc, SLOTS * circuits.count()) else {
+        let Ok(mut deadlines) = Deadlines::new(alloc, SLOTS * count) else {
             return Err(OpenFault::Memory);
         };
         if !has_regions(circuits.parts(), disk.regions()) {
@@ -110,15 +109,15 @@ impl Server {
 
     /// How many circuits there are.
     pub fn circuit_count(&self) -> usize
-        ensures { result ≡ length self.now.circuits }
+        ensures { result ≡ length self.now.topology.circuits }
     {
         self.circuits.count()
     }
 
     /// A circuit's part of the configuration.
     pub fn part(&self, circuit: Circuit) -> &CircuitPart
-        requires { circuit < length self.now.circuits }
-        ensures { slice_get (parts_in self.now) circuit ≡ Some result.now }
+        requires { circuit < length self.now.topology.circuits }
+        ensures { slice_get self.now.topology.circuits circuit ≡ Some result.now }
     {
         self.circuits.part(circuit)
     }
@@ -136,7 +135,7 @@ impl Server {
     /// an open circuit is held that is live, and nothing of a closed one.
     pub fn deadlines(&self) -> &Deadlines
         ensures value { result.now ≡ self.now.deadlines }
-        ensures held { HoldsDeadlines self.now.deadlines (states_in self.now) }
+        ensures held { HoldsDeadlines self.now.deadlines self.now.states }
     {
         &self.deadlines
     }
@@ -153,25 +152,24 @@ impl Server {
         disk: &mut D,
         out: &mut PacketBuf,
     ) -> Result<(), Discard>
-        requires regions { HasRegions (parts_in self.old) (D.device disk.old).count }
+        requires regions { HasRegions self.old.topology.circuits (D.device disk.old).count }
         requires ready { D.tells ≡ true → AreReady (D.device disk.old).region self.old }
-        ensures relays { self.new.relays ≡ self.old.relays }
-        ensures parts { parts_in self.new ≡ parts_in self.old }
+        ensures topology { self.new.topology ≡ self.old.topology }
 
         // Over every device: the save fails where the device counts a failure.
-        ensures answer { IsAnswer (received self.old.relays (parts_in self.old) (delivery proto source now datagram.now) (nat_lt (D.device disk.old).failures (D.device disk.new).failures) (books_in self.old)).answer result out.new }
-        ensures books { books_in self.new ≡ (received self.old.relays (parts_in self.old) (delivery proto source now datagram.now) (nat_lt (D.device disk.old).failures (D.device disk.new).failures) (books_in self.old)).books }
+        ensures answer { IsAnswer (received self.old.topology (delivery proto source now datagram.now) (nat_lt (D.device disk.old).failures (D.device disk.new).failures) (books_in self.old)).answer result out.new }
+        ensures books { books_in self.new ≡ (received self.old.topology (delivery proto source now datagram.now) (nat_lt (D.device disk.old).failures (D.device disk.new).failures) (books_in self.old)).books }
 
         // A datagram of no circuit is refused for that reason and changes nothing, not even a clock.
-        ensures unchanged { IfErr (who.addressee self.old.relays (parts_in self.old) proto source datagram.now) (λ why. (result ≡ Err why) × (self.new ≡ self.old) × (D.device disk.new ≡ D.device disk.old)) }
+        ensures unchanged { IfErr (who.addressee self.old.topology (delivery proto source now datagram.now)) (λ why. (result ≡ Err why) × (self.new ≡ self.old) × (D.device disk.new ≡ D.device disk.old)) }
 
         // Over a device that tells its bytes: when the save fails, and what restarts then find.
-        ensures fails { D.tells ≡ true → nat_lt (D.device disk.old).failures (D.device disk.new).failures ≡ fails_at (D.device disk.old).fuse (received_saves self.old.relays (parts_in self.old) (delivery proto source now datagram.now) (books_in self.old)) }
-        ensures leases { D.tells ≡ true → leases_in (D.device disk.new).region self.new ≡ received_leases self.old.relays (parts_in self.old) (delivery proto source now datagram.now) (D.device disk.old).fuse (leases_in (D.device disk.old).region self.old) }
+        ensures fails { D.tells ≡ true → nat_lt (D.device disk.old).failures (D.device disk.new).failures ≡ fails_at (D.device disk.old).fuse (received_saves self.old.topology (delivery proto source now datagram.now) (books_in self.old)) }
+        ensures leases { D.tells ≡ true → leases_in (D.device disk.new).region self.new ≡ received_leases self.old.topology (delivery proto source now datagram.now) (D.device disk.old).fuse (leases_in (D.device disk.old).region self.old) }
         ensures ready { D.tells ≡ true → AreReady (D.device disk.new).region self.new }
 
-        // What is written, over every device: the region of a circuit that has something saved, or nothing.
-        ensures frame { WritesAt D.tells (received_saves self.old.relays (parts_in self.old) (delivery proto source now datagram.now) (books_in self.old)) (D.device disk.old) (D.device disk.new) }
+        // What is written: nothing, over every device, where nothing is saved; else the circuit's region, alone over one that tells its bytes.
+        ensures frame { WritesAt D.tells (received_saves self.old.topology (delivery proto source now datagram.now) (books_in self.old)) (D.device disk.old) (D.device disk.new) }
     {
         out.clear();
         let delivery = Delivery {
@@ -193,8 +191,7 @@ impl Server {
 
     /// Moves the clock of every open circuit to this moment, where it is a later one.
     pub fn tick(&mut self, now: Moment)
-        ensures relays { self.new.relays ≡ self.old.relays }
-        ensures parts { parts_in self.new ≡ parts_in self.old }
+        ensures topology { self.new.topology ≡ self.old.topology }
         ensures leases { (regions : ℕ → Region) → leases_in regions self.new ≡ map (after_tick now) (leases_in regions self.old) }
         ensures ready { (regions : ℕ → Region) → AreReady regions self.old → AreReady regions self.new }
         ensures due { (n until : ℕ) → deadline self.new.deadlines n ≡ Some until → now < until }
@@ -207,14 +204,13 @@ impl Server {
     /// Begins each circuit anew with what its region holds, without offers. One whose region cannot be
     /// read or is damaged is closed, alone.
     pub fn restart<D: Disk>(&mut self, disk: &mut D)
-        requires regions { HasRegions (parts_in self.old) (D.device disk.old).count }
-        requires synced { D.tells ≡ true → AreSynced (parts_in self.old) (D.device disk.old).region }
-        ensures relays { self.new.relays ≡ self.old.relays }
-        ensures parts { parts_in self.new ≡ parts_in self.old }
-        ensures leases { D.tells ≡ true → leases_in (D.device disk.new).region self.new ≡ map (found_leases (D.device disk.old).region) (parts_in self.old) }
+        requires regions { HasRegions self.old.topology.circuits (D.device disk.old).count }
+        requires synced { D.tells ≡ true → AreSynced self.old.topology.circuits (D.device disk.old).region }
+        ensures topology { self.new.topology ≡ self.old.topology }
+        ensures leases { D.tells ≡ true → leases_in (D.device disk.new).region self.new ≡ map (found_leases (D.device disk.old).region) self.old.topology.circuits }
         ensures ready { D.tells ≡ true → AreReady (D.device disk.new).region self.new }
         ensures frame { TouchesNothing D.tells (D.device disk.old) (D.device disk.new) }
-        ensures reads { (D.device disk.new).reads ≤ (D.device disk.old).reads + 2 * length self.old.circuits }
+        ensures reads { (D.device disk.new).reads ≤ (D.device disk.old).reads + 2 * length self.old.topology.circuits }
     {
         let table = &mut self.deadlines;
         self.servers.restart(self.circuits.parts(), disk, table);

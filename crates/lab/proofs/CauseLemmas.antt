@@ -17,17 +17,6 @@ read_failed given left left2 reader before after writer writer_before writer_aft
     inr (inr (subst (HasRead given left2) full (has_read given left2 m (counted_more given left left2 0 n m h more))))
 read_failed given left left2 reader before after writer writer_before writer_after n m same writer_same h more (inr (inr failed)) = inr (inl (omega arith))
 
--- neither failed
-pub none_failed : (given left left2 : Option (List ℕ)) (reader before after writer writer_before writer_after n m : ℕ) → before ≡ reader → after ≡ before → writer_before ≡ writer → writer_after ≡ writer_before
-    → IsCounted given left 0 n → IsCounted left left2 n m → m < 18446744073709551615 → HasNoCause given left2 reader after writer writer_after
-none_failed given left left2 reader before after writer writer_before writer_after n m a b c d h more below = record {
-  reader_quiet = b ∙ a;
-  writer_quiet = d ∙ c;
-  count = m;
-  few = below;
-  read = has_read given left2 m (counted_more given left left2 0 n m h more);
-}
-
 -- no byte more was read
 pub write_failed : (given left : Option (List ℕ)) (reader after writer writer_before writer_after : ℕ) → writer_before ≡ writer → writer_after ≡ writer_before + 1 → HasCause given left reader after writer writer_after
 write_failed given left reader after writer writer_before writer_after same failed = inr (inl (omega arith))

@@ -1,5 +1,5 @@
 -- The lines before all events.
-use Rattle.std.proofs.Common.{◌≡◌, ℕ, ◌+◌, ◌<◌, ◌⊎◌, inl, inr, Bool, true, false, not, cond, eqb, eqb-true, eq-eqb, List, [], ◌∷◌, ◌++◌, length, take, drop, refl, ap, sym, subst, ◌∙◌, arith, append_assoc, append-nil, length-append, take-append-drop, take_all}
+use Rattle.std.proofs.Common.{◌≡◌, ℕ, ◌+◌, ◌<◌, ◌⊎◌, inl, inr, Bool, true, false, cond, eqb, eqb-true, eq-eqb, List, [], ◌∷◌, ◌++◌, length, take, drop, refl, ap, sym, subst, ◌∙◌, arith, append_assoc, append-nil, length-append, take-append-drop, take_all}
 use Rattle.std.specs.Prelude.{⊤, ◌||◌, Option, Some, slice_get, option_map}
 use Rattle.std.specs.Io.KnownBytes.{Consumes, IsAtEnd, Keeps, prepend_known}
 use Rattle.std.proofs.KnownBytes.{Consumes-kept, prepend_known-nil}
@@ -10,13 +10,15 @@ use Rattle.config.specs.CircuitPart.{CircuitPart, part_in, part_of, source_at}
 use Rattle.config.specs.Rules.{IsSound}
 use Rattle.settings.specs.Settings.{Settings}
 use Rattle.settings.specs.declared.settings.CircuitConfig.{CircuitConfig}
-use Rattle.dispatch.proofs.IndexLemmas.{regions_differ}
-use Rattle.dispatch.specs.Leases.{recovered_book}
+use Rattle.config.proofs.TopologyLemmas.{regions_differ}
 use Rattle.lease_disk.specs.Crash.{filled, formatted_region}
-use Rattle.lease_disk.specs.Model.{ModelDiskValue, SameBut, region_of, state_of}
+use Rattle.lease_disk.specs.Device.{Device}
+use Rattle.lease_disk.specs.Model.{ModelDiskValue, SameBut, device_of, region_of, state_of}
 use Rattle.lease_disk.specs.Region.{Region}
-use Rattle.world.specs.Alone.{Alone, start}
+use Rattle.world.specs.Alone.{Alone, Setup}
 use Rattle.world.specs.Headline.{CircuitState}
+use Rattle.world.specs.Start.{opened, opening_in, opening_of, setup_in}
+use Rattle.world.proofs.SetupLemmas.{its_part}
 use Rattle.lab_text.specs.declared.parse_line.ParsedLine.{ParsedLine}
 use Rattle.lab_text.specs.declared.parse_line.ParsedLine.TheVariants as parsed_line
 use Rattle.lease_disk.specs.declared.image.Image.{Image}
@@ -42,11 +44,12 @@ pub formatted_are_ready : (count : ℕ) (regions : ℕ → Region) → ((q : ℕ
 formatted_are_ready count regions formatted = λ q inside. formatted_ready (regions q) (formatted q inside)
 
 -- before the first line
-pub formatted_over : (settings : Settings) (count : ℕ) (regions : ℕ → Region) → ((c : ℕ) (part : CircuitPart) → part_in settings c ≡ Some part → part.region < count)
-    → ((q : ℕ) → q < count → regions q ≡ formatted_region) → AreOver settings regions (first_machines settings)
-formatted_over settings count regions within formatted = record {
-  each = λ c part h.
-      ap (machine_over (λ q. formatted_region)) h ∙ sym (ap (λ (r : Region). start (recovered_book part r.byte)) (formatted part.region (within c part h)));
+pub formatted_over : (settings : Settings) (quota count : ℕ) (device : Device) → ((c : ℕ) (part : CircuitPart) → part_in settings c ≡ Some part → part.region < count)
+    → ((q : ℕ) → q < count → device.region q ≡ formatted_region) → AreOver settings quota device (first_machines settings quota)
+formatted_over settings quota count device within formatted = record {
+  each = λ c setup h.
+      ap (machine_over formatted_region) h
+      ∙ sym (ap (λ (r : Region). opened setup (opening_of r)) (formatted setup.part.region (within c setup.part (its_part settings quota c setup h))));
 }
 
 -- a fill of one region
@@ -63,38 +66,38 @@ fill_ready region byte old new state others ready q inside = by (cases_eq q regi
   by (inr apart) = subst IsReady (sym (ap region_of (others.others q apart))) (ready q within)
 
 -- circuit d's machine after a fill of circuit c's region
-fill_at : (settings : Settings) (c d byte region : ℕ) (one other : CircuitPart) (old new : ModelDiskValue) (machines : ℕ → Alone) (t : Bool) → IsSound settings
-    → eqb c d ≡ t → part_in settings c ≡ Some one → part_in settings d ≡ Some other → one.region ≡ region
-    → state_of new region ≡ filled byte (state_of old region) → SameBut region old new → machines d ≡ machine_over (state_of old) (Some other)
-    → cond t (machine_over (λ q. filled byte formatted_region) (part_in settings c)) (machines d) ≡ machine_over (state_of new) (Some other)
-fill_at settings c d byte region one other old new machines true sound e is there at state others over =
+fill_at : (settings : Settings) (quota c d byte region : ℕ) (one : CircuitPart) (other : Setup) (old new : ModelDiskValue) (machines : ℕ → Alone) (t : Bool) → IsSound settings
+    → eqb c d ≡ t → part_in settings c ≡ Some one → setup_in settings quota d ≡ Some other → one.region ≡ region
+    → state_of new region ≡ filled byte (state_of old region) → SameBut region old new → machines d ≡ opened other (opening_in (device_of old) other)
+    → cond t (machine_over (filled byte formatted_region) (setup_in settings quota c)) (machines d) ≡ opened other (opening_in (device_of new) other)
+fill_at settings quota c d byte region one other old new machines true sound e is there at state others over =
     let same : c ≡ d = eqb-true c d e in
-    let part : part_in settings c ≡ Some other = ap (part_in settings) same ∙ there in
-    let place : other.region ≡ region = ap (λ (p : CircuitPart). p.region) (same_Some _ _ (sym part ∙ is)) ∙ at in
-    ap (machine_over (λ q. filled byte formatted_region)) part
-    ∙ sym (ap (λ (r : Region). start (recovered_book other r.byte)) (ap (state_of new) place ∙ state))
-fill_at settings c d byte region one other old new machines false sound e is there at state others over =
-    over ∙ sym (ap (λ (r : Region). start (recovered_book other r.byte))
-    (ap region_of (others.others other.region (λ same.
-    let f : true ≡ false = sym (eq-eqb c d (regions_differ settings sound c d one other is there (at ∙ sym same))) ∙ e in absurd (cc)))))
+    let part : part_in settings c ≡ Some other.part = ap (part_in settings) same ∙ its_part settings quota d other there in
+    let place : other.part.region ≡ region = ap (λ (p : CircuitPart). p.region) (same_Some _ _ (sym part ∙ is)) ∙ at in
+    ap (machine_over (filled byte formatted_region)) (ap (setup_in settings quota) same ∙ there)
+    ∙ sym (ap (λ (r : Region). opened other (opening_of r)) (ap (state_of new) place ∙ state))
+fill_at settings quota c d byte region one other old new machines false sound e is there at state others over =
+    over ∙ sym (ap (λ (r : Region). opened other (opening_of r))
+    (ap region_of (others.others other.part.region (λ same.
+    let f : true ≡ false = sym (eq-eqb c d (regions_differ settings sound c d one other.part is (its_part settings quota d other there) (at ∙ sym same))) ∙ e in absurd (cc)))))
 
 -- a line that is no event
 pub fill_applied : (settings : Settings) (quota c byte : ℕ) (circuit : CircuitConfig) (line : Line) (old new : ModelDiskValue) (machines : ℕ → Alone) → IsSound settings
     → slice_get settings.circuits c ≡ Some circuit → Fill c byte ≡ line → state_of new circuit.region ≡ filled byte (state_of old circuit.region) → SameBut circuit.region old new
-    → AreOver settings (state_of old) machines → AreFilled settings (state_of new) (result_of settings quota false machines line)
+    → AreOver settings quota (device_of old) machines → AreFilled settings quota (device_of new) (result_of settings quota false machines line)
 fill_applied settings quota c byte circuit line old new machines sound there is state others over =
     let values : CircuitConfig → CircuitPart = λ x. part_of x (source_at settings.relays x.relay) settings.server.listen4 settings.server.listen6 settings.server.duid.items in
     let one : part_in settings c ≡ Some (values circuit) = slice_get-map values settings.circuits c ∙ ap (option_map values) there in
-    subst (λ l. AreFilled settings (state_of new) (result_of settings quota false machines l)) is (
+    subst (λ l. AreFilled settings quota (device_of new) (result_of settings quota false machines l)) is (
       refl,
       record {
-        each = λ d other h. fill_at settings c d byte circuit.region (values circuit) other old new machines (eqb c d) sound refl one h refl state others (over.each d other h);
+        each = λ d other h. fill_at settings quota c d byte circuit.region (values circuit) other old new machines (eqb c d) sound refl one h refl state others (over.each d other h);
       },
     )
 
-pub ignored_applied : (settings : Settings) (quota : ℕ) (line : Line) (regions : ℕ → Region) (machines : ℕ → Alone) → Ignored ≡ line → AreOver settings regions machines
-    → AreFilled settings regions (result_of settings quota false machines line)
-ignored_applied settings quota line regions machines is over = subst (λ l. AreFilled settings regions (result_of settings quota false machines l)) is (refl, over)
+pub ignored_applied : (settings : Settings) (quota : ℕ) (line : Line) (device : Device) (machines : ℕ → Alone) → Ignored ≡ line → AreOver settings quota device machines
+    → AreFilled settings quota device (result_of settings quota false machines line)
+ignored_applied settings quota line device machines is over = subst (λ l. AreFilled settings quota device (result_of settings quota false machines l)) is (refl, over)
 
 -- ---- a line that was parsed
 
@@ -129,25 +132,25 @@ unfolding lines_of
 no_lines = refl
 
 -- nothing was read
-pub filled_first : (settings : Settings) (quota : ℕ) (given : Option (List ℕ)) (regions : ℕ → Region) → AreOver settings regions (first_machines settings)
-    → FilledSoFar settings quota 1 false given given regions (λ rest. ⊤)
-filled_first settings quota given regions over = record {
-  machines = first_machines settings;
+pub filled_first : (settings : Settings) (quota : ℕ) (given : Option (List ℕ)) (device : Device) → AreOver settings quota device (first_machines settings quota)
+    → FilledSoFar settings quota 1 false given given device (λ rest. ⊤)
+filled_first settings quota given device over = record {
+  machines = first_machines settings quota;
   over = over;
   read = [];
   consumed = consumes_none given;
   whole = λ rest known. refl;
 }
 
-pub nothing_held : (settings : Settings) (quota : ℕ) (given : Option (List ℕ)) (none : List ℕ) (regions : ℕ → Region) → none ≡ [] → FilledSoFar settings quota 1 false given given regions (λ rest. ⊤)
-    → FilledSoFar settings quota 1 false given (prepend_known none given) regions (λ rest. ⊤)
-nothing_held settings quota given none regions is s =
-    subst (λ left. FilledSoFar settings quota 1 false given left regions (λ rest. ⊤)) (sym (ap (λ v. prepend_known v given) is ∙ prepend_known-nil given)) s
+pub nothing_held : (settings : Settings) (quota : ℕ) (given : Option (List ℕ)) (none : List ℕ) (device : Device) → none ≡ [] → FilledSoFar settings quota 1 false given given device (λ rest. ⊤)
+    → FilledSoFar settings quota 1 false given (prepend_known none given) device (λ rest. ⊤)
+nothing_held settings quota given none device is s =
+    subst (λ left. FilledSoFar settings quota 1 false given left device (λ rest. ⊤)) (sym (ap (λ v. prepend_known v given) is ∙ prepend_known-nil given)) s
 
 -- more is read ahead
-pub filled_kept : (settings : Settings) (quota number : ℕ) (begun : Bool) (given left left2 : Option (List ℕ)) (regions : ℕ → Region) (Known : List ℕ → Type 0)
-    → FilledSoFar settings quota number begun given left regions Known → Keeps left left2 → FilledSoFar settings quota number begun given left2 regions Known
-filled_kept settings quota number begun given left left2 regions Known s ahead = record {
+pub filled_kept : (settings : Settings) (quota number : ℕ) (begun : Bool) (given left left2 : Option (List ℕ)) (device : Device) (Known : List ℕ → Type 0)
+    → FilledSoFar settings quota number begun given left device Known → Keeps left left2 → FilledSoFar settings quota number begun given left2 device Known
+filled_kept settings quota number begun given left left2 device Known s ahead = record {
   machines = s.machines;
   over = s.over;
   read = s.read;
@@ -156,9 +159,9 @@ filled_kept settings quota number begun given left left2 regions Known s ahead =
 }
 
 -- what is applied before events
-applied_as : (settings : Settings) (regions : ℕ → Region) (t : LineResult) → AreFilled settings regions t → (next : ℕ → Alone) × AreOver settings regions next × (t ≡ Applied [] next)
-applied_as settings regions Refused h = absurd h
-applied_as settings regions (Applied written next) (none, over) = (next, over, ap (λ w. Applied w next) none)
+applied_as : (settings : Settings) (quota : ℕ) (device : Device) (t : LineResult) → AreFilled settings quota device t → (next : ℕ → Alone) × AreOver settings quota device next × (t ≡ Applied [] next)
+applied_as settings quota device Refused h = absurd h
+applied_as settings quota device (Applied written next) (none, over) = (next, over, ap (λ w. Applied w next) none)
 
 applied_on : (settings : Settings) (quota number : ℕ) (machines next : ℕ → Alone) (line : List ℕ) (lines : List (List ℕ)) → is_event (line_of_text settings line) ≡ false
     → result_of settings quota false machines (line_of_text settings line) ≡ Applied [] next
@@ -169,12 +172,12 @@ applied_on settings quota number machines next line lines quiet is =
     ∙ ap (λ b. lab_from settings quota (number + 1) b next lines) quiet
 
 -- one line more
-pub filled_next : (settings : Settings) (quota number : ℕ) (given left left2 : Option (List ℕ)) (regions regions2 : ℕ → Region) (line : List ℕ)
-    → FilledSoFar settings quota number false given left regions (λ rest. ⊤) → IsLine left left2 line → is_event (line_of_text settings line) ≡ false
-    → ((machines : ℕ → Alone) → AreOver settings regions machines → AreFilled settings regions2 (result_of settings quota false machines (line_of_text settings line)))
-    → FilledSoFar settings quota (number + 1) false given left2 regions2 (λ rest. ⊤)
-filled_next settings quota number given left left2 regions regions2 line s read quiet applies =
-    let on = applied_as settings regions2 (result_of settings quota false s.machines (line_of_text settings line)) (applies s.machines s.over) in
+pub filled_next : (settings : Settings) (quota number : ℕ) (given left left2 : Option (List ℕ)) (device device2 : Device) (line : List ℕ)
+    → FilledSoFar settings quota number false given left device (λ rest. ⊤) → IsLine left left2 line → is_event (line_of_text settings line) ≡ false
+    → ((machines : ℕ → Alone) → AreOver settings quota device machines → AreFilled settings quota device2 (result_of settings quota false machines (line_of_text settings line)))
+    → FilledSoFar settings quota (number + 1) false given left2 device2 (λ rest. ⊤)
+filled_next settings quota number given left left2 device device2 line s read quiet applies =
+    let on = applied_as settings quota device2 (result_of settings quota false s.machines (line_of_text settings line)) (applies s.machines s.over) in
     record {
       machines = on.0;
       over = on.1;
@@ -252,9 +255,9 @@ begun_long settings quota number held holds = λ machines rest known.
     (long_begun settings quota number (take holds.size held) (drop holds.size held ++ known.0) holds.plain
     (let e = length-take-le holds.size held holds.within in let f = holds.long in omega arith) machines)
 
-pub filled_begun : (settings : Settings) (quota number : ℕ) (given left : Option (List ℕ)) (regions : ℕ → Region) (Known : List ℕ → Type 0)
-    → FilledSoFar settings quota number false given left regions (λ rest. ⊤) → IsBegun settings quota number Known → FilledSoFar settings quota number true given left regions Known
-filled_begun settings quota number given left regions Known s begins = record {
+pub filled_begun : (settings : Settings) (quota number : ℕ) (given left : Option (List ℕ)) (device : Device) (Known : List ℕ → Type 0)
+    → FilledSoFar settings quota number false given left device (λ rest. ⊤) → IsBegun settings quota number Known → FilledSoFar settings quota number true given left device Known
+filled_begun settings quota number given left device Known s begins = record {
   machines = s.machines;
   over = s.over;
   read = s.read;
@@ -281,12 +284,12 @@ last_on settings quota number machines next [] plain quiet is = ap (lab_from set
 last_on settings quota number machines next (b ∷ line) plain quiet is =
     ap (lab_from settings quota number false machines) (line_last b line plain) ∙ applied_on settings quota number machines next (b ∷ line) [] quiet is ∙ no_line settings quota (number + 1) false next
 
-pub filled_last : (settings : Settings) (quota number : ℕ) (given left left2 : Option (List ℕ)) (regions regions2 : ℕ → Region) (line none : List ℕ) → none ≡ []
-    → FilledSoFar settings quota number false given left regions (λ rest. ⊤) → IsLast left left2 line → is_event (line_of_text settings line) ≡ false
-    → ((machines : ℕ → Alone) → AreOver settings regions machines → AreFilled settings regions2 (result_of settings quota false machines (line_of_text settings line)))
-    → FilledSoFar settings quota number true given (prepend_known none left2) regions2 (Fits none (EndOfInput 0))
-filled_last settings quota number given left left2 regions regions2 line none is s read quiet applies =
-    let on = applied_as settings regions2 (result_of settings quota false s.machines (line_of_text settings line)) (applies s.machines s.over) in
+pub filled_last : (settings : Settings) (quota number : ℕ) (given left left2 : Option (List ℕ)) (device device2 : Device) (line none : List ℕ) → none ≡ []
+    → FilledSoFar settings quota number false given left device (λ rest. ⊤) → IsLast left left2 line → is_event (line_of_text settings line) ≡ false
+    → ((machines : ℕ → Alone) → AreOver settings quota device machines → AreFilled settings quota device2 (result_of settings quota false machines (line_of_text settings line)))
+    → FilledSoFar settings quota number true given (prepend_known none left2) device2 (Fits none (EndOfInput 0))
+filled_last settings quota number given left left2 device device2 line none is s read quiet applies =
+    let on = applied_as settings quota device2 (result_of settings quota false s.machines (line_of_text settings line)) (applies s.machines s.over) in
     record {
       machines = on.0;
       over = on.1;
@@ -303,10 +306,10 @@ filled_last settings quota number given left left2 regions regions2 line none is
 
 -- ---- the opening
 
-pub opened_so_far : (settings : Settings) (quota number : ℕ) (given left holds : Option (List ℕ)) (regions : ℕ → Region) (states : List CircuitState) (Known : List ℕ → Type 0)
-    → FilledSoFar settings quota number true given left regions Known → ((machines : ℕ → Alone) → AreOver settings regions machines → AllRepresent settings quota states machines)
+pub opened_so_far : (settings : Settings) (quota number : ℕ) (given left holds : Option (List ℕ)) (device : Device) (states : List CircuitState) (Known : List ℕ → Type 0)
+    → FilledSoFar settings quota number true given left device Known → ((machines : ℕ → Alone) → AreOver settings quota device machines → AllRepresent settings quota states machines)
     → SoFar settings quota number (lab_output settings quota) given left holds holds states Known
-opened_so_far settings quota number given left holds regions states Known s represents = record {
+opened_so_far settings quota number given left holds device states Known s represents = record {
   machines = s.machines;
   represents = represents s.machines s.over;
   read = s.read;

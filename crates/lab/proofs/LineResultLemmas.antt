@@ -1,31 +1,32 @@
 -- A step of the world as the result of a line.
 use Rattle.std.proofs.Common.{◌≡◌, ℕ, ◌<◌, ◌≤◌, Bool, true, false, cond, eqb, eqb-true, eq-eqb, le-ltb, lt-ltb, List, [], length, refl, ap, sym, subst, ◌∙◌, arith}
-use Rattle.std.specs.Prelude.{Option, Some, None, IfSome, slice_get, option_map}
+use Rattle.std.specs.Prelude.{Option, Some, None, slice_get, option_map}
 use Rattle.std.specs.Io.KnownBytes.{Appends}
 use Rattle.std.proofs.lemmas.List.{length-map}
 use Rattle.std.proofs.lemmas.Option.{same_Some, slice_get-map}
 use Rattle.settings.specs.Settings.{Settings}
 use Rattle.settings.specs.declared.settings.CircuitConfig.{CircuitConfig}
-use Rattle.world.specs.Alone.{Alone, Setup, Effect, Dropped, Gone, SentUp, SentDown, Framed, Done, alone_step}
+use Rattle.world.specs.Alone.{Alone, Setup, Effect, Dropped, Gone, SentUp, SentDown, Framed, Done, alone_step, setup_of}
 use Rattle.config.specs.CircuitPart.{CircuitPart, part_in, part_of, source_at}
 use Rattle.world.specs.Headline.{CircuitState, Represents, Steps, IsOutcome, Answers, after_seen}
+use Rattle.world.specs.Start.{setup_in}
+use Rattle.world.proofs.SetupLemmas.{setup_at}
 use Rattle.events.specs.Seen.{Seen, seen_of}
 use Rattle.events.specs.declared.event.Event.{Event}
 use Rattle.events.specs.declared.event.Event.TheVariants as event
 use Rattle.events.specs.declared.outcome.Outcome.{Outcome}
 use Rattle.events.specs.declared.outcome.Outcome.TheVariants as outcome
-use Rattle.events.specs.Stray.{is_stray, stray_up_outcome, stray_down_outcome}
+use Rattle.events.specs.Stray.{stray_up_outcome, stray_down_outcome}
 use Rattle.config.specs.Topology.{Topology, topology_of, is_relay, is_server}
 use Rattle.types.specs.declared.addr.Source.{Source}
 use Rattle.types.specs.declared.discard.Discard.TheVariants.{UnknownSource, NotServer}
-use Rattle.types.specs.declared.discard.Discard.{Discard}
 use Rattle.std.specs.Borrow.{Bor}
 use Rattle.lease_disk.specs.declared.image.Image.{Image}
 use Rattle.events.specs.Seen as sees
 use Rattle.lab_text.specs.Fields.{image_in}
 use Rattle.lab_text.specs.ParsedLine.{IsRestart}
-use Rattle.lab.specs.Lab.{part_result, line_result, moved, ticked, restarted}
-use Rattle.lab_text.specs.Line.{Line, Bad, Stray, line_of_text, short_line}
+use Rattle.lab.specs.Lab.{named_result, line_result, with_machine, ticked, restarted}
+use Rattle.lab_text.specs.Line.{Line, Bad, line_of_text, short_line}
 use Rattle.lab_text.specs.Writing.{AppendsPrefix}
 use Rattle.lab.specs.Follows.{AllRepresent, Names, Follows}
 use Rattle.lab.specs.Output.{effect_text, outcome_effect, with_newline}
@@ -40,40 +41,36 @@ effect_is c (Framed frame) o out h =
     ap (λ v. outcome_effect v out) h.0 ∙ ap (λ bytes. Framed (record { dest = frame.dest; bytes = bytes })) h.1
 effect_is c Done o out h = ap (λ v. outcome_effect v out) h.0
 
--- a circuit's part of the configuration
-pub record PartAt (settings : Settings) (c : ℕ) (id : List ℕ) : Type 0 where
-  pub part : CircuitPart
-  pub is : part_in settings c ≡ Some part
-  pub same : part.id ≡ id
+-- how the circuit of this index and id is set up
+pub record SetupAt (settings : Settings) (quota c : ℕ) (id : List ℕ) : Type 0 where
+  pub setup : Setup
+  pub is : setup_in settings quota c ≡ Some setup
+  pub same : setup.part.id ≡ id
 
-pub part_at : (settings : Settings) (c : ℕ) (circuit : CircuitConfig) → slice_get settings.circuits c ≡ Some circuit → PartAt settings c circuit.id
-part_at settings c circuit h = record {
-  part = part_of circuit (source_at settings.relays circuit.relay) settings.server.listen4 settings.server.listen6 settings.server.duid.items;
-  is =
-      slice_get-map (λ (x : CircuitConfig). part_of x (source_at settings.relays x.relay) settings.server.listen4 settings.server.listen6 settings.server.duid.items) settings.circuits c
-      ∙ ap (option_map (λ (x : CircuitConfig). part_of x (source_at settings.relays x.relay) settings.server.listen4 settings.server.listen6 settings.server.duid.items)) h;
-  same = refl;
-}
+pub found_at : (settings : Settings) (quota c : ℕ) (circuit : CircuitConfig) → slice_get settings.circuits c ≡ Some circuit → SetupAt settings quota c circuit.id
+found_at settings quota c circuit h =
+    let values : CircuitConfig → CircuitPart = λ x. part_of x (source_at settings.relays x.relay) settings.server.listen4 settings.server.listen6 settings.server.duid.items in
+    let there : part_in settings c ≡ Some (values circuit) = slice_get-map values settings.circuits c ∙ ap (option_map values) h in
+    record { setup = setup_of quota (values circuit); is = setup_at settings quota c (values circuit) there; same = refl }
 
 -- circuit d's machine after circuit c saw something
-represents_moved_at : (c d : ℕ) (setup : Setup) (seen : Seen) (next : Alone) (states : List CircuitState) (machines : ℕ → Alone) (t : Bool)
+represents_at : (c d : ℕ) (setup : Setup) (seen : Seen) (next : Alone) (states : List CircuitState) (machines : ℕ → Alone) (t : Bool)
     → eqb c d ≡ t → (c ≡ d → (alone_step setup seen (machines d)).next ≡ next)
     → Represents d states setup (after_seen setup (cond t (Some seen) None) (machines d)) → Represents d states setup (cond t next (machines d))
-represents_moved_at c d setup seen next states machines true e same h = subst (Represents d states setup) (same (eqb-true c d e)) h
-represents_moved_at c d setup seen next states machines false e same h = h
+represents_at c d setup seen next states machines true e same h = subst (Represents d states setup) (same (eqb-true c d e)) h
+represents_at c d setup seen next states machines false e same h = h
 
-represents_moved : (settings : Settings) (quota c : ℕ) (part : CircuitPart) (seen : Seen) (e : Event) (states new : List CircuitState) (o : Outcome) (out : List ℕ) (machines : ℕ → Alone)
-    → part_in settings c ≡ Some part → Names c seen e → Steps e states new o out → AllRepresent settings quota states machines
-    → AllRepresent settings quota new (moved c (alone_step (record { part = part; quota = quota }) seen (machines c)).next machines)
-represents_moved settings quota c part seen e states new o out machines is names steps represents = record {
+represents_named : (settings : Settings) (quota c : ℕ) (setup : Setup) (seen : Seen) (e : Event) (states new : List CircuitState) (o : Outcome) (out : List ℕ) (machines : ℕ → Alone)
+    → setup_in settings quota c ≡ Some setup → Names c seen e → Steps e states new o out → AllRepresent settings quota states machines
+    → AllRepresent settings quota new (with_machine c (alone_step setup seen (machines c)).next machines)
+represents_named settings quota c setup seen e states new o out machines is names steps represents = record {
   each = λ d other h.
-      let setup : Setup = record { part = other; quota = quota } in
-      let before = steps.each d setup (machines d) (represents.each d other h) in
-      let after : Represents d new setup (after_seen setup (cond (eqb c d) (Some seen) None) (machines d)) = subst (λ s. Represents d new setup (after_seen setup s (machines d))) (names d) before in
+      let before = steps.each d other (machines d) (represents.each d other h) in
+      let after : Represents d new other (after_seen other (cond (eqb c d) (Some seen) None) (machines d)) = subst (λ s. Represents d new other (after_seen other s (machines d))) (names d) before in
       let same = λ (k : c ≡ d).
-      let one : other ≡ part = same_Some _ _ (sym h ∙ ap (part_in settings) (sym k) ∙ is) in
-      ap (λ p. (alone_step (record { part = p; quota = quota }) seen (machines d)).next) one ∙ ap (λ x. (alone_step (record { part = part; quota = quota }) seen (machines x)).next) (sym k) in
-      represents_moved_at c d setup seen (alone_step (record { part = part; quota = quota }) seen (machines c)).next new machines (eqb c d) refl same after;
+      let one : other ≡ setup = same_Some _ _ (sym h ∙ ap (setup_in settings quota) (sym k) ∙ is) in
+      ap (λ s. (alone_step s seen (machines d)).next) one ∙ ap (λ x. (alone_step setup seen (machines x)).next) (sym k) in
+      represents_at c d other seen (alone_step setup seen (machines c)).next new machines (eqb c d) refl same after;
 }
 
 -- the text of the effect
@@ -89,34 +86,30 @@ named_sees c seen e names = names c ∙ ap (λ t. cond t (Some seen) None) (eq-e
 
 -- an event of a circuit whose output was written
 pub event_applied : (settings : Settings) (quota number c : ℕ) (id : List ℕ) (seen : Seen) (e : Event) (states new : List CircuitState) (o : Outcome) (out : List ℕ) (machines : ℕ → Alone) (held holds : Option (List ℕ))
-    → PartAt settings c id → Names c seen e → Steps e states new o out → AllRepresent settings quota states machines
+    → SetupAt settings quota c id → Names c seen e → Steps e states new o out → AllRepresent settings quota states machines
     → Appends held holds (with_newline (effect_text id (outcome_effect o out)))
-    → Follows settings quota number (part_result quota c seen machines (part_in settings c)) new held holds None
+    → Follows settings quota number (named_result c seen machines (setup_in settings quota c)) new held holds None
 event_applied settings quota number c id seen e states new o out machines held holds at names steps represents h =
-    let setup : Setup = record { part = at.part; quota = quota } in
-    subst (λ p. Follows settings quota number (part_result quota c seen machines p) new held holds None) (sym at.is) (record {
-      appended = subst (Appends held holds) (text_is c setup id seen e states new o out (machines c) at.same (named_sees c seen e names) steps (represents.each c at.part at.is)) h;
-      represents = represents_moved settings quota c at.part seen e states new o out machines at.is names steps represents;
+    subst (λ s. Follows settings quota number (named_result c seen machines s) new held holds None) (sym at.is) (record {
+      appended = subst (Appends held holds) (text_is c at.setup id seen e states new o out (machines c) at.same (named_sees c seen e names) steps (represents.each c at.setup at.is)) h;
+      represents = represents_named settings quota c at.setup seen e states new o out machines at.is names steps represents;
     })
 
 -- and one where the writer failed
 pub event_not_written : (settings : Settings) (quota number c : ℕ) (id : List ℕ) (seen : Seen) (e : Event) (states new : List CircuitState) (o : Outcome) (out : List ℕ) (machines : ℕ → Alone) (held holds : Option (List ℕ))
-    → PartAt settings c id → Names c seen e → Steps e states new o out → AllRepresent settings quota states machines
+    → SetupAt settings quota c id → Names c seen e → Steps e states new o out → AllRepresent settings quota states machines
     → AppendsPrefix held holds (with_newline (effect_text id (outcome_effect o out)))
-    → Follows settings quota number (part_result quota c seen machines (part_in settings c)) new held holds (Some 6)
+    → Follows settings quota number (named_result c seen machines (setup_in settings quota c)) new held holds (Some 6)
 event_not_written settings quota number c id seen e states new o out machines held holds at names steps represents h =
-    let setup : Setup = record { part = at.part; quota = quota } in
-    subst (λ p. Follows settings quota number (part_result quota c seen machines p) new held holds (Some 6)) (sym at.is)
-    (refl, subst (AppendsPrefix held holds) (text_is c setup id seen e states new o out (machines c) at.same (named_sees c seen e names) steps (represents.each c at.part at.is)) h)
+    subst (λ s. Follows settings quota number (named_result c seen machines s) new held holds (Some 6)) (sym at.is)
+    (refl, subst (AppendsPrefix held holds) (text_is c at.setup id seen e states new o out (machines c) at.same (named_sees c seen e names) steps (represents.each c at.setup at.is)) h)
 
 -- a moment that passes
 pub represents_ticked : (settings : Settings) (quota now : ℕ) (states new : List CircuitState) (o : Outcome) (out : List ℕ) (machines : ℕ → Alone)
     → Steps (event.Tick now) states new o out → AllRepresent settings quota states machines
-    → AllRepresent settings quota new (λ c. ticked quota now (machines c) (part_in settings c))
+    → AllRepresent settings quota new (λ c. ticked now (machines c) (setup_in settings quota c))
 represents_ticked settings quota now states new o out machines steps represents = record {
-  each = λ c part h.
-      subst (λ p. Represents c new (record { part = part; quota = quota }) (ticked quota now (machines c) p)) (sym h)
-      (steps.each c (record { part = part; quota = quota }) (machines c) (represents.each c part h));
+  each = λ c setup h. subst (λ s. Represents c new setup (ticked now (machines c) s)) (sym h) (steps.each c setup (machines c) (represents.each c setup h));
 }
 
 -- the server and the disk start again
@@ -127,11 +120,10 @@ restart_applied settings quota number images line states new o out machines held
     subst (λ l. Follows settings quota number (line_result settings quota machines l) new held holds None) (sym is.is) (record {
       appended = written;
       represents = record {
-        each = λ c part h.
-            let setup : Setup = record { part = part; quota = quota } in
-            subst (λ p. Represents c new setup (restarted quota (image_in c is.named) (machines c) p)) (sym h)
+        each = λ c setup h.
+            subst (λ s. Represents c new setup (restarted (image_in c is.named) (machines c) s)) (sym h)
             (subst (λ image. Represents c new setup (alone_step setup (sees.Restart image) (machines c)).next) (is.each c)
-            (steps.each c setup (machines c) (represents.each c part h)));
+            (steps.each c setup (machines c) (represents.each c setup h)));
       };
     })
 
@@ -139,27 +131,6 @@ pub restart_not_written : (settings : Settings) (quota number : ℕ) (images : L
     → IsRestart images line → AppendsPrefix held holds (with_newline (effect_text [] Done)) → Follows settings quota number (line_result settings quota machines line) states held holds (Some 6)
 restart_not_written settings quota number images line states machines held holds is written =
     subst (λ l. Follows settings quota number (line_result settings quota machines l) states held holds (Some 6)) (sym is.is) (refl, written)
-
--- a stray, which changes nothing
-stray_is : (expected : Option Outcome) (o : Outcome) (why : Discard) → IfSome expected (λ v. o ≡ v) → expected ≡ Some (outcome.Dropped why) → o ≡ outcome.Dropped why
-stray_is expected o why h is = rw is at h
-
-pub stray_applied : (settings : Settings) (quota number : ℕ) (why : Discard) (machines : ℕ → Alone) (e : Event) (states new : List CircuitState) (expected : Option Outcome) (o : Outcome) (out : List ℕ)
-    (held holds : Option (List ℕ)) → is_stray e ≡ true → Steps e states new o out → IfSome expected (λ v. o ≡ v) → expected ≡ Some (outcome.Dropped why)
-    → AllRepresent settings quota states machines → Appends held holds (with_newline (effect_text [] (outcome_effect o out)))
-    → Follows settings quota number (line_result settings quota machines (Stray why)) new held holds None
-stray_applied settings quota number why machines e states new expected o out held holds stray steps h is represents written = record {
-  appended = subst (λ v. Appends held holds (with_newline (effect_text [] (outcome_effect v out)))) (stray_is expected o why h is) written;
-  represents = subst (λ s. AllRepresent settings quota s machines) (sym (steps.stray stray).2) represents;
-}
-
--- and one where the writer failed
-pub stray_not_written : (settings : Settings) (quota number : ℕ) (why : Discard) (machines : ℕ → Alone) (states : List CircuitState) (expected : Option Outcome) (o : Outcome) (out : List ℕ)
-    (held holds : Option (List ℕ)) → IfSome expected (λ v. o ≡ v) → expected ≡ Some (outcome.Dropped why)
-    → AppendsPrefix held holds (with_newline (effect_text [] (outcome_effect o out)))
-    → Follows settings quota number (line_result settings quota machines (Stray why)) states held holds (Some 6)
-stray_not_written settings quota number why machines states expected o out held holds h is written =
-    (refl, subst (λ v. AppendsPrefix held holds (with_newline (effect_text [] (outcome_effect v out)))) (stray_is expected o why h is) written)
 
 -- what comes of a stray whose source is not one of the configuration
 pub stray_up_known : (t : Topology) (settings : Settings) (source : Source) → t ≡ topology_of settings → is_relay (topology_of settings) source ≡ false

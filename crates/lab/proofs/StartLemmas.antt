@@ -8,11 +8,13 @@ use Rattle.settings.specs.declared.settings.CircuitConfig.{CircuitConfig}
 use Rattle.dispatch.specs.Leases.{AreSynced, HasRegions}
 use Rattle.dispatch.specs.declared.server.OpenFault.{OpenFault}
 use Rattle.dispatch.specs.declared.server.OpenFault.TheVariants.{Memory, DiskTooSmall}
+use Rattle.lease_disk.specs.Device.{Device}
 use Rattle.lease_disk.specs.Region.{Region}
 use Rattle.world.specs.Alone.{Alone}
 use Rattle.world.specs.Headline.{CircuitState, Represents}
 use Rattle.world.specs.Start.{Starts}
 use Rattle.world.specs.World.{WorldValue, states}
+use Rattle.world.proofs.SetupLemmas.{its_part}
 use Rattle.lab.specs.Fills.{AreOver, AreReady, AreWithin}
 use Rattle.lab.specs.Follows.{AllRepresent}
 
@@ -26,19 +28,19 @@ part_within settings count c part within h =
     within_at settings count c part (slice_get settings.circuits c) within refl
     (sym (slice_get-map (λ (x : CircuitConfig). part_of x (source_at settings.relays x.relay) settings.server.listen4 settings.server.listen6 settings.server.duid.items) settings.circuits c) ∙ h)
 
--- it begins with the machines over these regions
-represents : (settings : Settings) (quota count : ℕ) (regions : ℕ → Region) (states : List CircuitState) → AreWithin settings count → AreReady count regions → Starts settings quota regions states
-    → (machines : ℕ → Alone) → AreOver settings regions machines → AllRepresent settings quota states machines
-represents settings quota count regions states within ready starts machines over = record {
-  each = λ c part h.
-      subst (Represents c states (record { part = part; quota = quota })) (sym (over.each c part h))
-      (starts.each c part h (ready part.region (part_within settings count c part within h)).readable);
+-- it begins with the machines over this device
+represents : (settings : Settings) (quota count : ℕ) (device : Device) (states : List CircuitState) → AreWithin settings count → AreReady count device.region → Starts settings quota device states
+    → (machines : ℕ → Alone) → AreOver settings quota device machines → AllRepresent settings quota states machines
+represents settings quota count device states within ready starts machines over = record {
+  each = λ c setup h.
+      subst (Represents c states setup) (sym (over.each c setup h))
+      (starts.each c setup h (ready setup.part.region (part_within settings count c setup.part within (its_part settings quota c setup h))).readable);
 }
 
-pub represents_ok : (settings : Settings) (quota count : ℕ) (regions : ℕ → Region) (r : Result WorldValue OpenFault) → AreWithin settings count → AreReady count regions
-    → IfOk r (λ world. Starts settings quota regions (states world)) → IfOk r (λ world. (machines : ℕ → Alone) → AreOver settings regions machines → AllRepresent settings quota (states world) machines)
-represents_ok settings quota count regions (Ok world) within ready starts = represents settings quota count regions (states world) within ready starts
-represents_ok settings quota count regions (Err why) within ready starts = tt
+pub represents_ok : (settings : Settings) (quota count : ℕ) (device : Device) (r : Result WorldValue OpenFault) → AreWithin settings count → AreReady count device.region
+    → IfOk r (λ world. Starts settings quota device (states world)) → IfOk r (λ world. (machines : ℕ → Alone) → AreOver settings quota device machines → AllRepresent settings quota (states world) machines)
+represents_ok settings quota count device (Ok world) within ready starts = represents settings quota count device (states world) within ready starts
+represents_ok settings quota count device (Err why) within ready starts = tt
 
 -- what an opening asks of the device
 pub are_synced : (settings : Settings) (count : ℕ) (regions : ℕ → Region) → AreWithin settings count → AreReady count regions → AreSynced (parts_of settings) regions

@@ -1,11 +1,11 @@
 -- What a line and a run of lines do to the world and to the writer. Only proofs need these.
 use Rattle.std.specs.Prelude.{◌≡◌, ℕ, ◌⊎◌, ◌==◌, if◌then◌else◌, true, List, ◌++◌, length, Option, Some, None}
 use Rattle.std.specs.Io.KnownBytes.{Appends, Consumes}
-use Rattle.config.specs.CircuitPart.{CircuitPart, part_in}
 use Rattle.settings.specs.Settings.{Settings}
 use Rattle.lease_disk.specs.declared.image.Image.{Image}
-use Rattle.world.specs.Alone.{Alone}
+use Rattle.world.specs.Alone.{Alone, Setup}
 use Rattle.world.specs.Headline.{CircuitState, Represents}
+use Rattle.world.specs.Start.{setup_in}
 use Rattle.events.specs.Seen.{Seen, seen_of}
 use Rattle.events.specs.declared.event.Event.{Event}
 use Rattle.lab.specs.Lab.{Output, LineResult, Refused, Applied, lab_from}
@@ -18,7 +18,7 @@ use Rattle.lab_text.specs.Writing.{AppendsPrefix}
 
 -- each circuit's state represents its machine
 pub record AllRepresent (settings : Settings) (quota : ℕ) (states : List CircuitState) (machines : ℕ → Alone) : Type 0 where
-  pub each : (c : ℕ) (part : CircuitPart) → part_in settings c ≡ Some part → Represents c states (record { part = part; quota = quota }) (machines c)
+  pub each : (c : ℕ) (setup : Setup) → setup_in settings quota c ≡ Some setup → Represents c states setup (machines c)
 
 -- The event is this one, seen by this circuit alone.
 abbrev pub Names : ℕ → Seen → Event → Type 0

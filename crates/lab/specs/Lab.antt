@@ -1,12 +1,11 @@
 -- The output for a text of event lines, by one machine for each circuit.
 use Rattle.std.specs.Prelude.{ℕ, ◌+◌, ◌==◌, if◌then◌else◌, Bool, true, false, ◌||◌, List, [], ◌∷◌, ◌++◌, Option, Some, None}
-use Rattle.config.specs.CircuitPart.{CircuitPart, part_in}
 use Rattle.settings.specs.Settings.{Settings}
-use Rattle.dispatch.specs.Leases.{recovered_book}
 use Rattle.lease_disk.specs.declared.image.Image.{Image}
 use Rattle.lease_disk.specs.Crash.{filled, formatted_region}
 use Rattle.lease_disk.specs.Region.{Region}
-use Rattle.world.specs.Alone.{Alone, Step, Dropped, Done, start, alone_step}
+use Rattle.world.specs.Alone.{Alone, Setup, Step, Dropped, Done, start, alone_step}
+use Rattle.world.specs.Start.{opened, opening_of, setup_in}
 use Rattle.events.specs.Seen.{Seen}
 use Rattle.events.specs.Seen as sees
 use Rattle.lab_text.specs.Fields.{image_in}
@@ -24,37 +23,38 @@ pub data LineResult : Type 0 where
   Applied : List ℕ → (ℕ → Alone) → LineResult
 
 -- circuit c's machine in its next state, and each other one as it was
-abbrev pub moved : ℕ → Alone → (ℕ → Alone) → ℕ → Alone
-moved c next machines d = if c == d then next else machines d
+abbrev pub with_machine : ℕ → Alone → (ℕ → Alone) → ℕ → Alone
+with_machine c next machines d = if c == d then next else machines d
 
 -- a step of one circuit's machine
 abbrev pub step_result : ℕ → List ℕ → Step → (ℕ → Alone) → LineResult
-step_result c id step machines = Applied (with_newline (effect_text id step.effect)) (moved c step.next machines)
+step_result c id step machines = Applied (with_newline (effect_text id step.effect)) (with_machine c step.next machines)
 
-abbrev pub part_result : ℕ → ℕ → Seen → (ℕ → Alone) → Option CircuitPart → LineResult
-part_result quota c seen machines None = Refused
-part_result quota c seen machines (Some part) = step_result c part.id (alone_step (record { part = part; quota = quota }) seen (machines c)) machines
+-- an event of circuit c, by how it is set up
+abbrev pub named_result : ℕ → Seen → (ℕ → Alone) → Option Setup → LineResult
+named_result c seen machines None = Refused
+named_result c seen machines (Some setup) = step_result c setup.part.id (alone_step setup seen (machines c)) machines
 
 -- the moment passes for a machine
-abbrev pub ticked : ℕ → ℕ → Alone → Option CircuitPart → Alone
-ticked quota now a None = a
-ticked quota now a (Some part) = (alone_step (record { part = part; quota = quota }) (sees.Tick now) a).next
+abbrev pub ticked : ℕ → Alone → Option Setup → Alone
+ticked now a None = a
+ticked now a (Some setup) = (alone_step setup (sees.Tick now) a).next
 
 -- the server and the disk start again for a machine
-abbrev pub restarted : ℕ → Image → Alone → Option CircuitPart → Alone
-restarted quota image a None = a
-restarted quota image a (Some part) = (alone_step (record { part = part; quota = quota }) (sees.Restart image) a).next
+abbrev pub restarted : Image → Alone → Option Setup → Alone
+restarted image a None = a
+restarted image a (Some setup) = (alone_step setup (sees.Restart image) a).next
 
 abbrev pub line_result : Settings → ℕ → (ℕ → Alone) → Line → LineResult
 line_result settings quota machines Ignored = Applied [] machines
 line_result settings quota machines Bad = Refused
 -- a fill after an event
 line_result settings quota machines (Fill c byte) = Refused
-line_result settings quota machines (Named c seen) = part_result quota c seen machines (part_in settings c)
+line_result settings quota machines (Named c seen) = named_result c seen machines (setup_in settings quota c)
 line_result settings quota machines (Tick now) =
-    Applied (with_newline (effect_text [] Done)) (λ c. ticked quota now (machines c) (part_in settings c))
+    Applied (with_newline (effect_text [] Done)) (λ c. ticked now (machines c) (setup_in settings quota c))
 line_result settings quota machines (Restart named) =
-    Applied (with_newline (effect_text [] Done)) (λ c. restarted quota (image_in c named) (machines c) (part_in settings c))
+    Applied (with_newline (effect_text [] Done)) (λ c. restarted (image_in c named) (machines c) (setup_in settings quota c))
 -- a stray changes no machine
 line_result settings quota machines (Stray why) = Applied (with_newline (effect_text [] (Dropped why))) machines
 
@@ -63,16 +63,16 @@ abbrev pub and_then : ℕ → LineResult → ((ℕ → Alone) → Output) → Ou
 and_then n Refused rest = record { text = bad_text n; status = 3 }
 and_then n (Applied written machines) rest = record { text = written ++ (rest machines).text; status = (rest machines).status }
 
--- a circuit's machine at the start, with the book that its region holds
-abbrev pub machine_over : (ℕ → Region) → Option CircuitPart → Alone
-machine_over regions None = start None
-machine_over regions (Some part) = start (recovered_book part (regions part.region).byte)
+-- a circuit's machine at the start, over this region
+abbrev pub machine_over : Region → Option Setup → Alone
+machine_over region None = start None
+machine_over region (Some setup) = opened setup (opening_of region)
 
 -- The result of a line of the text; `begun` says whether an event came before it. If none did, a fill
 -- puts the circuit's machine over a region in which every byte is this one.
 abbrev pub result_of : Settings → ℕ → Bool → (ℕ → Alone) → Line → LineResult
 result_of settings quota false machines (Fill c byte) =
-    Applied [] (moved c (machine_over (λ q. filled byte formatted_region) (part_in settings c)) machines)
+    Applied [] (with_machine c (machine_over (filled byte formatted_region) (setup_in settings quota c)) machines)
 result_of settings quota begun machines line = line_result settings quota machines line
 
 abbrev pub is_event : Line → Bool
@@ -88,12 +88,12 @@ lab_from settings quota n begun machines (line ∷ lines) =
     (λ next. lab_from settings quota (n + 1) (begun || is_event (line_of_text settings line)) next lines)
 
 -- each circuit's machine at the start, when every region was just formatted
-abbrev pub first_machines : Settings → ℕ → Alone
-first_machines settings c = machine_over (λ q. formatted_region) (part_in settings c)
+abbrev pub first_machines : Settings → ℕ → ℕ → Alone
+first_machines settings quota c = machine_over formatted_region (setup_in settings quota c)
 
 -- the output for a text
 abbrev pub lab_output : Settings → ℕ → List ℕ → Output
-lab_output settings quota text = lab_from settings quota 1 false (first_machines settings) (lines_of text)
+lab_output settings quota text = lab_from settings quota 1 false (first_machines settings quota) (lines_of text)
 
 -- the output for a text of events alone, over these machines
 abbrev pub events_output : Settings → ℕ → (ℕ → Alone) → List ℕ → Output

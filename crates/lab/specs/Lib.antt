@@ -3,4 +3,3 @@ pub mod Follows
 pub mod Lab
 pub mod Output
 pub mod Run
-pub mod Words

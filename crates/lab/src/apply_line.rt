@@ -1,14 +1,14 @@
 //! One line of events, applied to the machine.
 ghost use Rattle.std.specs.Prelude.{◌≡◌, ◌+◌, ◌<◌, ◌≤◌, ℕ, true, length, Some, IfSome};
-ghost use Rattle.config.specs.CircuitPart.{part_in};
 ghost use Rattle.settings.specs.Settings.{Settings};
 ghost use Rattle.config.specs.Topology.{topology_of};
 ghost use Rattle.types.specs.declared.discard.Discard.{Discard};
 ghost use Rattle.world.specs.Alone.{Alone};
+ghost use Rattle.world.specs.Start.{setup_in};
 ghost use Rattle.events.specs.Seen.{Seen};
 ghost use Rattle.events.specs.Stray.{is_stray, stray_outcome};
 ghost use Rattle.events.specs.declared.outcome.Outcome.TheVariants as outcome;
-ghost use Rattle.lab.specs.Lab.{part_result, line_result};
+ghost use Rattle.lab.specs.Lab.{named_result, line_result};
 ghost use Rattle.lab_text.specs.Line.{Line, line_of_text, Tick, Stray};
 ghost use Rattle.lab_text.specs.ParsedLine.{line_of, IsRestart, IsWithin};
 ghost use Rattle.lab.specs.Follows.{AllRepresent, Names, IsRefusal, Says, Follows, FollowsLast};
@@ -49,7 +49,7 @@ fn apply_event<M: Machine, W: ByteWriter>(
 ) -> Option<u8>
     requires { circuit < length config.now.circuits }
     ensures follows { (quota number : ℕ) (machines : ℕ → Alone) (seen : Seen) → Names circuit seen event.now → AllRepresent config.now quota (M.states machine.old) machines
-        → Follows config.now quota number (part_result quota circuit seen machines (part_in config.now circuit)) (M.states machine.new) (W.contents writer.old) (W.contents writer.new) result }
+        → Follows config.now quota number (named_result circuit seen machines (setup_in config.now quota circuit)) (M.states machine.new) (W.contents writer.old) (W.contents writer.new) result }
     ensures topology { M.topology machine.new ≡ M.topology machine.old }
     ensures status { IfSome result IsEnd }
     ensures quiet { ¬ (result ≡ Some 6) → W.failures writer.new ≡ W.failures writer.old }

@@ -2,7 +2,7 @@
 ghost use Rattle.std.specs.Prelude.{◌≡◌, ◌+◌, ◌⊎◌, ◌<◌, ◌≤◌, ℕ, ⊤, List, Option, [], true, false, length, take, IfOk, IfSome, IfNone, OnOk, OnErr};
 ghost use Rattle.std.specs.Io.KnownBytes.{prepend_known};
 ghost use Rattle.lease_disk.specs.Crash.{formatted_region};
-ghost use Rattle.lease_disk.specs.Model.{state_of};
+ghost use Rattle.lease_disk.specs.Model.{device_of, state_of};
 ghost use Rattle.world.specs.Alone.{Alone};
 ghost use Rattle.lab.specs.Fills.{AreFilled, AreOver, AreReady, AreWithin, FilledSoFar};
 ghost use Rattle.lab.specs.Follows.{Says};
@@ -30,8 +30,8 @@ fn apply_fill(
     ensures event { IfSome result (λ _. is_event (line_of_text config.now line.now) ≡ true) }
     ensures parsed { IfSome result (Says config.now buffers.new.bytes buffers.new.images line.now) }
     ensures no_event { IfNone result (is_event (line_of_text config.now line.now) ≡ false) }
-    ensures filled { IfNone result ((quota : ℕ) (machines : ℕ → Alone) → AreOver config.now (state_of disk.old) machines
-        → AreFilled config.now (state_of disk.new) (result_of config.now quota false machines (line_of_text config.now line.now))) }
+    ensures filled { IfNone result ((quota : ℕ) (machines : ℕ → Alone) → AreOver config.now quota (device_of disk.old) machines
+        → AreFilled config.now quota (device_of disk.new) (result_of config.now quota false machines (line_of_text config.now line.now))) }
     ensures same { IfSome result (λ _. disk.new ≡ disk.old) }
     ensures count { length disk.new.regions ≡ length disk.old.regions }
     ensures ready { AreReady (length disk.new.regions) (state_of disk.new) }
@@ -66,8 +66,8 @@ fn apply_last_fill(
     requires regions { AreWithin config.now (length disk.old.regions) }
     requires ready { AreReady (length disk.old.regions) (state_of disk.old) }
     ensures filled { (quota number : ℕ) (given left : Option (List ℕ)) → HoldsLast (held ahead.old) left len
-        → FilledSoFar config.now quota number false given (prepend_known (held ahead.old) left) (state_of disk.old) (λ rest. ⊤)
-        → FilledSoFar config.now quota number true given (prepend_known (held ahead.new) left) (state_of disk.new) (Fits (held ahead.new) result.0) }
+        → FilledSoFar config.now quota number false given (prepend_known (held ahead.old) left) (device_of disk.old) (λ rest. ⊤)
+        → FilledSoFar config.now quota number true given (prepend_known (held ahead.new) left) (device_of disk.new) (Fits (held ahead.new) result.0) }
     ensures end { (left : Option (List ℕ)) → HoldsLast (held ahead.old) left len → IsLineEnd (held ahead.new) left result.0 }
     ensures within { len_of result.0 ≤ 8192 }
     ensures inside { len_of result.0 + feeds_of result.0 ≤ length (held ahead.new) }
@@ -99,7 +99,7 @@ pub(crate) fn apply_fills<R: ByteReader>(
     requires held { held ahead.old ≡ [] }
     requires count { ahead.old.count ≡ 0 }
     ensures filled { IfOk result (λ next. (quota : ℕ)
-        → FilledSoFar config.now quota (next.earlier + 1) true (R.remaining reader.old) (prepend_known (held ahead.new) (R.remaining reader.new)) (state_of disk.new) (Fits (held ahead.new) next.end)) }
+        → FilledSoFar config.now quota (next.earlier + 1) true (R.remaining reader.old) (prepend_known (held ahead.new) (R.remaining reader.new)) (device_of disk.new) (Fits (held ahead.new) next.end)) }
     ensures end { IfOk result (λ next. IsLineEnd (held ahead.new) (R.remaining reader.new) next.end) }
     ensures within { IfOk result (λ next. len_of next.end ≤ 8192) }
     ensures inside { IfOk result (λ next. len_of next.end + feeds_of next.end ≤ length (held ahead.new)) }

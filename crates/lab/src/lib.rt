@@ -2,7 +2,6 @@
 #![tactic(auto)]
 
 mod apply_line;
-mod arguments;
 mod buffers;
 mod engine;
 mod fills;
@@ -10,7 +9,7 @@ mod opening;
 mod output;
 mod status;
 
-pub use arguments::{LabWords, words};
+pub use command_line::accesslab_words::{LabWords, words};
 pub use engine::lab;
 pub use lab_text::{ByteReader, ByteWriter, Failed, MAX_LINE, MAX_TEXT, StdReader, StdWriter};
 pub use opening::run;

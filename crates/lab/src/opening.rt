@@ -7,7 +7,7 @@ ghost use Rattle.lab.specs.Run.{IsPartial, IsStatus, HasCause, HasNoCause};
 ghost use Rattle.config.specs.Topology.{topology_of};
 ghost use Rattle.lab.specs.Fills.{AreOver, AreReady, AreWithin};
 ghost use Rattle.lab.specs.Follows.{AllRepresent};
-ghost use Rattle.lease_disk.specs.Model.{state_of};
+ghost use Rattle.lease_disk.specs.Model.{device_of, state_of};
 ghost use Rattle.world.specs.Alone.{Alone};
 ghost use Rattle.world.specs.World.{states};
 
@@ -28,7 +28,7 @@ fn opened(alloc: Global, config: &Config, disk: ModelDisk, quota: u16) -> Result
     requires most { quota ≤ 256 }
     requires regions { AreWithin config.now (length disk.regions) }
     requires ready { AreReady (length disk.regions) (state_of disk) }
-    ensures represents { IfOk result (λ world. (machines : ℕ → Alone) → AreOver config.now (state_of disk) machines → AllRepresent config.now quota (states world) machines) }
+    ensures represents { IfOk result (λ world. (machines : ℕ → Alone) → AreOver config.now quota (device_of disk) machines → AllRepresent config.now quota (states world) machines) }
     ensures topology { IfOk result (λ world. world.relays.topology ≡ topology_of config.now) }
     ensures memory { IfErr result (λ why. why ≡ fault.Memory) }
 {

@@ -2,7 +2,7 @@
 ghost use Rattle.std.specs.Prelude.{◌≡◌, ◌+◌, ◌≤◌, ◌∷◌, ◌++◌, [], length, take, decimal, codes, OnOk, OnErr};
 ghost use Rattle.std.specs.Io.KnownBytes.{Appends};
 ghost use Rattle.hex.specs.Hex.{encode_lower};
-ghost use Rattle.world.specs.Alone.{Effect, Framed, Done};
+ghost use Rattle.world.specs.Alone.{Framed, Done};
 ghost use Rattle.lab_text.specs.Writing.{AppendsPrefix};
 ghost use Rattle.lab.specs.Output.{dotted, effect_text, outcome_effect, with_newline, bad_text};
 

@@ -1,11 +1,11 @@
 -- Bytes that are read ahead of the lines.
-use Rattle.std.proofs.Common.{◌≡◌, ℕ, zero, suc, ◌+◌, ◌-◌, ◌≤◌, true, false, nat_lt, List, [], ◌∷◌, ◌++◌, length, take, drop, slice_range, refl, ap, sym, subst, ◌∙◌, arith, add-one, append_assoc, append-nil, eq-eqb, ltb-false, take-append-drop, take_all, drop-drop, length-take, length-append}
-use Rattle.std.proofs.lemmas.List.{length-take-le, drop-take}
+use Rattle.std.proofs.Common.{◌≡◌, ℕ, zero, suc, ◌+◌, ◌-◌, ◌≤◌, true, false, nat_lt, List, [], ◌∷◌, ◌++◌, length, take, drop, slice_range, refl, ap, sym, subst, ◌∙◌, arith, add-one, append_assoc, append-nil, eq-eqb, ltb-false, take_all, drop-drop, length-take, length-append}
+use Rattle.std.proofs.lemmas.List.{drop-take}
 use Rattle.std.proofs.Math.Seq.{take-add}
 use Rattle.std.specs.Prelude.{Option, Some, None}
 use Rattle.std.specs.Io.KnownBytes.{Consumes, Keeps, prepend_known}
 use Rattle.memchr.specs.Find.{Nowhere, Passes, is_byte}
-use Rattle.lab_text.specs.LineEnd.{IsLine, IsLast, IsLong, IsCut, IsCounted, IsFirstEnd, IsLineEnd, HoldsLine, HoldsLong, HoldsLast, len_of, feeds_of}
+use Rattle.lab_text.specs.LineEnd.{IsLine, IsLast, IsCut, IsCounted, IsLineEnd, HoldsLine, HoldsLast, len_of}
 use Rattle.lab_text.specs.declared.line.LineEnd.{LineEnd}
 use Rattle.lab_text.specs.declared.line.LineEnd.TheVariants.{Newline, EndOfInput, TooLong}
 use Rattle.lab_text.specs.Lines.{lacks}
@@ -22,20 +22,10 @@ lacks_nowhere s bs (suc k) within h =
 pub lacks_everywhere : (s : ℕ) (bs : List ℕ) → Nowhere (Passes (is_byte s) bs) 0 (length bs) → lacks s bs ≡ true
 lacks_everywhere s bs h = ap (lacks s) (sym (take_all (length bs) bs (omega arith))) ∙ lacks_nowhere s bs (length bs) (omega arith) h
 
-pub end_after : (held : List ℕ) (left : Option (List ℕ)) (end : LineEnd) → IsFirstEnd held end → IsLineEnd held left end
-end_after held left (Newline len) h = h
-end_after held left (EndOfInput len) h = absurd h
-end_after held left TooLong h = h
-
 pub end_within : (held : List ℕ) (left : Option (List ℕ)) (end : LineEnd) → IsLineEnd held left end → len_of end ≤ 8192
 end_within held left (Newline len) h = h.short
 end_within held left (EndOfInput len) h = h.short
 end_within held left TooLong h = omega arith
-
-pub end_inside : (held : List ℕ) (left : Option (List ℕ)) (end : LineEnd) → IsLineEnd held left end → len_of end + feeds_of end ≤ length held
-end_inside held left (Newline len) h = let e = h.inside in omega arith
-end_inside held left (EndOfInput len) h = let e = h.size in omega arith
-end_inside held left TooLong h = omega arith
 
 -- the first bytes of those that are held are consumed
 pub held_consumed : (left : Option (List ℕ)) (held front rest : List ℕ) → held ≡ front ++ rest → Consumes (prepend_known held left) (prepend_known rest left) front
@@ -74,17 +64,6 @@ last_consumed a left held text len is kept h =
       part = record { plain = h.plain; read = consumes_behind a (prepend_known held left) left held kept (all_consumed left held) };
       end = h.end;
     })
-
--- a line that is too long, before what is held behind it
-pub long_consumed : (a left : Option (List ℕ)) (held : List ℕ) → Keeps a (prepend_known held left) → (h : HoldsLong held) → IsLong a (prepend_known (drop h.size held) left)
-long_consumed a left held kept h = record {
-  front = take h.size held;
-  long = let e = length-take-le h.size held h.within in let f = h.long in omega arith;
-  part = record {
-    plain = h.plain;
-    read = consumes_behind a (prepend_known held left) _ _ kept (held_consumed left held (take h.size held) (drop h.size held) (sym (take-append-drop h.size held)));
-  };
-}
 
 -- what was read before the reader failed
 pub cut_consumed : (a left : Option (List ℕ)) (held : List ℕ) → Keeps a (prepend_known held left) → IsCut a left

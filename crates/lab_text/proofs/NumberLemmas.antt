@@ -10,9 +10,6 @@ use Rattle.lab_text.specs.Fields.{digits_after, lacks_first, at_most, value_of, 
 pub value_is : (text : List ℕ) → lacks_first text ≡ false → value_of text ≡ digits_after 0 text
 value_is text h = ap (λ t. cond t None (digits_after 0 text)) h
 
-pub no_value : (most : ℕ) (text : List ℕ) → lacks_first text ≡ true → None ≡ number_to most text
-no_value most text h = sym (ap (λ t. at_most most (cond t None (digits_after 0 text))) h)
-
 one_digit : (n d : ℕ) (ds : List ℕ) (t : Bool) → is_ascii_digit d ≡ t → digits_after n (d ∷ ds) ≡ cond t (digits_after (10 * n + (d - 48)) ds) None
 unfolding digits_after
 one_digit n d ds t h = ap (λ v. cond v (digits_after (10 * n + (d - 48)) ds) None) h

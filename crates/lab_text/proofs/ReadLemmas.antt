@@ -1,17 +1,12 @@
 -- Bytes that are read in several calls.
 use Rattle.std.proofs.Common.{ℕ, List, [], ◌++◌, refl, ap, sym, ◌∙◌, arith, append_assoc, length-append}
 use Rattle.std.specs.Prelude.{Option, Some, None}
-use Rattle.std.specs.Io.KnownBytes.{Consumes, Keeps}
+use Rattle.std.specs.Io.KnownBytes.{Consumes}
 use Rattle.lab_text.specs.LineEnd.{IsCounted}
 
 pub consumes_none : (o : Option (List ℕ)) → Consumes o o []
 consumes_none None = tt
 consumes_none (Some xs) = refl
-
-pub consumes_kept : (a b : Option (List ℕ)) → Keeps a b → Consumes a b []
-consumes_kept None b h = tt
-consumes_kept (Some xs) None h = absurd h
-consumes_kept (Some xs) (Some ys) h = sym h
 
 pub consumes_more : (a b c : Option (List ℕ)) (xs ys : List ℕ) → Consumes a b xs → Consumes b c ys → Consumes a c (xs ++ ys)
 consumes_more None b c xs ys h k = tt

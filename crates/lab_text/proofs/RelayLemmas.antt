@@ -1,6 +1,6 @@
 -- The first relay with a name, and whether one has a source, found by a walk.
 use Rattle.std.proofs.Common.{◌≡◌, ℕ, zero, suc, ◌+◌, ◌≤◌, Bool, true, false, cond, List, [], ◌∷◌, length, drop, drop-cons, refl, ap, sym, ◌∙◌, arith}
-use Rattle.std.specs.Prelude.{◌||◌, Some, None, map, position, slice_get}
+use Rattle.std.specs.Prelude.{◌||◌, Some, map, position, slice_get}
 use Rattle.std.specs.List.{list_any, position_from}
 use Rattle.std.proofs.lemmas.Iterator.Adapters.{position_from-zero}
 use Rattle.std.proofs.lemmas.Option.{same_Some, slice_get_within, slice_get-get_or}
@@ -50,9 +50,6 @@ drop_past [] zero h = refl
 drop_past [] (suc i) h = refl
 drop_past (x ∷ xs) zero h = absurd (omega (arith, h))
 drop_past (x ∷ xs) (suc i) h = drop_past xs i (omega (arith, h))
-
-pub lacks_all : {A : Type 0} (p : A → Bool) (xs : List A) (i : ℕ) → length xs ≤ i → LacksBefore p xs i → position p xs ≡ None
-lacks_all p xs i past so_far = so_far ∙ ap (position_from p i) (drop_past xs i past)
 
 pub none_of_all : {A : Type 0} (p : A → Bool) (xs : List A) (i : ℕ) → length xs ≤ i → NoneBefore p xs i → list_any p xs ≡ false
 none_of_all p xs i past so_far = so_far ∙ ap (list_any p) (drop_past xs i past)

@@ -25,9 +25,7 @@ pub(crate) fn relay_named(config: &Config, name: &[u8]) -> Option<RelayNo>
     ensures within { IfSome result (λ relay. relay < length config.now.relays) }
 {
     'relays: for index in 0..config.relay_count() {
-        let Some(relay) = RelayNo::new(index) else {
-            unreachable!()
-        };
+        let relay = RelayNo::at(index);
         if config.relay(relay).name.as_slice() == name {
             return Some(relay);
         }
@@ -40,9 +38,7 @@ pub(crate) fn is_relay(config: &Config, source: Source) -> bool
     ensures { result ≡ is_relay (topology_of config.now) source }
 {
     'relays: for index in 0..config.relay_count() {
-        let Some(relay) = RelayNo::new(index) else {
-            unreachable!()
-        };
+        let relay = RelayNo::at(index);
         if source == config.relay(relay).source {
             return true;
         }

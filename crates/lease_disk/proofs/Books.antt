@@ -1,6 +1,6 @@
 -- What a region recovers to is a book.
 use Rattle.std.proofs.Common.{◌≡◌, ℕ, ◌+◌, ◌*◌, ◌<◌, ◌≤◌, Bool, true, false, ◌&&◌, nat_le, nat_lt, suc, zero, List, [], ◌∷◌, length, map, replicate, get_or, slice_index, All, zero-add, Option, Some, None, refl, sym, ap, ◌∙◌, subst, arith}
-use Rattle.std.specs.Prelude.{if◌then◌else◌, option_map, max, ◌==◌, ◌%◌}
+use Rattle.std.specs.Prelude.{if◌then◌else◌, option_map, max, ◌==◌}
 use Rattle.std.proofs.lemmas.List.{ext_get_or, get_or_past, length-map}
 use Rattle.std.specs.Int.{w32, from_be_bytes}
 use Rattle.types.specs.Key6.{Key6Value}
@@ -10,14 +10,14 @@ use Rattle.types.specs.declared.slots.Slot6.{Slot6}
 use Rattle.types.specs.declared.slots.Slot6.TheVariants as S6
 use Rattle.types.specs.declared.slots.Slots.{Slots}
 use Rattle.types.specs.Slots.{IsWithin4, IsWithin6, live4, live6, same_client4, same_client6, none_twice, last_until}
-use Rattle.lease_disk.specs.declared.format2.entry.Entry.{Entry}
-use Rattle.lease_disk.specs.declared.format2.half.Half.TheVariants.{First, Second}
+use Rattle.lease_disk.specs.declared.entry.Entry.{Entry}
+use Rattle.lease_disk.specs.declared.half.Half.TheVariants.{First, Second}
 use Rattle.lease_disk.specs.Book.{IsBook, empty_book}
 use Rattle.lease_disk.specs.Crash.{IsFormatted}
-use Rattle.lease_disk.specs.Recover.{with_halves}
-use Rattle.lease_disk.specs.Recovered.{half, is_format2, is_counting, bytes_at, clock_of, until_of, slot4_of, slot6_of, saved_at, held, entry_of, entry, all_from, latest, contents_at, pool_entries, book_at, book_of, book_in, recovered, last_clock}
+use Rattle.lease_disk.specs.Layout.{with_halves, half, is_format2}
+use Rattle.lease_disk.specs.Recovered.{is_counting, bytes_at, clock_of, until_of, slot4_of, slot6_of, saved_at, held, entry_of, entry, all_from, latest, contents_at, pool_entries, book_at, book_of, book_in, recovered, last_clock}
 use Rattle.lease_disk.specs.Region.{Region}
-use Rattle.lease_disk.proofs.Entries.{HasEntries, same_some, all_at, all_size, are_entries, book_is, live_later4, live_later6}
+use Rattle.lease_disk.proofs.Entries.{same_some, all_at, all_size, are_entries, live_later4, live_later6}
 
 get_or_in : {A B : Type 0} → (f : B → A) (xs : List B) (i : ℕ) (d : A) (e : B) → i < length xs → get_or (map f xs) i d ≡ f (get_or xs i e)
 get_or_in f [] i d e h = absurd (omega arith)

@@ -1,5 +1,5 @@
 -- What a region recovers to where one slot holds another entry.
-use Rattle.std.proofs.Common.{◌≡◌, ℕ, ◌+◌, ◌-◌, ◌<◌, ◌≤◌, ◌⊎◌, inl, inr, Bool, true, false, nat_lt, List, length, map, set, get_or, slice_index, Option, Some, refl, sym, ap, subst, ◌∙◌, arith}
+use Rattle.std.proofs.Common.{◌≡◌, ℕ, ◌+◌, ◌-◌, ◌<◌, ◌≤◌, Bool, true, false, nat_lt, List, length, map, set, slice_index, Option, Some, refl, sym, ap, subst, ◌∙◌, arith}
 use Rattle.std.specs.Prelude.{◌&&◌, All, if◌then◌else◌, max}
 use Rattle.std.proofs.lemmas.List.{length-map, length-set, get_or-set_same}
 use Rattle.types.specs.declared.slot4.Slot4.{Slot4}
@@ -7,12 +7,12 @@ use Rattle.types.specs.declared.slot4.Slot4.TheVariants as S4
 use Rattle.types.specs.declared.slots.Slot6.{Slot6}
 use Rattle.types.specs.declared.slots.Slot6.TheVariants as S6
 use Rattle.types.specs.declared.slots.Slots.{Slots}
-use Rattle.types.specs.Slots.{IsWithin4, IsWithin6, live4, live6}
-use Rattle.lease_disk.specs.declared.format2.content.Content.TheVariants.{Four, Six}
-use Rattle.lease_disk.specs.declared.format2.entry.Entry.{Entry}
+use Rattle.types.specs.Slots.{live4, live6}
+use Rattle.lease_disk.specs.declared.content.Content.TheVariants.{Four, Six}
+use Rattle.lease_disk.specs.declared.entry.Entry.{Entry}
 use Rattle.lease_disk.specs.Recovered.{saved_at, latest, contents_at, pool_entries, book_of, book_in}
-use Rattle.lease_disk.specs.Save.{IsChange, is_read, with_slot}
-use Rattle.lease_disk.proofs.Entries.{max_is, max_so, AreEntries, HasEntries, are_entries, book_by, all_alike, all_set, all_size, latest_set, contents_size, contents_later, contents_set, live_later4, live_later6}
+use Rattle.lease_disk.specs.Save.{IsChange, with_slot}
+use Rattle.lease_disk.proofs.Entries.{max_is, max_so, are_entries, book_by, all_alike, all_set, all_size, latest_set, contents_size, contents_later, contents_set, live_later4, live_later6}
 
 module _ {A : Type 0} (free : A) (count : ℕ) where
   -- a slot of the pool holds another entry

@@ -1,14 +1,14 @@
 -- What the slots of a region hold, by what each of them does.
-use Rattle.std.proofs.Common.{◌≡◌, ℕ, ◌+◌, ◌-◌, ◌<◌, ◌≤◌, Bool, true, false, ◌&&◌, nat_lt, suc, zero, List, [], ◌∷◌, length, map, set, get_or, slice_index, Option, Some, None, refl, sym, ap, ◌∙◌, arith}
+use Rattle.std.proofs.Common.{◌≡◌, ℕ, ◌+◌, ◌<◌, ◌≤◌, Bool, true, false, ◌&&◌, nat_lt, suc, zero, List, [], ◌∷◌, length, map, set, get_or, slice_index, Option, Some, None, refl, sym, ap, ◌∙◌, arith}
 use Rattle.std.specs.Prelude.{if◌then◌else◌, max}
-use Rattle.std.proofs.lemmas.List.{map-set, length-set, length-map, get_or-set_same}
+use Rattle.std.proofs.lemmas.List.{map-set, length-map}
 use Rattle.types.specs.declared.slot4.Slot4.{Slot4}
 use Rattle.types.specs.declared.slot4.Slot4.TheVariants as S4
 use Rattle.types.specs.declared.slots.Slot6.{Slot6}
 use Rattle.types.specs.declared.slots.Slot6.TheVariants as S6
 use Rattle.types.specs.declared.slots.Slots.{Slots}
 use Rattle.types.specs.Slots.{live4, live6, same_client4, same_client6, none_twice}
-use Rattle.lease_disk.specs.declared.format2.entry.Entry.{Entry}
+use Rattle.lease_disk.specs.declared.entry.Entry.{Entry}
 use Rattle.lease_disk.specs.Recovered.{saved_at, cons_some, all_from, latest, contents_at, pool_entries, book_at, book_of, book_in}
 
 abbrev some_or : {A : Type 0} → A → Option A → A

@@ -1,20 +1,20 @@
 -- The exits of a save, by what its three functions promise.
-use Rattle.std.proofs.Common.{◌≡◌, ℕ, ◌+◌, ◌-◌, ◌<◌, ◌≤◌, Bool, true, false, ◌||◌, nat_lt, List, [], ◌∷◌, length, take, set, get_or, slice_index, Some, Result, OnErr, Ok, Err, refl, sym, ap, ◌∙◌, subst, arith}
-use Rattle.std.specs.Prelude.{if◌then◌else◌, ◌==◌, drop, suc, slice_index_or}
+use Rattle.std.proofs.Common.{◌≡◌, ℕ, ◌+◌, ◌-◌, ◌<◌, ◌≤◌, Bool, true, false, ◌||◌, List, [], ◌∷◌, length, take, set, get_or, slice_index, Some, Result, OnErr, Ok, Err, refl, sym, ap, ◌∙◌, subst, arith}
+use Rattle.std.specs.Prelude.{if◌then◌else◌, ◌==◌, drop, suc}
 use Rattle.std.proofs.Math.Seq.{take-length}
 use Rattle.std.proofs.lemmas.List.{get_or-set_same, get_or-set_other}
 use Rattle.types.specs.declared.slots.Slots.{Slots}
-use Rattle.lease_disk.specs.declared.format2.content.Content.{Content}
-use Rattle.lease_disk.specs.declared.format2.half.Half.{Half}
-use Rattle.lease_disk.specs.declared.format2.half.Half.TheVariants.{First, Second}
-use Rattle.lease_disk.specs.declared.format2.half.Mark.{Mark}
-use Rattle.lease_disk.specs.declared.format2.half.Marks.{Marks}
-use Rattle.lease_disk.specs.Book.{half_bytes}
+use Rattle.lease_disk.specs.declared.content.Content.{Content}
+use Rattle.lease_disk.specs.declared.half.Half.{Half}
+use Rattle.lease_disk.specs.declared.half.Half.TheVariants.{First}
+use Rattle.lease_disk.specs.declared.marks.Mark.{Mark}
+use Rattle.lease_disk.specs.declared.marks.Marks.{Marks}
+use Rattle.lease_disk.specs.HalfBytes.{half_bytes}
 use Rattle.lease_disk.specs.Keys.{HasKey}
-use Rattle.lease_disk.specs.Layout.{gate_open, half_at}
-use Rattle.lease_disk.specs.Recovered.{half, is_counting, is_open, last_clock, next, sequence as sequence_of, recovered}
+use Rattle.lease_disk.specs.Layout.{gate_open, half_at, half}
+use Rattle.lease_disk.specs.Recovered.{is_counting, is_open, last_clock, next, sequence as sequence_of, recovered}
 use Rattle.lease_disk.specs.Region.{Region, is_within, written, synced, effective, IsClean, IsTorn, SameBeside}
-use Rattle.lease_disk.specs.Save.{AreMarks, Fits, IsChange, IsMark, IsSaved, IsLeft, is_read, mark_at, other, saved_byte, with_slot}
+use Rattle.lease_disk.specs.Save.{AreMarks, Fits, IsChange, IsMark, IsSaved, IsLeft, mark_at, other, saved_byte, with_slot}
 use Rattle.lease_disk.proofs.Halves.{SameBut, same_elsewhere, counting_sequence, is_inside}
 use Rattle.lease_disk.proofs.Steps.{IsShut, IsFilled, IsNew, early, middle, late, shut, fills, first_byte, fourth_byte, index_behind, left_closing, left_writing, left_opening, saved_book, saved_mark}
 
@@ -201,11 +201,3 @@ module _ (s : ℕ) (mark : Mark) (at n clock : ℕ) (content : Content) (whole b
             at_place i (is_within at 256 i) refl (i == at) refl
             ∙ ap (λ xs. if is_within at 256 i then slice_index xs (i - at) else r0.byte i) (given.whole_is ∙ ap (λ m. half_bytes m clock content) next_mark)
             ∙ ap (λ a. if is_within a 256 i then slice_index (half_bytes (next mark.sequence) clock content) (i - a) else r0.byte i) given.at_is
-
-pub exit_torn : (s : ℕ) (mark : Mark) (at m : ℕ) (r0 r : Region) → at ≡ half_at s (other mark.half) → m ≤ 256 → IsTorn at m r0 r → SameBeside (half_at s (other mark.half)) 256 r0 r
-exit_torn s mark at m r0 r is few torn = subst (λ a. SameBeside a 256 r0 r) is (record {
-  byte = λ i h. torn.byte i (narrow i h);
-  unsynced = λ i h. torn.unsynced i ∙ ap (λ b. b || r0.unsynced i) (narrow i h);
-}) where
-  narrow : (i : ℕ) → is_within at 256 i ≡ false → is_within at m i ≡ false
-  narrow i h = grind (arith, h, few)

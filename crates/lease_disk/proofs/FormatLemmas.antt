@@ -1,12 +1,12 @@
 -- A region whose bytes were all written.
-use Rattle.std.proofs.Common.{◌≡◌, ℕ, ◌+◌, ◌-◌, ◌*◌, ◌%◌, ◌<◌, ◌≤◌, Bool, true, false, ◌&&◌, ◌||◌, nat_le, nat_lt, List, [], ◌∷◌, length, set, get_or, slice_index, Some, None, Result, OnOk, OnErr, Ok, Err, refl, ap, ◌∙◌, subst, sym, arith}
+use Rattle.std.proofs.Common.{◌≡◌, ℕ, ◌+◌, ◌-◌, ◌*◌, ◌%◌, ◌<◌, ◌≤◌, Bool, true, false, ◌&&◌, ◌||◌, nat_le, nat_lt, List, [], ◌∷◌, length, set, slice_index, Some, None, Result, OnOk, OnErr, Ok, Err, refl, ap, ◌∙◌, subst, sym, arith}
 use Rattle.std.specs.Prelude.{if◌then◌else◌, ◌==◌}
 use Rattle.std.proofs.lemmas.List.{get_or-set_same, get_or-set_other, length-set}
 use Rattle.lease_disk.specs.Layout.{formatted}
 use Rattle.lease_disk.specs.Book.{empty_book}
 use Rattle.lease_disk.specs.Crash.{IsFormatted, IsHalfFormatted}
 use Rattle.lease_disk.specs.Recovered.{recovered}
-use Rattle.lease_disk.specs.Region.{Region, is_within, written, synced, IsCrash, IsTorn, effective}
+use Rattle.lease_disk.specs.Region.{Region, is_within, written, synced, IsTorn, effective}
 use Rattle.lease_disk.proofs.Books.{formatted_book}
 use Rattle.lease_disk.proofs.Halves.{is_inside}
 use Rattle.lease_disk.proofs.Reading.{no_format}
@@ -16,52 +16,12 @@ pub record AreOpen (slot : ℕ) (bytes : List ℕ) : Type 0 where
   pub size : length bytes ≡ 32768
   pub each : (k : ℕ) → slice_index bytes k ≡ (if nat_le 16384 k && nat_lt k (16384 + 512 * slot) && k % 512 == 0 then 0xa5 else 0)
 
-none_open : (k : ℕ) → (nat_le 16384 k && nat_lt k (16384 + 512 * 0) && k % 512 == 0) ≡ false
-none_open k = by_past (nat_lt k 16384) refl where
-  by_past : (b : Bool) → nat_lt k 16384 ≡ b → (nat_le 16384 k && nat_lt k (16384 + 512 * 0) && k % 512 == 0) ≡ false
-  by_past true e = let p : nat_le 16384 k ≡ false = grind (arith, e) in ap (λ b. b && nat_lt k (16384 + 512 * 0) && k % 512 == 0) p
-  by_past false e = let p : nat_le 16384 k ≡ true = grind (arith, e) in let q : nat_lt k (16384 + 512 * 0) ≡ false = grind (arith, e) in rw (p, q) refl
-
-pub open_none : (bytes : List ℕ) → length bytes ≡ 32768 → ((i : ℕ) → slice_index bytes i ≡ 0) → AreOpen 0 bytes
-open_none bytes size zero = record { size = size; each = λ k. zero k ∙ sym (ap (λ b. if b then 0xa5 else 0) (none_open k)) }
-
-and_late : (a b : Bool) → (a && b && false) ≡ false
-and_late true true = refl
-and_late true false = refl
-and_late false b = refl
-
 before : (k slot : ℕ) (b : Bool) → nat_lt k (16384 + 512 * slot) ≡ b → (k ≡ 16384 + 512 * slot → ⊥) → k % 512 ≡ 0 → nat_lt k (16384 + 512 * (slot + 1)) ≡ b
 before k slot true e ne m = grind (arith, e)
 before k slot false e ne m =
     let past : 16384 + 512 * slot ≤ k = grind (arith, e) in
     let far : 16384 + 512 * (slot + 1) ≤ k = omega (arith, past, ne, m) in
     grind (arith, far)
-
-same_gates : (k slot : ℕ) (m : Bool) → (k % 512 == 0) ≡ m → (k ≡ 16384 + 512 * slot → ⊥)
-    → (nat_le 16384 k && nat_lt k (16384 + 512 * (slot + 1)) && m) ≡ (nat_le 16384 k && nat_lt k (16384 + 512 * slot) && m)
-same_gates k slot false e ne = and_late (nat_le 16384 k) (nat_lt k (16384 + 512 * (slot + 1))) ∙ sym (and_late (nat_le 16384 k) (nat_lt k (16384 + 512 * slot)))
-same_gates k slot true e ne = let m : k % 512 ≡ 0 = grind (arith, e) in ap (λ b. nat_le 16384 k && b && true) (before k slot (nat_lt k (16384 + 512 * slot)) refl ne m)
-
-here_open : (slot : ℕ) → (nat_le 16384 (16384 + 512 * slot) && nat_lt (16384 + 512 * slot) (16384 + 512 * (slot + 1)) && (16384 + 512 * slot) % 512 == 0) ≡ true
-here_open slot =
-    let a : nat_le 16384 (16384 + 512 * slot) ≡ true = grind arith in
-    let b : nat_lt (16384 + 512 * slot) (16384 + 512 * (slot + 1)) ≡ true = grind arith in
-    let c : (16384 + 512 * slot) % 512 ≡ 0 = omega arith in
-    rw (a, b, c) refl
-
-pub open_more : (slot at : ℕ) (bytes : List ℕ) → slot < 32 → at ≡ 16384 + 512 * slot → AreOpen slot bytes → AreOpen (slot + 1) (set bytes at 0xa5)
-open_more slot at bytes few is so = record { size = length-set bytes at 0xa5 ∙ so.size; each = λ k. by k (k == at) refl } where
-  by : (k : ℕ) (b : Bool) → (k == at) ≡ b → slice_index (set bytes at 0xa5) k ≡ (if nat_le 16384 k && nat_lt k (16384 + 512 * (slot + 1)) && k % 512 == 0 then 0xa5 else 0)
-  by k true e =
-      let same : k ≡ at = grind (arith, e) in
-      ap (slice_index (set bytes at 0xa5)) same ∙ get_or-set_same bytes at 0xa5 0 (omega (arith, is, few, so.size))
-      ∙ sym (ap (λ b. if b then 0xa5 else 0) (ap (λ j. nat_le 16384 j && nat_lt j (16384 + 512 * (slot + 1)) && j % 512 == 0) (same ∙ is) ∙ here_open slot))
-  by k false e =
-      let ne : k ≡ at → ⊥ = λ same. absurd (grind (arith, e, same)) in
-      get_or-set_other bytes at k 0xa5 0 ne ∙ so.each k ∙ sym (ap (λ b. if b then 0xa5 else 0) (same_gates k slot (k % 512 == 0) refl (λ same. ne (same ∙ sym is))))
-
-pub open_all : (slot : ℕ) (bytes : List ℕ) → slot ≡ 32 → AreOpen slot bytes → (k : ℕ) → slice_index bytes k ≡ (if nat_le 16384 k && nat_lt k 32768 && k % 512 == 0 then 0xa5 else 0)
-open_all slot bytes e so k = so.each k ∙ ap (λ n. if nat_le 16384 k && nat_lt k (16384 + 512 * n) && k % 512 == 0 then 0xa5 else 0) e
 
 pub on_ok : {T E : Type 0} → (r : Result T E) → {P Q : Type 0} → (P → Q) → OnOk r P → OnOk r Q
 on_ok (Ok x) f p = f p

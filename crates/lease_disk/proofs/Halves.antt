@@ -1,12 +1,11 @@
 -- Which half of a slot counts while a save writes the other one, over regions as functions of the offset.
-use Rattle.std.proofs.Common.{◌≡◌, ℕ, ◌+◌, ◌*◌, ◌<◌, ◌≤◌, ◌%◌, ◌⊎◌, inl, inr, Bool, true, false, not, ◌&&◌, ◌||◌, nat_le, nat_lt, refl, sym, ap, ◌∙◌, arith}
+use Rattle.std.proofs.Common.{◌≡◌, ℕ, ◌+◌, ◌<◌, ◌≤◌, ◌%◌, ◌⊎◌, inl, inr, Bool, true, false, not, ◌&&◌, ◌||◌, nat_le, nat_lt, refl, sym, ap, ◌∙◌, arith}
 use Rattle.std.specs.Prelude.{if◌then◌else◌, ◌==◌, Option}
 use Rattle.std.proofs.lemmas.Bool.{cases_lt}
-use Rattle.lease_disk.specs.declared.format2.entry.Entry.{Entry}
-use Rattle.lease_disk.specs.declared.format2.half.Half.{Half}
-use Rattle.lease_disk.specs.declared.format2.half.Half.TheVariants.{First, Second}
-use Rattle.lease_disk.specs.Layout.{half_at}
-use Rattle.lease_disk.specs.Recovered.{half, is_format2, is_open, sequence, is_valid, next, is_counting, held, entry_of, entry}
+use Rattle.lease_disk.specs.declared.half.Half.{Half}
+use Rattle.lease_disk.specs.declared.half.Half.TheVariants.{First, Second}
+use Rattle.lease_disk.specs.Layout.{half_at, half, is_format2}
+use Rattle.lease_disk.specs.Recovered.{is_open, sequence, is_valid, next, is_counting, held, entry_of, entry}
 use Rattle.lease_disk.specs.Region.{is_within}
 use Rattle.lease_disk.specs.Save.{other}
 

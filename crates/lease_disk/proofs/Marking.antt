@@ -7,11 +7,12 @@ use Rattle.types.specs.declared.slot4.Slot4.TheVariants as S4
 use Rattle.types.specs.declared.slots.Slot6.{Slot6}
 use Rattle.types.specs.declared.slots.Slot6.TheVariants as S6
 use Rattle.types.specs.declared.slots.Slots.{Slots}
-use Rattle.lease_disk.specs.declared.format2.entry.Entry.{Entry}
-use Rattle.lease_disk.specs.declared.format2.half.Half.TheVariants.{First, Second}
-use Rattle.lease_disk.specs.declared.format2.half.Mark.{Mark}
+use Rattle.lease_disk.specs.declared.entry.Entry.{Entry}
+use Rattle.lease_disk.specs.declared.half.Half.TheVariants.{First, Second}
+use Rattle.lease_disk.specs.declared.marks.Mark.{Mark}
+use Rattle.lease_disk.specs.Layout.{half, is_format2}
 use Rattle.lease_disk.specs.Recover.{is_counted}
-use Rattle.lease_disk.specs.Recovered.{half, is_format2, is_open, sequence, is_counting, slot4_of, slot6_of, saved_at, held, entry_of, entry, pool_entries, recovered}
+use Rattle.lease_disk.specs.Recovered.{is_open, sequence, is_counting, slot4_of, slot6_of, saved_at, held, entry, recovered}
 use Rattle.lease_disk.specs.Save.{IsMark, is_read}
 use Rattle.lease_disk.proofs.Entries.{all_at, are_entries}
 

@@ -1,6 +1,5 @@
 -- What is written to a half is what is read from it.
-use Rattle.std.proofs.Common.{◌≡◌, ℕ, ◌+◌, ◌-◌, ◌<◌, ◌≤◌, true, false, nat_le, nat_lt, suc, List, [], ◌∷◌, ◌++◌, length, replicate, get_or, slice_index, Option, Some, refl, sym, ap, ◌∙◌, arith, append_assoc}
-use Rattle.std.specs.Prelude.{if◌then◌else◌, option_map}
+use Rattle.std.proofs.Common.{◌≡◌, ℕ, ◌+◌, ◌-◌, ◌<◌, ◌≤◌, true, false, nat_le, nat_lt, suc, List, [], ◌∷◌, ◌++◌, length, replicate, get_or, slice_index, Option, Some, refl, ap, ◌∙◌, arith}
 use Rattle.std.specs.Int.{w32, w64, to_be_bytes, from_be_bytes}
 use Rattle.std.proofs.lemmas.List.{get_or-append-add}
 use Rattle.std.proofs.lemmas.Nat.{from_be_bytes-to_be_bytes_8, from_be_bytes-to_be_bytes_4}
@@ -10,9 +9,8 @@ use Rattle.types.specs.declared.slot4.Slot4.TheVariants as S4
 use Rattle.types.specs.declared.slots.Slot6.{Slot6}
 use Rattle.types.specs.declared.slots.Slot6.TheVariants as S6
 use Rattle.types.specs.Slots.{IsWithin4, IsWithin6, last_until}
-use Rattle.lease_disk.specs.declared.format2.content.Content.TheVariants.{Four, Six}
-use Rattle.lease_disk.specs.declared.format2.entry.Entry.{Entry}
-use Rattle.lease_disk.specs.Book.{half_with, half_bytes}
+use Rattle.lease_disk.specs.declared.content.Content.TheVariants.{Four, Six}
+use Rattle.lease_disk.specs.HalfBytes.{half_with, half_bytes}
 use Rattle.lease_disk.specs.Keys.{HasKey}
 use Rattle.lease_disk.specs.Recovered.{bytes_at, clock_of, slot4_of, slot6_of, saved_at, held, last_clock}
 

@@ -4,13 +4,12 @@ use Rattle.std.specs.Prelude.{nat_lt, if◌then◌else◌, max}
 use Rattle.std.specs.List.{list_any}
 use Rattle.std.proofs.lemmas.List.{append-nil, length-drop, length-set, length-take, get_or-drop, get_or-take, get_or_past, take_more_set, take_all, drop_all}
 use Rattle.types.specs.Slots.{none_twice}
-use Rattle.lease_disk.specs.declared.format2.entry.Entry.{Entry}
-use Rattle.lease_disk.specs.declared.format2.half.Half.{Half}
-use Rattle.lease_disk.specs.declared.format2.half.Half.TheVariants.{First, Second}
-use Rattle.lease_disk.specs.declared.format2.half.Mark.{Mark}
-use Rattle.lease_disk.specs.Layout.{half_at}
-use Rattle.lease_disk.specs.Recover.{with_halves}
-use Rattle.lease_disk.specs.Recovered.{bytes_at, half, is_format2, is_open, sequence, is_counting, slot4_of, slot6_of, held, entry_of, entry, cons_some, all_from, latest, book_in, recovered}
+use Rattle.lease_disk.specs.declared.entry.Entry.{Entry}
+use Rattle.lease_disk.specs.declared.half.Half.{Half}
+use Rattle.lease_disk.specs.declared.half.Half.TheVariants.{First, Second}
+use Rattle.lease_disk.specs.declared.marks.Mark.{Mark}
+use Rattle.lease_disk.specs.Layout.{half_at, with_halves, half, is_format2}
+use Rattle.lease_disk.specs.Recovered.{bytes_at, is_open, sequence, is_counting, slot4_of, slot6_of, held, entry_of, entry, cons_some, all_from, latest, book_in, recovered}
 use Rattle.lease_disk.specs.Region.{Region, IsRead}
 use Rattle.lease_disk.specs.Save.{IsMark, other}
 use Rattle.lease_disk.proofs.Changes.{book_alike}
@@ -94,25 +93,6 @@ pub twin_behind : {A : Type 0} → (alike : A → A → Bool) (xs : List A) (i :
     → true ≡ list_any (alike x) (take (length xs - (i + 1)) (drop (i + 1) xs)) → all ≡ none_twice alike (drop i xs) → false ≡ all
 twin_behind alike xs i x all h e p q = sym (q ∙ twice_here alike xs i x h e (ap (λ ys. list_any (alike x) ys) (sym (rest_is xs (i + 1))) ∙ sym p))
 
--- the greatest clock so far, and that of the rest
-pub latest_first : {A : Type 0} → (es : List (Entry A)) → latest es ≡ max 0 (latest (drop 0 es))
-latest_first es = sym (max_so 0 (latest es) (omega arith))
-
-max_assoc : (a b c : ℕ) → max a (max b c) ≡ max (max a b) c
-max_assoc a b c = grind arith
-
-pub latest_more : {A : Type 0} → (es : List (Entry A)) (i c : ℕ) (e : Entry A) → i < length es → e ≡ get_or es i e → latest es ≡ max c (latest (drop i es)) → latest es ≡ max (max c e.clock) (latest (drop (i + 1) es))
-latest_more es i c e h is so_far =
-    let n : i + 1 ≡ suc i = omega arith in
-    so_far ∙ ap (λ ys. max c (latest ys)) (drop-cons es i e h ∙ ap (λ x. x ∷ drop (suc i) es) (sym is)) ∙ max_assoc c e.clock (latest (drop (suc i) es))
-    ∙ ap (λ k. max (max c e.clock) (latest (drop k es))) (sym n)
-
-max_zero : (c : ℕ) → max c 0 ≡ c
-max_zero c = max_is c 0 (omega arith)
-
-pub latest_all : {A : Type 0} → (es : List (Entry A)) (i c : ℕ) → length es ≤ i → latest es ≡ max c (latest (drop i es)) → c ≡ latest es
-latest_all es i c h so_far = sym (so_far ∙ ap (λ ys. max c (latest ys)) (drop_all i es h) ∙ max_zero c)
-
 -- the bytes of a half, of those of all slots
 half_byte : (halves : List ℕ) (at : ℕ) (i : ℕ) (b : Bool) → nat_lt i 256 ≡ b → at + 256 ≤ length halves → get_or (take 256 (drop at halves)) i 0 ≡ (if b then with_halves halves (16384 + at + i) else 0)
 half_byte halves at i true e h =
@@ -156,10 +136,6 @@ counted_as region halves same size s mark few m =
       other_open = m.other_open ∙ ap is_open b;
     }
 
-pub place_at : (s : ℕ) (h : Half) (at : ℕ) → at ≡ half_at s h → 16384 + (at - 16384) ≡ half_at s h
-place_at s First at e = omega (arith, e)
-place_at s Second at e = omega (arith, e)
-
 module _ {A : Type 0} (read : (ℕ → ℕ) → Option A) (own rival : ℕ → ℕ) where
   pub entry_first : (f g : ℕ → ℕ) → f ≡ own → g ≡ rival → true ≡ is_counting f g → held read f ≡ entry_of read own rival
   entry_first f g e h p =
@@ -176,6 +152,10 @@ module _ {A : Type 0} (read : (ℕ → ℕ) → Option A) (own rival : ℕ → �
 pub no_format : (counts : List ℕ) (region : ℕ → ℕ) → is_format2 region ≡ false → recovered counts region ≡ None
 unfolding recovered
 no_format counts region e = ap (λ b. book_in counts b (entry slot4_of region) (entry slot6_of region)) e
+
+-- the halves of all slots, in the bytes of a region
+pub halves_among : (bytes : List ℕ) (i : ℕ) → i < length (take 16384 (drop 16384 bytes)) → slice_index (take 16384 (drop 16384 bytes)) i ≡ slice_index bytes (16384 + i)
+halves_among bytes i h = get_or-take 16384 (drop 16384 bytes) i 0 (omega (arith, h, length-take {A = ℕ})) ∙ get_or-drop 16384 bytes i 0
 
 -- what was read, though the device was called in between
 pub still_read : (old new : ℕ → Region) (r : ℕ) (halves : List ℕ) → new ≡ old → IsRead (new r) 16384 halves → IsRead (old r) 16384 halves

@@ -1,23 +1,23 @@
 -- What a crash leaves after each step of a save.
-use Rattle.std.proofs.Common.{◌≡◌, ℕ, ◌+◌, ◌-◌, ◌<◌, ◌≤◌, Bool, true, false, ◌&&◌, ◌||◌, nat_le, nat_lt, suc, zero, List, [], ◌∷◌, length, slice_index, Option, Some, refl, sym, ap, subst, ◌∙◌, arith}
+use Rattle.std.proofs.Common.{◌≡◌, ℕ, ◌+◌, ◌-◌, ◌<◌, ◌≤◌, Bool, true, false, nat_le, nat_lt, suc, zero, List, [], ◌∷◌, length, slice_index, Option, Some, refl, sym, ap, ◌∙◌, arith}
 use Rattle.std.specs.Prelude.{if◌then◌else◌, ◌==◌, drop}
 use Rattle.std.proofs.lemmas.List.{get_or_past}
 use Rattle.types.specs.declared.slot4.Slot4.TheVariants as S4
 use Rattle.types.specs.declared.slots.Slot6.TheVariants as S6
 use Rattle.types.specs.declared.slots.Slots.{Slots}
 use Rattle.types.specs.Slots.{IsWithin4, IsWithin6}
-use Rattle.lease_disk.specs.declared.format2.content.Content.{Content}
-use Rattle.lease_disk.specs.declared.format2.content.Content.TheVariants.{Four, Six}
-use Rattle.lease_disk.specs.declared.format2.half.Half.{Half}
-use Rattle.lease_disk.specs.declared.format2.half.Mark.{Mark}
-use Rattle.lease_disk.specs.Book.{half_bytes}
+use Rattle.lease_disk.specs.declared.content.Content.{Content}
+use Rattle.lease_disk.specs.declared.content.Content.TheVariants.{Four, Six}
+use Rattle.lease_disk.specs.declared.half.Half.{Half}
+use Rattle.lease_disk.specs.declared.marks.Mark.{Mark}
+use Rattle.lease_disk.specs.HalfBytes.{half_bytes}
 use Rattle.lease_disk.specs.Keys.{HasKey}
-use Rattle.lease_disk.specs.Layout.{gate_open, half_at}
-use Rattle.lease_disk.specs.Recovered.{half, is_format2, is_open, sequence, next, is_counting, last_clock, slot4_of, slot6_of, held, entry, book_in, recovered}
+use Rattle.lease_disk.specs.Layout.{gate_open, half_at, half, is_format2}
+use Rattle.lease_disk.specs.Recovered.{is_open, sequence, next, is_counting, last_clock, slot4_of, slot6_of, held, entry, book_in, recovered}
 use Rattle.lease_disk.specs.Region.{Region, is_within, written, synced, effective, IsCrash, IsClean, IsTorn}
 use Rattle.lease_disk.specs.Save.{Fits, IsChange, IsLeft, IsMark, other, with_slot}
 use Rattle.lease_disk.proofs.Changes.{book_alike, changed4, changed6, here4, here6}
-use Rattle.lease_disk.proofs.Halves.{SameBut, but_both, is_below, is_above, is_inside, same_own, same_format, same_bytes, other_other, entry_by, entry_elsewhere, entries_stay, while_shut, while_closing, when_open, counting_open}
+use Rattle.lease_disk.proofs.Halves.{SameBut, but_both, is_below, is_above, is_inside, same_own, same_format, other_other, entry_by, entry_elsewhere, entries_stay, while_shut, while_closing, when_open, counting_open}
 use Rattle.lease_disk.proofs.ReadBack.{held4, held6}
 
 -- which call failed
@@ -189,9 +189,6 @@ left_writing k counts after s mark slots first old new m shut clean torn was e =
       (stays_counting s mark.half first.byte f same (while_shut (half first.byte s mark.half) (half first.byte s (other mark.half)) (half f s (other mark.half)) m.counting still)) ∙ was);
   doubt = λ h. absurd (not_late k e h);
 }
-
-within_half : (at i j : ℕ) (b : Bool) → nat_lt i 256 ≡ b → i ≡ suc j → b ≡ true → is_within at 1 (at + i) ≡ false
-within_half at i j b e k t = is_above at 1 (at + i) (omega arith)
 
 behind_byte : (at : ℕ) (f g : ℕ → ℕ) → ((i : ℕ) → is_within at 1 i ≡ false → g i ≡ f i) → (i : ℕ) (b : Bool) → (if b then g (at + suc i) else 0) ≡ (if b then f (at + suc i) else 0)
 behind_byte at f g same i true = same (at + suc i) (is_above at 1 (at + suc i) (omega arith))

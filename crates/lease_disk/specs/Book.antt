@@ -1,12 +1,9 @@
--- What a half is written for: a slot within its limits, and its bytes. Bytes not named are 0.
-use Rattle.std.specs.Prelude.{◌≡◌, ℕ, ◌-◌, ◌≤◌, true, List, [], ◌∷◌, ◌++◌, length, replicate, All, slice_index, slice_index_or}
-use Rattle.std.specs.Int.{w32, w64, to_be_bytes}
+-- The slots of a book.
+use Rattle.std.specs.Prelude.{◌≡◌, ℕ, ◌≤◌, true, List, replicate, All, slice_index, slice_index_or}
 use Rattle.types.specs.declared.slot4.Slot4.TheVariants as S4
 use Rattle.types.specs.declared.slots.Slot6.TheVariants as S6
 use Rattle.types.specs.declared.slots.Slots.{Slots}
 use Rattle.types.specs.Slots.{IsWithin4, IsWithin6, live4, live6, none_twice, same_client4, same_client6}
-use Rattle.lease_disk.specs.declared.format2.content.Content.{Content}
-use Rattle.lease_disk.specs.declared.format2.content.Content.TheVariants.{Four, Six}
 
 -- the slots of a book for pools of so many addresses: a slot past the pool is free, what is not free
 -- is live, and no client has two
@@ -23,17 +20,3 @@ pub record IsBook (counts : List ℕ) (slots : Slots) : Type 0 where
 -- no client has anything
 abbrev pub empty_book : Slots
 empty_book = record { four = replicate 16 S4.Free; six = replicate 16 S6.Free; clock = 0 }
-
--- a half whose gate is open, by its sequence, state, IAID, clock, until, and key or DUID
-abbrev pub half_with : ℕ → ℕ → ℕ → ℕ → ℕ → List ℕ → List ℕ
-half_with sequence state iaid clock until key =
-    (0xa5 ∷ state ∷ length key ∷ sequence ∷ []) ++ to_be_bytes w32 iaid ++ to_be_bytes w64 clock ++ to_be_bytes w64 until
-    ++ replicate 8 0 ++ key ++ replicate (224 - length key) 0
-
-abbrev pub half_bytes : ℕ → ℕ → Content → List ℕ
-half_bytes sequence clock (Four S4.Free) = half_with sequence 0 0 clock 0 []
-half_bytes sequence clock (Four (S4.Bound key until)) = half_with sequence 1 0 clock until key
-half_bytes sequence clock (Four (S4.Barred until)) = half_with sequence 2 0 clock until []
-half_bytes sequence clock (Six S6.Free) = half_with sequence 0 0 clock 0 []
-half_bytes sequence clock (Six (S6.Bound key until)) = half_with sequence 1 key.iaid clock until key.duid
-half_bytes sequence clock (Six (S6.Barred until)) = half_with sequence 2 0 clock until []

@@ -2,8 +2,8 @@
 use Rattle.std.specs.Prelude.{◌^◌, ◌<◌, ◌≤◌, length}
 use Rattle.types.specs.declared.slot4.Slot4.TheVariants as S4
 use Rattle.types.specs.declared.slots.Slot6.TheVariants as S6
-use Rattle.lease_disk.specs.declared.format2.content.Content.{Content}
-use Rattle.lease_disk.specs.declared.format2.content.Content.TheVariants.{Four, Six}
+use Rattle.lease_disk.specs.declared.content.Content.{Content}
+use Rattle.lease_disk.specs.declared.content.Content.TheVariants.{Four, Six}
 
 abbrev pub HasKey : Content → Type 0
 HasKey (Four (S4.Bound key until)) = (2 ≤ length key) × (length key ≤ 64)

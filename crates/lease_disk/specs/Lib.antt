@@ -2,6 +2,7 @@ pub mod Book
 pub mod Crash
 pub mod Device
 pub mod FileDisk
+pub mod HalfBytes
 pub mod Keys
 pub mod Layout
 pub mod Marked

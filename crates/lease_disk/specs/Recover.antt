@@ -1,17 +1,14 @@
 -- What recovering a region answers.
-use Rattle.std.specs.Prelude.{◌≡◌, ℕ, ◌+◌, ◌-◌, Bool, ◌||◌, nat_lt, if◌then◌else◌, true, false, List, slice_index, Some, None, Result, Ok, Err}
+use Rattle.std.specs.Prelude.{◌≡◌, ℕ, ◌+◌, Bool, ◌||◌, true, false, List, Some, None, Result, Ok, Err}
 use Rattle.types.specs.declared.slots.Slots.{Slots}
-use Rattle.lease_disk.specs.declared.format2.half.Marks.{Marks}
-use Rattle.lease_disk.specs.declared.format2.half.Half.TheVariants.{First, Second}
-use Rattle.lease_disk.specs.declared.format2.recovering.RecoverFault.{RecoverFault}
-use Rattle.lease_disk.specs.declared.format2.recovering.RecoverFault.TheVariants.{DiskFault, Damaged}
-use Rattle.lease_disk.specs.Recovered.{half, is_counting, recovered}
+use Rattle.lease_disk.specs.declared.marks.Marks.{Marks}
+use Rattle.lease_disk.specs.declared.half.Half.TheVariants.{First, Second}
+use Rattle.lease_disk.specs.declared.recovering.RecoverFault.{RecoverFault}
+use Rattle.lease_disk.specs.declared.recovering.RecoverFault.TheVariants.{DiskFault, Damaged}
+use Rattle.lease_disk.specs.Layout.{half}
+use Rattle.lease_disk.specs.Recovered.{is_counting, recovered}
 use Rattle.lease_disk.specs.Region.{Region}
 use Rattle.lease_disk.specs.Save.{AreMarks}
-
--- a region of format 2 that has these bytes from byte 16384 on
-abbrev pub with_halves : List ℕ → ℕ → ℕ
-with_halves halves i = if nat_lt i 16384 then 2 else slice_index halves (i - 16384)
 
 -- whether one of a slot's halves counts
 abbrev pub is_counted : (ℕ → ℕ) → ℕ → Bool

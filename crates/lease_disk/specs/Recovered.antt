@@ -8,18 +8,9 @@ use Rattle.types.specs.declared.slots.Slot6.{Slot6}
 use Rattle.types.specs.declared.slots.Slot6.TheVariants as S6
 use Rattle.types.specs.declared.slots.Slots.{Slots}
 use Rattle.types.specs.Slots.{last_until, live4, live6, none_twice, same_client4, same_client6}
-use Rattle.lease_disk.specs.declared.format2.entry.Entry.{Entry}
-use Rattle.lease_disk.specs.declared.format2.half.Half.{Half}
-use Rattle.lease_disk.specs.declared.format2.half.Half.TheVariants.{First, Second}
-use Rattle.lease_disk.specs.Layout.{gate_open, half_at}
-
--- byte 8192 is the format: 2 means format 2, any other value format 1
-abbrev pub is_format2 : (ℕ → ℕ) → Bool
-is_format2 region = region 8192 == 2
-
--- the bytes of a slot's half, by their offset in the half
-abbrev pub half : (ℕ → ℕ) → ℕ → Half → ℕ → ℕ
-half region s h i = if nat_lt i 256 then region (half_at s h + i) else 0
+use Rattle.lease_disk.specs.declared.entry.Entry.{Entry}
+use Rattle.lease_disk.specs.declared.half.Half.TheVariants.{First, Second}
+use Rattle.lease_disk.specs.Layout.{gate_open, is_format2, half}
 
 -- Which half of a slot counts. Below, `half` and `other` are the bytes of a slot's halves: byte 0 is the
 -- gate, 1 the state, 2 the length of the key or DUID, 3 the sequence, 4 begins the IAID (DHCPv6 only), 8

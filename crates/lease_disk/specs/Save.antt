@@ -1,16 +1,17 @@
 -- What a save is given, and what it leaves.
-use Rattle.std.specs.Prelude.{◌≡◌, ℕ, ◌+◌, ◌-◌, ◌==◌, ◌<◌, ◌≤◌, Bool, true, false, ◌&&◌, nat_le, nat_lt, if◌then◌else◌, List, map, slice_index, slice_index_or, slice_set, Option, Some}
+use Rattle.std.specs.Prelude.{◌≡◌, ℕ, ◌-◌, ◌==◌, ◌<◌, ◌≤◌, Bool, true, false, ◌&&◌, nat_le, nat_lt, if◌then◌else◌, List, map, slice_index, slice_index_or, slice_set, Option, Some}
 use Rattle.types.specs.declared.slots.Slots.{Slots}
 use Rattle.types.specs.Slots.{live4, live6}
-use Rattle.lease_disk.specs.declared.format2.content.Content.{Content}
-use Rattle.lease_disk.specs.declared.format2.content.Content.TheVariants.{Four, Six}
-use Rattle.lease_disk.specs.declared.format2.half.Half.{Half}
-use Rattle.lease_disk.specs.declared.format2.half.Half.TheVariants.{First, Second}
-use Rattle.lease_disk.specs.declared.format2.half.Mark.{Mark}
-use Rattle.lease_disk.specs.declared.format2.half.Marks.{Marks}
-use Rattle.lease_disk.specs.Book.{IsBook, half_bytes}
-use Rattle.lease_disk.specs.Layout.{gate_open, half_at}
-use Rattle.lease_disk.specs.Recovered.{half, is_open, sequence, next, is_counting, recovered}
+use Rattle.lease_disk.specs.declared.content.Content.{Content}
+use Rattle.lease_disk.specs.declared.content.Content.TheVariants.{Four, Six}
+use Rattle.lease_disk.specs.declared.half.Half.{Half}
+use Rattle.lease_disk.specs.declared.half.Half.TheVariants.{First, Second}
+use Rattle.lease_disk.specs.declared.marks.Mark.{Mark}
+use Rattle.lease_disk.specs.declared.marks.Marks.{Marks}
+use Rattle.lease_disk.specs.Book.{IsBook}
+use Rattle.lease_disk.specs.HalfBytes.{half_bytes}
+use Rattle.lease_disk.specs.Layout.{gate_open, half_at, half}
+use Rattle.lease_disk.specs.Recovered.{is_open, sequence, next, is_counting, recovered}
 use Rattle.lease_disk.specs.Region.{Region, is_within, IsCrash, IsClean}
 
 abbrev pub other : Half → Half

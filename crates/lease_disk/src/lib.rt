@@ -1,21 +1,32 @@
 //! Regions on a device, in which each circuit's leases outlive a crash.
 #![tactic(auto)]
 
+mod bytes;
+mod content;
 mod device;
+mod entry;
 mod file_disk;
 mod format2;
+mod formats;
+mod half;
 mod image;
 mod laws;
+mod marks;
 mod model_disk;
+mod pool;
+mod read_half;
+mod recovering;
 mod unsynced;
 mod writing;
 
+pub use content::Content;
 pub use device::{Disk, Fault, REGION};
 pub use file_disk::{FileDisk, FileFault};
-pub use format2::{
-    Content, FORMAT, FORMAT_AT, GATE_OPEN, Marks, OLD_FORMAT, RecoverFault, format, read_format,
-    recover, save,
-};
+pub use format2::{format, save};
+pub use formats::{FORMAT, FORMAT_AT, OLD_FORMAT, read_format};
+pub use half::GATE_OPEN;
 pub use image::Image;
 pub use laws::{formats_an_empty_book, recovers_a_book};
+pub use marks::Marks;
 pub use model_disk::ModelDisk;
+pub use recovering::{RecoverFault, recover, slots_in};

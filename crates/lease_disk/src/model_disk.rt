@@ -3,8 +3,9 @@ ghost use Rattle.std.specs.Prelude.{◌≡◌, ◌-◌, ◌==◌};
 ghost use Rattle.lease_disk.specs.Crash.{formatted_region};
 ghost use Rattle.lease_disk.specs.Model.{region_of};
 
+use crate::bytes::{overwrite, put};
 use crate::device::{Disk, Fault, REGION};
-use crate::format2::{format_bytes, overwrite, put};
+use crate::format2::format_bytes;
 use crate::image::Image;
 use crate::unsynced::Unsynced;
 use std::alloc::{AllocError, Global};

@@ -1,4 +1,3 @@
 pub mod LeaseLemmas
-pub mod CopyLemmas
 pub mod LineLemmas
 pub mod SteadyLemmas

@@ -43,7 +43,7 @@ abbrev pub why_of : Closed → List ℕ
 why_of Damaged = codes "its region is damaged"
 why_of OldFormat = codes "its region is of format 1, which this version does not serve"
 why_of Unreadable = codes "its region can't be read"
-why_of Busy = codes "no two of 100 readings of its region were equal"
+why_of Busy = codes "no two in a row of 100 readings of its region were equal"
 
 abbrev pub closed_text : List ℕ → Closed → List ℕ
 closed_text circuit why = circuit ++ (codes " " ++ (state_of why ++ (codes ": " ++ why_of why)))

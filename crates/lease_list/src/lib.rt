@@ -1,20 +1,17 @@
-//! The engine of `leases`: its command line, the bytes of a region that another program writes, the slots that
-//! they mean, the live leases of a circuit, and a line for each of them.
+//! The engine of `leases`: the bytes of a region that another program writes, the slots that they mean, the
+//! live leases of a circuit, and a line for each of them.
 #![tactic(auto)]
 
-mod arguments;
 mod lease;
 mod line;
 mod listing;
-mod region_copy;
 mod region_file;
 mod row;
 mod steady;
 
-pub use arguments::{LeaseWords, words};
+pub use command_line::leases_words::{LeaseWords, words};
 pub use lease::{Lease, leases};
 pub use line::{Closed, Form, closed_line, lease_line};
 pub use listing::{circuit_lines, region_lines};
-pub use region_copy::RegionCopy;
 pub use region_file::{FileFault, RegionFile};
 pub use steady::{READINGS, RegionReader, Unsteady, read_steadily};

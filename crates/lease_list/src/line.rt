@@ -1,7 +1,7 @@
 //! A line for a lease, or for a circuit whose leases are not known.
 ghost use Rattle.std.specs.Prelude.{◌≡◌, IfOk, OnOk, option_map, string_bytes};
 ghost use Rattle.serde_json.specs.View.{members_view, view};
-ghost use Rattle.lease_list.specs.Line.{IsLeaseLine, closed_data, closed_text, closed_written, state_of, why_of, with_client, with_end, with_place, written};
+ghost use Rattle.lease_list.specs.Line.{IsLeaseLine, closed_data, closed_written, state_of, why_of, with_client, with_end, with_place};
 ghost use Rattle.lease_list.specs.Row.{line_data};
 
 use crate::lease::Lease;
@@ -116,7 +116,7 @@ fn why_of(why: Closed) -> &'static str
         Closed::Damaged => "its region is damaged",
         Closed::OldFormat => "its region is of format 1, which this version does not serve",
         Closed::Unreadable => "its region can't be read",
-        Closed::Busy => "no two of 100 readings of its region were equal",
+        Closed::Busy => "no two in a row of 100 readings of its region were equal",
     }
 }
 

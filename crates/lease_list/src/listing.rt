@@ -8,10 +8,9 @@ ghost use Rattle.lease_list.specs.Listing.{AreLines, AreCircuitLines, closed_as,
 
 use crate::lease::{Lease, leases};
 use crate::line::{Closed, Form, closed_line, lease_line};
-use crate::region_copy::RegionCopy;
 use crate::steady::{RegionReader, Unsteady, read_steadily};
 use config::CircuitPart;
-use lease_disk::{FORMAT_AT, OLD_FORMAT, REGION};
+use lease_disk::{FORMAT_AT, OLD_FORMAT, REGION, slots_in};
 use std::alloc::{AllocError, Global};
 use types::CircuitId;
 
@@ -81,32 +80,29 @@ fn closed_lines(
 
 /// The lines of a circuit whose region has these bytes: one for each of its leases that is live at a moment,
 /// in seconds, by address, DHCPv4 before DHCPv6; or one that says why it is closed. They have no line feeds.
-/// The bytes are copied into `copy`, and what was in it is lost.
 pub fn region_lines(
     alloc: Global,
     part: &CircuitPart,
     bytes: &[u8; REGION],
-    copy: &mut RegionCopy,
     at: u64,
     form: Form,
 ) -> Result<Vec<String>, AllocError>
     ensures { IfOk result (λ lines. AreLines part.now at form (closed_by (slice_index bytes.now)) (recovered (part.now.count4 ∷ part.now.count6 ∷ []) (slice_index bytes.now)) lines.items) }
 {
-    if let Some(slots) = copy.slots(bytes, part.counts()) {
+    if let Some(slots) = slots_in(bytes, part.counts()) {
         let found = leases(alloc, part, &slots, at)?;
         return lease_lines(alloc, text_of(part.id()), &found, at, form);
     }
     closed_lines(alloc, part, closed_by(bytes), form)
 }
 
-/// The lines of a circuit by the region that a reader has of it, and why that was not read, if it was not. What
-/// was in `bytes` and `copy` is lost; `bytes` has those of the region if it was read.
+/// The lines of a circuit by the region that a reader has of it, and why that was not read, if it was not. `bytes`
+/// then has those of the region if it was read, and any if not.
 pub fn circuit_lines<R: RegionReader>(
     alloc: Global,
     part: &CircuitPart,
     reader: &mut R,
     bytes: &mut [u8; REGION],
-    copy: &mut RegionCopy,
     at: u64,
     form: Form,
 ) -> Result<(Vec<String>, Option<Unsteady>), AllocError>
@@ -118,7 +114,7 @@ pub fn circuit_lines<R: RegionReader>(
 {
     match read_steadily(reader, part.region(), bytes) {
         Ok(()) => {
-            let lines = region_lines(alloc, part, bytes, copy, at, form)?;
+            let lines = region_lines(alloc, part, bytes, at, form)?;
             Ok((lines, None))
         }
         Err(why) => {

@@ -9,7 +9,7 @@ use command_line::{FAILED, UNOPENED, UNREADABLE, complain, given_words, read_con
 use config::{CircuitPart, Config};
 use dispatch::region_count;
 use lease_disk::REGION;
-use lease_list::{FileFault, Form, LeaseWords, RegionCopy, RegionFile, Unsteady, circuit_lines};
+use lease_list::{FileFault, Form, LeaseWords, RegionFile, Unsteady, circuit_lines};
 use std::alloc::AllocError;
 use std::process::ExitCode;
 use std::rt::Clock;
@@ -65,7 +65,6 @@ struct Lister<'a> {
     rt: &'a HostRuntime,
     file: RegionFile,
     bytes: [u8; REGION],
-    copy: RegionCopy,
     at: u64,
     form: Form,
     is_busy: bool,
@@ -84,7 +83,6 @@ impl Lister<'_> {
             part,
             &mut self.file,
             &mut self.bytes,
-            &mut self.copy,
             self.at,
             self.form,
         )?;
@@ -118,9 +116,7 @@ impl Lister<'_> {
         ensures status { (result ≡ 0) ⊎ (result ≡ 4) ⊎ (result ≡ 6) }
     {
         'circuits: for index in 0..config.circuit_count() {
-            let Some(circuit) = Circuit::new(index) else {
-                unreachable!()
-            };
+            let circuit = Circuit::at(index);
             if let Err(status) = self.list(&CircuitPart::of(config, circuit)) {
                 return status;
             }
@@ -145,14 +141,10 @@ fn run(rt: &HostRuntime, values: LeaseWords<'_>) -> u8
         Ok(at) => at,
         Err(status) => return status,
     };
-    let Ok(copy) = RegionCopy::new(rt.alloc()) else {
-        return complain(rt, "out of memory", UNOPENED);
-    };
     let mut lister = Lister {
         rt,
         file,
         bytes: [0; REGION],
-        copy,
         at,
         form: if values.json { Form::Json } else { Form::Text },
         is_busy: false,

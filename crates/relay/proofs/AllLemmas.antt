@@ -18,18 +18,19 @@ use Rattle.config.specs.CircuitPart.{CircuitPart}
 use Rattle.relay.specs.SentFrame.{SentFrame}
 use Rattle.types.specs.Addr.{same_source}
 use Rattle.v4_options.specs.Spelling as four
-use Rattle.v4_message.specs.Agent.{agent_of, is_value}
+use Rattle.v4_message.specs.Agent.{agent_of}
 use Rattle.v4_message.specs.Reading.{message_of}
 use Rattle.v6_options.specs.Codes.{RELAY_MESSAGE, INTERFACE_ID}
 use Rattle.v6_options.specs.Spelling.{look_up}
 use Rattle.v6_message.specs.Relay.{RelayValue}
 use Rattle.v6_message.specs.RelayReading.{relay_of}
-use Rattle.relay.specs.Down.{◌>>=◌, AddressedFrame, has_id, frame_for, frame_on_link}
+use Rattle.relay.specs.Down.{◌>>=◌, AddressedFrame, frame_for, frame_on_link}
 use Rattle.relay.specs.Down4.{addressed_by4, is_named, message_in_reply, reply_of, suboptions_in, relayed_down4}
 use Rattle.relay.specs.Down6.{addressed_by, frame_inside, relay_in_reply, reply_of6, relayed_down6}
-use Rattle.config.specs.Topology.{Topology, listen}
-use Rattle.relay.specs.Relays.{CircuitFrame, addressed_frame, for_circuit, is_behind, link_of, circuit_found, circuit_at_index, own_circuit, proto_of, relayed_down, relayed_down_in, relayed_down_from}
-use Rattle.relay.proofs.RelaysLemmas.{by_proto, is_v4, is_v6}
+use Rattle.config.specs.Topology.{Topology, circuit_found, circuit_at_index, has_id, listen, relay_circuit}
+use Rattle.config.proofs.TopologyLemmas.{bytes_eq_self, own_relay, same_is_one, same_source_self, somewhere}
+use Rattle.relay.specs.Relays.{CircuitFrame, addressed_frame, for_circuit, link_of, or_unknown, own_circuit, own_circuit_from, proto_of, relayed_down, relayed_down_in, relayed_down_from}
+use Rattle.relay.proofs.RelaysLemmas.{by_proto, is_v4, is_v6, own_from}
 
 -- one circuit's frame, by the frame in the datagram
 relayed_down_is : (part : CircuitPart) (proto : Proto) (datagram : List ℕ)
@@ -48,26 +49,39 @@ at_link : (c : ℕ) (r : Result SentFrame Discard) (frame : CircuitFrame) → fo
 at_link c (Err why) frame came = absurd cc
 at_link c (Ok sent) frame came = let same : record { circuit = c; frame = sent } ≡ frame = cc in (ap (λ f. f.circuit) same, ap (λ f. Ok f.frame) same)
 
-by_relay : (b : Bool) (c : ℕ) (part : CircuitPart) (own : ℕ × CircuitPart) → cond b (Ok (c, part)) (Err reason.UnknownCircuitDown) ≡ Ok own → (c ≡ own.0) × (part ≡ own.1)
+by_relay : (b : Bool) (c : ℕ) (part : CircuitPart) (own : ℕ × CircuitPart) → cond b (Some (c, part)) None ≡ Some own → (c ≡ own.0) × (part ≡ own.1)
 by_relay true c part own came = let same : (c, part) ≡ own = cc in (ap (λ o. o.0) same, ap (λ o. o.1) same)
 by_relay false c part own came = absurd cc
 
-by_found : (topology : Topology) (relay : ℕ) (id : Option (List ℕ)) (c : ℕ) (found : Option CircuitPart) (own : ℕ × CircuitPart)
+by_found : (topology : Topology) (source : Source) (id : Option (List ℕ)) (c : ℕ) (found : Option CircuitPart) (own : ℕ × CircuitPart)
     → slice_get topology.circuits c ≡ found → position (has_id id) topology.circuits ≡ Some c
-    → circuit_found topology relay c found ≡ Ok own
+    → circuit_found source c found ≡ Some own
     → (slice_get topology.circuits own.0 ≡ Some own.1) × (has_id id own.1 ≡ true)
-by_found topology relay id c None own at first came = absurd cc
-by_found topology relay id c (Some part) own at first came =
-    let is = by_relay (is_behind (slice_get topology.relays relay) part) c part own came in
+by_found topology source id c None own at first came = absurd cc
+by_found topology source id c (Some part) own at first came =
+    let is = by_relay (same_source part.relay source) c part own came in
     let named : has_id id part ≡ true =
     ap (has_id id) (sym (get_or_from_slice_get topology.circuits c part part at)) ∙ (position-Some (has_id id) topology.circuits c part first).1 in
     (ap (slice_get topology.circuits) (sym is.0) ∙ at ∙ ap Some is.1, ap (has_id id) (sym is.1) ∙ named)
 
-by_index : (topology : Topology) (relay : ℕ) (id : Option (List ℕ)) (index : Option ℕ) (own : ℕ × CircuitPart)
-    → position (has_id id) topology.circuits ≡ index → circuit_at_index topology relay index ≡ Ok own
+pub by_index : (topology : Topology) (source : Source) (id : Option (List ℕ)) (index : Option ℕ) (own : ℕ × CircuitPart)
+    → position (has_id id) topology.circuits ≡ index → circuit_at_index topology source index ≡ Some own
     → (slice_get topology.circuits own.0 ≡ Some own.1) × (has_id id own.1 ≡ true)
-by_index topology relay id None own first came = absurd cc
-by_index topology relay id (Some c) own first came = by_found topology relay id c (slice_get topology.circuits c) own refl first came
+by_index topology source id None own first came = absurd cc
+by_index topology source id (Some c) own first came = by_found topology source id c (slice_get topology.circuits c) own refl first came
+
+by_source : (topology : Topology) (id : Option (List ℕ)) (source : Option Source) (own : ℕ × CircuitPart)
+    → own_circuit_from topology id source ≡ Ok own
+    → (slice_get topology.circuits own.0 ≡ Some own.1) × (has_id id own.1 ≡ true)
+by_source topology id None own came = absurd cc
+by_source topology id (Some source) own came = known (relay_circuit topology source id) refl came
+  where
+    known : (found : Option (ℕ × CircuitPart)) → relay_circuit topology source id ≡ found → or_unknown found ≡ Ok own
+        → (slice_get topology.circuits own.0 ≡ Some own.1) × (has_id id own.1 ≡ true)
+    known None is came = absurd cc
+    known (Some other) is came =
+        let same : other ≡ own = cc in
+        by_index topology source id (position (has_id id) topology.circuits) own refl (is ∙ ap Some same)
 
 by_circuit : (topology : Topology) (relay : ℕ) (proto : Proto) (reply : AddressedFrame) (r : Result (ℕ × CircuitPart) Discard) (frame : CircuitFrame) (part : CircuitPart)
     → own_circuit topology relay reply.circuit_id ≡ r
@@ -76,7 +90,7 @@ by_circuit : (topology : Topology) (relay : ℕ) (proto : Proto) (reply : Addres
     → frame_for part (link_of proto part) reply ≡ Ok frame.frame
 by_circuit topology relay proto reply (Err why) frame part found came there = absurd cc
 by_circuit topology relay proto reply (Ok own) frame part found came there =
-    let its = by_index topology relay reply.circuit_id (position (has_id reply.circuit_id) topology.circuits) own refl found in
+    let its = by_source topology reply.circuit_id (slice_get topology.relays relay) own found in
     let sent = at_link own.0 (frame_on_link (link_of proto own.1) reply.link reply.frame) frame came in
     let both : Some own.1 ≡ Some part = sym its.0 ∙ ap (slice_get topology.circuits) sent.0 ∙ there in
     let same : own.1 ≡ part = cc in
@@ -101,22 +115,6 @@ own_frame topology relay source proto datagram frame part is came there =
 
 -- ---- one circuit
 
-pub bytes_eq_self : (bytes : List ℕ) → bytes_eq bytes bytes ≡ true
-bytes_eq_self bytes = (bytes_eq-Decides bytes bytes).1 refl
-
-pub same_source_self : (source : Source) → same_source source source ≡ true
-same_source_self source = rw (bytes_eq_self source.addr.0, eq-eqb source.port source.port refl) refl
-
-same_is_one : (a b : Source) → same_source a b ≡ true → a ≡ b
-same_is_one a b same = by_addr (bytes_eq a.addr.0 b.addr.0) refl same
-  where
-    by_addr : (t : Bool) → bytes_eq a.addr.0 b.addr.0 ≡ t → (t && (a.port == b.port)) ≡ true → a ≡ b
-    by_addr true is both =
-        let addr : a.addr.0 ≡ b.addr.0 = (bytes_eq-Decides a.addr.0 b.addr.0).0 is in
-        let port : a.port ≡ b.port = eqb-true a.port b.port both in
-        λ i. record { addr = record { 0 = addr i }; port = port i }
-    by_addr false is both = absurd cc
-
 not_same : (a b : Source) → (a ≡ b → ⊥) → same_source a b ≡ false
 not_same a b apart = by_test (same_source a b) refl
   where
@@ -139,12 +137,15 @@ position_of_one p x = by_test (p x) refl
 
 module _ (topology : Topology) (relay : ℕ) (proto : Proto) (part : CircuitPart)
     (only : topology.circuits ≡ part ∷ []) (behind : slice_get topology.relays relay ≡ Some part.relay) where
-  at_only : (b : Bool) → circuit_at_index topology relay (cond b (Some 0) None) ≡ cond b (Ok (0, part)) (Err reason.UnknownCircuitDown)
-  at_only true = rw (ap (λ circuits. slice_get circuits 0) only, behind, same_source_self part.relay) refl
+  at_only : (b : Bool) → or_unknown (circuit_at_index topology part.relay (cond b (Some 0) None)) ≡ cond b (Ok (0, part)) (Err reason.UnknownCircuitDown)
+  at_only true = rw (ap (λ circuits. slice_get circuits 0) only, same_source_self part.relay) refl
   at_only false = refl
 
   only_own : (id : Option (List ℕ)) → own_circuit topology relay id ≡ cond (has_id id part) (Ok (0, part)) (Err reason.UnknownCircuitDown)
-  only_own id = ap (circuit_at_index topology relay) (ap (position (has_id id)) only ∙ position_of_one (has_id id) part) ∙ at_only (has_id id part)
+  only_own id =
+      own_from topology relay part.relay id behind
+      ∙ ap (λ index. or_unknown (circuit_at_index topology part.relay index)) (ap (position (has_id id)) only ∙ position_of_one (has_id id) part)
+      ∙ at_only (has_id id part)
 
   by_name : (b : Bool) (reply : AddressedFrame)
       → in_own proto reply (cond b (Ok (0, part)) (Err reason.UnknownCircuitDown))
@@ -172,9 +173,9 @@ only_one topology relay source proto datagram part only behind is =
 -- ---- the circuit that is named
 
 -- what has both values has one
-same_value : (a b : List ℕ) (o : Option (List ℕ)) → is_value a o ≡ true → is_value b o ≡ true → a ≡ b
+same_value : (a b : CircuitPart) (o : Option (List ℕ)) → has_id o a ≡ true → has_id o b ≡ true → a.id ≡ b.id
 same_value a b None p q = absurd cc
-same_value a b (Some v) p q = sym ((bytes_eq-Decides v a).0 p) ∙ (bytes_eq-Decides v b).0 q
+same_value a b (Some v) p q = sym ((bytes_eq-Decides v a.id).0 p) ∙ (bytes_eq-Decides v b.id).0 q
 
 -- the only circuit with an id is the first
 pub first_with_id : (circuits : List CircuitPart) (c : ℕ) (part : CircuitPart) (id : Option (List ℕ))
@@ -196,7 +197,7 @@ first_with_id circuits c part id there alone named =
         by_test false is = refl
         by_test true is =
             let other = get_or circuits k part in
-            let same : k ≡ c = alone k other (slice_get-get_or circuits k part (omega (arith, less, within))) (same_value other.id part.id id is named) in
+            let same : k ≡ c = alone k other (slice_get-get_or circuits k part (omega (arith, less, within))) (same_value other part id is named) in
             absurd (omega (arith, less, same))
 
 pub named_first : (circuits : List CircuitPart) (c : ℕ) (part : CircuitPart) (suboptions : List (ℕ × List ℕ))
@@ -209,8 +210,11 @@ module _ (topology : Topology) (relay c : ℕ) (proto : Proto) (part : CircuitPa
     (behind : slice_get topology.relays relay ≡ Some part.relay) where
   its_own : (id : Option (List ℕ)) → has_id id part ≡ true → own_circuit topology relay id ≡ Ok (c, part)
   its_own id named =
-      ap (circuit_at_index topology relay) (first_with_id topology.circuits c part id there alone named)
-      ∙ rw (there, behind, same_source_self part.relay) refl
+      own_from topology relay part.relay id behind
+      ∙ ap or_unknown (
+      somewhere topology part.relay id c part (first_with_id topology.circuits c part id there alone named) there
+      ∙ own_relay part.relay c part (same_source_self part.relay)
+      )
 
   its_frame : (r : Result AddressedFrame Discard) → ((reply : AddressedFrame) → r ≡ Ok reply → has_id reply.circuit_id part ≡ true)
       → (r >>= λ reply. in_own proto reply (own_circuit topology relay reply.circuit_id))

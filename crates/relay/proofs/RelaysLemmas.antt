@@ -1,5 +1,6 @@
 -- All relays, on the way down: what each step of a datagram comes to.
-use Rattle.std.proofs.Common.{◌≡◌, ℕ, true, false, List, Some, None, Result, Ok, Err, refl, sym, ap}
+use Rattle.std.proofs.Common.{◌≡◌, ℕ, true, false, List, Option, Some, Result, Ok, Err, refl, sym, ap}
+use Rattle.std.specs.Prelude.{slice_get}
 use Rattle.types.specs.declared.addr.Source.{Source}
 use Rattle.types.specs.declared.dest.Proto.{Proto}
 use Rattle.types.specs.declared.dest.Proto.TheVariants.{V4, V6}
@@ -10,14 +11,13 @@ use Rattle.v6_options.specs.Codes.{RELAY_MESSAGE, INTERFACE_ID}
 use Rattle.v6_options.specs.Spelling.{look_up}
 use Rattle.v6_message.specs.Relay.{RelayValue}
 use Rattle.config.specs.CircuitPart.{CircuitPart}
-use Rattle.config.proofs.PartLemmas.{never}
 use Rattle.types.specs.Addr.{same_source}
 use Rattle.v4_message.specs.Agent.{agent_of}
 use Rattle.relay.specs.Down.{AddressedFrame, frame_on_link}
 use Rattle.relay.specs.Down4.{addressed_by4, addressed_frame4, reply_of, suboptions_in}
 use Rattle.relay.specs.Down6.{addressed_by, addressed_frame6, reply_of6}
-use Rattle.config.specs.Topology.{Topology}
-use Rattle.relay.specs.Relays.{addressed_frame, for_circuit, link_of, own_circuit, circuit_at_index, proto_of, relayed_down_in, relayed_down_of, relayed_down_from}
+use Rattle.config.specs.Topology.{Topology, relay_circuit}
+use Rattle.relay.specs.Relays.{addressed_frame, for_circuit, link_of, or_unknown, own_circuit, own_circuit_from, proto_of, relayed_down_in, relayed_down_of, relayed_down_from}
 
 -- ---- by the source
 
@@ -80,7 +80,8 @@ pub frame6_is : (datagram : List ℕ) (m : RelayValue) (result : Result Addresse
     → addressed_frame6 datagram ≡ result
 frame6_is datagram m result reply is = rw (sym reply) (sym is)
 
--- ---- without an id no circuit is found
+-- ---- the circuit that a reply names
 
-pub no_id : (topology : Topology) (relay : ℕ) → own_circuit topology relay None ≡ Err reason.UnknownCircuitDown
-no_id topology relay = ap (circuit_at_index topology relay) (never topology.circuits)
+pub own_from : (topology : Topology) (relay : ℕ) (source : Source) (id : Option (List ℕ)) → slice_get topology.relays relay ≡ Some source
+    → own_circuit topology relay id ≡ or_unknown (relay_circuit topology source id)
+own_from topology relay source id there = ap (own_circuit_from topology id) there

@@ -1,10 +1,10 @@
 -- What a relay does with a reply from the server, in either protocol.
-use Rattle.std.specs.Prelude.{ℕ, Bool, List, Option, Result, Ok, Err, if◌then◌else◌}
+use Rattle.std.specs.Prelude.{ℕ, List, Option, Result, Ok, Err, if◌then◌else◌}
 use Rattle.std.specs.Str.{bytes_eq}
 use Rattle.types.specs.declared.discard.Discard.{Discard}
 use Rattle.types.specs.declared.discard.Discard.TheVariants as reason
-use Rattle.v4_message.specs.Agent.{is_value}
 use Rattle.config.specs.CircuitPart.{CircuitPart}
+use Rattle.config.specs.Topology.{has_id}
 use Rattle.relay.specs.SentFrame.{SentFrame}
 
 -- the first step that refuses decides
@@ -18,10 +18,6 @@ pub record AddressedFrame : Type 0 where
   pub circuit_id : Option (List ℕ)
   pub link : List ℕ
   pub frame : SentFrame
-
--- whether the circuit has exactly this id
-abbrev pub has_id : Option (List ℕ) → CircuitPart → Bool
-has_id id part = is_value part.id id
 
 -- the frame, if the address by which the server names the link is the one that it has to be
 abbrev pub frame_on_link : List ℕ → List ℕ → SentFrame → Result SentFrame Discard

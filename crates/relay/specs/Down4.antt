@@ -14,9 +14,10 @@ use Rattle.v4_message.specs.Reading.{message_of}
 use Rattle.v4_message.specs.Spelling.{MessageValue, message_bytes}
 use Rattle.wire.specs.Padding.{padded_to}
 use Rattle.config.specs.CircuitPart.{CircuitPart}
+use Rattle.config.specs.Topology.{has_id}
 use Rattle.v4_message.specs.Agent.{agent_of}
 use Rattle.relay.specs.SentFrame.{SentFrame}
-use Rattle.relay.specs.Down.{◌>>=◌, AddressedFrame, has_id, frame_for}
+use Rattle.relay.specs.Down.{◌>>=◌, AddressedFrame, frame_for}
 
 -- To all clients where the client can't take a unicast yet, or has no address (RFC 2131, section 4.1).
 abbrev pub dest_of : MessageValue → Dest

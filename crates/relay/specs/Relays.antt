@@ -1,6 +1,5 @@
 -- The relays of a configuration with all their circuits, in both protocols.
-use Rattle.std.specs.Prelude.{ℕ, ◌+◌, min, Bool, false, List, Option, Some, None, slice_get, slice_index, slice_set, Result, Ok, Err, if◌then◌else◌}
-use Rattle.std.specs.List.{position}
+use Rattle.std.specs.Prelude.{ℕ, ◌+◌, min, List, Option, Some, None, slice_get, slice_index, slice_set, Result, Ok, Err, if◌then◌else◌}
 use Rattle.types.specs.Addr.{same_source}
 use Rattle.types.specs.declared.addr.Source.{Source}
 use Rattle.types.specs.declared.dest.Proto.{Proto}
@@ -8,11 +7,11 @@ use Rattle.types.specs.declared.dest.Proto.TheVariants.{V4, V6}
 use Rattle.types.specs.declared.discard.Discard.{Discard}
 use Rattle.types.specs.declared.discard.Discard.TheVariants as reason
 use Rattle.config.specs.CircuitPart.{CircuitPart}
-use Rattle.config.specs.Topology.{Topology}
+use Rattle.config.specs.Topology.{Topology, relay_circuit}
 use Rattle.relay.specs.SentFrame.{SentFrame}
 use Rattle.relay.specs.Up4.{relayed_up4}
 use Rattle.relay.specs.Up6.{relayed_up6}
-use Rattle.relay.specs.Down.{◌>>=◌, AddressedFrame, has_id, frame_on_link}
+use Rattle.relay.specs.Down.{◌>>=◌, AddressedFrame, frame_on_link}
 use Rattle.relay.specs.Down4.{addressed_frame4, relayed_down4}
 use Rattle.relay.specs.Down6.{addressed_frame6, relayed_down6}
 
@@ -37,24 +36,19 @@ abbrev pub for_circuit : ℕ → Result SentFrame Discard → Result CircuitFram
 for_circuit c (Err why) = Err why
 for_circuit c (Ok frame) = Ok (record { circuit = c; frame = frame })
 
--- whether the circuit is this relay's
-abbrev pub is_behind : Option Source → CircuitPart → Bool
-is_behind None part = false
-is_behind (Some relay) part = same_source relay part.relay
+-- a circuit that was found
+abbrev pub or_unknown : Option (ℕ × CircuitPart) → Result (ℕ × CircuitPart) Discard
+or_unknown None = Err reason.UnknownCircuitDown
+or_unknown (Some own) = Ok own
 
--- the circuit of this index, if it is one of this relay's
-abbrev pub circuit_found : Topology → ℕ → ℕ → Option CircuitPart → Result (ℕ × CircuitPart) Discard
-circuit_found topology relay c None = Err reason.UnknownCircuitDown
-circuit_found topology relay c (Some part) =
-    if is_behind (slice_get topology.relays relay) part then Ok (c, part) else Err reason.UnknownCircuitDown
+-- by the source of the relay, where there is such a relay
+abbrev pub own_circuit_from : Topology → Option (List ℕ) → Option Source → Result (ℕ × CircuitPart) Discard
+own_circuit_from topology id None = Err reason.UnknownCircuitDown
+own_circuit_from topology id (Some source) = or_unknown (relay_circuit topology source id)
 
-abbrev pub circuit_at_index : Topology → ℕ → Option ℕ → Result (ℕ × CircuitPart) Discard
-circuit_at_index topology relay None = Err reason.UnknownCircuitDown
-circuit_at_index topology relay (Some c) = circuit_found topology relay c (slice_get topology.circuits c)
-
--- the index and the part of the circuit with exactly this id, which has to be one of this relay's
+-- the circuit of exactly this id, which has to be one of the relay of this index
 abbrev pub own_circuit : Topology → ℕ → Option (List ℕ) → Result (ℕ × CircuitPart) Discard
-own_circuit topology relay id = circuit_at_index topology relay (position (has_id id) topology.circuits)
+own_circuit topology relay id = own_circuit_from topology id (slice_get topology.relays relay)
 
 abbrev pub addressed_frame : Proto → List ℕ → Result AddressedFrame Discard
 addressed_frame V4 datagram = addressed_frame4 datagram

@@ -2,8 +2,8 @@
 ghost use Rattle.std.specs.Prelude.{◌≡◌, ◌<◌, ◌≤◌, nat_lt, [], length, option_map, replicate, Ok, Err, Some, IfOk, IfErr, OnOk, OnErr, slice_get};
 ghost use Rattle.types.specs.declared.dest.Proto.TheVariants as protocol;
 ghost use Rattle.config.specs.CircuitPart as parts;
-ghost use Rattle.config.specs.Topology.{is_relay, is_server, topology_of};
-ghost use Rattle.relay.specs.Relays.{is_behind, one_more, own_circuit, relayed_down_from, relayed_down_in, relayed_up};
+ghost use Rattle.config.specs.Topology.{IsTopology, is_relay, is_server, topology_of};
+ghost use Rattle.relay.specs.Relays.{one_more, own_circuit, relayed_down_from, relayed_down_in, relayed_up};
 
 use crate::down4::{read_reply, read_suboptions, relay_down4};
 use crate::down6::{read_options, read_reply6, relay_down6};
@@ -44,6 +44,7 @@ impl Relays {
     /// The relays of a configuration. All memory that they need is taken here.
     pub fn new(alloc: Global, config: &Config) -> Result<Relays, Memory>
         ensures topology { IfOk result (λ relays. relays.topology ≡ topology_of config.now) }
+        ensures sound { IfOk result (λ relays. IsTopology (topology_of config.now)) }
         ensures discarded { IfOk result (λ relays. relays.discarded ≡ replicate (length config.now.circuits) 0) }
     {
         Relays::of(alloc, config).map_err(|_| Memory)
@@ -51,6 +52,7 @@ impl Relays {
 
     fn of(alloc: Global, config: &Config) -> Result<Relays, AllocError>
         ensures topology { IfOk result (λ relays. relays.topology ≡ topology_of config.now) }
+        ensures sound { IfOk result (λ relays. IsTopology (topology_of config.now)) }
         ensures discarded { IfOk result (λ relays. relays.discarded ≡ replicate (length config.now.circuits) 0) }
     {
         let circuits = Circuits::of(alloc, config)?;
@@ -170,24 +172,19 @@ impl Relays {
         ensures err { IfErr result (λ why. own_circuit self.now.topology relay (option_map (λ bytes. bytes.now) id.entry) ≡ Err why) }
         ensures exists { IfOk result (λ circuit. circuit < length self.now.topology.circuits) }
     {
-        let Some(id) = id else {
-            return Err(Discard::UnknownCircuitDown);
-        };
-        let Some(circuit) = self.circuits.find(id) else {
-            return Err(Discard::UnknownCircuitDown);
-        };
-        if !self.is_behind(relay, self.circuits.part(circuit)) {
-            return Err(Discard::UnknownCircuitDown);
+        let source = self.circuits.relay(relay);
+        match self.circuits.relay_circuit(source, id) {
+            Some(circuit) => Ok(circuit),
+            None => Err(Discard::UnknownCircuitDown),
         }
-        Ok(circuit)
     }
 
-    /// Whether a circuit is this relay's, by where the relay's datagrams come from.
-    fn is_behind(&self, relay: RelayNo, part: &CircuitPart) -> bool
-        requires { relay < length self.now.topology.relays }
-        ensures { result ≡ is_behind (slice_get self.now.topology.relays relay) part.now }
+    /// The index of a circuit's relay.
+    pub fn relay_no(&self, circuit: Circuit) -> RelayNo
+        requires { circuit < length self.now.topology.circuits }
+        ensures { (part : parts.CircuitPart) → slice_get self.now.topology.circuits circuit ≡ Some part → slice_get self.now.topology.relays result ≡ Some part.relay }
     {
-        self.circuits.relay(relay) == part.relay()
+        self.circuits.relay_no(circuit)
     }
 
     /// Whether there is a relay of this index.

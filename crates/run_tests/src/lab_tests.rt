@@ -10,7 +10,7 @@ use std::io::{self, ErrorKind, Read, Write};
 
 /// How many calls a stream takes before it fails, how often each is interrupted before it, and how often the
 /// next one still is.
-#[derive(Clone, Copy, Debug)]
+#[derive(Clone, Copy)]
 struct Calls {
     left: usize,
     interrupts: usize,
@@ -71,14 +71,15 @@ impl Write for Writer {
     }
 }
 
-/// A run over a text: how many bytes a read gives and how many reads there are before one fails, the same
-/// for writes, and how often each call is interrupted before it.
-#[derive(Clone, Copy, Debug)]
-struct Row<'a> {
-    text: &'a str,
+/// A run: how many bytes a read gives and how many reads there are before one fails, the same for writes, how often
+/// each call is interrupted before it, the status that it ends with and the lines that it writes.
+#[derive(Clone, Copy)]
+struct Row {
     reads: (usize, usize),
     writes: (usize, usize),
     interrupts: usize,
+    status: u8,
+    lines: &'static str,
 }
 
 fn so_many(left: usize, interrupts: usize) -> Calls {
@@ -89,13 +90,13 @@ fn so_many(left: usize, interrupts: usize) -> Calls {
     }
 }
 
-/// Whether a run writes these lines and ends with this status.
-fn gives(alloc: Global, row: Row<'_>, status: u8, lines: &str) -> bool {
+/// Whether a run over a text writes the lines and ends with the status of a row.
+fn gives(alloc: Global, text: &str, row: Row) -> bool {
     let Ok(config) = Config::read(alloc, ONE_CIRCUIT) else {
         return false;
     };
     let mut reader = StdReader::new(Reader {
-        rest: row.text.as_bytes(),
+        rest: text.as_bytes(),
         most: row.reads.0.max(1),
         calls: so_many(row.reads.1, row.interrupts),
     });
@@ -105,58 +106,66 @@ fn gives(alloc: Global, row: Row<'_>, status: u8, lines: &str) -> bool {
         calls: so_many(row.writes.1, row.interrupts),
     });
     let ended = run(alloc, &config, 16, &mut reader, &mut writer);
-    ended == status && writer.into_inner().taken.as_slice() == lines.as_bytes()
+    ended == row.status && writer.into_inner().taken.as_slice() == row.lines.as_bytes()
+}
+
+/// Whether the runs over a text do so, row by row.
+fn all_give(alloc: Global, text: &str, rows: &[Row]) -> bool {
+    for row in rows {
+        if !gives(alloc, text, *row) {
+            return false;
+        }
+    }
+    true
 }
 
 /// The text is 17 bytes long, and a read behind them finds its end. Nothing is written before the first
 /// event; then each line is, and the writer is flushed before a read.
+#[rattlefmt::skip]
+const FAILING: [Row; 17] = [
+    Row { reads: (1, 0),   writes: (100, 0), interrupts: 0, status: FAILED, lines: "" },
+    Row { reads: (1, 9),   writes: (100, 0), interrupts: 0, status: FAILED, lines: "" },
+    Row { reads: (1, 16),  writes: (100, 0), interrupts: 0, status: FAILED, lines: "" },
+    Row { reads: (1, 17),  writes: (100, 0), interrupts: 0, status: FAILED, lines: "" },
+    Row { reads: (1, 17),  writes: (100, 1), interrupts: 0, status: FAILED, lines: "ok\n" },
+    Row { reads: (1, 17),  writes: (100, 2), interrupts: 0, status: FAILED, lines: "ok\n" },
+    Row { reads: (1, 18),  writes: (100, 2), interrupts: 0, status: DONE,   lines: "ok\n" },
+    Row { reads: (100, 0), writes: (100, 2), interrupts: 0, status: FAILED, lines: "" },
+    Row { reads: (100, 1), writes: (100, 2), interrupts: 0, status: FAILED, lines: "ok\n" },
+    Row { reads: (100, 2), writes: (100, 0), interrupts: 0, status: FAILED, lines: "" },
+    Row { reads: (100, 2), writes: (100, 1), interrupts: 0, status: FAILED, lines: "ok\n" },
+    Row { reads: (100, 2), writes: (100, 2), interrupts: 0, status: DONE,   lines: "ok\n" },
+    // a writer that takes one byte at a time, or none
+    Row { reads: (100, 2), writes: (1, 1),   interrupts: 0, status: FAILED, lines: "o" },
+    Row { reads: (100, 2), writes: (1, 2),   interrupts: 0, status: FAILED, lines: "ok" },
+    Row { reads: (100, 2), writes: (1, 3),   interrupts: 0, status: FAILED, lines: "ok\n" },
+    Row { reads: (100, 2), writes: (1, 4),   interrupts: 0, status: DONE,   lines: "ok\n" },
+    Row { reads: (100, 2), writes: (0, 100), interrupts: 0, status: FAILED, lines: "" },
+];
+
 #[test]
 fn streams_that_fail(rt: HostRuntime) {
-    let text = "fill a 5a\ntick 1\n";
-    for (reads, writes, status, lines) in [
-        ((1, 0), (100, 0), FAILED, ""),
-        ((1, 9), (100, 0), FAILED, ""),
-        ((1, 16), (100, 0), FAILED, ""),
-        ((1, 17), (100, 0), FAILED, ""),
-        ((1, 17), (100, 1), FAILED, "ok\n"),
-        ((1, 17), (100, 2), FAILED, "ok\n"),
-        ((1, 18), (100, 2), DONE, "ok\n"),
-        ((100, 0), (100, 2), FAILED, ""),
-        ((100, 1), (100, 2), FAILED, "ok\n"),
-        ((100, 2), (100, 0), FAILED, ""),
-        ((100, 2), (100, 1), FAILED, "ok\n"),
-        ((100, 2), (100, 2), DONE, "ok\n"),
-        // a writer that takes one byte at a time, or none
-        ((100, 2), (1, 1), FAILED, "o"),
-        ((100, 2), (1, 2), FAILED, "ok"),
-        ((100, 2), (1, 3), FAILED, "ok\n"),
-        ((100, 2), (1, 4), DONE, "ok\n"),
-        ((100, 2), (0, 100), FAILED, ""),
-    ] {
-        let row = Row {
-            text,
-            reads,
-            writes,
-            interrupts: 0,
-        };
-        assert!(rt; gives(rt.alloc(), row, status, lines), "{row:?}");
-    }
+    assert!(rt; all_give(rt.alloc(), "fill a 5a\ntick 1\n", &FAILING));
 }
 
+const PIECES: &str =
+    "# c\nfill a 5a\ntick 1\n\nframe a 4 00\nup a 0 100 0\ndown a 0\ntick 2\ntick 03\n";
+
+const ANSWERED: &str = "ok\ndrop 2\ngone\ngone\nok\nline 9 bad\n";
+
 /// Neither pieces of any size nor interruptions make a difference.
+#[rattlefmt::skip]
+const IN_PIECES: [Row; 5] = [
+    Row { reads: (1, 1000),    writes: (1, 1000),    interrupts: 0,       status: BAD_LINE, lines: ANSWERED },
+    Row { reads: (2, 1000),    writes: (2, 1000),    interrupts: 0,       status: BAD_LINE, lines: ANSWERED },
+    Row { reads: (7, 1000),    writes: (7, 1000),    interrupts: 1,       status: BAD_LINE, lines: ANSWERED },
+    Row { reads: (8192, 1000), writes: (8192, 1000), interrupts: 1,       status: BAD_LINE, lines: ANSWERED },
+    Row { reads: (8192, 1000), writes: (8192, 1000), interrupts: 100_000, status: BAD_LINE, lines: ANSWERED },
+];
+
 #[test]
 fn pieces_and_interruptions(rt: HostRuntime) {
-    let text = "# c\nfill a 5a\ntick 1\n\nframe a 4 00\nup a 0 100 0\ndown a 0\ntick 2\ntick 03\n";
-    let lines = "ok\ndrop 2\ngone\ngone\nok\nline 9 bad\n";
-    for (most, interrupts) in [(1, 0), (2, 0), (7, 1), (8192, 1), (8192, 100_000)] {
-        let row = Row {
-            text,
-            reads: (most, 1000),
-            writes: (most, 1000),
-            interrupts,
-        };
-        assert!(rt; gives(rt.alloc(), row, BAD_LINE, lines), "{row:?}");
-    }
+    assert!(rt; all_give(rt.alloc(), PIECES, &IN_PIECES));
 }
 
 /// A comment of 8192 bytes, the longest line that is none too many, or of one more; and a tick.
@@ -170,18 +179,23 @@ fn long_line(alloc: Global, length: usize) -> Result<String, AllocError> {
     Ok(text)
 }
 
-/// A long line that comes byte by byte, each behind interruptions, some 100,000 in all.
-#[test]
-fn a_long_line_in_pieces(rt: HostRuntime) -> Result<(), AllocError> {
-    for (length, status, lines) in [(8192, DONE, "ok\n"), (8193, BAD_LINE, "line 1 bad\n")] {
-        let text = long_line(rt.alloc(), length)?;
-        let row = Row {
-            text: text.as_str(),
-            reads: (1, 10_000),
-            writes: (1, 100),
-            interrupts: 12,
-        };
-        assert!(rt; gives(rt.alloc(), row, status, lines), "{length} bytes");
+/// Whether a run over a long line that comes byte by byte, each behind interruptions, some 100,000 in all, does so.
+fn a_long_line_gives(alloc: Global, length: usize, status: u8, lines: &'static str) -> bool {
+    let row = Row {
+        reads: (1, 10_000),
+        writes: (1, 100),
+        interrupts: 12,
+        status,
+        lines,
+    };
+    match long_line(alloc, length) {
+        Ok(text) => gives(alloc, text.as_str(), row),
+        Err(_) => false,
     }
-    Ok(())
+}
+
+#[test]
+fn a_long_line_in_pieces(rt: HostRuntime) {
+    assert!(rt; a_long_line_gives(rt.alloc(), 8192, DONE, "ok\n"));
+    assert!(rt; a_long_line_gives(rt.alloc(), 8193, BAD_LINE, "line 1 bad\n"));
 }

@@ -1,6 +1,6 @@
 //! What no line of text brings about: a sink that refuses, a disk that is too small, the bytes of a
 //! region, and events that name what does not exist.
-ghost use Rattle.std.specs.Prelude.{◌≡◌, ◌≤◌, ℕ, [], ◌∷◌, ◌++◌, true, false};
+ghost use Rattle.std.specs.Prelude.{◌≤◌, ℕ, [], true, false};
 ghost use Rattle.lease_disk.specs.Model.{state_of};
 ghost use Rattle.lease_disk.specs.Region.{IsClean};
 
@@ -139,43 +139,67 @@ fn is_answered_at(world: &mut World, kind: Kind4, options: &[u8], len: usize, no
     ) && each_comes_to(world, &[Event::Up(a, 0, now, 0)], Outcome::SentDown(300))
 }
 
-/// Whether the region's bytes have these at an offset.
-fn has(world: &World, at: usize, expected: &[u8]) -> bool {
+/// Bytes of a region from an offset on.
+#[derive(Clone, Copy)]
+struct Bytes {
+    at: usize,
+    expected: &'static [u8],
+}
+
+/// What the region has before and after the first lease, and when it is extended: docs/FORMATS.md, the disk.
+#[rattlefmt::skip]
+const OFFERED: [Bytes; 4] = [
+    Bytes { at: 8192,  expected: &[2, 0] },
+    Bytes { at: 16384, expected: &[0xa5, 0, 0, 0, 0, 0, 0, 0] },
+    Bytes { at: 16640, expected: &[0; 256] },
+    Bytes { at: 16896, expected: &[0xa5, 0, 0, 0, 0, 0, 0, 0] },
+];
+
+#[rattlefmt::skip]
+const LEASED: [Bytes; 7] = [
+    Bytes { at: 16384, expected: &[0xa5, 0, 0, 0] },
+    Bytes { at: 16640, expected: &[0xa5, 1, 7, 1, 0, 0, 0, 0] },
+    Bytes { at: 16648, expected: &[0, 0, 0, 0, 0, 0, 0, 0x65] },
+    Bytes { at: 16656, expected: &[0, 0, 0, 0, 0, 0, 2, 0xbd] },
+    Bytes { at: 16664, expected: &[0; 8] },
+    Bytes { at: 16672, expected: &[1, 2, 0, 0, 0, 0, 1, 0] },
+    Bytes { at: 8192,  expected: &[2, 0] },
+];
+
+#[rattlefmt::skip]
+const RENEWED: [Bytes; 4] = [
+    Bytes { at: 16384, expected: &[0xa5, 1, 7, 2, 0, 0, 0, 0] },
+    Bytes { at: 16392, expected: &[0, 0, 0, 0, 0, 0, 0, 0x66] },
+    Bytes { at: 16400, expected: &[0, 0, 0, 0, 0, 0, 2, 0xbe] },
+    Bytes { at: 16640, expected: &[0xa5, 1, 7, 1] },
+];
+
+/// Whether the region has these bytes.
+fn has(world: &World, rows: &[Bytes]) -> bool {
     let disk = world.disk();
     if disk.regions() != 1 {
         return false;
     }
-    match disk.bytes(0).get(at..) {
-        Some(rest) => rest.starts_with(expected),
-        None => false,
+    for row in rows {
+        match disk.bytes(0).get(row.at..) {
+            Some(rest) if rest.starts_with(row.expected) => {}
+            _ => return false,
+        }
     }
+    true
 }
 
-/// Whether the region is as it should be before and after the first lease, and when it is extended:
-/// docs/FORMATS.md, the disk.
+/// Whether the region is as it should be after an offer, the first lease and when it is extended.
 fn keeps_a_lease(alloc: Global) -> bool {
     let Ok(mut world) = opened(alloc, 1) else {
         return false;
     };
-    let offered = is_answered(&mut world, Kind4::Discover, &[], 255)
-        && has(&world, 8192, &[2, 0])
-        && has(&world, 16384, &[0xa5, 0, 0, 0, 0, 0, 0, 0])
-        && has(&world, 16640, &[0; 256])
-        && has(&world, 16896, &[0xa5, 0, 0, 0, 0, 0, 0, 0]);
-    let leased = is_answered(&mut world, Kind4::Request, SELECTS, 267)
-        && has(&world, 16384, &[0xa5, 0, 0, 0])
-        && has(&world, 16640, &[0xa5, 1, 7, 1, 0, 0, 0, 0])
-        && has(&world, 16648, &[0, 0, 0, 0, 0, 0, 0, 0x65])
-        && has(&world, 16656, &[0, 0, 0, 0, 0, 0, 2, 0xbd])
-        && has(&world, 16664, &[0; 8])
-        && has(&world, 16672, &[1, 2, 0, 0, 0, 0, 1, 0])
-        && has(&world, 8192, &[2, 0]);
-    let renewed = is_answered_at(&mut world, Kind4::Request, SELECTS, 267, 102)
-        && has(&world, 16384, &[0xa5, 1, 7, 2, 0, 0, 0, 0])
-        && has(&world, 16392, &[0, 0, 0, 0, 0, 0, 0, 0x66])
-        && has(&world, 16400, &[0, 0, 0, 0, 0, 0, 2, 0xbe])
-        && has(&world, 16640, &[0xa5, 1, 7, 1]);
-    offered && leased && renewed
+    is_answered(&mut world, Kind4::Discover, &[], 255)
+        && has(&world, &OFFERED)
+        && is_answered(&mut world, Kind4::Request, SELECTS, 267)
+        && has(&world, &LEASED)
+        && is_answered_at(&mut world, Kind4::Request, SELECTS, 267, 102)
+        && has(&world, &RENEWED)
 }
 
 #[test]

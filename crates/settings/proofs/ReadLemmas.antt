@@ -67,15 +67,6 @@ one_side n most (inr many) = inr many.1
 abbrev pub ReadTo : {A B : Type 0} → (A → B → Type 0) → (Option Data → Field A) → List Code → ℕ → List B → Type 0
 ReadTo P f vs i found = (rest : List _) → EachReads P (entries_from f vs i) rest → EachReads P (each f (items_view vs)) (found ++ rest)
 
-pub reads_none : {A B : Type 0} (P : A → B → Type 0) (f : Option Data → Field A) (vs : List Code) → ReadTo P f vs 0 []
-reads_none P f vs = λ rest h. h
-
-pub each_reads_more : {A B : Type 0} (P : A → B → Type 0) (f : Option Data → Field A) (vs : List Code) (i : ℕ) (v : Code) (found : List B) (b : B) → i < length vs → v ≡ get_or vs i v → HasValue (f (Some (view v))) (λ a. P a b) → ReadTo P f vs i found → ReadTo P f vs (i + 1) (found ++ b ∷ [])
-each_reads_more P f vs i v found b inside is here read = λ rest are.
-    let step = entries_step f vs i v inside ∙ ap (λ x. f (Some (view x)) ∷ entries_from f vs (i + 1)) (sym is) in
-    let behind = subst (λ fs. EachReads P fs (b ∷ rest)) (sym step) (here, are) in
-    subst (EachReads P (each f (items_view vs))) (sym (append_assoc found (b ∷ []) rest)) (read (b ∷ rest) behind)
-
 pub each_reads_all : {A B : Type 0} (P : A → B → Type 0) (f : Option Data → Field A) (vs : List Code) (i : ℕ) (found : List B) → length vs ≤ i → ReadTo P f vs i found → EachReads P (each f (items_view vs)) found
 each_reads_all P f vs i found past read =
     let none_left = at_drop_all (λ ws. each f (items_view ws)) vs i past in
@@ -155,16 +146,6 @@ least_port f s h = spelled_so f IsSource (λ x. 1 ≤ x.port) s (λ text x. x.po
 
 most_port : (f : Field (List ℕ)) (s : Source) → HasValue f (λ text. IsSource text s) → s.port ≤ 65535
 most_port f s h = spelled_so f IsSource (λ x. x.port ≤ 65535) s (λ text x. omega (arith, x.port.most)) h
-
-pub server_within : (keys : ServerKeys) (server : ServerConfig) → IsServer keys server → IsServerWithinLimits server
-server_within keys server h = record {
-  least_port4 = least_port keys.listen4 server.listen4 h.listen4;
-  most_port4 = most_port keys.listen4 server.listen4 h.listen4;
-  least_port6 = least_port keys.listen6 server.listen6 h.listen6;
-  most_port6 = most_port keys.listen6 server.listen6 h.listen6;
-  least_duid = spelled_so keys.duid IsDuid (λ duid. 3 ≤ length duid) server.duid.items (λ text x. x.least) h.duid;
-  most_duid = spelled_so keys.duid IsDuid (λ duid. length duid ≤ 130) server.duid.items (λ text x. x.most) h.duid;
-}
 
 pub relay_within_limits : (keys : RelayKeys) (relay : RelayConfig) → IsRelay keys relay → IsRelayWithinLimits relay
 relay_within_limits keys relay h = record {

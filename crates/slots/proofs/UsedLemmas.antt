@@ -165,18 +165,4 @@ module _ {K : Type 0} where
   used_of_written eqk n i count used holder ss new was is size after =
       let same : count ≡ length ss = size ∙ ap (λ (xs : Slots K). length xs) is ∙ length_with eqk i holder ss in
       subst (λ xs. IsUsed used xs) (sym is) (subst (λ m. IsUsed m (with_slot eqk i holder ss)) (sym (after ∙ ap (used_after n i) same)) (used_written eqk n i holder ss was))
-
   -- ---- how many may be held
-
-  pub all_used : (ss : Slots K) → IsUsed (length ss) ss
-  all_used ss = record { within = omega arith; free = λ i from. get_or_past ss i None from }
-
-  pub used_less : (n : ℕ) (ss : Slots K) (s : Option (Holder K)) → IsUsed n ss → 0 < n → s ≡ get_or ss (n - 1) s → s ≡ None → IsUsed (n - 1) ss
-  used_less n ss s used some is none =
-      record { within = omega (arith, used.within); free = λ i from. by i from (i == n - 1) refl } where
-        own : get_or ss (n - 1) None ≡ None
-        own = ap (λ d. get_or ss (n - 1) d) (sym none) ∙ sym is ∙ none
-
-        by : (i : ℕ) → n - 1 ≤ i → (b : Bool) → (i == n - 1) ≡ b → get_or ss i None ≡ None
-        by i from true e = let same : i ≡ n - 1 = grind arith in subst (λ j. get_or ss j None ≡ None) (sym same) own
-        by i from false e = let above : n ≤ i = grind (arith, from) in used.free i above

@@ -32,9 +32,17 @@ impl Circuit {
         if index >= MAX_CIRCUITS {
             return None;
         }
-        Some(Circuit {
+        Some(Circuit::at(index))
+    }
+
+    /// The circuit of an index that a configuration may have.
+    pub fn at(index: usize) -> Circuit
+        requires { index < 1024 }
+        ensures { result ≡ index }
+    {
+        Circuit {
             index: index as u16,
-        })
+        }
     }
 
     pub fn index(self) -> usize

@@ -37,13 +37,17 @@ pub enum Discard {
     WrongLink,
     /// There is no server identifier override, or it is not the gateway (RFC 5107, section 4).
     NoOverride,
-    /// The client's identifier is missing, or its length is outside the limits.
+    /// DHCPv4: the client identifier is shorter than 2 or longer than 64 bytes. DHCPv6: there is no client
+    /// id, or it is not 3 to 130 bytes.
     ClientKey,
-    /// The client speaks to another server.
+    /// DHCPv4: option 54 names another server, and it is no DHCPDISCOVER. DHCPv6: a Solicit, Confirm or
+    /// Rebind names a server, or a Request, Renew, Release or Decline names none or another (RFC 8415,
+    /// sections 16.2 and 16.4 to 16.9).
     OtherServer,
     /// No address of the circuit's pool is free.
     NoAddress,
-    /// The server knows nothing of the client (RFC 2131, section 4.3.2).
+    /// A DHCPREQUEST without option 54 for an address of the pool, from a client that has no lease, or whose
+    /// lease has ended (RFC 2131, section 4.3.2).
     NoRecord,
     /// The circuit is closed until a restart.
     CircuitClosed,
@@ -118,7 +122,9 @@ impl Discard {
             Discard::WrongLink => "the datagram's link address is not its circuit's",
             Discard::NoOverride => "the server identifier override is missing or wrong",
             Discard::ClientKey => "the client's identifier is missing, or too short or too long",
-            Discard::OtherServer => "the client has selected another server",
+            Discard::OtherServer => {
+                "the message names another server, or a server where it must not, or none where it must"
+            }
             Discard::NoAddress => "no address is free",
             Discard::NoRecord => "the server has no record of the client",
             Discard::CircuitClosed => "the circuit is closed",

@@ -32,7 +32,15 @@ impl RelayNo {
         if index >= MAX_RELAYS {
             return None;
         }
-        Some(RelayNo { index: index as u8 })
+        Some(RelayNo::at(index))
+    }
+
+    /// The relay of an index that a configuration may have.
+    pub fn at(index: usize) -> RelayNo
+        requires { index < 8 }
+        ensures { result ≡ index }
+    {
+        RelayNo { index: index as u8 }
     }
 
     pub fn index(self) -> usize

@@ -1,11 +1,11 @@
 -- What the relay sends up for a circuit reads again at the server, and is that circuit's there.
-use Rattle.std.proofs.Common.{◌≡◌, ◌≢◌, ℕ, zero, suc, ◌+◌, ◌≤◌, Bool, true, false, not, cond, eqb, nat_le, is_some, List, [], ◌∷◌, ◌++◌, length, take, drop, Option, Some, None, Result, Ok, Err, refl, sym, ap, ◌∙◌, arith}
+use Rattle.std.proofs.Common.{◌≡◌, ◌≢◌, ℕ, ◌+◌, ◌≤◌, Bool, true, false, not, cond, eqb, nat_le, is_some, List, [], ◌∷◌, ◌++◌, length, take, drop, Option, Some, None, Result, Ok, Err, refl, sym, ap, ◌∙◌, arith}
 use Rattle.std.specs.Prelude.{slice_get}
-use Rattle.std.specs.List.{list_any, position}
+use Rattle.std.specs.List.{position}
 use Rattle.std.proofs.lemmas.Bool.{eq-eqb, eqb-true, eqb-false, ltb-false}
 use Rattle.std.proofs.lemmas.List.{append-nil, length-append}
-use Rattle.types.specs.Addr.{is_unspecified, same_source}
-use Rattle.types.specs.declared.addr.Source.{Source}
+use Rattle.types.specs.Addr.{is_unspecified}
+use Rattle.types.specs.Delivery.{delivery}
 use Rattle.types.specs.declared.dest.Proto.{Proto}
 use Rattle.types.specs.declared.dest.Proto.TheVariants.{V4, V6}
 use Rattle.types.specs.declared.discard.Discard.{Discard}
@@ -23,15 +23,17 @@ use Rattle.v4_message.specs.Spelling.{MessageValue, IsValid, Spells, message_byt
 use Rattle.v4_message.proofs.Exact as messages
 use Rattle.v4_message.proofs.Lengths.{length-message_bytes, length-spelled_message}
 use Rattle.config.specs.CircuitPart.{CircuitPart, IsPart}
-use Rattle.dispatch.specs.Addressee.{addressee}
-use Rattle.dispatch.specs.Addressee4.{message_check}
-use Rattle.dispatch.proofs.AddresseeLemmas.{within}
+use Rattle.config.specs.Topology.{Topology, is_relay}
+use Rattle.config.proofs.TopologyLemmas.{bytes_eq_self, same_source_self}
+use Rattle.requests.specs.Addressee.{addressee}
+use Rattle.requests.specs.Addressee4.{message_check}
+use Rattle.requests.proofs.AddresseeLemmas.{within}
 use Rattle.relay.specs.Up4.{agent_information, with_agent_information, is_from_server, message_relayed_up, relayed_up4}
 use Rattle.relay.specs.Down4.{is_named}
 use Rattle.relay.specs.Up6.{relay_forward, relayed_up6}
 use Rattle.v6_message.specs.RelayReading.{relay_of}
 use Rattle.relay.specs.Relays.{relayed_up}
-use Rattle.relay.proofs.AllLemmas.{bytes_eq_self, same_source_self, named_first}
+use Rattle.relay.proofs.AllLemmas.{named_first}
 use Rattle.world.proofs.AddressedLemmas6.{forward_is_addressed}
 
 -- ---- what the relay tested
@@ -165,29 +167,29 @@ is_short part frame m p s short =
 -- ---- its circuit
 
 -- Where no other circuit has its id, a circuit's messages pass the server's tests.
-module _ (circuits : List CircuitPart) (c : ℕ) (part : CircuitPart) (there : slice_get circuits c ≡ Some part)
-    (alone : (d : ℕ) (other : CircuitPart) → slice_get circuits d ≡ Some other → other.id ≡ part.id → d ≡ c) where
-  is_found : position (is_named (agent_suboptions part)) circuits ≡ Some c
-  is_found = named_first circuits c part (agent_suboptions part) there alone (bytes_eq_self part.id)
+module _ (topology : Topology) (c : ℕ) (part : CircuitPart) (there : slice_get topology.circuits c ≡ Some part)
+    (alone : (d : ℕ) (other : CircuitPart) → slice_get topology.circuits d ≡ Some other → other.id ≡ part.id → d ≡ c) where
+  is_found : position (is_named (agent_suboptions part)) topology.circuits ≡ Some c
+  is_found = named_first topology.circuits c part (agent_suboptions part) there alone (bytes_eq_self part.id)
 
   is_checked : (m : MessageValue) → m.header.op ≡ 1 → look_up RELAY_AGENT_INFORMATION m.options ≡ None
-      → is_unspecified part.gateway4.0 ≡ false → message_check circuits part.relay (Ok (with_agent_information part m)) ≡ Ok c
+      → is_unspecified part.gateway4.0 ≡ false → message_check topology part.relay (Ok (with_agent_information part m)) ≡ Ok c
   is_checked m request new gateway =
       rw (eq-eqb m.header.op 1 request, gateway, look_up-append_same m.options RELAY_AGENT_INFORMATION (agent_information part) new, agent_is_read part, is_found, there, same_source_self part.relay, bytes_eq_self part.gateway4.0) refl
 
-  message_is_addressed : (relays : List Source) (frame datagram : List ℕ) → list_any (same_source part.relay) relays ≡ true → IsPart part → AreBytes frame
-      → IsSentUp part frame datagram → addressee relays circuits V4 part.relay datagram ≡ Ok c
-  message_is_addressed relays frame datagram known p fits sent =
+  message_is_addressed : (now : ℕ) (frame datagram : List ℕ) → is_relay topology part.relay ≡ true → IsPart part → AreBytes frame
+      → IsSentUp part frame datagram → addressee topology (delivery V4 part.relay now datagram) ≡ Ok c
+  message_is_addressed now frame datagram known p fits sent =
       let m = sent.message in
       let s : Spells frame m = (messages.spelled frame fits m).0 sent.read in
-      within relays circuits V4 part.relay datagram known (rw sent.bytes (is_short part frame m p s sent.short))
-      ∙ ap (message_check circuits part.relay) (ap message_of sent.bytes ∙ is_read_again part frame m s sent.new p.gateway4_size)
+      within topology (delivery V4 part.relay now datagram) known (rw sent.bytes (is_short part frame m p s sent.short))
+      ∙ ap (message_check topology part.relay) (ap message_of sent.bytes ∙ is_read_again part frame m s sent.new p.gateway4_size)
       ∙ is_checked m sent.request sent.new p.gateway4
 
   -- What the relay sends up for a circuit is that circuit's at the server. Of a DHCPv6 frame it has to read
   -- back as the Relay-forward.
-  pub relayed_is_addressed : (relays : List Source) (proto : Proto) (frame datagram : List ℕ) → list_any (same_source part.relay) relays ≡ true → IsPart part → AreBytes frame
+  pub relayed_is_addressed : (proto : Proto) (now : ℕ) (frame datagram : List ℕ) → is_relay topology part.relay ≡ true → IsPart part → AreBytes frame
       → (relayed_up6 part frame ≡ Ok datagram → relay_of datagram ≡ Ok (relay_forward part (take 16 frame) (drop 16 frame)))
-      → relayed_up part proto frame ≡ Ok datagram → addressee relays circuits proto part.relay datagram ≡ Ok c
-  relayed_is_addressed relays V4 frame datagram known p fits reads e = message_is_addressed relays frame datagram known p fits (is_sent_up part frame datagram e)
-  relayed_is_addressed relays V6 frame datagram known p fits reads e = forward_is_addressed circuits c part there alone relays frame datagram known p e (reads e)
+      → relayed_up part proto frame ≡ Ok datagram → addressee topology (delivery proto part.relay now datagram) ≡ Ok c
+  relayed_is_addressed V4 now frame datagram known p fits reads e = message_is_addressed now frame datagram known p fits (is_sent_up part frame datagram e)
+  relayed_is_addressed V6 now frame datagram known p fits reads e = forward_is_addressed topology c part there alone now frame datagram known p e (reads e)

@@ -1,21 +1,21 @@
 -- What the relay sends up of a DHCPv6 frame is its circuit's at the server.
-use Rattle.std.proofs.Common.{◌≡◌, ◌+◌, ◌≤◌, ℕ, true, List, [], ◌∷◌, ◌++◌, length, take, drop, Some, Ok, refl, sym, ap, ◌∙◌, arith}
+use Rattle.std.proofs.Common.{◌≡◌, ◌≤◌, ℕ, true, List, [], ◌∷◌, length, take, drop, Some, Ok, refl, sym, ap, ◌∙◌, arith}
 use Rattle.std.specs.Prelude.{slice_get}
-use Rattle.std.specs.List.{list_any, position}
+use Rattle.std.specs.List.{position}
 use Rattle.std.proofs.lemmas.List.{length-append, length-drop, length-take-le}
-use Rattle.types.specs.Addr.{same_source}
-use Rattle.types.specs.declared.addr.Source.{Source}
+use Rattle.types.specs.Delivery.{delivery}
 use Rattle.types.specs.declared.dest.Proto.TheVariants.{V6}
 use Rattle.v6_options.specs.Spelling.{option, spelling}
 use Rattle.v6_message.specs.Relay.{relay_bytes, relay_header}
 use Rattle.v6_message.specs.RelayReading.{relay_of}
 use Rattle.config.specs.CircuitPart.{CircuitPart, IsPart}
-use Rattle.dispatch.specs.Addressee.{addressee}
-use Rattle.dispatch.specs.Addressee6.{relay_check}
-use Rattle.dispatch.proofs.AddresseeLemmas.{within}
-use Rattle.relay.specs.Down.{has_id}
+use Rattle.config.specs.Topology.{Topology, has_id, is_relay}
+use Rattle.config.proofs.TopologyLemmas.{bytes_eq_self, same_source_self}
+use Rattle.requests.specs.Addressee.{addressee}
+use Rattle.requests.specs.Addressee6.{relay_check}
+use Rattle.requests.proofs.AddresseeLemmas.{within}
 use Rattle.relay.specs.Up6.{relay_forward, relayed_up6}
-use Rattle.relay.proofs.AllLemmas.{bytes_eq_self, first_with_id, same_source_self}
+use Rattle.relay.proofs.AllLemmas.{first_with_id}
 use Rattle.relay.proofs.Relay6Lemmas.{up6_sent}
 
 -- 34 bytes before the options, 36 at most for the circuit's id, 1012 at most for the message
@@ -33,21 +33,21 @@ is_short part frame p short long =
     omega (arith, header, all, options, last, peer, message, p.link6_size, p.id.most, short)
 
 -- Where no other circuit has its id, a circuit's messages pass the server's tests.
-pub forward_is_addressed : (circuits : List CircuitPart) (c : ℕ) (part : CircuitPart) → slice_get circuits c ≡ Some part
-    → ((d : ℕ) (other : CircuitPart) → slice_get circuits d ≡ Some other → other.id ≡ part.id → d ≡ c)
-    → (relays : List Source) (frame datagram : List ℕ) → list_any (same_source part.relay) relays ≡ true → IsPart part
+pub forward_is_addressed : (topology : Topology) (c : ℕ) (part : CircuitPart) → slice_get topology.circuits c ≡ Some part
+    → ((d : ℕ) (other : CircuitPart) → slice_get topology.circuits d ≡ Some other → other.id ≡ part.id → d ≡ c)
+    → (now : ℕ) (frame datagram : List ℕ) → is_relay topology part.relay ≡ true → IsPart part
     → relayed_up6 part frame ≡ Ok datagram → relay_of datagram ≡ Ok (relay_forward part (take 16 frame) (drop 16 frame))
-    → addressee relays circuits V6 part.relay datagram ≡ Ok c
-forward_is_addressed circuits c part there alone relays frame datagram known p sent read =
+    → addressee topology (delivery V6 part.relay now datagram) ≡ Ok c
+forward_is_addressed topology c part there alone now frame datagram known p sent read =
     let is = up6_sent part frame datagram sent in
-    ap (addressee relays circuits V6 part.relay) is.2
-    ∙ within relays circuits V6 part.relay (relay_bytes (relay_forward part (take 16 frame) (drop 16 frame))) known (is_short part frame p is.1 is.0)
-    ∙ ap (λ bytes. relay_check circuits part.relay (relay_of bytes)) (sym is.2)
-    ∙ ap (relay_check circuits part.relay) read
+    ap (λ bytes. addressee topology (delivery V6 part.relay now bytes)) is.2
+    ∙ within topology (delivery V6 part.relay now (relay_bytes (relay_forward part (take 16 frame) (drop 16 frame)))) known (is_short part frame p is.1 is.0)
+    ∙ ap (λ bytes. relay_check topology part.relay (relay_of bytes)) (sym is.2)
+    ∙ ap (relay_check topology part.relay) read
     ∙ checked
   where
-    found : position (has_id (Some part.id)) circuits ≡ Some c
-    found = first_with_id circuits c part (Some part.id) there alone (bytes_eq_self part.id)
+    found : position (has_id (Some part.id)) topology.circuits ≡ Some c
+    found = first_with_id topology.circuits c part (Some part.id) there alone (bytes_eq_self part.id)
 
-    checked : relay_check circuits part.relay (Ok (relay_forward part (take 16 frame) (drop 16 frame))) ≡ Ok c
+    checked : relay_check topology part.relay (Ok (relay_forward part (take 16 frame) (drop 16 frame))) ≡ Ok c
     checked = rw (found, there, same_source_self part.relay, bytes_eq_self part.link6) refl

@@ -1,8 +1,7 @@
 pub mod AddressedLemmas
 pub mod AddressedLemmas6
-pub mod BookLemmas
-pub mod ExampleLemmas
 pub mod Runs
+pub mod SetupLemmas
 pub mod StartLemmas
 pub mod WorldLemmas
 pub mod ReturnLemmas
@@ -11,16 +10,3 @@ pub mod CircuitSteps
 pub mod StateLemmas
 pub mod StrayLemmas
 pub mod ShownLemmas
-pub mod HeldBooks
-pub mod PooledMaps
-pub mod PoolLemmas
-pub mod PoolLemmas4
-pub mod PoolLemmas6
-pub mod ConfigLemmas
-pub mod LineLemmas
-pub mod LeasedLemmas6
-pub mod GrantLemmas
-pub mod GrantLemmas6
-pub mod GrantsOfBoth
-pub mod LedgerLemmas
-pub mod MovedLemmas

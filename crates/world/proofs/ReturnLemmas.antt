@@ -1,36 +1,34 @@
 -- What the server answers to a circuit's datagram, and what its reply bears.
 use Rattle.std.proofs.Common.{◌≡◌, ℕ, Bool, true, false, cond, List, [], ◌∷◌, ◌++◌, length, refl, sym, ap, subst, ◌∙◌}
-use Rattle.std.specs.Prelude.{Option, Some, None, Result, Ok, Err, option_map, slice_get, not, nat_lt, ◌==◌, if◌then◌else◌}
-use Rattle.std.specs.List.{list_any, position}
-use Rattle.std.specs.Str.{bytes_eq}
-use Rattle.std.proofs.lemmas.List.Quantifiers.{position-Some}
-use Rattle.std.proofs.lemmas.Option.{get_or_from_slice_get}
-use Rattle.types.specs.Delivery.{DeliveryValue}
-use Rattle.types.specs.Addr.{is_unspecified, same_source}
+use Rattle.std.specs.Prelude.{Option, Some, None, Result, Ok, Err, option_map, slice_get, not, nat_lt, ◌==◌}
+use Rattle.std.specs.List.{position}
+use Rattle.types.specs.Delivery.{DeliveryValue, delivery}
+use Rattle.types.specs.Addr.{is_unspecified}
 use Rattle.types.specs.declared.addr.Addr4.{Addr4}
 use Rattle.types.specs.declared.addr.Source.{Source}
 use Rattle.types.specs.declared.discard.Discard.{Discard}
-use Rattle.types.specs.declared.discard.Discard.TheVariants.{UnknownCircuit}
 use Rattle.types.specs.declared.request4.Reply4.{Reply4}
 use Rattle.types.specs.declared.request4.Reply4.TheVariants.{Offer, Ack, Inform, Nak}
 use Rattle.types.specs.declared.request4.Request4.{Request4}
 use Rattle.v4_options.specs.declared.fault.SuboptFault.{SuboptFault}
+use Rattle.v4_options.specs.Codes.{CIRCUIT_ID}
 use Rattle.v4_options.specs.Spelling.{look_up}
 use Rattle.v4_options.specs.Subreading.{suboptions_of}
 use Rattle.v4_message.specs.declared.fault.MessageFault.{MessageFault}
-use Rattle.v4_message.specs.Agent.{is_value}
 use Rattle.v4_message.specs.Reading.{message_of}
 use Rattle.v4_message.specs.Spelling.{MessageValue}
 use Rattle.config.specs.CircuitPart.{CircuitPart, pool4_of}
+use Rattle.config.specs.Topology.{Topology, has_id, is_relay, relay_circuit}
 use Rattle.bindings_v4.specs.Table4.{answer4}
 use Rattle.types.specs.declared.dest.Proto.{Proto}
 use Rattle.types.specs.declared.dest.Proto.TheVariants.{V4}
-use Rattle.dispatch.specs.Addressee.{addressee}
-use Rattle.dispatch.specs.Addressee4.{agent_check, link_fault4, message_check}
-use Rattle.dispatch.specs.NamedCircuit.{circuit_check, index_check, link_check, named_check}
-use Rattle.dispatch.specs.Request4.{request4_in}
+use Rattle.requests.specs.Addressee.{addressee}
+use Rattle.requests.specs.Addressee4.{agent_check, link_fault4, message_check}
+use Rattle.requests.specs.NamedCircuit.{circuit_check, link_check}
+use Rattle.requests.specs.Request4.{request4_in}
 use Rattle.dispatch.specs.Server.{Book, book_at, datagram_served, reply4_to, request4_served, message4_served, served}
 use Rattle.relay.specs.Down4.{is_named}
+use Rattle.relay.proofs.AllLemmas.{by_index}
 use Rattle.replies.specs.Reply4.{name_servers, echo, reply_options, reply4_bytes}
 
 -- ---- what the server tested of a circuit's datagram
@@ -59,25 +57,20 @@ by_link : (d c : ℕ) (fault : Option Discard) → link_check d fault ≡ Ok c �
 by_link d c None e = same d c e
 by_link d c (Some why) e = absurd cc
 
-by_relay : (d c : ℕ) (b : Bool) (fault : Option Discard) → (if b then link_check d fault else Err UnknownCircuit) ≡ Ok c → d ≡ c
-by_relay d c true fault e = by_link d c fault e
-by_relay d c false fault e = absurd cc
-
-same_index : (d c : ℕ) (source : Source) (link : CircuitPart → Option Discard) (found : Option CircuitPart) → circuit_check source link d found ≡ Ok c → d ≡ c
-same_index d c source link None e = absurd cc
-same_index d c source link (Some part) e = by_relay d c (same_source part.relay source) (link part) e
-
-module _ (circuits : List CircuitPart) (c : ℕ) (part : CircuitPart) (at : slice_get circuits c ≡ Some part) (source : Source) (datagram : List ℕ) where
-  at_index : (m : MessageValue) (suboptions : List (ℕ × List ℕ)) (index : Option ℕ) → position (is_named suboptions) circuits ≡ index
-      → index_check circuits source (link_fault4 m suboptions) index ≡ Ok c → is_named suboptions part ≡ true
-  at_index m suboptions None first e = absurd cc
-  at_index m suboptions (Some d) first e =
-      let is : d ≡ c = same_index d c source (link_fault4 m suboptions) (slice_get circuits d) e in
-      let its : position (is_named suboptions) circuits ≡ Some c = first ∙ ap Some is in
-      ap (is_named suboptions) (sym (get_or_from_slice_get circuits c part part at)) ∙ (position-Some (is_named suboptions) circuits c part its).1
+module _ (topology : Topology) (c : ℕ) (part : CircuitPart) (at : slice_get topology.circuits c ≡ Some part) (source : Source) (datagram : List ℕ) where
+  at_own : (m : MessageValue) (suboptions : List (ℕ × List ℕ)) (own : Option (ℕ × CircuitPart)) → relay_circuit topology source (look_up CIRCUIT_ID suboptions) ≡ own
+      → circuit_check (link_fault4 m suboptions) own ≡ Ok c → is_named suboptions part ≡ true
+  at_own m suboptions None found e = absurd cc
+  at_own m suboptions (Some own) found e =
+      let id = look_up CIRCUIT_ID suboptions in
+      let index : own.0 ≡ c = by_link own.0 c (link_fault4 m suboptions own.1) e in
+      let its = by_index topology source id (position (has_id id) topology.circuits) own refl found in
+      let both : Some own.1 ≡ Some part = sym its.0 ∙ ap (slice_get topology.circuits) index ∙ at in
+      let one : own.1 ≡ part = cc in
+      subst (λ p. is_named suboptions p ≡ true) one its.1
 
   at_suboptions : (m : MessageValue) (information : List ℕ) (r : Result (List (ℕ × List ℕ)) SuboptFault) → message_of datagram ≡ Ok m → look_up 82 m.options ≡ Some information
-      → suboptions_of information ≡ r → agent_check circuits source m (Some r) ≡ Ok c → IsOf part datagram
+      → suboptions_of information ≡ r → agent_check topology source m (Some r) ≡ Ok c → IsOf part datagram
   at_suboptions m information (Err fault) read there are e = absurd cc
   at_suboptions m information (Ok suboptions) read there are e = record {
     message = m;
@@ -86,24 +79,24 @@ module _ (circuits : List CircuitPart) (c : ℕ) (part : CircuitPart) (at : slic
     there = there;
     suboptions = suboptions;
     are_read = are;
-    named = at_index m suboptions (position (is_named suboptions) circuits) refl e;
+    named = at_own m suboptions (relay_circuit topology source (look_up CIRCUIT_ID suboptions)) refl e;
   }
 
-  at_agent : (m : MessageValue) (o : Option (List ℕ)) → message_of datagram ≡ Ok m → look_up 82 m.options ≡ o → agent_check circuits source m (option_map suboptions_of o) ≡ Ok c → IsOf part datagram
+  at_agent : (m : MessageValue) (o : Option (List ℕ)) → message_of datagram ≡ Ok m → look_up 82 m.options ≡ o → agent_check topology source m (option_map suboptions_of o) ≡ Ok c → IsOf part datagram
   at_agent m None read there e = absurd cc
   at_agent m (Some information) read there e = at_suboptions m information (suboptions_of information) read there refl e
 
-  at_message : (r : Result MessageValue MessageFault) → message_of datagram ≡ r → message_check circuits source r ≡ Ok c → IsOf part datagram
+  at_message : (r : Result MessageValue MessageFault) → message_of datagram ≡ r → message_check topology source r ≡ Ok c → IsOf part datagram
   at_message (Err fault) read e = absurd cc
   at_message (Ok m) read e =
       let op = passed (not (m.header.op == 1)) _ _ c e in
       let giaddr = passed (is_unspecified m.header.giaddr) _ _ c op in
       at_agent m (look_up 82 m.options) read refl giaddr
 
-  pub is_of : (relays : List Source) → addressee relays circuits V4 source datagram ≡ Ok c → IsOf part datagram
+  pub is_of : (now : ℕ) → addressee topology (delivery V4 source now datagram) ≡ Ok c → IsOf part datagram
   unfolding addressee
-  is_of relays e =
-      let known = passed (not (list_any (same_source source) relays)) _ _ c e in
+  is_of now e =
+      let known = passed (not (is_relay topology source)) _ _ c e in
       let short = passed (nat_lt 1280 (length datagram)) _ _ c known in
       at_message (message_of datagram) refl short
 

@@ -1,14 +1,13 @@
 -- What server and relay make of strays.
 use Rattle.std.proofs.Common.{◌≡◌, ℕ, Bool, true, false, List, refl, sym, ◌∙◌}
 use Rattle.std.specs.Prelude.{◌||◌, Option, None, Result, Ok, Err, slice_index}
-use Rattle.std.specs.List.{list_any}
 use Rattle.types.specs.Addr.{same_source}
 use Rattle.types.specs.Delivery.{DeliveryValue}
 use Rattle.types.specs.declared.addr.Source.{Source}
 use Rattle.types.specs.declared.discard.Discard.{Discard}
 use Rattle.types.specs.declared.discard.Discard.TheVariants.{UnknownSource, NotServer}
 use Rattle.config.specs.CircuitPart.{CircuitPart}
-use Rattle.dispatch.specs.Addressee.{addressee}
+use Rattle.requests.specs.Addressee.{addressee}
 use Rattle.dispatch.specs.Leases.{Leases, received_leases}
 use Rattle.dispatch.specs.Received.{IsAnswer, Received, drop_all, received, received_saves}
 use Rattle.dispatch.specs.Server.{Book}
@@ -16,7 +15,7 @@ use Rattle.lease_disk.specs.Device.{Device}
 use Rattle.lossy_net.specs.Net.{NetValue, datagrams}
 use Rattle.lossy_net.specs.declared.dir.Dir.TheVariants.{Up, Down}
 use Rattle.world.specs.Headline.{CircuitState}
-use Rattle.config.specs.Topology.{Topology, is_server}
+use Rattle.config.specs.Topology.{Topology, is_relay, is_server}
 use Rattle.relay.specs.Relays.{CircuitFrame, RelaysValue, relayed_down_in}
 
 either_false : (a b : Bool) → (a || b) ≡ false → (a ≡ false) × (b ≡ false)
@@ -24,22 +23,22 @@ either_false true b h = absurd cc
 either_false false b h = (refl, h)
 
 -- the server drops what no relay sent, and every book stays
-pub stray_received : (relays : List Source) (parts : List CircuitPart) (e : DeliveryValue) (fails : Bool) (books : List (Option Book))
-    → list_any (same_source e.source) relays ≡ false → received relays parts e fails books ≡ drop_all UnknownSource books
+pub stray_received : (topology : Topology) (e : DeliveryValue) (fails : Bool) (books : List (Option Book))
+    → is_relay topology e.source ≡ false → received topology e fails books ≡ drop_all UnknownSource books
 unfolding addressee
-stray_received relays parts e fails books h = rw h refl
+stray_received topology e fails books h = rw h refl
 
 -- and so do all leases
-pub stray_leases : (relays : List Source) (parts : List CircuitPart) (e : DeliveryValue) (faults : ℕ → ℕ) (all : List Leases)
-    → list_any (same_source e.source) relays ≡ false → received_leases relays parts e faults all ≡ all
+pub stray_leases : (topology : Topology) (e : DeliveryValue) (faults : ℕ → ℕ) (all : List Leases)
+    → is_relay topology e.source ≡ false → received_leases topology e faults all ≡ all
 unfolding addressee
-stray_leases relays parts e faults all h = rw h refl
+stray_leases topology e faults all h = rw h refl
 
 -- and nothing is written
-pub stray_saves : (relays : List Source) (parts : List CircuitPart) (e : DeliveryValue) (books : List (Option Book))
-    → list_any (same_source e.source) relays ≡ false → received_saves relays parts e books ≡ None
+pub stray_saves : (topology : Topology) (e : DeliveryValue) (books : List (Option Book))
+    → is_relay topology e.source ≡ false → received_saves topology e books ≡ None
 unfolding addressee
-stray_saves relays parts e books h = rw h refl
+stray_saves topology e books h = rw h refl
 
 -- a circuit's state, by network, relays and device
 abbrev pub states_over : NetValue → RelaysValue → Device → ℕ → CircuitPart → Leases → CircuitState

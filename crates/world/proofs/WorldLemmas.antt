@@ -10,12 +10,15 @@ use Rattle.types.specs.declared.addr.Source.{Source}
 use Rattle.types.specs.declared.dest.Dest.{Dest}
 use Rattle.types.specs.declared.dest.Proto.{Proto}
 use Rattle.types.specs.declared.discard.Discard.{Discard}
-use Rattle.config.specs.CircuitPart.{CircuitPart}
-use Rattle.dispatch.specs.Addressee.{addressee}
+use Rattle.config.specs.CircuitPart.{CircuitPart, IsPart}
+use Rattle.config.specs.Topology.{Topology, is_relay}
+use Rattle.config.proofs.TopologyLemmas.{is_known}
+use Rattle.requests.specs.Addressee.{addressee}
 use Rattle.dispatch.specs.Leases.{AreSynced, HasRegions, Leases, addressee_leases, after_datagram, after_restart, after_tick, found_leases, leases_with, received_leases, restarts_of}
 use Rattle.dispatch.specs.Received.{IsAnswer, Received, addressee_answered, addressee_saves, answered, circuit_answered, circuit_saves, fails_at, received, received_saves, with_answered}
 use Rattle.dispatch.specs.Server.{Book, book_at, served}
-use Rattle.dispatch.specs.ServerValue.{AreReady, CircuitServerValue, book_of, books_in, leases_in, leases_of, part_of, parts_in}
+use Rattle.dispatch.specs.ServerValue.{AreReady, CircuitServerValue, book_of, books_in, circuits_in, leases_in, leases_of, part_of}
+use Rattle.dispatch.proofs.WithStates.{parts_with, size_with}
 use Rattle.lease_disk.specs.Crash.{crashed}
 use Rattle.lease_disk.specs.Device.{Device, WritesAt}
 use Rattle.lease_disk.specs.Model.{ModelDiskValue, SameBut}
@@ -296,29 +299,31 @@ pub record TheCircuit (w : WorldValue) (k : ℕ) : Type 0 where
   pub part : CircuitPart
   pub leases : Leases
   pub there : slice_get w.relays.topology.circuits k ≡ Some part
-  pub served : slice_get (parts_in w.server) k ≡ Some part
+  pub served : slice_get w.server.topology.circuits k ≡ Some part
   pub its : slice_get (leases_now w) k ≡ Some leases
   pub book : slice_get (books_in w.server) k ≡ Some leases.book
 
-pub whole : (w : WorldValue) → length (leases_now w) ≡ length (parts_in w.server)
-whole w = length-map w.server.circuits (leases_of (disk.state_of w.disk)) ∙ sym (length-map w.server.circuits part_of)
+pub whole : (w : WorldValue) → length (leases_now w) ≡ length w.server.topology.circuits
+whole w = length-map (circuits_in w.server) (leases_of (disk.state_of w.disk)) ∙ size_with w.server.topology.circuits w.server.states
 
 pub states_count : (w : WorldValue) → IsWorld w → length (states w) ≡ length w.net.circuits
-states_count w is = state_count (state_of w) (parts_in w.server) (leases_now w) (whole w) ∙ ap length is.parts ∙ sym is.count
+states_count w is = state_count (state_of w) w.server.topology.circuits (leases_now w) (whole w) ∙ ap (λ (t : Topology). length t.circuits) is.served ∙ sym is.count
 
 pub the_circuit : (w : WorldValue) → IsWorld w → (k : ℕ) → k < length w.net.circuits → TheCircuit w k
 the_circuit w is k within =
-    let size : length (parts_in w.server) ≡ length w.server.circuits = length-map w.server.circuits part_of in
-    let one = is_there w.server.circuits k (omega (arith, within, is.count, size, ap length is.parts)) in
-    let served : slice_get (parts_in w.server) k ≡ Some (part_of one.0) = slice_get-map part_of w.server.circuits k ∙ ap (option_map part_of) one.1 in
+    let circuits = circuits_in w.server in
+    let size = size_with w.server.topology.circuits w.server.states in
+    let one = is_there circuits k (omega (arith, within, is.count, size, ap (λ (t : Topology). length t.circuits) is.served)) in
+    let served : slice_get w.server.topology.circuits k ≡ Some (part_of one.0) =
+    ap (λ parts. slice_get parts k) (sym (parts_with w.server.topology.circuits w.server.states)) ∙ slice_get-map part_of circuits k ∙ ap (option_map part_of) one.1 in
     let leases = leases_of (disk.state_of w.disk) in
     record {
       part = part_of one.0;
       leases = leases one.0;
-      there = ap (λ xs. slice_get xs k) (sym is.parts) ∙ served;
+      there = ap (λ (t : Topology). slice_get t.circuits k) (sym is.served) ∙ served;
       served = served;
-      its = slice_get-map leases w.server.circuits k ∙ ap (option_map leases) one.1;
-      book = slice_get-map book_of w.server.circuits k ∙ ap (option_map book_of) one.1;
+      its = slice_get-map leases circuits k ∙ ap (option_map leases) one.1;
+      book = slice_get-map book_of circuits k ∙ ap (option_map book_of) one.1;
     }
 
 -- what a restart finds is in the circuit's region
@@ -356,36 +361,36 @@ other_way k way old new own others c = by (eqb k c) refl where
 
 -- ---- what the world keeps
 
-pub still_world : (w new : WorldValue) → IsWorld w → new.relays.topology ≡ w.relays.topology → new.behind ≡ w.behind → parts_in new.server ≡ parts_in w.server → new.server.relays ≡ w.server.relays
+pub still_world : (w new : WorldValue) → IsWorld w → new.relays.topology ≡ w.relays.topology → new.server.topology ≡ w.server.topology
     → length new.net.circuits ≡ length w.net.circuits → length new.disk.regions ≡ length w.disk.regions → AreReady (disk.state_of new.disk) new.server
     → ((c : ℕ) (part : CircuitPart) → slice_get w.relays.topology.circuits c ≡ Some part → Each (IsFor w.relays.topology c part) (datagrams new.net c dir.Up))
     → ((c : ℕ) (part : CircuitPart) → slice_get w.relays.topology.circuits c ≡ Some part → Each (Returns w.relays.topology c part) (datagrams new.net c dir.Down))
     → IsWorld new
-still_world w new is topology behind parts sources count regions ready addressed returned =
+still_world w new is topology served count regions ready addressed returned =
     subst (λ t. IsWorldOf t new) (sym topology) (record {
-      parts = parts ∙ is.parts;
-      sources = sources ∙ is.sources;
+      sound = is.sound;
+      served = served ∙ is.served;
       count = count ∙ is.count;
-      few = is.few;
-      apart = is.apart;
-      each = is.each;
-      listens = is.listens;
-      known = is.known;
-      behind = λ c part there. let r = is.behind c part there in (r.0, ap (λ xs. slice_get xs c) behind ∙ r.1, r.2);
-      ids = is.ids;
       regions = subst (HasRegions w.relays.topology.circuits) (sym regions) is.regions;
-      differ = is.differ;
       ready = ready;
       addressed = addressed;
       returned = returned;
     })
 
 -- the server's circuits have their regions
-pub has_regions : (w : WorldValue) → IsWorld w → HasRegions (parts_in w.server) (length w.disk.regions)
-has_regions w is = subst (λ parts. HasRegions parts (length w.disk.regions)) (sym is.parts) is.regions
+pub has_regions : (w : WorldValue) → IsWorld w → HasRegions w.server.topology.circuits (length w.disk.regions)
+has_regions w is = subst (λ (t : Topology). HasRegions t.circuits (length w.disk.regions)) (sym is.served) is.regions
 
 pub all_at : {A : Type 0} (P : A → Type 0) (xs : List A) (n : ℕ) (x : A) → All P xs → slice_get xs n ≡ Some x → P x
 all_at P xs n x all at = subst P (get_or_from_slice_get xs n x x at) (All-get_or P xs n x (slice_get_within xs n x at) all)
+
+-- a circuit's relay is known
+pub is_known_at : (w : WorldValue) → IsWorld w → (c : ℕ) (part : CircuitPart) → slice_get w.relays.topology.circuits c ≡ Some part → is_relay w.relays.topology part.relay ≡ true
+is_known_at w is c part there = let relay = is.sound.relay c part there in is_known w.relays.topology relay.0 part.relay relay.1
+
+-- and its part keeps what it needs of the rules
+pub is_part_at : (w : WorldValue) → IsWorld w → (c : ℕ) (part : CircuitPart) → slice_get w.relays.topology.circuits c ≡ Some part → IsPart part
+is_part_at w is c part there = all_at IsPart w.relays.topology.circuits c part is.sound.parts there
 
 -- ---- a state that another circuit's event leaves
 
@@ -405,8 +410,8 @@ apart k c other same = eqb-false k c other (sym same)
 
 -- ---- an event that moves every circuit's state
 
-all_move : (w new : WorldValue) (s : ℕ → Seen) (after : ℕ → Leases → Leases) (out : List ℕ) → parts_in new.server ≡ parts_in w.server → length (leases_now new) ≡ length (parts_in w.server)
-    → ((c : ℕ) (part : CircuitPart) (l : Leases) → slice_get (parts_in w.server) c ≡ Some part → slice_get (leases_now w) c ≡ Some l → slice_get (leases_now new) c ≡ Some (after c l))
+all_move : (w new : WorldValue) (s : ℕ → Seen) (after : ℕ → Leases → Leases) (out : List ℕ) → new.server.topology.circuits ≡ w.server.topology.circuits → length (leases_now new) ≡ length w.server.topology.circuits
+    → ((c : ℕ) (part : CircuitPart) (l : Leases) → slice_get w.server.topology.circuits c ≡ Some part → slice_get (leases_now w) c ≡ Some l → slice_get (leases_now new) c ≡ Some (after c l))
     → ((c : ℕ) (part : CircuitPart) (l : Leases) → StepsAs c (s c) (state_of w c part l) (state_of new c part (after c l)) outcome.Done out)
     → AllMove s (states w) (states new) outcome.Done out
 all_move w new s after out parts size now steps = record { count = count; each = λ c p at. each c p at } where
@@ -415,22 +420,22 @@ all_move w new s after out parts size now steps = record { count = count; each =
 
   count : length (states new) ≡ length (states w)
   count =
-      ap (λ ps. length (each_state (state_of new) ps (leases_now new))) parts ∙ state_count (state_of new) (parts_in w.server) (leases_now new) size
-      ∙ sym (state_count (state_of w) (parts_in w.server) (leases_now w) (whole w))
+      ap (λ ps. length (each_state (state_of new) ps (leases_now new))) parts ∙ state_count (state_of new) w.server.topology.circuits (leases_now new) size
+      ∙ sym (state_count (state_of w) w.server.topology.circuits (leases_now w) (whole w))
 
   each : (c : ℕ) (p : CircuitState) → slice_get (states w) c ≡ Some p → (q : CircuitState) × (slice_get (states new) c ≡ Some q) × StepsAs c (s c) p q outcome.Done out
   each c p at =
-      let is = is_state (state_of w) (parts_in w.server) (leases_now w) c p at in
+      let is = is_state (state_of w) w.server.topology.circuits (leases_now w) c p at in
       let next = after c is.leases in
       let P : CircuitState → Type 0 = λ old. StepsAs c (s c) old (state_of new c is.part next) outcome.Done out in (
         state_of new c is.part next,
         ap (λ ps. slice_get (each_state (state_of new) ps (leases_now new)) c) parts
-            ∙ state_at (state_of new) (parts_in w.server) (leases_now new) c is.part next is.there (now c is.part is.leases is.there is.its),
+            ∙ state_at (state_of new) w.server.topology.circuits (leases_now new) c is.part next is.there (now c is.part is.leases is.there is.its),
         subst P (sym is.is) (steps c is.part is.leases),
       )
 
 pub all_tick : (w new : WorldValue) (now : ℕ) (out : List ℕ) → new.disk ≡ w.disk → new.net ≡ w.net → out ≡ []
-    → parts_in new.server ≡ parts_in w.server → leases_now new ≡ map (after_tick now) (leases_now w)
+    → new.server.topology.circuits ≡ w.server.topology.circuits → leases_now new ≡ map (after_tick now) (leases_now w)
     → AllMove (λ c. Tick now) (states w) (states new) outcome.Done out
 all_tick w new now out same net empty parts leases =
     all_move w new (λ c. Tick now) (λ c. after_tick now) out parts (ap length leases ∙ length-map (leases_now w) (after_tick now) ∙ whole w)
@@ -439,15 +444,15 @@ all_tick w new now out same net empty parts leases =
 
 -- A restart, where each circuit's region is as its image says.
 pub all_restart : (w new : WorldValue) (images : ℕ → Image) (regions : ℕ → Region) (out : List ℕ) → new.net ≡ w.net → out ≡ []
-    → parts_in new.server ≡ parts_in w.server → leases_now new ≡ map (found_leases regions) (parts_in w.server)
-    → ((c : ℕ) (part : CircuitPart) → slice_get (parts_in w.server) c ≡ Some part → regions part.region ≡ crashed (images c) (disk.state_of w.disk part.region))
+    → new.server.topology.circuits ≡ w.server.topology.circuits → leases_now new ≡ map (found_leases regions) w.server.topology.circuits
+    → ((c : ℕ) (part : CircuitPart) → slice_get w.server.topology.circuits c ≡ Some part → regions part.region ≡ crashed (images c) (disk.state_of w.disk part.region))
     → AllMove (λ c. Restart (images c)) (states w) (states new) outcome.Done out
 all_restart w new images regions out net empty parts leases crash =
-    all_move w new (λ c. Restart (images c)) (λ c. after_restart (images c)) out parts (ap length leases ∙ length-map (parts_in w.server) (found_leases regions))
+    all_move w new (λ c. Restart (images c)) (λ c. after_restart (images c)) out parts (ap length leases ∙ length-map w.server.topology.circuits (found_leases regions))
     (λ c part l there its.
     let found = found_crashed part (images c) (disk.state_of w.disk) regions l.book (crash c part there) in
-    let restarts = restarts_at (disk.state_of w.disk) w.server.circuits c part l there its in
-    ap (λ ls. slice_get ls c) leases ∙ slice_get-map (found_leases regions) (parts_in w.server) c ∙ ap (option_map (found_leases regions)) there
+    let restarts = restarts_at (disk.state_of w.disk) (circuits_in w.server) c part l (ap (λ parts. slice_get parts c) (parts_with w.server.topology.circuits w.server.states) ∙ there) its in
+    ap (λ ls. slice_get ls c) leases ∙ slice_get-map (found_leases regions) w.server.topology.circuits c ∙ ap (option_map (found_leases regions)) there
     ∙ ap Some (found ∙ ap (after_restart (images c)) (λ i. record { book = l.book; restarts = sym restarts i })))
     (λ c part l. restart_done c w new part l (images c) out net empty)
 
@@ -481,16 +486,16 @@ circuit_fails_is part e faults None = refl
 circuit_fails_is part e faults (Some b) = fails_here faults part.region (served part e b).is_kept
 
 -- the parts, the books and the leases at circuit k
-module _ (relays : List Source) (parts : List CircuitPart) (p : CircuitPart) (e : DeliveryValue) (books : List (Option Book)) (all : List Leases) (faults : ℕ → ℕ) (k : ℕ) (l : Leases)
-    (found : addressee relays parts e.proto e.source e.bytes ≡ Ok k) (there : slice_get parts k ≡ Some p) (book : slice_get books k ≡ Some l.book) (its : slice_get all k ≡ Some l) where
-  fails_is_its : fails_at faults (received_saves relays parts e books) ≡ its_fails p e (faults p.region) l.book
-  fails_is_its = ap (λ r. fails_at faults (addressee_saves parts e books r)) found ∙ (λ i. fails_at faults (circuit_saves e (there i) (book i))) ∙ circuit_fails_is p e faults l.book
+module _ (topology : Topology) (p : CircuitPart) (e : DeliveryValue) (books : List (Option Book)) (all : List Leases) (faults : ℕ → ℕ) (k : ℕ) (l : Leases)
+    (found : addressee topology e ≡ Ok k) (there : slice_get topology.circuits k ≡ Some p) (book : slice_get books k ≡ Some l.book) (its : slice_get all k ≡ Some l) where
+  fails_is_its : fails_at faults (received_saves topology e books) ≡ its_fails p e (faults p.region) l.book
+  fails_is_its = ap (λ r. fails_at faults (addressee_saves topology e books r)) found ∙ (λ i. fails_at faults (circuit_saves e (there i) (book i))) ∙ circuit_fails_is p e faults l.book
 
-  received_is : (fails : Bool) → received relays parts e fails books ≡ with_answered k books (answered p e fails l.book)
-  received_is fails = ap (addressee_answered parts e fails books) found ∙ λ i. circuit_answered k e fails books (there i) (book i)
+  received_is : (fails : Bool) → received topology e fails books ≡ with_answered k books (answered p e fails l.book)
+  received_is fails = ap (addressee_answered topology e fails books) found ∙ λ i. circuit_answered k e fails books (there i) (book i)
 
-  leases_are : received_leases relays parts e faults all ≡ set all k (after_datagram p e (faults p.region) l)
-  leases_are = ap (addressee_leases parts e faults all) found ∙ λ i. leases_with k e faults all (there i) (its i)
+  leases_are : received_leases topology e faults all ≡ set all k (after_datagram p e (faults p.region) l)
+  leases_are = ap (addressee_leases topology e faults all) found ∙ λ i. leases_with k e faults all (there i) (its i)
 
 -- the region that a datagram of circuit k is saved to, if any is
 saves_own : (part : CircuitPart) (e : DeliveryValue) (book : Option Book) → OneOf part.region (circuit_saves e (Some part) (Some book))
@@ -501,41 +506,40 @@ saves_own part e (Some b) = either part.region (served part e b).is_kept where
   either r false = tt
 
 pub record IsServed (w : WorldValue) (k : ℕ) (part : CircuitPart) (l : Leases) (now fault : ℕ) (d : Datagram) (result : Result (Unit {0}) Discard) (reply : List ℕ) (after : List Leases) : Type 0 where
-  pub found : addressee w.relays.topology.relays w.relays.topology.circuits d.proto part.relay d.bytes ≡ Ok k
+  pub found : addressee w.relays.topology (delivery_of part now d) ≡ Ok k
   pub answer : IsAnswer (its_answer part (delivery_of part now d) fault l.book) result reply
   pub leases : slice_get after k ≡ Some (after_datagram part (delivery_of part now d) fault l)
   pub others : (c : ℕ) → eqb k c ≡ false → slice_get after c ≡ slice_get (leases_now w) c
   pub size : length after ≡ length (leases_now w)
 
 pub is_served : (w : WorldValue) → IsWorld w → (k : ℕ) (the : TheCircuit w k) (j : ℕ) (d : Datagram) (now fault : ℕ) (source : Source) (given : CircuitPart)
-    → slice_get (datagrams w.net k dir.Up) j ≡ Some d → slice_get (parts_in w.server) k ≡ Some given → source ≡ given.relay
+    → slice_get (datagrams w.net k dir.Up) j ≡ Some d → slice_get w.server.topology.circuits k ≡ Some given → source ≡ given.relay
     → (regions : ℕ → Region) (faults : ℕ → ℕ) → regions ≡ disk.state_of w.disk → faults given.region ≡ fault
     → (result : Result (Unit {0}) Discard) (reply : List ℕ) (fails : Bool) (after : List Leases)
-    → fails ≡ fails_at faults (received_saves w.server.relays (parts_in w.server) (delivery d.proto source now d.bytes) (books_in w.server))
-    → IsAnswer (received w.server.relays (parts_in w.server) (delivery d.proto source now d.bytes) fails (books_in w.server)).answer result reply
-    → after ≡ received_leases w.server.relays (parts_in w.server) (delivery d.proto source now d.bytes) faults (leases_in regions w.server)
+    → fails ≡ fails_at faults (received_saves w.server.topology (delivery d.proto source now d.bytes) (books_in w.server))
+    → IsAnswer (received w.server.topology (delivery d.proto source now d.bytes) fails (books_in w.server)).answer result reply
+    → after ≡ received_leases w.server.topology (delivery d.proto source now d.bytes) faults (leases_in regions w.server)
     → IsServed w k the.part the.leases now fault d result reply after
 is_served w is k the j d now fault source given kept at from regions faults same_regions fuse result reply fails after failing answer leases =
     let same : given ≡ the.part = same_Some given the.part (sym at ∙ the.served) in
     let comes : source ≡ the.part.relay = from ∙ ap (λ p. p.relay) same in
     let at_region : faults the.part.region ≡ fault = ap (λ (p : CircuitPart). faults p.region) (sym same) ∙ fuse in
-    let found = each_at (IsFor w.relays.topology k the.part) (datagrams w.net k dir.Up) j d (is.addressed k the.part the.there) kept in
-    let here = (λ i. addressee (is.sources i) (is.parts i) d.proto the.part.relay d.bytes) ∙ found in
-    let relays = w.server.relays in
-    let parts = parts_in w.server in
+    let found = each_at (IsFor w.relays.topology k the.part) (datagrams w.net k dir.Up) j d (is.addressed k the.part the.there) kept now in
+    let here = ap (λ t. addressee t (delivery_of the.part now d)) is.served ∙ found in
+    let topology = w.server.topology in
     let books = books_in w.server in
     let all = leases_now w in
     let its_fault : fails ≡ its_fails the.part (delivery_of the.part now d) fault the.leases.book =
-    failing ∙ ap (λ s. fails_at faults (received_saves relays parts (delivery d.proto s now d.bytes) books)) comes
-    ∙ fails_is_its relays parts the.part (delivery_of the.part now d) books all faults k the.leases here the.served the.book the.its
+    failing ∙ ap (λ s. fails_at faults (received_saves topology (delivery d.proto s now d.bytes) books)) comes
+    ∙ fails_is_its topology the.part (delivery_of the.part now d) books all faults k the.leases here the.served the.book the.its
     ∙ ap (λ f. its_fails the.part (delivery_of the.part now d) f the.leases.book) at_region in
-    let answers = ap (λ s. received relays parts (delivery d.proto s now d.bytes) fails books) comes
-    ∙ received_is relays parts the.part (delivery_of the.part now d) books all faults k the.leases here the.served the.book the.its fails
+    let answers = ap (λ s. received topology (delivery d.proto s now d.bytes) fails books) comes
+    ∙ received_is topology the.part (delivery_of the.part now d) books all faults k the.leases here the.served the.book the.its fails
     ∙ ap (λ f. with_answered k books (answered the.part (delivery_of the.part now d) f the.leases.book)) its_fault in
     let done = after_datagram the.part (delivery_of the.part now d) fault the.leases in
     let written : after ≡ set all k done =
-    leases ∙ (λ i. received_leases relays parts (delivery d.proto (comes i) now d.bytes) faults (leases_in (same_regions i) w.server))
-    ∙ leases_are relays parts the.part (delivery_of the.part now d) books all faults k the.leases here the.served the.book the.its
+    leases ∙ (λ i. received_leases topology (delivery d.proto (comes i) now d.bytes) faults (leases_in (same_regions i) w.server))
+    ∙ leases_are topology the.part (delivery_of the.part now d) books all faults k the.leases here the.served the.book the.its
     ∙ ap (λ f. set all k (after_datagram the.part (delivery_of the.part now d) f the.leases)) at_region in
     let P : Received → Type 0 = λ r. IsAnswer r.answer result reply in
     record {
@@ -586,34 +590,34 @@ none_saved setup now d None nothing = refl
 none_saved setup now d (Some b) nothing = ap (λ (is_kept : Bool). if is_kept then Some setup.part.region else None) nothing
 
 its_saves : (w : WorldValue) → IsWorld w → (k : ℕ) (the : TheCircuit w k) (j : ℕ) (d : Datagram) (now : ℕ) (source : Source) (given : CircuitPart)
-    → slice_get (datagrams w.net k dir.Up) j ≡ Some d → slice_get (parts_in w.server) k ≡ Some given → source ≡ given.relay
-    → received_saves w.server.relays (parts_in w.server) (delivery d.proto source now d.bytes) (books_in w.server) ≡ circuit_saves (delivery_of the.part now d) (Some the.part) (Some the.leases.book)
+    → slice_get (datagrams w.net k dir.Up) j ≡ Some d → slice_get w.server.topology.circuits k ≡ Some given → source ≡ given.relay
+    → received_saves w.server.topology (delivery d.proto source now d.bytes) (books_in w.server) ≡ circuit_saves (delivery_of the.part now d) (Some the.part) (Some the.leases.book)
 its_saves w is k the j d now source given kept at from =
     let same : given ≡ the.part = same_Some given the.part (sym at ∙ the.served) in
     let comes : source ≡ the.part.relay = from ∙ ap (λ p. p.relay) same in
-    let found = each_at (IsFor w.relays.topology k the.part) (datagrams w.net k dir.Up) j d (is.addressed k the.part the.there) kept in
-    let here = (λ i. addressee (is.sources i) (is.parts i) d.proto the.part.relay d.bytes) ∙ found in
-    ap (λ x. received_saves w.server.relays (parts_in w.server) (delivery d.proto x now d.bytes) (books_in w.server)) comes
-    ∙ ap (addressee_saves (parts_in w.server) (delivery_of the.part now d) (books_in w.server)) here ∙ (λ i. circuit_saves (delivery_of the.part now d) (the.served i) (the.book i))
+    let found = each_at (IsFor w.relays.topology k the.part) (datagrams w.net k dir.Up) j d (is.addressed k the.part the.there) kept now in
+    let here = ap (λ t. addressee t (delivery_of the.part now d)) is.served ∙ found in
+    ap (λ x. received_saves w.server.topology (delivery d.proto x now d.bytes) (books_in w.server)) comes
+    ∙ ap (addressee_saves w.server.topology (delivery_of the.part now d) (books_in w.server)) here ∙ (λ i. circuit_saves (delivery_of the.part now d) (the.served i) (the.book i))
 
 -- what a datagram of circuit k writes is its region, if anything
 saves_its : (w : WorldValue) → IsWorld w → (k : ℕ) (the : TheCircuit w k) (j : ℕ) (d : Datagram) (now : ℕ) (source : Source) (given : CircuitPart)
-    → slice_get (datagrams w.net k dir.Up) j ≡ Some d → slice_get (parts_in w.server) k ≡ Some given → source ≡ given.relay
-    → OneOf given.region (received_saves w.server.relays (parts_in w.server) (delivery d.proto source now d.bytes) (books_in w.server))
+    → slice_get (datagrams w.net k dir.Up) j ≡ Some d → slice_get w.server.topology.circuits k ≡ Some given → source ≡ given.relay
+    → OneOf given.region (received_saves w.server.topology (delivery d.proto source now d.bytes) (books_in w.server))
 saves_its w is k the j d now source given kept at from =
     let same : given ≡ the.part = same_Some given the.part (sym at ∙ the.served) in
     let saves = its_saves w is k the j d now source given kept at from in
-    subst (λ (p : CircuitPart). OneOf p.region (received_saves w.server.relays (parts_in w.server) (delivery d.proto source now d.bytes) (books_in w.server))) (sym same)
+    subst (λ (p : CircuitPart). OneOf p.region (received_saves w.server.topology (delivery d.proto source now d.bytes) (books_in w.server))) (sym same)
     (subst (OneOf the.part.region) (sym saves) (saves_own the.part (delivery_of the.part now d) the.leases.book))
 
 -- A datagram of circuit k: its fuse is set, the server takes it, and the fuse is put out.
 pub beside_up : (w : WorldValue) → IsWorld w → (k : ℕ) (the : TheCircuit w k) (j : ℕ) (d : Datagram) (now : ℕ) (source : Source) (given : CircuitPart) (region : ℕ)
-    → slice_get (datagrams w.net k dir.Up) j ≡ Some d → slice_get (parts_in w.server) k ≡ Some given → source ≡ given.relay → region ≡ given.region
+    → slice_get (datagrams w.net k dir.Up) j ≡ Some d → slice_get w.server.topology.circuits k ≡ Some given → source ≡ given.relay → region ≡ given.region
     → (set served new : ModelDiskValue) → SameBut region w.disk set
-    → WritesAt true (received_saves w.server.relays (parts_in w.server) (delivery d.proto source now d.bytes) (books_in w.server)) (disk.device_of set) (disk.device_of served)
+    → WritesAt true (received_saves w.server.topology (delivery d.proto source now d.bytes) (books_in w.server)) (disk.device_of set) (disk.device_of served)
     → SameBut region served new → Beside region (disk.device_of w.disk) (disk.device_of new)
 beside_up w is k the j d now source given region kept at from its set served new first writes last =
-    let one = subst (λ r. OneOf r (received_saves w.server.relays (parts_in w.server) (delivery d.proto source now d.bytes) (books_in w.server))) (sym its) (saves_its w is k the j d now source given kept at from) in
+    let one = subst (λ r. OneOf r (received_saves w.server.topology (delivery d.proto source now d.bytes) (books_in w.server))) (sym its) (saves_its w is k the j d now source given kept at from) in
     let before = beside_set region w.disk set first in
     let while = beside_written region _ (disk.device_of set) (disk.device_of served) one writes in
     let after = beside_set region served new last in
@@ -622,20 +626,20 @@ beside_up w is k the j d now source given region kept at from its set served new
 
 -- where a datagram of circuit k has nothing saved, every region stays
 pub quiet_up : (w : WorldValue) → IsWorld w → (k : ℕ) (the : TheCircuit w k) (j : ℕ) (d : Datagram) (now : ℕ) (source : Source) (given : CircuitPart)
-    → slice_get (datagrams w.net k dir.Up) j ≡ Some d → slice_get (parts_in w.server) k ≡ Some given → source ≡ given.relay
-    → (set served : ModelDiskValue) → WritesAt true (received_saves w.server.relays (parts_in w.server) (delivery d.proto source now d.bytes) (books_in w.server)) (disk.device_of set) (disk.device_of served)
+    → slice_get (datagrams w.net k dir.Up) j ≡ Some d → slice_get w.server.topology.circuits k ≡ Some given → source ≡ given.relay
+    → (set served : ModelDiskValue) → WritesAt true (received_saves w.server.topology (delivery d.proto source now d.bytes) (books_in w.server)) (disk.device_of set) (disk.device_of served)
     → book_writes (record { part = the.part; quota = w.net.quota }) now d the.leases.book ≡ false → disk.state_of served ≡ disk.state_of set
 quiet_up w is k the j d now source given kept at from set served writes nothing =
     let saves = its_saves w is k the j d now source given kept at from in
     ap (λ (device : Device). device.region)
-    (same_device (received_saves w.server.relays (parts_in w.server) (delivery d.proto source now d.bytes) (books_in w.server)) (disk.device_of set) (disk.device_of served)
+    (same_device (received_saves w.server.topology (delivery d.proto source now d.bytes) (books_in w.server)) (disk.device_of set) (disk.device_of served)
     (saves ∙ none_saved (record { part = the.part; quota = w.net.quota }) now d the.leases.book nothing) writes)
 
 -- another circuit's region is another one
-pub elsewhere : (w : WorldValue) → IsWorld w → (k n : ℕ) (mine p : CircuitPart) → slice_get (parts_in w.server) k ≡ Some mine → slice_get (parts_in w.server) n ≡ Some p → eqb k n ≡ false
+pub elsewhere : (w : WorldValue) → IsWorld w → (k n : ℕ) (mine p : CircuitPart) → slice_get w.server.topology.circuits k ≡ Some mine → slice_get w.server.topology.circuits n ≡ Some p → eqb k n ≡ false
     → (region : ℕ) → region ≡ mine.region → p.region ≢ region
 elsewhere w is k n mine p here there other region its same =
-    eqb-false k n other (is.differ k n mine p (ap (λ xs. slice_get xs k) (sym is.parts) ∙ here) (ap (λ xs. slice_get xs n) (sym is.parts) ∙ there) (sym its ∙ sym same))
+    eqb-false k n other (is.sound.regions k n mine p (ap (λ (t : Topology). slice_get t.circuits k) (sym is.served) ∙ here) (ap (λ (t : Topology). slice_get t.circuits n) (sym is.served) ∙ there) (sym its ∙ sym same))
 
 -- ---- a device of which only the fuse of a region was set
 
@@ -644,12 +648,3 @@ state_stays region old new own others = λ i q. each q (eqb q region) refl i whe
   each : (q : ℕ) (b : Bool) → eqb q region ≡ b → disk.state_of new q ≡ disk.state_of old q
   each q true same = let P : ℕ → Type 0 = λ n. disk.state_of new n ≡ disk.state_of old n in subst P (sym (eqb-true q region same)) own
   each q false other = ap disk.region_of (others.others q (eqb-false q region other))
-
--- ---- the index of a circuit's relay
-
-pub behind_is : (w : WorldValue) → IsWorld w → (k : ℕ) (part : CircuitPart) → slice_get w.relays.topology.circuits k ≡ Some part → (relay : ℕ) → relay ≡ get_or w.behind k relay
-    → slice_get w.relays.topology.relays relay ≡ Some part.relay
-behind_is w is k part there relay at =
-    let b = is.behind k part there in
-    let same : b.0 ≡ relay = sym (get_or_from_slice_get w.behind k b.0 relay b.1) ∙ sym at in
-    ap (slice_get w.relays.topology.relays) (sym same) ∙ b.2

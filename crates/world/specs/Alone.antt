@@ -20,6 +20,9 @@ pub record Setup : Type 0 where
   pub part : CircuitPart
   pub quota : ℕ
 
+abbrev pub setup_of : ℕ → CircuitPart → Setup
+setup_of quota part = record { part = part; quota = quota }
+
 pub record Alone : Type 0 where
   -- what the network keeps, newest first: towards the server, and towards the relay
   pub up : List Datagram

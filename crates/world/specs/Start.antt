@@ -1,19 +1,39 @@
--- The states of a world that was just opened.
-use Rattle.std.specs.Prelude.{◌≡◌, ℕ, List, length, Some, true}
-use Rattle.config.specs.CircuitPart.{CircuitPart, part_in}
+-- The states of a world that was just opened: how each circuit is set up, and what it begins with.
+use Rattle.std.specs.Prelude.{◌≡◌, ℕ, List, length, Option, Some, option_map, true}
+use Rattle.config.specs.CircuitPart.{part_in}
 use Rattle.settings.specs.Settings.{Settings}
 use Rattle.dispatch.specs.Leases.{recovered_book}
+use Rattle.lease_disk.specs.Device.{Device}
 use Rattle.lease_disk.specs.Region.{Region}
-use Rattle.world.specs.Alone.{Alone, Setup, start}
+use Rattle.world.specs.Alone.{Alone, Setup, setup_of, start}
 use Rattle.world.specs.Headline.{CircuitState, Represents}
 
--- A circuit's machine at its start, with what these bytes of its region mean.
-abbrev pub opened : Setup → (ℕ → ℕ) → Alone
-opened setup bytes = start (recovered_book setup.part bytes)
+-- How the circuit of this index is set up, where the network keeps so many datagrams; None where there is
+-- no such circuit.
+abbrev pub setup_in : Settings → ℕ → ℕ → Option Setup
+setup_in settings quota c = option_map (setup_of quota) (part_in settings c)
 
--- Every circuit's state represents its machine at the start, with the book that the circuit's region
--- holds. Nothing is said of a circuit whose region cannot be read, which is closed.
-pub record Starts (settings : Settings) (quota : ℕ) (regions : ℕ → Region) (states : List CircuitState) : Type 0 where
+-- What a circuit's opening finds: the bytes of its region.
+pub record Opening : Type 0 where
+  pub byte : ℕ → ℕ
+
+abbrev pub opening_of : Region → Opening
+opening_of region = record { byte = region.byte }
+
+-- over this device
+abbrev pub opening_in : Device → Setup → Opening
+opening_in device setup = opening_of (device.region setup.part.region)
+
+-- the circuit's region can be read
+abbrev pub IsReadable : Device → Setup → Type 0
+IsReadable device setup = (device.region setup.part.region).readable ≡ true
+
+-- A circuit's machine at its start, with what the opening finds.
+abbrev pub opened : Setup → Opening → Alone
+opened setup opening = start (recovered_book setup.part opening.byte)
+
+-- Every circuit's state represents its machine at the start. Nothing is said of a circuit whose region
+-- cannot be read, which is closed.
+pub record Starts (settings : Settings) (quota : ℕ) (device : Device) (states : List CircuitState) : Type 0 where
   pub count : length states ≡ length settings.circuits
-  pub each : (c : ℕ) (part : CircuitPart) → part_in settings c ≡ Some part → (regions part.region).readable ≡ true
-      → Represents c states (record { part = part; quota = quota }) (opened (record { part = part; quota = quota }) (regions part.region).byte)
+  pub each : (c : ℕ) (setup : Setup) → setup_in settings quota c ≡ Some setup → IsReadable device setup → Represents c states setup (opened setup (opening_in device setup))

@@ -2,18 +2,17 @@
 use Rattle.std.specs.Prelude.{ℕ, suc, List, [], ◌∷◌, slice_index}
 use Rattle.config.specs.CircuitPart.{CircuitPart}
 use Rattle.dispatch.specs.Leases.{Leases}
-use Rattle.dispatch.specs.ServerValue.{ServerValue, leases_in, parts_in}
+use Rattle.dispatch.specs.ServerValue.{ServerValue, leases_in}
 use Rattle.lease_disk.specs.Model.{ModelDiskValue}
 use Rattle.lease_disk.specs.Model as disk
 use Rattle.lossy_net.specs.Net.{NetValue, datagrams}
 use Rattle.lossy_net.specs.declared.dir.Dir.TheVariants.{Up, Down}
 use Rattle.relay.specs.Relays.{RelaysValue}
+use Rattle.world.specs.Alone.{setup_of}
 use Rattle.world.specs.Headline.{CircuitState}
 
 pub record WorldValue : Type 0 where
   pub relays : RelaysValue
-  -- the index of each circuit's relay
-  pub behind : List ℕ
   pub net : NetValue
   pub server : ServerValue
   pub disk : ModelDiskValue
@@ -21,7 +20,7 @@ pub record WorldValue : Type 0 where
 -- circuit c's state, with its part of the configuration and its leases
 abbrev pub state_of : WorldValue → ℕ → CircuitPart → Leases → CircuitState
 state_of w c part leases = record {
-  setup = record { part = part; quota = w.net.quota };
+  setup = setup_of w.net.quota part;
   up = datagrams w.net c Up;
   down = datagrams w.net c Down;
   discarded = slice_index w.relays.discarded c;
@@ -37,4 +36,4 @@ each_state state (part ∷ parts) [] = []
 each_state state [] all = []
 
 abbrev pub states : WorldValue → List CircuitState
-states w = each_state (state_of w) (parts_in w.server) (leases_in (disk.state_of w.disk) w.server)
+states w = each_state (state_of w) w.server.topology.circuits (leases_in (disk.state_of w.disk) w.server)

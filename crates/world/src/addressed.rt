@@ -1,15 +1,12 @@
 //! Where what is sent arrives, among any circuits and relays.
 ghost use Rattle.std.specs.Prelude.{◌≡◌, ℕ, List, Some, Ok, true, slice_get};
-ghost use Rattle.std.specs.List.{list_any};
-ghost use Rattle.types.specs.Delivery.{DeliveryValue};
-ghost use Rattle.types.specs.Addr.{same_source};
-ghost use Rattle.types.specs.declared.addr.Source.{Source};
+ghost use Rattle.types.specs.Delivery.{DeliveryValue, delivery};
 ghost use Rattle.types.specs.declared.dest.Proto.{Proto};
 ghost use Rattle.types.specs.declared.dest.Proto.TheVariants.{V6};
 ghost use Rattle.config.specs.CircuitPart.{CircuitPart, IsPart};
-ghost use Rattle.dispatch.specs.Addressee.{addressee};
+ghost use Rattle.requests.specs.Addressee.{addressee};
 ghost use Rattle.dispatch.specs.Server.{Book, served};
-ghost use Rattle.config.specs.Topology.{Topology, listen};
+ghost use Rattle.config.specs.Topology.{Topology, is_relay, listen};
 ghost use Rattle.relay.specs.Relays.{for_circuit, relayed_down, relayed_down_in, relayed_up};
 ghost use Rattle.wire.specs.Bytes.{AreBytes};
 ghost use Rattle.world.specs.StepsAs.{IsDue};
@@ -20,14 +17,14 @@ use replies::{reply_is_read, reply6_is_read};
 use v4_message::exact_reading;
 use v6_message::exact_relay_reading;
 
-/// What the relay sends up for a circuit is that circuit's at the server, among any circuits of which no
-/// other has its id, and any relays of which one is its own.
+/// What the relay sends up for a circuit is that circuit's at the server, at any moment, among any circuits of which
+/// no other has its id, and any relays of which one is its own.
 pub fn comes_to_its_circuit()
-    ensures { (relays : List Source) (circuits : List CircuitPart) (c : ℕ) (part : CircuitPart) (proto : Proto) (frame datagram : List ℕ)
-        → slice_get circuits c ≡ Some part
-        → ((d : ℕ) (other : CircuitPart) → slice_get circuits d ≡ Some other → other.id ≡ part.id → d ≡ c)
-        → list_any (same_source part.relay) relays ≡ true → IsPart part → AreBytes frame
-        → relayed_up part proto frame ≡ Ok datagram → addressee relays circuits proto part.relay datagram ≡ Ok c }
+    ensures { (topology : Topology) (c : ℕ) (part : CircuitPart) (proto : Proto) (now : ℕ) (frame datagram : List ℕ)
+        → slice_get topology.circuits c ≡ Some part
+        → ((d : ℕ) (other : CircuitPart) → slice_get topology.circuits d ≡ Some other → other.id ≡ part.id → d ≡ c)
+        → is_relay topology part.relay ≡ true → IsPart part → AreBytes frame
+        → relayed_up part proto frame ≡ Ok datagram → addressee topology (delivery proto part.relay now datagram) ≡ Ok c }
 {
     forward_is_read();
 }
@@ -40,7 +37,7 @@ pub fn reply_comes_to_its_circuit()
         → slice_get topology.circuits c ≡ Some part
         → ((d : ℕ) (other : CircuitPart) → slice_get topology.circuits d ≡ Some other → other.id ≡ part.id → d ≡ c)
         → slice_get topology.relays relay ≡ Some part.relay → IsPart part → AreBytes d.bytes
-        → addressee topology.relays topology.circuits d.proto part.relay d.bytes ≡ Ok c → (served part d b).answer ≡ Ok bytes
+        → addressee topology (delivery d.proto part.relay d.moment d.bytes) ≡ Ok c → (served part d b).answer ≡ Ok bytes
         → (d.proto ≡ V6 → IsDue topology bytes)
         → relayed_down_in topology relay (listen topology d.proto) bytes ≡ for_circuit c (relayed_down part d.proto bytes) }
 {

@@ -1,5 +1,5 @@
 //! A run: one event after the other, each frame delivered as it leaves.
-ghost use Rattle.std.specs.Prelude.{◌≡◌, ℕ, ◌+◌, ◌<◌, List, [], ◌++◌, length, take, true, false, IfErr, IfSome, OnOk};
+ghost use Rattle.std.specs.Prelude.{◌≡◌, ◌+◌, ◌<◌, List, ◌++◌, length, take, true, false, IfErr, IfSome, OnOk};
 ghost use Rattle.lease_disk.specs.Device.{Device};
 ghost use Rattle.config.specs.Topology.{Topology};
 ghost use Rattle.world.specs.Headline.{CircuitState, EmitsAt, Emits, KeepsSpares, Reaches, Steps, frame_of};

@@ -1,12 +1,11 @@
 //! A world: its relays, the network, the server and a disk.
-ghost use Rattle.std.specs.Prelude.{◌≡◌, ℕ, ◌+◌, ◌<◌, ◌≤◌, [], Some, length, map, nat_lt, slice_get, take, IfOk, IfErr, IfSome, OnOk};
+ghost use Rattle.std.specs.Prelude.{◌≡◌, ℕ, ◌+◌, ◌<◌, ◌≤◌, [], Some, length, nat_lt, slice_get, take, IfOk, IfErr, IfSome, OnOk};
 ghost use Rattle.config.specs.CircuitPart.{CircuitPart, parts_of};
 ghost use Rattle.dispatch.specs.Leases.{AreSynced, HasRegions};
-ghost use Rattle.dispatch.specs.ServerValue.{RegionsDiffer, parts_in};
 ghost use Rattle.dispatch.specs.declared.server.OpenFault.TheVariants as fault;
 ghost use Rattle.lease_disk.specs.Crash.{crashed};
 ghost use Rattle.lease_disk.specs.Model.{device_of, state_of};
-ghost use Rattle.config.specs.Topology.{topology_of};
+ghost use Rattle.config.specs.Topology.{RegionsDiffer, topology_of};
 ghost use Rattle.world.specs.Headline.{EmitsAt, Emits, KeepsSpares, Reaches, Steps, frame_of};
 ghost use Rattle.events.specs.Seen.{Frame, Up, Down, Tick, Restart, image_at};
 ghost use Rattle.events.specs.declared.outcome.Outcome.TheVariants as outcome;
@@ -25,7 +24,7 @@ use events::{Event, Outcome};
 use lease_disk::{Image, ModelDisk};
 use lossy_net::{Dir, Net};
 use relay::Relays;
-use std::alloc::{AllocError, Global};
+use std::alloc::Global;
 use std::marker::Model;
 use types::{Circuit, Moment, Proto, RelayNo, Source};
 use wire::PacketBuf;
@@ -34,7 +33,6 @@ use wire::PacketBuf;
 #[derive(Drop)]
 pub struct World {
     relays: Relays,
-    behind: Vec<RelayNo>,
     net: Net,
     server: Server,
     disk: ModelDisk,
@@ -46,9 +44,9 @@ impl Model for World {
 
     ghost Value = { WorldValue };
 
-    ghost view = { λ w. record { relays = w.relays; behind = w.behind.items; net = w.net; server = w.server; disk = w.disk } };
+    ghost view = { λ w. record { relays = w.relays; net = w.net; server = w.server; disk = w.disk } };
 
-    ghost invariant = { λ w. IsWorld (record { relays = w.relays; behind = w.behind.items; net = w.net; server = w.server; disk = w.disk }) };
+    ghost invariant = { λ w. IsWorld (record { relays = w.relays; net = w.net; server = w.server; disk = w.disk }) };
 }
 
 /// There is no such circuit.
@@ -65,34 +63,18 @@ fn are_bytes(bytes: &[u8])
     ensures { AreBytes bytes.now }
 {}
 
-/// The index of each circuit's relay, in the order of the configuration.
-fn relay_indexes(alloc: Global, config: &Config) -> Result<Vec<RelayNo>, AllocError>
-    ensures { IfOk result (λ behind. behind.items ≡ map (λ circuit. circuit.relay) config.now.circuits) }
-{
-    let mut behind = Vec::with_capacity(alloc, config.circuit_count())?;
-    'circuits: for index in 0..config.circuit_count() {
-        let Some(circuit) = Circuit::new(index) else {
-            unreachable!()
-        };
-        behind.push(config.at(circuit).relay)?;
-    }
-    Ok(behind)
-}
-
 /// Each circuit's region becomes what its image says.
 fn crash_all(server: &Server, disk: &mut ModelDisk, images: &[Image])
-    requires few { length server.now.circuits ≤ 1024 }
-    requires regions { HasRegions (parts_in server.now) (length disk.old.regions) }
-    requires differ { RegionsDiffer (parts_in server.now) }
-    ensures crashed { (c : ℕ) (part : CircuitPart) → slice_get (parts_in server.now) c ≡ Some part
+    requires few { length server.now.topology.circuits ≤ 1024 }
+    requires regions { HasRegions server.now.topology.circuits (length disk.old.regions) }
+    requires differ { RegionsDiffer server.now.topology.circuits }
+    ensures crashed { (c : ℕ) (part : CircuitPart) → slice_get server.now.topology.circuits c ≡ Some part
         → state_of disk.new part.region ≡ crashed (image_at c images.now) (state_of disk.old part.region) }
     ensures count { length disk.new.regions ≡ length disk.old.regions }
-    ensures spares { KeepsSpares (parts_in server.now) (device_of disk.old) (device_of disk.new) }
+    ensures spares { KeepsSpares server.now.topology.circuits (device_of disk.old) (device_of disk.new) }
 {
     'circuits: for index in 0..server.circuit_count() {
-        let Some(circuit) = Circuit::new(index) else {
-            unreachable!()
-        };
+        let circuit = Circuit::at(index);
         let image = images.get(index).copied().unwrap_or(Image::Byte(0));
         disk.crash(server.part(circuit).region(), image);
     }
@@ -111,16 +93,13 @@ impl World {
         requires some { 1 ≤ quota }
         requires most { quota ≤ 256 }
         requires synced { AreSynced (parts_of config.now) (state_of disk) }
-        ensures starts { IfOk result (λ world. Starts config.now quota (state_of disk) (states world)) }
+        ensures starts { IfOk result (λ world. Starts config.now quota (device_of disk) (states world)) }
         ensures topology { IfOk result (λ world. world.relays.topology ≡ topology_of config.now) }
         ensures disk { IfOk result (λ world. state_of world.disk ≡ state_of disk) }
         ensures small { IfErr result (λ why. why ≡ fault.DiskTooSmall → ¬ HasRegions (parts_of config.now) (length disk.regions)) }
         ensures large { IfOk result (λ world. HasRegions (parts_of config.now) (length disk.regions)) }
     {
         let Ok(relays) = Relays::new(alloc, config) else {
-            return Err(OpenFault::Memory);
-        };
-        let Ok(behind) = relay_indexes(alloc, config) else {
             return Err(OpenFault::Memory);
         };
         let Ok(net) = Net::new(alloc, config.circuit_count(), usize::from(quota)) else {
@@ -132,7 +111,6 @@ impl World {
         };
         Ok(World {
             relays,
-            behind,
             net,
             server,
             disk,
@@ -229,7 +207,7 @@ impl World {
             return Outcome::Gone;
         };
         let source = self.server.part(circuit).listen(proto);
-        let relay = self.behind[circuit.index()];
+        let relay = self.relays.relay_no(circuit);
         match self.relays.down(relay, source, datagram, out) {
             Ok(sent) => Outcome::Framed(sent.0, sent.1),
             Err(why) => Outcome::Dropped(why),

@@ -5,29 +5,12 @@ ghost use Rattle.lease_disk.specs.Device.{Touches};
 ghost use Rattle.lease_disk.specs.Layout.{formatted};
 ghost use Rattle.lease_disk.specs.Region.{is_within, effective, faults_after};
 
-use super::half::Half;
-use super::layout::{FORMAT, FORMAT_AT, GATE_OPEN};
+use super::layout::half_at;
+use crate::bytes::{overwrite, put};
 use crate::device::{Disk, Fault, REGION};
+use crate::formats::{FORMAT, FORMAT_AT};
+use crate::half::{GATE_OPEN, Half};
 use crate::writing::write_synced;
-
-/// Copies `source` over the bytes of `target` from an offset on.
-pub fn put(target: &mut [u8], at: usize, source: &[u8])
-    requires { at + length source.now ≤ length target.old }
-    ensures { (i : ℕ) → slice_index target.new i ≡ (if is_within at (length source.now) i then slice_index source.now (i - at) else slice_index target.old i) }
-{
-    for (i, byte) in source.iter().enumerate() {
-        target[at + i] = *byte;
-    }
-}
-
-/// Gives all bytes one value.
-pub fn overwrite(bytes: &mut [u8], byte: u8)
-    ensures { (i : ℕ) → slice_index bytes.new i ≡ (if nat_lt i (length bytes.old) then byte else 0) }
-{
-    for place in bytes.iter_mut() {
-        *place = byte;
-    }
-}
 
 /// Opens the gate of each slot's first half, over zeros.
 fn open_first_halves(bytes: &mut [u8])
@@ -36,7 +19,7 @@ fn open_first_halves(bytes: &mut [u8])
 {
     overwrite(bytes, 0);
     for slot in 0..32 {
-        bytes[Half::First.at(slot)] = GATE_OPEN;
+        bytes[half_at(slot, Half::First)] = GATE_OPEN;
     }
 }
 

@@ -7,11 +7,12 @@ ghost use Rattle.lease_disk.specs.Recovered.{recovered};
 ghost use Rattle.lease_disk.specs.Region.{IsClean, SameBeside, effective, faults_after};
 ghost use Rattle.lease_disk.specs.Save.{AreMarks, Fits, IsChange, IsLeft, IsMark, IsSaved, gate_at, mark_at, saved_byte, with_slot};
 
-use super::content::Content;
-use super::half::{Mark, Marks, sequence_after};
-use super::layout::GATE_OPEN;
+use super::layout::half_at;
 use super::write_half::write_half;
+use crate::content::Content;
 use crate::device::{Disk, Fault};
+use crate::half::{GATE_OPEN, sequence_after};
+use crate::marks::{Mark, Marks};
 use crate::writing::write_synced;
 use types::Moment;
 
@@ -79,7 +80,7 @@ pub fn save<D: Disk>(
     let mark = marks.slots[slot];
     let half = mark.half.other();
     let sequence = sequence_after(mark.sequence);
-    let at = half.at(slot);
+    let at = half_at(slot, half);
     let bytes = write_half(sequence, clock, content);
     close(region, disk, at, mark.other_open)?;
     write_body(region, disk, at, &bytes.as_slice()[1..])?;

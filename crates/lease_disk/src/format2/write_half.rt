@@ -1,11 +1,11 @@
 //! The bytes of a half.
 ghost use Rattle.std.specs.Prelude.{◌≡◌, ◌≤◌, ◌+◌, ◌-◌, ◌++◌, [], ◌∷◌, length, replicate};
 ghost use Rattle.std.specs.Int.{w32, w64, to_be_bytes};
-ghost use Rattle.lease_disk.specs.Book.{half_bytes, half_with};
+ghost use Rattle.lease_disk.specs.HalfBytes.{half_bytes, half_with};
 ghost use Rattle.lease_disk.specs.Keys.{HasKey};
 
-use super::content::Content;
-use super::layout::GATE_OPEN;
+use crate::content::Content;
+use crate::half::GATE_OPEN;
 use arrayvec::ArrayVec;
 use types::{Moment, Slot4, Slot6};
 

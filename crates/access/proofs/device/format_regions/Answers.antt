@@ -8,7 +8,7 @@ pub circuits-preserved : goal.circuits-preserved
 circuits-preserved g c =
     let loop = c.circuits.invariant in
     let done = c.in-Ok.ensures in
-    let here : slice_get c.args.config.now.circuits c.circuits.index ≡ Some c.at.result.now = subst (λ n. slice_get c.args.config.now.circuits n ≡ Some c.at.result.now) c.in-Some.ensures.value c.at.ensures.value in
+    let here : slice_get c.args.config.now.circuits c.circuits.index ≡ Some c.at.result.now = subst (λ n. slice_get c.args.config.now.circuits n ≡ Some c.at.result.now) c.at-circuit.ensures c.at.ensures.value in
     record {
       index = omega (arith, c.circuits-test.true);
       end = loop.end;

@@ -1,7 +1,7 @@
 use Rattle.std.proofs.Common.{ℕ, List, [], ◌∷◌, Result, Ok, Err, IfOk, refl, sym, subst}
 use Rattle.types.specs.declared.slots.Slots.{Slots}
-use Rattle.lease_disk.specs.declared.format2.half.Marks.{Marks}
-use Rattle.lease_disk.specs.declared.format2.recovering.RecoverFault.{RecoverFault}
+use Rattle.lease_disk.specs.declared.marks.Marks.{Marks}
+use Rattle.lease_disk.specs.declared.recovering.RecoverFault.{RecoverFault}
 use Rattle.lease_disk.specs.Model.{state_of}
 use Rattle.lease_disk.specs.Recover.{Answers}
 use Rattle.lease_disk.specs.Region.{Region, IsClean}

@@ -14,8 +14,8 @@ use Rattle.v6_message.specs.declared.fault.RelayFault.{RelayFault}
 use Rattle.v6_message.specs.Message as v6
 use Rattle.v6_message.specs.Relay.{RelayValue}
 use Rattle.v6_message.specs.RelayReading.{relay_of}
-use Rattle.dispatch.specs.Request4.{request4_in}
-use Rattle.dispatch.specs.Request6.{request6_in}
+use Rattle.requests.specs.Request4.{request4_in}
+use Rattle.requests.specs.Request6.{request6_in}
 use Rattle.config.specs.CircuitPart.{pool4_of, pool6_of}
 use Rattle.dispatch.specs.Server.{IsBook, book_at, datagram_served, request4_served, message4_served, request6_served, message6_served, forward_served, served}
 use Rattle.dispatch.proofs.laws.leaves_a_book.Goals as goal

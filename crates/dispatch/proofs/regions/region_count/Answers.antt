@@ -31,7 +31,7 @@ loop-index-preserved c = record {
   sound = c.loop-index.invariant.sound;
   so_far =
       let there : slice_get c.args.config.now.circuits c.loop-index.index ≡ Some c.at.result.now =
-      subst (λ i. slice_get c.args.config.now.circuits i ≡ Some c.at.result.now) c.in-Some.ensures.value c.at.ensures.value in
+      subst (λ i. slice_get c.args.config.now.circuits i ≡ Some c.at.result.now) c.at-circuit.ensures c.at.ensures.value in
       let most : c.at.result.now.region + 1 ≤ 1024 = let h = c.at.ensures.limits.region in omega arith in
       elim c.if-needed-regions.branch [
         | then-needed-regions w ↦ subst (Regions c.args.config.now.circuits (c.loop-index.index + 1)) (sym w.regions-is) (region_raised _ _ c.loop-index.regions _ there w.if-needed-regions.true most c.loop-index.invariant.so_far)

@@ -1,4 +1,4 @@
-use Rattle.std.proofs.Common.{refl, sym, ap, ◌∙◌}
+use Rattle.std.proofs.Common.{sym, ap, ◌∙◌}
 use Rattle.lab.specs.Lab.{is_event}
 use Rattle.lab_text.specs.Line.{line_of_text}
 use Rattle.lab_text.specs.ParsedLine.{line_of}

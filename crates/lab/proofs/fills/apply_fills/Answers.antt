@@ -1,7 +1,7 @@
 use Rattle.std.proofs.Common.{◌+◌, ◌∙◌, true, false, length, take, refl, ap, sym, subst, arith, length-drop}
 use Rattle.std.proofs.KnownBytes.{Keeps-refl}
 use Rattle.std.specs.Io.KnownBytes.{prepend_known}
-use Rattle.lease_disk.specs.Model.{state_of}
+use Rattle.lease_disk.specs.Model.{device_of, state_of}
 use Rattle.lab.specs.Fills.{FilledSoFar}
 use Rattle.lab.specs.Follows.{Says}
 use Rattle.lab_text.specs.declared.line.LineEnd.TheVariants.{Newline}
@@ -24,9 +24,9 @@ lines-init g c = record {
   quiet = refl;
   counted = rw c.requires.count (counted_none _ 0);
   so_far = λ quota.
-      nothing_held c.args.config.now quota _ (held c.args.ahead.now) (state_of c.args.disk.now) c.requires.held
-      (filled_first c.args.config.now quota _ (state_of c.args.disk.now)
-      (formatted_over c.args.config.now (length c.args.disk.now.regions) (state_of c.args.disk.now) (λ n part h. part_within c.args.config.now (length c.args.disk.now.regions) n part c.requires.regions h) c.requires.formatted));
+      nothing_held c.args.config.now quota _ (held c.args.ahead.now) (device_of c.args.disk.now) c.requires.held
+      (filled_first c.args.config.now quota _ (device_of c.args.disk.now)
+      (formatted_over c.args.config.now quota (length c.args.disk.now.regions) (device_of c.args.disk.now) (λ n part h. part_within c.args.config.now (length c.args.disk.now.regions) n part c.requires.regions h) c.requires.formatted));
 }
 
 pub returns-in_default-clause-counted : goal.returns-in_default-clause-counted
@@ -35,8 +35,8 @@ returns-in_default-clause-counted g c = counted_more _ _ _ _ _ _ c.lines.invaria
 pub returns-in-TooLong-clause-filled : goal.returns-in-TooLong-clause-filled
 returns-in-TooLong-clause-filled g c = λ quota.
     rw c.new.ensures
-    (filled_begun c.args.config.now quota (c.lines.earlier + 1) _ _ (state_of c.lines.disk) _
-    (filled_kept c.args.config.now quota (c.lines.earlier + 1) false _ _ _ (state_of c.lines.disk) _ (c.lines.invariant.so_far quota) c.read_line.ensures.kept)
+    (filled_begun c.args.config.now quota (c.lines.earlier + 1) _ _ (device_of c.lines.disk) _
+    (filled_kept c.args.config.now quota (c.lines.earlier + 1) false _ _ _ (device_of c.lines.disk) _ (c.lines.invariant.so_far quota) c.read_line.ensures.kept)
     (subst (λ e. IsBegun c.args.config.now quota (c.lines.earlier + 1) (Fits (held c.read_line.new.ahead) e)) (sym c.in-TooLong.is)
     (begun_long c.args.config.now quota (c.lines.earlier + 1) (held c.read_line.new.ahead) (rw c.in-TooLong.is at c.in-Ok.ensures.end))))
 
@@ -53,7 +53,7 @@ pub returns-in-EndOfInput-clause-filled : goal.returns-in-EndOfInput-clause-fill
 returns-in-EndOfInput-clause-filled g c = λ quota.
     rw c.new-in-EndOfInput.ensures
     (c.apply_last_fill-end.ensures.filled quota (c.lines.earlier + 1) _ _ (rw c.in-EndOfInput.is at c.in-Ok.ensures.end)
-    (filled_kept c.args.config.now quota (c.lines.earlier + 1) false _ _ _ (state_of c.lines.disk) _ (c.lines.invariant.so_far quota) c.read_line.ensures.kept))
+    (filled_kept c.args.config.now quota (c.lines.earlier + 1) false _ _ _ (device_of c.lines.disk) _ (c.lines.invariant.so_far quota) c.read_line.ensures.kept))
 
 pub returns-in-EndOfInput-clause-end : goal.returns-in-EndOfInput-clause-end
 returns-in-EndOfInput-clause-end g c =
@@ -71,10 +71,10 @@ returns-in-EndOfInput-clause-counted g c = rw c.apply_last_fill-end.ensures.coun
 pub returns-in-Some-clause-filled : goal.returns-in-Some-clause-filled
 returns-in-Some-clause-filled g c = λ quota.
     let feeds = rw c.in-Newline.is at c.in-Ok.ensures.end in
-    rw c.new-in-Some.ensures (subst (λ d. FilledSoFar c.args.config.now quota (c.lines.earlier + 1) true (g.R.ByteReader.remaining c.args.reader.now) (prepend_known (held c.read_line.new.ahead) (g.R.ByteReader.remaining c.read_line.new.reader)) (state_of d) (Fits (held c.read_line.new.ahead) (Newline c.in-Newline.len)))
+    rw c.new-in-Some.ensures (subst (λ d. FilledSoFar c.args.config.now quota (c.lines.earlier + 1) true (g.R.ByteReader.remaining c.args.reader.now) (prepend_known (held c.read_line.new.ahead) (g.R.ByteReader.remaining c.read_line.new.reader)) (device_of d) (Fits (held c.read_line.new.ahead) (Newline c.in-Newline.len)))
     (sym c.in-Some.ensures.same)
-    (filled_begun c.args.config.now quota (c.lines.earlier + 1) _ _ (state_of c.lines.disk) _
-    (filled_kept c.args.config.now quota (c.lines.earlier + 1) false _ _ _ (state_of c.lines.disk) _ (c.lines.invariant.so_far quota) c.read_line.ensures.kept)
+    (filled_begun c.args.config.now quota (c.lines.earlier + 1) _ _ (device_of c.lines.disk) _
+    (filled_kept c.args.config.now quota (c.lines.earlier + 1) false _ _ _ (device_of c.lines.disk) _ (c.lines.invariant.so_far quota) c.read_line.ensures.kept)
     (begun_newline c.args.config.now quota (c.lines.earlier + 1) (held c.read_line.new.ahead) c.in-Newline.len feeds
     (ap (λ text. is_event (line_of_text c.args.config.now (take c.in-Newline.len text))) (sym c.as_slice.ensures) ∙ c.in-Some.ensures.event))))
 
@@ -100,8 +100,8 @@ lines-preserved g c =
       quiet = c.in-Ok.ensures.quiet ∙ c.lines.invariant.quiet;
       counted = rw c.consume.ensures.count (counted_more _ _ _ _ _ _ c.lines.invariant.counted c.read_line.ensures.counted);
       so_far = λ quota.
-          filled_next c.args.config.now quota (c.lines.earlier + 1) _ _ _ (state_of c.lines.disk) (state_of c.apply_fill.new.disk) (take c.in-Newline.len text)
-          (filled_kept c.args.config.now quota (c.lines.earlier + 1) false _ _ _ (state_of c.lines.disk) _ (c.lines.invariant.so_far quota) c.read_line.ensures.kept)
+          filled_next c.args.config.now quota (c.lines.earlier + 1) _ _ _ (device_of c.lines.disk) (device_of c.apply_fill.new.disk) (take c.in-Newline.len text)
+          (filled_kept c.args.config.now quota (c.lines.earlier + 1) false _ _ _ (device_of c.lines.disk) _ (c.lines.invariant.so_far quota) c.read_line.ensures.kept)
           (line_consumed _ _ (held c.read_line.new.ahead) text _ c.in-Newline.len c.as_slice.ensures c.consume.ensures.held (Keeps-refl _) feeds)
           c.in_default-apply_fill.ensures.no_event
           (λ machines over. c.in_default-apply_fill.ensures.filled quota machines over);

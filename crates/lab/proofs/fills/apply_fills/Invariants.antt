@@ -1,7 +1,7 @@
 use Rattle.std.proofs.Common.{◌≡◌, ℕ, ◌+◌, ◌≤◌, ◌<◌, false, length}
 use Rattle.std.specs.Prelude.{⊤}
 use Rattle.std.specs.Io.KnownBytes.{prepend_known}
-use Rattle.lease_disk.specs.Model.{state_of}
+use Rattle.lease_disk.specs.Model.{device_of, state_of}
 use Rattle.lab.specs.Fills.{AreReady, FilledSoFar}
 use Rattle.lab_text.specs.LineEnd.{IsCounted}
 use Rattle.lab_text.specs.ReadAhead.{held}
@@ -17,5 +17,5 @@ invariant-lines g l = record {
   counted : IsCounted (g.R.ByteReader.remaining l.fn.reader) (g.R.ByteReader.remaining l.reader) 0 l.ahead.count;
   so_far :
       (quota : ℕ)
-      → FilledSoFar l.fn.config quota (l.earlier + 1) false (g.R.ByteReader.remaining l.fn.reader) (prepend_known (held l.ahead) (g.R.ByteReader.remaining l.reader)) (state_of l.disk) (λ rest. ⊤);
+      → FilledSoFar l.fn.config quota (l.earlier + 1) false (g.R.ByteReader.remaining l.fn.reader) (prepend_known (held l.ahead) (g.R.ByteReader.remaining l.reader)) (device_of l.disk) (λ rest. ⊤);
 }

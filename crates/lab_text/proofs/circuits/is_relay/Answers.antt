@@ -8,14 +8,14 @@ use Rattle.lab_text.proofs.circuits.is_relay.Goals as goal
 pub returns-then-eq : goal.returns-then-eq
 returns-then-eq c =
     let from : RelayConfig → Bool = λ relay. same_source c.args.source relay.source in
-    let there = subst (λ n. slice_get c.args.config.now.relays n ≡ Some c.relay.result.now) c.in-Some.ensures.value c.relay.ensures.value in
+    let there = subst (λ n. slice_get c.args.config.now.relays n ≡ Some c.relay.result.now) c.at-relay.ensures c.relay.ensures.value in
     sym (any_of_map (same_source c.args.source) (λ relay. relay.source) c.args.config.now.relays
     ∙ one_here from c.args.config.now.relays c.relays.index c.relay.result.now there (sym c.eq.ensures ∙ c.if-eq.true) c.relays.invariant)
 
 pub relays-preserved : goal.relays-preserved
 relays-preserved c =
     let from : RelayConfig → Bool = λ relay. same_source c.args.source relay.source in
-    let there = subst (λ n. slice_get c.args.config.now.relays n ≡ Some c.relay.result.now) c.in-Some.ensures.value c.relay.ensures.value in
+    let there = subst (λ n. slice_get c.args.config.now.relays n ≡ Some c.relay.result.now) c.at-relay.ensures c.relay.ensures.value in
     none_one_more from c.args.config.now.relays c.relays.index c.relay.result.now there (sym c.eq.ensures ∙ c.if-eq.false) c.relays.invariant
 
 pub returns : goal.returns

@@ -11,12 +11,12 @@ relays-init c = lacks_none (λ relay. bytes_eq relay.name.items c.args.name.now)
 pub returns-then-eq-clause-value : goal.returns-then-eq-clause-value
 returns-then-eq-clause-value c =
     let has : RelayConfig → Bool = λ relay. bytes_eq relay.name.items c.args.name.now in
-    let there = subst (λ n. slice_get c.args.config.now.relays n ≡ Some c.relay.result.now) c.in-Some.ensures.value c.relay.ensures.value in
-    ap Some c.in-Some.ensures.value
+    let there = subst (λ n. slice_get c.args.config.now.relays n ≡ Some c.relay.result.now) c.at-relay.ensures c.relay.ensures.value in
+    ap Some c.at-relay.ensures
     ∙ sym (found_here has c.args.config.now.relays c.relays.index c.relay.result.now there (ap (λ name. bytes_eq name c.args.name.now) (sym c.as_slice.ensures.value) ∙ sym c.eq.ensures ∙ c.if-eq.true) c.relays.invariant)
 
 pub relays-preserved : goal.relays-preserved
 relays-preserved c =
     let has : RelayConfig → Bool = λ relay. bytes_eq relay.name.items c.args.name.now in
-    let there = subst (λ n. slice_get c.args.config.now.relays n ≡ Some c.relay.result.now) c.in-Some.ensures.value c.relay.ensures.value in
+    let there = subst (λ n. slice_get c.args.config.now.relays n ≡ Some c.relay.result.now) c.at-relay.ensures c.relay.ensures.value in
     lacks_one_more has c.args.config.now.relays c.relays.index c.relay.result.now there (ap (λ name. bytes_eq name c.args.name.now) (sym c.as_slice.ensures.value) ∙ sym c.eq.ensures ∙ c.if-eq.false) c.relays.invariant

@@ -17,7 +17,7 @@ returns-in-Some c =
     let slots = c.in-Some.slots in
     let are : List _ → List Lease → List (String Global) → Type 0 =
     λ circuit leases lines. AllZip (λ lease line. IsLeaseLine circuit lease c.args.at c.args.form (string_bytes line)) leases lines in
-    let means : recovered (part.count4 ∷ part.count6 ∷ []) bytes ≡ Some slots = ap (λ counts. recovered counts bytes) (sym c.counts.ensures) ∙ sym c.slots.ensures ∙ c.in-Some.is in
+    let means : recovered (part.count4 ∷ part.count6 ∷ []) bytes ≡ Some slots = ap (λ counts. recovered counts bytes) (sym c.counts.ensures) ∙ sym c.slots_in.ensures.slots ∙ c.in-Some.is in
     let circuit : c.text_of.result.now ≡ part.id = c.text_of.ensures ∙ c.id.ensures in
     let listed : c.deref.result.now ≡ leases_at c.args.at part slots = c.deref.ensures.value ∙ c.in_ok-found.ensures in
     IfOk-weaker c.lease_lines.result _ _

@@ -1,6 +1,6 @@
 use Rattle.std.proofs.Common.{◌≡◌, ◌≤◌, length, refl, ap, subst, ◌∙◌}
 use Rattle.std.specs.Prelude.{ℕ, List, Ok, Some, option_map, slice_get}
-use Rattle.types.specs.Delivery.{DeliveryValue}
+use Rattle.types.specs.Delivery.{DeliveryValue, delivery}
 use Rattle.types.specs.declared.dest.Proto.{Proto}
 use Rattle.types.specs.declared.dest.Proto.TheVariants.{V4, V6}
 use Rattle.wire.specs.Bytes.{AreBytes}
@@ -14,7 +14,7 @@ use Rattle.types.specs.declared.request4.Request4.{Request4}
 use Rattle.config.specs.CircuitPart.{CircuitPart, IsPart, pool4_of}
 use Rattle.config.specs.Topology.{Topology, listen}
 use Rattle.bindings_v4.specs.Table4.{answer4}
-use Rattle.dispatch.specs.Addressee.{addressee}
+use Rattle.requests.specs.Addressee.{addressee}
 use Rattle.dispatch.specs.Server.{Book, book_at, served}
 use Rattle.relay.specs.Relays.{for_circuit, relayed_down, relayed_down_in}
 use Rattle.replies.specs.Reply4.{reply_message, yiaddr_in}
@@ -34,11 +34,11 @@ by_proto : (x : goal.After-exact_relay_reading) (topology : Topology) (relay c :
     → slice_get topology.circuits c ≡ Some part
     → ((n : ℕ) (other : CircuitPart) → slice_get topology.circuits n ≡ Some other → other.id ≡ part.id → n ≡ c)
     → slice_get topology.relays relay ≡ Some part.relay → IsPart part → AreBytes d.bytes
-    → addressee topology.relays topology.circuits proto part.relay d.bytes ≡ Ok c → (served part d b).answer ≡ Ok bytes
+    → addressee topology (delivery proto part.relay d.moment d.bytes) ≡ Ok c → (served part d b).answer ≡ Ok bytes
     → (proto ≡ V6 → IsDue topology bytes)
     → relayed_down_in topology relay (listen topology proto) bytes ≡ for_circuit c (relayed_down part proto bytes)
 by_proto x topology relay c part d bytes b V4 is there alone behind sound fits found answered due =
-    let of = is_of topology.circuits c part there part.relay d.bytes topology.relays found in
+    let of = is_of topology c part there part.relay d.bytes d.moment found in
     let sent = is_reply part d bytes b of.message is of.read answered in
     let spelled = (x.exact_reading.ensures.message d.bytes of.message fits).0 of.read in
     let again = reply_message part of.message sent.reply in

@@ -1,7 +1,6 @@
 use Rattle.std.proofs.Common.{◌≡◌, ℕ, ◌<◌, ◌≤◌, length}
 use Rattle.std.specs.Prelude.{Some, slice_get}
 use Rattle.config.specs.CircuitPart.{CircuitPart}
-use Rattle.dispatch.specs.ServerValue.{parts_in}
 use Rattle.lease_disk.specs.Crash.{crashed}
 use Rattle.lease_disk.specs.Model.{device_of, state_of}
 use Rattle.world.specs.Headline.{KeepsSpares}
@@ -12,7 +11,7 @@ use Rattle.world.proofs.world.crash_all.Given as goal
 abbrev pub invariant-circuits : goal.invariant-circuits
 invariant-circuits l = record {
   count : length l.disk.regions ≡ length l.fn.disk.regions;
-  spares : KeepsSpares (parts_in l.server) (device_of l.fn.disk) (device_of l.disk);
-  done : (c : ℕ) (part : CircuitPart) → slice_get (parts_in l.server) c ≡ Some part → c < l.index → state_of l.disk part.region ≡ crashed (image_at c l.images) (state_of l.fn.disk part.region);
-  others : (c : ℕ) (part : CircuitPart) → slice_get (parts_in l.server) c ≡ Some part → l.index ≤ c → state_of l.disk part.region ≡ state_of l.fn.disk part.region;
+  spares : KeepsSpares l.server.topology.circuits (device_of l.fn.disk) (device_of l.disk);
+  done : (c : ℕ) (part : CircuitPart) → slice_get l.server.topology.circuits c ≡ Some part → c < l.index → state_of l.disk part.region ≡ crashed (image_at c l.images) (state_of l.fn.disk part.region);
+  others : (c : ℕ) (part : CircuitPart) → slice_get l.server.topology.circuits c ≡ Some part → l.index ≤ c → state_of l.disk part.region ≡ state_of l.fn.disk part.region;
 }

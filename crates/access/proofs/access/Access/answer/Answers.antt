@@ -1,10 +1,10 @@
-use Rattle.std.proofs.Common.{◌≡◌, ◌∙◌, ◌+◌, ℕ, Bool, false, List, take, refl, sym, ap, subst}
+use Rattle.std.proofs.Common.{◌≡◌, ◌∙◌, ◌+◌, ℕ, Bool, false, take, refl, sym, ap, subst}
 use Rattle.std.specs.Prelude.{nat_lt}
 use Rattle.types.specs.Delivery.{delivery}
-use Rattle.config.specs.CircuitPart.{CircuitPart}
+use Rattle.config.specs.Topology.{Topology}
 use Rattle.dispatch.specs.Leases.{HasRegions}
 use Rattle.dispatch.specs.Received.{received}
-use Rattle.dispatch.specs.ServerValue.{books_in, parts_in}
+use Rattle.dispatch.specs.ServerValue.{books_in}
 use Rattle.lease_disk.proofs.Frames.{writes_count}
 use Rattle.lease_disk.specs.FileDisk.{device_of}
 use Rattle.access.specs.Access.{AccessValue, HasAnswered, answer_outcome}
@@ -25,8 +25,8 @@ invariant_of-self c =
       was.2,
       was.3,
       was.4,
-      subst (λ (parts : List CircuitPart). HasRegions parts new.regions) (sym c.receive-answer.ensures.parts)
-          (subst (λ (n : ℕ). HasRegions (parts_in c.self.inside.server) n) (sym count) was.5),
+      subst (λ (t : Topology). HasRegions t.circuits new.regions) (sym c.receive-answer.ensures.topology)
+          (subst (λ (n : ℕ). HasRegions c.self.inside.server.topology.circuits n) (sym count) was.5),
       was.6,
     )
 
@@ -47,7 +47,7 @@ after c = record (before c) { server = c.receive-answer.new.self; disk = c.recei
 
 -- by what becomes of the datagram
 answered_by : (c : goal.After-count) (sent : Bool)
-    → c.match-answer.outcome ≡ answer_outcome (received c.self.inside.server.relays (parts_in c.self.inside.server) (delivery c.args.proto c.args.from c.args.now (take c.args.len c.self.inside.buffer)) (nat_lt c.self.inside.disk.failures c.receive-answer.new.disk.failures) (books_in c.self.inside.server)).answer sent
+    → c.match-answer.outcome ≡ answer_outcome (received c.self.inside.server.topology (delivery c.args.proto c.args.from c.args.now (take c.args.len c.self.inside.buffer)) (nat_lt c.self.inside.disk.failures c.receive-answer.new.disk.failures) (books_in c.self.inside.server)).answer sent
     → HasAnswered c.args.proto c.args.now (before c) (after c)
 answered_by c sent is = record {
   from = c.args.from;
@@ -55,8 +55,7 @@ answered_by c sent is = record {
   sent = sent;
   kept = record {
     topology = refl;
-    parts = c.receive-answer.ensures.parts;
-    relays = c.receive-answer.ensures.relays;
+    served = c.receive-answer.ensures.topology;
     regions = writes_count false _ (device_of c.self.inside.disk) (device_of c.receive-answer.new.disk) c.receive-answer.ensures.frame;
     turns = refl;
   };

@@ -1,5 +1,4 @@
 use Rattle.std.proofs.Common.{◌≡◌, ◌≤◌, ◌+◌}
-use Rattle.dispatch.specs.ServerValue.{parts_in}
 use Rattle.access.specs.Access.{StayClosed}
 use Rattle.access.proofs.access.Access.serve.Given as goal
 
@@ -8,8 +7,7 @@ invariant-turns g l = record {
   counter : l.counter ≤ l.turns;
   turns : l.self.turns ≡ l.fn.self.turns + l.counter;
   topology : l.self.topology ≡ l.fn.self.topology;
-  parts : parts_in l.self.server ≡ parts_in l.fn.self.server;
-  relays : l.self.server.relays ≡ l.fn.self.server.relays;
+  served : l.self.server.topology ≡ l.fn.self.server.topology;
   regions : l.self.disk.regions ≡ l.fn.self.disk.regions;
   closed : StayClosed l.fn.self.server l.self.server;
 }

@@ -1,7 +1,7 @@
 use Rattle.std.proofs.Common.{◌≡◌, ◌∙◌, refl, ap, subst, rules}
 use Rattle.std.specs.Prelude.{Some, slice_get}
 use Rattle.lease_disk.specs.FileDisk.{untold}
-use Rattle.dispatch.specs.ServerValue.{books_in}
+use Rattle.dispatch.specs.ServerValue.{books_in, circuits_in}
 use Rattle.access.specs.Access.{AccessValue, books_at}
 use Rattle.access.proofs.ClockLemmas.{reached, ticked}
 use Rattle.access.proofs.TurnLemmas.{counted_received, quiet, turned_closed, turned_counts}
@@ -21,7 +21,7 @@ returns-clause-turned c = record {
   at_server4 = c.take_at_server-datagrams4.ensures.served;
   at_server6 = c.take_at_server-datagrams6.ensures.served;
   from_relays = c.take_from_relays-answers.ensures.carried;
-  ticked = ticked (λ region. untold) c.args.now c.tick.new.self.circuits c.self.inside.server.circuits (c.tick.ensures.leases (λ region. untold))
+  ticked = ticked (λ region. untold) c.args.now (circuits_in c.tick.new.self) (circuits_in c.self.inside.server) (c.tick.ensures.leases (λ region. untold))
       ∙ ap (λ (s : AccessValue). books_at c.args.now (books_in s.server)) c.self.view_is;
   counts = ap (λ (s : AccessValue). s.counts) c.self.view_is;
   taken = ap (λ (s : AccessValue). s.taken) c.self.view_is;

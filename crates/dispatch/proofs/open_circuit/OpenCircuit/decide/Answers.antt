@@ -5,11 +5,11 @@ use Rattle.types.specs.declared.dest.Proto.TheVariants.{V4, V6}
 use Rattle.types.specs.declared.discard.Discard.{Discard}
 use Rattle.v4_message.specs.Spelling.{MessageValue}
 use Rattle.config.specs.CircuitPart.{CircuitPart}
-use Rattle.dispatch.specs.declared.addressee.RelayedMessage.TheVariants as relayed
+use Rattle.requests.specs.declared.relayed_message.RelayedMessage.TheVariants as relayed
 use Rattle.dispatch.specs.declared.decision.CircuitDecision.{CircuitDecision}
 use Rattle.dispatch.specs.CircuitDecision.{served_by}
-use Rattle.dispatch.specs.RelayedMessage.{IsRelayedMessage}
-use Rattle.dispatch.specs.Request4.{request4_in}
+use Rattle.requests.specs.RelayedMessage.{IsRelayedMessage}
+use Rattle.requests.specs.Request4.{request4_in}
 use Rattle.dispatch.specs.Server.{Book, Served, datagram_served, message4_served, request4_served}
 use Rattle.dispatch.specs.ServerValue.{OpenCircuitValue, open_book}
 use Rattle.dispatch.proofs.open_circuit.OpenCircuit.decide.Goals as goal

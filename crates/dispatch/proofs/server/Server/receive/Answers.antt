@@ -3,13 +3,14 @@ use Rattle.std.specs.Prelude.{Option, Some, Ok, slice_get, option_map, All}
 use Rattle.std.proofs.lemmas.List.{length-set, map-set}
 use Rattle.std.proofs.lemmas.List.Elements.{All-set}
 use Rattle.std.proofs.lemmas.Option.{slice_get-map, slice_get_within}
-use Rattle.types.specs.Delivery.{delivery}
+use Rattle.types.specs.Delivery.{DeliveryValue, delivery}
 use Rattle.config.specs.CircuitPart.{CircuitPart}
+use Rattle.config.specs.Topology.{Topology}
 use Rattle.lease_disk.specs.Device.{WritesAt}
-use Rattle.dispatch.specs.Addressee.{addressee}
+use Rattle.requests.specs.Addressee.{addressee}
 use Rattle.dispatch.specs.Leases.{addressee_leases, received_leases, restarts_of}
 use Rattle.dispatch.specs.Received.{Received, IsAnswer, addressee_answered, addressee_saves, fails_at, received, received_saves}
-use Rattle.dispatch.specs.ServerValue.{CircuitServerValue, HasItsPools, IsReady, IsReadyFor, OpenCircuitValue, ServerValue, book_of, books_in, leases_in, leases_of, part_of, parts_in, with_states}
+use Rattle.dispatch.specs.ServerValue.{CircuitServerValue, HasItsPools, IsReady, IsReadyFor, OpenCircuitValue, ServerValue, book_of, books_in, circuits_in, leases_in, leases_of, part_of, with_states}
 use Rattle.dispatch.specs.Deadlines.{HoldsDeadlines}
 use Rattle.dispatch.specs.Ticked.{state_of}
 use Rattle.dispatch.proofs.AnswerLemmas.{because_err, because_ok, not_more}
@@ -23,89 +24,97 @@ use Rattle.dispatch.proofs.server.Server.receive.Goals as goal
 
 -- ---- a datagram of no circuit
 
-none_of : (g : given.Over) (c : goal.In-Err g) → addressee c.args.self.now.relays (parts_in c.args.self.now) c.args.proto c.args.source c.args.datagram.now ≡ Err c.in-Err.why
-none_of g c =
-    ap (λ s. addressee s.relays (parts_in s) c.args.proto c.args.source c.args.datagram.now) (sym c.self.view_is)
-    ∙ ap (λ parts. addressee c.self.inside.circuits.relays parts c.args.proto c.args.source c.args.datagram.now) (parts_with c.self.inside.circuits.circuits c.self.inside.servers)
-    ∙ c.in-Err.ensures.err
+abbrev refused : (g : given.Over) (c : goal.In-Err g) → DeliveryValue
+refused g c = delivery c.args.proto c.args.source c.args.now c.args.datagram.now
+
+none_of : (g : given.Over) (c : goal.In-Err g) → addressee c.args.self.now.topology (refused g c) ≡ Err c.in-Err.why
+none_of g c = ap (λ (s : ServerValue). addressee s.topology (refused g c)) (sym c.self.view_is) ∙ c.in-Err.ensures.err
 
 pub returns-in-Err-clause-answer : goal.returns-in-Err-clause-answer
 returns-in-Err-clause-answer g c =
     let s = c.args.self.now in
-    subst (λ r. IsAnswer (addressee_answered (parts_in s) (delivery c.args.proto c.args.source c.args.now c.args.datagram.now) (nat_lt (g.D.Disk.device c.args.disk.now).failures (g.D.Disk.device c.args.disk.now).failures) (books_in s) r).answer (Err c.in-Err.why) c.clear.new.self) (sym (none_of g c)) (refl, c.clear.ensures)
+    let failures = (g.D.Disk.device c.args.disk.now).failures in
+    subst (λ r. IsAnswer (addressee_answered s.topology (refused g c) (nat_lt failures failures) (books_in s) r).answer (Err c.in-Err.why) c.clear.new.self)
+    (sym (none_of g c)) (refl, c.clear.ensures)
 
 pub returns-in-Err-clause-books : goal.returns-in-Err-clause-books
 returns-in-Err-clause-books g c =
     let s = c.args.self.now in
-    ap (λ r. (addressee_answered (parts_in s) (delivery c.args.proto c.args.source c.args.now c.args.datagram.now) (nat_lt (g.D.Disk.device c.args.disk.now).failures (g.D.Disk.device c.args.disk.now).failures) (books_in s) r).books) (sym (none_of g c))
+    let failures = (g.D.Disk.device c.args.disk.now).failures in
+    ap (λ r. (addressee_answered s.topology (refused g c) (nat_lt failures failures) (books_in s) r).books) (sym (none_of g c))
 
 pub returns-in-Err-clause-fails : goal.returns-in-Err-clause-fails
 returns-in-Err-clause-fails g c tells =
     let s = c.args.self.now in
-    not_more _ ∙ ap (λ r. fails_at (g.D.Disk.device c.args.disk.now).fuse (addressee_saves (parts_in s) (delivery c.args.proto c.args.source c.args.now c.args.datagram.now) (books_in s) r)) (sym (none_of g c))
+    not_more _ ∙ ap (λ r. fails_at (g.D.Disk.device c.args.disk.now).fuse (addressee_saves s.topology (refused g c) (books_in s) r)) (sym (none_of g c))
 
 pub returns-in-Err-clause-leases : goal.returns-in-Err-clause-leases
 returns-in-Err-clause-leases g c tells =
     let s = c.args.self.now in
     let device = g.D.Disk.device c.args.disk.now in
-    ap (addressee_leases (parts_in s) (delivery c.args.proto c.args.source c.args.now c.args.datagram.now) device.fuse (leases_in device.region s)) (sym (none_of g c))
+    ap (addressee_leases s.topology (refused g c) device.fuse (leases_in device.region s)) (sym (none_of g c))
 
 pub returns-in-Err-clause-unchanged : goal.returns-in-Err-clause-unchanged
 returns-in-Err-clause-unchanged g c = because_err _ _ _ (none_of g c) (refl, refl, refl)
 
 -- ---- the server of the datagram's circuit, before
 
-there_in : (g : given.Over) (c : goal.After-answer g) → slice_get c.self.inside.circuits.circuits c.index-index.result ≡ Some c.part-part.result.now
-there_in g c = ap (slice_get c.self.inside.circuits.circuits) c.index-index.ensures.value ∙ c.part-part.ensures
+abbrev asks : (g : given.Over) (c : goal.After-answer g) → DeliveryValue
+asks g c = delivery c.args.proto c.args.source c.args.now c.args.datagram.now
+
+abbrev topology : (g : given.Over) (c : goal.After-answer g) → Topology
+topology g c = c.self.inside.circuits
+
+there_in : (g : given.Over) (c : goal.After-answer g) → slice_get (topology g c).circuits c.index-index.result ≡ Some c.part-part.result.now
+there_in g c = ap (slice_get (topology g c).circuits) c.index-index.ensures.value ∙ c.part-part.ensures
 
 within : (g : given.Over) (c : goal.After-answer g) → c.index-index.result < length c.self.inside.servers
-within g c = omega (arith, c.self.invariant.0.size, c.index-index.ensures.value, slice_get_within c.self.inside.circuits.circuits c.in-Ok.found.0 c.part-part.result.now c.part-part.ensures)
+within g c = omega (arith, c.self.invariant.0.size, slice_get_within (topology g c).circuits c.index-index.result c.part-part.result.now (there_in g c))
 
 abbrev before : (g : given.Over) (c : goal.After-answer g) → List CircuitServerValue
-before g c = with_states c.self.inside.circuits.circuits c.self.inside.servers
+before g c = with_states (topology g c).circuits c.self.inside.servers
 
 abbrev asked : (g : given.Over) (c : goal.After-answer g) → CircuitServerValue
 asked g c = server c.part-part.result.now (state_of c.self.inside.servers c.index-index.result)
 
 its_server : (g : given.Over) (c : goal.After-answer g) → slice_get (before g c) c.index-index.result ≡ Some (asked g c)
-its_server g c = there_with c.self.inside.circuits.circuits c.self.inside.servers c.index-index.result c.part-part.result.now (state_of c.self.inside.servers c.index-index.result) (there_in g c) (within g c) (own_state c.self.inside.servers c.index-index.result (within g c))
+its_server g c =
+    there_with (topology g c).circuits c.self.inside.servers c.index-index.result c.part-part.result.now (state_of c.self.inside.servers c.index-index.result)
+    (there_in g c) (within g c) (own_state c.self.inside.servers c.index-index.result (within g c))
 
 -- all servers, after
 abbrev answered_state : (g : given.Over) (c : goal.After-answer g) → Option OpenCircuitValue
 answered_state g c = state_of c.answer.new.self c.index-index.result
 
 written : (g : given.Over) (c : goal.After-answer g)
-    → with_states c.self.inside.circuits.circuits c.answer.new.self ≡ set (before g c) c.index-index.result (server c.part-part.result.now (answered_state g c))
+    → with_states (topology g c).circuits c.answer.new.self ≡ set (before g c) c.index-index.result (server c.part-part.result.now (answered_state g c))
 written g c =
-    ap (with_states c.self.inside.circuits.circuits) c.answer.ensures.others
-    ∙ set_with c.self.inside.circuits.circuits c.self.inside.servers c.index-index.result c.part-part.result.now (answered_state g c) (there_in g c) (within g c)
+    ap (with_states (topology g c).circuits) c.answer.ensures.others
+    ∙ set_with (topology g c).circuits c.self.inside.servers c.index-index.result c.part-part.result.now (answered_state g c) (there_in g c) (within g c)
 
 its : {B : Type 0} (f : CircuitServerValue → B) (g : given.Over) (c : goal.After-answer g) → slice_get (map f (before g c)) c.index-index.result ≡ Some (f (asked g c))
 its f g c = slice_get-map f (before g c) c.index-index.result ∙ ap (option_map f) (its_server g c)
 
-found : (g : given.Over) (c : goal.After-answer g) → addressee c.self.inside.circuits.relays (map part_of (before g c)) c.args.proto c.args.source c.args.datagram.now ≡ Ok c.index-index.result
-found g c =
-    ap (λ parts. addressee c.self.inside.circuits.relays parts c.args.proto c.args.source c.args.datagram.now) (parts_with c.self.inside.circuits.circuits c.self.inside.servers)
-    ∙ c.in-Ok.ensures.circuit ∙ ap Ok (sym c.index-index.ensures.value)
+found : (g : given.Over) (c : goal.After-answer g) → addressee (topology g c) (asks g c) ≡ Ok c.index-index.result
+found g c = c.in-Ok.ensures.circuit ∙ ap Ok (sym c.index-index.ensures.value)
 
-found_in : (g : given.Over) (c : goal.After-answer g) → addressee c.args.self.now.relays (parts_in c.args.self.now) c.args.proto c.args.source c.args.datagram.now ≡ Ok c.index-index.result
-found_in g c = subst (λ (s : ServerValue). addressee s.relays (parts_in s) c.args.proto c.args.source c.args.datagram.now ≡ Ok c.index-index.result) c.self.view_is (found g c)
+found_in : (g : given.Over) (c : goal.After-answer g) → addressee c.args.self.now.topology (asks g c) ≡ Ok c.index-index.result
+found_in g c = subst (λ (s : ServerValue). addressee s.topology (asks g c) ≡ Ok c.index-index.result) c.self.view_is (found g c)
 
 -- another circuit's region is another one
 elsewhere : (g : given.Over) (c : goal.After-answer g) (k : ℕ) (x : CircuitServerValue) → slice_get (before g c) k ≡ Some x → (k ≡ c.index-index.result → ⊥)
     → x.part.region ≡ c.part-part.result.now.region → ⊥
 elsewhere g c k x there apart same =
-    let of_part = ap (λ parts. slice_get parts k) (sym (parts_with c.self.inside.circuits.circuits c.self.inside.servers)) ∙ slice_get-map part_of (before g c) k ∙ ap (option_map part_of) there in
-    apart (c.self.invariant.0.regions k c.index-index.result x.part c.part-part.result.now of_part (there_in g c) same)
+    let of_part = ap (λ parts. slice_get parts k) (sym (parts_with (topology g c).circuits c.self.inside.servers)) ∙ slice_get-map part_of (before g c) k ∙ ap (option_map part_of) there in
+    apart (c.self.invariant.0.sound.regions k c.index-index.result x.part c.part-part.result.now of_part (there_in g c) same)
 
 -- ---- what the answer requires
 
 pub answer-requires-clause-exists : goal.answer-requires-clause-exists
 answer-requires-clause-exists g c =
-    let parts = c.self.inside.circuits.circuits in
     let P : CircuitPart → Type 0 = λ part. part.region < (g.D.Disk.device c.args.disk.now).count in
-    at_index P parts c.in-Ok.found.0 c.part-part.result.now c.part-part.ensures
-    (subst (All P) (parts_with parts c.self.inside.servers) (subst (λ (s : ServerValue). All P (parts_in s)) (sym c.self.view_is) c.requires.regions))
+    at_index P c.self.inside.circuits.circuits c.in-Ok.found.0 c.part-part.result.now c.part-part.ensures
+    (subst (λ (s : ServerValue). All P s.topology.circuits) (sym c.self.view_is) c.requires.regions)
 
 pub answer-requires-clause-pools : goal.answer-requires-clause-pools
 answer-requires-clause-pools g c =
@@ -113,8 +122,8 @@ answer-requires-clause-pools g c =
     let states = c.self.inside.servers in
     let there = ap (slice_get parts) c.index-index.ensures.value ∙ c.part-part.ensures in
     let inside : c.index-index.result < length states = omega (arith, c.self.invariant.0.size, slice_get_within parts c.index-index.result c.part-part.result.now there) in
-    at_index HasItsPools (with_states parts states) c.index-index.result (server c.part-part.result.now (state_of c.self.inside.servers c.index-index.result))
-    (there_with parts states c.index-index.result c.part-part.result.now (state_of c.self.inside.servers c.index-index.result) there inside (own_state c.self.inside.servers c.index-index.result inside)) c.self.invariant.0.pools
+    at_index HasItsPools (with_states parts states) c.index-index.result (server c.part-part.result.now (state_of states c.index-index.result))
+    (there_with parts states c.index-index.result c.part-part.result.now (state_of states c.index-index.result) there inside (own_state states c.index-index.result inside)) c.self.invariant.0.pools
 
 pub answer-requires-clause-ready : goal.answer-requires-clause-ready
 answer-requires-clause-ready g c tells =
@@ -123,18 +132,17 @@ answer-requires-clause-ready g c tells =
     let regions = (g.D.Disk.device c.args.disk.now).region in
     let there = ap (slice_get parts) c.index-index.ensures.value ∙ c.part-part.ensures in
     let inside : c.index-index.result < length states = omega (arith, c.self.invariant.0.size, slice_get_within parts c.index-index.result c.part-part.result.now there) in
-    at_index (IsReady regions) (with_states parts states) c.index-index.result (server c.part-part.result.now (state_of c.self.inside.servers c.index-index.result))
-    (there_with parts states c.index-index.result c.part-part.result.now (state_of c.self.inside.servers c.index-index.result) there inside (own_state c.self.inside.servers c.index-index.result inside))
-    (subst (λ (s : ServerValue). All (IsReady regions) s.circuits) (sym c.self.view_is) (c.requires.ready tells))
+    at_index (IsReady regions) (with_states parts states) c.index-index.result (server c.part-part.result.now (state_of states c.index-index.result))
+    (there_with parts states c.index-index.result c.part-part.result.now (state_of states c.index-index.result) there inside (own_state states c.index-index.result inside))
+    (subst (λ (s : ServerValue). All (IsReady regions) (circuits_in s)) (sym c.self.view_is) (c.requires.ready tells))
 
 -- ---- after the answer
 
 pub invariant_of-self : goal.invariant_of-self
 invariant_of-self g c = (
   record {
-    few = c.self.invariant.0.few;
+    sound = c.self.invariant.0.sound;
     size = ap (λ (xs : List (Option OpenCircuitValue)). length xs) c.answer.ensures.others ∙ length-set c.self.inside.servers c.index-index.result (answered_state g c) ∙ c.self.invariant.0.size;
-    regions = c.self.invariant.0.regions;
     pools =
         subst (All HasItsPools) (sym (written g c))
         (All-set HasItsPools (before g c) c.index-index.result (server c.part-part.result.now (answered_state g c)) c.answer.ensures.pools c.self.invariant.0.pools);
@@ -143,18 +151,17 @@ invariant_of-self g c = (
       (one_held c.index-index.result c.self.inside.deadlines c.answer.new.table c.self.inside.servers (answered_state g c) (within g c) c.self.invariant.1 c.answer.ensures.deadlines c.answer.ensures.beside),
 )
 
-pub returns-clause-parts : goal.returns-clause-parts
-returns-clause-parts g c =
-    parts_with c.self.inside.circuits.circuits _ ∙ sym (parts_with c.self.inside.circuits.circuits c.self.inside.servers) ∙ ap parts_in c.self.view_is
+pub returns-clause-topology : goal.returns-clause-topology
+returns-clause-topology g c = ap (λ (s : ServerValue). s.topology) c.self.view_is
 
 pub returns-clause-answer : goal.returns-clause-answer
 returns-clause-answer g c =
     let fails = nat_lt (g.D.Disk.device c.args.disk.now).failures (g.D.Disk.device c.answer.new.disk).failures in
     let x = asked g c in
-    let P : ServerValue → Type 0 = λ s. IsAnswer (received s.relays (parts_in s) (delivery c.args.proto c.args.source c.args.now c.args.datagram.now) fails (books_in s)).answer c.answer.result c.answer.new.out in
+    let P : ServerValue → Type 0 = λ s. IsAnswer (received s.topology (asks g c) fails (books_in s)).answer c.answer.result c.answer.new.out in
     let Q : Received → Type 0 = λ r. IsAnswer r.answer c.answer.result c.answer.new.out in
     subst P c.self.view_is
-    (subst Q (sym (received_at c.self.inside.circuits.relays (map part_of (before g c)) (delivery c.args.proto c.args.source c.args.now c.args.datagram.now) c.index-index.result x.part (found g c) (its part_of g c) fails (map book_of (before g c)) (book_of x) (its book_of g c)))
+    (subst Q (sym (received_at (topology g c) (asks g c) c.index-index.result x.part (found g c) (there_in g c) fails (map book_of (before g c)) (book_of x) (its book_of g c)))
     c.answer.ensures.answer)
 
 pub returns-clause-unchanged : goal.returns-clause-unchanged
@@ -167,12 +174,12 @@ returns-clause-books g c =
     let items = before g c in
     let k = c.index-index.result in
     let new = server x.part (answered_state g c) in
-    let P : ServerValue → Type 0 = λ s. map book_of (set items k new) ≡ (received s.relays (parts_in s) (delivery c.args.proto c.args.source c.args.now c.args.datagram.now) fails (books_in s)).books in
+    let P : ServerValue → Type 0 = λ s. map book_of (set items k new) ≡ (received s.topology (asks g c) fails (books_in s)).books in
     ap (map book_of) (written g c)
     ∙ subst P c.self.view_is
     (map-set book_of items k new
     ∙ ap (set (map book_of items) k) c.answer.ensures.book
-    ∙ ap (λ r. r.books) (sym (received_at c.self.inside.circuits.relays (map part_of items) (delivery c.args.proto c.args.source c.args.now c.args.datagram.now) k x.part (found g c) (its part_of g c) fails (map book_of items) (book_of x) (its book_of g c))))
+    ∙ ap (λ r. r.books) (sym (received_at (topology g c) (asks g c) k x.part (found g c) (there_in g c) fails (map book_of items) (book_of x) (its book_of g c))))
 
 pub returns-clause-fails : goal.returns-clause-fails
 returns-clause-fails g c tells =
@@ -180,10 +187,10 @@ returns-clause-fails g c tells =
     let faults = (g.D.Disk.device c.args.disk.now).fuse in
     let x = asked g c in
     let items = before g c in
-    let P : ServerValue → Type 0 = λ s. fails ≡ fails_at faults (received_saves s.relays (parts_in s) (delivery c.args.proto c.args.source c.args.now c.args.datagram.now) (books_in s)) in
+    let P : ServerValue → Type 0 = λ s. fails ≡ fails_at faults (received_saves s.topology (asks g c) (books_in s)) in
     subst P c.self.view_is
     (c.answer.ensures.fails tells
-    ∙ sym (ap (fails_at faults) (saves_at c.self.inside.circuits.relays (map part_of items) (delivery c.args.proto c.args.source c.args.now c.args.datagram.now) c.index-index.result x.part (found g c) (its part_of g c) (map book_of items) (book_of x) (its book_of g c))))
+    ∙ sym (ap (fails_at faults) (saves_at (topology g c) (asks g c) c.index-index.result x.part (found g c) (there_in g c) (map book_of items) (book_of x) (its book_of g c))))
 
 pub returns-clause-frame : goal.returns-clause-frame
 returns-clause-frame g c =
@@ -191,10 +198,10 @@ returns-clause-frame g c =
     let new = g.D.Disk.device c.answer.new.disk in
     let x = asked g c in
     let items = before g c in
-    let P : ServerValue → Type 0 = λ s. WritesAt g.D.Disk.tells (received_saves s.relays (parts_in s) (delivery c.args.proto c.args.source c.args.now c.args.datagram.now) (books_in s)) old new in
+    let P : ServerValue → Type 0 = λ s. WritesAt g.D.Disk.tells (received_saves s.topology (asks g c) (books_in s)) old new in
     let Q : Option ℕ → Type 0 = λ region. WritesAt g.D.Disk.tells region old new in
     subst P c.self.view_is
-    (subst Q (sym (saves_at c.self.inside.circuits.relays (map part_of items) (delivery c.args.proto c.args.source c.args.now c.args.datagram.now) c.index-index.result x.part (found g c) (its part_of g c) (map book_of items) (book_of x) (its book_of g c)))
+    (subst Q (sym (saves_at (topology g c) (asks g c) c.index-index.result x.part (found g c) (there_in g c) (map book_of items) (book_of x) (its book_of g c)))
     c.answer.ensures.writes)
 
 pub returns-clause-leases : goal.returns-clause-leases
@@ -206,19 +213,19 @@ returns-clause-leases g c tells =
     let items = before g c in
     let k = c.index-index.result in
     let new = server x.part (answered_state g c) in
-    let P : ServerValue → Type 0 = λ s. map (leases_of later) (set items k new) ≡ received_leases s.relays (parts_in s) (delivery c.args.proto c.args.source c.args.now c.args.datagram.now) faults (leases_in regions s) in
+    let P : ServerValue → Type 0 = λ s. map (leases_of later) (set items k new) ≡ received_leases s.topology (asks g c) faults (leases_in regions s) in
     ap (map (leases_of later)) (written g c)
     ∙ subst P c.self.view_is
     (one_moved (leases_of regions) (leases_of later) items k new
     (λ n y there apart. λ i. record { book = book_of y; restarts = restarts_of y.part (c.answer.ensures.frame.region tells y.part.region (elsewhere g c n y there apart) i) })
     ∙ ap (set (map (leases_of regions) items) k) (c.answer.ensures.leases tells)
-    ∙ sym (leases_at c.self.inside.circuits.relays (map part_of items) (delivery c.args.proto c.args.source c.args.now c.args.datagram.now) k x.part (found g c) (its part_of g c) faults (map (leases_of regions) items) (leases_of regions x) (its (leases_of regions) g c)))
+    ∙ sym (leases_at (topology g c) (asks g c) k x.part (found g c) (there_in g c) faults (map (leases_of regions) items) (leases_of regions x) (its (leases_of regions) g c)))
 
 pub returns-clause-ready : goal.returns-clause-ready
 returns-clause-ready g c tells =
     let regions = (g.D.Disk.device c.args.disk.now).region in
     let later = (g.D.Disk.device c.answer.new.disk).region in
-    let was : All (IsReady regions) (before g c) = subst (λ (s : ServerValue). All (IsReady regions) s.circuits) (sym c.self.view_is) (c.requires.ready tells) in
+    let was : All (IsReady regions) (before g c) = subst (λ (s : ServerValue). All (IsReady regions) (circuits_in s)) (sym c.self.view_is) (c.requires.ready tells) in
     subst (All (IsReady later)) (sym (written g c))
     (all_moved (IsReady regions) (IsReady later) (before g c) c.index-index.result (server c.part-part.result.now (answered_state g c)) (c.answer.ensures.ready tells) was
     (λ n y there apart. subst (λ r. IsReadyFor r y.state) (sym (c.answer.ensures.frame.region tells y.part.region (elsewhere g c n y there apart)))))

@@ -3,11 +3,10 @@ use Rattle.std.specs.Prelude.{All, Option}
 use Rattle.std.proofs.lemmas.List.{length-map}
 use Rattle.dispatch.specs.Deadlines.{HoldsDeadlines, swept}
 use Rattle.dispatch.specs.Leases.{after_tick}
-use Rattle.dispatch.specs.ServerValue.{HasItsPools, IsReady, OpenCircuitValue, ServerValue, leases_in, leases_of, parts_in, with_states}
+use Rattle.dispatch.specs.ServerValue.{HasItsPools, IsReady, OpenCircuitValue, ServerValue, circuits_in, leases_in, leases_of, with_states}
 use Rattle.dispatch.specs.Ticked.{state_at}
 use Rattle.dispatch.proofs.DeadlineLemmas.{later_left, same_slots}
 use Rattle.dispatch.proofs.TickLemmas.{all_pools_after_tick, all_ready_after_tick, held_after_tick, leases_after_tick}
-use Rattle.dispatch.proofs.WithStates.{parts_with}
 use Rattle.dispatch.proofs.server.Server.tick.Goals as goal
 
 pub invariant_of-self : goal.invariant_of-self
@@ -16,18 +15,15 @@ invariant_of-self c =
     let states = c.self.inside.servers in
     let left = swept c.args.now c.self.inside.deadlines in (
       record {
-        few = c.self.invariant.0.few;
+        sound = c.self.invariant.0.sound;
         size = ap (λ (xs : List (Option OpenCircuitValue)). length xs) c.tick.ensures ∙ length-map states (state_at c.args.now) ∙ c.self.invariant.0.size;
-        regions = c.self.invariant.0.regions;
         pools = subst (λ xs. All HasItsPools (with_states parts xs)) (sym c.tick.ensures) (all_pools_after_tick c.args.now parts states c.self.invariant.0.pools);
       },
       same_slots left c.sweep.new.self c.tick.new.self c.sweep.ensures.slots (subst (HoldsDeadlines left) (sym c.tick.ensures) (held_after_tick c.args.now c.self.inside.deadlines states c.self.invariant.1)),
     )
 
-pub returns-clause-parts : goal.returns-clause-parts
-returns-clause-parts c =
-    let parts = c.self.inside.circuits.circuits in
-    parts_with parts _ ∙ sym (parts_with parts c.self.inside.servers) ∙ ap parts_in c.self.view_is
+pub returns-clause-topology : goal.returns-clause-topology
+returns-clause-topology c = ap (λ (s : ServerValue). s.topology) c.self.view_is
 
 pub returns-clause-leases : goal.returns-clause-leases
 returns-clause-leases c regions =
@@ -40,7 +36,7 @@ pub returns-clause-ready : goal.returns-clause-ready
 returns-clause-ready c regions ready =
     let parts = c.self.inside.circuits.circuits in
     subst (λ xs. All (IsReady regions) (with_states parts xs)) (sym c.tick.ensures)
-    (all_ready_after_tick c.args.now regions parts c.self.inside.servers (subst (λ (s : ServerValue). All (IsReady regions) s.circuits) (sym c.self.view_is) ready))
+    (all_ready_after_tick c.args.now regions parts c.self.inside.servers (subst (λ (s : ServerValue). All (IsReady regions) (circuits_in s)) (sym c.self.view_is) ready))
 
 pub returns-clause-due : goal.returns-clause-due
 returns-clause-due c n until there = later_left c.args.now c.self.inside.deadlines c.sweep.new.self n until c.sweep.ensures.slots there

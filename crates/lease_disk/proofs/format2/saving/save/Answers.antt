@@ -7,9 +7,9 @@ use Rattle.lease_disk.proofs.format2.saving.save.Goals as goal
 
 pub returns-in_err-close-clause-err : goal.returns-in_err-close-clause-err
 returns-in_err-close-clause-err g c = λ tells counts slots was change.
-    on_err _ (exit_closing c.args.slot (mark_at c.args.marks.now c.args.slot) c.at-at.result c.sequence_after-sequence.result c.args.clock c.args.content.now c.write_half-bytes.result.items (drop 1 c.write_half-bytes.result.items) ((g.D.Disk.device c.args.disk.now).region c.args.region)
+    on_err _ (exit_closing c.args.slot (mark_at c.args.marks.now c.args.slot) c.half_at-at.result c.sequence_after-sequence.result c.args.clock c.args.content.now c.write_half-bytes.result.items (drop 1 c.write_half-bytes.result.items) ((g.D.Disk.device c.args.disk.now).region c.args.region)
     (record {
-      at_is = c.at-at.ensures.place ∙ ap (half_at c.args.slot) c.other-half.ensures;
+      at_is = c.half_at-at.ensures.place ∙ ap (half_at c.args.slot) c.other-half.ensures;
       mark_is = c.requires.mark tells;
       clean = c.requires.clean tells;
       whole_is = c.write_half-bytes.ensures.bytes;
@@ -24,9 +24,9 @@ returns-in_err-close-clause-err g c = λ tells counts slots was change.
 
 pub returns-in_err-write_body-clause-err : goal.returns-in_err-write_body-clause-err
 returns-in_err-write_body-clause-err g c = λ tells counts slots was change.
-    on_err _ (exit_writing c.args.slot (mark_at c.args.marks.now c.args.slot) c.at-at.result c.sequence_after-sequence.result c.args.clock c.args.content.now c.write_half-bytes.result.items _ ((g.D.Disk.device c.args.disk.now).region c.args.region)
+    on_err _ (exit_writing c.args.slot (mark_at c.args.marks.now c.args.slot) c.half_at-at.result c.sequence_after-sequence.result c.args.clock c.args.content.now c.write_half-bytes.result.items _ ((g.D.Disk.device c.args.disk.now).region c.args.region)
     (record {
-      at_is = c.at-at.ensures.place ∙ ap (half_at c.args.slot) c.other-half.ensures;
+      at_is = c.half_at-at.ensures.place ∙ ap (half_at c.args.slot) c.other-half.ensures;
       mark_is = c.requires.mark tells;
       clean = c.requires.clean tells;
       whole_is = c.write_half-bytes.ensures.bytes;
@@ -42,9 +42,9 @@ returns-in_err-write_body-clause-err g c = λ tells counts slots was change.
 
 pub returns-in_err-open_gate-clause-err : goal.returns-in_err-open_gate-clause-err
 returns-in_err-open_gate-clause-err g c = λ tells counts slots was change.
-    on_err _ (exit_opening c.args.slot (mark_at c.args.marks.now c.args.slot) c.at-at.result c.sequence_after-sequence.result c.args.clock c.args.content.now c.write_half-bytes.result.items _ ((g.D.Disk.device c.args.disk.now).region c.args.region)
+    on_err _ (exit_opening c.args.slot (mark_at c.args.marks.now c.args.slot) c.half_at-at.result c.sequence_after-sequence.result c.args.clock c.args.content.now c.write_half-bytes.result.items _ ((g.D.Disk.device c.args.disk.now).region c.args.region)
     (record {
-      at_is = c.at-at.ensures.place ∙ ap (half_at c.args.slot) c.other-half.ensures;
+      at_is = c.half_at-at.ensures.place ∙ ap (half_at c.args.slot) c.other-half.ensures;
       mark_is = c.requires.mark tells;
       clean = c.requires.clean tells;
       whole_is = c.write_half-bytes.ensures.bytes;
@@ -61,9 +61,9 @@ returns-in_err-open_gate-clause-err g c = λ tells counts slots was change.
 
 pub returns-in_err-open_gate-clause-beside : goal.returns-in_err-open_gate-clause-beside
 returns-in_err-open_gate-clause-beside g c = λ tells.
-    exit_beside c.args.slot (mark_at c.args.marks.now c.args.slot) c.at-at.result c.sequence_after-sequence.result c.args.clock c.args.content.now c.write_half-bytes.result.items _ ((g.D.Disk.device c.args.disk.now).region c.args.region)
+    exit_beside c.args.slot (mark_at c.args.marks.now c.args.slot) c.half_at-at.result c.sequence_after-sequence.result c.args.clock c.args.content.now c.write_half-bytes.result.items _ ((g.D.Disk.device c.args.disk.now).region c.args.region)
     (record {
-      at_is = c.at-at.ensures.place ∙ ap (half_at c.args.slot) c.other-half.ensures;
+      at_is = c.half_at-at.ensures.place ∙ ap (half_at c.args.slot) c.other-half.ensures;
       mark_is = c.requires.mark tells;
       clean = c.requires.clean tells;
       whole_is = c.write_half-bytes.ensures.bytes;
@@ -80,9 +80,9 @@ returns-in_err-open_gate-clause-beside g c = λ tells.
 
 pub returns-clause-ok : goal.returns-clause-ok
 returns-clause-ok g c = λ tells counts slots was change.
-    exit_saved c.args.slot (mark_at c.args.marks.now c.args.slot) c.at-at.result c.sequence_after-sequence.result c.args.clock c.args.content.now c.write_half-bytes.result.items _ ((g.D.Disk.device c.args.disk.now).region c.args.region)
+    exit_saved c.args.slot (mark_at c.args.marks.now c.args.slot) c.half_at-at.result c.sequence_after-sequence.result c.args.clock c.args.content.now c.write_half-bytes.result.items _ ((g.D.Disk.device c.args.disk.now).region c.args.region)
     (record {
-      at_is = c.at-at.ensures.place ∙ ap (half_at c.args.slot) c.other-half.ensures;
+      at_is = c.half_at-at.ensures.place ∙ ap (half_at c.args.slot) c.other-half.ensures;
       mark_is = c.requires.mark tells;
       clean = c.requires.clean tells;
       whole_is = c.write_half-bytes.ensures.bytes;
@@ -100,9 +100,9 @@ returns-clause-ok g c = λ tells counts slots was change.
 
 pub returns-clause-bytes : goal.returns-clause-bytes
 returns-clause-bytes g c = λ tells.
-    exit_bytes c.args.slot (mark_at c.args.marks.now c.args.slot) c.at-at.result c.sequence_after-sequence.result c.args.clock c.args.content.now c.write_half-bytes.result.items _ ((g.D.Disk.device c.args.disk.now).region c.args.region)
+    exit_bytes c.args.slot (mark_at c.args.marks.now c.args.slot) c.half_at-at.result c.sequence_after-sequence.result c.args.clock c.args.content.now c.write_half-bytes.result.items _ ((g.D.Disk.device c.args.disk.now).region c.args.region)
     (record {
-      at_is = c.at-at.ensures.place ∙ ap (half_at c.args.slot) c.other-half.ensures;
+      at_is = c.half_at-at.ensures.place ∙ ap (half_at c.args.slot) c.other-half.ensures;
       mark_is = c.requires.mark tells;
       clean = c.requires.clean tells;
       whole_is = c.write_half-bytes.ensures.bytes;
@@ -119,9 +119,9 @@ returns-clause-bytes g c = λ tells.
 
 pub returns-clause-marks : goal.returns-clause-marks
 returns-clause-marks g c = λ tells counts are.
-    exit_marks c.args.slot (mark_at c.args.marks.now c.args.slot) c.at-at.result c.sequence_after-sequence.result c.args.clock c.args.content.now c.write_half-bytes.result.items _ ((g.D.Disk.device c.args.disk.now).region c.args.region)
+    exit_marks c.args.slot (mark_at c.args.marks.now c.args.slot) c.half_at-at.result c.sequence_after-sequence.result c.args.clock c.args.content.now c.write_half-bytes.result.items _ ((g.D.Disk.device c.args.disk.now).region c.args.region)
     (record {
-      at_is = c.at-at.ensures.place ∙ ap (half_at c.args.slot) c.other-half.ensures;
+      at_is = c.half_at-at.ensures.place ∙ ap (half_at c.args.slot) c.other-half.ensures;
       mark_is = c.requires.mark tells;
       clean = c.requires.clean tells;
       whole_is = c.write_half-bytes.ensures.bytes;
@@ -139,9 +139,9 @@ returns-clause-marks g c = λ tells counts are.
 
 pub returns-clause-beside : goal.returns-clause-beside
 returns-clause-beside g c = λ tells.
-    saved_beside c.args.slot (mark_at c.args.marks.now c.args.slot) c.at-at.result c.sequence_after-sequence.result c.args.clock c.args.content.now c.write_half-bytes.result.items _ ((g.D.Disk.device c.args.disk.now).region c.args.region)
+    saved_beside c.args.slot (mark_at c.args.marks.now c.args.slot) c.half_at-at.result c.sequence_after-sequence.result c.args.clock c.args.content.now c.write_half-bytes.result.items _ ((g.D.Disk.device c.args.disk.now).region c.args.region)
     (record {
-      at_is = c.at-at.ensures.place ∙ ap (half_at c.args.slot) c.other-half.ensures;
+      at_is = c.half_at-at.ensures.place ∙ ap (half_at c.args.slot) c.other-half.ensures;
       mark_is = c.requires.mark tells;
       clean = c.requires.clean tells;
       whole_is = c.write_half-bytes.ensures.bytes;

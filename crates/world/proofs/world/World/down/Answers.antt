@@ -1,4 +1,4 @@
-use Rattle.std.proofs.Common.{◌≡◌, ◌<◌, length, refl, sym, ap, subst, ◌∙◌, get_or, arith}
+use Rattle.std.proofs.Common.{◌≡◌, ◌<◌, length, refl, sym, ap, subst, ◌∙◌}
 use Rattle.std.specs.Prelude.{Some, slice_get}
 use Rattle.std.proofs.lemmas.Option.{same_Some, slice_get_within}
 use Rattle.config.specs.CircuitPart.{listen_of}
@@ -11,13 +11,13 @@ use Rattle.world.specs.World.{WorldValue, state_of, states}
 use Rattle.events.specs.declared.outcome.Outcome.{Outcome}
 use Rattle.events.specs.declared.outcome.Outcome.TheVariants as outcome
 use Rattle.world.proofs.StateLemmas.{moves}
-use Rattle.world.proofs.WorldLemmas.{the_circuit, behind_is, whole, each_at, down_gone, down_framed, down_dropped}
+use Rattle.world.proofs.WorldLemmas.{the_circuit, whole, each_at, down_gone, down_framed, down_dropped}
 use Rattle.world.proofs.world.World.down.Goals.{in-Ok, in-Err}
 use Rattle.world.proofs.world.World.down.Goals as goal
 
 pub returns-in_default-clause-moves : goal.returns-in_default-clause-moves
 returns-in_default-clause-moves c =
-    let w : WorldValue = record { relays = c.self.inside.relays; behind = c.self.inside.behind.items; net = c.self.inside.net; server = c.self.inside.server; disk = c.self.inside.disk } in
+    let w : WorldValue = record { relays = c.self.inside.relays; net = c.self.inside.net; server = c.self.inside.server; disk = c.self.inside.disk } in
     let k = c.args.circuit in
     let within = subst (λ (v : WorldValue). k < length v.net.circuits) (sym c.self.view_is) c.requires in
     let the = the_circuit w c.self.invariant k within in
@@ -27,40 +27,31 @@ returns-in_default-clause-moves c =
     (down_gone k w the.part the.leases c.args.number c.clear.new.self (sym c.in_default.ensures) c.clear.ensures)
     )
 
-pub index-relay-requires : goal.index-relay-requires
-index-relay-requires c =
-    let w : WorldValue = record { relays = c.self.inside.relays; behind = c.self.inside.behind.items; net = c.self.inside.net; server = c.self.inside.server; disk = c.self.inside.disk } in
-    let k = c.args.circuit in
-    let within = subst (λ (v : WorldValue). k < length v.net.circuits) (sym c.self.view_is) c.requires in
-    let the = the_circuit w c.self.invariant k within in
-    let b = c.self.invariant.behind k the.part the.there in
-    omega (arith, c.index.ensures.value, slice_get_within w.behind k b.0 b.1, c.self.inside.behind.ok)
-
 pub down-requires : goal.down-requires
 down-requires c =
-    let w : WorldValue = record { relays = c.self.inside.relays; behind = c.self.inside.behind.items; net = c.self.inside.net; server = c.self.inside.server; disk = c.self.inside.disk } in
+    let w : WorldValue = record { relays = c.self.inside.relays; net = c.self.inside.net; server = c.self.inside.server; disk = c.self.inside.disk } in
     let k = c.args.circuit in
     let within = subst (λ (v : WorldValue). k < length v.net.circuits) (sym c.self.view_is) c.requires in
     let is = c.self.invariant in
     let the = the_circuit w is k within in
     let t = w.relays.topology in
-    let relay = c.index-relay.result.now in
-    let here = behind_is w is k the.part the.there relay (c.index-relay.ensures ∙ ap (λ n. get_or w.behind n relay) c.index.ensures.value) in
+    let relay = c.relay_no-relay.result in
+    let here = c.relay_no-relay.ensures the.part the.there in
     slice_get_within t.relays relay the.part.relay here
 
 pub returns-clause-moves : goal.returns-clause-moves
 returns-clause-moves c =
-    let w : WorldValue = record { relays = c.self.inside.relays; behind = c.self.inside.behind.items; net = c.self.inside.net; server = c.self.inside.server; disk = c.self.inside.disk } in
+    let w : WorldValue = record { relays = c.self.inside.relays; net = c.self.inside.net; server = c.self.inside.server; disk = c.self.inside.disk } in
     let k = c.args.circuit in
     let within = subst (λ (v : WorldValue). k < length v.net.circuits) (sym c.self.view_is) c.requires in
     let is = c.self.invariant in
     let the = the_circuit w is k within in
     let t = w.relays.topology in
-    let relay = c.index-relay.result.now in
-    let here = behind_is w is k the.part the.there relay (c.index-relay.ensures ∙ ap (λ n. get_or w.behind n relay) c.index.ensures.value) in
+    let relay = c.relay_no-relay.result in
+    let here = c.relay_no-relay.ensures the.part the.there in
     let d : Datagram = record { proto = c.in-Some.proto; bytes = c.in-Some.datagram.now } in
     let there : slice_get (datagrams w.net k dir.Down) c.args.number ≡ Some d = sym c.in-Some.ensures in
-    let source = c.listen-source.ensures ∙ ap (λ p. listen_of p d.proto) (same_Some c.part.result.now the.part (sym c.part.ensures ∙ the.served)) ∙ is.listens k the.part d.proto the.there in
+    let source = c.listen-source.ensures ∙ ap (λ p. listen_of p d.proto) (same_Some c.part.result.now the.part (sym c.part.ensures ∙ the.served)) ∙ is.sound.listens k the.part d.proto the.there in
     let comes = each_at (Returns t k the.part) (datagrams w.net k dir.Down) c.args.number d (is.returned k the.part the.there) there relay here in
     let result = sym comes ∙ ap (λ s. relayed_down_in t relay s d.bytes) (sym source) in
     let P : WorldValue → Type 0 = λ v. Moves k (Down c.args.number) (states v) (states v) c.match-down.result c.down.new.out in

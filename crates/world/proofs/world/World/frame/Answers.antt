@@ -7,34 +7,34 @@ use Rattle.world.specs.StepsAs.{IsFor, Returns, Moves}
 use Rattle.world.specs.World.{WorldValue, states}
 use Rattle.events.specs.declared.outcome.Outcome.TheVariants as outcome
 use Rattle.world.proofs.StateLemmas.{moves}
-use Rattle.world.proofs.WorldLemmas.{the_circuit, whole, each_sent, each_kept, other_way, still_world, same_circuit, other_count, apart, frame_sent, frame_dropped}
+use Rattle.world.proofs.WorldLemmas.{the_circuit, is_known_at, is_part_at, whole, each_sent, each_kept, other_way, still_world, same_circuit, other_count, apart, frame_sent, frame_dropped}
 use Rattle.world.proofs.world.World.frame.Goals as goal
 
 pub invariant_of-self : goal.invariant_of-self
 invariant_of-self c =
-    let w : WorldValue = record { relays = c.self.inside.relays; behind = c.self.inside.behind.items; net = c.self.inside.net; server = c.self.inside.server; disk = c.self.inside.disk } in
+    let w : WorldValue = record { relays = c.self.inside.relays; net = c.self.inside.net; server = c.self.inside.server; disk = c.self.inside.disk } in
     let new : WorldValue = record w { relays = c.up.new.self; net = c.send.new.self } in
     let is = c.self.invariant in
     let t = w.relays.topology in
     let k = c.args.circuit in
     let d : Datagram = record { proto = c.args.proto; bytes = c.up.new.out } in
-    still_world w new is (ap (λ r. r.topology) c.in-Ok.ensures.kept) refl refl refl c.send.ensures.circuits refl is.ready
+    still_world w new is (ap (λ r. r.topology) c.in-Ok.ensures.kept) refl c.send.ensures.circuits refl is.ready
     (each_sent (IsFor t) t.circuits dir.Up w.net new.net is.addressed k d c.send.ensures.kept (λ n other. c.send.ensures.other_circuits n dir.Up (apart k n other))
-    (λ part there.
-    c.comes_to_its_circuit.ensures t.relays t.circuits k part c.args.proto c.args.frame.now c.up.new.out there (is.ids k part there) (is.known k part there) (is.each k part there)
+    (λ part there now.
+    c.comes_to_its_circuit.ensures t k part c.args.proto now c.args.frame.now c.up.new.out there (is.sound.ids k part there) (is_known_at w is k part there) (is_part_at w is k part there)
     (record { each = λ i. omega (arith, c.type_inv.frame i) }) (c.in-Ok.ensures.ok part there)))
     (each_kept (Returns t) t.circuits dir.Down w.net new.net is.returned
     (other_way k dir.Down w.net new.net c.send.ensures.other_direction (λ n other. c.send.ensures.other_circuits n dir.Down (apart k n other))))
 
 pub invariant_of-self-in-Err : goal.invariant_of-self-in-Err
 invariant_of-self-in-Err c =
-    let w : WorldValue = record { relays = c.self.inside.relays; behind = c.self.inside.behind.items; net = c.self.inside.net; server = c.self.inside.server; disk = c.self.inside.disk } in
+    let w : WorldValue = record { relays = c.self.inside.relays; net = c.self.inside.net; server = c.self.inside.server; disk = c.self.inside.disk } in
     let new : WorldValue = record w { relays = c.up.new.self } in
-    still_world w new c.self.invariant (ap (λ r. r.topology) c.in-Err.ensures.counted) refl refl refl refl refl c.self.invariant.ready c.self.invariant.addressed c.self.invariant.returned
+    still_world w new c.self.invariant (ap (λ r. r.topology) c.in-Err.ensures.counted) refl refl refl c.self.invariant.ready c.self.invariant.addressed c.self.invariant.returned
 
 pub returns-in-Ok-clause-moves : goal.returns-in-Ok-clause-moves
 returns-in-Ok-clause-moves c =
-    let w : WorldValue = record { relays = c.self.inside.relays; behind = c.self.inside.behind.items; net = c.self.inside.net; server = c.self.inside.server; disk = c.self.inside.disk } in
+    let w : WorldValue = record { relays = c.self.inside.relays; net = c.self.inside.net; server = c.self.inside.server; disk = c.self.inside.disk } in
     let new : WorldValue = record w { relays = c.up.new.self; net = c.send.new.self } in
     let k = c.args.circuit in
     let within = subst (λ (v : WorldValue). k < length v.net.circuits) (sym c.self.view_is) c.requires in
@@ -51,7 +51,7 @@ returns-in-Ok-clause-moves c =
 
 pub returns-in-Err-clause-moves : goal.returns-in-Err-clause-moves
 returns-in-Err-clause-moves c =
-    let w : WorldValue = record { relays = c.self.inside.relays; behind = c.self.inside.behind.items; net = c.self.inside.net; server = c.self.inside.server; disk = c.self.inside.disk } in
+    let w : WorldValue = record { relays = c.self.inside.relays; net = c.self.inside.net; server = c.self.inside.server; disk = c.self.inside.disk } in
     let new : WorldValue = record w { relays = c.up.new.self } in
     let k = c.args.circuit in
     let within = subst (λ (v : WorldValue). k < length v.net.circuits) (sym c.self.view_is) c.requires in

@@ -6,15 +6,15 @@ use Rattle.world.proofs.world.World.open.Goals as goal
 
 pub invariant_of-result : goal.invariant_of-result
 invariant_of-result c =
-    let w : WorldValue = record { relays = c.in-Ok.relays; behind = c.in-Ok-relay_indexes.behind.items; net = c.in-Ok-new.net; server = c.in-Ok-open.server; disk = c.open.new.disk } in
-    opens c.args.config.now c.args.quota w c.circuit_count.ensures.sound c.in-Ok-open.ensures.sound c.in-Ok.ensures.topology c.in-Ok-relay_indexes.ensures c.in-Ok-open.ensures.relays
-    c.in-Ok-open.ensures.parts (disk.state_of c.args.disk) (c.in-Ok-open.ensures.leases refl) c.requires.synced c.in-Ok-open.ensures.large c.in-Ok-open.ensures.differ (c.in-Ok-open.ensures.ready refl)
+    let w : WorldValue = record { relays = c.in-Ok.relays; net = c.in-Ok-new.net; server = c.in-Ok-open.server; disk = c.open.new.disk } in
+    opens c.args.config.now c.args.quota w c.in-Ok.ensures.sound c.in-Ok.ensures.topology c.in-Ok-open.ensures.topology
+    (disk.device_of c.args.disk) (c.in-Ok-open.ensures.leases refl) c.requires.synced c.in-Ok-open.ensures.large (c.in-Ok-open.ensures.ready refl)
     (c.in-Ok-new.ensures.circuits ∙ c.circuit_count.ensures.value) c.in-Ok-new.ensures.empty
 
 pub returns-clause-starts : goal.returns-clause-starts
 returns-clause-starts c =
-    let w : WorldValue = record { relays = c.in-Ok.relays; behind = c.in-Ok-relay_indexes.behind.items; net = c.in-Ok-new.net; server = c.in-Ok-open.server; disk = c.open.new.disk } in
-    starts c.args.config.now c.args.quota w c.circuit_count.ensures.sound c.in-Ok-open.ensures.sound c.in-Ok.ensures.topology c.in-Ok-relay_indexes.ensures c.in-Ok-open.ensures.relays
-    c.in-Ok-open.ensures.parts (disk.state_of c.args.disk) (c.in-Ok-open.ensures.leases refl) c.requires.synced c.in-Ok-open.ensures.large c.in-Ok-open.ensures.differ (c.in-Ok-open.ensures.ready refl)
+    let w : WorldValue = record { relays = c.in-Ok.relays; net = c.in-Ok-new.net; server = c.in-Ok-open.server; disk = c.open.new.disk } in
+    starts c.args.config.now c.args.quota w c.in-Ok.ensures.sound c.in-Ok.ensures.topology c.in-Ok-open.ensures.topology
+    (disk.device_of c.args.disk) (c.in-Ok-open.ensures.leases refl) c.requires.synced c.in-Ok-open.ensures.large (c.in-Ok-open.ensures.ready refl)
     (c.in-Ok-new.ensures.circuits ∙ c.circuit_count.ensures.value) c.in-Ok-new.ensures.empty
     (c.in-Ok-new.ensures.quota ∙ c.from.ensures)

@@ -11,7 +11,7 @@ unreachable-requires c =
 
 pub returns-clause-outcome : goal.returns-clause-outcome
 returns-clause-outcome c =
-    let w : WorldValue = record { relays = c.self.inside.relays; behind = c.self.inside.behind.items; net = c.self.inside.net; server = c.self.inside.server; disk = c.self.inside.disk } in
+    let w : WorldValue = record { relays = c.self.inside.relays; net = c.self.inside.net; server = c.self.inside.server; disk = c.self.inside.disk } in
     let t = w.relays.topology in
     let P : WorldValue → Type 0 = λ v. outcome.Dropped c.in-Err.why ≡ stray_down_outcome v.relays.topology c.args.relay c.args.source in
     subst P c.self.view_is (

@@ -3,13 +3,13 @@ use Rattle.std.specs.Prelude.{Result, slice_get}
 use Rattle.types.specs.declared.discard.Discard.{Discard}
 use Rattle.dispatch.specs.Received.{IsAnswer}
 use Rattle.config.specs.CircuitPart.{CircuitPart}
+use Rattle.config.specs.Topology.{Topology}
 use Rattle.dispatch.specs.Leases.{after_datagram}
-use Rattle.dispatch.specs.ServerValue.{AreReady, leases_in, parts_in}
+use Rattle.dispatch.specs.ServerValue.{AreReady, leases_in}
 use Rattle.lease_disk.specs.Model as disk
 use Rattle.lease_disk.specs.Region.{Region}
 use Rattle.lossy_net.specs.Net.{Datagram}
 use Rattle.lossy_net.specs.declared.dir.Dir.TheVariants as dir
-use Rattle.relay.specs.Relays.{relayed_down_in}
 use Rattle.world.specs.Alone.{delivery_of}
 use Rattle.world.specs.Headline.{KeepsSpares}
 use Rattle.events.specs.Seen.{Up}
@@ -19,24 +19,24 @@ use Rattle.events.specs.declared.outcome.Outcome.TheVariants as outcome
 use Rattle.lease_disk.proofs.Frames.{writes_count}
 use Rattle.world.proofs.ShownLemmas.{its_answer, its_fails, reply_of}
 use Rattle.world.proofs.StateLemmas.{moves}
-use Rattle.world.proofs.WorldLemmas.{TheCircuit, IsServed, all_at, beside_up, elsewhere, quiet_up, the_circuit, is_served, is_reply, whole, each_sent, each_kept, has_regions, other_way, state_stays, still_world, same_circuit, apart, spares_beside, spares_stay, up_gone, up_sent, up_dropped}
+use Rattle.world.proofs.WorldLemmas.{TheCircuit, IsServed, all_at, beside_up, elsewhere, quiet_up, the_circuit, is_part_at, is_served, is_reply, whole, each_sent, each_kept, has_regions, other_way, state_stays, still_world, same_circuit, apart, spares_beside, spares_stay, up_gone, up_sent, up_dropped}
 use Rattle.world.proofs.world.World.up.Goals as goal
 
 pub receive-result-requires-clause-ready : goal.receive-result-requires-clause-ready
 receive-result-requires-clause-ready c = λ tells.
-    let w : WorldValue = record { relays = c.self.inside.relays; behind = c.self.inside.behind.items; net = c.self.inside.net; server = c.self.inside.server; disk = c.self.inside.disk } in
+    let w : WorldValue = record { relays = c.self.inside.relays; net = c.self.inside.net; server = c.self.inside.server; disk = c.self.inside.disk } in
     let stays = state_stays c.region-region.result w.disk c.fail_at.new.self c.fail_at.ensures.state c.fail_at.ensures.others in
     subst (λ regions. AreReady regions w.server) (sym stays) c.self.invariant.ready
 
 pub fail_at-requires-2 : goal.fail_at-requires-2
 fail_at-requires-2 c =
-    let w : WorldValue = record { relays = c.self.inside.relays; behind = c.self.inside.behind.items; net = c.self.inside.net; server = c.self.inside.server; disk = c.self.inside.disk } in
-    let own = all_at (λ (part : CircuitPart). part.region < length w.disk.regions) (parts_in w.server) c.args.circuit c.part-part.result.now (has_regions w c.self.invariant) c.part-part.ensures in
+    let w : WorldValue = record { relays = c.self.inside.relays; net = c.self.inside.net; server = c.self.inside.server; disk = c.self.inside.disk } in
+    let own = all_at (λ (part : CircuitPart). part.region < length w.disk.regions) w.server.topology.circuits c.args.circuit c.part-part.result.now (has_regions w c.self.invariant) c.part-part.ensures in
     omega (arith, own, c.region-region.ensures, c.fail_at.ensures.others.count, (writes_count true _ (disk.device_of c.fail_at.new.self) (disk.device_of c.receive-result.new.disk) c.receive-result.ensures.frame))
 
 pub returns-in_default-clause-moves : goal.returns-in_default-clause-moves
 returns-in_default-clause-moves c =
-    let w : WorldValue = record { relays = c.self.inside.relays; behind = c.self.inside.behind.items; net = c.self.inside.net; server = c.self.inside.server; disk = c.self.inside.disk } in
+    let w : WorldValue = record { relays = c.self.inside.relays; net = c.self.inside.net; server = c.self.inside.server; disk = c.self.inside.disk } in
     let k = c.args.circuit in
     let within = subst (λ (v : WorldValue). k < length v.net.circuits) (sym c.self.view_is) c.requires in
     let the = the_circuit w c.self.invariant k within in
@@ -48,7 +48,7 @@ returns-in_default-clause-moves c =
 
 pub invariant_of-self : goal.invariant_of-self
 invariant_of-self c =
-    let w : WorldValue = record { relays = c.self.inside.relays; behind = c.self.inside.behind.items; net = c.self.inside.net; server = c.self.inside.server; disk = c.self.inside.disk } in
+    let w : WorldValue = record { relays = c.self.inside.relays; net = c.self.inside.net; server = c.self.inside.server; disk = c.self.inside.disk } in
     let new : WorldValue = record w { net = c.send.new.self; server = c.receive-result.new.self; disk = c.fail_at-2.new.self } in
     let k = c.args.circuit in
     let within = subst (λ (v : WorldValue). k < length v.net.circuits) (sym c.self.view_is) c.requires in
@@ -66,22 +66,23 @@ invariant_of-self c =
     λ known. is_served w is k known c.args.number d c.args.now c.args.fault c.relay-source.result c.part-part.result.now (sym c.in-Some.ensures) c.part-part.ensures c.relay-source.ensures
     (disk.state_of c.fail_at.new.self) (disk.fuse_of c.fail_at.new.self) before fuse c.receive-result.result sent.bytes _ (leases_in (disk.state_of new.disk) new.server)
     (c.receive-result.ensures.fails refl) c.receive-result.ensures.answer (ap (λ regions. leases_in regions new.server) after ∙ c.receive-result.ensures.leases refl) in
-    still_world w new is refl refl c.receive-result.ensures.parts c.receive-result.ensures.relays c.send.ensures.circuits count
+    still_world w new is refl c.receive-result.ensures.topology c.send.ensures.circuits count
     (subst (λ regions. AreReady regions new.server) (sym after) (c.receive-result.ensures.ready refl))
     (each_kept (IsFor t) t.circuits dir.Up w.net new.net is.addressed
     (other_way k dir.Up w.net new.net c.send.ensures.other_direction (λ n other. c.send.ensures.other_circuits n dir.Up (apart k n other))))
     (each_sent (Returns t) t.circuits dir.Down w.net new.net is.returned k sent c.send.ensures.kept (λ n other. c.send.ensures.other_circuits n dir.Down (apart k n other))
-    (λ part there relay behind.
-    let known : TheCircuit w k = record { part = part; leases = the.leases; there = there; served = ap (λ xs. slice_get xs k) is.parts ∙ there; its = the.its; book = the.book } in
+    (λ part there relay its.
+    let known : TheCircuit w k = record { part = part; leases = the.leases; there = there; served = ap (λ (t : Topology). slice_get t.circuits k) is.served ∙ there; its = the.its; book = the.book } in
     let r = done known in
     let answer = its_answer part (delivery_of part c.args.now d) c.args.fault known.leases.book in
     let P : Result (Unit {0}) Discard → Type 0 = λ result. IsAnswer answer result sent.bytes in
     let reply = reply_of part (delivery_of part c.args.now d) (its_fails part (delivery_of part c.args.now d) c.args.fault known.leases.book) known.leases.book sent.bytes (is_reply answer sent.bytes (subst P c.in-Ok.is r.answer)) in
-    c.reply_comes_to_its_circuit.ensures t relay k part (delivery_of part c.args.now d) sent.bytes reply.book there (is.ids k part there) behind (is.each k part there) c.are_bytes.ensures r.found reply.answer (λ six. record { apart = is.apart; short = c.len-len.ensures.fits })))
+    c.reply_comes_to_its_circuit.ensures t relay k part (delivery_of part c.args.now d) sent.bytes reply.book there (is.sound.ids k part there) its (is_part_at w is k part there) c.are_bytes.ensures r.found reply.answer
+    (λ six. record { apart = is.sound.listens_differ; short = c.len-len.ensures.fits })))
 
 pub returns-in-Ok-clause-moves : goal.returns-in-Ok-clause-moves
 returns-in-Ok-clause-moves c =
-    let w : WorldValue = record { relays = c.self.inside.relays; behind = c.self.inside.behind.items; net = c.self.inside.net; server = c.self.inside.server; disk = c.self.inside.disk } in
+    let w : WorldValue = record { relays = c.self.inside.relays; net = c.self.inside.net; server = c.self.inside.server; disk = c.self.inside.disk } in
     let new : WorldValue = record w { net = c.send.new.self; server = c.receive-result.new.self; disk = c.fail_at-2.new.self } in
     let k = c.args.circuit in
     let within = subst (λ (v : WorldValue). k < length v.net.circuits) (sym c.self.view_is) c.requires in
@@ -101,7 +102,7 @@ returns-in-Ok-clause-moves c =
     let P : WorldValue → Type 0 = λ v. Moves k (Up c.args.number c.args.now c.args.fault) (states v) (states new) (outcome.SentDown c.len-len.result) c.clear-in-Ok.new.self in
     subst P c.self.view_is (
     moves k (Up c.args.number c.args.now c.args.fault) w new the.part the.leases (after_datagram the.part (delivery_of the.part c.args.now d) c.args.fault the.leases) (outcome.SentDown c.len-len.result) c.clear-in-Ok.new.self
-    c.receive-result.ensures.parts (whole w) r.size the.served the.its r.leases r.others
+    (ap (λ (t : Topology). t.circuits) c.receive-result.ensures.topology) (whole w) r.size the.served the.its r.leases r.others
     (λ n other p l there. same_circuit w new n p l c.send.ensures.quota (c.send.ensures.other_circuits n dir.Up (apart k n other)) (c.send.ensures.other_circuits n dir.Down (apart k n other)) refl
     (beside.region p.region (elsewhere w c.self.invariant k n c.part-part.result.now p c.part-part.ensures there other region c.region-region.ensures)) (beside.fuse p.region (elsewhere w c.self.invariant k n c.part-part.result.now p c.part-part.ensures there other region c.region-region.ensures)))
     (up_sent k w new the.part the.leases c.args.number c.args.now c.args.fault d c.receive-result.result c.receive-result.new.out (sym c.in-Some.ensures) r.answer c.send.ensures.quota c.send.ensures.other_direction
@@ -111,17 +112,17 @@ returns-in-Ok-clause-moves c =
 
 pub invariant_of-self-in-Err : goal.invariant_of-self-in-Err
 invariant_of-self-in-Err c =
-    let w : WorldValue = record { relays = c.self.inside.relays; behind = c.self.inside.behind.items; net = c.self.inside.net; server = c.self.inside.server; disk = c.self.inside.disk } in
+    let w : WorldValue = record { relays = c.self.inside.relays; net = c.self.inside.net; server = c.self.inside.server; disk = c.self.inside.disk } in
     let new : WorldValue = record w { server = c.receive-result.new.self; disk = c.fail_at-2.new.self } in
     let is = c.self.invariant in
     let after = state_stays c.region-region.result c.receive-result.new.disk c.fail_at-2.new.self c.fail_at-2.ensures.state c.fail_at-2.ensures.others in
     let count = c.fail_at-2.ensures.others.count ∙ (writes_count true _ (disk.device_of c.fail_at.new.self) (disk.device_of c.receive-result.new.disk) c.receive-result.ensures.frame) ∙ c.fail_at.ensures.others.count in
-    still_world w new is refl refl c.receive-result.ensures.parts c.receive-result.ensures.relays refl count
+    still_world w new is refl c.receive-result.ensures.topology refl count
     (subst (λ regions. AreReady regions new.server) (sym after) (c.receive-result.ensures.ready refl)) is.addressed is.returned
 
 pub returns-in-Err-clause-moves : goal.returns-in-Err-clause-moves
 returns-in-Err-clause-moves c =
-    let w : WorldValue = record { relays = c.self.inside.relays; behind = c.self.inside.behind.items; net = c.self.inside.net; server = c.self.inside.server; disk = c.self.inside.disk } in
+    let w : WorldValue = record { relays = c.self.inside.relays; net = c.self.inside.net; server = c.self.inside.server; disk = c.self.inside.disk } in
     let new : WorldValue = record w { server = c.receive-result.new.self; disk = c.fail_at-2.new.self } in
     let k = c.args.circuit in
     let within = subst (λ (v : WorldValue). k < length v.net.circuits) (sym c.self.view_is) c.requires in
@@ -141,7 +142,7 @@ returns-in-Err-clause-moves c =
     let P : WorldValue → Type 0 = λ v. Moves k (Up c.args.number c.args.now c.args.fault) (states v) (states new) (outcome.Dropped c.in-Err.why) c.receive-result.new.out in
     subst P c.self.view_is (
     moves k (Up c.args.number c.args.now c.args.fault) w new the.part the.leases (after_datagram the.part (delivery_of the.part c.args.now d) c.args.fault the.leases) (outcome.Dropped c.in-Err.why) c.receive-result.new.out
-    c.receive-result.ensures.parts (whole w) r.size the.served the.its r.leases r.others
+    (ap (λ (t : Topology). t.circuits) c.receive-result.ensures.topology) (whole w) r.size the.served the.its r.leases r.others
     (λ n other p l there. same_circuit w new n p l refl refl refl refl (beside.region p.region (elsewhere w c.self.invariant k n c.part-part.result.now p c.part-part.ensures there other region c.region-region.ensures))
     (beside.fuse p.region (elsewhere w c.self.invariant k n c.part-part.result.now p c.part-part.ensures there other region c.region-region.ensures)))
     (up_dropped k w new the.part the.leases c.args.number c.args.now c.args.fault d c.receive-result.result c.receive-result.new.out (sym c.in-Some.ensures) r.answer refl refl
@@ -155,7 +156,7 @@ returns-in_default-clause-spares c =
 
 pub returns-in-Ok-clause-spares : goal.returns-in-Ok-clause-spares
 returns-in-Ok-clause-spares c =
-    let w : WorldValue = record { relays = c.self.inside.relays; behind = c.self.inside.behind.items; net = c.self.inside.net; server = c.self.inside.server; disk = c.self.inside.disk } in
+    let w : WorldValue = record { relays = c.self.inside.relays; net = c.self.inside.net; server = c.self.inside.server; disk = c.self.inside.disk } in
     let k = c.args.circuit in
     let within = subst (λ (v : WorldValue). k < length v.net.circuits) (sym c.self.view_is) c.requires in
     let is = c.self.invariant in
@@ -168,11 +169,11 @@ returns-in-Ok-clause-spares c =
     let P : WorldValue → Type 0 = λ v. KeepsSpares v.relays.topology.circuits (disk.device_of v.disk) (disk.device_of c.fail_at-2.new.self) in
     subst P c.self.view_is
     (spares_beside w.relays.topology.circuits region (disk.device_of w.disk) (disk.device_of c.fail_at-2.new.self) k given
-    (ap (λ xs. slice_get xs k) (sym is.parts) ∙ c.part-part.ensures) (sym c.region-region.ensures) beside)
+    (ap (λ (t : Topology). slice_get t.circuits k) (sym is.served) ∙ c.part-part.ensures) (sym c.region-region.ensures) beside)
 
 pub returns-in-Err-clause-spares : goal.returns-in-Err-clause-spares
 returns-in-Err-clause-spares c =
-    let w : WorldValue = record { relays = c.self.inside.relays; behind = c.self.inside.behind.items; net = c.self.inside.net; server = c.self.inside.server; disk = c.self.inside.disk } in
+    let w : WorldValue = record { relays = c.self.inside.relays; net = c.self.inside.net; server = c.self.inside.server; disk = c.self.inside.disk } in
     let k = c.args.circuit in
     let within = subst (λ (v : WorldValue). k < length v.net.circuits) (sym c.self.view_is) c.requires in
     let is = c.self.invariant in
@@ -185,4 +186,4 @@ returns-in-Err-clause-spares c =
     let P : WorldValue → Type 0 = λ v. KeepsSpares v.relays.topology.circuits (disk.device_of v.disk) (disk.device_of c.fail_at-2.new.self) in
     subst P c.self.view_is
     (spares_beside w.relays.topology.circuits region (disk.device_of w.disk) (disk.device_of c.fail_at-2.new.self) k given
-    (ap (λ xs. slice_get xs k) (sym is.parts) ∙ c.part-part.ensures) (sym c.region-region.ensures) beside)
+    (ap (λ (t : Topology). slice_get t.circuits k) (sym is.served) ∙ c.part-part.ensures) (sym c.region-region.ensures) beside)

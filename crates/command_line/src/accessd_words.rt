@@ -1,0 +1,168 @@
+//! The command line of `accessd`.
+ghost use Rattle.std.specs.Prelude.{◌≡◌, ◌↔◌, ℕ, Bool, List, Some, false, true, codes, map};
+ghost use Rattle.std.specs.Prelude.{string_bytes, IfOk, IfErr, IfSome, IsNone};
+ghost use Rattle.clap.specs.Words.{app_of, rule_of, found_of, first_value, rows_of};
+ghost use Rattle.command_line.specs.CommandLine.{IsRefused};
+ghost use Rattle.command_line.specs.AccessdWords.{disk_rule, format_rule, pause_rule, port_rule, turns_rule};
+ghost use Rattle.command_line.specs.AccessdWords.{bare_app, access_app, HasValues, Spells, SpellsSomething};
+
+use crate::arguments::{config_arg, is_set, number};
+use crate::refusal::Refusal;
+use clap::{Arg, ArgAction, ArgMatches, Command};
+use std::alloc::{AllocError, Global};
+
+const MAX_TURNS: u32 = 1_000_000;
+
+const MIN_PORT: u32 = 1024;
+
+const MAX_PORT: u32 = 65472;
+
+const MAX_PAUSE: u32 = 1000;
+
+/// The values of the words after the program's name.
+#[derive(Clone, Copy, Debug, PartialEq, Eq)]
+pub struct AccessWords<'a> {
+    /// The path of the configuration.
+    pub config: &'a str,
+    /// The path of the file in which the leases are kept.
+    pub disk: &'a str,
+    /// How many turns the program makes, 1 to 1000000.
+    pub turns: u32,
+    /// Whether every configured region is formatted first.
+    pub format: bool,
+    /// The first port of the first circuit, 1024 to 65472.
+    pub port: u16,
+    /// How long the program sleeps after a turn that took no datagram, in milliseconds, 0 to 1000.
+    pub pause: u16,
+}
+
+fn disk_arg<'a>(alloc: Global) -> Arg<'a>
+    ensures rule { rule_of result ≡ disk_rule }
+    ensures local { result.global ≡ false }
+{
+    Arg::new(alloc, "disk")
+        .long("disk")
+        .value_name("FILE")
+        .action(ArgAction::Set)
+        .required(true)
+        .help("The file in which the leases are kept")
+}
+
+fn turns_arg<'a>(alloc: Global) -> Arg<'a>
+    ensures rule { rule_of result ≡ turns_rule }
+    ensures local { result.global ≡ false }
+{
+    Arg::new(alloc, "turns")
+        .long("turns")
+        .value_name("N")
+        .action(ArgAction::Set)
+        .required(true)
+        .value_parser(clap::value_parser!(u32).range(1..=i64::from(MAX_TURNS)))
+        .help("How many turns to make, 1 to 1000000; a turn tries each socket once")
+}
+
+fn format_arg<'a>(alloc: Global) -> Arg<'a>
+    ensures rule { rule_of result ≡ format_rule }
+    ensures local { result.global ≡ false }
+{
+    Arg::new(alloc, "format")
+        .long("format")
+        .action(ArgAction::SetTrue)
+        .help("Make the file and format every configured region first; leases in it are lost")
+}
+
+fn port_arg<'a>(alloc: Global) -> Arg<'a>
+    ensures rule { rule_of result ≡ port_rule }
+    ensures local { result.global ≡ false }
+{
+    Arg::new(alloc, "port")
+        .long("port")
+        .value_name("P")
+        .action(ArgAction::Set)
+        .value_parser(clap::value_parser!(u16).range(i64::from(MIN_PORT)..=i64::from(MAX_PORT)))
+        .default_value("20000")
+        .help("The first port of the first circuit, 1024 to 65472")
+}
+
+fn pause_arg<'a>(alloc: Global) -> Arg<'a>
+    ensures rule { rule_of result ≡ pause_rule }
+    ensures local { result.global ≡ false }
+{
+    Arg::new(alloc, "pause")
+        .long("pause")
+        .value_name("MS")
+        .action(ArgAction::Set)
+        .value_parser(clap::value_parser!(u16).range(0..=i64::from(MAX_PAUSE)))
+        .default_value("0")
+        .help("How many milliseconds to sleep after a turn that took nothing, 0 to 1000")
+}
+
+fn named<'a>(alloc: Global) -> Command<'a>
+    ensures { app_of result ≡ bare_app }
+{
+    Command::new(alloc, "accessd")
+        .no_binary_name(true)
+        .version("0.1.0")
+        .about("Relays and serves DHCP for circuits, each of which is four UDP ports on 127.0.0.1")
+        .after_help(
+            "Example:\n  accessd examples/one_circuit.toml --disk leases --format --turns 100000",
+        )
+}
+
+fn command<'a>(alloc: Global) -> Result<Command<'a>, AllocError>
+    ensures { IfOk result (λ command. app_of command ≡ access_app) }
+{
+    let config = config_arg(alloc);
+    let disk = disk_arg(alloc);
+    let turns = turns_arg(alloc);
+    let format = format_arg(alloc);
+    let port = port_arg(alloc);
+    let pause = pause_arg(alloc);
+    let with_config = named(alloc).arg(config)?;
+    let with_disk = with_config.arg(disk)?;
+    let with_turns = with_disk.arg(turns)?;
+    let with_format = with_turns.arg(format)?;
+    let with_port = with_format.arg(port)?;
+    with_port.arg(pause)
+}
+
+/// The values that clap has read, where all are there and within their limits.
+fn values<'a>(matches: ArgMatches<'a>) -> Option<AccessWords<'a>>
+    ensures some { IfSome result (λ values. HasValues (rows_of (found_of matches.entry)) values.config.now values.disk.now values.turns values.format values.port values.pause) }
+    ensures none { IsNone result → (config disk : List ℕ) (turns : ℕ) (format : Bool) (port pause : ℕ) → ¬ HasValues (rows_of (found_of matches.entry)) config disk turns format port pause }
+{
+    let config = matches.get_str("CONFIG")?;
+    let disk = matches.get_str("disk")?;
+    let turns = number(&matches, "turns", 1, MAX_TURNS)?;
+    let format = is_set(&matches, "format");
+    let port = number(&matches, "port", MIN_PORT, MAX_PORT)?;
+    let port = u16::try_from(port).ok()?;
+    let pause = number(&matches, "pause", 0, MAX_PAUSE)?;
+    let pause = u16::try_from(pause).ok()?;
+    Some(AccessWords {
+        config,
+        disk,
+        turns,
+        format,
+        port,
+        pause,
+    })
+}
+
+/// The values of the words after the program's name.
+pub fn words<'a>(alloc: Global, words: &'a [String]) -> Result<AccessWords<'a>, Refusal>
+    ensures values { IfOk result (λ values. Spells (map string_bytes words.entry.now) values.config.now values.disk.now values.turns values.format values.port values.pause) }
+    ensures refused { IfErr result (IsRefused access_app SpellsSomething (map string_bytes words.entry.now)) }
+{
+    let Ok(command) = command(alloc) else {
+        return Err(Refusal::Memory);
+    };
+    let matches = match command.try_get_matches_from(words) {
+        Ok(matches) => matches,
+        Err(error) => return Err(Refusal::Usage(error)),
+    };
+    match values(matches) {
+        Some(values) => Ok(values),
+        None => Err(Refusal::BadValue),
+    }
+}

@@ -1,0 +1,75 @@
+//! The command line of `accesslab`.
+ghost use Rattle.std.specs.Prelude.{◌≡◌, false, map, string_bytes, IfOk, IfErr};
+ghost use Rattle.clap.specs.Words.{app_of, rule_of};
+ghost use Rattle.command_line.specs.CommandLine.{IsRefused};
+ghost use Rattle.command_line.specs.AccesslabWords.{quota_rule, bare_app, lab_app, Spells, SpellsSomething};
+
+use crate::arguments::{config_arg, number};
+use crate::refusal::Refusal;
+use clap::{Arg, ArgAction, Command};
+use std::alloc::{AllocError, Global};
+
+const MAX_QUOTA: u32 = 256;
+
+/// The values of the words after the program's name.
+#[derive(Clone, Copy, Debug)]
+pub struct LabWords<'a> {
+    /// The path of the configuration.
+    pub config: &'a str,
+    /// How many datagrams of a circuit the network keeps in each direction, 1 to 256.
+    pub quota: u16,
+}
+
+fn quota_arg<'a>(alloc: Global) -> Arg<'a>
+    ensures rule { rule_of result ≡ quota_rule }
+    ensures local { result.global ≡ false }
+{
+    Arg::new(alloc, "quota")
+        .long("quota")
+        .action(ArgAction::Set)
+        .value_parser(clap::value_parser!(u16).range(1..=i64::from(MAX_QUOTA)))
+        .default_value("16")
+        .help("How many datagrams of a circuit the network keeps in each direction")
+}
+
+fn named<'a>(alloc: Global) -> Command<'a>
+    ensures { app_of result ≡ bare_app }
+{
+    Command::new(alloc, "accesslab")
+        .no_binary_name(true)
+        .version("0.1.0")
+        .about("Reads events from standard input, one per line, and writes the outcome of each")
+}
+
+fn command<'a>(alloc: Global) -> Result<Command<'a>, AllocError>
+    ensures { IfOk result (λ command. app_of command ≡ lab_app) }
+{
+    let config = config_arg(alloc);
+    let quota = quota_arg(alloc);
+    let first = named(alloc).arg(config)?;
+    first.arg(quota)
+}
+
+/// The values of the words after the program's name.
+pub fn words<'a>(alloc: Global, words: &'a [String]) -> Result<LabWords<'a>, Refusal>
+    ensures values { IfOk result (λ values. Spells (map string_bytes words.entry.now) values.config.now values.quota) }
+    ensures refused { IfErr result (IsRefused lab_app SpellsSomething (map string_bytes words.entry.now)) }
+{
+    let Ok(command) = command(alloc) else {
+        return Err(Refusal::Memory);
+    };
+    let matches = match command.try_get_matches_from(words) {
+        Ok(matches) => matches,
+        Err(error) => return Err(Refusal::Usage(error)),
+    };
+    let Some(config) = matches.get_str("CONFIG") else {
+        return Err(Refusal::BadValue);
+    };
+    let Some(quota) = number(&matches, "quota", 1, MAX_QUOTA) else {
+        return Err(Refusal::BadValue);
+    };
+    let Ok(quota) = u16::try_from(quota) else {
+        return Err(Refusal::BadValue);
+    };
+    Ok(LabWords { config, quota })
+}

@@ -1,0 +1,146 @@
+//! The command line of `leases`.
+ghost use Rattle.std.specs.Prelude.{◌≡◌, ◌≤◌, ◌↔◌, ℕ, Bool, List, Option, Some, true, false, codes, map};
+ghost use Rattle.std.specs.Prelude.{string_bytes, IfOk, IfErr, IfSome, IsNone};
+ghost use Rattle.clap.specs.Words.{app_of, rule_of, found_of, first_value, rows_of};
+ghost use Rattle.command_line.specs.CommandLine.{IsRefused};
+ghost use Rattle.command_line.specs.LeasesWords.{at_rule, disk_rule, json_rule};
+ghost use Rattle.command_line.specs.LeasesWords.{bare_app, leases_app, HasValues, IsMoment, Spells, SpellsSomething};
+
+use crate::arguments::{config_arg, is_set};
+use crate::refusal::Refusal;
+use clap::{Arg, ArgAction, ArgMatches, Command};
+use std::alloc::{AllocError, Global};
+use types::LAST_MOMENT;
+
+/// The values of the words after the program's name.
+#[derive(Clone, Copy, Debug, PartialEq, Eq)]
+pub struct LeaseWords<'a> {
+    /// The path of the configuration.
+    pub config: &'a str,
+    /// The path of the file in which the leases are kept.
+    pub disk: &'a str,
+    /// The moment at which the leases are listed, in seconds, 0 to 1099511627775; now where there is none.
+    pub at: Option<u64>,
+    /// Whether each line is JSON.
+    pub json: bool,
+}
+
+fn disk_arg<'a>(alloc: Global) -> Arg<'a>
+    ensures rule { rule_of result ≡ disk_rule }
+    ensures local { result.global ≡ false }
+{
+    Arg::new(alloc, "disk")
+        .long("disk")
+        .value_name("FILE")
+        .action(ArgAction::Set)
+        .required(true)
+        .help("The file in which `accessd` keeps the leases; it is only read")
+}
+
+fn at_arg<'a>(alloc: Global) -> Arg<'a>
+    ensures rule { rule_of result ≡ at_rule }
+    ensures local { result.global ≡ false }
+{
+    Arg::new(alloc, "at")
+        .long("at")
+        .value_name("SECONDS")
+        .action(ArgAction::Set)
+        .value_parser(clap::value_parser!(i64).range(0..=1_099_511_627_775))
+        .help("List what is leased at this moment, in seconds since 1970; now by default")
+}
+
+fn json_arg<'a>(alloc: Global) -> Arg<'a>
+    ensures rule { rule_of result ≡ json_rule }
+    ensures local { result.global ≡ false }
+{
+    Arg::new(alloc, "json")
+        .long("json")
+        .action(ArgAction::SetTrue)
+        .help("Write each line as JSON")
+}
+
+fn named<'a>(alloc: Global) -> Command<'a>
+    ensures { app_of result ≡ bare_app }
+{
+    Command::new(alloc, "leases")
+        .no_binary_name(true)
+        .version("0.1.0")
+        .about(
+            "Lists the leases of all circuits in the file of an accessd, which may run meanwhile",
+        )
+        .after_help("Example:\n  leases examples/one_circuit.toml --disk leases")
+}
+
+fn command<'a>(alloc: Global) -> Result<Command<'a>, AllocError>
+    ensures { IfOk result (λ command. app_of command ≡ leases_app) }
+{
+    let config = config_arg(alloc);
+    let disk = disk_arg(alloc);
+    let at = at_arg(alloc);
+    let json = json_arg(alloc);
+    let with_config = named(alloc).arg(config)?;
+    let with_disk = with_config.arg(disk)?;
+    let with_at = with_disk.arg(at)?;
+    with_at.arg(json)
+}
+
+/// The number of a text, where it is a moment.
+fn moment_of(text: &str) -> Option<u64>
+    ensures some { IfSome result (λ seconds. IsMoment (Some text.now) (Some seconds)) }
+    ensures none { IsNone result → (at : Option ℕ) → ¬ IsMoment (Some text.now) at }
+{
+    let seconds = text.parse::<u64>().ok()?;
+    if LAST_MOMENT < seconds {
+        return None;
+    }
+    Some(seconds)
+}
+
+/// The moment that is given, if one is; `None` where it is no moment.
+fn moment<'a>(matches: &ArgMatches<'a>, id: &str) -> Option<Option<u64>>
+    ensures some { IfSome result (IsMoment (first_value (found_of matches.now) id.now)) }
+    ensures none { IsNone result → (at : Option ℕ) → ¬ IsMoment (first_value (found_of matches.now) id.now) at }
+{
+    let Some(text) = matches.get_str(id) else {
+        return Some(None);
+    };
+    match moment_of(text) {
+        Some(seconds) => Some(Some(seconds)),
+        None => None,
+    }
+}
+
+/// The values that clap has read, where all are there and within their limits.
+fn values<'a>(matches: ArgMatches<'a>) -> Option<LeaseWords<'a>>
+    ensures some { IfSome result (λ values. HasValues (rows_of (found_of matches.entry)) values.config.now values.disk.now values.at values.json) }
+    ensures none { IsNone result → (config disk : List ℕ) (at : Option ℕ) (json : Bool) → ¬ HasValues (rows_of (found_of matches.entry)) config disk at json }
+{
+    let config = matches.get_str("CONFIG")?;
+    let disk = matches.get_str("disk")?;
+    let at = moment(&matches, "at")?;
+    let json = is_set(&matches, "json");
+    Some(LeaseWords {
+        config,
+        disk,
+        at,
+        json,
+    })
+}
+
+/// The values of the words after the program's name.
+pub fn words<'a>(alloc: Global, words: &'a [String]) -> Result<LeaseWords<'a>, Refusal>
+    ensures values { IfOk result (λ values. Spells (map string_bytes words.entry.now) values.config.now values.disk.now values.at values.json) }
+    ensures refused { IfErr result (IsRefused leases_app SpellsSomething (map string_bytes words.entry.now)) }
+{
+    let Ok(command) = command(alloc) else {
+        return Err(Refusal::Memory);
+    };
+    let matches = match command.try_get_matches_from(words) {
+        Ok(matches) => matches,
+        Err(error) => return Err(Refusal::Usage(error)),
+    };
+    match values(matches) {
+        Some(values) => Ok(values),
+        None => Err(Refusal::BadValue),
+    }
+}

@@ -1,0 +1,10 @@
+use Rattle.std.proofs.Common.{◌<◌, ℕ, length, sym, subst}
+use Rattle.std.proofs.lemmas.List.{length-map}
+use Rattle.config.specs.Topology.{Topology}
+use Rattle.datagrams.proofs.bench.Bench.up.Goals as goal
+
+pub up-requires : goal.up-requires
+up-requires c =
+    let circuit : ℕ = c.in_ok-circuit.circuit in
+    subst (λ (t : Topology). circuit < length t.circuits) (sym c.args.self.now.own)
+    (subst (λ (n : ℕ). circuit < n) (sym (length-map _ _)) c.in_ok-circuit.ensures.within)

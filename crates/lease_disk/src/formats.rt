@@ -1,0 +1,43 @@
+//! Which format a region has.
+ghost use Rattle.std.specs.Prelude.{◌≡◌, ◌<◌, ◌+◌, true, is_ok, IfOk};
+ghost use Rattle.lease_disk.specs.Device.{TouchesNothing};
+ghost use Rattle.lease_disk.specs.Layout.{is_format2};
+ghost use Rattle.lease_disk.specs.Region.{faults_after};
+
+use crate::device::{Disk, Fault};
+
+/// The byte that says the format of a region: 2 means format 2, any other value format 1.
+pub const FORMAT_AT: usize = 8192;
+
+/// The format of the regions that this crate reads and writes. One of another format counts as damaged.
+pub const FORMAT: u8 = 2;
+
+/// What an earlier version wrote in place of `FORMAT`.
+pub const OLD_FORMAT: u8 = 1;
+
+/// Reads the byte that says which format a region has, which `recover` wants to be `FORMAT`.
+pub fn read_format<D: Disk>(region: u16, disk: &mut D) -> Result<u8, Fault>
+    requires { region < (D.device disk.old).count }
+    ensures format { D.tells ≡ true → IfOk result (λ format. format ≡ ((D.device disk.old).region region).byte 8192) }
+    ensures answer { D.tells ≡ true → is_ok result ≡ ((D.device disk.old).region region).readable }
+    ensures frame { TouchesNothing D.tells (D.device disk.old) (D.device disk.new) }
+    ensures reads { (D.device disk.new).reads ≡ (D.device disk.old).reads + 1 }
+    ensures failures { (D.device disk.new).failures ≡ faults_after result (D.device disk.old).failures }
+{
+    let mut bytes = [0; 1];
+    disk.read(region, FORMAT_AT, &mut bytes)?;
+    Ok(bytes[0])
+}
+
+/// Reads whether a region has the format that is read.
+pub(crate) fn has_format2<D: Disk>(region: u16, disk: &mut D) -> Result<bool, Fault>
+    requires { region < (D.device disk.old).count }
+    ensures format { D.tells ≡ true → IfOk result (λ two. two ≡ is_format2 ((D.device disk.old).region region).byte) }
+    ensures answer { D.tells ≡ true → is_ok result ≡ ((D.device disk.old).region region).readable }
+    ensures frame { TouchesNothing D.tells (D.device disk.old) (D.device disk.new) }
+    ensures reads { (D.device disk.new).reads ≡ (D.device disk.old).reads + 1 }
+    ensures failures { (D.device disk.new).failures ≡ faults_after result (D.device disk.old).failures }
+{
+    let format = read_format(region, disk)?;
+    Ok(format == FORMAT)
+}

@@ -1,0 +1,86 @@
+-- What holds of every book that is served, of what a moment leaves of it and of what is kept of it, holds
+-- of a machine's books after every step.
+use Rattle.std.proofs.Common.{ℕ, List, [], ◌∷◌, Bool, true, false, not}
+use Rattle.std.specs.Prelude.{Option, Some, None, option_map, Result, Ok, Err, slice_get, nat_le, IfSome, ◌==◌, if◌then◌else◌}
+use Rattle.types.specs.Delivery.{DeliveryValue}
+use Rattle.types.specs.declared.dest.Proto.{Proto}
+use Rattle.types.specs.declared.discard.Discard.{Discard}
+use Rattle.dispatch.specs.Server.{Book, Served, book_at, kept_book, served}
+use Rattle.lease_disk.specs.declared.image.Image.{Image}
+use Rattle.lease_disk.specs.declared.image.Image.TheVariants.{Byte, Unreadable}
+use Rattle.lossy_net.specs.Net.{Datagram}
+use Rattle.relay.specs.SentFrame.{SentFrame}
+use Rattle.relay.specs.Relays.{relayed_up, relayed_down}
+use Rattle.world.specs.Alone.{Alone, Setup, Step, frame_step, answer_step, served_step, book_step, delivery_of, up_step, reply_step, down_step, is_fault, or_kept, after_restart, alone_step, after_all}
+use Rattle.promises.specs.Books.{HasBooks}
+use Rattle.events.specs.Seen.{Seen, Frame, Up, Down, Tick, Restart}
+
+module _ (P : Book → Type 0) where
+  -- what is sent, and what leaves, changes no book
+  framed : (setup : Setup) (a : Alone) (proto : Proto) (sent : Result (List ℕ) Discard) → HasBooks P a → HasBooks P (frame_step setup a proto sent).next
+  framed setup a proto (Err why) books = books
+  framed setup a proto (Ok bytes) books = record { book = books.book; kept = books.kept; doubt = books.doubt }
+
+  answered : (setup : Setup) (a : Alone) (proto : Proto) (answer : Result (List ℕ) Discard) → HasBooks P a → HasBooks P (answer_step setup a proto answer).next
+  answered setup a proto (Err why) books = books
+  answered setup a proto (Ok bytes) books = record { book = books.book; kept = books.kept; doubt = books.doubt }
+
+  replied : (a : Alone) (sent : Result SentFrame Discard) → HasBooks P a → HasBooks P (reply_step a sent).next
+  replied a (Err why) books = books
+  replied a (Ok frame) books = books
+
+  went_down : (setup : Setup) (a : Alone) (d : Option Datagram) → HasBooks P a → HasBooks P (down_step setup a d).next
+  went_down setup a None books = books
+  went_down setup a (Some d) books = replied a (relayed_down setup.part d.proto d.bytes) books
+
+  -- a book in doubt is found if there is one
+  either : (doubt kept : Option Book) → IfSome doubt P → IfSome kept P → IfSome (or_kept doubt kept) P
+  either None kept unsure sure = sure
+  either (Some b) kept unsure sure = unsure
+
+  if_either : (b : Bool) (one other : Option Book) → IfSome one P → IfSome other P → IfSome (if b then one else other) P
+  if_either true one other first second = first
+  if_either false one other first second = second
+
+  either_step : (b : Bool) (one other : Step) → HasBooks P one.next → HasBooks P other.next → HasBooks P (if b then one else other).next
+  either_step true one other first second = first
+  either_step false one other first second = second
+
+  restarted : (image : Image) (a : Alone) → HasBooks P a → HasBooks P (after_restart image a)
+  restarted (Byte byte) a books =
+      let found = if_either (byte == 0xa5) _ _ (either a.doubt a.kept books.doubt books.kept) books.kept in
+      record { book = found; kept = found; doubt = tt }
+  restarted Unreadable a books = record { book = tt; kept = books.kept; doubt = books.doubt }
+
+  module _ (setup : Setup) (on_later : (now : ℕ) (b : Book) → P b → P (book_at now b)) (on_kept : (b : Book) → P b → P (kept_book b))
+      (on_served : (e : DeliveryValue) (b : Book) → P b → P (served setup.part e b).book) where
+    pub held_step : (s : Seen) (a : Alone) → HasBooks P a → HasBooks P (alone_step setup s a).next
+    unfolding alone_step
+    held_step (Frame proto frame) a books = framed setup a proto (relayed_up setup.part proto frame) books
+    held_step (Up j now fault) a books = went_up (slice_get a.up j) where
+      saved : (d : Datagram) (done : Served) → P done.book → HasBooks P (served_step setup fault a d.proto done).next
+      saved d done book =
+          either_step (not done.is_kept) _ _
+          (answered setup (record a { book = Some done.book }) d.proto done.answer (record { book = book; kept = books.kept; doubt = books.doubt }))
+          (either_step (is_fault fault) _ _
+          (record { book = tt; kept = books.kept; doubt = if_either (nat_le 5 fault) (Some (kept_book done.book)) a.doubt (on_kept done.book book) books.doubt })
+          (answered setup (record a { book = Some done.book; kept = Some (kept_book done.book) }) d.proto done.answer (record { book = book; kept = on_kept done.book book; doubt = books.doubt })))
+
+      opened : (d : Datagram) (b : Option Book) → IfSome b P → HasBooks P (book_step setup now fault a d b).next
+      opened d None book = books
+      opened d (Some b) book = saved d (served setup.part (delivery_of setup.part now d) b) (on_served (delivery_of setup.part now d) b book)
+
+      went_up : (d : Option Datagram) → HasBooks P (up_step setup now fault a d).next
+      went_up None = books
+      went_up (Some d) = opened d a.book books.book
+    held_step (Down j) a books = went_down setup a (slice_get a.down j) books
+    held_step (Tick now) a books = record { book = ticked a.book books.book; kept = books.kept; doubt = books.doubt } where
+      ticked : (b : Option Book) → IfSome b P → IfSome (option_map (book_at now) b) P
+      ticked None book = book
+      ticked (Some b) book = on_later now b book
+    held_step (Restart image) a books = restarted image a books
+
+    pub held_after : (seen : List Seen) (a : Alone) → HasBooks P a → HasBooks P (after_all setup seen a)
+    unfolding after_all
+    held_after [] a books = books
+    held_after (s ∷ seen) a books = held_after seen (alone_step setup s a).next (held_step s a books)

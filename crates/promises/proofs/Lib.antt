@@ -1,0 +1,15 @@
+pub mod BookLemmas
+pub mod ConfigLemmas
+pub mod ElsewhereLemmas
+pub mod ExampleLemmas
+pub mod GrantLemmas
+pub mod GrantLemmas6
+pub mod GrantsOfBoth
+pub mod HeldBooks
+pub mod LeasedLemmas6
+pub mod LedgerLemmas
+pub mod LineLemmas
+pub mod PoolLemmas
+pub mod PoolLemmas4
+pub mod PoolLemmas6
+pub mod PooledMaps

@@ -1,0 +1,6 @@
+use Rattle.promises.proofs.LedgerLemmas.{forgets_none}
+use Rattle.promises.proofs.leases.forgets_no_lease.Goals as goal
+
+pub returns : goal.returns
+returns c setup kept before s after byte p g sound book grants =
+    forgets_none setup (record { four = sound.pool4; six = sound.pool6 }) kept book before s p g after byte grants

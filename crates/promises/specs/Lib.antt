@@ -1,0 +1,4 @@
+pub mod Books
+pub mod Elsewhere
+pub mod Examples
+pub mod Granted

@@ -1,0 +1,128 @@
+//! The definitions on worked examples, computed by the prover. The values stand in `specs/Examples.antt`
+//! and were taken from the standards and the profile, not from a program.
+ghost use Rattle.std.specs.Prelude.{◌≡◌, [], ◌∷◌, ◌++◌, take, drop, replicate};
+ghost use Rattle.std.specs.FinMap.{empty};
+ghost use Rattle.types.specs.Delivery.{delivery};
+ghost use Rattle.types.specs.declared.dest.Proto.TheVariants.{V4, V6};
+ghost use Rattle.types.specs.declared.discard.Discard.TheVariants as reason;
+ghost use Rattle.requests.specs.Addressee.{addressee};
+ghost use Rattle.relay.specs.Relays.{relayed_up};
+ghost use Rattle.lease_disk.specs.declared.image.Image.TheVariants.{Byte, Unreadable};
+ghost use Rattle.world.specs.Alone.{alone_step, after_all, frames, Dropped, Gone, SentDown};
+ghost use Rattle.promises.specs.Examples.{part_a, with_relays, setup_a, setup_a1, at_port, client_message, discover, discover_up, peer, solicit, solicit_up, relayed_message, relayed_discover, offer, client, offers_at, one_offer, lease_until, datagram, with_up, begun, no_leases, asked, leased, closed, ack};
+ghost use Rattle.promises.specs.Granted.{Granted4, lines};
+ghost use Rattle.events.specs.Seen.{Frame, Up, Down, Tick, Restart};
+
+/// What the relay sends up of a frame, and which frames it drops.
+pub fn frames_go_up()
+    ensures discover { relayed_up part_a V4 (discover 1 []) ≡ Ok (discover_up 1 []) }
+    ensures request { relayed_up part_a V4 (client_message 3 1 []) ≡ Ok (relayed_message 3 (97 ∷ []) 0 1 []) }
+    ensures from_server { relayed_up part_a V4 (client_message 2 1 []) ≡ Err reason.WrongType }
+    ensures cut { relayed_up part_a V4 (take 243 (discover 1 [])) ≡ Err reason.MalformedUp }
+    ensures twice { relayed_up part_a V4 (discover 1 (53 ∷ 1 ∷ 1 ∷ [])) ≡ Err reason.MalformedUp }
+    ensures nothing { relayed_up part_a V4 [] ≡ Err reason.MalformedUp }
+    ensures option_82 { relayed_up part_a V4 (discover 1 (82 ∷ 4 ∷ 1 ∷ 2 ∷ 97 ∷ 49 ∷ [])) ≡ Err reason.HasOption82 }
+    ensures rest { relayed_up part_a V4 (discover 1 [] ++ replicate 780 0) ≡ Ok (discover_up 1 []) }
+    ensures long { relayed_up part_a V4 (discover 1 [] ++ replicate 781 0) ≡ Err reason.TooLong }
+{}
+
+/// The same of DHCPv6 frames: the client's address, and its message.
+pub fn frames_go_up6()
+    ensures solicit { relayed_up part_a V6 (peer ++ solicit) ≡ Ok (solicit_up part_a.link6 (97 ∷ [])) }
+    ensures nested { relayed_up part_a V6 (peer ++ 12 ∷ drop 1 solicit) ≡ Err reason.NestedRelay }
+    ensures from_server { relayed_up part_a V6 (peer ++ 2 ∷ drop 1 solicit) ≡ Err reason.WrongType }
+    ensures cut { relayed_up part_a V6 (take 49 (peer ++ solicit)) ≡ Err reason.MalformedUp }
+    ensures short { relayed_up part_a V6 (take 19 (peer ++ solicit)) ≡ Err reason.MalformedUp }
+{}
+
+/// The server finds a DHCPv6 message's circuit by relay, id and link.
+pub fn relay_messages_have_circuits()
+    ensures first { addressee (with_relays (at_port 6801 ∷ [])) (delivery V6 (at_port 6801) 100 (solicit_up part_a.link6 (97 ∷ []))) ≡ Ok 0 }
+    ensures second { addressee (with_relays (at_port 6801 ∷ [])) (delivery V6 (at_port 6801) 100 (solicit_up part_a.link6 (97 ∷ 49 ∷ []))) ≡ Ok 1 }
+    ensures beginning { addressee (with_relays (at_port 6801 ∷ [])) (delivery V6 (at_port 6801) 100 (solicit_up part_a.link6 (97 ∷ 49 ∷ 49 ∷ []))) ≡ Err reason.UnknownCircuit }
+    ensures link { addressee (with_relays (at_port 6801 ∷ [])) (delivery V6 (at_port 6801) 100 (solicit_up (replicate 16 0) (97 ∷ []))) ≡ Err reason.WrongLink }
+    ensures unrelayed { addressee (with_relays (at_port 6801 ∷ [])) (delivery V6 (at_port 6801) 100 solicit) ≡ Err reason.NotRelayed }
+    ensures cut { addressee (with_relays (at_port 6801 ∷ [])) (delivery V6 (at_port 6801) 100 (take 76 (solicit_up part_a.link6 (97 ∷ [])))) ≡ Err reason.Malformed }
+{}
+
+/// The server finds the circuit by relay, id, gateway and override, and by none of them alone.
+pub fn datagrams_have_circuits()
+    ensures first { addressee (with_relays (at_port 6801 ∷ [])) (delivery V4 (at_port 6801) 100 (discover_up 1 [])) ≡ Ok 0 }
+    ensures second { addressee (with_relays (at_port 6801 ∷ [])) (delivery V4 (at_port 6801) 100 (relayed_discover (97 ∷ 49 ∷ []) 1 1 [])) ≡ Ok 1 }
+    ensures source { addressee (with_relays (at_port 6801 ∷ [])) (delivery V4 (at_port 9999) 100 []) ≡ Err reason.UnknownSource }
+    ensures relay { addressee (with_relays (at_port 6801 ∷ at_port 6802 ∷ [])) (delivery V4 (at_port 6802) 100 (discover_up 1 [])) ≡ Err reason.UnknownCircuit }
+    ensures beginning { addressee (with_relays (at_port 6801 ∷ [])) (delivery V4 (at_port 6801) 100 (relayed_discover (97 ∷ 49 ∷ 49 ∷ []) 1 1 [])) ≡ Err reason.UnknownCircuit }
+    ensures gateway { addressee (with_relays (at_port 6801 ∷ [])) (delivery V4 (at_port 6801) 100 (relayed_discover (97 ∷ []) 1 1 [])) ≡ Err reason.WrongLink }
+    ensures unrelayed { addressee (with_relays (at_port 6801 ∷ [])) (delivery V4 (at_port 6801) 100 (discover 1 [])) ≡ Err reason.NotRelayed }
+    ensures cut { addressee (with_relays (at_port 6801 ∷ [])) (delivery V4 (at_port 6801) 100 (take 254 (discover_up 1 []))) ≡ Err reason.Malformed }
+{}
+
+/// A client's DHCPDISCOVER and the frame with its offer, byte for byte. The same frame on another
+/// circuit is offered that circuit's address.
+pub fn an_offer_comes_back()
+    ensures one { frames setup_a (Frame V4 (discover 1 []) ∷ Up 0 100 0 ∷ Down 0 ∷ []) begun ≡ offer 0 ∷ [] }
+    ensures other { frames setup_a1 (Frame V4 (discover 1 []) ∷ Up 0 100 0 ∷ Down 0 ∷ []) begun ≡ offer 1 ∷ [] }
+{}
+
+/// An offer holds its address for 60 seconds and not longer.
+pub fn offers_expire()
+    ensures held { (alone_step setup_a (Up 0 159 0) (with_up (discover_up 2 []) 100 (one_offer (client 1) (lease_until 160)))).effect ≡ Dropped reason.NoAddress }
+    ensures over { (alone_step setup_a (Up 0 160 0) (with_up (discover_up 2 []) 100 (one_offer (client 1) (lease_until 160)))).effect ≡ SentDown 300 }
+{}
+
+/// A moment before the clock leaves the clock, and an offer is counted from there.
+pub fn clocks_never_go_back()
+    ensures { (alone_step setup_a (Up 0 50 0) (with_up (discover_up 1 []) 100 empty)).next.book ≡ Some (offers_at 100 (one_offer (client 1) (lease_until 160))) }
+{}
+
+/// Client identifiers of 2 to 64 bytes are served.
+pub fn keys_have_limits()
+    ensures short { (alone_step setup_a (Up 0 100 0) (with_up (discover_up 1 (61 ∷ 1 ∷ replicate 1 7)) 0 empty)).effect ≡ Dropped reason.ClientKey }
+    ensures least { (alone_step setup_a (Up 0 100 0) (with_up (discover_up 1 (61 ∷ 2 ∷ replicate 2 7)) 0 empty)).effect ≡ SentDown 300 }
+    ensures most { (alone_step setup_a (Up 0 100 0) (with_up (discover_up 1 (61 ∷ 64 ∷ replicate 64 7)) 0 empty)).effect ≡ SentDown 300 }
+    ensures long { (alone_step setup_a (Up 0 100 0) (with_up (discover_up 1 (61 ∷ 65 ∷ replicate 65 7)) 0 empty)).effect ≡ Dropped reason.ClientKey }
+{}
+
+/// The network keeps the newest datagrams of a direction, and no more than its quota.
+pub fn the_network_keeps_the_newest()
+    ensures none { (alone_step setup_a (Up 0 100 0) begun).effect ≡ Gone }
+    ensures last { (after_all (record setup_a { quota = 1 }) (Frame V4 (discover 1 []) ∷ Frame V4 (discover 2 []) ∷ []) begun).up ≡ datagram (discover_up 2 []) ∷ [] }
+    ensures lost { (alone_step setup_a (Up 1 100 0) (with_up (discover_up 2 []) 0 empty)).effect ≡ Gone }
+{}
+
+/// A DHCPREQUEST that the server answers: the DHCPACK's frame, byte for byte, and what is saved before
+/// it leaves.
+pub fn a_lease_is_kept()
+    ensures ack { frames setup_a (Up 0 110 0 ∷ Down 0 ∷ []) asked ≡ ack 0 ∷ [] }
+    ensures kept { (alone_step setup_a (Up 0 110 0) asked).next.kept ≡ Some leased }
+    ensures sure { (alone_step setup_a (Up 0 110 0) asked).next.doubt ≡ None }
+{}
+
+/// Where the last call of the save fails, the circuit closes and sends nothing. A restart then finds
+/// the lease where the gate's byte became 0xA5, and what was saved before where it became 0.
+pub fn a_lease_is_in_doubt()
+    ensures dropped { (alone_step setup_a (Up 0 110 6) asked).effect ≡ Dropped reason.DiskFault }
+    ensures closed { (alone_step setup_a (Up 0 110 6) asked).next ≡ closed }
+    ensures found { (after_all setup_a (Up 0 110 6 ∷ Restart (Byte 0xa5) ∷ []) asked).book ≡ Some leased }
+    ensures lost { (after_all setup_a (Up 0 110 6 ∷ Restart (Byte 0) ∷ []) asked).book ≡ Some no_leases }
+{}
+
+/// A closed circuit answers nothing, whatever moment passes.
+pub fn a_closed_circuit_is_silent()
+    ensures dropped { (alone_step setup_a (Up 0 110 0) closed).effect ≡ Dropped reason.CircuitClosed }
+    ensures same { (alone_step setup_a (Up 0 110 0) closed).next ≡ closed }
+    ensures tick { (alone_step setup_a (Tick 200) closed).next ≡ closed }
+{}
+
+/// A region that cannot be read closes its circuit, and loses nothing of what was saved or in doubt.
+pub fn an_unreadable_region_closes()
+    ensures open { (alone_step setup_a (Restart Unreadable) begun).next.book ≡ None }
+    ensures kept { (after_all setup_a (Restart Unreadable ∷ Restart (Byte 0) ∷ []) begun).book ≡ Some no_leases }
+    ensures doubt { (alone_step setup_a (Restart Unreadable) closed).next ≡ closed }
+    ensures found { (after_all setup_a (Restart Unreadable ∷ Restart (Byte 0xa5) ∷ []) closed).book ≡ Some leased }
+{}
+
+/// What the DHCPACK of a lease grants.
+pub fn a_lease_is_granted()
+    ensures { lines setup_a (Up 0 110 0) asked ≡ Granted4 (record { client = client 1; address = 167772170; until = 710; clock = 110 }) ∷ [] }
+{}

@@ -1,0 +1,69 @@
+//! What becomes of a lease, whatever happens to its circuit.
+ghost use Rattle.std.specs.Prelude.{◌≡◌, ◌≢◌, ◌≤◌, ◌⊎◌, ℕ, List, ◌∷◌, Option, Some, IfSome};
+ghost use Rattle.config.specs.CircuitPart.{IsPart};
+ghost use Rattle.config.specs.Valid.{IsConfig};
+ghost use Rattle.dispatch.specs.Server.{Book};
+ghost use Rattle.lease_disk.specs.declared.image.Image.TheVariants.{Byte};
+ghost use Rattle.settings.specs.Settings.{Settings};
+ghost use Rattle.types.specs.declared.dest.Proto.{Proto};
+ghost use Rattle.world.specs.Alone.{Setup, after_all, alone_step, start};
+ghost use Rattle.promises.specs.Books.{IsInPool, IsBookOf};
+ghost use Rattle.promises.specs.Granted.{ClientOf, Grant, Granted, Ended, Stands, Knows, lines, ledger};
+ghost use Rattle.events.specs.Seen.{Seen, Restart};
+ghost use Rattle.world.specs.Start.{Opening, opened, setup_in};
+
+/// No address of either protocol is leased twice: where a machine grants an address and later grants it to another client,
+/// the first lease had come to its end by the circuit's clock, or its client had ended it in between.
+/// This is so whatever saves failed and whatever restarts there were.
+pub fn leases_no_address_twice()
+    ensures { (setup : Setup) (kept : Option Book) (before : List Seen) (s : Seen) (between : List Seen) (t : Seen) (p : Proto) (g h : Grant (ClientOf p))
+        → IsPart setup.part → IfSome kept (IsBookOf setup.part)
+        → Stands (Granted p g) (lines setup s (after_all setup before (start kept)))
+        → Stands (Granted p h) (lines setup t (after_all setup (s ∷ between) (after_all setup before (start kept))))
+        → h.address ≡ g.address → (g.client ≡ h.client → ⊥)
+        → (g.until ≤ h.clock) ⊎ Stands (Ended p g.client g.address) (ledger setup between (alone_step setup s (after_all setup before (start kept))).next) }
+{}
+
+/// No lease is forgotten: every restart over a region that can be read begins with a book that knows of
+/// a grant, unless its client had ended the lease.
+pub fn forgets_no_lease()
+    ensures { (setup : Setup) (kept : Option Book) (before : List Seen) (s : Seen) (after : List Seen) (byte : ℕ) (p : Proto) (g : Grant (ClientOf p))
+        → IsPart setup.part → IfSome kept (IsBookOf setup.part)
+        → Stands (Granted p g) (lines setup s (after_all setup before (start kept)))
+        → ((b : Book) × ((alone_step setup (Restart (Byte byte)) (after_all setup (s ∷ after) (after_all setup before (start kept)))).next.book ≡ Some b) × Knows p g b)
+        ⊎ Stands (Ended p g.client g.address) (ledger setup after (alone_step setup s (after_all setup before (start kept))).next) }
+{}
+
+/// What a machine grants is in its circuit's pool.
+pub fn grants_from_the_pool()
+    ensures { (setup : Setup) (kept : Option Book) (before : List Seen) (s : Seen) (p : Proto) (g : Grant (ClientOf p))
+        → IsPart setup.part → IfSome kept (IsBookOf setup.part)
+        → Stands (Granted p g) (lines setup s (after_all setup before (start kept)))
+        → IsInPool setup.part p g.address }
+{}
+
+/// The same from the text of a configuration on, and between its circuits: a circuit's machine begins
+/// with what its opening finds, whatever bytes its region holds, and a damaged region grants nothing. No
+/// two circuits of a configuration grant the same address.
+pub fn leases_of_configurations()
+    ensures once { (text : List ℕ) (settings : Settings) (quota c : ℕ) (setup : Setup) (opening : Opening) (before : List Seen) (s : Seen) (between : List Seen) (t : Seen) (p : Proto) (g h : Grant (ClientOf p))
+        → IsConfig text settings → setup_in settings quota c ≡ Some setup
+        → Stands (Granted p g) (lines setup s (after_all setup before (opened setup opening)))
+        → Stands (Granted p h) (lines setup t (after_all setup (s ∷ between) (after_all setup before (opened setup opening))))
+        → h.address ≡ g.address → (g.client ≡ h.client → ⊥)
+        → (g.until ≤ h.clock) ⊎ Stands (Ended p g.client g.address) (ledger setup between (alone_step setup s (after_all setup before (opened setup opening))).next) }
+    ensures known { (text : List ℕ) (settings : Settings) (quota c : ℕ) (setup : Setup) (opening : Opening) (before : List Seen) (s : Seen) (after : List Seen) (byte : ℕ) (p : Proto) (g : Grant (ClientOf p))
+        → IsConfig text settings → setup_in settings quota c ≡ Some setup
+        → Stands (Granted p g) (lines setup s (after_all setup before (opened setup opening)))
+        → ((b : Book) × ((alone_step setup (Restart (Byte byte)) (after_all setup (s ∷ after) (after_all setup before (opened setup opening)))).next.book ≡ Some b) × Knows p g b)
+        ⊎ Stands (Ended p g.client g.address) (ledger setup after (alone_step setup s (after_all setup before (opened setup opening))).next) }
+    ensures pool { (text : List ℕ) (settings : Settings) (quota c : ℕ) (setup : Setup) (opening : Opening) (before : List Seen) (s : Seen) (p : Proto) (g : Grant (ClientOf p))
+        → IsConfig text settings → setup_in settings quota c ≡ Some setup
+        → Stands (Granted p g) (lines setup s (after_all setup before (opened setup opening)))
+        → IsInPool setup.part p g.address }
+    ensures apart { (text : List ℕ) (settings : Settings) (quota other_quota c d : ℕ) (setup other : Setup) (opening other_opening : Opening) (before : List Seen) (s : Seen) (beside : List Seen) (t : Seen) (p : Proto) (g h : Grant (ClientOf p))
+        → IsConfig text settings → setup_in settings quota c ≡ Some setup → setup_in settings other_quota d ≡ Some other → c ≢ d
+        → Stands (Granted p g) (lines setup s (after_all setup before (opened setup opening)))
+        → Stands (Granted p h) (lines other t (after_all other beside (opened other other_opening)))
+        → g.address ≢ h.address }
+{}

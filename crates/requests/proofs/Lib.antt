@@ -1,0 +1,2 @@
+pub mod AddresseeLemmas
+pub mod RequestLemmas6

@@ -1,8 +1,0 @@
-use Rattle.world.proofs.ExampleLemmas.{held_at_159, over_at_160}
-use Rattle.world.proofs.examples.offers_expire.Goals as goal
-
-pub returns-clause-held : goal.returns-clause-held
-returns-clause-held c = held_at_159
-
-pub returns-clause-over : goal.returns-clause-over
-returns-clause-over c = over_at_160

@@ -1,6 +1,0 @@
-use Rattle.world.proofs.LedgerLemmas.{forgets_none}
-use Rattle.world.proofs.leases.forgets_no_lease.Goals as goal
-
-pub returns : goal.returns
-returns c setup kept before s after byte p g sound book grants =
-    forgets_none setup (record { four = sound.pool4; six = sound.pool6 }) kept book before s p g after byte grants

@@ -1,6 +1,0 @@
-use Rattle.world.proofs.LedgerLemmas.{leases_once}
-use Rattle.world.proofs.leases.leases_no_address_twice.Goals as goal
-
-pub returns : goal.returns
-returns c setup kept before s between t p g h sound book grants again same apart =
-    leases_once setup (record { four = sound.pool4; six = sound.pool6 }) kept book before s p g between t h grants again same apart
