@@ -7,7 +7,7 @@ mod counts;
 mod datagram_socket;
 mod device;
 mod frame;
-mod laws;
+pub mod laws;
 mod sockets;
 
 pub use access::{Access, AccessFault};
@@ -15,5 +15,4 @@ pub use clock::moment_of;
 pub use command_line::accessd_words::{AccessWords, words};
 pub use counts::{Counts, Outcome};
 pub use device::{DeviceFault, format_device, open_device};
-pub use laws::counts_grow_together;
 pub use sockets::MAX_SERVED;

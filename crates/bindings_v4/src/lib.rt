@@ -7,15 +7,10 @@ mod book4;
 mod case4;
 mod decision4;
 mod kept;
-mod laws;
+pub mod laws;
 mod server4;
 mod table4;
 mod write;
 
 pub use book4::Book4;
 pub use decision4::{Decision4, KeptSlot, OfferChange};
-pub use laws::{
-    begins_a_book, changes_offers_alone, expires_by_the_clock, gives_whole_addresses,
-    grants_its_own, is_a_book, keeps_a_book, keeps_its_lease, keeps_others, leaves_a_book,
-    renews_in_time,
-};

@@ -1,13 +1,10 @@
 //! What holds of every book and every decision: functions that do nothing, for their contracts.
-ghost use Rattle.std.specs.Prelude.{◌≡◌, ◌<◌, ◌≤◌, ℕ, true, length, map, slice_index_or, All, List, Some, Ok};
+ghost use Rattle.std.specs.Prelude.{◌≡◌, ◌<◌, ◌≤◌, ℕ, true, length, map, slice_index_or, All, Some};
 ghost use Rattle.std.specs.FinMap.{get};
 ghost use Rattle.slots.specs.Kept.{AreWithin};
 ghost use Rattle.slots.specs.Maps.{Lease};
-ghost use Rattle.types.specs.Addr.{addr6};
 ghost use Rattle.types.specs.Key6.{Key6Value};
 ghost use Rattle.types.specs.Pool6.{IsPool6, Pool6Value};
-ghost use Rattle.types.specs.declared.addr.Addr6.{Addr6};
-ghost use Rattle.types.specs.declared.request6.Reply6.{Reply6};
 ghost use Rattle.types.specs.declared.request6.Request6.{Request6};
 ghost use Rattle.types.specs.Slots.{IsWithin6, live6, none_twice, same_client6};
 ghost use Rattle.types.specs.declared.slots.Slot6.TheVariants.{Free};
@@ -17,7 +14,6 @@ ghost use Rattle.bindings_v6.specs.Book6 as maps;
 ghost use Rattle.bindings_v6.specs.IsBook6.{IsBook6, LeavesABook, KeepsOthers, ChangesNothing, GrantsItsOwn, RenewsInTime, KeepsItsLease};
 ghost use Rattle.bindings_v6.specs.Kept6.{book6_in, kept_slots};
 ghost use Rattle.bindings_v6.specs.Slots6.{book_of};
-ghost use Rattle.bindings_v6.specs.Table6.{answer6};
 
 use crate::book6::Book6;
 use types::{Moment, Pool6, Request6};

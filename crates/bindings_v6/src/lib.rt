@@ -7,13 +7,9 @@ mod book6;
 mod case6;
 mod decision6;
 mod kept;
-mod laws;
+pub mod laws;
 mod server6;
 mod table6;
 
 pub use book6::Book6;
 pub use decision6::{Decision6, KeptSlot};
-pub use laws::{
-    begins_a_book, changes_nothing, expires_by_the_clock, grants_its_own, is_a_book, keeps_a_book,
-    keeps_its_lease, keeps_others, leaves_a_book, renews_in_time,
-};

@@ -1,9 +1,9 @@
 //! What a client's message calls for: a table, one row a line (RFC 8415, section 18.3).
-ghost use Rattle.std.specs.Prelude.{◌≡◌, ◌+◌, ◌≤◌, Some, IfSome, length, option_map, if◌then◌else◌};
+ghost use Rattle.std.specs.Prelude.{◌≡◌, ◌+◌, ◌≤◌, Some, length, option_map, if◌then◌else◌};
 ghost use Rattle.types.specs.Addr.{number6};
 ghost use Rattle.types.specs.declared.discard.Discard.TheVariants.{OtherServer};
 ghost use Rattle.bindings_v6.specs.Book6.{in_pool};
-ghost use Rattle.bindings_v6.specs.Lookup6.{IsAt, IsLookup, decision_in, lookup_of, number_of};
+ghost use Rattle.bindings_v6.specs.Lookup6.{IsLookup, decision_in, lookup_of, number_of};
 ghost use Rattle.bindings_v6.specs.Table6.{Unchanged, drops, others, is_listed, where_listed, is_off_link, first_listed, solicit_row, request_row, renew_row, confirm_row, no_binding, release_row, decline_row, is_for_us, row_of};
 
 use crate::case6::{Case6, SlotAddress, assignment, message_status, refusal};

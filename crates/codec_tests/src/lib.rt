@@ -1,12 +1,8 @@
-//! Outside values of the codecs and of what only DHCPv6 has yet, which no text brings about.
+//! Outside values of the codecs: what no text brings about, since a program answers several faults alike.
 #![tactic(auto)]
 
 #[cfg(test)]
-mod book6_tests;
-#[cfg(test)]
 mod duid_tests;
-#[cfg(test)]
-mod reply6_tests;
 #[cfg(test)]
 mod types_tests;
 #[cfg(test)]

@@ -1,7 +1,7 @@
 //! The command line of `accessd`.
-ghost use Rattle.std.specs.Prelude.{◌≡◌, ◌↔◌, ℕ, Bool, List, Some, false, true, codes, map};
+ghost use Rattle.std.specs.Prelude.{◌≡◌, ℕ, Bool, List, Some, false, true, map};
 ghost use Rattle.std.specs.Prelude.{string_bytes, IfOk, IfErr, IfSome, IsNone};
-ghost use Rattle.clap.specs.Words.{app_of, rule_of, found_of, first_value, rows_of};
+ghost use Rattle.clap.specs.Words.{app_of, rule_of, found_of, rows_of};
 ghost use Rattle.command_line.specs.CommandLine.{IsRefused};
 ghost use Rattle.command_line.specs.AccessdWords.{disk_rule, format_rule, pause_rule, port_rule, turns_rule};
 ghost use Rattle.command_line.specs.AccessdWords.{bare_app, access_app, HasValues, Spells, SpellsSomething};

@@ -1,5 +1,5 @@
 //! The command line of `leases`.
-ghost use Rattle.std.specs.Prelude.{◌≡◌, ◌≤◌, ◌↔◌, ℕ, Bool, List, Option, Some, true, false, codes, map};
+ghost use Rattle.std.specs.Prelude.{◌≡◌, ℕ, Bool, List, Option, Some, true, false, map};
 ghost use Rattle.std.specs.Prelude.{string_bytes, IfOk, IfErr, IfSome, IsNone};
 ghost use Rattle.clap.specs.Words.{app_of, rule_of, found_of, first_value, rows_of};
 ghost use Rattle.command_line.specs.CommandLine.{IsRefused};

@@ -16,7 +16,7 @@ use Rattle.types.specs.CircuitId.{IsCircuitId}
 use Rattle.settings.specs.Settings.{Settings}
 use Rattle.settings.specs.declared.settings.CircuitConfig.{CircuitConfig}
 use Rattle.config.specs.CircuitPart.{CircuitPart, IsPart, parts_of}
-use Rattle.config.specs.Rules.{IsIdAt, IsSound}
+use Rattle.config.specs.Rules.{IsIdAt}
 
 -- an id that is not among these
 apart : (id : List ℕ) (ids : List (List ℕ)) → ((k : ℕ) → k < length ids → get_or ids k [] ≡ id → ⊥) → list_any (bytes_eq id) ids ≡ false

@@ -1,7 +1,7 @@
 -- What relays and server know of a configuration keeps what the configuration's rules say.
 use Rattle.std.proofs.Common.{◌≡◌, ◌≢◌, ℕ, zero, suc, ◌<◌, ◌≤◌, Bool, true, false, List, [], ◌∷◌, length, map, get_or, refl, sym, ap, ◌∙◌, subst, arith}
-use Rattle.std.specs.Prelude.{All, AllPairs, Option, Some, None, slice_get, option_map, ◌==◌, ◌&&◌}
-use Rattle.std.specs.List.{list_any, position, position_or_len}
+use Rattle.std.specs.Prelude.{All, AllPairs, Option, Some, None, slice_get, ◌==◌, ◌&&◌}
+use Rattle.std.specs.List.{position, position_or_len}
 use Rattle.std.specs.Str.{bytes_eq}
 use Rattle.std.proofs.lemmas.Bool.{eq-eqb, eqb-true, false≢true}
 use Rattle.std.proofs.lemmas.Grind.{common_steps}

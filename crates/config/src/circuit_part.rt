@@ -1,8 +1,6 @@
 //! One circuit's part of a configuration, as its relay and its server keep it.
-ghost use Rattle.std.specs.Prelude.{◌≡◌, ◌<◌, [], ◌∷◌, length, false, take, Some};
+ghost use Rattle.std.specs.Prelude.{◌≡◌, ◌<◌, [], ◌∷◌, length, false, Some};
 ghost use Rattle.types.specs.Addr.{is_unspecified};
-ghost use Rattle.types.specs.Pool4.{IsPool4};
-ghost use Rattle.types.specs.Pool6.{IsPool6};
 ghost use Rattle.config.specs.CircuitPart.{IsPart, listen_of, part_in, pool4_of, pool6_of};
 
 use crate::config::Config;

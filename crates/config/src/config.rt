@@ -1,9 +1,7 @@
 //! A configuration that keeps every rule.
-ghost use Rattle.std.specs.Prelude.{◌≡◌, ◌<◌, ◌≤◌, length, All, IsSome, IfOk, IfErr, IfSome, IfNone, slice_get, ℕ, Some};
+ghost use Rattle.std.specs.Prelude.{◌≡◌, ◌<◌, ◌≤◌, length, All, IfOk, IfErr, IfSome, IfNone, slice_get, ℕ, Some};
 ghost use Rattle.toml.specs.Parse.{parse_document};
 ghost use Rattle.toml.specs.View.{table_view};
-ghost use Rattle.types.specs.declared.limits.TheConstants.{MAX_RELAYS, MAX_CIRCUITS};
-ghost use Rattle.settings.specs.Fault.{number_of};
 ghost use Rattle.config.specs.Rules.{IsSound, IsIdAt, KeepsRules};
 ghost use Rattle.settings.specs.Settings.{IsServerWithinLimits, IsRelayWithinLimits, IsWithinLimits};
 ghost use Rattle.config.specs.Valid.{IsConfig, IsFaultOf};

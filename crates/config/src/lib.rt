@@ -5,7 +5,7 @@ mod circuit_index;
 mod circuit_part;
 mod circuits;
 mod config;
-mod laws;
+pub mod laws;
 mod pairs;
 mod relations;
 mod rules;
@@ -14,7 +14,6 @@ mod subnets;
 pub use circuit_part::CircuitPart;
 pub use circuits::Circuits;
 pub use config::Config;
-pub use laws::{no_fault, one_configuration, one_number};
 pub use settings::{
     CircuitConfig, CircuitKey, CircuitLimit, CircuitRef, ConfigFault, LimitFault, Location,
     MAX_DNS, MAX_NAME, MAX_PREFIX4, MIN_PREFIX4, Outside, RelayConfig, RelayKey, SameName,

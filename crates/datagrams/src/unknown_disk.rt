@@ -1,5 +1,4 @@
 //! A device in memory whose bytes no contract knows.
-ghost use Rattle.std.specs.Prelude.{◌≡◌, length, IfOk};
 
 use lease_disk::{Disk, Fault, ModelDisk};
 use std::alloc::{AllocError, Global};

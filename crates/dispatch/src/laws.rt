@@ -16,9 +16,9 @@ pub fn leaves_a_book()
     ensures answered { (part : CircuitPart) (d : DeliveryValue) (b : Book) → IsPart part → IsBook b → IsBook (served part d b).book }
     ensures kept { (b : Book) → IsBook b → IsBook (kept_book b) }
 {
-    bindings_v4::leaves_a_book();
-    bindings_v4::begins_a_book();
-    bindings_v6::leaves_a_book();
+    bindings_v4::laws::leaves_a_book();
+    bindings_v4::laws::begins_a_book();
+    bindings_v6::laws::leaves_a_book();
 }
 
 /// A datagram of one protocol moves the circuit's clock, and changes nothing else of the other protocol's

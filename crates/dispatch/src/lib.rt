@@ -4,11 +4,10 @@
 mod circuit_server;
 mod circuit_servers;
 mod decision;
-mod laws;
+pub mod laws;
 mod open_circuit;
 mod regions;
 mod server;
 
-pub use laws::{leaves_a_book, serves_one_protocol};
 pub use regions::region_count;
 pub use server::{OpenFault, Server};

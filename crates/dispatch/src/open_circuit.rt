@@ -85,8 +85,8 @@ impl OpenCircuit {
         ensures ready { (region : Region) → IsReadyFor region (Some self.old) → IsReadyFor region (Some self.new) }
     {
         let later = self.clock.later(now);
-        bindings_v4::expires_by_the_clock(&self.four, self.clock, later);
-        bindings_v6::expires_by_the_clock(&self.six, self.clock, later);
+        bindings_v4::laws::expires_by_the_clock(&self.four, self.clock, later);
+        bindings_v6::laws::expires_by_the_clock(&self.six, self.clock, later);
         self.clock = later;
     }
 
@@ -223,8 +223,8 @@ impl OpenCircuit {
         ensures frame { Touches D.tells part.now.region (D.device disk.old) (D.device disk.new) }
         ensures failures { (D.device disk.new).failures ≡ faults_after result (D.device disk.old).failures }
     {
-        bindings_v4::keeps_a_book(&self.four, self.clock);
-        bindings_v6::keeps_a_book(&self.six, self.clock);
+        bindings_v4::laws::keeps_a_book(&self.four, self.clock);
+        bindings_v6::laws::keeps_a_book(&self.six, self.clock);
         let region = part.region();
         save(region, disk, &mut self.marks, self.clock, slot, content)
     }

@@ -1,19 +1,17 @@
 -- Reading slots one after the other.
 use Rattle.std.proofs.Common.{◌≡◌, ℕ, ◌+◌, ◌-◌, ◌*◌, ◌<◌, ◌≤◌, Bool, true, false, suc, zero, List, [], ◌∷◌, ◌++◌, length, take, drop, set, get_or, slice_index, Option, Some, None, refl, sym, ap, subst, ◌∙◌, arith, append_assoc, drop-cons, add-one}
-use Rattle.std.specs.Prelude.{nat_lt, if◌then◌else◌, max}
+use Rattle.std.specs.Prelude.{nat_lt, if◌then◌else◌}
 use Rattle.std.specs.List.{list_any}
-use Rattle.std.proofs.lemmas.List.{append-nil, length-drop, length-set, length-take, get_or-drop, get_or-take, get_or_past, take_more_set, take_all, drop_all}
+use Rattle.std.proofs.lemmas.List.{append-nil, length-drop, length-set, length-take, get_or-drop, get_or-take, get_or_past, take_more_set, take_all}
 use Rattle.types.specs.Slots.{none_twice}
-use Rattle.lease_disk.specs.declared.entry.Entry.{Entry}
 use Rattle.lease_disk.specs.declared.half.Half.{Half}
 use Rattle.lease_disk.specs.declared.half.Half.TheVariants.{First, Second}
 use Rattle.lease_disk.specs.declared.marks.Mark.{Mark}
 use Rattle.lease_disk.specs.Layout.{half_at, with_halves, half, is_format2}
-use Rattle.lease_disk.specs.Recovered.{bytes_at, is_open, sequence, is_counting, slot4_of, slot6_of, held, entry_of, entry, cons_some, all_from, latest, book_in, recovered}
+use Rattle.lease_disk.specs.Recovered.{bytes_at, is_open, sequence, is_counting, slot4_of, slot6_of, held, entry_of, entry, cons_some, all_from, book_in, recovered}
 use Rattle.lease_disk.specs.Region.{Region, IsRead}
 use Rattle.lease_disk.specs.Save.{IsMark, other}
 use Rattle.lease_disk.proofs.Changes.{book_alike}
-use Rattle.lease_disk.proofs.Entries.{max_is, max_so}
 use Rattle.lease_disk.proofs.Halves.{same_bytes, first_of, second_of, neither_of}
 
 pub bytes_at_slice : (xs : List ℕ) (at n : ℕ) → at + n ≤ length xs → bytes_at (slice_index xs) at n ≡ take n (drop at xs)

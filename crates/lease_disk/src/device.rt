@@ -1,5 +1,5 @@
 //! Devices that keep regions.
-ghost use Rattle.std.specs.Prelude.{◌≡◌, ℕ, Bool, true, not, ◌+◌, ◌-◌, ◌==◌, ◌<◌, ◌≤◌, length, is_ok, OnOk, OnErr};
+ghost use Rattle.std.specs.Prelude.{◌≡◌, Bool, true, not, ◌+◌, ◌-◌, ◌==◌, ◌<◌, ◌≤◌, length, is_ok, OnOk, OnErr};
 ghost use Rattle.lease_disk.specs.Device.{Device, Touches, TouchesNothing};
 ghost use Rattle.lease_disk.specs.Region.{IsRead, IsTorn, written, synced, faults_after};
 

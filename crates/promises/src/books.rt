@@ -17,5 +17,5 @@ pub fn leaves_a_book()
     ensures own { (setup : Setup) (s : Seen) (a : Alone) → IsPart setup.part → HasBooks (IsBookOf setup.part) a → HasBooks (IsBookOf setup.part) (alone_step setup s a).next }
     ensures begins { (part : CircuitPart) (bytes : ℕ → ℕ) → IfSome (recovered_book part bytes) (IsBookOf part) }
 {
-    dispatch::leaves_a_book();
+    dispatch::laws::leaves_a_book();
 }

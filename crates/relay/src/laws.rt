@@ -17,8 +17,6 @@ ghost use Rattle.relay.specs.Up6.{relay_forward, relayed_up6};
 ghost use Rattle.relay.specs.Down4.{is_named};
 ghost use Rattle.relay.specs.Relays.{CircuitFrame, for_circuit, proto_of, relayed_down, relayed_down_in};
 
-use v6_message::written_relay_is_read;
-
 /// A frame for a circuit is the one that the circuit's own part makes of the datagram, in the protocol
 /// that the source decides.
 pub fn agrees()
@@ -73,5 +71,5 @@ pub fn forward_is_read()
     ensures id { (part : CircuitPart) (peer message : List ℕ) → look_up INTERFACE_ID (relay_forward part peer message).options ≡ Some part.id }
     ensures message { (part : CircuitPart) (peer message : List ℕ) → look_up RELAY_MESSAGE (relay_forward part peer message).options ≡ Some message }
 {
-    written_relay_is_read();
+    v6_message::laws::written_relay_is_read();
 }

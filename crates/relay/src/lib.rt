@@ -4,12 +4,9 @@
 
 mod down4;
 mod down6;
-mod laws;
+pub mod laws;
 mod relays;
 mod up4;
 mod up6;
 
-pub use laws::{
-    agrees, forward_is_read, named_circuit, named_circuit6, only_circuit, source_decides,
-};
 pub use relays::{Memory, Relays};

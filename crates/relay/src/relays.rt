@@ -1,5 +1,5 @@
 //! All relays of a configuration.
-ghost use Rattle.std.specs.Prelude.{◌≡◌, ◌<◌, ◌≤◌, nat_lt, [], length, option_map, replicate, Ok, Err, Some, IfOk, IfErr, OnOk, OnErr, slice_get};
+ghost use Rattle.std.specs.Prelude.{◌≡◌, ◌<◌, nat_lt, [], length, option_map, replicate, Ok, Err, Some, IfOk, IfErr, OnOk, OnErr, slice_get};
 ghost use Rattle.types.specs.declared.dest.Proto.TheVariants as protocol;
 ghost use Rattle.config.specs.CircuitPart as parts;
 ghost use Rattle.config.specs.Topology.{IsTopology, is_relay, is_server, topology_of};

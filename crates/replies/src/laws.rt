@@ -1,5 +1,5 @@
 //! What holds of every reply: functions that do nothing, for their contracts.
-ghost use Rattle.std.specs.Prelude.{◌≡◌, ◌≤◌, ℕ, List, length, Ok, Some};
+ghost use Rattle.std.specs.Prelude.{◌≡◌, ◌≤◌, length, Ok, Some};
 ghost use Rattle.config.specs.CircuitPart.{CircuitPart, IsPart};
 ghost use Rattle.types.specs.Key6.{Key6Value};
 ghost use Rattle.types.specs.declared.request4.Reply4.{Reply4};
@@ -15,16 +15,13 @@ ghost use Rattle.v6_message.specs.RelayReading.{relay_of};
 ghost use Rattle.replies.specs.Reply4.{reply4_bytes, reply_message, yiaddr_in};
 ghost use Rattle.replies.specs.Reply6 as reply6;
 
-use v4_message::written_is_read;
-use v6_message::written_relay_is_read;
-
 /// What the server writes reads back as the reply that it is: its header, and its options in order, the
 /// request's option 82 among them.
 pub fn reply_is_read()
     ensures { (part : CircuitPart) (request : MessageValue) (reply : Reply4) → IsPart part → IsSized request.header → length (yiaddr_in reply) ≡ 4
         → message_of (reply4_bytes part request reply) ≡ Ok (reply_message part request reply) }
 {
-    written_is_read();
+    v4_message::laws::written_is_read();
 }
 
 /// What the server writes reads back as the Relay-reply that it is, with the circuit id as its interface id
@@ -38,5 +35,5 @@ pub fn reply6_is_read()
     ensures message { (part : CircuitPart) (request : RelayValue) (message : message6.MessageValue) (client : Key6Value) (reply : Reply6)
         → look_up RELAY_MESSAGE (reply6.relay_reply part request message client reply).options ≡ Some (message6.message_bytes (reply6.reply_message part message client reply)) }
 {
-    written_relay_is_read();
+    v6_message::laws::written_relay_is_read();
 }

@@ -2,10 +2,9 @@
 //! 19.3): their bytes, from what was decided, the request and the circuit's part of the configuration.
 #![tactic(auto)]
 
-mod laws;
+pub mod laws;
 mod reply4;
 mod reply6;
 
-pub use laws::{reply_is_read, reply6_is_read};
 pub use reply4::write4;
 pub use reply6::write6;

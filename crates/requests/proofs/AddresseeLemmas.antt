@@ -1,23 +1,14 @@
 -- The first two tests of a datagram at the server, and what follows them.
-use Rattle.std.proofs.Common.{◌≡◌, ℕ, true, false, List, length, ◌<◌, ◌≤◌, Option, Some, None, Ok, Err, refl, sym, ap, ◌∙◌}
-use Rattle.std.proofs.lemmas.Bool.{eq-eqb, lt-ltb, le-ltb}
-use Rattle.types.specs.Addr.{is_unspecified}
+use Rattle.std.proofs.Common.{◌≡◌, ℕ, true, false, List, length, ◌<◌, ◌≤◌, Option, None, Err, refl, ap}
+use Rattle.std.proofs.lemmas.Bool.{lt-ltb, le-ltb}
 use Rattle.types.specs.Delivery.{DeliveryValue}
 use Rattle.types.specs.declared.addr.Source.{Source}
 use Rattle.types.specs.declared.discard.Discard.{Discard}
 use Rattle.types.specs.declared.discard.Discard.TheVariants.{UnknownSource, UnknownCircuit, Malformed}
 use Rattle.config.specs.CircuitPart.{CircuitPart}
 use Rattle.config.specs.Topology.{Topology, is_relay, relay_circuit}
-use Rattle.v4_options.specs.Codes.{CIRCUIT_ID}
-use Rattle.v4_options.specs.Spelling.{look_up}
-use Rattle.v4_message.specs.Agent.{agent_of}
-use Rattle.v4_message.specs.Spelling.{MessageValue}
-use Rattle.v6_options.specs.Codes.{INTERFACE_ID}
-use Rattle.v6_message.specs.Relay.{RelayValue}
 use Rattle.requests.specs.Addressee.{addressee, datagram_check}
-use Rattle.requests.specs.Addressee4.{link_fault4, message_check}
-use Rattle.requests.specs.Addressee6.{is_forward, link_fault6, relay_check}
-use Rattle.requests.specs.NamedCircuit.{circuit_check, link_check, named_check}
+use Rattle.requests.specs.NamedCircuit.{circuit_check, named_check}
 
 pub unknown_source : (topology : Topology) (d : DeliveryValue) → is_relay topology d.source ≡ false → addressee topology d ≡ Err UnknownSource
 unfolding addressee

@@ -1,11 +1,10 @@
 //! What a client's DHCPv6 message asks of the book.
-ghost use Rattle.std.specs.Prelude.{◌≡◌, ◌≤◌, true, false, Ok, Err, Some, IfOk, IfErr, IfNone, IfSome, map, option_map};
+ghost use Rattle.std.specs.Prelude.{◌≡◌, ◌≤◌, Ok, Err, Some, map, option_map};
 ghost use Rattle.v6_options.specs.Codes.{CLIENT_ID, IA_ADDRESS, IA_NA};
 ghost use Rattle.v6_options.specs.Spelling.{look_up};
 ghost use Rattle.v6_message.specs.Ia.{addresses_in, ia_in};
 ghost use Rattle.v6_message.specs.Lists.{count};
-ghost use Rattle.v6_message.specs.MessageReading.{message_of};
-ghost use Rattle.requests.specs.Request6.{client_request, request6_in, request6_of, server_in};
+ghost use Rattle.requests.specs.Request6.{client_request, request6_in, server_in};
 ghost use Rattle.types.specs.declared.discard.Discard.TheVariants as reason;
 
 use arrayvec::ArrayVec;

@@ -1,6 +1,6 @@
 -- The values of the entries of a list.
 use Rattle.std.specs.Prelude.{All, slice_get}
-use Rattle.std.proofs.Common.{◌≡◌, ◌⊎◌, inl, inr, ℕ, zero, suc, ◌+◌, ◌-◌, ◌≤◌, ◌<◌, List, [], ◌∷◌, ◌++◌, append_assoc, append-nil, length, get_or, Option, Some, refl, sym, ap, subst, ◌∙◌, arith}
+use Rattle.std.proofs.Common.{◌≡◌, ◌⊎◌, inl, inr, ℕ, zero, suc, ◌+◌, ◌-◌, ◌≤◌, ◌<◌, List, [], ◌∷◌, ◌++◌, append-nil, length, get_or, Option, Some, refl, sym, ap, subst, ◌∙◌, arith}
 use Rattle.std.proofs.lemmas.List.{at_drop_all}
 use Rattle.std.proofs.lemmas.Option.{same_Some}
 use Rattle.toml.specs.Data.{Data, Members, as_table}
@@ -9,18 +9,17 @@ use Rattle.toml.specs.declared.value.Value.{Value as Code}
 use Rattle.toml.proofs.Lines.{data_of_table}
 use Rattle.types.specs.CircuitId.{IsCircuitId}
 use Rattle.types.specs.declared.addr.Source.{Source}
-use Rattle.settings.specs.declared.settings.ServerConfig.{ServerConfig}
 use Rattle.settings.specs.declared.settings.RelayConfig.{RelayConfig}
 use Rattle.settings.specs.declared.settings.CircuitConfig.{CircuitConfig}
 use Rattle.settings.specs.Broken.{IsEntry}
 use Rattle.settings.specs.Field.{Field, Missing, Other, Value, HasValue, field_map, table_of, each}
 use Rattle.settings.specs.Keys.{AllThere, IsRelayName}
-use Rattle.settings.specs.Settings.{IsServerWithinLimits, IsRelayWithinLimits, IsWithinLimits}
-use Rattle.settings.specs.Tables.{ServerKeys, RelayKeys, CircuitKeys}
+use Rattle.settings.specs.Settings.{IsRelayWithinLimits, IsWithinLimits}
+use Rattle.settings.specs.Tables.{RelayKeys, CircuitKeys}
 use Rattle.settings.specs.Texts.{IsSource}
 use Rattle.settings.specs.Read.{EachReads}
-use Rattle.settings.specs.Values.{IsName, IsDuid, IsId, IsNameAt, IsServer, IsRelay, IsCircuit}
-use Rattle.settings.proofs.EntryLemmas.{entries_from, entries_step, entry_at}
+use Rattle.settings.specs.Values.{IsName, IsId, IsNameAt, IsRelay, IsCircuit}
+use Rattle.settings.proofs.EntryLemmas.{entries_from, entry_at}
 use Rattle.settings.proofs.NameLemmas.{name_within}
 
 pub length-entries : {A : Type 0} (f : Option Data → Field A) (vs : List Code) → length (each f (items_view vs)) ≡ length vs

@@ -1,5 +1,5 @@
 //! Values of several parts: a DUID, name servers, a relay by its name.
-ghost use Rattle.std.specs.Prelude.{◌≡◌, ℕ, Some, List, length, ◌≤◌, ◌<◌, IfSome, IfNone};
+ghost use Rattle.std.specs.Prelude.{ℕ, Some, List, length, ◌≤◌, ◌<◌, IfSome, IfNone};
 ghost use Rattle.toml.specs.View.{view, items_view, table_view};
 ghost use Rattle.types.specs.declared.limits.TheConstants.{MAX_RELAYS};
 ghost use Rattle.settings.specs.Field.{HasValue, text_of, text_at, list_at, field_map, each};

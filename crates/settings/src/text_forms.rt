@@ -1,5 +1,5 @@
 //! How addresses and ports are written.
-ghost use Rattle.std.specs.Prelude.{ℕ, ◌≡◌, IfSome, IfNone};
+ghost use Rattle.std.specs.Prelude.{ℕ, IfSome, IfNone};
 ghost use Rattle.settings.specs.Texts.{IsAddress, IsPort, IsSource, IsAddress6};
 
 use std::net::Ipv4Addr;

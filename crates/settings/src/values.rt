@@ -1,11 +1,10 @@
 //! What the strings and integers at the keys of a table stand for, each within its limits.
-ghost use Rattle.std.specs.Prelude.{◌≡◌, ℕ, List, length, ◌≤◌, IfOk, IfErr, IfSome, IfNone};
+ghost use Rattle.std.specs.Prelude.{ℕ, List, IfOk, IfErr, IfSome, IfNone};
 ghost use Rattle.toml.specs.View.{table_view};
-ghost use Rattle.types.specs.CircuitId.{IsCircuitId};
 ghost use Rattle.settings.specs.Broken.{IsOutside};
 ghost use Rattle.settings.specs.Field.{HasValue, IsThere, text_at, integer_at};
 ghost use Rattle.settings.specs.Texts.{IsAddress, IsSource, IsAddress6};
-ghost use Rattle.settings.specs.Values.{IsNumber, IsName, IsDuid, IsId};
+ghost use Rattle.settings.specs.Values.{IsNumber, IsName, IsId};
 
 use crate::limit_fault::Outside;
 use crate::limits::MAX_NAME;

@@ -1,5 +1,4 @@
 //! What tells clients apart.
-ghost use Rattle.std.specs.Prelude.{Bool};
 ghost use Rattle.std.specs.declared.cmp.Ordering.{Ordering};
 ghost use Rattle.slots.specs.Key.{IsKey, key4_cmp, key6_cmp};
 

@@ -2,7 +2,7 @@
 ghost use Rattle.std.specs.Prelude.{◌≡◌, ◌<◌, length, IfSome, slice_set};
 ghost use Rattle.std.specs.List.{position};
 ghost use Rattle.slots.specs.Used.{IsUsed};
-ghost use Rattle.slots.specs.Slots.{is_clients, with_vacancy, without_client, with_slot};
+ghost use Rattle.slots.specs.Slots.{is_clients, without_client, with_slot};
 
 use crate::holder::{Holder, client_of};
 use crate::lookup::first_of_client;

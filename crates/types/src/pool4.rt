@@ -1,5 +1,5 @@
 //! The DHCPv4 addresses of one circuit.
-ghost use Rattle.std.specs.Prelude.{◌≡◌, ◌+◌, ◌^◌, ◌<◌, ◌≤◌, ◌↔◌, IsSome, IfSome};
+ghost use Rattle.std.specs.Prelude.{◌≡◌, ◌+◌, ◌<◌, ◌≤◌, ◌↔◌, IsSome, IfSome};
 ghost use Rattle.types.specs.Addr.{number4};
 ghost use Rattle.types.specs.Pool4.{IsPool4};
 

@@ -1,5 +1,5 @@
 //! The DHCPv6 addresses of one circuit.
-ghost use Rattle.std.specs.Prelude.{◌≡◌, ◌+◌, ◌^◌, ◌<◌, ◌≤◌, ◌↔◌, IsSome, IfSome};
+ghost use Rattle.std.specs.Prelude.{◌≡◌, ◌+◌, ◌<◌, ◌≤◌, ◌↔◌, IsSome, IfSome};
 ghost use Rattle.types.specs.Addr.{number6};
 ghost use Rattle.types.specs.Pool6.{IsPool6};
 

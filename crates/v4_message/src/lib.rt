@@ -4,11 +4,10 @@
 mod fault;
 pub mod field;
 mod header;
-mod laws;
+pub mod laws;
 mod message;
 mod parts;
 
 pub use fault::MessageFault;
 pub use header::{BROADCAST, Header, OP_REPLY, OP_REQUEST};
-pub use laws::{exact_reading, header_values, one_reading, written_is_read};
 pub use message::Message;

@@ -5,7 +5,7 @@
 pub mod code;
 mod fault;
 mod iter;
-mod laws;
+pub mod laws;
 mod options;
 mod seen_codes;
 mod suboptions;
@@ -14,10 +14,6 @@ mod writing;
 
 pub use fault::{OptFault, SuboptFault};
 pub use iter::Iter;
-pub use laws::{
-    appended, code_values, exact_reading, exact_subreading, left_out, one_reading, one_subreading,
-    subwritten_is_read, written_is_read,
-};
 pub use options::Options;
 pub use suboptions::Suboptions;
 pub use writing::put;

@@ -4,14 +4,13 @@
 pub mod code;
 mod fault;
 mod iter;
-mod laws;
+pub mod laws;
 mod options;
 mod token;
 mod writing;
 
 pub use fault::OptFault;
 pub use iter::Iter;
-pub use laws::{code_values, exact_reading, one_reading, written_is_read};
 pub use options::Options;
 pub use token::{Token, next_token};
 pub use writing::put;

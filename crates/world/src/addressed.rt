@@ -11,12 +11,6 @@ ghost use Rattle.relay.specs.Relays.{for_circuit, relayed_down, relayed_down_in,
 ghost use Rattle.wire.specs.Bytes.{AreBytes};
 ghost use Rattle.world.specs.StepsAs.{IsDue};
 
-use bindings_v4::gives_whole_addresses;
-use relay::{forward_is_read, named_circuit, named_circuit6, source_decides};
-use replies::{reply_is_read, reply6_is_read};
-use v4_message::exact_reading;
-use v6_message::exact_relay_reading;
-
 /// What the relay sends up for a circuit is that circuit's at the server, at any moment, among any circuits of which
 /// no other has its id, and any relays of which one is its own.
 pub fn comes_to_its_circuit()
@@ -26,7 +20,7 @@ pub fn comes_to_its_circuit()
         → is_relay topology part.relay ≡ true → IsPart part → AreBytes frame
         → relayed_up part proto frame ≡ Ok datagram → addressee topology (delivery proto part.relay now datagram) ≡ Ok c }
 {
-    forward_is_read();
+    relay::laws::forward_is_read();
 }
 
 /// What the server answers to a circuit's datagram comes down to that circuit, by the relay behind which
@@ -41,12 +35,12 @@ pub fn reply_comes_to_its_circuit()
         → (d.proto ≡ V6 → IsDue topology bytes)
         → relayed_down_in topology relay (listen topology d.proto) bytes ≡ for_circuit c (relayed_down part d.proto bytes) }
 {
-    gives_whole_addresses();
-    reply_is_read();
-    reply6_is_read();
-    named_circuit();
-    named_circuit6();
-    source_decides();
-    exact_reading();
-    exact_relay_reading();
+    bindings_v4::laws::gives_whole_addresses();
+    replies::laws::reply_is_read();
+    replies::laws::reply6_is_read();
+    relay::laws::named_circuit();
+    relay::laws::named_circuit6();
+    relay::laws::source_decides();
+    v4_message::laws::exact_reading();
+    v6_message::laws::exact_relay_reading();
 }

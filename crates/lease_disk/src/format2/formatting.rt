@@ -1,9 +1,9 @@
 //! Formatting a region.
-ghost use Rattle.std.specs.Prelude.{◌≡◌, ◌<◌, ◌≤◌, ◌+◌, ◌*◌, ◌%◌, ◌-◌, ◌==◌, ◌&&◌, ℕ, true, length, is_ok, slice_index, nat_le, nat_lt, if◌then◌else◌, OnOk, OnErr};
+ghost use Rattle.std.specs.Prelude.{◌≡◌, ◌<◌, ◌≤◌, ◌+◌, ◌%◌, ◌-◌, ◌==◌, ◌&&◌, ℕ, true, length, is_ok, slice_index, nat_le, nat_lt, if◌then◌else◌, OnOk, OnErr};
 ghost use Rattle.lease_disk.specs.Crash.{IsFormatted, IsHalfFormatted};
 ghost use Rattle.lease_disk.specs.Device.{Touches};
 ghost use Rattle.lease_disk.specs.Layout.{formatted};
-ghost use Rattle.lease_disk.specs.Region.{is_within, effective, faults_after};
+ghost use Rattle.lease_disk.specs.Region.{effective, faults_after};
 
 use super::layout::half_at;
 use crate::bytes::{overwrite, put};

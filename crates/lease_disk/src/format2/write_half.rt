@@ -1,6 +1,6 @@
 //! The bytes of a half.
-ghost use Rattle.std.specs.Prelude.{◌≡◌, ◌≤◌, ◌+◌, ◌-◌, ◌++◌, [], ◌∷◌, length, replicate};
-ghost use Rattle.std.specs.Int.{w32, w64, to_be_bytes};
+ghost use Rattle.std.specs.Prelude.{◌≡◌, ◌≤◌, ◌+◌, ◌-◌, ◌++◌, [], length, replicate};
+ghost use Rattle.std.specs.Int.{to_be_bytes};
 ghost use Rattle.lease_disk.specs.HalfBytes.{half_bytes, half_with};
 ghost use Rattle.lease_disk.specs.Keys.{HasKey};
 

@@ -1,8 +1,5 @@
-use Rattle.std.proofs.Common.{◌≡◌, Some, List, sym, ap, ◌∙◌, subst}
+use Rattle.std.proofs.Common.{◌≡◌, Some, sym, ap, ◌∙◌, subst}
 use Rattle.std.specs.Prelude.{slice_get}
-use Rattle.std.specs.List.{position}
-use Rattle.types.specs.Addr.{same_source}
-use Rattle.types.specs.declared.addr.Source.{Source}
 use Rattle.config.specs.CircuitPart.{CircuitPart}
 use Rattle.config.specs.Topology.{IsTopology, Topology}
 use Rattle.config.proofs.TopologyLemmas.{relay_nowhere, relay_there}
