@@ -7,6 +7,7 @@ a lease of this client until the next second, `a`, `b` one that has just ended; 
 afterwards `+` a lease of client A for the whole lease time, `-` a bar for the whole hour. The server that a client names is
 `none`, `ours` or another one's."""
 import subprocess
+from operator import itemgetter
 
 from messages import expand
 
@@ -155,7 +156,7 @@ def answers_of(lines):
 
 
 for pool, kind, server, listed, answer, afterwards in ROWS:
-    first = [message(what, client, "ours", [last], moment) for moment, what, client, last in sorted(setting_up(pool))]
+    first = [message(what, client, "ours", [last], moment) for moment, what, client, last in sorted(setting_up(pool), key=itemgetter(0))]
     lasts = [last for last in listed[1:].split(",") if last]
     asked = [(message(kind, CLIENTS["A"], SERVERS[server], lasts, NOW), wanted(kind, answer)), *looks(afterwards)]
     found = answers_of(first + [line for line, _ in asked])[len(first):]
