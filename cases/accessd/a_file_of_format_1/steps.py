@@ -1,34 +1,62 @@
-"""A file of an earlier version, of two regions with a lease each: bank 0 open, a lease of 10.0.0.10 or 10.0.1.10 that
-never ends while this runs, and byte 8192 is 1. All circuits are closed, the server and the listing say why, and not a
-byte of the file changes. `a2`'s region is damaged in the format that is read, and says so as before."""
+"""A file that an earlier version wrote, `leases.format1`, of which the first start loses nothing.
+
+It was written by `accessd` of commit cfb0ff6, the last one before format 2, over this configuration, `--format` first. Its
+clock was set 2307744000 seconds ahead, to 2100, so that the leases outlast every run of this case: the clock of a circuit
+does not go back. The clients, by their numbers: 1 and 2 got addresses of `a` by DHCPv4, 3 too and declined its own, the
+same by DHCPv6, then 1 renewed both leases; 4 got an address of `a1` by DHCPv4 and renewed it, 5 and 6 got one by DHCPv6,
+and 6 released its own. `a` was saved an even number of times and has its book in bank 0, `a1` in bank 1.
+
+The first lines of `output` are what `leases` of that commit wrote for the file."""
+import shutil
 import subprocess
 
-from client import DISCOVER, Circuit, Server, frame
+from client import DISCOVER, REQUEST, Circuit, Server, address, frame, select
 
-REGION = 32768
-
-
-def region(key):
-    """A region of format 1 with one bound slot, the first: state, length of the key, until, and the key."""
-    content = bytearray(REGION)
-    content[0], content[8192] = 0xA5, 1
-    content[32:34] = bytes([1, len(key)])
-    content[40:48] = (2**40 - 1).to_bytes(8, "big")
-    content[48:48 + len(key)] = key
-    return bytes(content)
+# the clock of `a`
+AT = "4103472461"
 
 
-DAMAGED = bytes(8192) + bytes([2]) + bytes(REGION - 8193)
-OLD = region(bytes.fromhex("01020000000001")) + region(bytes.fromhex("01020000000002")) + DAMAGED
-with open("leases", "wb") as file:
-    file.write(OLD)
-server = Server("accessd", "config.toml", "leases", turns=1_000_000)
-print(server.first_line)
-for port in (20000, 20004, 20008):
-    circuit = Circuit(port)
-    circuit.send(frame(DISCOVER, 1))
-    print(circuit.receive(0.2))
-print(server.report(), end="")
-print(subprocess.run(["leases", "config.toml", "--disk", "leases"], capture_output=True, text=True).stdout, end="")
-with open("leases", "rb") as file:
-    print(file.read() == OLD)
+def content(path="leases"):
+    with open(path, "rb") as file:
+        return file.read()
+
+
+def listed(*words):
+    return subprocess.run(["leases", "config.toml", "--disk", "leases", "--at", AT, *words],
+                          capture_output=True, text=True, check=True).stdout
+
+
+def show_start():
+    """What a run of one turn writes before its counts."""
+    command = ["accessd", "config.toml", "--disk", "leases", "--turns", "1"]
+    print(*subprocess.run(command, capture_output=True, text=True, check=True).stderr.splitlines()[:-1], sep="\n")
+
+
+shutil.copy("leases.format1", "leases")
+before, as_json = listed(), listed("--json")
+print(before + as_json.replace("{", "(").replace("}", ")"), end="")
+print("nothing is written by a listing:", content() == content("leases.format1"))
+show_start()
+print("the same leases:", listed() == before and listed("--json") == as_json)
+moved = content()
+show_start()
+print("nothing is written by a second start:", content() == moved)
+print("the old banks are still there:", moved[:8192] == content("leases.format1")[:8192])
+
+# with a pause its turns are not over before the clients are done
+server = Server("accessd", "config.toml", "leases", "--pause", "1")
+circuit, other = Circuit(20000), Circuit(20004)
+circuit.send(frame(REQUEST, 1, ciaddr=address("10.0.0.10")))
+print(circuit.receive())
+print(circuit.exchange6("RENEW6", 2, "ours", "2001:db8::101"))
+print("of four addresses two are leased, and one was declined")
+offer = circuit.exchange(DISCOVER, 7)
+print(circuit.exchange(REQUEST, 7, select(offer)))
+circuit.send(frame(DISCOVER, 8))
+print(circuit.receive(0.2))
+print("the first address that was not leased, and the one that was released")
+print(other.exchange(DISCOVER, 7))
+print(other.exchange6("SOLICIT6", 7))
+server.kill()
+print("what the listing has now and had not before")
+print(*(line for line in listed().splitlines() if line not in before.splitlines()), sep="\n")

@@ -1,4 +1,5 @@
-"""Starts the server over each region of the table, and prints those whose circuit is not as the table says."""
+"""Starts the server over each region of the table, and prints those whose circuit is not as the table says. One that is
+open and not of format 2 is moved, and the first line says so."""
 import subprocess
 from pathlib import Path
 
@@ -19,7 +20,11 @@ for row in rows:
         at, byte = change.split("=")
         region[int(at)] = int(byte, 16)
     Path("leases").write_bytes(region)
-    first = subprocess.run(COMMAND, capture_output=True, text=True).stderr.splitlines()[0]
-    if ("(closed: " in first) != (wanted.strip() == "closed") or not first.startswith("serving a"):
-        print(row, "but", first)
+    lines = subprocess.run(COMMAND, capture_output=True, text=True).stderr.splitlines()[:-1]
+    is_open = wanted.strip() == "open"
+    is_moved = is_open and region[8192] != 2
+    as_wanted = (len(lines) == 1 + is_moved and lines[-1].startswith("serving a")
+                 and ("(closed: " in lines[-1]) != is_open)
+    if not as_wanted:
+        print(row, "but", lines)
 print(len(rows), "regions")

@@ -20,6 +20,8 @@ pub record AccessValue : Type 0 where
   pub topology : Topology
   pub server : ServerValue
   pub disk : FileDiskValue
+  -- the format in which the opening found each circuit's region
+  pub formats : List (Option ℕ)
   -- what became of the datagrams that were taken
   pub counts : Counts
   -- how many datagrams were taken from sockets, and how many turns were made
@@ -60,11 +62,12 @@ pub record HasCarried (Can : Outcome → Type 0) (count : ℕ) (old new : Access
   pub many : length outcomes ≡ count
   pub after : new ≡ record old { counts = counted_all outcomes old.counts; taken = old.taken + count }
 
--- What relays and server know of the configuration, and the number of regions and turns, stay.
+-- What relays and server know of the configuration, the number of regions and turns, and what the opening found, stay.
 pub record HasKept (old new : AccessValue) : Type 0 where
   pub topology : new.topology ≡ old.topology
   pub served : new.server.topology ≡ old.server.topology
   pub regions : new.disk.regions ≡ old.disk.regions
+  pub formats : new.formats ≡ old.formats
   pub turns : new.turns ≡ old.turns
 
 -- The server took a datagram from a socket: its books are those after it, where the save failed or not, and what

@@ -1,3 +1,4 @@
 pub mod Access
 pub mod Counts
+pub mod Opening
 pub mod Sockets

@@ -1,7 +1,8 @@
 //! Relay and server over sockets.
-ghost use Rattle.std.specs.Prelude.{◌≡◌, ◌≤◌, ◌<◌, ◌+◌, ◌↔◌, length, map, true, is_some, Some, slice_get, Err, IfOk, IfErr};
+ghost use Rattle.std.specs.Prelude.{◌≡◌, ◌≤◌, ◌<◌, ◌+◌, ◌*◌, ◌↔◌, length, map, true, is_some, Some, slice_get, Err, IfOk, IfErr};
 ghost use Rattle.access.specs.Access.{CanDeliver, CanRelay, HasAnswered, HasCarried, HasCounted, HasReached, HasServed, HasTurned, StayClosed, books_at};
 ghost use Rattle.access.specs.Counts.{more_by, none};
+ghost use Rattle.access.specs.Opening.{found_format, was_old};
 ghost use Rattle.access.specs.Sockets.{IsSocket, RefusesSocket};
 ghost use Rattle.access.specs.declared.access.AccessFault.TheVariants as fault;
 ghost use Rattle.config.specs.CircuitPart.{parts_of};
@@ -13,10 +14,11 @@ use crate::clock::moment;
 use crate::counts::{Counts, Outcome};
 use crate::datagram_socket::BUFFER_LEN;
 use crate::frame::{Framed, put_frame};
+use crate::opening::{Formats, open_server};
 use crate::sockets::{MAX_SERVED, SocketFault, Sockets};
 use config::Config;
 use dispatch::{OpenFault, Server};
-use lease_disk::{Disk, FileDisk, OLD_FORMAT, read_format};
+use lease_disk::{FORMAT, FileDisk, OLD_FORMAT};
 use relay::Relays;
 use std::alloc::Global;
 use std::marker::Model;
@@ -52,6 +54,7 @@ pub struct Access {
     relays: Relays,
     server: Server,
     disk: FileDisk,
+    formats: Formats,
     sockets: Sockets,
     /// Where the server receives what the relays send on.
     listen4: Source,
@@ -73,16 +76,16 @@ impl Model for Access {
 
     ghost Value = { AccessValue };
 
-    ghost view = { λ a. record { topology = a.relays.topology; server = a.server; disk = a.disk; counts = a.counts; taken = a.taken.count; turns = a.turns.count } };
+    ghost view = { λ a. record { topology = a.relays.topology; server = a.server; disk = a.disk; formats = a.formats.items; counts = a.counts; taken = a.taken.count; turns = a.turns.count } };
 
     // each circuit and each relay has its sockets, each circuit its own relay's and a region
     ghost invariant = { λ a. (length a.sockets.circuits.items ≡ length a.relays.topology.circuits) × (length a.sockets.circuits.items ≤ 16) × All (λ circuit. circuit.relay < length a.sockets.relays.items) a.sockets.circuits.items × (length a.sockets.relays.items ≡ length a.relays.topology.relays) × (length a.sockets.relays.items ≤ 8) × HasRegions a.server.topology.circuits a.disk.regions × AreOwnRelays a.relays.topology.relays a.relays.topology.circuits a.sockets.circuits.items };
 }
 
 impl Access {
-    /// Opens relay and server of a configuration over a device, whatever that holds: a circuit whose
-    /// region can't be read or is damaged is closed, alone. The first circuit listens on
-    /// 127.0.0.1 at `port` for DHCPv4 frames and at the port after it for DHCPv6 frames, and frames
+    /// Opens relay and server of a configuration over a device, whatever that holds. A region of format 1 is
+    /// moved to format 2; a circuit whose region can't be read, is damaged or can't be moved is closed, alone.
+    /// The first circuit listens on 127.0.0.1 at `port` for DHCPv4 frames and at the port after it for DHCPv6 frames, and frames
     /// towards it go to the two ports after these; the ports of each other circuit come 4 later.
     ///
     /// More than 16 circuits are refused first, then a device without the region of a circuit, then
@@ -99,6 +102,9 @@ impl Access {
         ensures topology { IfOk result (λ access. access.topology ≡ topology_of config.now) }
         ensures served { IfOk result (λ access. access.server.topology ≡ topology_of config.now) }
         ensures large { IfOk result (λ access. HasRegions (parts_of config.now) access.disk.regions) }
+        ensures formats { IfOk result (λ access. length access.formats ≡ length config.now.circuits) }
+        ensures reads { IfOk result (λ access. access.disk.reads ≤ disk.reads + 6 * length config.now.circuits) }
+        ensures writes { IfOk result (λ access. access.disk.writes ≤ disk.writes + 4 * length config.now.circuits) }
         ensures counts { IfOk result (λ access. access.counts ≡ none) }
         ensures taken { IfOk result (λ access. access.taken ≡ 0) }
         ensures turns { IfOk result (λ access. access.turns ≡ 0) }
@@ -109,8 +115,8 @@ impl Access {
         if config.circuit_count() > MAX_SERVED {
             return Err(AccessFault::TooManyCircuits);
         }
-        let server = match Server::open(alloc, config, &mut disk) {
-            Ok(server) => server,
+        let (server, formats) = match open_server(alloc, config, &mut disk) {
+            Ok(opened) => opened,
             Err(OpenFault::Memory) => return Err(AccessFault::Memory),
             Err(OpenFault::DiskTooSmall) => return Err(AccessFault::Disk),
         };
@@ -126,6 +132,7 @@ impl Access {
             relays,
             server,
             disk,
+            formats,
             sockets,
             listen4: config.server().listen4,
             listen6: config.server().listen6,
@@ -145,6 +152,7 @@ impl Access {
         ensures topology { self.new.topology ≡ self.old.topology }
         ensures served { self.new.server.topology ≡ self.old.server.topology }
         ensures regions { self.new.disk.regions ≡ self.old.disk.regions }
+        ensures formats { self.new.formats ≡ self.old.formats }
         ensures closed { StayClosed self.old.server self.new.server }
     {
         let mut now = Moment::first();
@@ -172,6 +180,7 @@ impl Access {
         ensures topology { self.new.topology ≡ self.old.topology }
         ensures served { self.new.server.topology ≡ self.old.server.topology }
         ensures regions { self.new.disk.regions ≡ self.old.disk.regions }
+        ensures formats { self.new.formats ≡ self.old.formats }
     {
         let frames = self.take_from_circuits();
         let datagrams4 = self.take_at_server(Proto::V4, now);
@@ -190,15 +199,32 @@ impl Access {
         self.server.is_open(circuit)
     }
 
-    /// Whether there is a region of this number whose format is that of an earlier version, as far as it can
-    /// be read.
-    pub fn has_old_format(&mut self, region: u16) -> bool
-        ensures rest { self.new ≡ record self.old { disk = self.new.disk } }
-        ensures regions { self.new.disk.regions ≡ self.old.disk.regions }
-        ensures writes { self.new.disk.writes ≡ self.old.disk.writes }
-        ensures exists { result ≡ true → region < self.old.disk.regions }
+    /// Whether there is a circuit of this index whose region was of format 1 before the opening, as far as it
+    /// could be read.
+    pub fn had_old_format(&self, circuit: Circuit) -> bool
+        ensures { (result ≡ true) ↔ (found_format (slice_get self.now.formats circuit) ≡ Some 1) }
     {
-        region < self.disk.regions() && read_format(region, &mut self.disk) == Ok(OLD_FORMAT)
+        self.format_of(circuit) == Some(OLD_FORMAT)
+    }
+
+    /// Whether the region of this circuit was moved from format 1 to format 2 by the opening, and the circuit is open.
+    pub fn was_moved(&self, circuit: Circuit) -> bool
+        ensures { (result ≡ true) ↔ (was_old (found_format (slice_get self.now.formats circuit)) ≡ true) × (slice_get (map is_some (books_in self.now.server)) circuit ≡ Some true) }
+    {
+        let format = self.format_of(circuit);
+        format.is_some() && format != Some(FORMAT) && self.is_open(circuit)
+    }
+
+    /// The format in which the opening found the region of this circuit, if there is one and it could be read.
+    fn format_of(&self, circuit: Circuit) -> Option<u8>
+        ensures { result ≡ found_format (slice_get self.now.formats circuit) }
+    {
+        let index = circuit.index();
+        if index < self.formats.len() {
+            self.formats[index]
+        } else {
+            None
+        }
     }
 
     /// What became of the datagrams that were taken.

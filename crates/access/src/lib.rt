@@ -8,6 +8,7 @@ mod datagram_socket;
 mod device;
 mod frame;
 pub mod laws;
+mod opening;
 mod sockets;
 
 pub use access::{Access, AccessFault};

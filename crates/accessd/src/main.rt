@@ -81,10 +81,21 @@ fn refuse(rt: &HostRuntime, config: &Config, disk: &str, fault: AccessFault) -> 
     }
 }
 
-/// Why the circuit with this region is closed at the start.
-fn closed_by(access: &mut Access, region: u16) -> &'static str {
-    if access.has_old_format(region) {
-        "its region is of format 1, which this version does not serve"
+/// Reports each circuit whose region was moved, in a line of its own.
+fn report_moves(rt: &HostRuntime, config: &Config, access: &Access) {
+    for index in 0..config.circuit_count() {
+        let circuit = Circuit::at(index);
+        if access.was_moved(circuit) {
+            let id = text_of(config.at(circuit).id.as_bytes());
+            let _ = eprintln!(rt; "{id}: its region was moved from format 1 to format 2");
+        }
+    }
+}
+
+/// Why a circuit is closed at the start.
+fn closed_by(access: &Access, circuit: Circuit) -> &'static str {
+    if access.had_old_format(circuit) {
+        "its region is of format 1, and is damaged or could not be moved to format 2"
     } else {
         "its region is damaged or can't be read"
     }
@@ -92,16 +103,15 @@ fn closed_by(access: &mut Access, region: u16) -> &'static str {
 
 /// Reports in one line what is served: the circuits, those that are closed as such, their ports and the
 /// file with the leases.
-fn report_start(rt: &HostRuntime, config: &Config, access: &mut Access, values: &AccessWords<'_>) {
+fn report_start(rt: &HostRuntime, config: &Config, access: &Access, values: &AccessWords<'_>) {
     let count = config.circuit_count();
     for index in 0..count {
         let circuit = Circuit::at(index);
         let before = if index == 0 { "serving " } else { ", " };
-        let part = config.at(circuit);
-        let id = text_of(part.id.as_bytes());
+        let id = text_of(config.at(circuit).id.as_bytes());
         let _ = eprint!(rt; "{before}{id}");
         if !access.is_open(circuit) {
-            let why = closed_by(access, part.region);
+            let why = closed_by(access, circuit);
             let _ = eprint!(rt; " (closed: {why})");
         }
     }
@@ -136,7 +146,8 @@ fn run(rt: &HostRuntime, values: AccessWords<'_>) -> u8
         Ok(access) => access,
         Err(fault) => return refuse(rt, &config, values.disk, fault),
     };
-    report_start(rt, &config, &mut access, &values);
+    report_moves(rt, &config, &access);
+    report_start(rt, &config, &access, &values);
     access.serve(rt, values.turns, values.pause);
     complain(rt, *access.counts(), 0)
 }

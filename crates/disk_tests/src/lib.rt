@@ -1,6 +1,8 @@
-//! Regions on a device in memory: their bytes, and saves that stop.
+//! Regions on a device in memory: their bytes, and saves and moves that stop.
 #![tactic(auto)]
 
+#[cfg(test)]
+mod moving_tests;
 #[cfg(test)]
 mod recovery_tests;
 #[cfg(test)]

@@ -7,11 +7,11 @@ use std::alloc::{AllocError, Global};
 use std::test::Fail;
 use types::{Key6, Moment, Slot4, Slot6, Slots};
 
-/// A device of one formatted region in which some bytes are changed.
-fn disk_with(alloc: Global, bytes: &[(usize, u8)]) -> Result<ModelDisk, AllocError>
-    ensures count { IfOk result (λ disk. length disk.regions ≡ 1) }
+/// Changes some bytes of the region of a device.
+pub fn change(disk: &mut ModelDisk, bytes: &[(usize, u8)])
+    requires count { length disk.old.regions ≡ 1 }
+    ensures count { length disk.new.regions ≡ 1 }
 {
-    let mut disk = ModelDisk::new(alloc, 1)?;
     let mut region = [0; REGION];
     region.copy_from_slice(disk.bytes(0));
     for (at, byte) in bytes {
@@ -20,6 +20,14 @@ fn disk_with(alloc: Global, bytes: &[(usize, u8)]) -> Result<ModelDisk, AllocErr
         }
     }
     let _ = disk.write_at(0, 0, &region);
+}
+
+/// A device of one formatted region in which some bytes are changed.
+fn disk_with(alloc: Global, bytes: &[(usize, u8)]) -> Result<ModelDisk, AllocError>
+    ensures count { IfOk result (λ disk. length disk.regions ≡ 1) }
+{
+    let mut disk = ModelDisk::new(alloc, 1)?;
+    change(&mut disk, bytes);
     Ok(disk)
 }
 

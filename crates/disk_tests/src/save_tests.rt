@@ -1,4 +1,5 @@
-ghost use Rattle.std.specs.Prelude.{◌≡◌, [], ◌∷◌, length, IfOk, OnOk};
+ghost use Rattle.std.specs.Prelude.{◌≡◌, true, [], ◌∷◌, length, IfOk, OnOk};
+ghost use Rattle.lease_disk.specs.Layout.{is_format2};
 ghost use Rattle.lease_disk.specs.Model.{state_of};
 ghost use Rattle.lease_disk.specs.Region.{IsClean};
 ghost use Rattle.lease_disk.specs.Save.{AreMarks, Fits};
@@ -63,14 +64,19 @@ pub fn is_formatted(bytes: &[u8]) -> bool {
         && set == 33
 }
 
-/// What the region of a device recovers to, and the marks that the next save wants.
+/// What the region of a device recovers to, and the marks that the next save wants; an error where it is not of
+/// format 2.
 pub fn read_back(disk: &mut ModelDisk) -> Result<(Slots, Marks), RecoverFault>
     requires count { length disk.old.regions ≡ 1 }
     requires clean { IsClean (state_of disk.old 0) }
     ensures count { length disk.new.regions ≡ 1 }
     ensures clean { IsClean (state_of disk.new 0) }
+    ensures format { IfOk result (λ found. is_format2 (state_of disk.new 0).byte ≡ true) }
     ensures marks { IfOk result (λ found. AreMarks (16 ∷ 16 ∷ []) (state_of disk.new 0).byte found.1) }
 {
+    if disk.bytes(0)[FORMAT_AT] != FORMAT {
+        return Err(RecoverFault::Damaged);
+    }
     recover(0, disk, [16, 16])
 }
 
@@ -78,6 +84,7 @@ pub fn read_back(disk: &mut ModelDisk) -> Result<(Slots, Marks), RecoverFault>
 pub fn formatted_disk(alloc: Global) -> Result<(ModelDisk, Marks), Fail>
     ensures count { IfOk result (λ r. length r.0.regions ≡ 1) }
     ensures clean { IfOk result (λ r. IsClean (state_of r.0 0)) }
+    ensures format { IfOk result (λ r. is_format2 (state_of r.0 0).byte ≡ true) }
     ensures marks { IfOk result (λ r. AreMarks (16 ∷ 16 ∷ []) (state_of r.0 0).byte r.1) }
 {
     let mut disk = ModelDisk::new(alloc, 1)?;
@@ -91,9 +98,11 @@ pub fn formatted_disk(alloc: Global) -> Result<(ModelDisk, Marks), Fail>
 pub fn keep(disk: &mut ModelDisk, marks: &mut Marks, change: &Change) -> Result<(), Fault>
     requires count { length disk.old.regions ≡ 1 }
     requires clean { IsClean (state_of disk.old 0) }
+    requires format { is_format2 (state_of disk.old 0).byte ≡ true }
     requires marks { AreMarks (16 ∷ 16 ∷ []) (state_of disk.old 0).byte marks.old }
     requires fits { Fits change.now.slot change.now.content }
     ensures count { length disk.new.regions ≡ 1 }
+    ensures format { is_format2 (state_of disk.new 0).byte ≡ true }
     ensures clean { OnOk result (IsClean (state_of disk.new 0)) }
     ensures marks { OnOk result (AreMarks (16 ∷ 16 ∷ []) (state_of disk.new 0).byte marks.new) }
 {

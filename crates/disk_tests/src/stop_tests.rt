@@ -1,4 +1,5 @@
-ghost use Rattle.std.specs.Prelude.{◌≡◌, ◌≤◌, ◌<◌, [], ◌∷◌, length, OnOk, OnSome};
+ghost use Rattle.std.specs.Prelude.{◌≡◌, ◌≤◌, ◌<◌, true, [], ◌∷◌, length, OnOk, OnSome};
+ghost use Rattle.lease_disk.specs.Layout.{is_format2};
 ghost use Rattle.lease_disk.specs.Model.{state_of};
 ghost use Rattle.lease_disk.specs.Region.{IsClean};
 ghost use Rattle.lease_disk.specs.Save.{AreMarks, Fits};
@@ -44,9 +45,11 @@ pub fn settle(disk: &mut ModelDisk, byte: Option<u8>) -> Result<(), Fault>
 fn stop(disk: &mut ModelDisk, marks: &mut Marks, change: &Change, cut: Cut) -> Option<Slots>
     requires count { length disk.old.regions ≡ 1 }
     requires clean { IsClean (state_of disk.old 0) }
+    requires format { is_format2 (state_of disk.old 0).byte ≡ true }
     requires marks { AreMarks (16 ∷ 16 ∷ []) (state_of disk.old 0).byte marks.old }
     requires fits { Fits change.now.slot change.now.content }
     ensures count { length disk.new.regions ≡ 1 }
+    ensures format { OnSome result (is_format2 (state_of disk.new 0).byte ≡ true) }
     ensures clean { OnSome result (IsClean (state_of disk.new 0)) }
     ensures marks { OnSome result (AreMarks (16 ∷ 16 ∷ []) (state_of disk.new 0).byte marks.new) }
 {
@@ -133,6 +136,7 @@ fn stops_while_an_expired_client_gets_another_slot(rt: HostRuntime) -> Result<()
 fn two_stops(mut disk: ModelDisk, mut marks: Marks, before: &Slots, first: Cut, second: Cut) -> bool
     requires count { length disk.regions ≡ 1 }
     requires clean { IsClean (state_of disk 0) }
+    requires format { is_format2 (state_of disk 0).byte ≡ true }
     requires marks { AreMarks (16 ∷ 16 ∷ []) (state_of disk 0).byte marks }
 {
     let Some(found) = stop(&mut disk, &mut marks, &lease_at(101), first) else {

@@ -7,7 +7,7 @@ use Rattle.types.specs.declared.discard.Discard.TheVariants.{DiskFault}
 use Rattle.config.specs.CircuitPart.{CircuitPart}
 use Rattle.lease_disk.specs.Device.{Device, Touches, WritesAt}
 use Rattle.lease_disk.specs.Region.{Region, effective, faults_after}
-use Rattle.dispatch.specs.Leases.{Leases, after_datagram, kept, restarts_of, restarts_after}
+use Rattle.dispatch.specs.Leases.{Leases, after_datagram, formats_of, kept, restarts_of, restarts_after}
 use Rattle.dispatch.specs.Received.{after_save, answered, circuit_saves, fails_at, saves}
 use Rattle.dispatch.specs.Server.{Book, Served, book_at, datagram_served, served}
 use Rattle.dispatch.specs.ServerValue.{CircuitServerValue, OpenCircuitValue, book_of, leases_of, open_book}
@@ -68,22 +68,23 @@ fails_by result before after x is ok = counted result before after is ∙ ap not
 
 -- ---- the leases after it
 
-abbrev left : Option Book → (ℕ → Option Book) → Leases
-left book restarts = record { book = book; restarts = restarts }
+abbrev left : CircuitPart → Region → Option Book → Leases
+left part region book = record { book = book; restarts = restarts_of part region; is_new = formats_of region }
 
 abbrev before : CircuitPart → (ℕ → Region) → Book → Leases
-before part regions b = left (Some b) (restarts_of part (regions part.region))
+before part regions b = left part (regions part.region) (Some b)
 
 module _ (part : CircuitPart) (regions later : ℕ → Region) (b : Book) (done : Served) (fuse : ℕ) (ok : Bool) where
   leases_after : (is_kept : Bool) → done.is_kept ≡ is_kept
       → (is_kept ≡ true → restarts_of part (later part.region) ≡ restarts_after (effective 6 fuse) done.book (restarts_of part (regions part.region)))
       → (is_kept ≡ false → later ≡ regions)
       → ok ≡ not (is_kept && not (effective 6 fuse == 0))
-      → left (if ok then Some done.book else None) (restarts_of part (later part.region)) ≡ kept fuse done (before part regions b)
-  leases_after false is saves stays answer =
-      rw is (rw answer (λ i. record { book = Some done.book; restarts = restarts_of part (stays refl i part.region) }))
-  leases_after true is saves stays answer =
-      rw is (rw (answer ∙ not_not (effective 6 fuse == 0)) (λ i. record { book = if effective 6 fuse == 0 then Some done.book else None; restarts = saves refl i }))
+      → formats_of (later part.region) ≡ formats_of (regions part.region)
+      → left part (later part.region) (if ok then Some done.book else None) ≡ kept fuse done (before part regions b)
+  leases_after false is saves stays answer formats =
+      rw is (rw answer (λ i. left part (stays refl i part.region) (Some done.book)))
+  leases_after true is saves stays answer formats =
+      rw is (rw (answer ∙ not_not (effective 6 fuse == 0)) (λ i. record { book = if effective 6 fuse == 0 then Some done.book else None; restarts = saves refl i; is_new = formats i }))
 
 -- ---- what is written
 
@@ -127,10 +128,11 @@ module _ {s : CircuitServerValue} {d : DeliveryValue} {part : CircuitPart} {o : 
       → (done.is_kept ≡ true → restarts_of part (later part.region) ≡ restarts_after (effective 6 (fuses part.region)) b (restarts_of part (regions part.region)))
       → (done.is_kept ≡ false → later ≡ regions)
       → ok ≡ not (save_fails (fuses part.region) done)
-      → left (if ok then Some b else None) (restarts_of part (later part.region)) ≡ after_datagram s.part d (fuses s.part.region) (leases_of regions s)
-  leases_as regions later fuses b ok book saves stays answer =
+      → formats_of (later part.region) ≡ formats_of (regions part.region)
+      → left part (later part.region) (if ok then Some b else None) ≡ after_datagram s.part d (fuses s.part.region) (leases_of regions s)
+  leases_as regions later fuses b ok book saves stays answer formats =
       let K : Book → Type 0 = λ x. restarts_of part (later part.region) ≡ restarts_after (effective 6 (fuses part.region)) x (restarts_of part (regions part.region)) in
-      ap (λ x. left (if ok then Some x else None) (restarts_of part (later part.region))) book
-      ∙ leases_after part regions later (open_book o) done (fuses part.region) ok done.is_kept refl (λ keeps. subst K book (saves keeps)) stays answer
+      ap (λ x. left part (later part.region) (if ok then Some x else None)) book
+      ∙ leases_after part regions later (open_book o) done (fuses part.region) ok done.is_kept refl (λ keeps. subst K book (saves keeps)) stays answer formats
       ∙ ap (λ d. kept (fuses part.region) d (before part regions (open_book o))) (sym case.served_so)
       ∙ sym (ap (λ v. after_datagram v.part d (fuses v.part.region) (leases_of regions v)) case.was)

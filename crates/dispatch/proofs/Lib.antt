@@ -1,7 +1,9 @@
 pub mod AnswerLemmas
+pub mod ComeBackLemmas
 pub mod DeadlineLemmas
 pub mod ReceivedLemmas
 pub mod RegionLemmas
+pub mod RestartLemmas
 pub mod SaveLemmas
 pub mod ServerLemmas
 pub mod TickLemmas

@@ -112,6 +112,7 @@ kept4 decision o region (Some k) is kept below few ready s changed e =
     let small : k.slot < 16 = omega (arith, below, few) in
     subst (λ x. IsToSave region x.0 x.1 (record o { four = slots4.with_decision decision o.four })) same
     (record {
+      format = ready.3;
       clean = ready.0;
       marks = ready.1;
       below = in_pool4 k.slot o.four.pool.count _ below few;
@@ -154,6 +155,7 @@ kept6 decision o region (Some k) is kept below few ready s changed e =
     let back : 16 + k.slot - 16 ≡ k.slot = omega arith in
     subst (λ x. IsToSave region x.0 x.1 (record o { six = slots6.with_decision decision o.six })) same
     (record {
+      format = ready.3;
       clean = ready.0;
       marks = ready.1;
       below = in_pool6 k.slot o.six.pool.count _ below few;
@@ -176,14 +178,14 @@ none4 : (decision : Decision4) (o : OpenCircuitValue) (region : Region) (keep : 
     → (kept_slots4 o.clock (slots4.with_decision decision o.four).slots ≡ keep_in4 keep (kept_slots4 o.clock o.four.slots))
     → IsReadyFor region (Some o) → option_map {U = ℕ × Content} (λ kept. (kept.slot, content.Four kept.content)) keep ≡ None → IsReadyFor region (Some (record o { four = slots4.with_decision decision o.four }))
 none4 decision o region None kept ready e =
-    (ready.0, ready.1, record { slots = ready.2.slots; recovers = ready.2.recovers; later = ready.2.later; four = ready.2.four ∙ sym kept; six = ready.2.six })
+    (ready.0, ready.1, record { slots = ready.2.slots; recovers = ready.2.recovers; later = ready.2.later; four = ready.2.four ∙ sym kept; six = ready.2.six }, ready.3)
 none4 decision o region (Some k) kept ready e = absurd cc
 
 none6 : (decision : Decision6) (o : OpenCircuitValue) (region : Region) (keep : Option KeptSlot6)
     → (kept_slots6 o.clock (slots6.with_decision decision o.six).slots ≡ keep_in6 keep (kept_slots6 o.clock o.six.slots))
     → IsReadyFor region (Some o) → option_map {U = ℕ × Content} (λ kept. (16 + kept.slot, content.Six kept.content)) keep ≡ None → IsReadyFor region (Some (record o { six = slots6.with_decision decision o.six }))
 none6 decision o region None kept ready e =
-    (ready.0, ready.1, record { slots = ready.2.slots; recovers = ready.2.recovers; later = ready.2.later; four = ready.2.four; six = ready.2.six ∙ sym kept })
+    (ready.0, ready.1, record { slots = ready.2.slots; recovers = ready.2.recovers; later = ready.2.later; four = ready.2.four; six = ready.2.six ∙ sym kept }, ready.3)
 none6 decision o region (Some k) kept ready e = absurd cc
 
 pub still_ready : (d : CircuitDecision) (o n : OpenCircuitValue) (region : Region) → n ≡ with_decision d o → KeepsItsSlot d o → IsReadyFor region (Some o) → kept_in d ≡ None → IsReadyFor region (Some n)
@@ -207,4 +209,5 @@ later_ready o n region four six marks later kept4 kept6 ready =
         four = sym (later_map4 o.clock n.clock slots.four later) ∙ ap (map (live4 n.clock)) ready.2.four ∙ sym kept4 ∙ ap (λ v. kept_slots4 n.clock v.slots) (sym four);
         six = sym (later_map6 o.clock n.clock slots.six later) ∙ ap (map (live6 n.clock)) ready.2.six ∙ sym kept6 ∙ ap (λ v. kept_slots6 n.clock v.slots) (sym six);
       },
+      ready.3,
     )

@@ -6,7 +6,8 @@ use Rattle.std.proofs.lemmas.Bool.{ltb-true}
 use Rattle.std.proofs.lemmas.Option.{same_Some, none-some, slice_get-map, slice_get_past, slice_get_read}
 use Rattle.std.proofs.lemmas.List.Elements.{All-nil, All-cons, All-head, All-tail}
 use Rattle.lease_disk.specs.Region.{Region}
-use Rattle.dispatch.specs.Leases.{found_leases}
+use Rattle.config.specs.CircuitPart.{CircuitPart}
+use Rattle.dispatch.specs.Leases.{Leases}
 use Rattle.dispatch.specs.ServerValue.{CircuitServerValue, book_of, leases_of, part_of}
 use Rattle.std.proofs.lemmas.List.{length-map, length-take-le, map-append, get_or-map, take_more}
 use Rattle.std.proofs.Math.Seq.{take-append_seam, drop-cons, get_or-append_seam}
@@ -65,10 +66,10 @@ all_moved P Q (x ∷ xs) (suc c) y q all h =
     (all_moved P Q xs c y q (All-tail P x xs all) (λ k z e apart. h (suc k) z e (λ same. apart (omega (arith, same)))))
 
 -- circuits that all begin with what their regions hold
-pub all_found : (regions : ℕ → Region) (xs : List CircuitServerValue) → All (λ s. leases_of regions s ≡ found_leases regions s.part) xs
-    → map (leases_of regions) xs ≡ map (found_leases regions) (map part_of xs)
-all_found regions [] all = refl
-all_found regions (x ∷ xs) all = λ i. All-head (λ s. leases_of regions s ≡ found_leases regions s.part) x xs all i ∷ all_found regions xs (All-tail (λ s. leases_of regions s ≡ found_leases regions s.part) x xs all) i
+pub all_found : (regions : ℕ → Region) (found : CircuitPart → Leases) (xs : List CircuitServerValue) → All (λ s. leases_of regions s ≡ found s.part) xs
+    → map (leases_of regions) xs ≡ map found (map part_of xs)
+all_found regions found [] all = refl
+all_found regions found (x ∷ xs) all = λ i. All-head (λ s. leases_of regions s ≡ found s.part) x xs all i ∷ all_found regions found xs (All-tail (λ s. leases_of regions s ≡ found s.part) x xs all) i
 
 -- a slice of a whole vector that was written through
 pub written_through : {A : Type 0} (len : ℕ) (new rest : List A) → len ≡ length new → take len (new ++ rest) ≡ new

@@ -16,7 +16,7 @@ use Rattle.bindings_v6.specs.Slots6 as slots6
 use Rattle.bindings_v6.proofs.KeptLemmas.{form6}
 use Rattle.bindings_v6.proofs.ShownLemmas.{at_later as at_later6}
 use Rattle.dispatch.specs.Deadlines.{HasDeadlines, HoldsDeadlines, swept}
-use Rattle.dispatch.specs.Leases.{after_tick, restarts_of}
+use Rattle.dispatch.specs.Leases.{after_tick, formats_of, restarts_of}
 use Rattle.dispatch.specs.Server.{book_at}
 use Rattle.dispatch.specs.ServerValue.{CircuitServerValue, HasItsPools, IsReady, IsReadyFor, OpenCircuitValue, leases_of, open_book, with_states}
 use Rattle.dispatch.specs.Ticked.{IsLater, open_at, state_at, state_of}
@@ -65,7 +65,7 @@ pub leases_after_tick : (now : ℕ) (regions : ℕ → Region) (parts : List Cir
 leases_after_tick now regions [] states = refl
 leases_after_tick now regions (part ∷ parts) [] = λ i. leases_of regions (server part None) ∷ leases_after_tick now regions parts [] i
 leases_after_tick now regions (part ∷ parts) (state ∷ states) =
-    λ i. record { book = book_after_tick now state i; restarts = restarts_of part (regions part.region) } ∷ leases_after_tick now regions parts states i
+    λ i. record { book = book_after_tick now state i; restarts = restarts_of part (regions part.region); is_new = formats_of (regions part.region) } ∷ leases_after_tick now regions parts states i
 
 all_after_tick : (now : ℕ) (P : CircuitServerValue → Type 0) → ((part : CircuitPart) (state : Option OpenCircuitValue) → P (server part state) → P (server part (state_at now state)))
     → (parts : List CircuitPart) (states : List (Option OpenCircuitValue)) → All P (with_states parts states) → All P (with_states parts (map (state_at now) states))

@@ -6,6 +6,7 @@ use Rattle.config.specs.CircuitPart.{CircuitPart}
 use Rattle.types.specs.declared.slots.Slots.{Slots}
 use Rattle.lease_disk.specs.declared.content.Content.{Content}
 use Rattle.lease_disk.specs.declared.content.Content.TheVariants as content
+use Rattle.lease_disk.specs.Layout.{is_format2}
 use Rattle.lease_disk.specs.Recovered.{recovered}
 use Rattle.lease_disk.specs.Region.{Region, IsClean}
 use Rattle.lease_disk.specs.Save.{AreMarks, is_read, with_slot}
@@ -58,6 +59,7 @@ served_by part o decision = record { answer = answer_of part decision; book = op
 
 -- an open circuit whose region keeps it but for this slot, which is to hold this
 pub record IsToSave (region : Region) (s : ℕ) (changed : Content) (o : OpenCircuitValue) : Type 0 where
+  pub format : is_format2 region.byte ≡ true
   pub clean : IsClean region
   pub marks : AreMarks (counts_in o) region.byte o.marks
   pub below : is_read (counts_in o) s ≡ true

@@ -1,8 +1,9 @@
 -- What shows of the server in the code.
-use Rattle.std.specs.Prelude.{◌≡◌, ◌≤◌, ℕ, List, [], ◌∷◌, length, map, Option, Some, None, IfSome, option_map, All}
+use Rattle.std.specs.Prelude.{◌≡◌, ◌≤◌, ℕ, true, List, [], ◌∷◌, length, map, Option, Some, None, IfSome, option_map, All}
 use Rattle.config.specs.CircuitPart.{CircuitPart, pool4_of, pool6_of}
 use Rattle.config.specs.Topology.{IsTopology, Topology}
 use Rattle.lease_disk.specs.declared.marks.Marks.{Marks}
+use Rattle.lease_disk.specs.Layout.{is_format2}
 use Rattle.lease_disk.specs.Recovered.{recovered}
 use Rattle.lease_disk.specs.Region.{Region, IsClean}
 use Rattle.lease_disk.specs.Save.{AreMarks}
@@ -13,7 +14,7 @@ use Rattle.bindings_v4.specs.Kept4 as kept4
 use Rattle.bindings_v4.specs.Slots4 as slots4
 use Rattle.bindings_v6.specs.Kept6 as kept6
 use Rattle.bindings_v6.specs.Slots6 as slots6
-use Rattle.dispatch.specs.Leases.{Leases, restarts_of}
+use Rattle.dispatch.specs.Leases.{Leases, formats_of, restarts_of}
 use Rattle.dispatch.specs.Server.{Book}
 
 -- of an open circuit: its clock, what the slots of its pools hold, and what the next save has to know
@@ -46,7 +47,7 @@ part_of s = s.part
 
 -- its leases, by its book and its region
 abbrev pub leases_of : (ℕ → Region) → CircuitServerValue → Leases
-leases_of regions s = record { book = book_of s; restarts = restarts_of s.part (regions s.part.region) }
+leases_of regions s = record { book = book_of s; restarts = restarts_of s.part (regions s.part.region); is_new = formats_of (regions s.part.region) }
 
 -- the slots of an open circuit are those of its pools
 abbrev pub HasPools : CircuitPart → Option OpenCircuitValue → Type 0
@@ -71,10 +72,10 @@ pub record IsKeptIn (region : ℕ → ℕ) (o : OpenCircuitValue) : Type 0 where
   pub four : map (live4 o.clock) slots.four ≡ (kept_slots o).four
   pub six : map (live6 o.clock) slots.six ≡ (kept_slots o).six
 
--- an open circuit's region keeps it, and can be saved to
+-- an open circuit's region is of format 2, keeps it, and can be saved to
 abbrev pub IsReadyFor : Region → Option OpenCircuitValue → Type 0
 IsReadyFor region None = Unit {0}
-IsReadyFor region (Some o) = IsClean region × AreMarks (counts_in o) region.byte o.marks × IsKeptIn region.byte o
+IsReadyFor region (Some o) = IsClean region × AreMarks (counts_in o) region.byte o.marks × IsKeptIn region.byte o × (is_format2 region.byte ≡ true)
 
 abbrev pub IsReady : (ℕ → Region) → CircuitServerValue → Type 0
 IsReady regions s = IsReadyFor (regions s.part.region) s.state

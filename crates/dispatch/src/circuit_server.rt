@@ -1,19 +1,20 @@
 //! The server of one circuit: what it has while it is open, and what it makes of a message.
 ghost use Rattle.std.specs.Prelude.{◌≡◌, ◌<◌, ◌≤◌, ◌+◌, ℕ, length, [], Some, None, IfSome, true, is_some, nat_lt, option_map};
+ghost use Rattle.config.specs.CircuitPart.{IsPart};
 ghost use Rattle.dispatch.specs.Deadlines.{HasDeadlines, SameBeside, held_in};
-ghost use Rattle.dispatch.specs.Leases.{after_datagram, found_book};
+ghost use Rattle.dispatch.specs.Leases.{IsBroughtUp, after_datagram, counts_of, found_leases};
 ghost use Rattle.types.specs.Slots.{last_until};
 ghost use Rattle.dispatch.specs.Received.{IsAnswer, answered, circuit_saves, fails_at};
 ghost use Rattle.requests.specs.RelayedMessage.{IsRelayedMessage};
 ghost use Rattle.dispatch.specs.ServerValue.{HasPools, IsReadyFor, leases_of, open_book};
 ghost use Rattle.dispatch.specs.Ticked.{IsLater, state_at};
-ghost use Rattle.lease_disk.specs.Device.{Touches, TouchesNothing, WritesAt};
+ghost use Rattle.lease_disk.specs.Device.{ChangesOne, Touches, WritesAt};
 ghost use Rattle.lease_disk.specs.Region.{IsClean};
 
 use crate::decision::put;
 use crate::open_circuit::OpenCircuit;
 use config::CircuitPart;
-use lease_disk::Disk;
+use lease_disk::{Disk, migrate};
 use requests::RelayedMessage;
 use std::marker::Model;
 use timers::Deadlines;
@@ -50,16 +51,25 @@ impl CircuitServer {
         self.state.is_some()
     }
 
-    /// Begins with what the circuit's region holds. The circuit is closed where the region cannot be
-    /// read or is damaged.
-    pub(crate) fn restart<D: Disk>(&mut self, part: &CircuitPart, disk: &mut D)
-        requires { part.now.region < (D.device disk.old).count }
+    /// Begins with what the circuit's region holds. A region of format 1 is moved to format 2 first, in this buffer. The
+    /// circuit is closed where the region cannot be read or is damaged, and where the move fails.
+    pub(crate) fn restart<D: Disk>(&mut self, part: &CircuitPart, disk: &mut D, buffer: &mut [u8])
+        requires part { IsPart part.now }
+        requires exists { part.now.region < (D.device disk.old).count }
+        requires buffer { length buffer.old ≡ 16384 }
+        requires clean { D.tells ≡ true → ((D.device disk.old).region part.now.region).readable ≡ true → IsClean ((D.device disk.old).region part.now.region) }
         ensures pools { HasPools part.now self.new }
-        ensures book { D.tells ≡ true → option_map open_book self.new ≡ found_book part.now ((D.device disk.old).region part.now.region) }
-        ensures ready { D.tells ≡ true → (((D.device disk.old).region part.now.region).readable ≡ true → IsClean ((D.device disk.old).region part.now.region)) → IsReadyFor ((D.device disk.old).region part.now.region) self.new }
-        ensures frame { TouchesNothing D.tells (D.device disk.old) (D.device disk.new) }
-        ensures reads { (D.device disk.new).reads ≤ (D.device disk.old).reads + 2 }
+        ensures leases { D.tells ≡ true → leases_of (D.device disk.new).region (record { part = part.now; state = self.new }) ≡ found_leases (D.device disk.old).region (D.device disk.old).fuse part.now }
+        ensures ready { D.tells ≡ true → IsReadyFor ((D.device disk.new).region part.now.region) self.new }
+        ensures region { D.tells ≡ true → IsBroughtUp (counts_of part.now) ((D.device disk.old).fuse part.now.region) ((D.device disk.old).region part.now.region) ((D.device disk.new).region part.now.region) }
+        ensures frame { ChangesOne D.tells part.now.region (D.device disk.old) (D.device disk.new) }
+        ensures reads { (D.device disk.new).reads ≤ (D.device disk.old).reads + 5 }
+        ensures writes { (D.device disk.new).writes ≤ (D.device disk.old).writes + 4 }
     {
+        let Ok(()) = migrate(part.region(), disk, part.counts(), buffer) else {
+            self.state = None;
+            return;
+        };
         self.state = OpenCircuit::recover(part, disk);
     }
 

@@ -1,13 +1,15 @@
 //! The servers of all circuits: one tick moves the clocks of all at once.
 ghost use Rattle.std.specs.Prelude.{◌≡◌, ◌<◌, ◌≤◌, ◌+◌, ◌*◌, [], List, Some, length, map, slice_set, All, true, is_some, nat_lt, option_map, IfOk};
 ghost use Rattle.config.specs.CircuitPart as parts;
+ghost use Rattle.config.specs.CircuitPart.{IsPart};
+ghost use Rattle.config.specs.Topology.{RegionsDiffer};
 ghost use Rattle.dispatch.specs.Deadlines.{HasDeadlines, HoldsDeadlines, SameBeside};
-ghost use Rattle.dispatch.specs.Leases.{AreSynced, HasRegions, after_datagram, found_leases};
+ghost use Rattle.dispatch.specs.Leases.{AreBroughtUp, AreSynced, HasRegions, KeepsOthers, after_datagram, found_leases};
 ghost use Rattle.dispatch.specs.Received.{IsAnswer, answered, circuit_saves, fails_at};
 ghost use Rattle.requests.specs.RelayedMessage.{IsRelayedMessage};
 ghost use Rattle.dispatch.specs.ServerValue.{HasItsPools, HasPools, IsReady, IsReadyFor, leases_of, open_book, with_states};
 ghost use Rattle.dispatch.specs.Ticked.{state_at, state_of};
-ghost use Rattle.lease_disk.specs.Device.{Touches, TouchesNothing, WritesAt};
+ghost use Rattle.lease_disk.specs.Device.{Touches, WritesAt};
 
 use crate::circuit_server::CircuitServer;
 use config::CircuitPart;
@@ -114,28 +116,37 @@ impl CircuitServers {
         self.ticked = self.ticked.later(now);
     }
 
-    /// Begins each with what its region holds, and gives its slots their deadlines.
+    /// Begins each with what its region holds, which is moved to format 2 in this buffer, and gives its slots their deadlines.
     pub(crate) fn restart<D: Disk>(
         &mut self,
         parts: &[CircuitPart],
         disk: &mut D,
+        buffer: &mut [u8],
         table: &mut Deadlines,
     )
         requires room { length table.old.slots ≡ 32 * length parts.now }
         requires few { length parts.now ≤ 1024 }
         requires size { length self.old ≡ length parts.now }
         requires regions { HasRegions parts.now (D.device disk.old).count }
+        requires parts { All IsPart parts.now }
+        requires differ { RegionsDiffer parts.now }
+        requires synced { D.tells ≡ true → AreSynced parts.now (D.device disk.old).region }
+        requires buffer { length buffer.old ≡ 16384 }
         ensures size { length self.new ≡ length self.old }
-        ensures leases { D.tells ≡ true → map (leases_of (D.device disk.new).region) (with_states parts.now self.new) ≡ map (found_leases (D.device disk.old).region) parts.now }
-        ensures ready { D.tells ≡ true → AreSynced parts.now (D.device disk.old).region → All (IsReady (D.device disk.new).region) (with_states parts.now self.new) }
+        ensures leases { D.tells ≡ true → map (leases_of (D.device disk.new).region) (with_states parts.now self.new) ≡ map (found_leases (D.device disk.old).region (D.device disk.old).fuse) parts.now }
+        ensures ready { D.tells ≡ true → All (IsReady (D.device disk.new).region) (with_states parts.now self.new) }
         ensures pools { All HasItsPools (with_states parts.now self.new) }
         ensures deadlines { HoldsDeadlines table.new self.new }
-        ensures frame { TouchesNothing D.tells (D.device disk.old) (D.device disk.new) }
-        ensures reads { (D.device disk.new).reads ≤ (D.device disk.old).reads + 2 * length parts.now }
+        ensures regions { D.tells ≡ true → AreBroughtUp parts.now (D.device disk.old) (D.device disk.new) }
+        ensures others { D.tells ≡ true → KeepsOthers parts.now (D.device disk.old) (D.device disk.new) }
+        ensures buffer { length buffer.new ≡ 16384 }
+        ensures count { (D.device disk.new).count ≡ (D.device disk.old).count }
+        ensures reads { (D.device disk.new).reads ≤ (D.device disk.old).reads + 5 * length parts.now }
+        ensures writes { (D.device disk.new).writes ≤ (D.device disk.old).writes + 4 * length parts.now }
     {
         // each begins with the clock that its region keeps, however late the last tick was
         self.ticked = Moment::first();
-        restart_all(parts, &mut self.servers, disk, table);
+        restart_all(parts, &mut self.servers, disk, buffer, table);
     }
 }
 
@@ -155,22 +166,31 @@ fn restart_all<D: Disk>(
     parts: &[CircuitPart],
     servers: &mut [CircuitServer],
     disk: &mut D,
+    buffer: &mut [u8],
     table: &mut Deadlines,
 )
     requires room { length table.old.slots ≡ 32 * length parts.now }
     requires few { length parts.now ≤ 1024 }
     requires size { length servers.old ≡ length parts.now }
     requires regions { HasRegions parts.now (D.device disk.old).count }
+    requires parts { All IsPart parts.now }
+    requires differ { RegionsDiffer parts.now }
+    requires synced { D.tells ≡ true → AreSynced parts.now (D.device disk.old).region }
+    requires buffer { length buffer.old ≡ 16384 }
     ensures size { length servers.new ≡ length servers.old }
-    ensures leases { D.tells ≡ true → map (leases_of (D.device disk.new).region) (with_states parts.now servers.new) ≡ map (found_leases (D.device disk.old).region) parts.now }
-    ensures ready { D.tells ≡ true → AreSynced parts.now (D.device disk.old).region → All (IsReady (D.device disk.new).region) (with_states parts.now servers.new) }
+    ensures leases { D.tells ≡ true → map (leases_of (D.device disk.new).region) (with_states parts.now servers.new) ≡ map (found_leases (D.device disk.old).region (D.device disk.old).fuse) parts.now }
+    ensures ready { D.tells ≡ true → All (IsReady (D.device disk.new).region) (with_states parts.now servers.new) }
     ensures pools { All HasItsPools (with_states parts.now servers.new) }
     ensures deadlines { HoldsDeadlines table.new servers.new }
-    ensures frame { TouchesNothing D.tells (D.device disk.old) (D.device disk.new) }
-    ensures reads { (D.device disk.new).reads ≤ (D.device disk.old).reads + 2 * length parts.now }
+    ensures regions { D.tells ≡ true → AreBroughtUp parts.now (D.device disk.old) (D.device disk.new) }
+    ensures others { D.tells ≡ true → KeepsOthers parts.now (D.device disk.old) (D.device disk.new) }
+    ensures buffer { length buffer.new ≡ 16384 }
+    ensures count { (D.device disk.new).count ≡ (D.device disk.old).count }
+    ensures reads { (D.device disk.new).reads ≤ (D.device disk.old).reads + 5 * length parts.now }
+    ensures writes { (D.device disk.new).writes ≤ (D.device disk.old).writes + 4 * length parts.now }
 {
     'circuits: for index in 0..parts.len() {
-        servers[index].restart(&parts[index], disk);
+        servers[index].restart(&parts[index], disk, buffer);
         servers[index].set_deadlines(table, SLOTS * index);
     }
 }

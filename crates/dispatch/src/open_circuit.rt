@@ -8,13 +8,14 @@ ghost use Rattle.v6_options.specs.Spelling.{look_up};
 ghost use Rattle.config.specs.CircuitPart as parts;
 ghost use Rattle.dispatch.specs.CircuitDecision.{IsToSave, IsWithin, KeepsItsSlot, is_kept, served_by, with_decision};
 ghost use Rattle.dispatch.specs.Deadlines.{held_until};
-ghost use Rattle.dispatch.specs.Leases.{found_book, restarts_after, restarts_of};
+ghost use Rattle.dispatch.specs.Leases.{formats_of, found_book, restarts_after, restarts_of};
 ghost use Rattle.requests.specs.RelayedMessage.{IsRelayedMessage};
 ghost use Rattle.requests.specs.Request4.{request4_in};
 ghost use Rattle.dispatch.specs.Server.{book_at, datagram_served, drop, message6_served, request4_served};
 ghost use Rattle.dispatch.specs.ServerValue.{HasPools, IsReadyFor, open_book};
 ghost use Rattle.dispatch.specs.Ticked.{open_at};
 ghost use Rattle.lease_disk.specs.Device.{Touches, TouchesNothing};
+ghost use Rattle.lease_disk.specs.Layout.{is_format2};
 ghost use Rattle.lease_disk.specs.Region.{IsClean, Region, effective, faults_after};
 ghost use Rattle.lease_disk.specs.Save.{Fits};
 
@@ -57,7 +58,7 @@ impl OpenCircuit {
         requires { part.now.region < (D.device disk.old).count }
         ensures pools { HasPools part.now result }
         ensures book { D.tells ≡ true → option_map open_book result ≡ found_book part.now ((D.device disk.old).region part.now.region) }
-        ensures ready { D.tells ≡ true → (((D.device disk.old).region part.now.region).readable ≡ true → IsClean ((D.device disk.old).region part.now.region)) → IsReadyFor ((D.device disk.old).region part.now.region) result }
+        ensures ready { D.tells ≡ true → is_format2 ((D.device disk.old).region part.now.region).byte ≡ true → (((D.device disk.old).region part.now.region).readable ≡ true → IsClean ((D.device disk.old).region part.now.region)) → IsReadyFor ((D.device disk.old).region part.now.region) result }
         ensures frame { TouchesNothing D.tells (D.device disk.old) (D.device disk.new) }
         ensures reads { (D.device disk.new).reads ≤ (D.device disk.old).reads + 2 }
     {
@@ -180,6 +181,7 @@ impl OpenCircuit {
         ensures kept { D.tells ≡ true → is_kept decision.now ≡ true
             → restarts_of part.now ((D.device disk.new).region part.now.region) ≡ restarts_after (effective 6 ((D.device disk.old).fuse part.now.region)) (open_book self.new) (restarts_of part.now ((D.device disk.old).region part.now.region)) }
         ensures stays { is_kept decision.now ≡ false → D.device disk.new ≡ D.device disk.old }
+        ensures formats { D.tells ≡ true → formats_of ((D.device disk.new).region part.now.region) ≡ formats_of ((D.device disk.old).region part.now.region) }
         ensures ready { D.tells ≡ true → OnOk result (IsReadyFor ((D.device disk.new).region part.now.region) (Some self.new)) }
         ensures frame { Touches D.tells part.now.region (D.device disk.old) (D.device disk.new) }
         ensures failures { (D.device disk.new).failures ≡ faults_after result (D.device disk.old).failures }
@@ -219,6 +221,7 @@ impl OpenCircuit {
         ensures clock { self.new.clock ≡ self.old.clock }
         ensures answer { D.tells ≡ true → is_ok result ≡ (effective 6 ((D.device disk.old).fuse part.now.region) == 0) }
         ensures restarts { D.tells ≡ true → restarts_of part.now ((D.device disk.new).region part.now.region) ≡ restarts_after (effective 6 ((D.device disk.old).fuse part.now.region)) (open_book self.new) (restarts_of part.now ((D.device disk.old).region part.now.region)) }
+        ensures formats { D.tells ≡ true → formats_of ((D.device disk.new).region part.now.region) ≡ formats_of ((D.device disk.old).region part.now.region) }
         ensures ready { D.tells ≡ true → OnOk result (IsReadyFor ((D.device disk.new).region part.now.region) (Some self.new)) }
         ensures frame { Touches D.tells part.now.region (D.device disk.old) (D.device disk.new) }
         ensures failures { (D.device disk.new).failures ≡ faults_after result (D.device disk.old).failures }

@@ -4,18 +4,18 @@ ghost use Rattle.config.specs.CircuitPart.{parts_of};
 ghost use Rattle.config.specs.Topology.{IsTopology, topology_of};
 ghost use Rattle.requests.specs.Addressee as who;
 ghost use Rattle.dispatch.specs.Deadlines.{HoldsDeadlines};
-ghost use Rattle.dispatch.specs.Leases.{AreSynced, HasRegions, after_tick, found_leases, received_leases};
+ghost use Rattle.dispatch.specs.Leases.{AreBroughtUp, AreSynced, HasRegions, KeepsOthers, after_tick, found_leases, received_leases};
 ghost use Rattle.dispatch.specs.Received.{IsAnswer, fails_at, received, received_saves};
 ghost use Rattle.dispatch.specs.ServerValue.{AreReady, books_in, leases_in};
 ghost use Rattle.dispatch.specs.declared.server.OpenFault.TheVariants as fault;
-ghost use Rattle.lease_disk.specs.Device.{TouchesNothing, WritesAt};
+ghost use Rattle.lease_disk.specs.Device.{WritesAt};
 ghost use Rattle.types.specs.Delivery.{delivery};
 ghost use Rattle.lease_disk.specs.Region.{Region};
 ghost use Rattle.timers.specs.Deadlines.{deadline, is_due};
 
 use crate::circuit_servers::{CircuitServers, SLOTS};
 use config::{CircuitPart, Circuits, Config};
-use lease_disk::Disk;
+use lease_disk::{Disk, HALVES_SIZE};
 use requests::addressee;
 use std::alloc::Global;
 use std::marker::Model;
@@ -44,9 +44,12 @@ pub struct Server {
     servers: CircuitServers,
     /// When the slots of all circuits are due: slot s of circuit c has the number 32 c + s.
     deadlines: Deadlines,
+    /// In which the regions of format 1 are moved.
+    buffer: Vec<u8>,
 }
 
 impl Model for Server {
+    ghost use Rattle.std.specs.Prelude.{◌≡◌, length};
     ghost use Rattle.dispatch.specs.Deadlines.{HoldsDeadlines};
     ghost use Rattle.dispatch.specs.ServerValue.{IsServer, ServerValue};
 
@@ -54,7 +57,7 @@ impl Model for Server {
 
     ghost view = { λ s. record { topology = s.circuits; states = s.servers; deadlines = s.deadlines } };
 
-    ghost invariant = { λ s. IsServer s.circuits s.servers × HoldsDeadlines s.deadlines s.servers };
+    ghost invariant = { λ s. IsServer s.circuits s.servers × HoldsDeadlines s.deadlines s.servers × (length s.buffer.items ≡ 16384) };
 }
 
 /// Whether the device has the region of each circuit.
@@ -72,19 +75,23 @@ fn has_regions(parts: &[CircuitPart], count: u16) -> bool
 
 impl Server {
     /// The server of a configuration over a device. Each circuit begins with the leases and the clock
-    /// that its region holds; one whose region cannot be read or is damaged is closed, alone. All
-    /// memory is taken before the device is first called.
+    /// that its region holds; one whose region cannot be read or is damaged is closed, alone. A region of format 1
+    /// is moved to format 2 first; where that fails its circuit is closed, alone, until a restart. All memory is
+    /// taken before the device is first called.
     pub fn open<D: Disk>(alloc: Global, config: &Config, disk: &mut D) -> Result<Server, OpenFault>
         requires synced { D.tells ≡ true → AreSynced (parts_of config.now) (D.device disk.old).region }
         ensures topology { IfOk result (λ server. server.topology ≡ topology_of config.now) }
         ensures sound { IfOk result (λ server. IsTopology (topology_of config.now)) }
-        ensures leases { D.tells ≡ true → IfOk result (λ server. leases_in (D.device disk.new).region server ≡ map (found_leases (D.device disk.old).region) (parts_of config.now)) }
+        ensures leases { D.tells ≡ true → IfOk result (λ server. leases_in (D.device disk.new).region server ≡ map (found_leases (D.device disk.old).region (D.device disk.old).fuse) (parts_of config.now)) }
         ensures ready { D.tells ≡ true → IfOk result (λ server. AreReady (D.device disk.new).region server) }
         ensures large { IfOk result (λ server. HasRegions (parts_of config.now) (D.device disk.new).count) }
         ensures small { IfErr result (λ why. why ≡ fault.DiskTooSmall → ¬ HasRegions (parts_of config.now) (D.device disk.old).count) }
         ensures untouched { OnErr result (D.device disk.new ≡ D.device disk.old) }
-        ensures frame { TouchesNothing D.tells (D.device disk.old) (D.device disk.new) }
-        ensures reads { (D.device disk.new).reads ≤ (D.device disk.old).reads + 2 * length config.now.circuits }
+        ensures regions { D.tells ≡ true → IfOk result (λ server. AreBroughtUp (parts_of config.now) (D.device disk.old) (D.device disk.new)) }
+        ensures others { D.tells ≡ true → KeepsOthers (parts_of config.now) (D.device disk.old) (D.device disk.new) }
+        ensures count { (D.device disk.new).count ≡ (D.device disk.old).count }
+        ensures reads { (D.device disk.new).reads ≤ (D.device disk.old).reads + 5 * length config.now.circuits }
+        ensures writes { (D.device disk.new).writes ≤ (D.device disk.old).writes + 4 * length config.now.circuits }
     {
         let Ok(circuits) = Circuits::of(alloc, config) else {
             return Err(OpenFault::Memory);
@@ -96,14 +103,18 @@ impl Server {
         let Ok(mut deadlines) = Deadlines::new(alloc, SLOTS * count) else {
             return Err(OpenFault::Memory);
         };
+        let Ok(mut buffer) = Vec::from_elem(alloc, 0, HALVES_SIZE) else {
+            return Err(OpenFault::Memory);
+        };
         if !has_regions(circuits.parts(), disk.regions()) {
             return Err(OpenFault::DiskTooSmall);
         }
-        servers.restart(circuits.parts(), disk, &mut deadlines);
+        servers.restart(circuits.parts(), disk, &mut buffer, &mut deadlines);
         Ok(Server {
             circuits,
             servers,
             deadlines,
+            buffer,
         })
     }
 
@@ -202,17 +213,21 @@ impl Server {
     }
 
     /// Begins each circuit anew with what its region holds, without offers. One whose region cannot be
-    /// read or is damaged is closed, alone.
+    /// read or is damaged is closed, alone, and so is one whose region is of format 1 and cannot be moved.
     pub fn restart<D: Disk>(&mut self, disk: &mut D)
         requires regions { HasRegions self.old.topology.circuits (D.device disk.old).count }
         requires synced { D.tells ≡ true → AreSynced self.old.topology.circuits (D.device disk.old).region }
         ensures topology { self.new.topology ≡ self.old.topology }
-        ensures leases { D.tells ≡ true → leases_in (D.device disk.new).region self.new ≡ map (found_leases (D.device disk.old).region) self.old.topology.circuits }
+        ensures leases { D.tells ≡ true → leases_in (D.device disk.new).region self.new ≡ map (found_leases (D.device disk.old).region (D.device disk.old).fuse) self.old.topology.circuits }
         ensures ready { D.tells ≡ true → AreReady (D.device disk.new).region self.new }
-        ensures frame { TouchesNothing D.tells (D.device disk.old) (D.device disk.new) }
-        ensures reads { (D.device disk.new).reads ≤ (D.device disk.old).reads + 2 * length self.old.topology.circuits }
+        ensures regions { D.tells ≡ true → AreBroughtUp self.old.topology.circuits (D.device disk.old) (D.device disk.new) }
+        ensures others { D.tells ≡ true → KeepsOthers self.old.topology.circuits (D.device disk.old) (D.device disk.new) }
+        ensures count { (D.device disk.new).count ≡ (D.device disk.old).count }
+        ensures reads { (D.device disk.new).reads ≤ (D.device disk.old).reads + 5 * length self.old.topology.circuits }
+        ensures writes { (D.device disk.new).writes ≤ (D.device disk.old).writes + 4 * length self.old.topology.circuits }
     {
         let table = &mut self.deadlines;
-        self.servers.restart(self.circuits.parts(), disk, table);
+        self.servers
+            .restart(self.circuits.parts(), disk, &mut self.buffer, table);
     }
 }

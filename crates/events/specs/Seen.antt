@@ -2,8 +2,8 @@
 use Rattle.std.specs.Prelude.{ℕ, Bool, true, false, List, Option, Some, None, ◌==◌, if◌then◌else◌, slice_index_or}
 use Rattle.std.specs.List.{filter_map}
 use Rattle.types.specs.declared.dest.Proto.{Proto}
-use Rattle.lease_disk.specs.declared.image.Image.{Image}
 use Rattle.lease_disk.specs.declared.image.Image.TheVariants.{Byte}
+use Rattle.events.specs.declared.comeback.Comeback.{Comeback}
 use Rattle.events.specs.declared.event.Event.{Event}
 use Rattle.events.specs.declared.event.Event.TheVariants as event
 
@@ -17,21 +17,22 @@ pub data Seen : Type 0 where
   Down : ℕ → Seen
   -- the moment passes
   Tick : ℕ → Seen
-  -- the server restarts, with this image of the circuit's region
-  Restart : Image → Seen
+  -- the server restarts, and the circuit's region comes back so
+  Restart : Comeback → Seen
 
--- Circuit c's image among those of a restart. A circuit past the end of the list has the byte 0.
-abbrev pub image_at : ℕ → List Image → Image
-image_at c images = slice_index_or images c (Byte 0)
+-- How circuit c's region comes back, by the list of a restart. Past the end of the list each unsynced byte is 0, and no
+-- call fails.
+abbrev pub comeback_at : ℕ → List Comeback → Comeback
+comeback_at c comebacks = slice_index_or comebacks c (record { image = Byte 0; move_fault = 0 })
 
--- what circuit c sees of an event: what names it, every tick, and every restart with its own image, but
+-- what circuit c sees of an event: what names it, every tick, and how its own region comes back at every restart, but
 -- no stray
 abbrev pub seen_of : ℕ → Event → Option Seen
 seen_of c (event.Frame circuit proto bytes) = if circuit == c then Some (Frame proto bytes.now) else None
 seen_of c (event.Up circuit j now fault) = if circuit == c then Some (Up j now fault) else None
 seen_of c (event.Down circuit j) = if circuit == c then Some (Down j) else None
 seen_of c (event.Tick now) = Some (Tick now)
-seen_of c (event.Restart images) = Some (Restart (image_at c images.now))
+seen_of c (event.Restart comebacks) = Some (Restart (comeback_at c comebacks.now))
 seen_of c stray = None
 
 -- what circuit c sees of a run, in order
@@ -46,5 +47,5 @@ named_by (event.Down circuit j) = Some circuit
 named_by event = None
 
 abbrev pub is_restart : Event → Bool
-is_restart (event.Restart images) = true
+is_restart (event.Restart comebacks) = true
 is_restart event = false

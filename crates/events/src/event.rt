@@ -1,5 +1,5 @@
 //! What happens to relay, network and server.
-use lease_disk::Image;
+use crate::comeback::Comeback;
 use types::{Circuit, Moment, Proto, RelayNo, Source};
 
 /// One thing that happens, taken whole before the next. It lends its bytes.
@@ -15,9 +15,9 @@ pub enum Event<'a> {
     Down(Circuit, u16),
     /// The moment passes for all circuits.
     Tick(Moment),
-    /// The server and the disk stop and start again. Each circuit's region is then as its image says; a
-    /// circuit past the end of the list has `Image::Byte(0)`.
-    Restart(&'a [Image]),
+    /// The server and the disk stop and start again. Each circuit's region comes back as the list says; that of a
+    /// circuit past its end with `Image::Byte(0)`, and without a fault.
+    Restart(&'a [Comeback]),
     /// A datagram that no relay of the configuration sent reaches the server at this moment.
     StrayUp(Proto, Source, &'a [u8], Moment),
     /// A datagram that the server did not send reaches a relay.

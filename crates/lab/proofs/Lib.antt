@@ -1,5 +1,6 @@
 pub mod CauseLemmas
-pub mod FillLemmas
+pub mod LineResultLemmas
+pub mod OpeningLemmas
+pub mod PreparationLemmas
 pub mod RunLemmas
 pub mod StartLemmas
-pub mod LineResultLemmas

@@ -21,9 +21,9 @@ use Rattle.config.specs.Topology.{Topology, topology_of, is_relay, is_server}
 use Rattle.types.specs.declared.addr.Source.{Source}
 use Rattle.types.specs.declared.discard.Discard.TheVariants.{UnknownSource, NotServer}
 use Rattle.std.specs.Borrow.{Bor}
-use Rattle.lease_disk.specs.declared.image.Image.{Image}
+use Rattle.events.specs.declared.comeback.Comeback.{Comeback}
 use Rattle.events.specs.Seen as sees
-use Rattle.lab_text.specs.Fields.{image_in}
+use Rattle.lab_text.specs.Fields.{comeback_in}
 use Rattle.lab_text.specs.ParsedLine.{IsRestart}
 use Rattle.lab.specs.Lab.{named_result, line_result, with_machine, ticked, restarted}
 use Rattle.lab_text.specs.Line.{Line, Bad, line_of_text, short_line}
@@ -113,23 +113,23 @@ represents_ticked settings quota now states new o out machines steps represents 
 }
 
 -- the server and the disk start again
-pub restart_applied : (settings : Settings) (quota number : ℕ) (images : Bor (List Image)) (line : Line) (states new : List CircuitState) (o : Outcome) (out : List ℕ) (machines : ℕ → Alone) (held holds : Option (List ℕ))
-    → IsRestart images.now line → Steps (event.Restart images) states new o out → AllRepresent settings quota states machines → Appends held holds (with_newline (effect_text [] Done))
+pub restart_applied : (settings : Settings) (quota number : ℕ) (comebacks : Bor (List Comeback)) (line : Line) (states new : List CircuitState) (o : Outcome) (out : List ℕ) (machines : ℕ → Alone) (held holds : Option (List ℕ))
+    → IsRestart comebacks.now line → Steps (event.Restart comebacks) states new o out → AllRepresent settings quota states machines → Appends held holds (with_newline (effect_text [] Done))
     → Follows settings quota number (line_result settings quota machines line) new held holds None
-restart_applied settings quota number images line states new o out machines held holds is steps represents written =
+restart_applied settings quota number comebacks line states new o out machines held holds is steps represents written =
     subst (λ l. Follows settings quota number (line_result settings quota machines l) new held holds None) (sym is.is) (record {
       appended = written;
       represents = record {
         each = λ c setup h.
-            subst (λ s. Represents c new setup (restarted (image_in c is.named) (machines c) s)) (sym h)
-            (subst (λ image. Represents c new setup (alone_step setup (sees.Restart image) (machines c)).next) (is.each c)
+            subst (λ s. Represents c new setup (restarted (comeback_in c is.named) (machines c) s)) (sym h)
+            (subst (λ comeback. Represents c new setup (alone_step setup (sees.Restart comeback) (machines c)).next) (is.each c)
             (steps.each c setup (machines c) (represents.each c setup h)));
       };
     })
 
-pub restart_not_written : (settings : Settings) (quota number : ℕ) (images : List Image) (line : Line) (states : List CircuitState) (machines : ℕ → Alone) (held holds : Option (List ℕ))
-    → IsRestart images line → AppendsPrefix held holds (with_newline (effect_text [] Done)) → Follows settings quota number (line_result settings quota machines line) states held holds (Some 6)
-restart_not_written settings quota number images line states machines held holds is written =
+pub restart_not_written : (settings : Settings) (quota number : ℕ) (comebacks : List Comeback) (line : Line) (states : List CircuitState) (machines : ℕ → Alone) (held holds : Option (List ℕ))
+    → IsRestart comebacks line → AppendsPrefix held holds (with_newline (effect_text [] Done)) → Follows settings quota number (line_result settings quota machines line) states held holds (Some 6)
+restart_not_written settings quota number comebacks line states machines held holds is written =
     subst (λ l. Follows settings quota number (line_result settings quota machines l) states held holds (Some 6)) (sym is.is) (refl, written)
 
 -- what comes of a stray whose source is not one of the configuration

@@ -66,12 +66,12 @@ partial_none output given left held holds before count counted flushed = record 
   partial = record { front = []; rest = (output counted.bytes).text; parted = refl; appended = appends_kept held held holds [] (appends_none held) flushed };
 }
 
-none_written : (settings : Settings) (quota number : ℕ) (machines : ℕ → Alone) → lab_from settings quota number true machines [] ≡ record { text = []; status = 0 }
+none_written : (settings : Settings) (quota number : ℕ) (machines : ℕ → Alone) → lab_from settings quota number machines [] ≡ record { text = []; status = 0 }
 unfolding lab_from
 none_written settings quota number machines = refl
 
 one_line : (settings : Settings) (quota number : ℕ) (machines : ℕ → Alone) (line : List ℕ) (lines : List (List ℕ))
-    → lab_from settings quota number true machines (line ∷ lines) ≡ and_then number (line_result settings quota machines (line_of_text settings line)) (λ next. lab_from settings quota (number + 1) true next lines)
+    → lab_from settings quota number machines (line ∷ lines) ≡ and_then number (line_result settings quota machines (line_of_text settings line)) (λ next. lab_from settings quota (number + 1) next lines)
 unfolding lab_from
 one_line settings quota number machines line lines = refl
 
@@ -85,16 +85,16 @@ after_more xs ys o = ap (λ text. record { text = text; status = o.status }) (sy
 
 -- the output for a text after a part of it
 goes_on : (settings : Settings) (quota number : ℕ) (output : List ℕ → Output) (given left held holds : Option (List ℕ)) (states : List CircuitState) (Known : List ℕ → Type 0) (s : SoFar settings quota number output given left held holds states Known) (part rest : List ℕ) → Known (part ++ rest)
-    → output ((s.read ++ part) ++ rest) ≡ after s.written (lab_from settings quota number true s.machines (lines_of (part ++ rest)))
+    → output ((s.read ++ part) ++ rest) ≡ after s.written (lab_from settings quota number s.machines (lines_of (part ++ rest)))
 goes_on settings quota number output given left held holds states Known s part rest fits =
     ap output (append_assoc s.read part rest) ∙ s.whole (part ++ rest) fits
 
 -- a line with its line feed
 line_on : (settings : Settings) (quota number : ℕ) (machines : ℕ → Alone) (line rest : List ℕ) → lacks 10 line ≡ true
-    → lab_from settings quota number true machines (lines_of ((line ++ 10 ∷ []) ++ rest)) ≡ and_then number (line_result settings quota machines (line_of_text settings line)) (λ next. lab_from settings quota (number + 1) true next (lines_of rest))
+    → lab_from settings quota number machines (lines_of ((line ++ 10 ∷ []) ++ rest)) ≡ and_then number (line_result settings quota machines (line_of_text settings line)) (λ next. lab_from settings quota (number + 1) next (lines_of rest))
 line_on settings quota number machines line rest plain =
-    ap (λ text. lab_from settings quota number true machines (lines_of text)) (append_assoc line (10 ∷ []) rest)
-    ∙ ap (lab_from settings quota number true machines) (line_before line rest plain)
+    ap (λ text. lab_from settings quota number machines (lines_of text)) (append_assoc line (10 ∷ []) rest)
+    ∙ ap (lab_from settings quota number machines) (line_before line rest plain)
     ∙ one_line settings quota number machines line (lines_of rest)
 
 next_at : (settings : Settings) (quota number : ℕ) (output : List ℕ → Output) (given left left2 held holds holds2 : Option (List ℕ)) (states states2 : List CircuitState) (Known : List ℕ → Type 0) (line : List ℕ) (t : LineResult)
@@ -110,8 +110,8 @@ next_at settings quota number output given left left2 held holds holds2 states s
   appended = appends_more held holds holds2 s.written written s.appended follows.appended;
   whole = λ rest known.
       goes_on settings quota number output given left held holds states Known s (line ++ 10 ∷ []) rest (fits rest)
-      ∙ ap (after s.written) (line_on settings quota number s.machines line rest read.plain ∙ ap (λ t. and_then number t (λ next. lab_from settings quota (number + 1) true next (lines_of rest))) is)
-      ∙ after_more s.written written (lab_from settings quota (number + 1) true machines (lines_of rest));
+      ∙ ap (after s.written) (line_on settings quota number s.machines line rest read.plain ∙ ap (λ t. and_then number t (λ next. lab_from settings quota (number + 1) next (lines_of rest))) is)
+      ∙ after_more s.written written (lab_from settings quota (number + 1) machines (lines_of rest));
 }
 
 -- one line more
@@ -130,7 +130,7 @@ Left left rest = (left ≡ Some rest) ⊎ (rest ≡ [])
 ends_at : (settings : Settings) (quota number : ℕ) (output : List ℕ → Output) (given left left2 held holds holds2 : Option (List ℕ)) (states states2 : List CircuitState) (Known : List ℕ → Type 0) (part : List ℕ) (status : ℕ) (t : LineResult)
     → (s : SoFar settings quota number output given left held holds states Known) → Consumes left left2 part → ((rest : List ℕ) → Left left2 rest → Known (part ++ rest))
     → (f : List ℕ → (ℕ → Alone) → Output)
-    → ((rest : List ℕ) → Left left2 rest → lab_from settings quota number true s.machines (lines_of (part ++ rest)) ≡ and_then number t (f rest))
+    → ((rest : List ℕ) → Left left2 rest → lab_from settings quota number s.machines (lines_of (part ++ rest)) ≡ and_then number t (f rest))
     → Follows settings quota number t states2 holds holds2 (Some status)
     → Ends output given left2 held holds2 status
 ends_at settings quota number output given left left2 held holds holds2 states states2 Known part status Refused s read fits f comes (inl (is, wrote)) = record {
@@ -168,22 +168,22 @@ ends_feed settings quota number output given left left2 held holds holds2 states
     ends_at settings quota number output given left left2 held holds holds2 states states2 Known ((line ++ 10 ∷ []) ++ ahead) status (line_result settings quota s.machines (line_of_text settings line)) s
     (consumes_more left (prepend_known ahead left2) left2 (line ++ 10 ∷ []) ahead read.read (all_consumed left2 ahead))
     (λ rest here. subst Known (sym (append_assoc (line ++ 10 ∷ []) ahead rest)) (fits (ahead ++ rest)))
-    (λ rest next. lab_from settings quota (number + 1) true next (lines_of (ahead ++ rest)))
+    (λ rest next. lab_from settings quota (number + 1) next (lines_of (ahead ++ rest)))
     (λ rest here.
-    ap (λ text. lab_from settings quota number true s.machines (lines_of text)) (append_assoc (line ++ 10 ∷ []) ahead rest)
+    ap (λ text. lab_from settings quota number s.machines (lines_of text)) (append_assoc (line ++ 10 ∷ []) ahead rest)
     ∙ line_on settings quota number s.machines line (ahead ++ rest) read.plain)
     (follows s.machines s.represents)
 
 -- a line that is too long
 long_on : (settings : Settings) (quota number : ℕ) (machines : ℕ → Alone) (front rest : List ℕ) → lacks 10 front ≡ true → 8192 < length front
-    → lab_from settings quota number true machines (lines_of (front ++ rest)) ≡ record { text = bad_text number; status = 3 }
+    → lab_from settings quota number machines (lines_of (front ++ rest)) ≡ record { text = bad_text number; status = 3 }
 long_on settings quota number machines [] rest plain long = absurd (omega arith)
 long_on settings quota number machines (b ∷ front) rest plain long =
     let begins = line_begins b front rest plain in
     let line = (b ∷ front) ++ begins.more in
     let size = length-append (b ∷ front) begins.more in
-    ap (lab_from settings quota number true machines) begins.is ∙ one_line settings quota number machines line begins.others
-    ∙ ap (λ l. and_then number (line_result settings quota machines l) (λ next. lab_from settings quota (number + 1) true next begins.others)) (long_is settings line (omega arith))
+    ap (lab_from settings quota number machines) begins.is ∙ one_line settings quota number machines line begins.others
+    ∙ ap (λ l. and_then number (line_result settings quota machines l) (λ next. lab_from settings quota (number + 1) next begins.others)) (long_is settings line (omega arith))
 
 ends_long : (settings : Settings) (quota number : ℕ) (output : List ℕ → Output) (given left left2 held holds holds2 : Option (List ℕ)) (states : List CircuitState) (Known : List ℕ → Type 0) (ahead : List ℕ) (status : ℕ)
     → SoFar settings quota number output given left held holds states Known → (read : IsLong left (prepend_known ahead left2)) → ((rest : List ℕ) → Known ((read.front ++ ahead) ++ rest)) → IsRefusal number holds holds2 status → Ends output given left2 held holds2 status
@@ -193,7 +193,7 @@ ends_long settings quota number output given left left2 held holds holds2 states
     (λ rest here. fits rest)
     (λ rest next. record { text = []; status = 0 })
     (λ rest here.
-    ap (λ text. lab_from settings quota number true s.machines (lines_of text)) (append_assoc read.front ahead rest)
+    ap (λ text. lab_from settings quota number s.machines (lines_of text)) (append_assoc read.front ahead rest)
     ∙ long_on settings quota number s.machines read.front (ahead ++ rest) read.part.plain read.long)
     wrote
 
@@ -204,11 +204,11 @@ none_left (Some xs) rest end (inl h) = sym (same_Some _ _ h) ∙ end
 none_left left rest end (inr h) = h
 
 last_on : (settings : Settings) (quota number : ℕ) (machines : ℕ → Alone) (line rest : List ℕ) → lacks 10 line ≡ true → (length line ≡ 0 → ⊥) → rest ≡ []
-    → lab_from settings quota number true machines (lines_of (line ++ rest)) ≡ and_then number (line_result settings quota machines (line_of_text settings line)) (λ next. lab_from settings quota (number + 1) true next [])
+    → lab_from settings quota number machines (lines_of (line ++ rest)) ≡ and_then number (line_result settings quota machines (line_of_text settings line)) (λ next. lab_from settings quota (number + 1) next [])
 last_on settings quota number machines [] rest plain some none = absurd (some refl)
 last_on settings quota number machines (b ∷ front) rest plain some none =
-    ap (λ text. lab_from settings quota number true machines (lines_of text)) (ap (λ v. (b ∷ front) ++ v) none ∙ append-nil (b ∷ front))
-    ∙ ap (lab_from settings quota number true machines) (line_last b front plain)
+    ap (λ text. lab_from settings quota number machines (lines_of text)) (ap (λ v. (b ∷ front) ++ v) none ∙ append-nil (b ∷ front))
+    ∙ ap (lab_from settings quota number machines) (line_last b front plain)
     ∙ one_line settings quota number machines (b ∷ front) []
 
 -- The run ends at the end of the text, of which all was written.
@@ -232,7 +232,7 @@ last_done settings quota number output given left left2 held holds holds2 states
     (appends_more held holds holds2 s.written written s.appended follows.appended)
     (goes_on settings quota number output given left held holds states Known s line [] (subst Known (sym (append-nil line)) fits)
     ∙ ap (after s.written) (last_on settings quota number s.machines line [] read.part.plain some refl
-    ∙ ap (λ t. and_then number t (λ next. lab_from settings quota (number + 1) true next [])) is
+    ∙ ap (λ t. and_then number t (λ next. lab_from settings quota (number + 1) next [])) is
     ∙ ap (after written) (none_written settings quota (number + 1) machines)
     ∙ ap (λ text. record { text = text; status = 0 }) (append-nil written)))
 
@@ -242,7 +242,7 @@ ends_none : (settings : Settings) (quota number : ℕ) (output : List ℕ → Ou
 ends_none settings quota number output given left left2 held holds states Known s read fits =
     ends_done output given left2 held holds (s.read ++ []) s.written (consumes_more given left left2 s.read [] s.consumed read.part.read) read.end s.appended
     (goes_on settings quota number output given left held holds states Known s [] [] fits
-    ∙ ap (after s.written) (ap (lab_from settings quota number true s.machines) no_lines ∙ none_written settings quota number s.machines)
+    ∙ ap (after s.written) (ap (lab_from settings quota number s.machines) no_lines ∙ none_written settings quota number s.machines)
     ∙ ap (λ text. record { text = text; status = 0 }) (append-nil s.written))
 
 -- The last line, which lacks its line feed, and which may be empty.
@@ -265,7 +265,7 @@ last_ended settings quota number output given left left2 held holds holds2 state
 last_ended settings quota number output given left left2 held holds holds2 states states2 Known line status s read fits (inr (some, inr follows)) =
     ends_at settings quota number output given left left2 held holds holds2 states states2 Known line status (line_result settings quota s.machines (line_of_text settings line)) s read.part.read
     (λ rest here. subst Known (sym (ap (λ v. line ++ v) (none_left left2 rest read.end here) ∙ append-nil line)) fits)
-    (λ rest next. lab_from settings quota (number + 1) true next [])
+    (λ rest next. lab_from settings quota (number + 1) next [])
     (λ rest here. last_on settings quota number s.machines line rest read.part.plain some (none_left left2 rest read.end here)) follows
 
 pub ends_last : (settings : Settings) (quota number : ℕ) (output : List ℕ → Output) (given left left2 held holds holds2 : Option (List ℕ)) (states states2 : List CircuitState) (Known : List ℕ → Type 0) (line : List ℕ) (status : ℕ)
@@ -284,7 +284,7 @@ ends_cut settings quota number output given left left2 held holds states Known s
   exact = λ fine rest here. absurd (fine refl);
   partial = λ failed. record {
     front = s.written;
-    rest = (lab_from settings quota number true s.machines (lines_of cut.front)).text;
+    rest = (lab_from settings quota number s.machines (lines_of cut.front)).text;
     parted = ap (λ o. o.text) (s.whole cut.front fits);
     appended = s.appended;
   };

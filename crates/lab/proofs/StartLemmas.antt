@@ -1,5 +1,5 @@
 -- A world over regions that can be read.
-use Rattle.std.proofs.Common.{◌≡◌, ℕ, ◌<◌, List, get_or, refl, sym, subst, ◌∙◌}
+use Rattle.std.proofs.Common.{◌≡◌, ℕ, ◌<◌, List, get_or, refl, sym, ap, subst, ◌∙◌}
 use Rattle.std.specs.Prelude.{Option, Some, None, Result, Ok, Err, IfOk, IfErr, option_map, slice_get}
 use Rattle.std.proofs.lemmas.Option.{same_Some, slice_get-map, slice_get-get_or}
 use Rattle.config.specs.CircuitPart.{CircuitPart, part_in, part_of, parts_of, source_at}
@@ -10,12 +10,13 @@ use Rattle.dispatch.specs.declared.server.OpenFault.{OpenFault}
 use Rattle.dispatch.specs.declared.server.OpenFault.TheVariants.{Memory, DiskTooSmall}
 use Rattle.lease_disk.specs.Device.{Device}
 use Rattle.lease_disk.specs.Region.{Region}
-use Rattle.world.specs.Alone.{Alone}
 use Rattle.world.specs.Headline.{CircuitState, Represents}
-use Rattle.world.specs.Start.{Starts}
+use Rattle.world.specs.Start.{Opening, Starts, opening_in}
 use Rattle.world.specs.World.{WorldValue, states}
 use Rattle.world.proofs.SetupLemmas.{its_part}
-use Rattle.lab.specs.Fills.{AreOver, AreReady, AreWithin}
+use Rattle.lab.specs.Lab.{first_machine, first_machines}
+use Rattle.lab.specs.Preparations.{AreOver, AreReady, AreWithin, IsOpening}
+use Rattle.lab.proofs.OpeningLemmas.{same_opened}
 use Rattle.lab.specs.Follows.{AllRepresent}
 
 within_at : (settings : Settings) (count c : ℕ) (part : CircuitPart) (o : Option CircuitConfig) → AreWithin settings count → slice_get settings.circuits c ≡ o
@@ -28,17 +29,18 @@ part_within settings count c part within h =
     within_at settings count c part (slice_get settings.circuits c) within refl
     (sym (slice_get-map (λ (x : CircuitConfig). part_of x (source_at settings.relays x.relay) settings.server.listen4 settings.server.listen6 settings.server.duid.items) settings.circuits c) ∙ h)
 
--- it begins with the machines over this device
+-- it begins with the machines of the openings over this device
 represents : (settings : Settings) (quota count : ℕ) (device : Device) (states : List CircuitState) → AreWithin settings count → AreReady count device.region → Starts settings quota device states
-    → (machines : ℕ → Alone) → AreOver settings quota device machines → AllRepresent settings quota states machines
-represents settings quota count device states within ready starts machines over = record {
+    → (openings : ℕ → Opening) → AreOver settings quota device openings → AllRepresent settings quota states (first_machines settings quota openings)
+represents settings quota count device states within ready starts openings over = record {
   each = λ c setup h.
-      subst (Represents c states setup) (sym (over.each c setup h))
+      let found : IsOpening device setup.part.region (openings c) = over.each c setup h in
+      subst (Represents c states setup) (sym (ap (first_machine (openings c)) h ∙ same_opened setup (opening_in device setup) (openings c) found.byte found.move_fault))
       (starts.each c setup h (ready setup.part.region (part_within settings count c setup.part within (its_part settings quota c setup h))).readable);
 }
 
 pub represents_ok : (settings : Settings) (quota count : ℕ) (device : Device) (r : Result WorldValue OpenFault) → AreWithin settings count → AreReady count device.region
-    → IfOk r (λ world. Starts settings quota device (states world)) → IfOk r (λ world. (machines : ℕ → Alone) → AreOver settings quota device machines → AllRepresent settings quota (states world) machines)
+    → IfOk r (λ world. Starts settings quota device (states world)) → IfOk r (λ world. (openings : ℕ → Opening) → AreOver settings quota device openings → AllRepresent settings quota (states world) (first_machines settings quota openings))
 represents_ok settings quota count device (Ok world) within ready starts = represents settings quota count device (states world) within ready starts
 represents_ok settings quota count device (Err why) within ready starts = tt
 

@@ -1,8 +1,8 @@
 -- What a line and a run of lines do to the world and to the writer. Only proofs need these.
-use Rattle.std.specs.Prelude.{◌≡◌, ℕ, ◌⊎◌, ◌==◌, if◌then◌else◌, true, List, ◌++◌, length, Option, Some, None}
+use Rattle.std.specs.Prelude.{◌≡◌, ℕ, ◌⊎◌, ◌==◌, if◌then◌else◌, List, ◌++◌, length, Option, Some, None}
 use Rattle.std.specs.Io.KnownBytes.{Appends, Consumes}
 use Rattle.settings.specs.Settings.{Settings}
-use Rattle.lease_disk.specs.declared.image.Image.{Image}
+use Rattle.events.specs.declared.comeback.Comeback.{Comeback}
 use Rattle.world.specs.Alone.{Alone, Setup}
 use Rattle.world.specs.Headline.{CircuitState, Represents}
 use Rattle.world.specs.Start.{setup_in}
@@ -24,9 +24,9 @@ pub record AllRepresent (settings : Settings) (quota : ℕ) (states : List Circu
 abbrev pub Names : ℕ → Seen → Event → Type 0
 Names circuit seen event = (c : ℕ) → seen_of c event ≡ (if circuit == c then Some seen else None)
 
--- This line was parsed to this, with its bytes and its images in these buffers.
-pub record Says (settings : Settings) (bytes : List ℕ) (images : List Image) (line : List ℕ) (parsed : Parsed) : Type 0 where
-  pub means : Means parsed bytes images (line_of_text settings line)
+-- This line was parsed to this, with its bytes and its comebacks in these buffers.
+pub record Says (settings : Settings) (bytes : List ℕ) (comebacks : List Comeback) (line : List ℕ) (parsed : Parsed) : Type 0 where
+  pub means : Means parsed bytes comebacks (line_of_text settings line)
   pub within : ParsedWithin settings parsed
 
 -- A line was applied, and its output was written.
@@ -66,7 +66,7 @@ pub record SoFar (settings : Settings) (quota number : ℕ) (output : List ℕ �
   pub consumed : Consumes given left read
   pub written : List ℕ
   pub appended : Appends held holds written
-  pub whole : (rest : List ℕ) → Known rest → output (read ++ rest) ≡ after written (lab_from settings quota number true machines (lines_of rest))
+  pub whole : (rest : List ℕ) → Known rest → output (read ++ rest) ≡ after written (lab_from settings quota number machines (lines_of rest))
 
 -- A run that has read these bytes and ended with this status.
 pub record Ends (output : List ℕ → Output) (given left held holds : Option (List ℕ)) (status : ℕ) : Type 0 where

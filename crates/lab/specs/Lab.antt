@@ -1,15 +1,15 @@
 -- The output for a text of event lines, by one machine for each circuit.
-use Rattle.std.specs.Prelude.{ℕ, ◌+◌, ◌==◌, if◌then◌else◌, Bool, true, false, ◌||◌, List, [], ◌∷◌, ◌++◌, Option, Some, None}
+use Rattle.std.specs.Prelude.{ℕ, ◌+◌, ◌-◌, ◌==◌, if◌then◌else◌, List, [], ◌∷◌, ◌++◌, length, slice_index, Option, Some, None}
 use Rattle.settings.specs.Settings.{Settings}
-use Rattle.lease_disk.specs.declared.image.Image.{Image}
-use Rattle.lease_disk.specs.Crash.{filled, formatted_region}
-use Rattle.lease_disk.specs.Region.{Region}
-use Rattle.world.specs.Alone.{Alone, Setup, Step, Dropped, Done, start, alone_step}
-use Rattle.world.specs.Start.{opened, opening_of, setup_in}
+use Rattle.events.specs.declared.comeback.Comeback.{Comeback}
+use Rattle.lease_disk.specs.Layout.{formatted, formatted_old}
+use Rattle.lease_disk.specs.Region.{is_within}
+use Rattle.world.specs.Alone.{Alone, Setup, Step, Dropped, Done, alone_step, unsent}
+use Rattle.world.specs.Start.{Opening, opened, setup_in}
 use Rattle.events.specs.Seen.{Seen}
 use Rattle.events.specs.Seen as sees
-use Rattle.lab_text.specs.Fields.{image_in}
-use Rattle.lab_text.specs.Line.{Line, Ignored, Bad, Fill, Named, Tick, Restart, Stray, line_of_text}
+use Rattle.lab_text.specs.Fields.{comeback_in}
+use Rattle.lab_text.specs.Line.{Line, Ignored, Bad, Fill, Old, Load, Move, Named, Tick, Restart, Stray, line_of_text}
 use Rattle.lab_text.specs.Lines.{lines_of}
 use Rattle.lab.specs.Output.{effect_text, with_newline, bad_text}
 
@@ -41,20 +41,23 @@ ticked now a None = a
 ticked now a (Some setup) = (alone_step setup (sees.Tick now) a).next
 
 -- the server and the disk start again for a machine
-abbrev pub restarted : Image → Alone → Option Setup → Alone
-restarted image a None = a
-restarted image a (Some setup) = (alone_step setup (sees.Restart image) a).next
+abbrev pub restarted : Comeback → Alone → Option Setup → Alone
+restarted comeback a None = a
+restarted comeback a (Some setup) = (alone_step setup (sees.Restart comeback) a).next
 
 abbrev pub line_result : Settings → ℕ → (ℕ → Alone) → Line → LineResult
 line_result settings quota machines Ignored = Applied [] machines
 line_result settings quota machines Bad = Refused
--- a fill after an event
+-- what says what a region holds, after an event
 line_result settings quota machines (Fill c byte) = Refused
+line_result settings quota machines (Old c) = Refused
+line_result settings quota machines (Load c at bytes) = Refused
+line_result settings quota machines (Move c fault) = Refused
 line_result settings quota machines (Named c seen) = named_result c seen machines (setup_in settings quota c)
 line_result settings quota machines (Tick now) =
     Applied (with_newline (effect_text [] Done)) (λ c. ticked now (machines c) (setup_in settings quota c))
 line_result settings quota machines (Restart named) =
-    Applied (with_newline (effect_text [] Done)) (λ c. restarted (image_in c named) (machines c) (setup_in settings quota c))
+    Applied (with_newline (effect_text [] Done)) (λ c. restarted (comeback_in c named) (machines c) (setup_in settings quota c))
 -- a stray changes no machine
 line_result settings quota machines (Stray why) = Applied (with_newline (effect_text [] (Dropped why))) machines
 
@@ -63,38 +66,59 @@ abbrev pub and_then : ℕ → LineResult → ((ℕ → Alone) → Output) → Ou
 and_then n Refused rest = record { text = bad_text n; status = 3 }
 and_then n (Applied written machines) rest = record { text = written ++ (rest machines).text; status = (rest machines).status }
 
--- a circuit's machine at the start, over this region
-abbrev pub machine_over : Region → Option Setup → Alone
-machine_over region None = start None
-machine_over region (Some setup) = opened setup (opening_of region)
-
--- The result of a line of the text; `begun` says whether an event came before it. If none did, a fill
--- puts the circuit's machine over a region in which every byte is this one.
-abbrev pub result_of : Settings → ℕ → Bool → (ℕ → Alone) → Line → LineResult
-result_of settings quota false machines (Fill c byte) =
-    Applied [] (with_machine c (machine_over (filled byte formatted_region) (setup_in settings quota c)) machines)
-result_of settings quota begun machines line = line_result settings quota machines line
-
-abbrev pub is_event : Line → Bool
-is_event Ignored = false
-is_event (Fill c byte) = false
-is_event line = true
-
 -- the output for these lines, the first of which is the n-th of the text, with status 0 at their end
-unfoldable pub lab_from : Settings → ℕ → ℕ → Bool → (ℕ → Alone) → List (List ℕ) → Output
-lab_from settings quota n begun machines [] = record { text = []; status = 0 }
-lab_from settings quota n begun machines (line ∷ lines) =
-    and_then n (result_of settings quota begun machines (line_of_text settings line))
-    (λ next. lab_from settings quota (n + 1) (begun || is_event (line_of_text settings line)) next lines)
+unfoldable pub lab_from : Settings → ℕ → ℕ → (ℕ → Alone) → List (List ℕ) → Output
+lab_from settings quota n machines [] = record { text = []; status = 0 }
+lab_from settings quota n machines (line ∷ lines) =
+    and_then n (line_result settings quota machines (line_of_text settings line)) (λ next. lab_from settings quota (n + 1) next lines)
 
--- each circuit's machine at the start, when every region was just formatted
-abbrev pub first_machines : Settings → ℕ → ℕ → Alone
-first_machines settings quota c = machine_over formatted_region (setup_in settings quota c)
+-- ---- before all events
+
+-- what circuit c's opening finds, and each other one as it was
+abbrev pub with_opening : ℕ → Opening → (ℕ → Opening) → ℕ → Opening
+with_opening c next openings d = if c == d then next else openings d
+
+-- these bytes stand from an offset on
+abbrev pub loaded : ℕ → List ℕ → (ℕ → ℕ) → ℕ → ℕ
+loaded at bytes old i = if is_within at (length bytes) i then slice_index bytes (i - at) else old i
+
+-- What a line before all events makes of the openings; None where it is an event or bad.
+abbrev pub prepared : Line → (ℕ → Opening) → Option (ℕ → Opening)
+prepared Ignored openings = Some openings
+prepared (Fill c byte) openings = Some (with_opening c (record (openings c) { byte = λ i. byte }) openings)
+prepared (Old c) openings = Some (with_opening c (record (openings c) { byte = formatted_old }) openings)
+prepared (Load c at bytes) openings = Some (with_opening c (record (openings c) { byte = loaded at bytes (openings c).byte }) openings)
+prepared (Move c fault) openings = Some (with_opening c (record (openings c) { move_fault = fault }) openings)
+prepared line openings = None
+
+-- a circuit's machine at the start, by what its opening finds
+abbrev pub first_machine : Opening → Option Setup → Alone
+first_machine opening None = unsent
+first_machine opening (Some setup) = opened setup opening
+
+abbrev pub first_machines : Settings → ℕ → (ℕ → Opening) → ℕ → Alone
+first_machines settings quota openings c = first_machine (openings c) (setup_in settings quota c)
+
+abbrev pub or_begin : Option (ℕ → Opening) → ((ℕ → Opening) → Output) → Output → Output
+or_begin None rest events = events
+or_begin (Some openings) rest events = rest openings
+
+-- The same where no event came before them: a line that says what a region holds writes nothing, and any other begins
+-- the events.
+unfoldable pub output_from : Settings → ℕ → ℕ → (ℕ → Opening) → List (List ℕ) → Output
+output_from settings quota n openings [] = record { text = []; status = 0 }
+output_from settings quota n openings (line ∷ lines) =
+    or_begin (prepared (line_of_text settings line) openings) (λ next. output_from settings quota (n + 1) next lines)
+    (lab_from settings quota n (first_machines settings quota openings) (line ∷ lines))
+
+-- every region was just formatted, and no call fails
+abbrev pub first_openings : ℕ → Opening
+first_openings c = record { byte = formatted; move_fault = 0 }
 
 -- the output for a text
 abbrev pub lab_output : Settings → ℕ → List ℕ → Output
-lab_output settings quota text = lab_from settings quota 1 false (first_machines settings quota) (lines_of text)
+lab_output settings quota text = output_from settings quota 1 first_openings (lines_of text)
 
 -- the output for a text of events alone, over these machines
 abbrev pub events_output : Settings → ℕ → (ℕ → Alone) → List ℕ → Output
-events_output settings quota machines text = lab_from settings quota 1 true machines (lines_of text)
+events_output settings quota machines text = lab_from settings quota 1 machines (lines_of text)

@@ -18,9 +18,9 @@ use crate::buffers::Buffers;
 use crate::output::{write_bad_line, write_done, write_outcome};
 use crate::status::{BAD_LINE, DONE, FAILED};
 use config::Config;
+use events::Comeback;
 use lab_text::parse_line::{Parsed, ParsedLine};
 use lab_text::{ByteWriter, MAX_LINE};
-use lease_disk::Image;
 use types::{Circuit, Moment};
 use wire::PacketBuf;
 use world::{Event, Machine};
@@ -87,18 +87,18 @@ fn apply_tick<M: Machine, W: ByteWriter>(
 /// Starts the server and the disk again. Returns a status where the run ends with it.
 fn apply_restart<M: Machine, W: ByteWriter>(
     machine: &mut M,
-    images: &[Image],
+    comebacks: &[Comeback],
     out: &mut PacketBuf,
     writer: &mut W,
 ) -> Option<u8>
-    ensures follows { (settings : Settings) (quota number : ℕ) (line : Line) (machines : ℕ → Alone) → IsRestart images.now line → AllRepresent settings quota (M.states machine.old) machines
+    ensures follows { (settings : Settings) (quota number : ℕ) (line : Line) (machines : ℕ → Alone) → IsRestart comebacks.now line → AllRepresent settings quota (M.states machine.old) machines
         → Follows settings quota number (line_result settings quota machines line) (M.states machine.new) (W.contents writer.old) (W.contents writer.new) result }
     ensures topology { M.topology machine.new ≡ M.topology machine.old }
     ensures status { IfSome result IsEnd }
     ensures quiet { ¬ (result ≡ Some 6) → W.failures writer.new ≡ W.failures writer.old }
     ensures cause { result ≡ Some 6 → W.failures writer.new ≡ W.failures writer.old + 1 }
 {
-    let _ = machine.step(&Event::Restart(images), out);
+    let _ = machine.step(&Event::Restart(comebacks), out);
     match write_done(writer) {
         Ok(()) => None,
         Err(_) => Some(FAILED),
@@ -148,8 +148,12 @@ fn apply<M: Machine, W: ByteWriter>(
 {
     match parsed {
         ParsedLine::Ignored => None,
-        // an event came before this fill
-        ParsedLine::Bad | ParsedLine::Fill(_, _) => Some(refuse(number, writer)),
+        // an event came before what says what a region holds
+        ParsedLine::Bad
+        | ParsedLine::Fill(_, _)
+        | ParsedLine::Old(_)
+        | ParsedLine::Load(_, _, _)
+        | ParsedLine::Move(_, _) => Some(refuse(number, writer)),
         ParsedLine::Frame(circuit, proto, len) => {
             let event = Event::Frame(circuit, proto, &buffers.bytes[..len]);
             apply_event(machine, config, circuit, &event, &mut buffers.out, writer)
@@ -177,8 +181,8 @@ fn apply<M: Machine, W: ByteWriter>(
 /// What the line says, where it was not parsed before.
 fn parsed_line(config: &Config, line: &[u8], known: Option<Parsed>, buffers: &mut Buffers) -> Parsed
     requires short { length line.now ≤ 8192 }
-    requires known { IfSome known (Says config.now buffers.old.bytes buffers.old.images line.now) }
-    ensures { Says config.now buffers.new.bytes buffers.new.images line.now result }
+    requires known { IfSome known (Says config.now buffers.old.bytes buffers.old.comebacks line.now) }
+    ensures { Says config.now buffers.new.bytes buffers.new.comebacks line.now result }
 {
     match known {
         Some(parsed) => parsed,
@@ -198,7 +202,7 @@ pub(crate) fn apply_line<M: Machine, W: ByteWriter>(
     writer: &mut W,
 ) -> Option<u8>
     requires short { length line.now ≤ 8192 }
-    requires known { IfSome known (Says config.now buffers.old.bytes buffers.old.images line.now) }
+    requires known { IfSome known (Says config.now buffers.old.bytes buffers.old.comebacks line.now) }
     ensures follows { (quota : ℕ) (machines : ℕ → Alone) → AllRepresent config.now quota (M.states machine.old) machines → M.topology machine.old ≡ topology_of config.now
         → Follows config.now quota number (line_result config.now quota machines (line_of_text config.now line.now)) (M.states machine.new) (W.contents writer.old) (W.contents writer.new) result }
     ensures topology { M.topology machine.new ≡ M.topology machine.old }
@@ -208,7 +212,7 @@ pub(crate) fn apply_line<M: Machine, W: ByteWriter>(
 {
     match parsed_line(config, line, known, buffers) {
         Parsed::Event(parsed) => apply(machine, config, number, parsed, buffers, writer),
-        Parsed::Restart => apply_restart(machine, &buffers.images, &mut buffers.out, writer),
+        Parsed::Restart => apply_restart(machine, &buffers.comebacks, &mut buffers.out, writer),
     }
 }
 
@@ -224,7 +228,7 @@ pub(crate) fn apply_last_line<M: Machine, W: ByteWriter>(
     writer: &mut W,
 ) -> u8
     requires short { length line.now ≤ 8192 }
-    requires known { IfSome known (Says config.now buffers.old.bytes buffers.old.images line.now) }
+    requires known { IfSome known (Says config.now buffers.old.bytes buffers.old.comebacks line.now) }
     ensures follows { (quota : ℕ) (machines : ℕ → Alone) → AllRepresent config.now quota (M.states machine.old) machines → M.topology machine.old ≡ topology_of config.now
         → FollowsLast config.now quota number line.now (line_result config.now quota machines (line_of_text config.now line.now)) (M.states machine.new) (W.contents writer.old) (W.contents writer.new) result }
     ensures status { IsStatus result }

@@ -31,7 +31,7 @@ pub(crate) fn apply_lines<M: Machine, R: ByteReader, W: ByteWriter>(
     requires end { IsLineEnd (held ahead.old) (R.remaining reader.old) next.end }
     requires within { len_of next.end ≤ 8192 }
     requires inside { len_of next.end + feeds_of next.end ≤ length (held ahead.old) }
-    requires parsed { IfSome next.parsed (Says config.now buffers.old.bytes buffers.old.images (take (len_of next.end) (held ahead.old))) }
+    requires parsed { IfSome next.parsed (Says config.now buffers.old.bytes buffers.old.comebacks (take (len_of next.end) (held ahead.old))) }
     requires lines { next.earlier + length (held ahead.old) ≤ ahead.old.count }
     requires below { ahead.old.count < 18446744073709551615 }
     ensures ends { (quota : ℕ) (output : List ℕ → Output) (given holds : Option (List ℕ))
@@ -72,7 +72,7 @@ pub(crate) fn apply_lines<M: Machine, R: ByteReader, W: ByteWriter>(
     unreachable!()
 }
 
-/// Applies the lines of a text of events to a machine that has started, in which a `fill` is bad, and
+/// Applies the lines of a text of events to a machine that has started, in which a `fill`, `old`, `load` or `move` is bad, and
 /// writes the outcome of each. Returns the status: 0 at the end of the text, 3 at a bad line, 6 exactly
 /// where the reader or the writer fails or 2^64 - 1 bytes were read.
 pub fn lab<M: Machine, R: ByteReader, W: ByteWriter>(

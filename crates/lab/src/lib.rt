@@ -4,9 +4,9 @@
 mod apply_line;
 mod buffers;
 mod engine;
-mod fills;
 mod opening;
 mod output;
+mod preparations;
 mod status;
 
 pub use command_line::accesslab_words::{LabWords, words};

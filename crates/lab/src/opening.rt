@@ -2,18 +2,18 @@
 ghost use Rattle.std.specs.Prelude.{◌≡◌, ◌⊎◌, ℕ, ◌≤◌, List, Some, length, IfOk, IfErr};
 ghost use Rattle.std.specs.Io.KnownBytes.{Appends};
 ghost use Rattle.dispatch.specs.declared.server.OpenFault.TheVariants as fault;
-ghost use Rattle.lab.specs.Lab.{lab_output};
+ghost use Rattle.lab.specs.Lab.{first_machines, lab_output};
 ghost use Rattle.lab.specs.Run.{IsPartial, IsStatus, HasCause, HasNoCause};
 ghost use Rattle.config.specs.Topology.{topology_of};
-ghost use Rattle.lab.specs.Fills.{AreOver, AreReady, AreWithin};
+ghost use Rattle.lab.specs.Preparations.{AreOver, AreReady, AreWithin};
 ghost use Rattle.lab.specs.Follows.{AllRepresent};
 ghost use Rattle.lease_disk.specs.Model.{device_of, state_of};
-ghost use Rattle.world.specs.Alone.{Alone};
+ghost use Rattle.world.specs.Start.{Opening};
 ghost use Rattle.world.specs.World.{states};
 
 use crate::buffers::Buffers;
 use crate::engine::apply_lines;
-use crate::fills::apply_fills;
+use crate::preparations::prepare_all;
 use crate::status::{FAILED, UNOPENED};
 use config::Config;
 use dispatch::region_count;
@@ -28,14 +28,14 @@ fn opened(alloc: Global, config: &Config, disk: ModelDisk, quota: u16) -> Result
     requires most { quota ≤ 256 }
     requires regions { AreWithin config.now (length disk.regions) }
     requires ready { AreReady (length disk.regions) (state_of disk) }
-    ensures represents { IfOk result (λ world. (machines : ℕ → Alone) → AreOver config.now quota (device_of disk) machines → AllRepresent config.now quota (states world) machines) }
+    ensures represents { IfOk result (λ world. (openings : ℕ → Opening) → AreOver config.now quota (device_of disk) openings → AllRepresent config.now quota (states world) (first_machines config.now quota openings)) }
     ensures topology { IfOk result (λ world. world.relays.topology ≡ topology_of config.now) }
     ensures memory { IfErr result (λ why. why ≡ fault.Memory) }
 {
     World::open(alloc, config, disk, quota)
 }
 
-/// Fills the regions of a formatted disk as the lines before all events say, opens a world of the
+/// Prepares the regions of a formatted disk as the lines before all events say, opens a world of the
 /// configuration over it, applies the other lines of the text and writes the outcome of each. Returns the
 /// status: 0 at the end of the text, 3 at a bad line, 4 where the world was not opened, 6 exactly where
 /// the reader or the writer fails or 2^64 - 1 bytes were read.
@@ -74,7 +74,7 @@ pub fn run<R: ByteReader, W: ByteWriter>(
     };
     let mut ahead = ReadAhead::new();
     let mut buffers = Buffers::new();
-    let Ok(next) = apply_fills(&mut disk, config, &mut ahead, &mut buffers, reader) else {
+    let Ok(next) = prepare_all(&mut disk, config, &mut ahead, &mut buffers, reader) else {
         return FAILED;
     };
     let Ok(mut world) = opened(alloc, config, disk, quota) else {

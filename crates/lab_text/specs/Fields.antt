@@ -1,10 +1,10 @@
--- The value of a field: a number, a protocol, bytes, a circuit, a relay, an address and port, or an image of a region.
+-- The value of a field: a number, a protocol, bytes, a circuit, a relay, an address and port, or how a region comes back.
 use Rattle.std.specs.Prelude.{ℕ, ◌+◌, ◌-◌, ◌*◌, nat_le, ◌==◌, ◌||◌, Bool, true, false, if◌then◌else◌, List, [], ◌∷◌, length, take, drop, codes, position, Option, option_map, Some, None, Result, Ok, Err}
 use Rattle.std.specs.Str.{bytes_eq}
 use Rattle.std.specs.Char.{is_ascii_digit}
 use Rattle.hex.specs.Hex.{decode_of}
 use Rattle.hex.specs.declared.error.FromHexError.{FromHexError}
-use Rattle.lease_disk.specs.declared.image.Image.{Image}
+use Rattle.events.specs.declared.comeback.Comeback.{Comeback}
 use Rattle.lease_disk.specs.declared.image.Image.TheVariants.{Byte, Unreadable}
 use Rattle.types.specs.declared.addr.Addr4.{Addr4}
 use Rattle.types.specs.declared.addr.Source.{Source}
@@ -94,7 +94,7 @@ source_of text = do
   port ← at_least 1 (number_to 65535 parts.1)
   Some (record { addr = addr; port = port })
 
--- ---- the image of a circuit's region
+-- ---- how a circuit's region comes back
 
 -- a byte in front of what stands before the mark
 abbrev pub with_front : ℕ → List ℕ × List ℕ → List ℕ × List ℕ
@@ -117,24 +117,42 @@ single _ = None
 abbrev pub byte_of : List ℕ → Option ℕ
 byte_of text = if length text == 2 then single (ok_of (decode_of text)) else None
 
--- `unreadable`, or the byte that two digits spell
-abbrev pub image_of : List ℕ → Option Image
-image_of text = if bytes_eq text (codes "unreadable") then Some Unreadable else option_map Byte (byte_of text)
+-- Each unsynced byte of a region becomes this one, and this call of the device fails in its move.
+abbrev pub synced_at : ℕ → ℕ → Comeback
+synced_at byte fault = record { image = Byte byte; move_fault = fault }
 
--- `CID=IMAGE`, parted at the last `=` (61)
-abbrev pub named_image : Settings → List ℕ → Option (ℕ × Image)
-named_image settings field = do
+-- the byte that two digits spell, and the call that fails, 0 to 4
+abbrev pub with_fault : List ℕ × List ℕ → Option Comeback
+with_fault parts = do
+  fault ← number_to 4 parts.1
+  byte ← byte_of parts.0
+  Some (synced_at byte fault)
+
+-- without a colon no call fails
+abbrev pub synced_of : List ℕ → Option (List ℕ × List ℕ) → Option Comeback
+synced_of text None = option_map (λ byte. synced_at byte 0) (byte_of text)
+synced_of text (Some parts) = with_fault parts
+
+-- `unreadable`, or `HH` or `HH:M`, parted at a colon (58)
+abbrev pub comeback_of : List ℕ → Option Comeback
+comeback_of text =
+    if bytes_eq text (codes "unreadable") then Some (record { image = Unreadable; move_fault = 0 })
+    else synced_of text (parted 58 text)
+
+-- `CID=` and how the region comes back, parted at the last `=` (61)
+abbrev pub named_comeback : Settings → List ℕ → Option (ℕ × Comeback)
+named_comeback settings field = do
   parts ← parted_last 61 field
   c ← circuit_named settings parts.0
-  image ← image_of parts.1
-  Some (c, image)
+  comeback ← comeback_of parts.1
+  Some (c, comeback)
 
--- these images name circuit c
-unfoldable pub is_named : ℕ → List (ℕ × Image) → Bool
+-- these name circuit c
+unfoldable pub is_named : ℕ → List (ℕ × Comeback) → Bool
 is_named c [] = false
 is_named c (named ∷ rest) = named.0 == c || is_named c rest
 
--- the image that is named for circuit c, and the byte 0 where none is
-unfoldable pub image_in : ℕ → List (ℕ × Image) → Image
-image_in c [] = Byte 0
-image_in c (named ∷ rest) = if named.0 == c then named.1 else image_in c rest
+-- what is named for circuit c; where nothing is, each unsynced byte becomes 0 and no call fails
+unfoldable pub comeback_in : ℕ → List (ℕ × Comeback) → Comeback
+comeback_in c [] = synced_at 0 0
+comeback_in c (named ∷ rest) = if named.0 == c then named.1 else comeback_in c rest

@@ -1,13 +1,13 @@
 -- What a line says.
-use Rattle.std.specs.Prelude.{ℕ, nat_lt, ◌==◌, Bool, true, if◌then◌else◌, List, [], ◌∷◌, length, codes, Option, Some, None}
+use Rattle.std.specs.Prelude.{ℕ, ◌+◌, nat_le, nat_lt, ◌==◌, Bool, true, if◌then◌else◌, List, [], ◌∷◌, length, codes, Option, Some, None}
 use Rattle.std.specs.Str.{bytes_eq}
 use Rattle.settings.specs.Settings.{Settings}
-use Rattle.lease_disk.specs.declared.image.Image.{Image}
+use Rattle.events.specs.declared.comeback.Comeback.{Comeback}
 use Rattle.types.specs.declared.discard.Discard.{Discard}
 use Rattle.types.specs.declared.discard.Discard.TheVariants.{UnknownSource, NotServer}
 use Rattle.config.specs.Topology.{topology_of, is_relay, is_server}
 use Rattle.events.specs.Seen.{Seen, Frame, Up, Down}
-use Rattle.lab_text.specs.Fields.{number_to, proto_of, bytes_of, byte_of, circuit_named, relay_named, source_of, named_image, is_named}
+use Rattle.lab_text.specs.Fields.{number_to, proto_of, bytes_of, byte_of, circuit_named, relay_named, source_of, named_comeback, is_named}
 use Rattle.lab_text.specs.Lines.{fields_of}
 
 pub data Line : Type 0 where
@@ -17,12 +17,18 @@ pub data Line : Type 0 where
   Bad : Line
   -- before all events every byte of this circuit's region is this one
   Fill : ℕ → ℕ → Line
+  -- it is formatted in format 1
+  Old : ℕ → Line
+  -- these bytes stand in it from an offset on
+  Load : ℕ → ℕ → List ℕ → Line
+  -- this call of the device fails where it is moved to format 2 at the opening
+  Move : ℕ → ℕ → Line
   -- an event of this circuit
   Named : ℕ → Seen → Line
   -- the moment passes for all circuits
   Tick : ℕ → Line
-  -- the server and the disk start again, with these images of circuits' regions
-  Restart : List (ℕ × Image) → Line
+  -- the server and the disk start again, and circuits' regions come back like this
+  Restart : List (ℕ × Comeback) → Line
   -- a stray, which is dropped for this reason
   Stray : Discard → Line
 
@@ -39,6 +45,30 @@ fill_line settings (circuit ∷ digits ∷ []) = do
   byte ← byte_of digits
   Fill c byte
 fill_line settings fields = Bad
+
+-- `old CID`
+abbrev pub old_line : Settings → List (List ℕ) → Line
+old_line settings (circuit ∷ []) = do
+  c ← circuit_named settings circuit
+  Old c
+old_line settings fields = Bad
+
+-- `load CID AT HEX`: the bytes lie within the 32768 of a region
+abbrev pub load_line : Settings → List (List ℕ) → Line
+load_line settings (circuit ∷ from ∷ digits ∷ []) = do
+  c ← circuit_named settings circuit
+  at ← number_to 32768 from
+  bytes ← bytes_of digits
+  if nat_le (at + length bytes) 32768 then Load c at bytes else Bad
+load_line settings fields = Bad
+
+-- `move CID M`: the fault is 0, for none, or the call of the disk that fails, 1 to 4
+abbrev pub move_line : Settings → List (List ℕ) → Line
+move_line settings (circuit ∷ call ∷ []) = do
+  c ← circuit_named settings circuit
+  fault ← number_to 4 call
+  Move c fault
+move_line settings fields = Bad
 
 -- `frame CID PROTO HEX`
 abbrev pub frame_line : Settings → List (List ℕ) → Line
@@ -94,11 +124,11 @@ stray_down_line settings (name ∷ from ∷ digits ∷ []) = do
   if is_server (topology_of settings) source then Bad else Stray NotServer
 stray_down_line settings fields = Bad
 
--- `restart` and `CID=IMAGE` any number of times, after these images. No circuit may be named twice.
-unfoldable pub restart_line : Settings → List (ℕ × Image) → List (List ℕ) → Line
+-- `restart` and `CID=unreadable`, `CID=HH` or `CID=HH:M` any number of times, after these. No circuit may be named twice.
+unfoldable pub restart_line : Settings → List (ℕ × Comeback) → List (List ℕ) → Line
 restart_line settings named [] = Restart named
 restart_line settings named (field ∷ fields) = do
-  next ← named_image settings field
+  next ← named_comeback settings field
   if is_named next.0 named then Bad else restart_line settings (next ∷ named) fields
 
 -- the line of one event by its first field and the others
@@ -112,13 +142,21 @@ event_line settings word fields =
     else if bytes_eq word (codes "straydown") then stray_down_line settings fields
     else Bad
 
+-- any line but a restart, by its first field and the others
+abbrev pub plain_line : Settings → List ℕ → List (List ℕ) → Line
+plain_line settings word fields =
+    if bytes_eq word (codes "fill") then fill_line settings fields
+    else if bytes_eq word (codes "old") then old_line settings fields
+    else if bytes_eq word (codes "load") then load_line settings fields
+    else if bytes_eq word (codes "move") then move_line settings fields
+    else event_line settings word fields
+
 -- the line by its first field
 abbrev pub line_for_word : Settings → List (List ℕ) → Line
 line_for_word settings [] = Bad
 line_for_word settings (word ∷ fields) =
     if bytes_eq word (codes "restart") then restart_line settings [] fields
-    else if bytes_eq word (codes "fill") then fill_line settings fields
-    else event_line settings word fields
+    else plain_line settings word fields
 
 -- An empty line, or one that begins with `#` (35), is ignored.
 abbrev pub is_ignored : List ℕ → Bool

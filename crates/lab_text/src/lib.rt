@@ -3,18 +3,20 @@
 #![tactic(auto)]
 
 mod circuits;
+mod comebacks;
 mod digits;
 mod fields;
 mod hexadecimal;
-mod images;
 mod line;
 pub mod parse_line;
+mod parting;
 mod read_ahead;
 mod sources;
 mod std_streams;
 mod streams;
 mod writing;
 
+pub use comebacks::ZEROED;
 pub use hexadecimal::MAX_BYTES;
 pub use line::{LineEnd, MAX_LINE, MAX_TEXT, NextLine, flush_and_read_line, read_line};
 pub use read_ahead::ReadAhead;

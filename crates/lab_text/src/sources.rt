@@ -1,31 +1,13 @@
 //! Texts of addresses and ports.
-ghost use Rattle.std.specs.Prelude.{◌≡◌, ◌<◌, ◌==◌, length, option_map, IfSome};
-ghost use Rattle.std.specs.List.{position};
-ghost use Rattle.lab_text.specs.Fields.{address_of, at_least, number_to, parted, source_of};
+ghost use Rattle.std.specs.Prelude.{◌≡◌};
+ghost use Rattle.lab_text.specs.Fields.{address_of, at_least, number_to, source_of};
 
 use crate::digits::number;
+use crate::parting::parted;
 use types::{Addr4, Source};
 
 /// The greatest port.
 const MAX_PORT: u64 = 65535;
-
-/// The index of the first of these bytes.
-fn index_of(text: &[u8], byte: u8) -> Option<usize>
-    ensures value { result ≡ position (λ b. b == byte) text.now }
-    ensures within { IfSome result (λ at. at < length text.now) }
-{
-    text.iter().position(|b| *b == byte)
-}
-
-/// What a text has before and behind the first of these bytes.
-fn parted(text: &[u8], byte: u8) -> Option<(&[u8], &[u8])>
-    ensures { option_map (λ parts. (parts.0.now, parts.1.now)) result ≡ parted byte text.now }
-{
-    let Some(at) = index_of(text, byte) else {
-        return None;
-    };
-    Some((&text[..at], &text[at + 1..]))
-}
 
 /// A number from 0 to 255.
 fn octet(text: &[u8]) -> Option<u8>

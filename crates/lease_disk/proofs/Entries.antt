@@ -163,25 +163,26 @@ book_is four six slots h =
     ∙ (λ i. book_at slots.clock (h.four_is i) (h.six_is i))
     ∙ rw (h.once4, h.once6) refl
 
--- what is recovered stands for entries of both pools
-pub record AreEntries (counts : List ℕ) (two : Bool) (four : ℕ → Option (Entry Slot4)) (six : ℕ → Option (Entry Slot6)) (slots : Slots) : Type 0 where
-  pub two_is : two ≡ true
+-- what is recovered stands for entries of both pools, in a region with a clock
+pub record AreEntries (counts : List ℕ) (base : Option ℕ) (four : ℕ → Option (Entry Slot4)) (six : ℕ → Option (Entry Slot6)) (slots : Slots) : Type 0 where
+  pub clock : ℕ
+  pub base_is : base ≡ Some clock
   pub entries4 : List (Entry Slot4)
   pub entries6 : List (Entry Slot6)
-  pub four_are : pool_entries S4.Free (slice_index counts 0) four ≡ Some entries4
-  pub six_are : pool_entries S6.Free (slice_index counts 1) (λ i. six (16 + i)) ≡ Some entries6
+  pub four_are : pool_entries clock S4.Free (slice_index counts 0) four ≡ Some entries4
+  pub six_are : pool_entries clock S6.Free (slice_index counts 1) (λ i. six (16 + i)) ≡ Some entries6
   pub has : HasEntries entries4 entries6 slots
 
-by_both : (counts : List ℕ) (four : ℕ → Option (Entry Slot4)) (six : ℕ → Option (Entry Slot6)) (slots : Slots) (a : Option (List (Entry Slot4))) (b : Option (List (Entry Slot6)))
-    → pool_entries S4.Free (slice_index counts 0) four ≡ a → pool_entries S6.Free (slice_index counts 1) (λ i. six (16 + i)) ≡ b → book_of a b ≡ Some slots → AreEntries counts true four six slots
-by_both counts four six slots (Some xs) (Some ys) e f h = record { two_is = refl; entries4 = xs; entries6 = ys; four_are = e; six_are = f; has = has_entries xs ys slots h }
-by_both counts four six slots (Some xs) None e f h = absurd cc
-by_both counts four six slots None b e f h = absurd cc
+by_both : (counts : List ℕ) (clock : ℕ) (four : ℕ → Option (Entry Slot4)) (six : ℕ → Option (Entry Slot6)) (slots : Slots) (a : Option (List (Entry Slot4))) (b : Option (List (Entry Slot6)))
+    → pool_entries clock S4.Free (slice_index counts 0) four ≡ a → pool_entries clock S6.Free (slice_index counts 1) (λ i. six (16 + i)) ≡ b → book_of a b ≡ Some slots → AreEntries counts (Some clock) four six slots
+by_both counts clock four six slots (Some xs) (Some ys) e f h = record { clock = clock; base_is = refl; entries4 = xs; entries6 = ys; four_are = e; six_are = f; has = has_entries xs ys slots h }
+by_both counts clock four six slots (Some xs) None e f h = absurd cc
+by_both counts clock four six slots None b e f h = absurd cc
 
-pub are_entries : (counts : List ℕ) (two : Bool) (four : ℕ → Option (Entry Slot4)) (six : ℕ → Option (Entry Slot6)) (slots : Slots) → book_in counts two four six ≡ Some slots → AreEntries counts two four six slots
-are_entries counts true four six slots e = by_both counts four six slots _ _ refl refl e
-are_entries counts false four six slots e = absurd cc
+pub are_entries : (counts : List ℕ) (base : Option ℕ) (four : ℕ → Option (Entry Slot4)) (six : ℕ → Option (Entry Slot6)) (slots : Slots) → book_in counts base four six ≡ Some slots → AreEntries counts base four six slots
+are_entries counts (Some clock) four six slots e = by_both counts clock four six slots _ _ refl refl e
+are_entries counts None four six slots e = absurd cc
 
-pub book_by : (counts : List ℕ) (two : Bool) (four : ℕ → Option (Entry Slot4)) (six : ℕ → Option (Entry Slot6)) (slots : Slots) → AreEntries counts two four six slots → book_in counts two four six ≡ Some slots
-book_by counts true four six slots h = (λ i. book_of (h.four_are i) (h.six_are i)) ∙ book_is h.entries4 h.entries6 slots h.has
-book_by counts false four six slots h = absurd (let e = h.two_is in cc)
+pub book_by : (counts : List ℕ) (base : Option ℕ) (four : ℕ → Option (Entry Slot4)) (six : ℕ → Option (Entry Slot6)) (slots : Slots) → AreEntries counts base four six slots → book_in counts base four six ≡ Some slots
+book_by counts base four six slots h =
+    ap (λ b. book_in counts b four six) h.base_is ∙ (λ i. book_of (h.four_are i) (h.six_are i)) ∙ book_is h.entries4 h.entries6 slots h.has

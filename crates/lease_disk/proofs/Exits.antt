@@ -11,11 +11,11 @@ use Rattle.lease_disk.specs.declared.marks.Mark.{Mark}
 use Rattle.lease_disk.specs.declared.marks.Marks.{Marks}
 use Rattle.lease_disk.specs.HalfBytes.{half_bytes}
 use Rattle.lease_disk.specs.Keys.{HasKey}
-use Rattle.lease_disk.specs.Layout.{gate_open, half_at, half}
+use Rattle.lease_disk.specs.Layout.{gate_open, half_at, half2, is_format2}
 use Rattle.lease_disk.specs.Recovered.{is_counting, is_open, last_clock, next, sequence as sequence_of, recovered}
 use Rattle.lease_disk.specs.Region.{Region, is_within, written, synced, effective, IsClean, IsTorn, SameBeside}
 use Rattle.lease_disk.specs.Save.{AreMarks, Fits, IsChange, IsMark, IsSaved, IsLeft, mark_at, other, saved_byte, with_slot}
-use Rattle.lease_disk.proofs.Halves.{SameBut, same_elsewhere, counting_sequence, is_inside}
+use Rattle.lease_disk.proofs.Halves.{SameBut, as_format2, recovered2, same_elsewhere, counting_sequence, is_inside}
 use Rattle.lease_disk.proofs.Steps.{IsShut, IsFilled, IsNew, early, middle, late, shut, fills, first_byte, fourth_byte, index_behind, left_closing, left_writing, left_opening, saved_book, saved_mark}
 
 pub on_err : {T E : Type 0} → (r : Result T E) → {P : Type 0} → P → OnErr r P
@@ -52,6 +52,7 @@ slice_behind xs ys e size = rw (e, size) (behind ys size)
 -- what a save is given and has found
 pub record IsSave (s : ℕ) (mark : Mark) (at n clock : ℕ) (content : Content) (whole bytes : List ℕ) (r0 : Region) : Type 0 where
   pub at_is : at ≡ half_at s (other mark.half)
+  pub two : is_format2 r0.byte ≡ true
   pub mark_is : IsMark r0.byte s mark
   pub clean : IsClean r0
   pub whole_is : whole ≡ half_bytes n clock content
@@ -64,19 +65,22 @@ pub record IsSave (s : ℕ) (mark : Mark) (at n clock : ℕ) (content : Content)
 
 module _ (s : ℕ) (mark : Mark) (at n clock : ℕ) (content : Content) (whole bytes : List ℕ) (r0 : Region) (given : IsSave s mark at n clock content whole bytes r0) where
   pub next_mark : n ≡ next mark.sequence
-  next_mark = given.n_is (subst (λ (m : ℕ). m ≤ 2) (sym given.mark_is.sequence) (counting_sequence (half r0.byte s mark.half) (half r0.byte s (other mark.half)) given.mark_is.counting))
+  next_mark = given.n_is (subst (λ (m : ℕ). m ≤ 2) (sym given.mark_is.sequence) (counting_sequence (half2 r0.byte s mark.half) (half2 r0.byte s (other mark.half)) given.mark_is.counting))
 
-  next_sequence : n ≡ next (sequence_of (half r0.byte s mark.half))
+  next_sequence : n ≡ next (sequence_of (half2 r0.byte s mark.half))
   next_sequence = next_mark ∙ ap next given.mark_is.sequence
 
+  was2 : (counts : List ℕ) (slots : Slots) → recovered counts r0.byte ≡ Some slots → recovered2 counts r0.byte ≡ Some slots
+  was2 counts slots was = sym (as_format2 counts r0.byte given.two) ∙ was
+
   is_new : (counts : List ℕ) (slots : Slots) → recovered counts r0.byte ≡ Some slots → IsChange counts clock s content slots → IsNew counts s clock n content slots r0.byte
-  is_new counts slots was change = record { fits = given.fits; key = given.key; small = given.small; was = was; change = change }
+  is_new counts slots was change = record { fits = given.fits; key = given.key; small = given.small; was = was2 counts slots was; change = change }
 
   module _ (k : ℕ) (counts : List ℕ) (slots : Slots) (was : recovered counts r0.byte ≡ Some slots) (change : IsChange counts clock s content slots) where
     pub exit_closing : (r : Region) → IsTorn at (length {A = ℕ} (if mark.other_open then 0 ∷ [] else [])) r0 r → false ≡ (effective 2 k == 0)
         → IsLeft k (half_at s (other mark.half)) (Some slots) (Some (with_slot clock s content slots)) counts r
     exit_closing r torn answer =
-        left_closing k counts (Some (with_slot clock s content slots)) s mark mark.other_open slots r0 r given.mark_is refl given.clean (rw (given.at_is, closed_size mark.other_open) at torn) was (early k answer)
+        left_closing k counts (Some (with_slot clock s content slots)) s mark mark.other_open slots r0 r given.two given.mark_is refl given.clean (rw (given.at_is, closed_size mark.other_open) at torn) (was2 counts slots was) (early k answer)
 
   module _ (r1 : Region) (closed : r1 ≡ synced (written at (if mark.other_open then 0 ∷ [] else []) r0)) where
     is_shut : IsShut s mark.half r0.byte r1.byte
@@ -94,7 +98,7 @@ module _ (s : ℕ) (mark : Mark) (at n clock : ℕ) (content : Content) (whole b
         → (r : Region) → k1 ≡ k - 2 → IsTorn (at + 1) (length bytes) r1 r → false ≡ (effective 2 k1 == 0)
         → IsLeft k (half_at s (other mark.half)) (Some slots) (Some (with_slot clock s content slots)) counts r
     exit_writing k k1 counts slots was change r f torn answer =
-        left_writing k counts (Some (with_slot clock s content slots)) s mark slots r0 r1 r given.mark_is is_shut clean1 (rw (given.at_is, bytes_size) at torn) was (middle k (rw f at answer))
+        left_writing k counts (Some (with_slot clock s content slots)) s mark slots r0 r1 r given.two given.mark_is is_shut clean1 (rw (given.at_is, bytes_size) at torn) (was2 counts slots was) (middle k (rw f at answer))
 
     module _ (r2 : Region) (filled : r2 ≡ synced (written (at + 1) bytes r1)) where
       is_filled : IsFilled s mark.half (half_bytes n clock content) r0.byte r2.byte
@@ -113,7 +117,7 @@ module _ (s : ℕ) (mark : Mark) (at n clock : ℕ) (content : Content) (whole b
           → (r : Region) → k1 ≡ k - 2 → k2 ≡ k1 - 2 → IsTorn at 1 r2 r → false ≡ (effective 2 k2 == 0)
           → IsLeft k (half_at s (other mark.half)) (Some slots) (Some (with_slot clock s content slots)) counts r
       exit_opening k k1 k2 counts slots was change r f g torn answer =
-          left_opening k counts s mark clock n content slots r0 r2 r given.mark_is (is_new counts slots was change) next_sequence is_filled clean2 (rw given.at_is at torn) (late k (rw (g, f) at answer))
+          left_opening k counts s mark clock n content slots r0 r2 r given.two given.mark_is (is_new counts slots was change) next_sequence is_filled clean2 (rw given.at_is at torn) (late k (rw (g, f) at answer))
 
       beside2 : (i : ℕ) → is_within at 256 i ≡ false → r2.byte i ≡ r0.byte i
       beside2 i h = is_filled.same.each i (rw given.at_is at h)
@@ -134,7 +138,7 @@ module _ (s : ℕ) (mark : Mark) (at n clock : ℕ) (content : Content) (whole b
         exit_saved counts slots was change = record {
           clean = is_clean (written at (gate_open ∷ []) r2) r3 over;
           kept = subst (λ (r : Region). recovered counts r.byte ≡ Some (with_slot clock s content slots)) (sym over_is)
-              (saved_book counts s mark clock n content slots r0 r2 given.mark_is (is_new counts slots was change) next_sequence is_filled);
+              (saved_book counts s mark clock n content slots r0 r2 given.two given.mark_is (is_new counts slots was change) next_sequence is_filled);
         }
 
         own_mark : IsMark r3.byte s (record { half = other mark.half; sequence = n; other_open = true })
@@ -155,8 +159,8 @@ module _ (s : ℕ) (mark : Mark) (at n clock : ℕ) (content : Content) (whole b
         mark_elsewhere : (t : ℕ) (m : Mark) → (t ≡ s → ⊥) → IsMark r0.byte t m → IsMark r3.byte t m
         mark_elsewhere t m ne was =
             let same : SameBut s (other mark.half) r0.byte r3.byte = record { each = λ i h. beside3 i (rw (← given.at_is) at h) } in
-            let own : half r3.byte t m.half ≡ half r0.byte t m.half = same_elsewhere s (other mark.half) r0.byte r3.byte same t m.half ne in
-            let rival : half r3.byte t (other m.half) ≡ half r0.byte t (other m.half) = same_elsewhere s (other mark.half) r0.byte r3.byte same t (other m.half) ne in
+            let own : half2 r3.byte t m.half ≡ half2 r0.byte t m.half = same_elsewhere s (other mark.half) r0.byte r3.byte same t m.half ne in
+            let rival : half2 r3.byte t (other m.half) ≡ half2 r0.byte t (other m.half) = same_elsewhere s (other mark.half) r0.byte r3.byte same t (other m.half) ne in
             record {
               counting = (λ j. is_counting (own j) (rival j)) ∙ was.counting;
               sequence = was.sequence ∙ ap sequence_of (sym own);

@@ -1,14 +1,14 @@
 -- A region whose bytes were all written.
 use Rattle.std.proofs.Common.{◌≡◌, ℕ, ◌+◌, ◌-◌, ◌*◌, ◌%◌, ◌<◌, ◌≤◌, Bool, true, false, ◌&&◌, ◌||◌, nat_le, nat_lt, List, [], ◌∷◌, length, slice_index, Some, None, Result, OnOk, OnErr, Ok, Err, refl, ap, ◌∙◌, subst, sym, arith}
 use Rattle.std.specs.Prelude.{if◌then◌else◌, ◌==◌}
-use Rattle.lease_disk.specs.Layout.{formatted}
+use Rattle.lease_disk.specs.Layout.{formatted, formatted_old, gate_open}
 use Rattle.lease_disk.specs.Book.{empty_book}
-use Rattle.lease_disk.specs.Crash.{IsFormatted, IsHalfFormatted}
+use Rattle.lease_disk.specs.Crash.{IsFormatted, IsFormattedOld, IsHalfFormatted, IsHalfFormattedOld}
 use Rattle.lease_disk.specs.Recovered.{recovered}
 use Rattle.lease_disk.specs.Region.{Region, is_within, written, synced, IsTorn, effective}
-use Rattle.lease_disk.proofs.Books.{formatted_book}
+use Rattle.lease_disk.proofs.Books.{formatted_book, formatted_old_book}
 use Rattle.lease_disk.proofs.Halves.{is_inside}
-use Rattle.lease_disk.proofs.Reading.{no_format}
+use Rattle.lease_disk.proofs.Reading.{no_bank}
 
 -- the gates of the first slots are open
 pub record AreOpen (slot : ℕ) (bytes : List ℕ) : Type 0 where
@@ -71,7 +71,7 @@ by_format counts f true e same =
       by : (i : ℕ) → i < 32768 → (b : Bool) → (i == 8192) ≡ b → f i ≡ formatted i
       by i k true h = let here : i ≡ 8192 = grind (arith, h) in let two : f 8192 ≡ 2 = grind (arith, e) in ap f here ∙ two ∙ sym (ap formatted here)
       by i k false h = same i k h
-by_format counts f false e same = no_format counts f e
+by_format counts f false e same = no_bank counts f e (λ j. same 0 (omega arith) refl j == 165) (λ j. same 4096 (omega arith) refl j == 165)
 
 -- the write of the byte of the format or its sync failed
 pub left_last : (k : ℕ) (bytes : List ℕ) (old middle new : Region) → length bytes ≡ 32768 → ((k : ℕ) → slice_index bytes k ≡ (if nat_le 16384 k && nat_lt k 32768 && k % 512 == 0 then 0xa5 else 0))
@@ -82,3 +82,44 @@ left_last k bytes old middle new size open_are f torn late counts g crash =
     let u : new.unsynced i ≡ false = torn.unsynced i ∙ ap (λ b. b || middle.unsynced i) out ∙ ap (λ (r : Region). r.unsynced i) f in
     let zero : i - 0 ≡ i = omega arith in
     crash.same i u ∙ torn.byte i out ∙ ap (λ (r : Region). r.byte i) f ∙ rw (size, is_inside 0 32768 i (omega arith) (omega arith), zero, ne) (open_are i))
+
+-- In format 1
+
+old_byte : (bytes : List ℕ) (old : Region) (i : ℕ) → length bytes ≡ 32768 → i < 32768 → ((k : ℕ) → slice_index bytes k ≡ (if k == 8192 then 1 else 0))
+    → (b : Bool) → (i == 0) ≡ b → (written 0 (gate_open ∷ []) (synced (written 0 bytes old))).byte i ≡ formatted_old i
+old_byte bytes old i size h are true e =
+    let here : i ≡ 0 = grind (arith, e) in
+    let none : i - 0 ≡ 0 = omega arith in
+    rw (e, is_inside 0 1 i (omega arith) (omega arith), none) refl
+old_byte bytes old i size h are false e =
+    let out : is_within 0 1 i ≡ false = grind (arith, e) in
+    let zero : i - 0 ≡ i = omega arith in
+    rw (e, out, size, is_inside 0 32768 i (omega arith) (omega arith), zero) (are i)
+
+pub is_formatted_old : (bytes : List ℕ) (old middle new : Region) → length bytes ≡ 32768 → ((k : ℕ) → slice_index bytes k ≡ (if k == 8192 then 1 else 0))
+    → middle ≡ synced (written 0 bytes old) → new ≡ synced (written 0 (gate_open ∷ []) middle) → IsFormattedOld new
+is_formatted_old bytes old middle new size are f e =
+    let w : IsFormattedOld (synced (written 0 (gate_open ∷ []) (synced (written 0 bytes old)))) = record {
+      byte = λ i k. old_byte bytes old i size k are (i == 0) refl;
+      clean = record { each = λ i. refl };
+    } in
+    subst (λ (r : Region). IsFormattedOld r) (sym (e ∙ ap (λ r. synced (written 0 (gate_open ∷ []) r)) f)) w
+
+pub old_left_first : (k : ℕ) (r : Region) → false ≡ (effective 2 k == 0) → IsHalfFormattedOld k r
+old_left_first k r e late counts f crash = absurd (too_early k e late)
+
+by_gate : (counts : List ℕ) (f : ℕ → ℕ) (b : Bool) → (f 0 == 165) ≡ b → ((i : ℕ) → i < 32768 → (i == 0) ≡ false → f i ≡ formatted_old i) → recovered counts f ≡ (if b then Some empty_book else None)
+by_gate counts f true e same = formatted_old_book counts f (λ i k. by i k (i == 0) refl) where
+  by : (i : ℕ) → i < 32768 → (b : Bool) → (i == 0) ≡ b → f i ≡ formatted_old i
+  by i k true h = let here : i ≡ 0 = grind (arith, h) in let open_gate : f 0 ≡ 165 = grind (arith, e) in ap f here ∙ open_gate ∙ sym (ap formatted_old here)
+  by i k false h = same i k h
+by_gate counts f false e same = no_bank counts f (λ j. same 8192 (omega arith) refl j == 2) e (λ j. same 4096 (omega arith) refl j == 165)
+
+pub old_left_last : (k : ℕ) (bytes : List ℕ) (old middle new : Region) → length bytes ≡ 32768 → ((k : ℕ) → slice_index bytes k ≡ (if k == 8192 then 1 else 0))
+    → middle ≡ synced (written 0 bytes old) → IsTorn 0 1 middle new → IsHalfFormattedOld k new
+old_left_last k bytes old middle new size are f torn late counts g crash =
+    by_gate counts g (g 0 == 165) refl (λ i few ne.
+    let out : is_within 0 1 i ≡ false = grind (arith, ne) in
+    let u : new.unsynced i ≡ false = torn.unsynced i ∙ ap (λ b. b || middle.unsynced i) out ∙ ap (λ (r : Region). r.unsynced i) f in
+    let zero : i - 0 ≡ i = omega arith in
+    crash.same i u ∙ torn.byte i out ∙ ap (λ (r : Region). r.byte i) f ∙ rw (size, is_inside 0 32768 i (omega arith) (omega arith), zero, ne) (are i))

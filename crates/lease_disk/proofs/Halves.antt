@@ -1,11 +1,13 @@
 -- Which half of a slot counts while a save writes the other one, over regions as functions of the offset.
 use Rattle.std.proofs.Common.{◌≡◌, ℕ, ◌+◌, ◌<◌, ◌≤◌, ◌%◌, ◌⊎◌, inl, inr, Bool, true, false, not, ◌&&◌, ◌||◌, nat_le, nat_lt, refl, sym, ap, ◌∙◌, arith}
-use Rattle.std.specs.Prelude.{if◌then◌else◌, ◌==◌, Option}
+use Rattle.std.specs.Prelude.{if◌then◌else◌, ◌==◌, List, Option, Some}
 use Rattle.std.proofs.lemmas.Bool.{cases_lt}
+use Rattle.types.specs.declared.slots.Slots.{Slots}
+use Rattle.lease_disk.specs.declared.entry.Entry.{Entry}
 use Rattle.lease_disk.specs.declared.half.Half.{Half}
 use Rattle.lease_disk.specs.declared.half.Half.TheVariants.{First, Second}
-use Rattle.lease_disk.specs.Layout.{half_at, half, is_format2}
-use Rattle.lease_disk.specs.Recovered.{is_open, sequence, is_valid, next, is_counting, held, entry_of, entry}
+use Rattle.lease_disk.specs.Layout.{half_at, half1, half2, half, is_format2}
+use Rattle.lease_disk.specs.Recovered.{is_open, sequence, is_valid, next, is_counting, slot4_of, slot6_of, held, entry_of, entry, book_in, counting_clock, region_clock, recovered}
 use Rattle.lease_disk.specs.Region.{is_within}
 use Rattle.lease_disk.specs.Save.{other}
 
@@ -17,6 +19,31 @@ is_above at n i h = grind arith
 
 pub is_inside : (at n i : ℕ) → at ≤ i → i < at + n → is_within at n i ≡ true
 is_inside at n i h k = grind arith
+
+-- A region of format 2
+
+-- what the half that counts of a slot holds
+abbrev pub entry2 : {A : Type 0} → ((ℕ → ℕ) → Option A) → (ℕ → ℕ) → ℕ → Option (Entry A)
+entry2 read region s = entry_of read (half2 region s First) (half2 region s Second)
+
+unfoldable pub recovered2 : List ℕ → (ℕ → ℕ) → Option Slots
+recovered2 counts region = book_in counts (Some 0) (entry2 slot4_of region) (entry2 slot6_of region)
+
+pub half_in2 : (region : ℕ → ℕ) (s : ℕ) (h : Half) → is_format2 region ≡ true → half region s h ≡ half2 region s h
+half_in2 region s h two = ap (λ b. if b then half2 region s h else half1 region s h) two
+
+pub half_in1 : (region : ℕ → ℕ) (s : ℕ) (h : Half) → is_format2 region ≡ false → half region s h ≡ half1 region s h
+half_in1 region s h one = ap (λ b. if b then half2 region s h else half1 region s h) one
+
+pub entry_in2 : {A : Type 0} → (read : (ℕ → ℕ) → Option A) (region : ℕ → ℕ) → is_format2 region ≡ true → entry read region ≡ entry2 read region
+entry_in2 read region two = λ j. λ s. entry_of read (half_in2 region s First two j) (half_in2 region s Second two j)
+
+pub as_format2 : (counts : List ℕ) (region : ℕ → ℕ) → is_format2 region ≡ true → recovered counts region ≡ recovered2 counts region
+unfolding recovered recovered2
+as_format2 counts region two =
+    (λ j. book_in counts (clock j) (entry_in2 slot4_of region two j) (entry_in2 slot6_of region two j)) where
+      clock : region_clock region ≡ Some 0
+      clock = ap (λ b. if b then Some 0 else counting_clock (half1 region 0 First) (half1 region 0 Second)) two
 
 -- Halves stand apart
 
@@ -46,7 +73,7 @@ own_apart : (s : ℕ) (h : Half) (i : ℕ) → i < 256 → is_within (half_at s 
 own_apart s First i l = is_below (half_at s Second) 256 (half_at s First + i) (omega arith)
 own_apart s Second i l = is_above (half_at s First) 256 (half_at s Second + i) (omega arith)
 
-format_apart : (s : ℕ) (h : Half) → is_within (half_at s h) 256 8192 ≡ false
+pub format_apart : (s : ℕ) (h : Half) → is_within (half_at s h) 256 8192 ≡ false
 format_apart s First = is_below (half_at s First) 256 8192 (omega arith)
 format_apart s Second = is_below (half_at s Second) 256 8192 (omega arith)
 
@@ -62,13 +89,13 @@ half_byte : (f g : ℕ → ℕ) (t : ℕ) (k : Half) → ((i : ℕ) → i < 256 
 half_byte f g t k h i true e = h i (grind (arith, e))
 half_byte f g t k h i false e = refl
 
-pub same_bytes : (f g : ℕ → ℕ) (t : ℕ) (k : Half) → ((i : ℕ) → i < 256 → g (half_at t k + i) ≡ f (half_at t k + i)) → half g t k ≡ half f t k
+pub same_bytes : (f g : ℕ → ℕ) (t : ℕ) (k : Half) → ((i : ℕ) → i < 256 → g (half_at t k + i) ≡ f (half_at t k + i)) → half2 g t k ≡ half2 f t k
 same_bytes f g t k h = λ j. λ i. half_byte f g t k h i (nat_lt i 256) refl j
 
-pub same_elsewhere : (s : ℕ) (h : Half) (f g : ℕ → ℕ) → SameBut s h f g → (t : ℕ) (k : Half) → (t ≡ s → ⊥) → half g t k ≡ half f t k
+pub same_elsewhere : (s : ℕ) (h : Half) (f g : ℕ → ℕ) → SameBut s h f g → (t : ℕ) (k : Half) → (t ≡ s → ⊥) → half2 g t k ≡ half2 f t k
 same_elsewhere s h f g same t k ne = same_bytes f g t k (λ i l. same.each (half_at t k + i) (is_apart s t h k i ne l))
 
-pub same_own : (s : ℕ) (h : Half) (f g : ℕ → ℕ) → SameBut s (other h) f g → half g s h ≡ half f s h
+pub same_own : (s : ℕ) (h : Half) (f g : ℕ → ℕ) → SameBut s (other h) f g → half2 g s h ≡ half2 f s h
 same_own s h f g same = same_bytes f g s h (λ i l. same.each (half_at s h + i) (own_apart s h i l))
 
 pub same_format : (s : ℕ) (h : Half) (f g : ℕ → ℕ) → SameBut s h f g → is_format2 g ≡ is_format2 f
@@ -115,21 +142,21 @@ neither_of true b x y z e f = cc
 
 module _ {A : Type 0} (read : (ℕ → ℕ) → Option A) where
   -- the half that counts decides
-  pub entry_by : (f : ℕ → ℕ) (s : ℕ) (h : Half) → is_counting (half f s h) (half f s (other h)) ≡ true → entry read f s ≡ held read (half f s h)
-  entry_by f s First p = first_of (is_counting (half f s First) (half f s Second)) (is_counting (half f s Second) (half f s First)) (held read (half f s First)) _ _ p
+  pub entry_by : (f : ℕ → ℕ) (s : ℕ) (h : Half) → is_counting (half2 f s h) (half2 f s (other h)) ≡ true → entry2 read f s ≡ held read (half2 f s h)
+  entry_by f s First p = first_of (is_counting (half2 f s First) (half2 f s Second)) (is_counting (half2 f s Second) (half2 f s First)) (held read (half2 f s First)) _ _ p
   entry_by f s Second p =
-      second_of (is_counting (half f s First) (half f s Second)) (is_counting (half f s Second) (half f s First)) _ (held read (half f s Second)) _ (only_one (half f s Second) (half f s First) p) p
+      second_of (is_counting (half2 f s First) (half2 f s Second)) (is_counting (half2 f s Second) (half2 f s First)) _ (held read (half2 f s Second)) _ (only_one (half2 f s Second) (half2 f s First) p) p
 
-  pub entry_elsewhere : (s : ℕ) (h : Half) (f g : ℕ → ℕ) → SameBut s h f g → (t : ℕ) → (t ≡ s → ⊥) → entry read g t ≡ entry read f t
+  pub entry_elsewhere : (s : ℕ) (h : Half) (f g : ℕ → ℕ) → SameBut s h f g → (t : ℕ) → (t ≡ s → ⊥) → entry2 read g t ≡ entry2 read f t
   entry_elsewhere s h f g same t ne = λ j. entry_of read (same_elsewhere s h f g same t First ne j) (same_elsewhere s h f g same t Second ne j)
 
-  entry_at : (s : ℕ) (h : Half) (f g : ℕ → ℕ) → SameBut s h f g → entry read g s ≡ entry read f s → (t : ℕ) → (b : Bool) → (t == s) ≡ b → entry read g t ≡ entry read f t
-  entry_at s h f g same own t true e = let k : t ≡ s = grind (arith, e) in ap (entry read g) k ∙ own ∙ ap (entry read f) (sym k)
+  entry_at : (s : ℕ) (h : Half) (f g : ℕ → ℕ) → SameBut s h f g → entry2 read g s ≡ entry2 read f s → (t : ℕ) → (b : Bool) → (t == s) ≡ b → entry2 read g t ≡ entry2 read f t
+  entry_at s h f g same own t true e = let k : t ≡ s = grind (arith, e) in ap (entry2 read g) k ∙ own ∙ ap (entry2 read f) (sym k)
   entry_at s h f g same own t false e = entry_elsewhere s h f g same t (λ k. absurd (grind (arith, e, k)))
 
   -- while the same half counts, all slots hold what they held
-  pub entries_stay : (s : ℕ) (h : Half) (f g : ℕ → ℕ) → SameBut s (other h) f g → is_counting (half f s h) (half f s (other h)) ≡ true → is_counting (half g s h) (half g s (other h)) ≡ true
-      → (t : ℕ) → entry read g t ≡ entry read f t
+  pub entries_stay : (s : ℕ) (h : Half) (f g : ℕ → ℕ) → SameBut s (other h) f g → is_counting (half2 f s h) (half2 f s (other h)) ≡ true → is_counting (half2 g s h) (half2 g s (other h)) ≡ true
+      → (t : ℕ) → entry2 read g t ≡ entry2 read f t
   entries_stay s h f g same p q t =
       entry_at s (other h) f g same (entry_by g s h q ∙ ap (held read) (same_own s h f g same) ∙ sym (entry_by f s h p)) t (t == s) refl
 

@@ -11,3 +11,5 @@ pub mod Reading
 pub mod Books
 pub mod Marking
 pub mod FormatLemmas
+pub mod Moved
+pub mod Moves

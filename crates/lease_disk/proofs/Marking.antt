@@ -10,13 +10,14 @@ use Rattle.types.specs.declared.slots.Slots.{Slots}
 use Rattle.lease_disk.specs.declared.entry.Entry.{Entry}
 use Rattle.lease_disk.specs.declared.half.Half.TheVariants.{First, Second}
 use Rattle.lease_disk.specs.declared.marks.Mark.{Mark}
-use Rattle.lease_disk.specs.Layout.{half, is_format2}
+use Rattle.lease_disk.specs.Layout.{half2}
 use Rattle.lease_disk.specs.Recover.{is_counted}
-use Rattle.lease_disk.specs.Recovered.{is_open, sequence, is_counting, slot4_of, slot6_of, saved_at, held, entry, recovered}
+use Rattle.lease_disk.specs.Recovered.{is_open, sequence, is_counting, slot4_of, slot6_of, saved_at, held}
 use Rattle.lease_disk.specs.Save.{IsMark, is_read}
 use Rattle.lease_disk.proofs.Entries.{all_at, are_entries}
+use Rattle.lease_disk.proofs.Halves.{entry2, recovered2}
 
-module _ (region : ℕ → ℕ) (s : ℕ) (f g : ℕ → ℕ) (first : f ≡ half region s First) (second : g ≡ half region s Second) where
+module _ (region : ℕ → ℕ) (s : ℕ) (f g : ℕ → ℕ) (first : f ≡ half2 region s First) (second : g ≡ half2 region s Second) where
   pub mark_first : (m : Mark) → true ≡ is_counting f g → m ≡ record { half = First; sequence = sequence f; other_open = is_open g } → IsMark region s m
   mark_first m p is = subst (λ m. IsMark region s m) (sym is) (record {
     counting = sym (p ∙ (λ j. is_counting (first j) (second j)));
@@ -30,7 +31,7 @@ module _ (region : ℕ → ℕ) (s : ℕ) (f g : ℕ → ℕ) (first : f ≡ hal
 
   pub mark_second : (m : Mark) → false ≡ is_counting f g → m ≡ record { half = Second; sequence = sequence g; other_open = is_open f } → is_counted region s ≡ true → IsMark region s m
   mark_second m p is counted = subst (λ m. IsMark region s m) (sym is) (record {
-    counting = other_counts (is_counting (half region s First) (half region s Second)) (is_counting (half region s Second) (half region s First)) (p ∙ (λ j. is_counting (first j) (second j))) counted;
+    counting = other_counts (is_counting (half2 region s First) (half2 region s Second)) (is_counting (half2 region s Second) (half2 region s First)) (p ∙ (λ j. is_counting (first j) (second j))) counted;
     sequence = ap sequence second;
     other_open = ap is_open first;
   })
@@ -73,26 +74,26 @@ in_pool : {A : Type 0} → (b : Bool) (o : Option A) (x e : A) → b ≡ true �
 in_pool true o x e h is = is
 in_pool false o x e h is = absurd cc
 
-module _ (counts : List ℕ) (region : ℕ → ℕ) (slots : Slots) (was : recovered counts region ≡ Some slots) where
+module _ (counts : List ℕ) (region : ℕ → ℕ) (slots : Slots) (was : recovered2 counts region ≡ Some slots) where
   counted4 : (s : ℕ) → s < 16 → nat_lt s (slice_index counts 0) ≡ true → is_counted region s ≡ true
-  unfolding recovered
+  unfolding recovered2
   counted4 s few below =
-      let a = are_entries counts (is_format2 region) (entry slot4_of region) (entry slot6_of region) slots was in
-      let read : ℕ → Option (Entry Slot4) = λ i. if nat_lt i (slice_index counts 0) then entry slot4_of region i else Some (saved_at 0 S4.Free) in
+      let a = are_entries counts (Some 0) (entry2 slot4_of region) (entry2 slot6_of region) slots was in
+      let read : ℕ → Option (Entry Slot4) = λ i. if nat_lt i (slice_index counts 0) then entry2 slot4_of region i else Some (saved_at a.clock S4.Free) in
       let e = get_or a.entries4 s (saved_at 0 S4.Free) in
       let is : read s ≡ Some e = ap read (sym (zero-add s)) ∙ all_at read 0 16 a.entries4 a.four_are s (saved_at 0 S4.Free) few in
-      counted_of (is_counting (half region s First) (half region s Second)) (is_counting (half region s Second) (half region s First)) (held slot4_of (half region s First)) (held slot4_of (half region s Second)) e
-      (in_pool (nat_lt s (slice_index counts 0)) (entry slot4_of region s) (saved_at 0 S4.Free) e below is)
+      counted_of (is_counting (half2 region s First) (half2 region s Second)) (is_counting (half2 region s Second) (half2 region s First)) (held slot4_of (half2 region s First)) (held slot4_of (half2 region s Second)) e
+      (in_pool (nat_lt s (slice_index counts 0)) (entry2 slot4_of region s) (saved_at a.clock S4.Free) e below is)
 
   counted6 : (i : ℕ) → i < 16 → nat_lt i (slice_index counts 1) ≡ true → is_counted region (16 + i) ≡ true
-  unfolding recovered
+  unfolding recovered2
   counted6 i few below =
-      let a = are_entries counts (is_format2 region) (entry slot4_of region) (entry slot6_of region) slots was in
-      let read : ℕ → Option (Entry Slot6) = λ j. if nat_lt j (slice_index counts 1) then entry slot6_of region (16 + j) else Some (saved_at 0 S6.Free) in
+      let a = are_entries counts (Some 0) (entry2 slot4_of region) (entry2 slot6_of region) slots was in
+      let read : ℕ → Option (Entry Slot6) = λ j. if nat_lt j (slice_index counts 1) then entry2 slot6_of region (16 + j) else Some (saved_at a.clock S6.Free) in
       let e = get_or a.entries6 i (saved_at 0 S6.Free) in
       let is : read i ≡ Some e = ap read (sym (zero-add i)) ∙ all_at read 0 16 a.entries6 a.six_are i (saved_at 0 S6.Free) few in
-      counted_of (is_counting (half region (16 + i) First) (half region (16 + i) Second)) (is_counting (half region (16 + i) Second) (half region (16 + i) First)) (held slot6_of (half region (16 + i) First)) (held slot6_of (half region (16 + i) Second)) e
-      (in_pool (nat_lt i (slice_index counts 1)) (entry slot6_of region (16 + i)) (saved_at 0 S6.Free) e below is)
+      counted_of (is_counting (half2 region (16 + i) First) (half2 region (16 + i) Second)) (is_counting (half2 region (16 + i) Second) (half2 region (16 + i) First)) (held slot6_of (half2 region (16 + i) First)) (held slot6_of (half2 region (16 + i) Second)) e
+      (in_pool (nat_lt i (slice_index counts 1)) (entry2 slot6_of region (16 + i)) (saved_at a.clock S6.Free) e below is)
 
   by_pool : (s : ℕ) (b : Bool) → nat_lt s 16 ≡ b → (c : Bool) → nat_lt s 32 ≡ c → (if b then nat_lt s (slice_index counts 0) else c && nat_lt (s - 16) (slice_index counts 1)) ≡ true → (s < 32) × (is_counted region s ≡ true)
   by_pool s true e c f h = let few : s < 16 = grind (arith, e) in (omega (arith, few), counted4 s few h)

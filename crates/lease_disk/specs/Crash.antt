@@ -3,9 +3,9 @@ use Rattle.std.specs.Prelude.{◌≡◌, ◌<◌, ◌≤◌, ◌==◌, ℕ, true
 use Rattle.lease_disk.specs.declared.image.Image.{Image}
 use Rattle.lease_disk.specs.declared.image.Image.TheVariants.{Byte, Unreadable}
 use Rattle.lease_disk.specs.Book.{empty_book}
-use Rattle.lease_disk.specs.Layout.{formatted}
+use Rattle.lease_disk.specs.Layout.{formatted, formatted_old, gate_open}
 use Rattle.lease_disk.specs.Recovered.{recovered}
-use Rattle.lease_disk.specs.Region.{Region, image, IsClean, IsCrash}
+use Rattle.lease_disk.specs.Region.{Region, image, written, IsClean, IsCrash}
 
 -- an unreadable region keeps its bytes and what is in doubt
 abbrev pub crashed : Image → Region → Region
@@ -15,6 +15,10 @@ crashed Unreadable r = record { byte = r.byte; unsynced = r.unsynced; readable =
 -- each byte is this one, and what was in doubt stays so
 abbrev pub filled : ℕ → Region → Region
 filled byte r = record { byte = λ i. if nat_lt i 32768 then byte else 0; unsynced = r.unsynced; readable = r.readable }
+
+-- these bytes stand from an offset on, and what was in doubt stays so
+abbrev pub loaded : ℕ → List ℕ → Region → Region
+loaded at bytes r = record { byte = (written at bytes r).byte; unsynced = r.unsynced; readable = r.readable }
 
 -- a region that was just formatted
 abbrev pub formatted_region : Region
@@ -29,3 +33,12 @@ pub record IsFormatted (r : Region) : Type 0 where
 -- byte has become, the region is damaged or has an empty book.
 abbrev pub IsHalfFormatted : ℕ → Region → Type 0
 IsHalfFormatted k r = 3 ≤ k → (counts : List ℕ) (f : ℕ → ℕ) → IsCrash r f → recovered counts f ≡ (if f 8192 == 2 then Some empty_book else None)
+
+-- a region that was formatted in format 1
+pub record IsFormattedOld (r : Region) : Type 0 where
+  pub byte : (i : ℕ) → i < 32768 → r.byte i ≡ formatted_old i
+  pub clean : IsClean r
+
+-- after a formatting in format 1 whose k-th call failed: the same by the gate of the first bank
+abbrev pub IsHalfFormattedOld : ℕ → Region → Type 0
+IsHalfFormattedOld k r = 3 ≤ k → (counts : List ℕ) (f : ℕ → ℕ) → IsCrash r f → recovered counts f ≡ (if f 0 == gate_open then Some empty_book else None)

@@ -30,6 +30,12 @@ pub record Touches (tells : Bool) (r : ℕ) (old new : Device) : Type 0 where
   pub region : tells ≡ true → (q : ℕ) → q ≢ r → new.region q ≡ old.region q
   pub fuse : tells ≡ true → (q : ℕ) → q ≢ r → new.fuse q ≡ old.fuse q
 
+-- nothing but one region, and the counts
+pub record ChangesOne (tells : Bool) (r : ℕ) (old new : Device) : Type 0 where
+  pub count : new.count ≡ old.count
+  pub region : tells ≡ true → (q : ℕ) → q ≢ r → new.region q ≡ old.region q
+  pub fuse : tells ≡ true → (q : ℕ) → q ≢ r → new.fuse q ≡ old.fuse q
+
 -- writes one region, or nothing at all
 abbrev pub WritesAt : Bool → Option ℕ → Device → Device → Type 0
 WritesAt tells None old new = new ≡ old

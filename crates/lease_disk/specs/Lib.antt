@@ -3,10 +3,12 @@ pub mod Crash
 pub mod Device
 pub mod FileDisk
 pub mod HalfBytes
+pub mod Halves
 pub mod Keys
 pub mod Layout
 pub mod Marked
 pub mod Model
+pub mod Moving
 pub mod Recover
 pub mod Recovered
 pub mod Region

@@ -1,5 +1,5 @@
--- What the bytes of a region mean: the slots that a book begins with, or None where the region is damaged.
--- One that is not of format 2 counts as damaged.
+-- What the bytes of a region mean, in either format: the slots that a book begins with, or None where the region is
+-- damaged.
 use Rattle.std.specs.Prelude.{ℕ, ◌+◌, ◌%◌, ◌==◌, Bool, not, ◌&&◌, ◌||◌, nat_le, nat_lt, max, suc, zero, if◌then◌else◌, List, [], ◌∷◌, map, slice_index, Option, Some, None, option_map}
 use Rattle.std.specs.Int.{w32, w64, from_be_bytes}
 use Rattle.types.specs.declared.slot4.Slot4.{Slot4}
@@ -10,11 +10,11 @@ use Rattle.types.specs.declared.slots.Slots.{Slots}
 use Rattle.types.specs.Slots.{last_until, live4, live6, none_twice, same_client4, same_client6}
 use Rattle.lease_disk.specs.declared.entry.Entry.{Entry}
 use Rattle.lease_disk.specs.declared.half.Half.TheVariants.{First, Second}
-use Rattle.lease_disk.specs.Layout.{gate_open, is_format2, half}
+use Rattle.lease_disk.specs.Layout.{gate_open, is_format2, half, half1}
 
--- Which half of a slot counts. Below, `half` and `other` are the bytes of a slot's halves: byte 0 is the
--- gate, 1 the state, 2 the length of the key or DUID, 3 the sequence, 4 begins the IAID (DHCPv6 only), 8
--- the clock, 16 until, and 32 the key or DUID.
+-- Which half of a slot counts. Below, `half` and `other` are the bytes of a slot's halves, which format 1 has in
+-- its banks: byte 0 is the gate, 1 the state, 2 the length of the key or DUID, 3 the sequence, 4 begins the IAID
+-- (DHCPv6 only), 8 the clock, 16 until, and 32 the key or DUID.
 
 abbrev pub is_open : (ℕ → ℕ) → Bool
 is_open half = half 0 == gate_open
@@ -114,11 +114,27 @@ module _ {A : Type 0} where
   abbrev pub contents_at : (ℕ → A → A) → ℕ → List (Entry A) → List A
   contents_at live clock entries = map (λ e. live clock e.content) entries
 
--- the entries of a pool of so many addresses: a slot past the pool is not read, and free
-abbrev pub pool_entries : {A : Type 0} → A → ℕ → (ℕ → Option (Entry A)) → Option (List (Entry A))
-pool_entries free count read = all_from (λ i. if nat_lt i count then read i else Some (saved_at 0 free)) 0 16
+-- the entries of a pool of so many addresses in a region with this clock: a slot past the pool is not read, and free
+abbrev pub pool_entries : {A : Type 0} → ℕ → A → ℕ → (ℕ → Option (Entry A)) → Option (List (Entry A))
+pool_entries clock free count read = all_from (λ i. if nat_lt i count then read i else Some (saved_at clock free)) 0 16
 
 -- What the region holds
+
+-- the clock of a half or bank, within its limit
+abbrev pub clock_within : (ℕ → ℕ) → Option ℕ
+clock_within half = if nat_le (clock_of half) last_clock then Some (clock_of half) else None
+
+-- the clock of what counts of two
+abbrev pub counting_clock : (ℕ → ℕ) → (ℕ → ℕ) → Option ℕ
+counting_clock first second =
+    if is_counting first second then clock_within first
+    else if is_counting second first then clock_within second
+    else None
+
+-- The clock that a region has as a whole: in format 1 that of the bank that counts, and None where none does. In format 2
+-- it has none, since each slot has one.
+abbrev pub region_clock : (ℕ → ℕ) → Option ℕ
+region_clock region = if is_format2 region then Some 0 else counting_clock (half1 region 0 First) (half1 region 0 Second)
 
 -- at the kept clock, by which no client has two live leases of one protocol
 abbrev pub book_at : ℕ → List Slot4 → List Slot6 → Option Slots
@@ -133,11 +149,12 @@ book_of (Some four) (Some six) =
     book_at (max (latest four) (latest six)) (contents_at live4 (max (latest four) (latest six)) four) (contents_at live6 (max (latest four) (latest six)) six)
 book_of _ _ = None
 
--- by entries
-abbrev pub book_in : List ℕ → Bool → (ℕ → Option (Entry Slot4)) → (ℕ → Option (Entry Slot6)) → Option Slots
-book_in counts two four six =
-    if two then book_of (pool_entries S4.Free (slice_index counts 0) four) (pool_entries S6.Free (slice_index counts 1) (λ i. six (16 + i))) else None
+-- by entries, in a region with this clock
+abbrev pub book_in : List ℕ → Option ℕ → (ℕ → Option (Entry Slot4)) → (ℕ → Option (Entry Slot6)) → Option Slots
+book_in counts None four six = None
+book_in counts (Some clock) four six =
+    book_of (pool_entries clock S4.Free (slice_index counts 0) four) (pool_entries clock S6.Free (slice_index counts 1) (λ i. six (16 + i)))
 
 -- for pools of so many addresses
 unfoldable pub recovered : List ℕ → (ℕ → ℕ) → Option Slots
-recovered counts region = book_in counts (is_format2 region) (entry slot4_of region) (entry slot6_of region)
+recovered counts region = book_in counts (region_clock region) (entry slot4_of region) (entry slot6_of region)

@@ -10,7 +10,7 @@ use Rattle.lease_disk.specs.declared.marks.Mark.{Mark}
 use Rattle.lease_disk.specs.declared.marks.Marks.{Marks}
 use Rattle.lease_disk.specs.Book.{IsBook}
 use Rattle.lease_disk.specs.HalfBytes.{half_bytes}
-use Rattle.lease_disk.specs.Layout.{gate_open, half_at, half}
+use Rattle.lease_disk.specs.Layout.{gate_open, half_at, half2}
 use Rattle.lease_disk.specs.Recovered.{is_open, sequence, next, is_counting, recovered}
 use Rattle.lease_disk.specs.Region.{Region, is_within, IsCrash, IsClean}
 
@@ -18,11 +18,11 @@ abbrev pub other : Half → Half
 other First = Second
 other Second = First
 
--- the mark of a slot: which half counts, its sequence, and whether the other's gate reads open
+-- the mark of a slot in format 2: which half counts, its sequence, and whether the other's gate reads open
 pub record IsMark (region : ℕ → ℕ) (s : ℕ) (mark : Mark) : Type 0 where
-  pub counting : is_counting (half region s mark.half) (half region s (other mark.half)) ≡ true
-  pub sequence : mark.sequence ≡ sequence (half region s mark.half)
-  pub other_open : mark.other_open ≡ is_open (half region s (other mark.half))
+  pub counting : is_counting (half2 region s mark.half) (half2 region s (other mark.half)) ≡ true
+  pub sequence : mark.sequence ≡ sequence (half2 region s mark.half)
+  pub other_open : mark.other_open ≡ is_open (half2 region s (other mark.half))
 
 abbrev pub mark_at : Marks → ℕ → Mark
 mark_at marks s = slice_index_or marks.slots s (record { half = First; sequence = 0; other_open = false })

@@ -7,5 +7,7 @@ mod saving;
 mod write_half;
 
 pub use formatting::{format, format_bytes};
+pub(crate) use layout::HALVES_AT;
 pub use reading::{halves_in, read_halves};
 pub use saving::save;
+pub(crate) use write_half::write_half;

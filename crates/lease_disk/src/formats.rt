@@ -9,13 +9,13 @@ use crate::device::{Disk, Fault};
 /// The byte that says the format of a region: 2 means format 2, any other value format 1.
 pub const FORMAT_AT: usize = 8192;
 
-/// The format of the regions that this crate reads and writes. One of another format counts as damaged.
+/// The format in which slots are saved.
 pub const FORMAT: u8 = 2;
 
-/// What an earlier version wrote in place of `FORMAT`.
+/// What earlier versions wrote in place of `FORMAT`. Regions of their format are recovered, and moved by `migrate`.
 pub const OLD_FORMAT: u8 = 1;
 
-/// Reads the byte that says which format a region has, which `recover` wants to be `FORMAT`.
+/// Reads the byte that says which format a region has.
 pub fn read_format<D: Disk>(region: u16, disk: &mut D) -> Result<u8, Fault>
     requires { region < (D.device disk.old).count }
     ensures format { D.tells ≡ true → IfOk result (λ format. format ≡ ((D.device disk.old).region region).byte 8192) }
@@ -29,7 +29,7 @@ pub fn read_format<D: Disk>(region: u16, disk: &mut D) -> Result<u8, Fault>
     Ok(bytes[0])
 }
 
-/// Reads whether a region has the format that is read.
+/// Reads whether a region has format 2.
 pub(crate) fn has_format2<D: Disk>(region: u16, disk: &mut D) -> Result<bool, Fault>
     requires { region < (D.device disk.old).count }
     ensures format { D.tells ≡ true → IfOk result (λ two. two ≡ is_format2 ((D.device disk.old).region region).byte) }

@@ -67,8 +67,8 @@ fn burn(fuse: &mut u8) -> bool
 }
 
 impl ModelDisk {
-    ghost use Rattle.std.specs.Prelude.{ℕ, ◌≡◌, ◌<◌, length, IfOk};
-    ghost use Rattle.lease_disk.specs.Crash.{crashed, filled, formatted_region};
+    ghost use Rattle.std.specs.Prelude.{ℕ, ◌≡◌, ◌+◌, ◌<◌, ◌≤◌, length, IfOk};
+    ghost use Rattle.lease_disk.specs.Crash.{crashed, filled, formatted_region, loaded};
     ghost use Rattle.lease_disk.specs.Model.{state_of, fuse_of, SameBut};
     ghost use Rattle.lease_disk.specs.Region.{IsClean, IsRead};
 
@@ -134,6 +134,25 @@ impl ModelDisk {
         ensures others { SameBut region self.old self.new }
     {
         overwrite(&mut self.regions[usize::from(region)].bytes, byte);
+    }
+
+    /// Puts bytes in a region from an offset on, as if they had always been there.
+    pub fn load(&mut self, region: u16, at: usize, bytes: &[u8])
+        requires exists { region < length self.old.regions }
+        requires fits { at + length bytes.now ≤ 32768 }
+        ensures state { state_of self.new region ≡ loaded at bytes.now (state_of self.old region) }
+        ensures fuse { fuse_of self.new region ≡ fuse_of self.old region }
+        ensures others { SameBut region self.old self.new }
+    {
+        put(&mut self.regions[usize::from(region)].bytes, at, bytes);
+    }
+
+    /// Which write or sync of this region from now on fails; 0 for none.
+    pub fn fault(&self, region: u16) -> u8
+        requires { region < length self.now.regions }
+        ensures { result ≡ fuse_of self.now region }
+    {
+        self.fuses[usize::from(region)]
     }
 
     /// The bytes of a region as a read gives them, though none is made.

@@ -4,7 +4,7 @@ use Rattle.serde_json.specs.Data.{Data, Members, number, string, object, unsigne
 use Rattle.serde_json.specs.Written.{compact_text}
 use Rattle.lease_list.specs.declared.lease.Lease.{Lease}
 use Rattle.lease_list.specs.declared.line.Closed.{Closed}
-use Rattle.lease_list.specs.declared.line.Closed.TheVariants.{Damaged, OldFormat, Unreadable, Busy}
+use Rattle.lease_list.specs.declared.line.Closed.TheVariants.{Damaged, Unreadable, Busy}
 use Rattle.lease_list.specs.declared.line.Form.{Form}
 use Rattle.lease_list.specs.declared.line.Form.TheVariants.{Text, Json}
 use Rattle.lease_list.specs.Lease.{until_of}
@@ -35,13 +35,11 @@ with_end until date left members =
 
 abbrev pub state_of : Closed → List ℕ
 state_of Damaged = codes "closed"
-state_of OldFormat = codes "closed"
 state_of Unreadable = codes "closed"
 state_of Busy = codes "busy"
 
 abbrev pub why_of : Closed → List ℕ
 why_of Damaged = codes "its region is damaged"
-why_of OldFormat = codes "its region is of format 1, which this version does not serve"
 why_of Unreadable = codes "its region can't be read"
 why_of Busy = codes "no two in a row of 100 readings of its region were equal"
 

@@ -1,11 +1,11 @@
 -- The lines of a circuit, by what its region means.
-use Rattle.std.specs.Prelude.{◌≡◌, ◌==◌, ℕ, List, [], ◌∷◌, map, Option, Some, None, String, string_bytes, slice_index, if◌then◌else◌}
+use Rattle.std.specs.Prelude.{◌≡◌, ℕ, List, [], ◌∷◌, map, Option, Some, None, String, string_bytes, slice_index}
 use Rattle.std.specs.List.{AllZip}
 use Rattle.std.specs.declared.alloc.Global.{Global}
 use Rattle.types.specs.declared.slots.Slots.{Slots}
 use Rattle.config.specs.CircuitPart.{CircuitPart}
 use Rattle.lease_list.specs.declared.line.Closed.{Closed}
-use Rattle.lease_list.specs.declared.line.Closed.TheVariants.{Damaged, OldFormat, Unreadable, Busy}
+use Rattle.lease_list.specs.declared.line.Closed.TheVariants.{Damaged, Unreadable, Busy}
 use Rattle.lease_list.specs.declared.line.Form.{Form}
 use Rattle.lease_list.specs.declared.steady.Unsteady.{Unsteady}
 use Rattle.lease_list.specs.declared.steady.Unsteady.TheVariants as unsteady
@@ -14,14 +14,10 @@ use Rattle.lease_list.specs.Line.{IsLeaseLine, closed_written}
 use Rattle.lease_list.specs.Steady.{IsSteady, AreUnsteady}
 use Rattle.lease_disk.specs.Recovered.{recovered}
 
--- why a region that is recovered to nothing is closed: one of an earlier version has 1 as its byte 8192
-abbrev pub closed_by : (ℕ → ℕ) → Closed
-closed_by region = if region 8192 == 1 then OldFormat else Damaged
-
--- a line for each live lease, in their order; or one that says why the region is closed
-abbrev pub AreLines : CircuitPart → ℕ → Form → Closed → Option Slots → List (String Global) → Type 0
-AreLines part at form why (Some slots) lines = AllZip (λ lease line. IsLeaseLine part.id lease at form (string_bytes line)) (leases_at at part slots) lines
-AreLines part at form why None lines = map string_bytes lines ≡ closed_written part.id why form ∷ []
+-- a line for each live lease, in their order; or one that says that the region is damaged
+abbrev pub AreLines : CircuitPart → ℕ → Form → Option Slots → List (String Global) → Type 0
+AreLines part at form (Some slots) lines = AllZip (λ lease line. IsLeaseLine part.id lease at form (string_bytes line)) (leases_at at part slots) lines
+AreLines part at form None lines = map string_bytes lines ≡ closed_written part.id Damaged form ∷ []
 
 abbrev pub closed_as : Unsteady → Closed
 closed_as unsteady.Busy = Busy
@@ -32,6 +28,6 @@ closed_as unsteady.Unreadable = Unreadable
 abbrev pub AreCircuitLines : CircuitPart → ℕ → Form → List ℕ → List (ℕ × List ℕ) → List (ℕ × List ℕ) → Option Unsteady → List (String Global) → Type 0
 AreCircuitLines part at form bytes before after None lines =
     IsSteady part.region bytes before after
-    × AreLines part at form (closed_by (slice_index bytes)) (recovered (part.count4 ∷ part.count6 ∷ []) (slice_index bytes)) lines
+    × AreLines part at form (recovered (part.count4 ∷ part.count6 ∷ []) (slice_index bytes)) lines
 AreCircuitLines part at form _ before after (Some why) lines =
     AreUnsteady part.region before after × (map string_bytes lines ≡ closed_written part.id (closed_as why) form ∷ [])

@@ -21,8 +21,6 @@ pub enum Form {
 pub enum Closed {
     /// The bytes of its region are those of no book.
     Damaged,
-    /// Its region has the format of an earlier version.
-    OldFormat,
     /// Its region can't be read.
     Unreadable,
     /// Its region was written to during every reading.
@@ -104,7 +102,7 @@ fn state_of(why: Closed) -> &'static str
     ensures { result.now ≡ state_of why }
 {
     match why {
-        Closed::Damaged | Closed::OldFormat | Closed::Unreadable => "closed",
+        Closed::Damaged | Closed::Unreadable => "closed",
         Closed::Busy => "busy",
     }
 }
@@ -114,7 +112,6 @@ fn why_of(why: Closed) -> &'static str
 {
     match why {
         Closed::Damaged => "its region is damaged",
-        Closed::OldFormat => "its region is of format 1, which this version does not serve",
         Closed::Unreadable => "its region can't be read",
         Closed::Busy => "no two in a row of 100 readings of its region were equal",
     }

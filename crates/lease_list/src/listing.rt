@@ -4,13 +4,13 @@ ghost use Rattle.std.specs.List.{AllZip};
 ghost use Rattle.lease_disk.specs.Recovered.{recovered};
 ghost use Rattle.lease_list.specs.declared.steady.Unsteady.TheVariants as unsteady;
 ghost use Rattle.lease_list.specs.Line.{IsLeaseLine, closed_written};
-ghost use Rattle.lease_list.specs.Listing.{AreLines, AreCircuitLines, closed_as, closed_by};
+ghost use Rattle.lease_list.specs.Listing.{AreLines, AreCircuitLines, closed_as};
 
 use crate::lease::{Lease, leases};
 use crate::line::{Closed, Form, closed_line, lease_line};
 use crate::steady::{RegionReader, Unsteady, read_steadily};
 use config::CircuitPart;
-use lease_disk::{FORMAT_AT, OLD_FORMAT, REGION, slots_in};
+use lease_disk::{REGION, slots_in};
 use std::alloc::{AllocError, Global};
 use types::CircuitId;
 
@@ -42,17 +42,6 @@ fn lease_lines(
     Ok(lines)
 }
 
-/// Why a circuit is closed whose region has these bytes, which are those of no book.
-fn closed_by(bytes: &[u8; REGION]) -> Closed
-    ensures { result ≡ closed_by (slice_index bytes.now) }
-{
-    if bytes[FORMAT_AT] == OLD_FORMAT {
-        Closed::OldFormat
-    } else {
-        Closed::Damaged
-    }
-}
-
 /// Why a circuit is closed whose region was not read.
 fn closed_as(why: Unsteady) -> Closed
     ensures { result ≡ closed_as why }
@@ -78,8 +67,9 @@ fn closed_lines(
     Ok(lines)
 }
 
-/// The lines of a circuit whose region has these bytes: one for each of its leases that is live at a moment,
-/// in seconds, by address, DHCPv4 before DHCPv6; or one that says why it is closed. They have no line feeds.
+/// The lines of a circuit whose region has these bytes, of either format: one for each of its leases that is
+/// live at a moment, in seconds, by address, DHCPv4 before DHCPv6; or one that says that it is damaged. They
+/// have no line feeds.
 pub fn region_lines(
     alloc: Global,
     part: &CircuitPart,
@@ -87,13 +77,13 @@ pub fn region_lines(
     at: u64,
     form: Form,
 ) -> Result<Vec<String>, AllocError>
-    ensures { IfOk result (λ lines. AreLines part.now at form (closed_by (slice_index bytes.now)) (recovered (part.now.count4 ∷ part.now.count6 ∷ []) (slice_index bytes.now)) lines.items) }
+    ensures { IfOk result (λ lines. AreLines part.now at form (recovered (part.now.count4 ∷ part.now.count6 ∷ []) (slice_index bytes.now)) lines.items) }
 {
     if let Some(slots) = slots_in(bytes, part.counts()) {
         let found = leases(alloc, part, &slots, at)?;
         return lease_lines(alloc, text_of(part.id()), &found, at, form);
     }
-    closed_lines(alloc, part, closed_by(bytes), form)
+    closed_lines(alloc, part, Closed::Damaged, form)
 }
 
 /// The lines of a circuit by the region that a reader has of it, and why that was not read, if it was not. `bytes`

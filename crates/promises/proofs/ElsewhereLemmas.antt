@@ -202,7 +202,7 @@ module _ (relay listen4 listen6 : Source) where
   step setup (Up j now fault) a = upwards setup now fault a (slice_get a.up j)
   step setup (Down j) a = downwards setup a (slice_get a.down j)
   step setup (Tick now) a = refl
-  step setup (Restart image) a = refl
+  step setup (Restart comeback) a = refl
 
   pub frames_elsewhere : (setup : Setup) (seen : List Seen) (a : Alone) → frames (served_elsewhere relay listen4 listen6 setup) seen a ≡ frames setup seen a
   unfolding frames

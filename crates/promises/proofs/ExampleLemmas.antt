@@ -23,15 +23,14 @@ use Rattle.bindings_v4.specs.Table4.{Decision, answer4, discover_row as row, sel
 use Rattle.config.specs.CircuitPart.{pool4_of}
 use Rattle.requests.specs.Request4.{request4_in}
 use Rattle.dispatch.specs.Server.{Book, Served, book_at, served, drop, decision4_served, message4_served, request4_served}
-use Rattle.lease_disk.specs.declared.image.Image.TheVariants.{Byte}
 use Rattle.relay.specs.SentFrame.{SentFrame}
 use Rattle.relay.specs.Up4.{relayed_up4}
 use Rattle.relay.specs.Down4.{reply_of, relayed_down4}
 use Rattle.replies.specs.Reply4.{reply4_bytes}
 use Rattle.world.specs.Alone.{Alone, Setup, Step, Dropped, Gone, SentUp, SentDown, Framed, alone_step, served_step, sent_frame, after_all, frames}
 use Rattle.promises.specs.Examples.{part_a, part_a1, setup_a, setup_a1, ipv4, discover, discover_up, relayed_discover, offer, client, offers_at, one_offer, lease_until, datagram, with_up, begun, no_leases, request_up, asked, leased, closed, ack}
-use Rattle.promises.specs.Granted.{Granted4, lines, message4_lines, decision4_lines}
-use Rattle.events.specs.Seen.{Seen, Frame, Up, Down, Restart}
+use Rattle.promises.specs.Granted.{Granted4, lines, message4_lines, decision4_lines, restart_over}
+use Rattle.events.specs.Seen.{Seen, Frame, Up, Down}
 use Rattle.promises.proofs.BookLemmas.{free-none, free-one, at-offers, live_none, live_one, get-one}
 
 abbrev no_offers : Clients key4_cmp
@@ -260,13 +259,13 @@ save_closed = ap (λ s. s.next) save_fails
 abbrev after_closing : Seen → Step → Option Book
 after_closing s step = (alone_step setup_a s step.next).next.book
 
-pub save_found : ((after_all setup_a (Up 0 110 6 ∷ Restart (Byte 0xa5) ∷ []) asked).book ≡ Some leased)
+pub save_found : ((after_all setup_a (Up 0 110 6 ∷ restart_over 0xa5 0 ∷ []) asked).book ≡ Some leased)
 unfolding alone_step after_all served
-save_found = ap (after_closing (Restart (Byte 0xa5))) save_fails
+save_found = ap (after_closing (restart_over 0xa5 0)) save_fails
 
-pub save_lost : ((after_all setup_a (Up 0 110 6 ∷ Restart (Byte 0) ∷ []) asked).book ≡ Some no_leases)
+pub save_lost : ((after_all setup_a (Up 0 110 6 ∷ restart_over 0 0 ∷ []) asked).book ≡ Some no_leases)
 unfolding alone_step after_all served
-save_lost = ap (after_closing (Restart (Byte 0))) save_fails
+save_lost = ap (after_closing (restart_over 0 0)) save_fails
 
 -- ---- what is granted
 

@@ -1,7 +1,7 @@
 -- What holds of every book that is served, of what a moment leaves of it and of what is kept of it, holds
 -- of a machine's books after every step.
 use Rattle.std.proofs.Common.{ℕ, List, [], ◌∷◌, Bool, true, false, not}
-use Rattle.std.specs.Prelude.{Option, Some, None, option_map, Result, Ok, Err, slice_get, nat_le, IfSome, ◌==◌, if◌then◌else◌}
+use Rattle.std.specs.Prelude.{Option, Some, None, option_map, Result, Ok, Err, slice_get, nat_le, is_some, IfSome, ◌==◌, ◌||◌, if◌then◌else◌}
 use Rattle.types.specs.Delivery.{DeliveryValue}
 use Rattle.types.specs.declared.dest.Proto.{Proto}
 use Rattle.types.specs.declared.discard.Discard.{Discard}
@@ -11,7 +11,7 @@ use Rattle.lease_disk.specs.declared.image.Image.TheVariants.{Byte, Unreadable}
 use Rattle.lossy_net.specs.Net.{Datagram}
 use Rattle.relay.specs.SentFrame.{SentFrame}
 use Rattle.relay.specs.Relays.{relayed_up, relayed_down}
-use Rattle.world.specs.Alone.{Alone, Setup, Step, frame_step, answer_step, served_step, book_step, delivery_of, up_step, reply_step, down_step, is_fault, or_kept, after_restart, alone_step, after_all}
+use Rattle.world.specs.Alone.{Alone, Setup, Step, frame_step, answer_step, served_step, book_step, delivery_of, up_step, reply_step, down_step, is_fault, or_kept, Old, New, Moving, come_back, found, is_move_fault, is_new, with_image, alone_step, after_all}
 use Rattle.promises.specs.Books.{HasBooks}
 use Rattle.events.specs.Seen.{Seen, Frame, Up, Down, Tick, Restart}
 
@@ -46,11 +46,20 @@ module _ (P : Book → Type 0) where
   either_step true one other first second = first
   either_step false one other first second = second
 
-  restarted : (image : Image) (a : Alone) → HasBooks P a → HasBooks P (after_restart image a)
-  restarted (Byte byte) a books =
-      let found = if_either (byte == 0xa5) _ _ (either a.doubt a.kept books.doubt books.kept) books.kept in
-      record { book = found; kept = found; doubt = tt }
-  restarted Unreadable a books = record { book = tt; kept = books.kept; doubt = books.doubt }
+  -- what comes back of a region is the book that was found in it, if any
+  pub held_back : (fault : ℕ) (kept : Option Book) (two : Bool) (a : Alone) → IfSome kept P → HasBooks P (come_back fault kept two a)
+  held_back fault kept two a book = by (two || not (is_some kept)) (is_move_fault fault) where
+    by : (b c : Bool) → HasBooks P (if b then record a { book = kept; kept = kept; doubt = None; format = if two then New else Old }
+        else if c then record a { book = None; kept = kept; doubt = None; format = if nat_le 3 fault then Moving else Old }
+        else record a { book = kept; kept = kept; doubt = None; format = New })
+    by true c = record { book = book; kept = book; doubt = tt }
+    by false true = record { book = tt; kept = book; doubt = tt }
+    by false false = record { book = book; kept = book; doubt = tt }
+
+  restarted : (fault : ℕ) (image : Image) (a : Alone) → HasBooks P a → HasBooks P (with_image fault image a)
+  restarted fault (Byte byte) a books =
+      held_back fault (found byte a) (is_new a.format byte) a (if_either (byte == 0xa5) _ _ (either a.doubt a.kept books.doubt books.kept) books.kept)
+  restarted fault Unreadable a books = record { book = tt; kept = books.kept; doubt = books.doubt }
 
   module _ (setup : Setup) (on_later : (now : ℕ) (b : Book) → P b → P (book_at now b)) (on_kept : (b : Book) → P b → P (kept_book b))
       (on_served : (e : DeliveryValue) (b : Book) → P b → P (served setup.part e b).book) where
@@ -78,7 +87,7 @@ module _ (P : Book → Type 0) where
       ticked : (b : Option Book) → IfSome b P → IfSome (option_map (book_at now) b) P
       ticked None book = book
       ticked (Some b) book = on_later now b book
-    held_step (Restart image) a books = restarted image a books
+    held_step (Restart comeback) a books = restarted comeback.move_fault comeback.image a books
 
     pub held_after : (seen : List Seen) (a : Alone) → HasBooks P a → HasBooks P (after_all setup seen a)
     unfolding after_all

@@ -1,6 +1,6 @@
 -- What a circuit's machine knows of a grant, from step to step.
 use Rattle.std.proofs.Common.{◌≡◌, ◌⊎◌, inl, inr, ℕ, ◌≤◌, Bool, true, false, not, List, [], ◌∷◌, refl, sym, ap, subst, ◌∙◌}
-use Rattle.std.specs.Prelude.{Option, Some, None, option_map, Result, Ok, Err, slice_get, nat_le, IfSome, ◌==◌, if◌then◌else◌}
+use Rattle.std.specs.Prelude.{Option, Some, None, option_map, Result, Ok, Err, slice_get, nat_le, is_some, IfSome, ◌==◌, ◌||◌, if◌then◌else◌}
 use Rattle.types.specs.declared.dest.Proto.{Proto}
 use Rattle.types.specs.declared.discard.Discard.{Discard}
 use Rattle.slots.specs.Maps.{address_of}
@@ -10,10 +10,11 @@ use Rattle.lease_disk.specs.declared.image.Image.TheVariants.{Byte, Unreadable}
 use Rattle.lossy_net.specs.Net.{Datagram}
 use Rattle.relay.specs.SentFrame.{SentFrame}
 use Rattle.relay.specs.Relays.{relayed_up, relayed_down}
-use Rattle.world.specs.Alone.{Alone, Setup, Step, Effect, frame_step, answer_step, served_step, book_step, delivery_of, up_step, reply_step, down_step, is_fault, or_kept, found, after_restart, alone_step, after_all, start}
+use Rattle.world.specs.Alone.{Alone, Setup, Step, Effect, frame_step, answer_step, served_step, book_step, delivery_of, up_step, reply_step, down_step, is_fault, or_kept, Old, New, Moving, come_back, found, is_move_fault, is_new, with_image, alone_step, after_all, start, unsent}
 use Rattle.promises.specs.Books.{HasBooks, IsInPool, IsBookOf}
-use Rattle.promises.specs.Granted.{ClientOf, Grant, Granted, Ended, Stands, Knows, binding_of, is_sent, proto_lines, datagram_lines, lines, ledger}
+use Rattle.promises.specs.Granted.{ClientOf, Grant, Granted, Ended, Stands, BeginsKnowing, Knows, binding_of, is_sent, restart_over, proto_lines, datagram_lines, lines, ledger}
 use Rattle.events.specs.Seen.{Seen, Frame, Up, Down, Tick, Restart}
+use Rattle.promises.proofs.HeldBooks.{held_back}
 use Rattle.promises.proofs.GrantsOfBoth.{served_grants, served_keeps}
 use Rattle.promises.proofs.LineLemmas.{stands_left, stands_right, Keeps, keeps_new, keeps_later, keeps_kept}
 use Rattle.promises.proofs.PoolLemmas.{HasLimits, later_of, own_step}
@@ -64,11 +65,19 @@ module _ (lease : ℕ) (p : Proto) (g : Grant (ClientOf p)) where
   went_down setup a None h = h
   went_down setup a (Some d) h = replied a (relayed_down setup.part d.proto d.bytes) h
 
-  restarted : (image : Image) (a : Alone) → HoldsIn lease p g a → HoldsIn lease p g (after_restart image a)
-  restarted (Byte byte) a h =
-      let f = found_in (Keeps lease p g) (byte == 0xa5) a.doubt a.kept h.doubt h.kept in
-      record { book = if_some (Keeps lease p g) _ f; kept = f; doubt = tt }
-  restarted Unreadable a h = record { book = tt; kept = h.kept; doubt = h.doubt }
+  came_back : (fault : ℕ) (kept : Option Book) (two : Bool) (a : Alone) → ((k : Book) × (kept ≡ Some k) × Keeps lease p g k) → HoldsIn lease p g (come_back fault kept two a)
+  came_back fault kept two a f = by (two || not (is_some kept)) (is_move_fault fault) where
+    by : (b c : Bool) → HoldsIn lease p g (if b then record a { book = kept; kept = kept; doubt = None; format = if two then New else Old }
+        else if c then record a { book = None; kept = kept; doubt = None; format = if nat_le 3 fault then Moving else Old }
+        else record a { book = kept; kept = kept; doubt = None; format = New })
+    by true c = record { book = if_some (Keeps lease p g) kept f; kept = f; doubt = tt }
+    by false true = record { book = tt; kept = f; doubt = tt }
+    by false false = record { book = if_some (Keeps lease p g) kept f; kept = f; doubt = tt }
+
+  restarted : (fault : ℕ) (image : Image) (a : Alone) → HoldsIn lease p g a → HoldsIn lease p g (with_image fault image a)
+  restarted fault (Byte byte) a h =
+      came_back fault (found byte a) (is_new a.format byte) a (found_in (Keeps lease p g) (byte == 0xa5) a.doubt a.kept h.doubt h.kept)
+  restarted fault Unreadable a h = record { book = tt; kept = h.kept; doubt = h.doubt }
 
   -- a book that is saved and opened
   saved : (setup : Setup) (a : Alone) (proto : Proto) (done : Served) → Keeps lease p g done.book → IfSome a.doubt (Keeps lease p g)
@@ -121,7 +130,7 @@ module _ (setup : Setup) (limits : HasLimits setup.part) (p : Proto) (g : Grant 
     ticked : (b : Option Book) → IfSome b (Keeps setup.part.lease p g) → IfSome (option_map (book_at now) b) (Keeps setup.part.lease p g)
     ticked None keeps = keeps
     ticked (Some b) keeps = keeps_later setup.part.lease now p g b keeps
-  step_holds (Restart image) a books h = inl (restarted setup.part.lease p g image a h)
+  step_holds (Restart comeback) a books h = inl (restarted setup.part.lease p g comeback.move_fault comeback.image a h)
 
   -- whoever grants holds
   grant_holds : (s : Seen) (a : Alone) → HasBooks (IsBookOf setup.part) a → IsSure a → Stands (Granted p g) (lines setup s a) → HoldsIn setup.part.lease p g (alone_step setup s a).next
@@ -147,7 +156,7 @@ module _ (setup : Setup) (limits : HasLimits setup.part) (p : Proto) (g : Grant 
     went_up (Some d) s = opened d a.book books.book sure s
   grant_holds (Down j) a books sure s = absurd s
   grant_holds (Tick now) a books sure s = absurd s
-  grant_holds (Restart image) a books sure s = absurd s
+  grant_holds (Restart comeback) a books sure s = absurd s
 
   -- who grants the address to another client knows of the first grant
   grants_another : (s : Seen) (a : Alone) (h : Grant (ClientOf p)) → HasBooks (IsBookOf setup.part) a → HoldsIn setup.part.lease p g a → Stands (Granted p h) (lines setup s a)
@@ -174,7 +183,7 @@ module _ (setup : Setup) (limits : HasLimits setup.part) (p : Proto) (g : Grant 
     went_up (Some d) effect s = opened d a.book effect books.book holds.book s
   grants_another (Down j) a h books holds s same apart = absurd s
   grants_another (Tick now) a h books holds s same apart = absurd s
-  grants_another (Restart image) a h books holds s same apart = absurd s
+  grants_another (Restart comeback) a h books holds s same apart = absurd s
 
   -- what is granted is in the pool
   grants_pooled : (s : Seen) (a : Alone) → HasBooks (IsBookOf setup.part) a → Stands (Granted p g) (lines setup s a) → IsInPool setup.part p g.address
@@ -193,7 +202,7 @@ module _ (setup : Setup) (limits : HasLimits setup.part) (p : Proto) (g : Grant 
     went_up (Some d) effect s = opened d a.book effect books.book s
   grants_pooled (Down j) a books s = absurd s
   grants_pooled (Tick now) a books s = absurd s
-  grants_pooled (Restart image) a books s = absurd s
+  grants_pooled (Restart comeback) a books s = absurd s
 
 -- ---- an open circuit has nothing in doubt
 
@@ -222,9 +231,18 @@ none_doubted : (doubt o : Option Book) → doubt ≡ None → IfSome o (λ b. do
 none_doubted doubt None none = tt
 none_doubted doubt (Some b) none = none
 
-sure_restarted : (image : Image) (a : Alone) → IsSure (after_restart image a)
-sure_restarted (Byte byte) a = none_doubted None (found byte a) refl
-sure_restarted Unreadable a = tt
+sure_back : (fault : ℕ) (kept : Option Book) (two : Bool) (a : Alone) → IsSure (come_back fault kept two a)
+sure_back fault kept two a = by (two || not (is_some kept)) (is_move_fault fault) where
+  by : (b c : Bool) → IsSure (if b then record a { book = kept; kept = kept; doubt = None; format = if two then New else Old }
+      else if c then record a { book = None; kept = kept; doubt = None; format = if nat_le 3 fault then Moving else Old }
+      else record a { book = kept; kept = kept; doubt = None; format = New })
+  by true c = none_doubted None kept refl
+  by false true = tt
+  by false false = none_doubted None kept refl
+
+sure_restarted : (fault : ℕ) (image : Image) (a : Alone) → IsSure (with_image fault image a)
+sure_restarted fault (Byte byte) a = sure_back fault (found byte a) (is_new a.format byte) a
+sure_restarted fault Unreadable a = tt
 
 sure_step : (setup : Setup) (s : Seen) (a : Alone) → IsSure a → IsSure (alone_step setup s a).next
 unfolding alone_step
@@ -242,12 +260,23 @@ sure_step setup (Tick now) a sure = ticked a.book sure where
   ticked : (b : Option Book) → IfSome b (λ b. a.doubt ≡ None) → IfSome (option_map (book_at now) b) (λ b. a.doubt ≡ None)
   ticked None none = none
   ticked (Some b) none = none
-sure_step setup (Restart image) a sure = sure_restarted image a
+sure_step setup (Restart comeback) a sure = sure_restarted comeback.move_fault comeback.image a
 
 sure_after : (setup : Setup) (seen : List Seen) (a : Alone) → IsSure a → IsSure (after_all setup seen a)
 unfolding after_all
 sure_after setup [] a sure = sure
 sure_after setup (s ∷ seen) a sure = sure_after setup seen (alone_step setup s a).next (sure_step setup s a sure)
+
+-- ---- a restart
+
+begins : (p : Proto) (g : Grant (ClientOf p)) (fault : ℕ) (kept : Option Book) (two : Bool) (a : Alone) (b : Book) → kept ≡ Some b → Knows p g b → BeginsKnowing p g fault (come_back fault kept two a)
+begins p g fault kept two a b is knows = by (two || not (is_some kept)) (is_move_fault fault) refl where
+  by : (done fails : Bool) → is_move_fault fault ≡ fails → BeginsKnowing p g fault (if done then record a { book = kept; kept = kept; doubt = None; format = if two then New else Old }
+      else if fails then record a { book = None; kept = kept; doubt = None; format = if nat_le 3 fault then Moving else Old }
+      else record a { book = kept; kept = kept; doubt = None; format = New })
+  by true fails e = record { found = b; kept = is; knows = knows; opens = λ no. is }
+  by false true e = record { found = b; kept = is; knows = knows; opens = λ no. absurd cc }
+  by false false e = record { found = b; kept = is; knows = knows; opens = λ no. is }
 
 -- ---- a run
 
@@ -277,41 +306,43 @@ module _ (setup : Setup) (limits : HasLimits setup.part) where
     by (inl holds) on = rest (on holds)
     by (inr ended) on = inr (stands_left (Ended p g.client g.address) (lines setup s a) _ ended)
 
-  module _ (kept : Option Book) (is_book : IfSome kept (IsBookOf setup.part)) (before : List Seen) (s : Seen) (p : Proto) (g : Grant (ClientOf p)) where
+  module _ (first_fault : ℕ) (kept : Option Book) (two : Bool) (is_book : IfSome kept (IsBookOf setup.part)) (before : List Seen) (s : Seen) (p : Proto) (g : Grant (ClientOf p)) where
     abbrev reached : Alone
-    reached = after_all setup before (start kept)
+    reached = after_all setup before (start first_fault kept two)
 
     reached_books : HasBooks (IsBookOf setup.part) reached
-    reached_books = books_after before (start kept) (record { book = is_book; kept = is_book; doubt = tt })
+    reached_books = books_after before (start first_fault kept two) (held_back (IsBookOf setup.part) first_fault kept two unsent is_book)
 
     reached_sure : IsSure reached
-    reached_sure = sure_after setup before (start kept) (none_doubted None kept refl)
+    reached_sure = sure_after setup before (start first_fault kept two) (sure_back first_fault kept two unsent)
 
     after_grant : (seen : List Seen) → Stands (Granted p g) (lines setup s reached)
         → HoldsIn setup.part.lease p g (after_all setup seen (alone_step setup s reached).next) ⊎ Stands (Ended p g.client g.address) (ledger setup seen (alone_step setup s reached).next)
     after_grant seen grants =
         run_holds p g seen (alone_step setup s reached).next (books_step s reached reached_books) (grant_holds setup limits p g s reached reached_books reached_sure grants)
 
-    pub grants_inside : Stands (Granted p g) (lines setup s (after_all setup before (start kept))) → IsInPool setup.part p g.address
+    pub grants_inside : Stands (Granted p g) (lines setup s (after_all setup before (start first_fault kept two))) → IsInPool setup.part p g.address
     grants_inside = grants_pooled setup limits p g s reached reached_books
 
-    pub forgets_none : (seen : List Seen) (byte : ℕ) → Stands (Granted p g) (lines setup s (after_all setup before (start kept)))
-        → ((b : Book) × ((alone_step setup (Restart (Byte byte)) (after_all setup (s ∷ seen) (after_all setup before (start kept)))).next.book ≡ Some b) × Knows p g b)
-        ⊎ Stands (Ended p g.client g.address) (ledger setup seen (alone_step setup s (after_all setup before (start kept))).next)
+    pub forgets_none : (seen : List Seen) (byte fault : ℕ) → Stands (Granted p g) (lines setup s (after_all setup before (start first_fault kept two)))
+        → BeginsKnowing p g fault (alone_step setup (restart_over byte fault) (after_all setup (s ∷ seen) (after_all setup before (start first_fault kept two)))).next
+        ⊎ Stands (Ended p g.client g.address) (ledger setup seen (alone_step setup s (after_all setup before (start first_fault kept two))).next)
     unfolding alone_step after_all
-    forgets_none seen byte grants = by (after_grant seen grants) where
-      known : (a : Alone) → HoldsIn setup.part.lease p g a → (b : Book) × (found byte a ≡ Some b) × Knows p g b
-      known a h = let f = found_in (Keeps setup.part.lease p g) (byte == 0xa5) a.doubt a.kept h.doubt h.kept in (f.0, f.1, f.2.1)
+    forgets_none seen byte fault grants = by (after_grant seen grants) where
+      known : (a : Alone) → HoldsIn setup.part.lease p g a → BeginsKnowing p g fault (with_image fault (Byte byte) a)
+      known a h =
+          let f = found_in (Keeps setup.part.lease p g) (byte == 0xa5) a.doubt a.kept h.doubt h.kept in
+          begins p g fault (found byte a) (is_new a.format byte) a f.0 f.1 f.2.1
 
       by : HoldsIn setup.part.lease p g (after_all setup seen (alone_step setup s reached).next) ⊎ Stands (Ended p g.client g.address) (ledger setup seen (alone_step setup s reached).next)
-          → ((b : Book) × (found byte (after_all setup seen (alone_step setup s reached).next) ≡ Some b) × Knows p g b)
+          → BeginsKnowing p g fault (with_image fault (Byte byte) (after_all setup seen (alone_step setup s reached).next))
           ⊎ Stands (Ended p g.client g.address) (ledger setup seen (alone_step setup s reached).next)
       by (inl h) = inl (known _ h)
       by (inr ended) = inr ended
 
-    pub leases_once : (between : List Seen) (t : Seen) (h : Grant (ClientOf p)) → Stands (Granted p g) (lines setup s (after_all setup before (start kept)))
-        → Stands (Granted p h) (lines setup t (after_all setup (s ∷ between) (after_all setup before (start kept)))) → h.address ≡ g.address → (g.client ≡ h.client → ⊥)
-        → (g.until ≤ h.clock) ⊎ Stands (Ended p g.client g.address) (ledger setup between (alone_step setup s (after_all setup before (start kept))).next)
+    pub leases_once : (between : List Seen) (t : Seen) (h : Grant (ClientOf p)) → Stands (Granted p g) (lines setup s (after_all setup before (start first_fault kept two)))
+        → Stands (Granted p h) (lines setup t (after_all setup (s ∷ between) (after_all setup before (start first_fault kept two)))) → h.address ≡ g.address → (g.client ≡ h.client → ⊥)
+        → (g.until ≤ h.clock) ⊎ Stands (Ended p g.client g.address) (ledger setup between (alone_step setup s (after_all setup before (start first_fault kept two))).next)
     unfolding after_all
     leases_once between t h grants again same apart = by (after_grant between grants) where
       there : HasBooks (IsBookOf setup.part) (after_all setup between (alone_step setup s reached).next)

@@ -2,6 +2,7 @@ pub mod BookLemmas
 pub mod ConfigLemmas
 pub mod ElsewhereLemmas
 pub mod ExampleLemmas
+pub mod FormatLemmas
 pub mod GrantLemmas
 pub mod GrantLemmas6
 pub mod GrantsOfBoth

@@ -1,5 +1,5 @@
 -- Worked examples: a circuit, frames of its clients, and what the definitions make of them.
-use Rattle.std.specs.Prelude.{ℕ, ◌+◌, List, [], ◌∷◌, ◌++◌, length, replicate, Some, None}
+use Rattle.std.specs.Prelude.{ℕ, ◌+◌, List, [], ◌∷◌, ◌++◌, length, replicate, Some, None, true, false}
 use Rattle.std.specs.FinMap.{empty, insert}
 use Rattle.types.specs.declared.addr.Addr4.{Addr4}
 use Rattle.types.specs.declared.addr.Source.{Source}
@@ -11,9 +11,11 @@ use Rattle.bindings_v6.specs.Book6.{empty_book}
 use Rattle.config.specs.CircuitPart.{CircuitPart}
 use Rattle.config.specs.Topology.{Topology}
 use Rattle.dispatch.specs.Server.{Book}
+use Rattle.events.specs.declared.comeback.Comeback.{Comeback}
+use Rattle.lease_disk.specs.declared.image.Image.TheVariants.{Unreadable}
 use Rattle.lossy_net.specs.Net.{Datagram}
 use Rattle.relay.specs.SentFrame.{SentFrame}
-use Rattle.world.specs.Alone.{Alone, Setup, setup_of, start}
+use Rattle.world.specs.Alone.{Alone, New, Setup, setup_of, start}
 
 abbrev pub ipv4 : ℕ → ℕ → ℕ → ℕ → Addr4
 ipv4 a b c d = record { 0 = a ∷ b ∷ c ∷ d ∷ [] }
@@ -148,9 +150,9 @@ datagram bytes = record { proto = V4; bytes = bytes }
 abbrev pub no_leases : Book
 no_leases = offers_at 0 empty
 
--- a circuit with a new region, where nothing was sent
+-- a circuit with a new region of format 2, where nothing was sent
 abbrev pub begun : Alone
-begun = start (Some no_leases)
+begun = start 0 (Some no_leases) true
 
 -- one datagram towards the server, a book of offers, and nothing saved so far
 abbrev pub with_up : List ℕ → ℕ → Clients key4_cmp → Alone
@@ -160,6 +162,7 @@ with_up bytes clock offers = record {
   book = Some (offers_at clock offers);
   kept = Some no_leases;
   doubt = None;
+  format = New;
 }
 
 -- client 1 asks at 100 for what it is offered until 160
@@ -173,3 +176,11 @@ leased = record { clock = 110; four = record { bindings = one_offer (client 1) (
 -- the same client asks where a save of its lease failed
 abbrev pub closed : Alone
 closed = record asked { book = None; doubt = Some leased }
+
+-- The same circuit where the region was still of format 1, and this call of the device fails in its move.
+abbrev pub begun_in_format_1 : ℕ → Alone
+begun_in_format_1 fault = start fault (Some no_leases) false
+
+-- a region that cannot be read
+abbrev pub unreadable : Comeback
+unreadable = record { image = Unreadable; move_fault = 0 }

@@ -39,7 +39,8 @@ use Rattle.requests.specs.Request4.{request4_in}
 use Rattle.requests.specs.Request6.{request6_in}
 use Rattle.dispatch.specs.Server.{Book, book_at}
 use Rattle.lossy_net.specs.Net.{Datagram}
-use Rattle.world.specs.Alone.{Alone, Setup, Effect, Dropped, Gone, SentUp, SentDown, Framed, Done, alone_step}
+use Rattle.world.specs.Alone.{Alone, Setup, Effect, Dropped, Gone, SentUp, SentDown, Framed, Done, alone_step, is_move_fault}
+use Rattle.lease_disk.specs.declared.image.Image.TheVariants.{Byte}
 use Rattle.events.specs.Seen.{Seen, Frame, Up, Down, Tick, Restart}
 
 -- what tells the clients of a protocol apart
@@ -186,7 +187,7 @@ lines setup (Frame proto frame) a = []
 lines setup (Up j now fault) a = datagram_lines setup.part (alone_step setup (Up j now fault) a).effect now a.book (slice_get a.up j)
 lines setup (Down j) a = []
 lines setup (Tick now) a = []
-lines setup (Restart image) a = []
+lines setup (Restart comeback) a = []
 
 -- and all that the machine grants and ends of what it sees, in order
 unfoldable pub ledger : Setup → List Seen → Alone → List Line
@@ -206,3 +207,17 @@ abbrev pub Knows : (proto : Proto) → Grant (ClientOf proto) → Book → Type 
 Knows proto g b =
     (g.until ≤ b.clock)
     ⊎ ((lease : Lease) × (binding_of proto b g.client ≡ Some lease) × (lease.address ≡ g.address) × (g.until ≤ lease.until))
+
+-- ---- what a restart finds
+
+-- the restart over a region whose unsynced bytes became this one, where this call of the device fails in its move
+abbrev pub restart_over : ℕ → ℕ → Seen
+restart_over byte fault = Restart (record { image = Byte byte; move_fault = fault })
+
+-- The book that a restart found knows of a grant, and the circuit begins with it, unless its region was to be moved to
+-- format 2 and that failed. Then the region holds the book all the same.
+pub record BeginsKnowing (proto : Proto) (g : Grant (ClientOf proto)) (fault : ℕ) (a : Alone) : Type 0 where
+  pub found : Book
+  pub kept : a.kept ≡ Some found
+  pub knows : Knows proto g found
+  pub opens : is_move_fault fault ≡ false → a.book ≡ Some found

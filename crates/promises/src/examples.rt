@@ -1,16 +1,15 @@
 //! The definitions on worked examples, computed by the prover. The values stand in `specs/Examples.antt`
 //! and were taken from the standards and the profile, not from a program.
-ghost use Rattle.std.specs.Prelude.{◌≡◌, [], ◌∷◌, ◌++◌, take, drop, replicate};
+ghost use Rattle.std.specs.Prelude.{◌≡◌, [], ◌∷◌, Some, None, false, ◌++◌, take, drop, replicate};
 ghost use Rattle.std.specs.FinMap.{empty};
 ghost use Rattle.types.specs.Delivery.{delivery};
 ghost use Rattle.types.specs.declared.dest.Proto.TheVariants.{V4, V6};
 ghost use Rattle.types.specs.declared.discard.Discard.TheVariants as reason;
 ghost use Rattle.requests.specs.Addressee.{addressee};
 ghost use Rattle.relay.specs.Relays.{relayed_up};
-ghost use Rattle.lease_disk.specs.declared.image.Image.TheVariants.{Byte, Unreadable};
-ghost use Rattle.world.specs.Alone.{alone_step, after_all, frames, Dropped, Gone, SentDown};
-ghost use Rattle.promises.specs.Examples.{part_a, with_relays, setup_a, setup_a1, at_port, client_message, discover, discover_up, peer, solicit, solicit_up, relayed_message, relayed_discover, offer, client, offers_at, one_offer, lease_until, datagram, with_up, begun, no_leases, asked, leased, closed, ack};
-ghost use Rattle.promises.specs.Granted.{Granted4, lines};
+ghost use Rattle.world.specs.Alone.{alone_step, after_all, frames, Dropped, Gone, SentDown, start, New, Old, Moving};
+ghost use Rattle.promises.specs.Examples.{part_a, with_relays, setup_a, setup_a1, at_port, client_message, discover, discover_up, peer, solicit, solicit_up, relayed_message, relayed_discover, offer, client, offers_at, one_offer, lease_until, datagram, with_up, begun, no_leases, asked, leased, closed, ack, begun_in_format_1, unreadable};
+ghost use Rattle.promises.specs.Granted.{Granted4, lines, restart_over};
 ghost use Rattle.events.specs.Seen.{Frame, Up, Down, Tick, Restart};
 
 /// What the relay sends up of a frame, and which frames it drops.
@@ -103,8 +102,8 @@ pub fn a_lease_is_kept()
 pub fn a_lease_is_in_doubt()
     ensures dropped { (alone_step setup_a (Up 0 110 6) asked).effect ≡ Dropped reason.DiskFault }
     ensures closed { (alone_step setup_a (Up 0 110 6) asked).next ≡ closed }
-    ensures found { (after_all setup_a (Up 0 110 6 ∷ Restart (Byte 0xa5) ∷ []) asked).book ≡ Some leased }
-    ensures lost { (after_all setup_a (Up 0 110 6 ∷ Restart (Byte 0) ∷ []) asked).book ≡ Some no_leases }
+    ensures found { (after_all setup_a (Up 0 110 6 ∷ restart_over 0xa5 0 ∷ []) asked).book ≡ Some leased }
+    ensures lost { (after_all setup_a (Up 0 110 6 ∷ restart_over 0 0 ∷ []) asked).book ≡ Some no_leases }
 {}
 
 /// A closed circuit answers nothing, whatever moment passes.
@@ -116,13 +115,28 @@ pub fn a_closed_circuit_is_silent()
 
 /// A region that cannot be read closes its circuit, and loses nothing of what was saved or in doubt.
 pub fn an_unreadable_region_closes()
-    ensures open { (alone_step setup_a (Restart Unreadable) begun).next.book ≡ None }
-    ensures kept { (after_all setup_a (Restart Unreadable ∷ Restart (Byte 0) ∷ []) begun).book ≡ Some no_leases }
-    ensures doubt { (alone_step setup_a (Restart Unreadable) closed).next ≡ closed }
-    ensures found { (after_all setup_a (Restart Unreadable ∷ Restart (Byte 0xa5) ∷ []) closed).book ≡ Some leased }
+    ensures open { (alone_step setup_a (Restart unreadable) begun).next.book ≡ None }
+    ensures kept { (after_all setup_a (Restart unreadable ∷ restart_over 0 0 ∷ []) begun).book ≡ Some no_leases }
+    ensures doubt { (alone_step setup_a (Restart unreadable) closed).next ≡ closed }
+    ensures found { (after_all setup_a (Restart unreadable ∷ restart_over 0xa5 0 ∷ []) closed).book ≡ Some leased }
 {}
 
 /// What the DHCPACK of a lease grants.
 pub fn a_lease_is_granted()
     ensures { lines setup_a (Up 0 110 0) asked ≡ Granted4 (record { client = client 1; address = 167772170; until = 710; clock = 110 }) ∷ [] }
+{}
+
+/// A region of format 1 comes back as one of format 2 with the same book. Where its move fails, the circuit is closed until
+/// a restart, which moves it; where the third or fourth call failed, the region may be of format 2 already. A damaged one
+/// stays of format 1.
+pub fn a_region_moves()
+    ensures moved { begun_in_format_1 0 ≡ begun }
+    ensures closed { (begun_in_format_1 2).book ≡ None }
+    ensures kept { (begun_in_format_1 2).kept ≡ Some no_leases }
+    ensures old { (begun_in_format_1 2).format ≡ Old }
+    ensures moving { (begun_in_format_1 3).format ≡ Moving }
+    ensures again { after_all setup_a (restart_over 0 0 ∷ []) (begun_in_format_1 2) ≡ begun }
+    ensures fails { after_all setup_a (restart_over 0 2 ∷ []) (begun_in_format_1 3) ≡ begun_in_format_1 2 }
+    ensures new { after_all setup_a (restart_over 2 2 ∷ []) (begun_in_format_1 3) ≡ begun }
+    ensures damaged { (start 0 None false).format ≡ Old }
 {}

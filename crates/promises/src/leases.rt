@@ -1,44 +1,44 @@
 //! What becomes of a lease, whatever happens to its circuit.
-ghost use Rattle.std.specs.Prelude.{◌≡◌, ◌≢◌, ◌≤◌, ◌⊎◌, ℕ, List, ◌∷◌, Option, Some, IfSome};
+ghost use Rattle.std.specs.Prelude.{◌≡◌, ◌≢◌, ◌≤◌, ◌⊎◌, ℕ, Bool, List, ◌∷◌, Option, Some, IfSome};
 ghost use Rattle.config.specs.CircuitPart.{IsPart};
 ghost use Rattle.config.specs.Valid.{IsConfig};
 ghost use Rattle.dispatch.specs.Server.{Book};
-ghost use Rattle.lease_disk.specs.declared.image.Image.TheVariants.{Byte};
 ghost use Rattle.settings.specs.Settings.{Settings};
 ghost use Rattle.types.specs.declared.dest.Proto.{Proto};
 ghost use Rattle.world.specs.Alone.{Setup, after_all, alone_step, start};
 ghost use Rattle.promises.specs.Books.{IsInPool, IsBookOf};
-ghost use Rattle.promises.specs.Granted.{ClientOf, Grant, Granted, Ended, Stands, Knows, lines, ledger};
-ghost use Rattle.events.specs.Seen.{Seen, Restart};
+ghost use Rattle.promises.specs.Granted.{ClientOf, Grant, Granted, Ended, Stands, BeginsKnowing, restart_over, lines, ledger};
+ghost use Rattle.events.specs.Seen.{Seen};
 ghost use Rattle.world.specs.Start.{Opening, opened, setup_in};
 
 /// No address of either protocol is leased twice: where a machine grants an address and later grants it to another client,
 /// the first lease had come to its end by the circuit's clock, or its client had ended it in between.
-/// This is so whatever saves failed and whatever restarts there were.
+/// This is so whatever saves failed, whatever restarts there were, and in whichever of them a move to format 2 failed.
 pub fn leases_no_address_twice()
-    ensures { (setup : Setup) (kept : Option Book) (before : List Seen) (s : Seen) (between : List Seen) (t : Seen) (p : Proto) (g h : Grant (ClientOf p))
+    ensures { (setup : Setup) (move_fault : ℕ) (kept : Option Book) (two : Bool) (before : List Seen) (s : Seen) (between : List Seen) (t : Seen) (p : Proto) (g h : Grant (ClientOf p))
         → IsPart setup.part → IfSome kept (IsBookOf setup.part)
-        → Stands (Granted p g) (lines setup s (after_all setup before (start kept)))
-        → Stands (Granted p h) (lines setup t (after_all setup (s ∷ between) (after_all setup before (start kept))))
+        → Stands (Granted p g) (lines setup s (after_all setup before (start move_fault kept two)))
+        → Stands (Granted p h) (lines setup t (after_all setup (s ∷ between) (after_all setup before (start move_fault kept two))))
         → h.address ≡ g.address → (g.client ≡ h.client → ⊥)
-        → (g.until ≤ h.clock) ⊎ Stands (Ended p g.client g.address) (ledger setup between (alone_step setup s (after_all setup before (start kept))).next) }
+        → (g.until ≤ h.clock) ⊎ Stands (Ended p g.client g.address) (ledger setup between (alone_step setup s (after_all setup before (start move_fault kept two))).next) }
 {}
 
-/// No lease is forgotten: every restart over a region that can be read begins with a book that knows of
-/// a grant, unless its client had ended the lease.
+/// No lease is forgotten: every restart over a region that can be read finds a book that knows of a grant, unless its
+/// client had ended the lease. The circuit begins with that book, unless the region was still to be moved to format 2
+/// and that failed; then the region keeps it.
 pub fn forgets_no_lease()
-    ensures { (setup : Setup) (kept : Option Book) (before : List Seen) (s : Seen) (after : List Seen) (byte : ℕ) (p : Proto) (g : Grant (ClientOf p))
+    ensures { (setup : Setup) (move_fault : ℕ) (kept : Option Book) (two : Bool) (before : List Seen) (s : Seen) (after : List Seen) (byte fault : ℕ) (p : Proto) (g : Grant (ClientOf p))
         → IsPart setup.part → IfSome kept (IsBookOf setup.part)
-        → Stands (Granted p g) (lines setup s (after_all setup before (start kept)))
-        → ((b : Book) × ((alone_step setup (Restart (Byte byte)) (after_all setup (s ∷ after) (after_all setup before (start kept)))).next.book ≡ Some b) × Knows p g b)
-        ⊎ Stands (Ended p g.client g.address) (ledger setup after (alone_step setup s (after_all setup before (start kept))).next) }
+        → Stands (Granted p g) (lines setup s (after_all setup before (start move_fault kept two)))
+        → BeginsKnowing p g fault (alone_step setup (restart_over byte fault) (after_all setup (s ∷ after) (after_all setup before (start move_fault kept two)))).next
+        ⊎ Stands (Ended p g.client g.address) (ledger setup after (alone_step setup s (after_all setup before (start move_fault kept two))).next) }
 {}
 
 /// What a machine grants is in its circuit's pool.
 pub fn grants_from_the_pool()
-    ensures { (setup : Setup) (kept : Option Book) (before : List Seen) (s : Seen) (p : Proto) (g : Grant (ClientOf p))
+    ensures { (setup : Setup) (move_fault : ℕ) (kept : Option Book) (two : Bool) (before : List Seen) (s : Seen) (p : Proto) (g : Grant (ClientOf p))
         → IsPart setup.part → IfSome kept (IsBookOf setup.part)
-        → Stands (Granted p g) (lines setup s (after_all setup before (start kept)))
+        → Stands (Granted p g) (lines setup s (after_all setup before (start move_fault kept two)))
         → IsInPool setup.part p g.address }
 {}
 
@@ -52,10 +52,10 @@ pub fn leases_of_configurations()
         → Stands (Granted p h) (lines setup t (after_all setup (s ∷ between) (after_all setup before (opened setup opening))))
         → h.address ≡ g.address → (g.client ≡ h.client → ⊥)
         → (g.until ≤ h.clock) ⊎ Stands (Ended p g.client g.address) (ledger setup between (alone_step setup s (after_all setup before (opened setup opening))).next) }
-    ensures known { (text : List ℕ) (settings : Settings) (quota c : ℕ) (setup : Setup) (opening : Opening) (before : List Seen) (s : Seen) (after : List Seen) (byte : ℕ) (p : Proto) (g : Grant (ClientOf p))
+    ensures known { (text : List ℕ) (settings : Settings) (quota c : ℕ) (setup : Setup) (opening : Opening) (before : List Seen) (s : Seen) (after : List Seen) (byte fault : ℕ) (p : Proto) (g : Grant (ClientOf p))
         → IsConfig text settings → setup_in settings quota c ≡ Some setup
         → Stands (Granted p g) (lines setup s (after_all setup before (opened setup opening)))
-        → ((b : Book) × ((alone_step setup (Restart (Byte byte)) (after_all setup (s ∷ after) (after_all setup before (opened setup opening)))).next.book ≡ Some b) × Knows p g b)
+        → BeginsKnowing p g fault (alone_step setup (restart_over byte fault) (after_all setup (s ∷ after) (after_all setup before (opened setup opening)))).next
         ⊎ Stands (Ended p g.client g.address) (ledger setup after (alone_step setup s (after_all setup before (opened setup opening))).next) }
     ensures pool { (text : List ℕ) (settings : Settings) (quota c : ℕ) (setup : Setup) (opening : Opening) (before : List Seen) (s : Seen) (p : Proto) (g : Grant (ClientOf p))
         → IsConfig text settings → setup_in settings quota c ≡ Some setup

@@ -5,11 +5,13 @@
 mod books;
 mod elsewhere;
 pub mod examples;
+mod format2;
 mod leases;
 mod two_runs;
 
 pub use books::leaves_a_book;
 pub use elsewhere::{isolation_of_split_configurations, sends_the_same_from_elsewhere};
+pub use format2::stays_in_format_2;
 pub use leases::{
     forgets_no_lease, grants_from_the_pool, leases_no_address_twice, leases_of_configurations,
 };

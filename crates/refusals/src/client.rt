@@ -1,4 +1,5 @@
 //! The clients that a world of one circuit answers.
+use events::Comeback;
 use fixtures::{client_frame, offer};
 use lease_disk::Image;
 use types::{Addr4, Circuit, Count, Dest, Discard, Kind4, Moment, Proto};
@@ -7,6 +8,22 @@ use world::{Event, Outcome, Sink, World};
 
 /// Option 54 and option 50 of a client that takes the offer of 10.0.0.10.
 const SELECTING: &[u8] = &[54, 4, 10, 0, 0, 1, 50, 4, 10, 0, 0, 10];
+
+/// How the region comes back: without what is in doubt, with it, or unreadable.
+const WITHOUT: [Comeback; 1] = [Comeback {
+    image: Image::Byte(0),
+    move_fault: 0,
+}];
+
+const WITH: [Comeback; 1] = [Comeback {
+    image: Image::Byte(0xa5),
+    move_fault: 0,
+}];
+
+const UNREADABLE: [Comeback; 1] = [Comeback {
+    image: Image::Unreadable,
+    move_fault: 0,
+}];
 
 /// A sink that refuses every frame.
 #[derive(Drop)]
@@ -67,7 +84,7 @@ fn loses_leases(world: &mut World, circuit: Circuit, moment: Moment) -> bool {
             Event::Up(circuit, 1, moment, 0),
             Event::Up(circuit, 0, moment, fault),
             Event::Up(circuit, 0, moment, 0),
-            Event::Restart(&[Image::Byte(0)]),
+            Event::Restart(&WITHOUT),
         ];
         let outcomes = [
             Outcome::SentDown(300),
@@ -89,9 +106,9 @@ fn keeps_a_lease(world: &mut World, circuit: Circuit, moment: Moment) -> bool {
     let events = [
         Event::Up(circuit, 1, moment, 0),
         Event::Up(circuit, 0, moment, 6),
-        Event::Restart(&[Image::Unreadable]),
+        Event::Restart(&UNREADABLE),
         Event::Up(circuit, 0, moment, 0),
-        Event::Restart(&[Image::Byte(0xa5)]),
+        Event::Restart(&WITH),
         Event::Frame(circuit, Proto::V4, frame.as_slice()),
         Event::Up(circuit, 0, moment, 0),
         // the lease is renewed

@@ -5,6 +5,7 @@ ghost use Rattle.lease_disk.specs.Model.{state_of};
 ghost use Rattle.lease_disk.specs.Region.{IsClean};
 
 use config::Config;
+use events::Comeback;
 use fixtures::{ONE_CIRCUIT, client_frame};
 use lease_disk::{Disk, Image, ModelDisk};
 use std::alloc::{AllocError, Global};
@@ -207,6 +208,14 @@ fn the_bytes_of_a_lease(rt: HostRuntime) {
     assert!(rt; keeps_a_lease(rt.alloc()));
 }
 
+/// A region comes back like this, and a fault is set that has no effect on a region of format 2.
+fn back(image: Image) -> Comeback {
+    Comeback {
+        image,
+        move_fault: 1,
+    }
+}
+
 /// Whether what names circuits and relays that do not exist comes to nothing.
 fn passes_over_what_does_not_exist(alloc: Global) -> bool {
     let Ok(mut world) = opened(alloc, 1) else {
@@ -217,7 +226,11 @@ fn passes_over_what_does_not_exist(alloc: Global) -> bool {
     let (other, relay) = (circuit(1), RelayNo::new(1).unwrap());
     let addr = Addr4([127, 0, 0, 1]);
     let server = Source { addr, port: 6767 };
-    let images = [Image::Byte(0), Image::Unreadable, Image::Byte(0xa5)];
+    let comebacks = [
+        back(Image::Byte(0)),
+        back(Image::Unreadable),
+        back(Image::Byte(0xa5)),
+    ];
     let events = [
         Event::Frame(other, Proto::V4, bytes),
         Event::Up(other, 0, Moment::first(), 0),
@@ -225,7 +238,7 @@ fn passes_over_what_does_not_exist(alloc: Global) -> bool {
         Event::StrayDown(relay, server, bytes),
     ];
     each_comes_to(&mut world, &events, Outcome::Gone)
-        && each_comes_to(&mut world, &[Event::Restart(&images)], Outcome::Done)
+        && each_comes_to(&mut world, &[Event::Restart(&comebacks)], Outcome::Done)
         && is_answered(&mut world, Kind4::Discover, &[], 255)
 }
 

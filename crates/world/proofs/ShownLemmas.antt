@@ -1,12 +1,12 @@
 -- What a circuit's leases make of an event, beside what its machine makes of it.
-use Rattle.std.proofs.Common.{◌≡◌, ℕ, zero, suc, ◌⊎◌, inl, inr, Bool, true, false, leb, List, refl, sym, ap, subst, subst₂, ◌∙◌, arith, ne_eqb}
+use Rattle.std.proofs.Common.{◌≡◌, ℕ, zero, suc, ◌⊎◌, inl, inr, Bool, true, false, leb, List, [], refl, sym, ap, subst, subst₂, ◌∙◌, arith, ne_eqb}
 use Rattle.std.proofs.lemmas.Bool.{le-leb}
-use Rattle.std.specs.Prelude.{◌==◌, ◌&&◌, ◌||◌, not, nat_le, if◌then◌else◌, slice_get, Option, Some, None, option_map, Result, Ok, Err}
+use Rattle.std.specs.Prelude.{◌==◌, ◌&&◌, ◌||◌, not, nat_le, is_some, if◌then◌else◌, slice_get, Option, Some, None, option_map, Result, Ok, Err}
 use Rattle.types.specs.Delivery.{DeliveryValue}
 use Rattle.types.specs.declared.discard.Discard.{Discard}
 use Rattle.types.specs.declared.discard.Discard.TheVariants.{CircuitClosed, DiskFault}
 use Rattle.config.specs.CircuitPart.{CircuitPart}
-use Rattle.dispatch.specs.Leases.{Leases, after_datagram, after_saving, after_tick, after_restart, found_leases, kept, recovered_book, restarts_of, served_leases}
+use Rattle.dispatch.specs.Leases.{Leases, after_datagram, after_saving, after_tick, after_restart, come_back, formats_of, found_leases, kept, moved_format, region_leases, restarts_of, served_leases}
 use Rattle.dispatch.specs.Received.{Answered, after_save, answered}
 use Rattle.dispatch.specs.Server.{Book, Served, book_at, kept_book, served}
 use Rattle.lease_disk.specs.Crash.{crashed}
@@ -15,7 +15,7 @@ use Rattle.lease_disk.specs.declared.image.Image.{Image}
 use Rattle.lease_disk.specs.declared.image.Image.TheVariants.{Byte, Unreadable}
 use Rattle.lossy_net.specs.Net.{Datagram}
 use Rattle.types.specs.declared.dest.Proto.{Proto}
-use Rattle.world.specs.Alone.{Alone, Dropped, Setup, answer_step, alone_step, book_step, delivery_of, found, is_fault, or_kept, served_step, start, up_step}
+use Rattle.world.specs.Alone.{Alone, Dropped, Setup, answer_step, alone_step, book_step, delivery_of, found, is_fault, is_move_fault, is_new, or_kept, served_step, start, up_step}
 use Rattle.world.specs.Alone as alone
 use Rattle.world.specs.Headline.{CircuitState, Shows}
 use Rattle.events.specs.Seen.{Up}
@@ -24,10 +24,11 @@ use Rattle.events.specs.Seen.{Up}
 pub record Holds (l : Leases) (a : Alone) : Type 0 where
   pub book : l.book ≡ a.book
   pub restarts : (byte : ℕ) → l.restarts byte ≡ found byte a
+  pub formats : (byte : ℕ) → l.is_new byte ≡ is_new a.format byte
   pub sure : (b : Book) → a.book ≡ Some b → a.doubt ≡ None
 
 pub holds : (state : CircuitState) (setup : Setup) (a : Alone) → Shows state setup a → Holds state.leases a
-holds state setup a shown = record { book = shown.book; restarts = shown.restarts; sure = shown.sure }
+holds state setup a shown = record { book = shown.book; restarts = shown.restarts; formats = shown.formats; sure = shown.sure }
 
 closed_is_sure : (a : Alone) → (b : Book) → None ≡ Some b → a.doubt ≡ None
 closed_is_sure a b h = absurd cc
@@ -38,12 +39,43 @@ found_alike : (kept : Option Book) (b : Bool) → kept ≡ (if b then or_kept No
 found_alike kept true = refl
 found_alike kept false = refl
 
-pub holds_start : (l : Leases) (kept : Option Book) → l.book ≡ kept → ((byte : ℕ) → l.restarts byte ≡ kept) → Holds l (start kept)
-holds_start l kept book restarts = record {
-  book = book;
-  restarts = λ byte. restarts byte ∙ found_alike kept (byte == 0xa5);
-  sure = λ b opened. refl;
+-- a move that fails
+
+fault_is : (fault : ℕ) → is_move_fault fault ≡ not (effective 4 fault == 0)
+fault_is fault = grind arith
+
+late_is : (fault : ℕ) → is_move_fault fault ≡ true → nat_le 3 (effective 4 fault) ≡ nat_le 3 fault
+late_is fault e = grind (arith, e)
+
+format_late : (late : Bool) (byte : ℕ) → (late && byte == 2) ≡ is_new (if late then alone.Moving else alone.Old) byte
+format_late true byte = refl
+format_late false byte = refl
+
+-- a book in format 1, by whether its move fails
+brought : (fault : ℕ) (b : Book) (a : Alone) (fails : Bool) → is_move_fault fault ≡ fails → (effective 4 fault == 0) ≡ not fails
+    → Holds (record { book = if not (effective 4 fault == 0) then None else Some b; restarts = λ any. Some b; is_new = λ byte. moved_format (effective 4 fault) byte })
+    (if fails then record a { book = None; kept = Some b; doubt = None; format = if nat_le 3 fault then alone.Moving else alone.Old } else record a { book = Some b; kept = Some b; doubt = None; format = alone.New })
+brought fault b a true e none = record {
+  book = ap (λ z. if not z then None else Some b) none;
+  restarts = λ any. found_alike (Some b) (any == 0xa5);
+  formats = λ byte. (λ j. none j || nat_le 3 (effective 4 fault) && byte == 2) ∙ ap (λ late. late && byte == 2) (late_is fault e) ∙ format_late (nat_le 3 fault) byte;
+  sure = λ c opened. refl;
 }
+brought fault b a false e none = record {
+  book = ap (λ z. if not z then None else Some b) none;
+  restarts = λ any. found_alike (Some b) (any == 0xa5);
+  formats = λ byte. (λ j. none j || nat_le 3 (effective 4 fault) && byte == 2);
+  sure = λ c opened. refl;
+}
+
+pub holds_come_back : (fault : ℕ) (kept : Option Book) (two : Bool) (a : Alone) → Holds (come_back fault kept two) (alone.come_back fault kept two a)
+holds_come_back fault None true a = record { book = refl; restarts = λ any. found_alike None (any == 0xa5); formats = λ byte. refl; sure = λ c opened. refl }
+holds_come_back fault (Some b) true a = record { book = refl; restarts = λ any. found_alike (Some b) (any == 0xa5); formats = λ byte. refl; sure = λ c opened. refl }
+holds_come_back fault None false a = record { book = refl; restarts = λ any. found_alike None (any == 0xa5); formats = λ byte. refl; sure = λ c opened. refl }
+holds_come_back fault (Some b) false a = brought fault b a (is_move_fault fault) refl (zero_is (effective 4 fault == 0) (fault_is fault)) where
+  zero_is : (z : Bool) → is_move_fault fault ≡ not z → z ≡ not (is_move_fault fault)
+  zero_is true e = sym (ap not e)
+  zero_is false e = sym (ap not e)
 
 -- ---- a moment
 
@@ -52,25 +84,21 @@ sure_at now None doubt sure b h = absurd cc
 sure_at now (Some opened) doubt sure b h = sure opened refl
 
 pub holds_tick : (now : ℕ) (l : Leases) (a : Alone) → Holds l a → Holds (after_tick now l) (record a { book = option_map (book_at now) a.book })
-holds_tick now l a h = record { book = ap (option_map (book_at now)) h.book; restarts = h.restarts; sure = sure_at now a.book a.doubt h.sure }
+holds_tick now l a h = record { book = ap (option_map (book_at now)) h.book; restarts = h.restarts; formats = h.formats; sure = sure_at now a.book a.doubt h.sure }
 
 -- ---- a restart
 
-pub holds_restart : (i : Image) (l : Leases) (a : Alone) → Holds l a → Holds (after_restart i l) (alone.after_restart i a)
-holds_restart (Byte byte) l a h = record {
-  book = h.restarts byte;
-  restarts = λ any. h.restarts byte ∙ found_alike (found byte a) (any == 0xa5);
-  sure = λ b opened. refl;
-}
-holds_restart Unreadable l a h = record { book = refl; restarts = h.restarts; sure = closed_is_sure a }
+pub holds_restart : (fault : ℕ) (i : Image) (l : Leases) (a : Alone) → Holds l a → Holds (after_restart i fault l) (alone.with_image fault i a)
+holds_restart fault (Byte byte) l a h =
+    subst (λ kept. Holds (come_back fault kept (l.is_new byte)) (alone.with_image fault (Byte byte) a)) (sym (h.restarts byte))
+    (subst (λ two. Holds (come_back fault (found byte a) two) (alone.with_image fault (Byte byte) a)) (sym (h.formats byte)) (holds_come_back fault (found byte a) (is_new a.format byte) a))
+holds_restart fault Unreadable l a h = record { book = refl; restarts = h.restarts; formats = h.formats; sure = closed_is_sure a }
 
 -- what is found in a region as a crash left it
-pub found_crashed : (part : CircuitPart) (i : Image) (old new : ℕ → Region) (book : Option Book) → new part.region ≡ crashed i (old part.region)
-    → found_leases new part ≡ after_restart i (record { book = book; restarts = restarts_of part (old part.region) })
-found_crashed part (Byte byte) old new book is =
-    ap (λ r. record { book = if r.readable then recovered_book part r.byte else None; restarts = restarts_of part r }) is
-found_crashed part Unreadable old new book is =
-    ap (λ r. record { book = if r.readable then recovered_book part r.byte else None; restarts = restarts_of part r }) is
+pub found_crashed : (part : CircuitPart) (fault : ℕ) (i : Image) (old new : ℕ → Region) (faults : ℕ → ℕ) (book : Option Book) → new part.region ≡ crashed i (old part.region) → faults part.region ≡ fault
+    → found_leases new faults part ≡ after_restart i fault (record { book = book; restarts = restarts_of part (old part.region); is_new = formats_of (old part.region) })
+found_crashed part fault (Byte byte) old new faults book is at = λ j. region_leases part (at j) (is j) (is j).readable
+found_crashed part fault Unreadable old new faults book is at = λ j. region_leases part (at j) (is j) (is j).readable
 
 -- ---- a datagram at the server
 
@@ -138,6 +166,7 @@ module _ (fault : ℕ) (l : Leases) (a : Alone) (h : Holds l a) (was : Book) (op
   holds_saved b = record {
     book = refl;
     restarts = λ byte. found_saved (kept_book b) a.doubt (byte == 0xa5) (h.sure was opened);
+    formats = h.formats;
     sure = λ any now_open. h.sure was opened;
   }
 
@@ -147,6 +176,7 @@ module _ (fault : ℕ) (l : Leases) (a : Alone) (h : Holds l a) (was : Book) (op
     restarts = λ byte.
         (λ i. if not_zero i || (nat_le 5 fault && byte == 0xa5) then Some (kept_book b) else h.restarts byte i)
         ∙ found_torn (kept_book b) a.doubt a.kept (nat_le 5 fault) (byte == 0xa5);
+    formats = h.formats;
     sure = closed_is_sure (torn fault b a);
   }
 
@@ -161,7 +191,7 @@ module _ (fault : ℕ) (l : Leases) (a : Alone) (h : Holds l a) (was : Book) (op
   holds_kept : (answer : Result (List ℕ) Discard) (b : Book) (is_kept : Bool)
       → Holds (kept fault (record { answer = answer; book = b; is_kept = is_kept }) l) (booked fault (record { answer = answer; book = b; is_kept = is_kept }) a)
   holds_kept answer b true = holds_after_saving b (classify fault)
-  holds_kept answer b false = record { book = refl; restarts = h.restarts; sure = λ any now_open. h.sure was opened }
+  holds_kept answer b false = record { book = refl; restarts = h.restarts; formats = h.formats; sure = λ any now_open. h.sure was opened }
 
 pub holds_datagram : (part : CircuitPart) (e : DeliveryValue) (fault : ℕ) (l : Leases) (a : Alone) → Holds l a
     → Holds (after_datagram part e fault l) (after_up part e fault a a.book)
@@ -225,13 +255,38 @@ pub down_stays : (part : CircuitPart) (e : DeliveryValue) (fault : ℕ) (a : Alo
 down_stays part e fault a None = refl
 down_stays part e fault a (Some b) = let done = served part e b in booked_down fault done.book a done.is_kept (is_fault fault)
 
-pub restart_ups : (i : Image) (a : Alone) → (alone.after_restart i a).up ≡ a.up
-restart_ups (Byte byte) a = refl
-restart_ups Unreadable a = refl
+come_back_ups : (fault : ℕ) (kept : Option Book) (two : Bool) (a : Alone) → (alone.come_back fault kept two a).up ≡ a.up
+come_back_ups fault kept two a = by (two || not (is_some kept)) (is_move_fault fault) where
+  by : (b c : Bool) → (if b then record a { book = kept; kept = kept; doubt = None; format = if two then alone.New else alone.Old }
+      else if c then record a { book = None; kept = kept; doubt = None; format = if nat_le 3 fault then alone.Moving else alone.Old }
+      else record a { book = kept; kept = kept; doubt = None; format = alone.New }).up ≡ a.up
+  by true c = refl
+  by false true = refl
+  by false false = refl
 
-pub restart_downs : (i : Image) (a : Alone) → (alone.after_restart i a).down ≡ a.down
-restart_downs (Byte byte) a = refl
-restart_downs Unreadable a = refl
+come_back_downs : (fault : ℕ) (kept : Option Book) (two : Bool) (a : Alone) → (alone.come_back fault kept two a).down ≡ a.down
+come_back_downs fault kept two a = by (two || not (is_some kept)) (is_move_fault fault) where
+  by : (b c : Bool) → (if b then record a { book = kept; kept = kept; doubt = None; format = if two then alone.New else alone.Old }
+      else if c then record a { book = None; kept = kept; doubt = None; format = if nat_le 3 fault then alone.Moving else alone.Old }
+      else record a { book = kept; kept = kept; doubt = None; format = alone.New }).down ≡ a.down
+  by true c = refl
+  by false true = refl
+  by false false = refl
+
+pub restart_ups : (fault : ℕ) (i : Image) (a : Alone) → (alone.with_image fault i a).up ≡ a.up
+restart_ups fault (Byte byte) a = come_back_ups fault (found byte a) (is_new a.format byte) a
+restart_ups fault Unreadable a = refl
+
+pub restart_downs : (fault : ℕ) (i : Image) (a : Alone) → (alone.with_image fault i a).down ≡ a.down
+restart_downs fault (Byte byte) a = come_back_downs fault (found byte a) (is_new a.format byte) a
+restart_downs fault Unreadable a = refl
+
+-- at the start nothing was sent
+pub start_ups : (fault : ℕ) (kept : Option Book) (two : Bool) → (start fault kept two).up ≡ []
+start_ups fault kept two = come_back_ups fault kept two alone.unsent
+
+pub start_downs : (fault : ℕ) (kept : Option Book) (two : Bool) → (start fault kept two).down ≡ []
+start_downs fault kept two = come_back_downs fault kept two alone.unsent
 
 -- ---- a reply
 

@@ -7,29 +7,29 @@ use Rattle.config.specs.CircuitPart.{CircuitPart, part_of, source_at, part_in, p
 use Rattle.config.specs.Topology.{IsTopology, Topology, topology_of}
 use Rattle.settings.specs.Settings.{Settings}
 use Rattle.settings.specs.declared.settings.CircuitConfig.{CircuitConfig}
-use Rattle.dispatch.specs.Leases.{AreSynced, HasRegions, found_leases, recovered_book}
+use Rattle.dispatch.specs.Leases.{HasRegions, come_back, found_leases, recovered_book, region_leases}
 use Rattle.dispatch.specs.ServerValue.{AreReady}
 use Rattle.lease_disk.specs.Device.{Device}
 use Rattle.lease_disk.specs.Model as disk
-use Rattle.lease_disk.specs.Region.{IsClean, Region}
+use Rattle.lease_disk.specs.Layout.{is_format2}
+use Rattle.lease_disk.specs.Region.{Region}
 use Rattle.lossy_net.specs.Net.{datagrams}
 use Rattle.lossy_net.specs.declared.dir.Dir.{Dir}
 use Rattle.lossy_net.specs.declared.dir.Dir.TheVariants as dir
-use Rattle.world.specs.Alone.{setup_of, start}
+use Rattle.world.specs.Alone.{setup_of, start, unsent}
 use Rattle.world.specs.Headline.{Represents}
 use Rattle.world.specs.Start.{IsReadable, Starts, opened, opening_in}
 use Rattle.world.specs.StepsAs.{Each, IsFor, Returns, IsWorldOf, IsWorld}
 use Rattle.world.specs.World.{WorldValue, state_of, states}
-use Rattle.lease_disk.proofs.Fresh.{clean_image}
 use Rattle.world.proofs.SetupLemmas.{by_part}
-use Rattle.world.proofs.ShownLemmas.{holds_start}
+use Rattle.world.proofs.ShownLemmas.{holds_come_back, start_downs, start_ups}
 use Rattle.world.proofs.StateLemmas.{leases_now, state_at}
-use Rattle.world.proofs.WorldLemmas.{all_at, states_count}
+use Rattle.world.proofs.WorldLemmas.{states_count}
 
 -- ---- a world that was just opened
 
 module _ (settings : Settings) (quota : ℕ) (w : WorldValue) (sound : IsTopology (topology_of settings)) (topology : w.relays.topology ≡ topology_of settings) (served : w.server.topology ≡ topology_of settings)
-    (device : Device) (leases : leases_now w ≡ map (found_leases device.region) (parts_of settings)) (synced : AreSynced (parts_of settings) device.region)
+    (device : Device) (leases : leases_now w ≡ map (found_leases device.region device.fuse) (parts_of settings))
     (large : HasRegions (parts_of settings) (length w.disk.regions)) (ready : AreReady (disk.state_of w.disk) w.server)
     (count : length w.net.circuits ≡ length settings.circuits) (empty : (c : ℕ) (way : Dir) → datagrams w.net c way ≡ []) where
   abbrev t : Topology
@@ -60,23 +60,26 @@ module _ (settings : Settings) (quota : ℕ) (w : WorldValue) (sound : IsTopolog
   }
     where
       at : (c : ℕ) (part : CircuitPart) → part_in settings c ≡ Some part → (regions part.region).readable ≡ true
-          → Represents c (states w) (setup_of quota part) (start (recovered_book part (regions part.region).byte))
+          → Represents c (states w) (setup_of quota part) (start (device.fuse part.region) (recovered_book part (regions part.region).byte) (is_format2 (regions part.region).byte))
       at c part there readable =
-          let found = found_leases regions part in
+          let fault = device.fuse part.region in
           let kept = recovered_book part (regions part.region).byte in
-          let clean = all_at (λ (p : CircuitPart). (regions p.region).readable ≡ true → IsClean (regions p.region)) (parts_of settings) c part synced there readable in
-          let begins = holds_start found kept (ap (λ r. if r then kept else None) readable) (λ byte. ap (recovered_book part) (clean_image (regions part.region) clean byte)) in
+          let two = is_format2 (regions part.region).byte in
+          let found = come_back fault kept two in
+          let is_found : found_leases regions device.fuse part ≡ found = ap (region_leases part fault (regions part.region)) readable in
+          let begins = holds_come_back fault kept two unsent in
           record {
             state = state_of w c part found;
             there =
                 state_at (state_of w) w.server.topology.circuits (leases_now w) c part found (ap (λ (v : Topology). slice_get v.circuits c) served ∙ there)
-                (ap (λ xs. slice_get xs c) leases ∙ slice_get-map (found_leases regions) (parts_of settings) c ∙ ap (option_map (found_leases regions)) there);
+                (ap (λ xs. slice_get xs c) leases ∙ slice_get-map (found_leases regions device.fuse) (parts_of settings) c ∙ ap (option_map (found_leases regions device.fuse)) there ∙ ap Some is_found);
             shows = record {
               setup_is = λ i. setup_of (quotas i) part;
-              up = empty c dir.Up;
-              down = empty c dir.Down;
+              up = empty c dir.Up ∙ sym (start_ups fault kept two);
+              down = empty c dir.Down ∙ sym (start_downs fault kept two);
               book = begins.book;
               restarts = begins.restarts;
+              formats = begins.formats;
               sure = begins.sure;
             };
           }

@@ -1,5 +1,5 @@
 -- What an event does to the state of its circuit, as the circuit's machine's step.
-use Rattle.std.proofs.Common.{◌≡◌, ◌≢◌, ℕ, zero, suc, ◌<◌, Bool, true, false, eqb, List, [], ◌∷◌, length, map, take, set, refl, sym, ap, subst, ◌∙◌, arith}
+use Rattle.std.proofs.Common.{◌≡◌, ◌≢◌, ℕ, zero, suc, ◌+◌, ◌<◌, Bool, true, false, eqb, List, [], ◌∷◌, length, map, take, set, refl, sym, ap, subst, ◌∙◌, arith}
 use Rattle.std.specs.Prelude.{All, ◌&&◌, ◌==◌, not, if◌then◌else◌, Option, Some, None, Result, Ok, Err, option_map, slice_get, slice_index}
 use Rattle.std.proofs.lemmas.Option.{slice_get-map, slice_get_within, get_or_from_slice_get, same_Some}
 use Rattle.std.proofs.lemmas.Bool.{eqb-true, eqb-false}
@@ -11,10 +11,10 @@ use Rattle.types.specs.declared.dest.Dest.{Dest}
 use Rattle.types.specs.declared.dest.Proto.{Proto}
 use Rattle.types.specs.declared.discard.Discard.{Discard}
 use Rattle.config.specs.CircuitPart.{CircuitPart, IsPart}
-use Rattle.config.specs.Topology.{Topology, is_relay}
+use Rattle.config.specs.Topology.{RegionsDiffer, Topology, is_relay}
 use Rattle.config.proofs.TopologyLemmas.{is_known}
 use Rattle.requests.specs.Addressee.{addressee}
-use Rattle.dispatch.specs.Leases.{AreSynced, HasRegions, Leases, addressee_leases, after_datagram, after_restart, after_tick, found_leases, leases_with, received_leases, restarts_of}
+use Rattle.dispatch.specs.Leases.{AreSynced, HasRegions, KeepsOthers, Leases, addressee_leases, after_datagram, after_restart, after_tick, formats_of, found_leases, leases_with, received_leases, restarts_of}
 use Rattle.dispatch.specs.Received.{IsAnswer, Received, addressee_answered, addressee_saves, answered, circuit_answered, circuit_saves, fails_at, received, received_saves, with_answered}
 use Rattle.dispatch.specs.Server.{Book, book_at, served}
 use Rattle.dispatch.specs.ServerValue.{AreReady, CircuitServerValue, book_of, books_in, circuits_in, leases_in, leases_of, part_of}
@@ -33,7 +33,8 @@ use Rattle.relay.specs.SentFrame.{SentFrame}
 use Rattle.relay.specs.Relays.{CircuitFrame, for_circuit, one_more, relayed_up, relayed_down}
 use Rattle.world.specs.Alone.{Setup, Alone, Effect, Step, Dropped, Gone, SentUp, SentDown, Framed, Done, alone_step, frame_step, up_step, answer_step, down_step, reply_step, delivery_of, book_writes, up_writes, writes}
 use Rattle.world.specs.Alone as alone
-use Rattle.world.specs.Headline.{CircuitState, IsOutcome, KeepsSpares, Shows}
+use Rattle.world.specs.Headline.{CircuitState, IsOutcome, IsSpare, KeepsSpares, Shows}
+use Rattle.events.specs.declared.comeback.Comeback.{Comeback}
 use Rattle.events.specs.Seen.{Seen, Frame, Up, Down, Tick, Restart}
 use Rattle.world.specs.StepsAs.{StepsAs, Each, IsFor, Returns, IsWorldOf, IsWorld, AllMove}
 use Rattle.world.specs.World.{WorldValue, each_state, state_of, states}
@@ -96,7 +97,7 @@ steps_by k s p q o out effect outcome each quiet = record {
 
 shows_as : (q : CircuitState) (setup : Setup) (a : Alone) (ups downs : List Datagram) → q.setup ≡ setup → q.up ≡ ups → q.down ≡ downs → Holds q.leases a
     → Shows q setup (record a { up = ups; down = downs })
-shows_as q setup a ups downs set up down h = record { setup_is = set; up = up; down = down; book = h.book; restarts = h.restarts; sure = h.sure }
+shows_as q setup a ups downs set up down h = record { setup_is = set; up = up; down = down; book = h.book; restarts = h.restarts; formats = h.formats; sure = h.sure }
 
 -- ---- a frame at the relay
 
@@ -275,21 +276,22 @@ tick_done k w new p l now out same net empty =
 
 -- ---- a restart
 
-restart_is : (setup : Setup) (a : Alone) (image : Image) → alone_step setup (Restart image) a ≡ record { effect = Done; next = alone.after_restart image a }
+restart_is : (setup : Setup) (a : Alone) (comeback : Comeback) → alone_step setup (Restart comeback) a ≡ record { effect = Done; next = alone.after_restart comeback a }
 unfolding alone_step
-restart_is setup a image = refl
+restart_is setup a comeback = refl
 
-pub restart_done : (k : ℕ) (w new : WorldValue) (p : CircuitPart) (l : Leases) (image : Image) (out : List ℕ) → new.net ≡ w.net → out ≡ []
-    → StepsAs k (Restart image) (state_of w k p l) (state_of new k p (after_restart image l)) outcome.Done out
-restart_done k w new p l image out net empty =
+pub restart_done : (k : ℕ) (w new : WorldValue) (p : CircuitPart) (l : Leases) (comeback : Comeback) (out : List ℕ) → new.net ≡ w.net → out ≡ []
+    → StepsAs k (Restart comeback) (state_of w k p l) (state_of new k p (after_restart comeback.image comeback.move_fault l)) outcome.Done out
+restart_done k w new p l comeback out net empty =
     let was = state_of w k p l in
-    let is = state_of new k p (after_restart image l) in
-    steps_by k (Restart image) was is outcome.Done out Done (refl, empty) (λ a shown.
-    let next = alone.after_restart image a in
-    known_step was.setup (Restart image) a Done is _ (restart_is was.setup a image) refl
+    let fault = comeback.move_fault in
+    let is = state_of new k p (after_restart comeback.image fault l) in
+    steps_by k (Restart comeback) was is outcome.Done out Done (refl, empty) (λ a shown.
+    let next = alone.after_restart comeback a in
+    known_step was.setup (Restart comeback) a Done is _ (restart_is was.setup a comeback) refl
     (shows_as is was.setup next next.up next.down (λ i. record { part = p; quota = (net i).quota })
-    (ap (λ n. datagrams n k dir.Up) net ∙ shown.up ∙ sym (restart_ups image a)) (ap (λ n. datagrams n k dir.Down) net ∙ shown.down ∙ sym (restart_downs image a))
-    (holds_restart image l a (holds was was.setup a shown))))
+    (ap (λ n. datagrams n k dir.Up) net ∙ shown.up ∙ sym (restart_ups fault comeback.image a)) (ap (λ n. datagrams n k dir.Down) net ∙ shown.down ∙ sym (restart_downs fault comeback.image a))
+    (holds_restart fault comeback.image l a (holds was was.setup a shown))))
     (λ a shown nothing. absurd cc)
 
 -- ---- one circuit of a world
@@ -333,6 +335,13 @@ restarts_at regions [] c part l there its = absurd cc
 restarts_at regions (x ∷ xs) zero part l there its =
     ap (λ (m : Leases). m.restarts) (sym (same_Some (leases_of regions x) l its)) ∙ ap (λ p. restarts_of p (regions p.region)) (same_Some (part_of x) part there)
 restarts_at regions (x ∷ xs) (suc c) part l there its = restarts_at regions xs c part l there its
+
+pub formats_at : (regions : ℕ → Region) (circuits : List CircuitServerValue) (c : ℕ) (part : CircuitPart) (l : Leases) → slice_get (map part_of circuits) c ≡ Some part
+    → slice_get (map (leases_of regions) circuits) c ≡ Some l → l.is_new ≡ formats_of (regions part.region)
+formats_at regions [] c part l there its = absurd cc
+formats_at regions (x ∷ xs) zero part l there its =
+    ap (λ (m : Leases). m.is_new) (sym (same_Some (leases_of regions x) l its)) ∙ ap (λ (p : CircuitPart). formats_of (regions p.region)) (same_Some (part_of x) part there)
+formats_at regions (x ∷ xs) (suc c) part l there its = formats_at regions xs c part l there its
 
 -- ---- what the network keeps of every circuit
 
@@ -442,32 +451,35 @@ all_tick w new now out same net empty parts leases =
     (λ c part l there its. ap (λ ls. slice_get ls c) leases ∙ slice_get-map (after_tick now) (leases_now w) c ∙ ap (option_map (after_tick now)) its)
     (λ c part l. tick_done c w new part l now out same net empty)
 
--- A restart, where each circuit's region is as its image says.
-pub all_restart : (w new : WorldValue) (images : ℕ → Image) (regions : ℕ → Region) (out : List ℕ) → new.net ≡ w.net → out ≡ []
-    → new.server.topology.circuits ≡ w.server.topology.circuits → leases_now new ≡ map (found_leases regions) w.server.topology.circuits
-    → ((c : ℕ) (part : CircuitPart) → slice_get w.server.topology.circuits c ≡ Some part → regions part.region ≡ crashed (images c) (disk.state_of w.disk part.region))
-    → AllMove (λ c. Restart (images c)) (states w) (states new) outcome.Done out
-all_restart w new images regions out net empty parts leases crash =
-    all_move w new (λ c. Restart (images c)) (λ c. after_restart (images c)) out parts (ap length leases ∙ length-map w.server.topology.circuits (found_leases regions))
+-- A restart, where each circuit's region comes back so.
+pub all_restart : (w new : WorldValue) (comebacks : ℕ → Comeback) (regions : ℕ → Region) (faults : ℕ → ℕ) (out : List ℕ) → new.net ≡ w.net → out ≡ []
+    → new.server.topology.circuits ≡ w.server.topology.circuits → leases_now new ≡ map (found_leases regions faults) w.server.topology.circuits
+    → ((c : ℕ) (part : CircuitPart) → slice_get w.server.topology.circuits c ≡ Some part → regions part.region ≡ crashed (comebacks c).image (disk.state_of w.disk part.region))
+    → ((c : ℕ) (part : CircuitPart) → slice_get w.server.topology.circuits c ≡ Some part → faults part.region ≡ (comebacks c).move_fault)
+    → AllMove (λ c. Restart (comebacks c)) (states w) (states new) outcome.Done out
+all_restart w new comebacks regions faults out net empty parts leases crash fails =
+    all_move w new (λ c. Restart (comebacks c)) (λ c. after_restart (comebacks c).image (comebacks c).move_fault) out parts (ap length leases ∙ length-map w.server.topology.circuits (found_leases regions faults))
     (λ c part l there its.
-    let found = found_crashed part (images c) (disk.state_of w.disk) regions l.book (crash c part there) in
-    let restarts = restarts_at (disk.state_of w.disk) (circuits_in w.server) c part l (ap (λ parts. slice_get parts c) (parts_with w.server.topology.circuits w.server.states) ∙ there) its in
-    ap (λ ls. slice_get ls c) leases ∙ slice_get-map (found_leases regions) w.server.topology.circuits c ∙ ap (option_map (found_leases regions)) there
-    ∙ ap Some (found ∙ ap (after_restart (images c)) (λ i. record { book = l.book; restarts = sym restarts i })))
-    (λ c part l. restart_done c w new part l (images c) out net empty)
+    let found = found_crashed part (comebacks c).move_fault (comebacks c).image (disk.state_of w.disk) regions faults l.book (crash c part there) (fails c part there) in
+    let at = ap (λ parts. slice_get parts c) (parts_with w.server.topology.circuits w.server.states) ∙ there in
+    let restarts = restarts_at (disk.state_of w.disk) (circuits_in w.server) c part l at its in
+    let formats = formats_at (disk.state_of w.disk) (circuits_in w.server) c part l at its in
+    ap (λ ls. slice_get ls c) leases ∙ slice_get-map (found_leases regions faults) w.server.topology.circuits c ∙ ap (option_map (found_leases regions faults)) there
+    ∙ ap Some (found ∙ ap (after_restart (comebacks c).image (comebacks c).move_fault) (λ i. record { book = l.book; restarts = sym restarts i; is_new = sym formats i })))
+    (λ c part l. restart_done c w new part l (comebacks c) out net empty)
 
 -- of a region that can be read after a crash no byte is unsynced
 crashed_clean : (i : Image) (r : Region) → (crashed i r).readable ≡ true → IsClean (crashed i r)
 crashed_clean (Byte byte) r readable = record { each = λ i. refl }
 crashed_clean Unreadable r readable = absurd cc
 
-pub are_synced : (parts : List CircuitPart) (images : ℕ → Image) (old new : ℕ → Region)
-    → ((c : ℕ) (part : CircuitPart) → slice_get parts c ≡ Some part → new part.region ≡ crashed (images c) (old part.region)) → AreSynced parts new
-are_synced parts images old new crash = λ k default within.
+pub are_synced : (parts : List CircuitPart) (comebacks : ℕ → Comeback) (old new : ℕ → Region)
+    → ((c : ℕ) (part : CircuitPart) → slice_get parts c ≡ Some part → new part.region ≡ crashed (comebacks c).image (old part.region)) → AreSynced parts new
+are_synced parts comebacks old new crash = λ k default within.
     let one = is_there parts k within in
     let P : CircuitPart → Type 0 = λ part. (new part.region).readable ≡ true → IsClean (new part.region) in
     let Q : Region → Type 0 = λ r. r.readable ≡ true → IsClean r in
-    subst P (sym (get_or_from_slice_get parts k one.0 default one.1)) (subst Q (sym (crash k one.0 one.1)) (crashed_clean (images k) (old one.0.region)))
+    subst P (sym (get_or_from_slice_get parts k one.0 default one.1)) (subst Q (sym (crash k one.0 one.1)) (crashed_clean (comebacks k).image (old one.0.region)))
 
 -- ---- what the server made of a datagram that the network kept
 
@@ -577,6 +589,30 @@ spares_beside parts r old new k part there its beside = record {
 
 pub spares_then : (parts : List CircuitPart) (old middle new : Device) → KeepsSpares parts old middle → KeepsSpares parts middle new → KeepsSpares parts old new
 spares_then parts old middle new f g = record { region = λ q spare. g.region q spare ∙ f.region q spare; fuse = λ q spare. g.fuse q spare ∙ f.fuse q spare }
+
+pub others_spared : (parts : List CircuitPart) (old new : Device) → KeepsOthers parts old new → KeepsSpares parts old new
+others_spared parts old new keeps = record { region = λ r spare. keeps.region r (no_region r spare); fuse = λ r spare. keeps.fuse r (no_region r spare) } where
+  no_region : (r : ℕ) → IsSpare parts r → All (λ (part : CircuitPart). part.region ≢ r) parts
+  no_region r spare k default within =
+      let one = is_there parts k within in
+      subst (λ (part : CircuitPart). part.region ≢ r) (sym (get_or_from_slice_get parts k one.0 default one.1)) (spare k one.0 one.1)
+
+-- one more circuit's region of a device in memory changes, by its index
+module _ (parts : List CircuitPart) (n : ℕ) (here : CircuitPart) (is : slice_get parts n ≡ Some here) where
+  pub by_index : (P : ℕ → CircuitPart → Type 0) → P n here → ((c : ℕ) (part : CircuitPart) → slice_get parts c ≡ Some part → c < n → P c part) → (c : ℕ) (part : CircuitPart) → slice_get parts c ≡ Some part → c < n + 1 → P c part
+  by_index P own before c part there less = by (c == n) refl where
+    by : (b : Bool) → (c == n) ≡ b → P c part
+    by true e =
+        let same : c ≡ n = grind (arith, e) in
+        let part_is : here ≡ part = same_Some here part (sym is ∙ ap (slice_get parts) (sym same) ∙ there) in
+        subst (λ (k : ℕ). P k part) (sym same) (subst (P n) part_is own)
+    by false e = before c part there (grind (arith, e, less))
+
+  pub not_its : RegionsDiffer parts → (c : ℕ) (part : CircuitPart) → slice_get parts c ≡ Some part → (c ≡ n → ⊥) → part.region ≢ here.region
+  not_its differ c part there ne same = ne (differ c n part here there is same)
+
+  pub spare_is_other : (r : ℕ) → IsSpare parts r → r ≢ here.region
+  spare_is_other r spare same = spare n here is (sym same)
 
 pub spares_stay : (parts : List CircuitPart) (old new : Device) → new ≡ old → KeepsSpares parts old new
 spares_stay parts old new same = record { region = λ q spare. ap (λ (d : Device). d.region q) same; fuse = λ q spare. ap (λ (d : Device). d.fuse q) same }

@@ -1,5 +1,5 @@
 -- The machine of one circuit that has relay, network and server for itself.
-use Rattle.std.specs.Prelude.{ℕ, ◌==◌, ◌&&◌, nat_le, Bool, true, false, not, List, [], ◌∷◌, ◌++◌, length, take, slice_get, Option, Some, None, option_map, Result, Ok, Err, if◌then◌else◌}
+use Rattle.std.specs.Prelude.{ℕ, ◌==◌, ◌&&◌, ◌||◌, nat_le, is_some, Bool, true, false, not, List, [], ◌∷◌, ◌++◌, length, take, slice_get, Option, Some, None, option_map, Result, Ok, Err, if◌then◌else◌}
 use Rattle.types.specs.Delivery.{DeliveryValue}
 use Rattle.types.specs.declared.dest.Proto.{Proto}
 use Rattle.types.specs.declared.discard.Discard.{Discard}
@@ -12,6 +12,7 @@ use Rattle.lease_disk.specs.Layout.{gate_open}
 use Rattle.lossy_net.specs.Net.{Datagram}
 use Rattle.relay.specs.SentFrame.{SentFrame}
 use Rattle.relay.specs.Relays.{relayed_up, relayed_down}
+use Rattle.events.specs.declared.comeback.Comeback.{Comeback}
 use Rattle.events.specs.Seen.{Seen, Frame, Up, Down, Tick, Restart}
 
 -- What the machine knows: the circuit's part of the configuration, and how many datagrams the network
@@ -23,6 +24,18 @@ pub record Setup : Type 0 where
 abbrev pub setup_of : ℕ → CircuitPart → Setup
 setup_of quota part = record { part = part; quota = quota }
 
+-- The format of the circuit's region: 1, 2, or 2 where the byte that says so, which is in doubt, becomes 2.
+pub data Format : Type 0 where
+  Old : Format
+  New : Format
+  Moving : Format
+
+-- whether it is 2 where the unsynced bytes become this one
+abbrev pub is_new : Format → ℕ → Bool
+is_new Old byte = false
+is_new New byte = true
+is_new Moving byte = byte == 2
+
 pub record Alone : Type 0 where
   -- what the network keeps, newest first: towards the server, and towards the relay
   pub up : List Datagram
@@ -33,11 +46,27 @@ pub record Alone : Type 0 where
   pub kept : Option Book
   -- the book of a failed save that a restart may find all the same; None where there is none
   pub doubt : Option Book
+  pub format : Format
 
--- At the start nothing was sent. The circuit is open with the book that its region holds, or closed where
--- the region is damaged.
-abbrev pub start : Option Book → Alone
-start kept = record { up = []; down = []; book = kept; kept = kept; doubt = None }
+-- The call of the device that fails in a move, from 1 to 4. Any other number is none.
+abbrev pub is_move_fault : ℕ → Bool
+is_move_fault fault = nat_le 1 fault && nat_le fault 4
+
+-- What a region holds comes back: a book, or none where it is damaged, in format 2 or in format 1. A book in format 1 is
+-- moved to format 2. Where that fails, the circuit is closed, and the region holds the book all the same; from the third
+-- call on the format is in doubt.
+abbrev pub come_back : ℕ → Option Book → Bool → Alone → Alone
+come_back fault kept two a =
+    if two || not (is_some kept) then record a { book = kept; kept = kept; doubt = None; format = if two then New else Old }
+    else if is_move_fault fault then record a { book = None; kept = kept; doubt = None; format = if nat_le 3 fault then Moving else Old }
+    else record a { book = kept; kept = kept; doubt = None; format = New }
+
+-- At the start nothing was sent. The circuit begins with the book that its region holds.
+abbrev pub unsent : Alone
+unsent = record { up = []; down = []; book = None; kept = None; doubt = None; format = New }
+
+abbrev pub start : ℕ → Option Book → Bool → Alone
+start fault kept two = come_back fault kept two unsent
 
 -- What an event does.
 pub data Effect : Type 0 where
@@ -116,9 +145,12 @@ abbrev pub found : ℕ → Alone → Option Book
 found byte a = if byte == gate_open then or_kept a.doubt a.kept else a.kept
 
 -- A region that cannot be read closes the circuit, and what was in doubt stays so.
-abbrev pub after_restart : Image → Alone → Alone
-after_restart (Byte byte) a = record a { book = found byte a; kept = found byte a; doubt = None }
-after_restart Unreadable a = record a { book = None }
+abbrev pub with_image : ℕ → Image → Alone → Alone
+with_image fault (Byte byte) a = come_back fault (found byte a) (is_new a.format byte) a
+with_image fault Unreadable a = record a { book = None }
+
+abbrev pub after_restart : Comeback → Alone → Alone
+after_restart comeback a = with_image comeback.move_fault comeback.image a
 
 -- One event.
 unfoldable pub alone_step : Setup → Seen → Alone → Step
@@ -126,9 +158,9 @@ alone_step setup (Frame proto frame) a = frame_step setup a proto (relayed_up se
 alone_step setup (Up j now fault) a = up_step setup now fault a (slice_get a.up j)
 alone_step setup (Down j) a = down_step setup a (slice_get a.down j)
 alone_step setup (Tick now) a = record { effect = Done; next = record a { book = option_map (book_at now) a.book } }
-alone_step setup (Restart image) a = record { effect = Done; next = after_restart image a }
+alone_step setup (Restart comeback) a = record { effect = Done; next = after_restart comeback a }
 
--- Whether an event writes to the circuit's region: by a save, whether it fails or not, or by the crash of
+-- Whether an event writes to the circuit's region: by a save, whether it fails or not, or by the crash and the move of
 -- a restart.
 
 abbrev pub book_writes : Setup → ℕ → Datagram → Option Book → Bool
@@ -144,7 +176,7 @@ writes setup (Frame proto frame) a = false
 writes setup (Up j now fault) a = up_writes setup now a.book (slice_get a.up j)
 writes setup (Down j) a = false
 writes setup (Tick now) a = false
-writes setup (Restart image) a = true
+writes setup (Restart comeback) a = true
 
 -- the frame that leaves with an effect, if one does
 abbrev pub sent_frame : Effect → List SentFrame

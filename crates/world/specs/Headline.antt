@@ -14,7 +14,7 @@ use Rattle.events.specs.declared.event.Event.{Event}
 use Rattle.events.specs.declared.event.Event.TheVariants as event
 use Rattle.events.specs.declared.outcome.Outcome.{Outcome}
 use Rattle.events.specs.declared.outcome.Outcome.TheVariants as outcome
-use Rattle.world.specs.Alone.{Setup, Alone, Effect, Dropped, Gone, SentUp, SentDown, Framed, Done, alone_step, after_all, found, frames, writes}
+use Rattle.world.specs.Alone.{Setup, Alone, Effect, Dropped, Gone, SentUp, SentDown, Framed, Done, alone_step, after_all, found, frames, is_new, writes}
 use Rattle.events.specs.Seen.{Seen, seen_of, seen_by, named_by, is_restart}
 use Rattle.events.specs.Stray.{is_stray}
 
@@ -38,6 +38,8 @@ pub record Shows (state : CircuitState) (setup : Setup) (a : Alone) : Type 0 whe
   pub book : state.leases.book ≡ a.book
   -- whatever each unsynced byte becomes, a restart finds in the region what the machine finds
   pub restarts : (byte : ℕ) → state.leases.restarts byte ≡ found byte a
+  -- and whether the region is of format 2
+  pub formats : (byte : ℕ) → state.leases.is_new byte ≡ is_new a.format byte
   -- an open circuit has no book in doubt
   pub sure : (b : Book) → a.book ≡ Some b → a.doubt ≡ None
 

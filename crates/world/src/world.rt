@@ -1,13 +1,13 @@
 //! A world: its relays, the network, the server and a disk.
 ghost use Rattle.std.specs.Prelude.{◌≡◌, ℕ, ◌+◌, ◌<◌, ◌≤◌, [], Some, length, nat_lt, slice_get, take, IfOk, IfErr, IfSome, OnOk};
 ghost use Rattle.config.specs.CircuitPart.{CircuitPart, parts_of};
-ghost use Rattle.dispatch.specs.Leases.{AreSynced, HasRegions};
+ghost use Rattle.dispatch.specs.Leases.{AreBroughtUp, AreSynced, HasRegions};
 ghost use Rattle.dispatch.specs.declared.server.OpenFault.TheVariants as fault;
 ghost use Rattle.lease_disk.specs.Crash.{crashed};
-ghost use Rattle.lease_disk.specs.Model.{device_of, state_of};
+ghost use Rattle.lease_disk.specs.Model.{device_of, fuse_of, state_of};
 ghost use Rattle.config.specs.Topology.{RegionsDiffer, topology_of};
 ghost use Rattle.world.specs.Headline.{EmitsAt, Emits, KeepsSpares, Reaches, Steps, frame_of};
-ghost use Rattle.events.specs.Seen.{Frame, Up, Down, Tick, Restart, image_at};
+ghost use Rattle.events.specs.Seen.{Frame, Up, Down, Tick, Restart, comeback_at};
 ghost use Rattle.events.specs.declared.outcome.Outcome.TheVariants as outcome;
 ghost use Rattle.world.specs.Start.{Starts};
 ghost use Rattle.events.specs.Stray.{stray_outcome, stray_down_outcome, stray_up_outcome};
@@ -20,7 +20,7 @@ use crate::machine::{Machine, run};
 use crate::sink::Sink;
 use config::Config;
 use dispatch::{OpenFault, Server};
-use events::{Event, Outcome};
+use events::{Comeback, Event, Outcome};
 use lease_disk::{Image, ModelDisk};
 use lossy_net::{Dir, Net};
 use relay::Relays;
@@ -63,27 +63,49 @@ fn are_bytes(bytes: &[u8])
     ensures { AreBytes bytes.now }
 {}
 
-/// Each circuit's region becomes what its image says.
-fn crash_all(server: &Server, disk: &mut ModelDisk, images: &[Image])
+/// Each circuit's region becomes what its image says, and the call of the disk that fails in its move is set.
+fn crash_all(server: &Server, disk: &mut ModelDisk, comebacks: &[Comeback])
     requires few { length server.now.topology.circuits ≤ 1024 }
     requires regions { HasRegions server.now.topology.circuits (length disk.old.regions) }
     requires differ { RegionsDiffer server.now.topology.circuits }
     ensures crashed { (c : ℕ) (part : CircuitPart) → slice_get server.now.topology.circuits c ≡ Some part
-        → state_of disk.new part.region ≡ crashed (image_at c images.now) (state_of disk.old part.region) }
+        → state_of disk.new part.region ≡ crashed (comeback_at c comebacks.now).image (state_of disk.old part.region) }
+    ensures faults { (c : ℕ) (part : CircuitPart) → slice_get server.now.topology.circuits c ≡ Some part
+        → fuse_of disk.new part.region ≡ (comeback_at c comebacks.now).move_fault }
     ensures count { length disk.new.regions ≡ length disk.old.regions }
     ensures spares { KeepsSpares server.now.topology.circuits (device_of disk.old) (device_of disk.new) }
 {
     'circuits: for index in 0..server.circuit_count() {
         let circuit = Circuit::at(index);
-        let image = images.get(index).copied().unwrap_or(Image::Byte(0));
-        disk.crash(server.part(circuit).region(), image);
+        let comeback = comebacks.get(index).copied().unwrap_or(Comeback {
+            image: Image::Byte(0),
+            move_fault: 0,
+        });
+        let region = server.part(circuit).region();
+        disk.crash(region, comeback.image);
+        disk.fail_at(region, comeback.move_fault);
+    }
+}
+
+/// No call of the disk fails from now on for the region of a circuit.
+fn clear_faults(server: &Server, disk: &mut ModelDisk)
+    requires few { length server.now.topology.circuits ≤ 1024 }
+    requires regions { HasRegions server.now.topology.circuits (length disk.old.regions) }
+    ensures states { state_of disk.new ≡ state_of disk.old }
+    ensures faults { (c : ℕ) (part : CircuitPart) → slice_get server.now.topology.circuits c ≡ Some part → fuse_of disk.new part.region ≡ 0 }
+    ensures count { length disk.new.regions ≡ length disk.old.regions }
+    ensures spares { KeepsSpares server.now.topology.circuits (device_of disk.old) (device_of disk.new) }
+{
+    'circuits: for index in 0..server.circuit_count() {
+        disk.fail_at(server.part(Circuit::at(index)).region(), 0);
     }
 }
 
 impl World {
     /// The world of a configuration over this disk, where the network keeps at most `quota` datagrams of
-    /// a circuit and direction. Each circuit begins with the leases that its region holds. All memory
-    /// that its steps need is taken here. A refusal drops the disk.
+    /// a circuit and direction. Each circuit begins with the leases that its region holds. A region of format 1 is moved
+    /// to format 2, where the disk's `fail_at` says which of the four calls fails; no later one does. All memory that its
+    /// steps need is taken here. A refusal drops the disk.
     pub fn open(
         alloc: Global,
         config: &Config,
@@ -95,7 +117,9 @@ impl World {
         requires synced { AreSynced (parts_of config.now) (state_of disk) }
         ensures starts { IfOk result (λ world. Starts config.now quota (device_of disk) (states world)) }
         ensures topology { IfOk result (λ world. world.relays.topology ≡ topology_of config.now) }
-        ensures disk { IfOk result (λ world. state_of world.disk ≡ state_of disk) }
+        ensures regions { IfOk result (λ world. AreBroughtUp (parts_of config.now) (device_of disk) (device_of world.disk)) }
+        ensures others { IfOk result (λ world. KeepsSpares (parts_of config.now) (device_of disk) (device_of world.disk)) }
+        ensures faults { IfOk result (λ world. (c : ℕ) (part : CircuitPart) → slice_get (parts_of config.now) c ≡ Some part → fuse_of world.disk part.region ≡ 0) }
         ensures small { IfErr result (λ why. why ≡ fault.DiskTooSmall → ¬ HasRegions (parts_of config.now) (length disk.regions)) }
         ensures large { IfOk result (λ world. HasRegions (parts_of config.now) (length disk.regions)) }
     {
@@ -109,6 +133,7 @@ impl World {
             Ok(server) => server,
             Err(why) => return Err(why),
         };
+        clear_faults(&server, &mut disk);
         Ok(World {
             relays,
             net,
@@ -228,16 +253,17 @@ impl World {
     }
 
     /// The server and the disk stop and start again.
-    fn restart(&mut self, images: &[Image], out: &mut PacketBuf) -> Outcome
-        ensures moves { AllMove (λ c. Restart (image_at c images.now)) (states self.old) (states self.new) result out.new }
+    fn restart(&mut self, comebacks: &[Comeback], out: &mut PacketBuf) -> Outcome
+        ensures moves { AllMove (λ c. Restart (comeback_at c comebacks.now)) (states self.old) (states self.new) result out.new }
         ensures done { result ≡ outcome.Done }
         ensures topology { self.new.relays.topology ≡ self.old.relays.topology }
         ensures spares { KeepsSpares self.old.relays.topology.circuits (device_of self.old.disk) (device_of self.new.disk) }
         ensures empty { out.new ≡ [] }
     {
         out.clear();
-        crash_all(&self.server, &mut self.disk, images);
+        crash_all(&self.server, &mut self.disk, comebacks);
         self.server.restart(&mut self.disk);
+        clear_faults(&self.server, &mut self.disk);
         Outcome::Done
     }
 
@@ -322,7 +348,7 @@ impl World {
                 self.down(circuit, number, out)
             }
             Event::Tick(now) => self.tick(now, out),
-            Event::Restart(images) => self.restart(images, out),
+            Event::Restart(comebacks) => self.restart(comebacks, out),
             Event::StrayUp(proto, source, datagram, now) => {
                 self.stray_up(proto, source, datagram, now, out)
             }

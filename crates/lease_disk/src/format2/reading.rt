@@ -1,7 +1,9 @@
 //! Reading the halves of a region of format 2.
 ghost use Rattle.std.specs.Prelude.{◌≡◌, ◌<◌, ◌+◌, ℕ, true, length, is_ok, slice_index, IfOk};
 ghost use Rattle.lease_disk.specs.Device.{TouchesNothing};
-ghost use Rattle.lease_disk.specs.Region.{IsRead, faults_after};
+ghost use Rattle.lease_disk.specs.Halves.{AreHalves};
+ghost use Rattle.lease_disk.specs.Layout.{is_format2};
+ghost use Rattle.lease_disk.specs.Region.{faults_after};
 
 use super::layout::HALVES_AT;
 use crate::device::{Disk, Fault, REGION};
@@ -18,7 +20,7 @@ pub fn halves_in(bytes: &[u8; REGION]) -> &[u8]
 /// Reads the halves of all slots of a region.
 pub fn read_halves<D: Disk>(region: u16, disk: &mut D) -> Result<[u8; HALVES_SIZE], Fault>
     requires { region < (D.device disk.old).count }
-    ensures halves { D.tells ≡ true → IfOk result (IsRead ((D.device disk.old).region region) 16384) }
+    ensures halves { D.tells ≡ true → is_format2 ((D.device disk.old).region region).byte ≡ true → IfOk result (λ halves. AreHalves halves ((D.device disk.old).region region).byte) }
     ensures answer { D.tells ≡ true → is_ok result ≡ ((D.device disk.old).region region).readable }
     ensures frame { TouchesNothing D.tells (D.device disk.old) (D.device disk.new) }
     ensures reads { (D.device disk.new).reads ≡ (D.device disk.old).reads + 1 }

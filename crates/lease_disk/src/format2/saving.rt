@@ -2,7 +2,7 @@
 ghost use Rattle.std.specs.Prelude.{◌≡◌, ℕ, true, ◌+◌, ◌==◌, ◌<◌, ◌≤◌, if◌then◌else◌, List, [], ◌∷◌, Some, length, is_ok, OnOk, OnErr};
 ghost use Rattle.types.specs.declared.slots.Slots.{Slots};
 ghost use Rattle.lease_disk.specs.Device.{IsWritten, Touches};
-ghost use Rattle.lease_disk.specs.Layout.{gate_open};
+ghost use Rattle.lease_disk.specs.Layout.{gate_open, is_format2};
 ghost use Rattle.lease_disk.specs.Recovered.{recovered};
 ghost use Rattle.lease_disk.specs.Region.{IsClean, SameBeside, effective, faults_after};
 ghost use Rattle.lease_disk.specs.Save.{AreMarks, Fits, IsChange, IsLeft, IsMark, IsSaved, gate_at, mark_at, saved_byte, with_slot};
@@ -46,7 +46,7 @@ fn open_gate<D: Disk>(region: u16, disk: &mut D, at: usize) -> Result<(), Fault>
     write_synced(region, disk, at, &[GATE_OPEN])
 }
 
-/// Saves what a slot of a circuit holds from this clock on, by six calls of the device, of which one that
+/// Saves what a slot of a circuit holds from this clock on, in a region of format 2, by six calls of the device, of which one that
 /// fails is the last. After an error the region is not written to again until a crash has settled what
 /// is in doubt.
 pub fn save<D: Disk>(
@@ -59,11 +59,13 @@ pub fn save<D: Disk>(
 ) -> Result<(), Fault>
     requires exists { region < (D.device disk.old).count }
     requires fits { Fits slot content.now }
+    requires format { D.tells ≡ true → is_format2 ((D.device disk.old).region region).byte ≡ true }
     requires clean { D.tells ≡ true → IsClean ((D.device disk.old).region region) }
     requires mark { D.tells ≡ true → IsMark ((D.device disk.old).region region).byte slot (mark_at marks.old slot) }
     ensures ok { D.tells ≡ true → (counts : List ℕ) (slots : Slots) → recovered counts ((D.device disk.old).region region).byte ≡ Some slots → IsChange counts clock slot content.now slots →
         OnOk result (IsSaved counts (with_slot clock slot content.now slots) ((D.device disk.new).region region)) }
     ensures bytes { D.tells ≡ true → OnOk result ((i : ℕ) → ((D.device disk.new).region region).byte i ≡ saved_byte slot (mark_at marks.old slot) clock content.now ((D.device disk.old).region region).byte i) }
+    ensures format { D.tells ≡ true → is_format2 ((D.device disk.new).region region).byte ≡ true }
     ensures clean { D.tells ≡ true → OnOk result (IsClean ((D.device disk.new).region region)) }
     ensures marks { D.tells ≡ true → (counts : List ℕ) → AreMarks counts ((D.device disk.old).region region).byte marks.old → OnOk result (AreMarks counts ((D.device disk.new).region region).byte marks.new) }
     ensures err { D.tells ≡ true → (counts : List ℕ) (slots : Slots) → recovered counts ((D.device disk.old).region region).byte ≡ Some slots → IsChange counts clock slot content.now slots →

@@ -1,24 +1,23 @@
-use Rattle.std.proofs.Common.{◌≡◌, ◌<◌, ◌≤◌, ◌+◌, ◌*◌, ℕ, List, true, map, take, length, refl, sym, ap, subst, ◌∙◌, arith}
+use Rattle.std.proofs.Common.{◌≡◌, ◌<◌, ◌≤◌, ◌+◌, ◌*◌, ℕ, List, true, map, take, length, refl, sym, ap, subst, ◌∙◌, arith, rules}
 use Rattle.std.specs.Prelude.{All, Some, slice_get, slice_set}
 use Rattle.std.proofs.lemmas.List.{get_or-set_same, length-set, take-set, take_all}
 use Rattle.std.proofs.lemmas.Option.{slice_get_read}
 use Rattle.std.proofs.lemmas.List.Elements.{All-more}
-use Rattle.config.specs.CircuitPart.{CircuitPart}
+use Rattle.config.specs.CircuitPart.{CircuitPart, IsPart}
 use Rattle.lease_disk.specs.Region.{IsClean, Region}
 use Rattle.dispatch.specs.Deadlines.{HasDeadlines}
-use Rattle.dispatch.specs.Leases.{found_book, found_leases, restarts_of}
-use Rattle.dispatch.specs.ServerValue.{CircuitServerValue, HasItsPools, IsReady, leases_of, with_states}
-use Rattle.lease_disk.proofs.Frames.{nothing_then}
+use Rattle.dispatch.specs.Leases.{found_leases}
+use Rattle.dispatch.specs.ServerValue.{CircuitServerValue, HasItsPools, with_states}
+use Rattle.dispatch.proofs.RestartLemmas.{all_leases, all_ready, all_regions, none_up, one_more_up}
 use Rattle.dispatch.proofs.ServerLemmas.{all_found}
 use Rattle.dispatch.proofs.WithStates.{parts_with, server, set_with, size_with}
 use Rattle.dispatch.proofs.DeadlineLemmas.{all_held, holds_more}
 use Rattle.dispatch.proofs.circuit_servers.restart_all.Goals as goal
 
-pub restart-requires : goal.restart-requires
-restart-requires g c =
-    let loop = c.circuits.invariant in
+pub restart-requires-clause-exists : goal.restart-requires-clause-exists
+restart-requires-clause-exists g c =
     let n = (g.D.Disk.device c.circuits.disk).count in
-    let has : All (λ (part : CircuitPart). part.region < n) c.args.parts.now = subst (λ m. All (λ (part : CircuitPart). part.region < m) c.args.parts.now) (sym loop.frame.count) c.requires.regions in
+    let has : All (λ (part : CircuitPart). part.region < n) c.args.parts.now = subst (λ m. All (λ (part : CircuitPart). part.region < m) c.args.parts.now) (sym c.circuits.invariant.count) c.requires.regions in
     subst (λ (part : CircuitPart). part.region < n) (sym c.index-parts-index.is) (has c.circuits.index c.index-parts-index.result c.circuits-test.true)
 
 -- one more element, which was just written
@@ -26,8 +25,36 @@ more : (P : CircuitServerValue → Type 0) (xs : List CircuitServerValue) (i : �
 more P xs i y within all p =
     All-more P (slice_set xs i y) i y (subst (λ n. i < n) (sym (length-set xs i y)) within) (subst (All P) (sym (take-set xs i y)) all) (subst P (sym (get_or-set_same xs i y y within)) p)
 
-two_more : (first middle last n : ℕ) → middle ≤ first + 2 * n → last ≤ middle + 2 → last ≤ first + 2 * (n + 1)
-two_more first middle last n h k = omega arith
+five_more : (first middle last n : ℕ) → middle ≤ first + 5 * n → last ≤ middle + 5 → last ≤ first + 5 * (n + 1)
+five_more first middle last n h k = omega arith
+
+four_more : (first middle last n : ℕ) → middle ≤ first + 4 * n → last ≤ middle + 4 → last ≤ first + 4 * (n + 1)
+four_more first middle last n h k = omega arith
+
+pub restart-requires-clause-part : goal.restart-requires-clause-part
+restart-requires-clause-part g c = subst IsPart (sym c.index-parts-index.is) (c.requires.parts c.circuits.index c.index-parts-index.result c.circuits-test.true)
+
+pub restart-requires-clause-clean : goal.restart-requires-clause-clean
+restart-requires-clause-clean g c = λ tells.
+    let part = c.index-parts-index.result in
+    let first = (g.D.Disk.device c.args.disk.now).region in
+    let there : slice_get c.args.parts.now c.circuits.index ≡ Some part = slice_get_read c.args.parts.now (length c.args.parts.now) c.circuits.index part refl c.circuits-test.true c.index-parts-index.is in
+    let same = (c.circuits.invariant.up tells).region c.circuits.index part (omega arith) there in
+    subst (λ (r : Region). r.readable ≡ true → IsClean r) (sym same)
+    (subst (λ (p : CircuitPart). (first p.region).readable ≡ true → IsClean (first p.region)) (sym c.index-parts-index.is) (c.requires.synced tells c.circuits.index part c.circuits-test.true))
+
+pub circuits-init : goal.circuits-init
+circuits-init g c = record {
+  up = λ tells. none_up c.args.parts.now c.args.servers.now (g.D.Disk.device c.args.disk.now);
+  pools = search rules;
+  count = refl;
+  reads = omega arith;
+  writes = omega arith;
+  buffer = c.requires.buffer;
+  room = c.requires.room;
+  deadlines = search rules;
+  size = refl;
+}
 
 pub circuits-preserved : goal.circuits-preserved
 circuits-preserved g c =
@@ -38,27 +65,20 @@ circuits-preserved g c =
     let part = c.index-parts-index.result in
     let new = server part c.restart.new.self in
     let xs = with_states parts states in
-    let now = (g.D.Disk.device c.circuits.disk).region in
-    let first = (g.D.Disk.device c.args.disk.now).region in
     let there : slice_get parts i ≡ Some part = slice_get_read parts (length parts) i part refl c.circuits-test.true c.index-parts-index.is in
     let within : i < length xs = omega (arith, c.circuits-test.true, size_with parts states) in
-    let written = set_with parts states i part c.restart.new.self there (omega (arith, c.circuits-test.true, loop.size, c.requires.size)) in
-    let at = λ (P : CircuitServerValue → Type 0) (all : All P (take i xs)) (p : P new). subst (λ ys. All P (take (i + 1) ys)) (sym written) (more P xs i new within all p) in
+    let inside : i < length states = omega (arith, c.circuits-test.true, loop.size, c.requires.size) in
+    let written = set_with parts states i part c.restart.new.self there inside in
     record {
-      found = λ tells.
-          at (λ s. leases_of first s ≡ found_leases first s.part) (loop.found tells)
-          (λ j. record { book = (c.restart.ensures.book tells ∙ ap (λ regions. found_book part (regions part.region)) (loop.frame.region tells)) j; restarts = restarts_of part (first part.region) });
-      ready = λ tells synced.
-          let part_synced : (now part.region).readable ≡ true → IsClean (now part.region) =
-          subst (λ (regions : ℕ → Region). (regions part.region).readable ≡ true → IsClean (regions part.region)) (sym (loop.frame.region tells))
-          (subst (λ (p : CircuitPart). (first p.region).readable ≡ true → IsClean (first p.region)) (sym c.index-parts-index.is) (synced i part c.circuits-test.true)) in
-          at (IsReady first) (loop.ready tells synced) (subst (λ regions. IsReady regions new) (loop.frame.region tells) (c.restart.ensures.ready tells part_synced));
-      pools = at HasItsPools loop.pools c.restart.ensures.pools;
-      frame = nothing_then g.D.Disk.tells (g.D.Disk.device c.args.disk.now) (g.D.Disk.device c.circuits.disk) (g.D.Disk.device c.restart.new.disk) loop.frame c.restart.ensures.frame;
-      reads = two_more _ _ _ i loop.reads c.restart.ensures.reads;
+      up = λ tells. one_more_up g.D.Disk.tells tells parts c.requires.differ i part there states inside (g.D.Disk.device c.args.disk.now) (g.D.Disk.device c.circuits.disk) (g.D.Disk.device c.restart.new.disk) (loop.up tells)
+          c.restart.ensures.frame c.restart.new.self (c.restart.ensures.leases tells) (c.restart.ensures.ready tells) (c.restart.ensures.region tells);
+      pools = subst (λ ys. All HasItsPools (take (i + 1) ys)) (sym written) (more HasItsPools xs i new within loop.pools c.restart.ensures.pools);
+      count = c.restart.ensures.frame.count ∙ loop.count;
+      reads = five_more _ _ _ i loop.reads c.restart.ensures.reads;
+      writes = four_more _ _ _ i loop.writes c.restart.ensures.writes;
+      buffer = search rules;
       room = c.set_deadlines.ensures.beside.size ∙ loop.room;
       deadlines =
-          let inside : i < length states = omega (arith, c.circuits-test.true, loop.size, c.requires.size) in
           let own = subst (HasDeadlines c.set_deadlines.new.table (32 * i)) (get_or-set_same states i c.restart.new.self c.index-servers-index-in-circuits.result inside) c.set_deadlines.ensures.deadlines in
           holds_more i c.circuits.table c.set_deadlines.new.table states c.restart.new.self inside loop.deadlines own c.set_deadlines.ensures.beside;
       size = length-set states i c.restart.new.self ∙ loop.size;
@@ -76,20 +96,29 @@ returns-clause-deadlines g c =
 
 pub returns-clause-leases : goal.returns-clause-leases
 returns-clause-leases g c tells =
-    let loop = c.circuits.invariant in
+    let first = g.D.Disk.device c.args.disk.now in
+    let now = g.D.Disk.device c.circuits.disk in
     let xs = with_states c.args.parts.now c.circuits.servers in
-    let first = (g.D.Disk.device c.args.disk.now).region in
-    let all : take c.circuits.index xs ≡ xs = take_all c.circuits.index xs (omega (arith, c.circuits-test.false, size_with c.args.parts.now c.circuits.servers)) in
-    ap (λ regions. map (leases_of regions) xs) (loop.frame.region tells)
-    ∙ all_found first xs (subst (All (λ s. leases_of first s ≡ found_leases first s.part)) all (loop.found tells))
-    ∙ ap (map (found_leases first)) (parts_with c.args.parts.now c.circuits.servers)
+    all_found now.region (found_leases first.region first.fuse) xs
+    (all_leases c.args.parts.now c.circuits.index c.circuits.servers first now (c.circuits.invariant.size ∙ c.requires.size) (omega (arith, c.circuits-test.false)) (c.circuits.invariant.up tells))
+    ∙ ap (map (found_leases first.region first.fuse)) (parts_with c.args.parts.now c.circuits.servers)
 
 pub returns-clause-ready : goal.returns-clause-ready
-returns-clause-ready g c tells synced =
-    let loop = c.circuits.invariant in
-    let xs = with_states c.args.parts.now c.circuits.servers in
-    let all : take c.circuits.index xs ≡ xs = take_all c.circuits.index xs (omega (arith, c.circuits-test.false, size_with c.args.parts.now c.circuits.servers)) in
-    subst (λ regions. All (IsReady regions) xs) (sym (loop.frame.region tells)) (subst (All (IsReady (g.D.Disk.device c.args.disk.now).region)) all (loop.ready tells synced))
+returns-clause-ready g c tells =
+    all_ready c.args.parts.now c.circuits.index c.circuits.servers (g.D.Disk.device c.args.disk.now) (g.D.Disk.device c.circuits.disk) (c.circuits.invariant.size ∙ c.requires.size) (omega (arith, c.circuits-test.false)) (c.circuits.invariant.up tells)
+
+pub returns-clause-regions : goal.returns-clause-regions
+returns-clause-regions g c tells =
+    all_regions c.args.parts.now c.circuits.index c.circuits.servers (g.D.Disk.device c.args.disk.now) (g.D.Disk.device c.circuits.disk) (c.circuits.invariant.size ∙ c.requires.size) (omega (arith, c.circuits-test.false)) (c.circuits.invariant.up tells)
+
+pub returns-clause-others : goal.returns-clause-others
+returns-clause-others g c tells = (c.circuits.invariant.up tells).others
+
+pub returns-clause-reads : goal.returns-clause-reads
+returns-clause-reads g c = let e : c.circuits.index ≤ length c.args.parts.now = omega arith in omega (arith, c.circuits.invariant.reads, e)
+
+pub returns-clause-writes : goal.returns-clause-writes
+returns-clause-writes g c = let e : c.circuits.index ≤ length c.args.parts.now = omega arith in omega (arith, c.circuits.invariant.writes, e)
 
 pub returns-clause-pools : goal.returns-clause-pools
 returns-clause-pools g c =

@@ -1,7 +1,7 @@
 use Rattle.std.proofs.Common.{◌+◌, refl}
 use Rattle.lab.specs.Lab.{lab_output}
 use Rattle.lab.proofs.CauseLemmas.{cause_from, has_read, none_from}
-use Rattle.lab.proofs.FillLemmas.{opened_so_far}
+use Rattle.lab.proofs.PreparationLemmas.{opened_so_far}
 use Rattle.lab.proofs.RunLemmas.{ended_written}
 use Rattle.lab.proofs.opening.run.Goals as goal
 
@@ -9,30 +9,30 @@ pub returns-clause-written : goal.returns-clause-written
 returns-clause-written g c = λ text is opened fine.
     ended_written (lab_output c.args.config.now c.args.quota) text _ _ _ _ c.apply_lines.result
     (c.apply_lines.ensures.ends c.args.quota (lab_output c.args.config.now c.args.quota) _ _
-    (opened_so_far c.args.config.now c.args.quota (c.in-Ok-apply_fills.next.earlier + 1) _ _ _ _ _ _ (c.in-Ok-apply_fills.ensures.filled c.args.quota) c.in-Ok-opened.ensures.represents)
+    (opened_so_far c.args.config.now c.args.quota (c.in-Ok-prepare_all.next.earlier + 1) _ _ _ _ _ _ (c.in-Ok-prepare_all.ensures.prepared c.args.quota) c.in-Ok-opened.ensures.represents)
     c.in-Ok-opened.ensures.topology) is fine
 
 pub returns-clause-partial : goal.returns-clause-partial
 returns-clause-partial g c = λ failed.
     let ends = c.apply_lines.ensures.ends c.args.quota (lab_output c.args.config.now c.args.quota) _ _
-    (opened_so_far c.args.config.now c.args.quota (c.in-Ok-apply_fills.next.earlier + 1) _ _ _ _ _ _ (c.in-Ok-apply_fills.ensures.filled c.args.quota) c.in-Ok-opened.ensures.represents)
+    (opened_so_far c.args.config.now c.args.quota (c.in-Ok-prepare_all.next.earlier + 1) _ _ _ _ _ _ (c.in-Ok-prepare_all.ensures.prepared c.args.quota) c.in-Ok-opened.ensures.represents)
     c.in-Ok-opened.ensures.topology in
     record { read = ends.read; consumed = ends.consumed; partial = ends.partial failed }
 
 pub returns-clause-cause : goal.returns-clause-cause
 returns-clause-cause g c = λ failed.
-    cause_from _ _ _ _ _ _ _ _ c.in-Ok-apply_fills.ensures.quiet refl (c.apply_lines.ensures.cause _ c.apply_fills.ensures.counted failed)
+    cause_from _ _ _ _ _ _ _ _ c.in-Ok-prepare_all.ensures.quiet refl (c.apply_lines.ensures.cause _ c.prepare_all.ensures.counted failed)
 
 pub returns-clause-quiet : goal.returns-clause-quiet
 returns-clause-quiet g c = λ fine.
-    none_from _ _ _ _ _ _ _ _ c.in-Ok-apply_fills.ensures.quiet refl (c.apply_lines.ensures.quiet _ c.apply_fills.ensures.counted fine)
+    none_from _ _ _ _ _ _ _ _ c.in-Ok-prepare_all.ensures.quiet refl (c.apply_lines.ensures.quiet _ c.prepare_all.ensures.counted fine)
 
 -- the world was not opened: nothing more was read, and nothing written
 pub returns-in_default-opened-clause-quiet : goal.returns-in_default-opened-clause-quiet
 returns-in_default-opened-clause-quiet g c = λ fine. record {
-  reader_quiet = c.in-Ok-apply_fills.ensures.quiet;
+  reader_quiet = c.in-Ok-prepare_all.ensures.quiet;
   writer_quiet = refl;
-  count = c.apply_fills.new.ahead.count;
-  few = c.in-Ok-apply_fills.ensures.below;
-  read = has_read _ _ _ c.apply_fills.ensures.counted;
+  count = c.prepare_all.new.ahead.count;
+  few = c.in-Ok-prepare_all.ensures.below;
+  read = has_read _ _ _ c.prepare_all.ensures.counted;
 }

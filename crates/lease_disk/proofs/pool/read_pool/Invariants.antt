@@ -6,4 +6,4 @@ use Rattle.lease_disk.proofs.Reading.{Goes}
 use Rattle.lease_disk.proofs.pool.read_pool.Given as goal
 
 abbrev pub invariant-entries : goal.invariant-entries
-invariant-entries g l = Goes (λ i. if nat_lt i l.count then entry g.S.Slot.read (with_halves l.halves) (l.begin + i) else Some (saved_at 0 g.S.Slot.FREE)) 16 l.i l.entries
+invariant-entries g l = Goes (λ i. if nat_lt i l.count then entry g.S.Slot.read (with_halves l.halves) (l.begin + i) else Some (saved_at l.clock g.S.Slot.FREE)) 16 l.i l.entries

@@ -7,7 +7,7 @@ use Rattle.lease_disk.specs.Recovered.{recovered}
 use Rattle.lease_list.specs.declared.lease.Lease.{Lease}
 use Rattle.lease_list.specs.Lease.{leases_at}
 use Rattle.lease_list.specs.Line.{IsLeaseLine}
-use Rattle.lease_list.specs.Listing.{AreLines, closed_by}
+use Rattle.lease_list.specs.Listing.{AreLines}
 use Rattle.lease_list.proofs.listing.region_lines.Goals as goal
 
 pub returns-in-Some : goal.returns-in-Some
@@ -21,6 +21,6 @@ returns-in-Some c =
     let circuit : c.text_of.result.now ≡ part.id = c.text_of.ensures ∙ c.id.ensures in
     let listed : c.deref.result.now ≡ leases_at c.args.at part slots = c.deref.ensures.value ∙ c.in_ok-found.ensures in
     IfOk-weaker c.lease_lines.result _ _
-    (λ lines h. subst (λ o. AreLines part c.args.at c.args.form (closed_by bytes) o lines.items) (sym means)
+    (λ lines h. subst (λ o. AreLines part c.args.at c.args.form o lines.items) (sym means)
     (subst (λ leases. are part.id leases lines.items) listed (subst (λ id. are id c.deref.result.now lines.items) circuit h)))
     c.lease_lines.ensures

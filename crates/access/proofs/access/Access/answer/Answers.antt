@@ -36,6 +36,7 @@ before c = record {
   topology = c.self.inside.relays.topology;
   server = c.self.inside.server;
   disk = c.self.inside.disk;
+  formats = c.self.inside.formats.items;
   counts = c.self.inside.counts;
   taken = c.self.inside.taken.count;
   turns = c.self.inside.turns.count;
@@ -57,6 +58,7 @@ answered_by c sent is = record {
     topology = refl;
     served = c.receive-answer.ensures.topology;
     regions = writes_count false _ (device_of c.self.inside.disk) (device_of c.receive-answer.new.disk) c.receive-answer.ensures.frame;
+    formats = refl;
     turns = refl;
   };
   books = c.receive-answer.ensures.books;

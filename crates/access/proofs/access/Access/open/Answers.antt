@@ -1,7 +1,9 @@
 use Rattle.std.proofs.Common.{◌∙◌, length, sym, ap, subst, rules}
 use Rattle.std.proofs.lemmas.List.{length-map}
 use Rattle.config.specs.Topology.{Topology}
-use Rattle.access.specs.Sockets.{AreOwnRelays}
+use Rattle.config.specs.CircuitPart.{parts_of}
+use Rattle.dispatch.specs.Leases.{HasRegions}
+use Rattle.access.specs.Sockets.{AreOwnRelays, IsSocket, Refuses}
 use Rattle.access.proofs.access.Access.open.Goals as goal
 
 pub invariant_of-result : goal.invariant_of-result
@@ -16,4 +18,14 @@ invariant_of-result g c =
       search rules,
       search rules,
       subst (λ (t : Topology). AreOwnRelays t.relays t.circuits c.in-Ok-bind.sockets.circuits.items) (sym topology) bound.own,
+    )
+
+-- the device has as many regions as before it was opened
+pub returns-in-Err-Bind-clause-socket : goal.returns-in-Err-Bind-clause-socket
+returns-in-Err-Bind-clause-socket g c =
+    let config = c.args.config.now in
+    let why = c.in-Err-Bind in
+    let is_socket : IsSocket config c.args.port why.at = subst (Refuses (IsSocket config c.args.port)) why.field-0-is why.ensures.refused in (
+      subst (IsSocket config c.args.port) (sym why.at-is) is_socket,
+      subst (HasRegions (parts_of config)) c.open_server.ensures.count c.in-Ok.ensures.large,
     )

@@ -9,5 +9,6 @@ invariant-turns g l = record {
   topology : l.self.topology ≡ l.fn.self.topology;
   served : l.self.server.topology ≡ l.fn.self.server.topology;
   regions : l.self.disk.regions ≡ l.fn.self.disk.regions;
+  formats : l.self.formats ≡ l.fn.self.formats;
   closed : StayClosed l.fn.self.server l.self.server;
 }

@@ -64,7 +64,7 @@ returns-in-Err-clause-fails g c tells =
 pub returns-in-Err-clause-leases : goal.returns-in-Err-clause-leases
 returns-in-Err-clause-leases g c tells =
     let regions = (g.D.Disk.device c.args.disk.now).region in
-    leases_as (refusal g (goal.at.returns-in-Err-clause-leases g c).In-Err) regions regions (g.D.Disk.device c.args.disk.now).fuse (open_book c.tick.new.self) true refl (λ keeps. absurd cc) (λ changes. refl) refl
+    leases_as (refusal g (goal.at.returns-in-Err-clause-leases g c).In-Err) regions regions (g.D.Disk.device c.args.disk.now).fuse (open_book c.tick.new.self) true refl (λ keeps. absurd cc) (λ changes. refl) refl refl
 
 pub returns-in-Err-clause-writes : goal.returns-in-Err-clause-writes
 returns-in-Err-clause-writes g c =
@@ -89,7 +89,7 @@ returns-in-Ok-keep-clause-fails g c tells =
 pub returns-in-Ok-keep-clause-leases : goal.returns-in-Ok-keep-clause-leases
 returns-in-Ok-keep-clause-leases g c tells =
     leases_as (decision g (goal.at.returns-in-Ok-keep-clause-leases g c).After-keep) (g.D.Disk.device c.args.disk.now).region (g.D.Disk.device c.keep.new.disk).region (g.D.Disk.device c.args.disk.now).fuse (open_book c.keep.new.self) true c.keep.ensures.book
-    (c.keep.ensures.kept tells) (λ nothing. ap (λ (d : Device). d.region) (c.keep.ensures.stays nothing)) (sym (ap is_ok c.in-Ok-keep.is) ∙ c.keep.ensures.fails tells)
+    (c.keep.ensures.kept tells) (λ nothing. ap (λ (d : Device). d.region) (c.keep.ensures.stays nothing)) (sym (ap is_ok c.in-Ok-keep.is) ∙ c.keep.ensures.fails tells) (c.keep.ensures.formats tells)
 
 pub returns-in-Ok-keep-clause-writes : goal.returns-in-Ok-keep-clause-writes
 returns-in-Ok-keep-clause-writes g c =
@@ -113,7 +113,7 @@ returns-in-Err-keep-clause-fails g c tells =
 pub returns-in-Err-keep-clause-leases : goal.returns-in-Err-keep-clause-leases
 returns-in-Err-keep-clause-leases g c tells =
     leases_as (decision g (goal.at.returns-in-Err-keep-clause-leases g c).After-keep) (g.D.Disk.device c.args.disk.now).region (g.D.Disk.device c.keep.new.disk).region (g.D.Disk.device c.args.disk.now).fuse (open_book c.keep.new.self) false c.keep.ensures.book
-    (c.keep.ensures.kept tells) (λ nothing. ap (λ (d : Device). d.region) (c.keep.ensures.stays nothing)) (sym (ap is_ok c.in-Err-keep.is) ∙ c.keep.ensures.fails tells)
+    (c.keep.ensures.kept tells) (λ nothing. ap (λ (d : Device). d.region) (c.keep.ensures.stays nothing)) (sym (ap is_ok c.in-Err-keep.is) ∙ c.keep.ensures.fails tells) (c.keep.ensures.formats tells)
 
 pub returns-in-Err-keep-clause-writes : goal.returns-in-Err-keep-clause-writes
 returns-in-Err-keep-clause-writes g c =

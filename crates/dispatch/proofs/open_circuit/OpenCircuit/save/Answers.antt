@@ -1,6 +1,7 @@
-use Rattle.std.proofs.Common.{refl, sym, ap, subst, ◌∙◌, ◌≡◌, ℕ, arith, Ok, Err, Result, OnOk, OnErr}
+use Rattle.std.proofs.Common.{refl, sym, ap, subst, ◌∙◌, ◌≡◌, ℕ, true, arith, Ok, Err, Result, OnOk, OnErr}
 use Rattle.std.specs.Prelude.{[], ◌∷◌, Some, map}
 use Rattle.lease_disk.specs.Book.{IsBook}
+use Rattle.lease_disk.specs.Layout.{is_format2}
 use Rattle.lease_disk.specs.Recovered.{recovered}
 use Rattle.lease_disk.specs.Region.{Region, effective}
 use Rattle.lease_disk.specs.Save.{IsChange, IsSaved, IsLeft, AreMarks, gate_at, mark_at}
@@ -8,13 +9,14 @@ use Rattle.bindings_v4.specs.Slots4 as slots4
 use Rattle.bindings_v6.specs.Slots6 as slots6
 use Rattle.config.specs.CircuitPart.{pool4_of, pool6_of}
 use Rattle.dispatch.specs.CircuitDecision.{IsToSave}
-use Rattle.dispatch.specs.Leases.{book_in, counts_of, restarts_after, restarts_of}
+use Rattle.dispatch.specs.Leases.{book_in, counts_of, formats_of, restarts_after, restarts_of}
 use Rattle.dispatch.specs.Server.{Book, kept_book}
 use Rattle.dispatch.specs.ServerValue.{OpenCircuitValue, IsReadyFor, counts_in, kept_slots}
 use Rattle.bindings_v4.specs.Kept4.{book4_in}
 use Rattle.bindings_v6.specs.Kept6.{book6_in}
 use Rattle.types.specs.Slots.{live4, live6}
 use Rattle.types.specs.declared.slots.Slots.{Slots}
+use Rattle.dispatch.proofs.ComeBackLemmas.{formats_same}
 use Rattle.dispatch.proofs.SaveLemmas.{after_save, all_kept4, all_kept6}
 use Rattle.dispatch.proofs.open_circuit.OpenCircuit.save.Goals as goal
 
@@ -63,11 +65,11 @@ returns-clause-restarts g c tells =
     (subst (λ cs. OnOk c.save.result (IsSaved cs slots new)) counts saved)
     (subst (λ cs. OnErr c.save.result (IsLeft ((g.D.Disk.device c.args.disk.now).fuse region) (gate_at c.args.slot (mark_at inside.marks c.args.slot)) (Some to_save.slots) (Some slots) cs new)) counts left))
 
-ready_after : {T E : Type 0} (result : Result T E) (region : Region) (o : OpenCircuitValue) → OnOk result (IsSaved (counts_in o) (kept_slots o) region) → OnOk result (AreMarks (counts_in o) region.byte o.marks)
+ready_after : {T E : Type 0} (result : Result T E) (region : Region) (o : OpenCircuitValue) → OnOk result (IsSaved (counts_in o) (kept_slots o) region) → OnOk result (AreMarks (counts_in o) region.byte o.marks) → is_format2 region.byte ≡ true
     → map (live4 o.clock) (kept_slots o).four ≡ (kept_slots o).four → map (live6 o.clock) (kept_slots o).six ≡ (kept_slots o).six → OnOk result (IsReadyFor region (Some o))
-ready_after (Ok x) region o saved marks four six =
-    (saved.clean, marks, record { slots = kept_slots o; recovers = saved.kept; later = omega arith; four = four; six = six })
-ready_after (Err e) region o saved marks four six = tt
+ready_after (Ok x) region o saved marks format four six =
+    (saved.clean, marks, record { slots = kept_slots o; recovers = saved.kept; later = omega arith; four = four; six = six }, format)
+ready_after (Err e) region o saved marks format four six = tt
 
 pub returns-clause-ready : goal.returns-clause-ready
 returns-clause-ready g c tells =
@@ -96,5 +98,12 @@ returns-clause-ready g c tells =
     } in
     let saved = subst (λ s. OnOk c.save.result (IsSaved (counts_in o) s new)) to_save.kept (c.save.ensures.ok tells (counts_in o) to_save.slots to_save.recovers change) in
     subst (λ m. OnOk c.save.result (IsReadyFor ((g.D.Disk.device c.save.new.disk).region m) (Some n))) c.region-region.ensures
-    (ready_after c.save.result new n saved (c.save.ensures.marks tells (counts_in o) to_save.marks)
+    (ready_after c.save.result new n saved (c.save.ensures.marks tells (counts_in o) to_save.marks) (c.save.ensures.format tells)
     (all_kept4 inside.clock (kept_slots o).four c.keeps_a_book.ensures.live) (all_kept6 inside.clock (kept_slots o).six c.keeps_a_book-2.ensures.live))
+
+pub returns-clause-formats : goal.returns-clause-formats
+returns-clause-formats g c tells =
+    let old = (g.D.Disk.device c.args.disk.now).region in
+    let new = (g.D.Disk.device c.save.new.disk).region in
+    subst (λ n. formats_of (new n) ≡ formats_of (old n)) c.region-region.ensures
+    (formats_same c.args.slot (mark_at c.self.inside.marks c.args.slot) (old c.region-region.result) (new c.region-region.result) (c.save.ensures.beside tells))

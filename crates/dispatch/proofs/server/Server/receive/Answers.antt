@@ -8,7 +8,7 @@ use Rattle.config.specs.CircuitPart.{CircuitPart}
 use Rattle.config.specs.Topology.{Topology}
 use Rattle.lease_disk.specs.Device.{WritesAt}
 use Rattle.requests.specs.Addressee.{addressee}
-use Rattle.dispatch.specs.Leases.{addressee_leases, received_leases, restarts_of}
+use Rattle.dispatch.specs.Leases.{addressee_leases, formats_of, received_leases, restarts_of}
 use Rattle.dispatch.specs.Received.{Received, IsAnswer, addressee_answered, addressee_saves, fails_at, received, received_saves}
 use Rattle.dispatch.specs.ServerValue.{CircuitServerValue, HasItsPools, IsReady, IsReadyFor, OpenCircuitValue, ServerValue, book_of, books_in, circuits_in, leases_in, leases_of, part_of, with_states}
 use Rattle.dispatch.specs.Deadlines.{HoldsDeadlines}
@@ -149,6 +149,7 @@ invariant_of-self g c = (
   },
   subst (HoldsDeadlines c.answer.new.table) (sym c.answer.ensures.others)
       (one_held c.index-index.result c.self.inside.deadlines c.answer.new.table c.self.inside.servers (answered_state g c) (within g c) c.self.invariant.1 c.answer.ensures.deadlines c.answer.ensures.beside),
+  c.self.invariant.2,
 )
 
 pub returns-clause-topology : goal.returns-clause-topology
@@ -217,7 +218,7 @@ returns-clause-leases g c tells =
     ap (map (leases_of later)) (written g c)
     ∙ subst P c.self.view_is
     (one_moved (leases_of regions) (leases_of later) items k new
-    (λ n y there apart. λ i. record { book = book_of y; restarts = restarts_of y.part (c.answer.ensures.frame.region tells y.part.region (elsewhere g c n y there apart) i) })
+    (λ n y there apart. λ i. let r = c.answer.ensures.frame.region tells y.part.region (elsewhere g c n y there apart) i in record { book = book_of y; restarts = restarts_of y.part r; is_new = formats_of r })
     ∙ ap (set (map (leases_of regions) items) k) (c.answer.ensures.leases tells)
     ∙ sym (leases_at (topology g c) (asks g c) k x.part (found g c) (there_in g c) faults (map (leases_of regions) items) (leases_of regions x) (its (leases_of regions) g c)))
 

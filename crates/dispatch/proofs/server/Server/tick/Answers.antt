@@ -20,6 +20,7 @@ invariant_of-self c =
         pools = subst (λ xs. All HasItsPools (with_states parts xs)) (sym c.tick.ensures) (all_pools_after_tick c.args.now parts states c.self.invariant.0.pools);
       },
       same_slots left c.sweep.new.self c.tick.new.self c.sweep.ensures.slots (subst (HoldsDeadlines left) (sym c.tick.ensures) (held_after_tick c.args.now c.self.inside.deadlines states c.self.invariant.1)),
+      c.self.invariant.2,
     )
 
 pub returns-clause-topology : goal.returns-clause-topology

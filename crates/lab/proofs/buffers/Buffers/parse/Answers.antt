@@ -6,6 +6,6 @@ use Rattle.lab.proofs.buffers.Buffers.parse.Goals as goal
 pub returns : goal.returns
 returns c = record {
   means =
-      subst (Means c.parse_line.result c.parse_line.new.bytes c.parse_line.new.images) (short_is c.args.config.now c.args.line.now c.requires) c.parse_line.ensures.value;
+      subst (Means c.parse_line.result c.parse_line.new.bytes c.parse_line.new.comebacks) (short_is c.args.config.now c.args.line.now c.requires) c.parse_line.ensures.value;
   within = c.parse_line.ensures.within;
 }

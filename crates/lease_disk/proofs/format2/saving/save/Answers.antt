@@ -1,8 +1,9 @@
 use Rattle.std.proofs.Common.{rules, refl, ap, ◌∙◌}
-use Rattle.std.specs.Prelude.{drop}
+use Rattle.std.specs.Prelude.{drop, ◌==◌}
 use Rattle.lease_disk.specs.Layout.{half_at}
-use Rattle.lease_disk.specs.Save.{mark_at}
+use Rattle.lease_disk.specs.Save.{mark_at, other}
 use Rattle.lease_disk.proofs.Exits.{on_err, slice_behind, exit_closing, exit_writing, exit_opening, exit_saved, exit_marks, exit_bytes, exit_beside, saved_beside}
+use Rattle.lease_disk.proofs.Halves.{format_apart}
 use Rattle.lease_disk.proofs.format2.saving.save.Goals as goal
 
 pub returns-in_err-close-clause-err : goal.returns-in_err-close-clause-err
@@ -10,6 +11,7 @@ returns-in_err-close-clause-err g c = λ tells counts slots was change.
     on_err _ (exit_closing c.args.slot (mark_at c.args.marks.now c.args.slot) c.half_at-at.result c.sequence_after-sequence.result c.args.clock c.args.content.now c.write_half-bytes.result.items (drop 1 c.write_half-bytes.result.items) ((g.D.Disk.device c.args.disk.now).region c.args.region)
     (record {
       at_is = c.half_at-at.ensures.place ∙ ap (half_at c.args.slot) c.other-half.ensures;
+      two = c.requires.format tells;
       mark_is = c.requires.mark tells;
       clean = c.requires.clean tells;
       whole_is = c.write_half-bytes.ensures.bytes;
@@ -27,6 +29,7 @@ returns-in_err-write_body-clause-err g c = λ tells counts slots was change.
     on_err _ (exit_writing c.args.slot (mark_at c.args.marks.now c.args.slot) c.half_at-at.result c.sequence_after-sequence.result c.args.clock c.args.content.now c.write_half-bytes.result.items _ ((g.D.Disk.device c.args.disk.now).region c.args.region)
     (record {
       at_is = c.half_at-at.ensures.place ∙ ap (half_at c.args.slot) c.other-half.ensures;
+      two = c.requires.format tells;
       mark_is = c.requires.mark tells;
       clean = c.requires.clean tells;
       whole_is = c.write_half-bytes.ensures.bytes;
@@ -45,6 +48,7 @@ returns-in_err-open_gate-clause-err g c = λ tells counts slots was change.
     on_err _ (exit_opening c.args.slot (mark_at c.args.marks.now c.args.slot) c.half_at-at.result c.sequence_after-sequence.result c.args.clock c.args.content.now c.write_half-bytes.result.items _ ((g.D.Disk.device c.args.disk.now).region c.args.region)
     (record {
       at_is = c.half_at-at.ensures.place ∙ ap (half_at c.args.slot) c.other-half.ensures;
+      two = c.requires.format tells;
       mark_is = c.requires.mark tells;
       clean = c.requires.clean tells;
       whole_is = c.write_half-bytes.ensures.bytes;
@@ -64,6 +68,7 @@ returns-in_err-open_gate-clause-beside g c = λ tells.
     exit_beside c.args.slot (mark_at c.args.marks.now c.args.slot) c.half_at-at.result c.sequence_after-sequence.result c.args.clock c.args.content.now c.write_half-bytes.result.items _ ((g.D.Disk.device c.args.disk.now).region c.args.region)
     (record {
       at_is = c.half_at-at.ensures.place ∙ ap (half_at c.args.slot) c.other-half.ensures;
+      two = c.requires.format tells;
       mark_is = c.requires.mark tells;
       clean = c.requires.clean tells;
       whole_is = c.write_half-bytes.ensures.bytes;
@@ -83,6 +88,7 @@ returns-clause-ok g c = λ tells counts slots was change.
     exit_saved c.args.slot (mark_at c.args.marks.now c.args.slot) c.half_at-at.result c.sequence_after-sequence.result c.args.clock c.args.content.now c.write_half-bytes.result.items _ ((g.D.Disk.device c.args.disk.now).region c.args.region)
     (record {
       at_is = c.half_at-at.ensures.place ∙ ap (half_at c.args.slot) c.other-half.ensures;
+      two = c.requires.format tells;
       mark_is = c.requires.mark tells;
       clean = c.requires.clean tells;
       whole_is = c.write_half-bytes.ensures.bytes;
@@ -103,6 +109,7 @@ returns-clause-bytes g c = λ tells.
     exit_bytes c.args.slot (mark_at c.args.marks.now c.args.slot) c.half_at-at.result c.sequence_after-sequence.result c.args.clock c.args.content.now c.write_half-bytes.result.items _ ((g.D.Disk.device c.args.disk.now).region c.args.region)
     (record {
       at_is = c.half_at-at.ensures.place ∙ ap (half_at c.args.slot) c.other-half.ensures;
+      two = c.requires.format tells;
       mark_is = c.requires.mark tells;
       clean = c.requires.clean tells;
       whole_is = c.write_half-bytes.ensures.bytes;
@@ -122,6 +129,7 @@ returns-clause-marks g c = λ tells counts are.
     exit_marks c.args.slot (mark_at c.args.marks.now c.args.slot) c.half_at-at.result c.sequence_after-sequence.result c.args.clock c.args.content.now c.write_half-bytes.result.items _ ((g.D.Disk.device c.args.disk.now).region c.args.region)
     (record {
       at_is = c.half_at-at.ensures.place ∙ ap (half_at c.args.slot) c.other-half.ensures;
+      two = c.requires.format tells;
       mark_is = c.requires.mark tells;
       clean = c.requires.clean tells;
       whole_is = c.write_half-bytes.ensures.bytes;
@@ -142,6 +150,7 @@ returns-clause-beside g c = λ tells.
     saved_beside c.args.slot (mark_at c.args.marks.now c.args.slot) c.half_at-at.result c.sequence_after-sequence.result c.args.clock c.args.content.now c.write_half-bytes.result.items _ ((g.D.Disk.device c.args.disk.now).region c.args.region)
     (record {
       at_is = c.half_at-at.ensures.place ∙ ap (half_at c.args.slot) c.other-half.ensures;
+      two = c.requires.format tells;
       mark_is = c.requires.mark tells;
       clean = c.requires.clean tells;
       whole_is = c.write_half-bytes.ensures.bytes;
@@ -155,3 +164,8 @@ returns-clause-beside g c = λ tells.
     ((g.D.Disk.device c.close.new.disk).region c.args.region) (c.in_ok-close.ensures.ok tells)
     ((g.D.Disk.device c.write_body.new.disk).region c.args.region) (c.in_ok-write_body.ensures.ok tells)
     ((g.D.Disk.device c.open_gate.new.disk).region c.args.region) (c.in_ok-open_gate.ensures.ok tells)
+
+pub returns-clause-format : goal.returns-clause-format
+returns-clause-format g c = λ tells.
+    let same = (returns-clause-beside g c tells).byte 8192 (format_apart c.args.slot (other (mark_at c.args.marks.now c.args.slot).half)) in
+    (λ j. same j == 2) ∙ c.requires.format tells

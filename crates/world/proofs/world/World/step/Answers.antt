@@ -1,5 +1,5 @@
 use Rattle.std.proofs.Common.{length, refl, ap}
-use Rattle.events.specs.Seen.{Frame, Up, Down, Tick, Restart, image_at, seen_of, named_by}
+use Rattle.events.specs.Seen.{Frame, Up, Down, Tick, Restart, comeback_at, seen_of, named_by}
 use Rattle.events.specs.Stray.{is_stray}
 use Rattle.world.specs.World.{states}
 use Rattle.world.proofs.CircuitSteps.{named_steps, missing, gone_steps, all_steps, stray_steps}
@@ -52,7 +52,7 @@ returns-in-Tick-clause-steps c =
 
 pub returns-in-Restart-clause-steps : goal.returns-in-Restart-clause-steps
 returns-in-Restart-clause-steps c =
-    all_steps c.args.event.now (λ n. Restart (image_at n c.in-Restart.images.now)) (states c.args.self.now) (states c.restart.new.self) c.restart.result c.restart.new.out
+    all_steps c.args.event.now (λ n. Restart (comeback_at n c.in-Restart.comebacks.now)) (states c.args.self.now) (states c.restart.new.self) c.restart.result c.restart.new.out
     (λ n. ap (seen_of n) c.in-Restart.is) (ap named_by c.in-Restart.is) c.restart.ensures.moves c.restart.ensures.done c.restart.ensures.empty
 
 pub returns-in-StrayUp-clause-steps : goal.returns-in-StrayUp-clause-steps

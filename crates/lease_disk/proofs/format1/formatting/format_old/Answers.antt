@@ -1,0 +1,17 @@
+use Rattle.std.proofs.Common.{rules}
+use Rattle.lease_disk.proofs.FormatLemmas.{on_ok, on_err, at_err, is_formatted_old, old_left_first, old_left_last}
+use Rattle.lease_disk.proofs.format1.formatting.format_old.Goals as goal
+
+pub returns-in_err-write_synced-clause-err : goal.returns-in_err-write_synced-clause-err
+returns-in_err-write_synced-clause-err g c = λ tells.
+    at_err c.from_residual.result (old_left_first ((g.D.Disk.device c.args.disk.now).fuse c.args.region) ((g.D.Disk.device c.write_synced.new.disk).region c.args.region) (c.in_err-write_synced.ensures.answer tells))
+
+pub returns-clause-ok : goal.returns-clause-ok
+returns-clause-ok g c = λ tells.
+    on_ok c.write_synced-2.result (is_formatted_old c.closed_banks.new.bytes ((g.D.Disk.device c.args.disk.now).region c.args.region) ((g.D.Disk.device c.write_synced.new.disk).region c.args.region) ((g.D.Disk.device c.write_synced-2.new.disk).region c.args.region)
+    (search rules) c.closed_banks.ensures (c.in_ok-write_synced.ensures.ok tells)) (c.write_synced-2.ensures.ok tells)
+
+pub returns-clause-err : goal.returns-clause-err
+returns-clause-err g c = λ tells.
+    on_err c.write_synced-2.result (old_left_last ((g.D.Disk.device c.args.disk.now).fuse c.args.region) c.closed_banks.new.bytes ((g.D.Disk.device c.args.disk.now).region c.args.region) ((g.D.Disk.device c.write_synced.new.disk).region c.args.region) ((g.D.Disk.device c.write_synced-2.new.disk).region c.args.region)
+    (search rules) c.closed_banks.ensures (c.in_ok-write_synced.ensures.ok tells)) (c.write_synced-2.ensures.err tells)

@@ -1,0 +1,86 @@
+-- Moving a region from format 1 to format 2.
+use Rattle.std.specs.Prelude.{◌≡◌, ◌<◌, ◌≤◌, ◌⊎◌, ℕ, ◌+◌, ◌-◌, ◌/◌, ◌%◌, ◌==◌, Bool, true, false, not, ◌&&◌, ◌||◌, nat_le, nat_lt, is_some, if◌then◌else◌, List, slice_index, slice_index_or, Option, Some, None, Result, Ok, Err}
+use Rattle.types.specs.declared.slot4.Slot4.TheVariants as S4
+use Rattle.types.specs.declared.slots.Slot6.TheVariants as S6
+use Rattle.types.specs.declared.slots.Slots.{Slots}
+use Rattle.lease_disk.specs.declared.content.Content.{Content}
+use Rattle.lease_disk.specs.declared.content.Content.TheVariants.{Four, Six}
+use Rattle.lease_disk.specs.declared.recovering.RecoverFault.{RecoverFault}
+use Rattle.lease_disk.specs.declared.recovering.RecoverFault.TheVariants.{DiskFault, Damaged}
+use Rattle.lease_disk.specs.HalfBytes.{half_bytes}
+use Rattle.lease_disk.specs.Layout.{is_format2}
+use Rattle.lease_disk.specs.Recovered.{recovered}
+use Rattle.lease_disk.specs.Region.{Region, effective, synced, written, IsClean, IsCrash, IsTorn}
+
+-- What is written
+
+abbrev pub content_at : Slots → ℕ → Content
+content_at slots s = if nat_lt s 16 then Four (slice_index_or slots.four s S4.Free) else Six (slice_index_or slots.six (s - 16) S6.Free)
+
+-- the halves of all slots, one after the other: each slot's first half is open with sequence 0, the kept clock and what
+-- the slot holds, and its second half is 0
+abbrev pub moved_half : Slots → ℕ → ℕ
+moved_half slots i = if nat_lt (i % 512) 256 then slice_index (half_bytes 0 slots.clock (content_at slots (i / 512))) (i % 512) else 0
+
+abbrev pub moved : Slots → (ℕ → ℕ) → ℕ → ℕ
+moved slots region i = if i == 8192 then 2 else if nat_le 16384 i && nat_lt i 32768 then moved_half slots (i - 16384) else region i
+
+-- What is answered
+
+-- a region is moved where it is of format 1, can be read and is not damaged
+abbrev pub moves : List ℕ → Region → Bool
+moves counts r = r.readable && is_some (recovered counts r.byte) && not (is_format2 r.byte)
+
+-- it succeeds, where the k-th of the calls from now on fails, and none where k is 0
+abbrev pub succeeds : List ℕ → ℕ → Region → Bool
+succeeds counts k r = r.readable && is_some (recovered counts r.byte) && (is_format2 r.byte || effective 4 k == 0)
+
+-- why it does not
+abbrev pub refusal : List ℕ → Region → RecoverFault
+refusal counts r = if r.readable && not (is_some (recovered counts r.byte)) then Damaged else DiskFault
+
+-- the count of failures: a fault of the device raises it by one, and nothing else does
+abbrev pub move_faults : {T : Type 0} → Result T RecoverFault → ℕ → ℕ
+move_faults (Ok done) failures = failures
+move_faults (Err Damaged) failures = failures
+move_faults (Err DiskFault) failures = failures + 1
+
+-- What is left
+
+-- the bytes afterwards: of format 2
+abbrev pub moved_of : Option Slots → (ℕ → ℕ) → ℕ → ℕ
+moved_of None region = region
+moved_of (Some slots) region = moved slots region
+
+abbrev pub migrated : List ℕ → (ℕ → ℕ) → ℕ → ℕ
+migrated counts region = if is_format2 region then region else moved_of (recovered counts region) region
+
+-- After two writes, each with its sync, of which the k-th call failed: while the halves are written byte 8192 stays, and
+-- then it alone is in doubt.
+abbrev pub InDoubt : Bool → List ℕ → Region → Region → Type 0
+InDoubt false halves old new = IsTorn 16384 16384 old new
+InDoubt true halves old new = IsTorn 8192 1 (synced (written 16384 halves old)) new
+
+abbrev pub IsHalfMoved : ℕ → List ℕ → Region → Region → Type 0
+IsHalfMoved k = InDoubt (nat_le 3 k)
+
+-- a pool has an address, so that a region of format 2 has a clock
+abbrev pub HasAddress : List ℕ → Type 0
+HasAddress counts = (1 ≤ slice_index counts 0) ⊎ (1 ≤ slice_index counts 1)
+
+-- A region after a move of which the k-th call of the device fails, and none where k is 0. No byte was unsynced before.
+pub record IsMigrated (counts : List ℕ) (k : ℕ) (old new : Region) : Type 0 where
+  -- whatever the unsynced bytes become, it recovers to the same book
+  pub kept : HasAddress counts → (f : ℕ → ℕ) → IsCrash new f → recovered counts f ≡ recovered counts old.byte
+  -- nothing is written where nothing is moved
+  pub still : moves counts old ≡ false → new ≡ old
+  -- once it is moved each byte is known, and none is unsynced
+  pub bytes : moves counts old ≡ true → effective 4 k ≡ 0 → new.byte ≡ migrated counts old.byte
+  pub clean : moves counts old ≡ true → effective 4 k ≡ 0 → IsClean new
+  pub is_new : moves counts old ≡ true → effective 4 k ≡ 0 → is_format2 new.byte ≡ true
+  -- byte 8192 is in doubt where the third or fourth call failed, and else it and all that format 1 uses are as they were
+  pub doubt : moves counts old ≡ true → (effective 4 k ≡ 0 → ⊥) → new.unsynced 8192 ≡ nat_le 3 k
+  pub format : moves counts old ≡ true → (effective 4 k ≡ 0 → ⊥) → nat_le 3 k ≡ false → new.byte 8192 ≡ old.byte 8192
+  pub beside : (i : ℕ) → i < 16384 → (i == 8192) ≡ false → new.byte i ≡ old.byte i
+  pub sure : (i : ℕ) → i < 16384 → (i == 8192) ≡ false → new.unsynced i ≡ false
+  pub readable : new.readable ≡ old.readable

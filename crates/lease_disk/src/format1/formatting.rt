@@ -1,0 +1,41 @@
+//! Formatting a region as earlier versions did.
+ghost use Rattle.std.specs.Prelude.{◌≡◌, ◌<◌, ◌≤◌, ◌+◌, ◌-◌, ◌==◌, ℕ, true, length, is_ok, slice_index, if◌then◌else◌, OnOk, OnErr};
+ghost use Rattle.lease_disk.specs.Crash.{IsFormattedOld, IsHalfFormattedOld};
+ghost use Rattle.lease_disk.specs.Device.{Touches};
+ghost use Rattle.lease_disk.specs.Region.{effective, faults_after};
+
+use crate::bytes::{overwrite, put};
+use crate::device::{Disk, Fault, REGION};
+use crate::formats::{FORMAT_AT, OLD_FORMAT};
+use crate::half::GATE_OPEN;
+use crate::writing::write_synced;
+
+/// Writes what a formatted region has before the gate of its first bank is opened.
+fn closed_banks(bytes: &mut [u8])
+    requires { length bytes.old ≡ 32768 }
+    ensures { (i : ℕ) → slice_index bytes.new i ≡ (if i == 8192 then 1 else 0) }
+{
+    overwrite(bytes, 0);
+    put(bytes, FORMAT_AT, &[OLD_FORMAT]);
+}
+
+/// Formats a region in format 1, whatever it holds: an empty book at clock 0. The gate of its first bank is
+/// opened last: until then it is damaged, wherever the device stops.
+pub fn format_old<D: Disk>(region: u16, disk: &mut D) -> Result<(), Fault>
+    requires { region < (D.device disk.old).count }
+    ensures ok { D.tells ≡ true → OnOk result (IsFormattedOld ((D.device disk.new).region region)) }
+    ensures err { D.tells ≡ true → OnErr result (IsHalfFormattedOld ((D.device disk.old).fuse region) ((D.device disk.new).region region)) }
+    ensures readable { D.tells ≡ true → ((D.device disk.new).region region).readable ≡ ((D.device disk.old).region region).readable }
+    ensures answer { D.tells ≡ true → is_ok result ≡ (effective 4 ((D.device disk.old).fuse region) == 0) }
+    ensures fuse { D.tells ≡ true → OnOk result ((D.device disk.new).fuse region ≡ (D.device disk.old).fuse region - 4) }
+    ensures frame { Touches D.tells region (D.device disk.old) (D.device disk.new) }
+    ensures writes { OnOk result ((D.device disk.new).writes ≡ (D.device disk.old).writes + 4) }
+    ensures most { (D.device disk.new).writes ≤ (D.device disk.old).writes + 4 }
+    ensures last { D.tells ≡ true → OnErr result ((D.device disk.new).writes ≡ (D.device disk.old).writes + (D.device disk.old).fuse region) }
+    ensures failures { (D.device disk.new).failures ≡ faults_after result (D.device disk.old).failures }
+{
+    let mut bytes = [0; REGION];
+    closed_banks(&mut bytes);
+    write_synced(region, disk, 0, &bytes)?;
+    write_synced(region, disk, 0, &[GATE_OPEN])
+}
