@@ -40,6 +40,11 @@ def frame(pick, circuit):
     return (4, frame4(pick, circuit)) if pick.random() < 0.5 else (6, frame6(pick, circuit))
 
 
+def is_event(line):
+    """Whether something is written for it: not for a line before all events."""
+    return not line.startswith(("old ", "move "))
+
+
 def write(lines):
     """Writes the lines that the command line asks for, of those that `lines` gives for so many circuits."""
     words = sys.argv[1:]
