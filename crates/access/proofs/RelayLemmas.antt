@@ -1,12 +1,15 @@
--- A circuit's sockets use the socket of its own relay.
+-- A circuit's sockets use the socket of its own relay, and each circuit is served.
 use Rattle.std.proofs.Common.{◌≡◌, ◌∙◌, ◌<◌, ℕ, zero, suc, List, [], ◌∷◌, ◌++◌, length, map, refl, sym, ap, subst, arith}
-use Rattle.std.specs.Prelude.{Some, slice_get, option_map}
+use Rattle.std.specs.Prelude.{Bool, false, true, Some, slice_get, slice_index_or, option_map}
+use Rattle.std.proofs.lemmas.List.{get_or-replicate, length-map}
 use Rattle.std.proofs.lemmas.Option.{same_Some, slice_get-map}
 use Rattle.types.specs.declared.addr.Source.{Source}
 use Rattle.settings.specs.Settings.{Settings}
 use Rattle.settings.specs.declared.settings.CircuitConfig.{CircuitConfig}
 use Rattle.settings.specs.declared.settings.RelayConfig.{RelayConfig}
 use Rattle.config.specs.CircuitPart.{CircuitPart, part_in, part_of, source_at}
+use Rattle.config.specs.Topology.{topology_of}
+use Rattle.access.specs.Access.{ServesEach}
 use Rattle.access.specs.Sockets.{AreOwnRelays}
 use Rattle.access.specs.declared.sockets.CircuitSockets.{CircuitSockets}
 
@@ -32,3 +35,9 @@ own_pushed relays parts [] next own new (suc c) part sockets there is = absurd c
 own_pushed relays [] (s ∷ rest) next own new c part sockets there is = absurd cc
 own_pushed relays (p ∷ ps) (s ∷ rest) next own new zero part sockets there is = own zero part sockets there is
 own_pushed relays (p ∷ ps) (s ∷ rest) next own new (suc c) part sockets there is = own_pushed relays ps rest next (λ k. own (suc k)) new c part sockets there is
+
+-- a configuration alone serves each of its circuits
+pub serves_each : (settings : Settings) → ServesEach (topology_of settings)
+serves_each settings c within =
+    let there : c < length settings.circuits = subst (λ n. c < n) (length-map settings.circuits _) within in
+    ap (λ (members : List Bool). slice_index_or members 0 false) (get_or-replicate (length settings.circuits) c (true ∷ []) [] there)

@@ -1,5 +1,5 @@
 -- What shows of relay and server over sockets, and what a turn does.
-use Rattle.std.specs.Prelude.{◌≡◌, ◌≤◌, ◌+◌, ◌⊎◌, ℕ, All, Bool, true, false, List, length, map, Option, Some, None, option_map, slice_get, nat_le, nat_lt, Result, Ok, Err, ⊤, if◌then◌else◌}
+use Rattle.std.specs.Prelude.{◌≡◌, ◌≤◌, ◌<◌, ◌+◌, ◌⊎◌, ℕ, All, Bool, true, false, List, length, map, Option, Some, None, option_map, slice_get, nat_le, nat_lt, Result, Ok, Err, ⊤, if◌then◌else◌}
 use Rattle.types.specs.Delivery.{delivery}
 use Rattle.types.specs.declared.addr.Source.{Source}
 use Rattle.types.specs.declared.dest.Proto.{Proto}
@@ -9,7 +9,7 @@ use Rattle.lease_disk.specs.FileDisk.{FileDiskValue}
 use Rattle.dispatch.specs.Received.{received}
 use Rattle.dispatch.specs.Server.{Book, book_at}
 use Rattle.dispatch.specs.ServerValue.{ServerValue, books_in}
-use Rattle.config.specs.Topology.{Topology}
+use Rattle.config.specs.Topology.{Topology, serves}
 use Rattle.access.specs.Counts.{counted, counted_all}
 use Rattle.access.specs.declared.counts.Counts.{Counts}
 use Rattle.access.specs.declared.counts.Outcome.{Outcome}
@@ -27,6 +27,10 @@ pub record AccessValue : Type 0 where
   -- how many datagrams were taken from sockets, and how many turns were made
   pub taken : ℕ
   pub turns : ℕ
+
+-- each circuit is served
+abbrev pub ServesEach : Topology → Type 0
+ServesEach topology = (c : ℕ) → c < length topology.circuits → serves topology c ≡ true
 
 -- ---- the clock
 

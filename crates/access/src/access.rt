@@ -70,7 +70,7 @@ pub struct Access {
 
 impl Model for Access {
     ghost use Rattle.std.specs.Prelude.{◌≡◌, ◌≤◌, ◌<◌, length, All};
-    ghost use Rattle.access.specs.Access.{AccessValue};
+    ghost use Rattle.access.specs.Access.{AccessValue, ServesEach};
     ghost use Rattle.access.specs.Sockets.{AreOwnRelays};
     ghost use Rattle.dispatch.specs.Leases.{HasRegions};
 
@@ -78,8 +78,8 @@ impl Model for Access {
 
     ghost view = { λ a. record { topology = a.relays.topology; server = a.server; disk = a.disk; formats = a.formats.items; counts = a.counts; taken = a.taken.count; turns = a.turns.count } };
 
-    // each circuit and each relay has its sockets, each circuit its own relay's and a region
-    ghost invariant = { λ a. (length a.sockets.circuits.items ≡ length a.relays.topology.circuits) × (length a.sockets.circuits.items ≤ 16) × All (λ circuit. circuit.relay < length a.sockets.relays.items) a.sockets.circuits.items × (length a.sockets.relays.items ≡ length a.relays.topology.relays) × (length a.sockets.relays.items ≤ 8) × HasRegions a.server.topology.circuits a.disk.regions × AreOwnRelays a.relays.topology.relays a.relays.topology.circuits a.sockets.circuits.items };
+    // each circuit and each relay has its sockets, each circuit its own relay's and a region, and each circuit is served
+    ghost invariant = { λ a. (length a.sockets.circuits.items ≡ length a.relays.topology.circuits) × (length a.sockets.circuits.items ≤ 16) × All (λ circuit. circuit.relay < length a.sockets.relays.items) a.sockets.circuits.items × (length a.sockets.relays.items ≡ length a.relays.topology.relays) × (length a.sockets.relays.items ≤ 8) × HasRegions a.server.topology.circuits a.disk.regions × AreOwnRelays a.relays.topology.relays a.relays.topology.circuits a.sockets.circuits.items × ServesEach a.relays.topology };
 }
 
 impl Access {

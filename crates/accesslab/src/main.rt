@@ -1,10 +1,10 @@
 //! Reads events from standard input, one per line, and writes their outcomes to standard output.
 #![tactic(auto)]
 
-ghost use Rattle.std.specs.Prelude.{◌≤◌};
+ghost use Rattle.std.specs.Prelude.{◌≤◌, length};
 ghost use Rattle.accesslab.specs.Status.{IsExitStatus};
 
-use command_line::{FAILED, UNOPENED, complain, given_words, read_configuration};
+use command_line::{FAILED, UNOPENED, complain, given_words, read_plans};
 use lab::{LabWords, StdReader, StdWriter};
 use std::io::{self, BufWriter, Write};
 use std::process::ExitCode;
@@ -13,10 +13,12 @@ use std::process::ExitCode;
 fn run(rt: &HostRuntime, values: LabWords<'_>) -> u8
     requires least { 1 ≤ values.quota }
     requires most { values.quota ≤ 256 }
+    requires some { 1 ≤ length values.configs.items }
+    requires few { length values.configs.items ≤ 8 }
     ensures { IsExitStatus result }
 {
-    let config = match read_configuration(rt, values.config) {
-        Ok(config) => config,
+    let plans = match read_plans(rt, &values.configs) {
+        Ok(plans) => plans,
         Err(status) => return status,
     };
     let alloc = rt.alloc();
@@ -25,7 +27,7 @@ fn run(rt: &HostRuntime, values: LabWords<'_>) -> u8
     };
     let mut reader = StdReader::new(rt.reader());
     let mut writer = StdWriter::new(writer);
-    let status = lab::run(alloc, &config, values.quota, &mut reader, &mut writer);
+    let status = lab::run(alloc, &plans, values.quota, &mut reader, &mut writer);
     if status == UNOPENED {
         return complain(rt, "open memory", UNOPENED);
     }

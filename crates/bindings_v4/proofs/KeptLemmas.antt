@@ -128,7 +128,7 @@ unoffered_bound (Some (Bound k u)) = refl
 unoffered_bound (Some (Offered k u)) = refl
 unoffered_bound (Some (Barred u)) = refl
 
-unoffered_offered : (s : Option (Holder (List ℕ))) → offered_to (unoffered s) ≡ None
+pub unoffered_offered : (s : Option (Holder (List ℕ))) → offered_to (unoffered s) ≡ None
 unoffered_offered None = refl
 unoffered_offered (Some (Bound k u)) = refl
 unoffered_offered (Some (Offered k u)) = refl
@@ -140,6 +140,15 @@ unoffered_barred (Some (Bound k u)) = refl
 unoffered_barred (Some (Offered k u)) = refl
 unoffered_barred (Some (Barred u)) = refl
 
+-- slots that hold what others hold but for the offers show their book without its offers
+pub book_without_offers : (a : ℕ) (xs ys : Holders4) → ((i : ℕ) → get_or xs i None ≡ unoffered (get_or ys i None)) → book_of_slots a xs ≡ kept_book (book_of_slots a ys)
+book_without_offers a xs ys same =
+    λ j. record {
+      bindings = leases_by key4_is_key bound_to refl a xs ys (λ i. ap bound_to (same i) ∙ unoffered_bound _) j;
+      offers = leases_by key4_is_key offered_to refl a xs [] (λ i. ap offered_to (same i) ∙ unoffered_offered _) j;
+      bars = bars_by a xs ys (λ i. ap barred_until (same i) ∙ unoffered_barred _) j;
+    }
+
 module _ (a t : ℕ) (ss : Holders4) (d : AreDistinct bytes_eq ss) where
   abbrev again : Holders4
   again = map (held form4 t) (kept_slots t ss)
@@ -148,16 +157,8 @@ module _ (a t : ℕ) (ss : Holders4) (d : AreDistinct bytes_eq ss) where
   unoffered_at : (i : ℕ) → get_or (live_slots t again) i None ≡ unoffered (get_or (live_slots t ss) i None)
   unoffered_at i = again_at form4 t ss i ∙ ap unoffered (sym (get_or-map (live t) ss i None))
 
-  kept_again : book_of_slots a (live_slots t again) ≡ kept_book (book_of_slots a (live_slots t ss))
-  kept_again =
-      λ j. record {
-        bindings = leases_by key4_is_key bound_to refl a (live_slots t again) (live_slots t ss) (λ i. ap bound_to (unoffered_at i) ∙ unoffered_bound _) j;
-        offers = leases_by key4_is_key offered_to refl a (live_slots t again) [] (λ i. ap offered_to (unoffered_at i) ∙ unoffered_offered _) j;
-        bars = bars_by a (live_slots t again) (live_slots t ss) (λ i. ap barred_until (unoffered_at i) ∙ unoffered_barred _) j;
-      }
-
   put_book : book4_at t (book_of_slots a again) ≡ kept_book (book4_at t (book_of_slots a ss))
-  put_book = shown a t again (again_distinct form4 key4_is_key t ss d) ∙ kept_again ∙ ap kept_book (sym (shown a t ss d))
+  put_book = shown a t again (again_distinct form4 key4_is_key t ss d) ∙ book_without_offers a (live_slots t again) (live_slots t ss) unoffered_at ∙ ap kept_book (sym (shown a t ss d))
 
 pub book_put : (v : PoolSlots) → AreSlots v.pool v.slots → (region : RegionSlots) → region.four ≡ kept_slots region.clock v.slots → book4_in v.pool region ≡ kept_book (book_of region.clock v)
 book_put v are region four =

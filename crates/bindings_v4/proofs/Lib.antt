@@ -5,6 +5,7 @@ pub mod LaterBook
 pub mod LawLemmas
 pub mod LeaseLemmas
 pub mod LimitLemmas
+pub mod OfferLemmas
 pub mod ReplyLemmas
 pub mod RowLemmas
 pub mod ShownBook

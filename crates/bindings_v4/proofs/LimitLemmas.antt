@@ -10,8 +10,6 @@ use Rattle.slots.proofs.KeptLemmas.{slot_within, slot_offered_within, no_offer_w
 use Rattle.types.specs.Addr.{number4}
 use Rattle.types.specs.Slots.{IsWithin4}
 use Rattle.types.specs.declared.request4.Request4.{Request4}
-use Rattle.types.specs.declared.slot4.Slot4.{Slot4}
-use Rattle.types.specs.declared.slot4.Slot4.TheVariants as slot4
 use Rattle.bindings_v4.specs.declared.decision4.Decision4.{Decision4}
 use Rattle.bindings_v4.specs.declared.decision4.KeptSlot.{KeptSlot}
 use Rattle.bindings_v4.specs.declared.decision4.OfferChange.{OfferChange}

@@ -1,6 +1,7 @@
 -- Which book the slots of a pool show: slot i is the pool's address i, the lowest is 0.
-use Rattle.std.specs.Prelude.{◌≡◌, ◌≤◌, ℕ, length, List, Option, Some, None}
+use Rattle.std.specs.Prelude.{◌≡◌, ◌≤◌, ℕ, length, map, List, Option, Some, None}
 use Rattle.std.specs.Str.{bytes_eq}
+use Rattle.slots.specs.Kept.{unoffered}
 use Rattle.slots.specs.Key.{key4_cmp}
 use Rattle.slots.specs.Slots.{bound_to, offered_to, leases, bars_of, AreDistinct, with_slot}
 use Rattle.slots.specs.declared.holder.Holder.{Holder}
@@ -58,6 +59,10 @@ IsOfferWithin (offer.Withdrawn slot) = Unit {0}
 abbrev pub with_kept : Option KeptSlot → Holders4 → Holders4
 with_kept None slots = slots
 with_kept (Some kept) slots = with_slot bytes_eq kept.slot (holder_of kept.content) slots
+
+-- each slot without its offer, live or expired; what is bound or barred stays
+abbrev pub without_offers : Holders4 → Holders4
+without_offers slots = map unoffered slots
 
 -- The slots after a decision: its change of offers, and the slot that it keeps.
 abbrev pub with_decision : Decision4 → PoolSlots → PoolSlots

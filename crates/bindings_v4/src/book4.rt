@@ -8,14 +8,14 @@ ghost use Rattle.types.specs.declared.slot4.Slot4.TheVariants.{Free};
 ghost use Rattle.bindings_v4.specs.Decision4.{IsOffer, decision_of};
 ghost use Rattle.bindings_v4.specs.Kept4.{EndsBy, book4_in, keep_in, kept_book, kept_slots};
 ghost use Rattle.bindings_v4.specs.Lookup4.{IsAt, IsLookup, lookup_of};
-ghost use Rattle.bindings_v4.specs.Slots4.{AreSlots, IsOfferWithin, book_of, with_decision};
+ghost use Rattle.bindings_v4.specs.Slots4.{AreSlots, IsOfferWithin, book_of, with_decision, without_offers};
 ghost use Rattle.bindings_v4.specs.Table4.{answer4, lookup_in, row4};
 
 use crate::case4::{Case4, SlotAddress};
 use crate::decision4::Decision4;
 use crate::kept::{kept_slots, live_holders};
 use crate::table4::{Lookup4, decision_for};
-use crate::write::{write_kept, write_offer};
+use crate::write::{withdraw_offers, write_kept, write_offer};
 use slots::{Holder, SlotTable};
 use std::marker::Model;
 use types::{Addr4, Key4, Moment, Pool4, Request4, Slots};
@@ -104,6 +104,18 @@ impl Book4 {
     {
         write_offer(&mut self.slots, decision.offer);
         write_kept(&mut self.slots, decision.keep);
+    }
+
+    /// Drops every offer, live or expired. Bindings and bars stay.
+    pub fn withdraw_offers(&mut self)
+        ensures slots { self.new ≡ record self.old { slots = without_offers self.old.slots } }
+        ensures pool { self.new.pool ≡ self.old.pool }
+        ensures book { (clock : ℕ) → book_of clock self.new ≡ kept_book (book_of clock self.old) }
+        ensures kept { (clock : ℕ) → kept_slots clock self.new.slots ≡ kept_slots clock self.old.slots }
+        ensures within { AreWithin self.old.slots → AreWithin self.new.slots }
+        ensures offers { AreOffersWithin self.new.slots }
+    {
+        withdraw_offers(&mut self.slots);
     }
 
     /// Until when a slot of the pool is held, live or expired, in seconds; `None` where nobody holds it, or

@@ -1,11 +1,14 @@
 -- The command line of `accesslab`, and the values that its words spell.
-use Rattle.std.specs.Prelude.{◌≡◌, ℕ, pos, ◌≤◌, true, List, [], ◌∷◌, Some, codes}
+use Rattle.std.specs.Prelude.{◌≡◌, ℕ, pos, ◌≤◌, true, List, [], ◌∷◌, length, Some, codes}
 use Rattle.std.specs.Str.Parse.{IsNumeral, digits_value, without_leading_plus}
-use Rattle.clap.specs.Words.{App, Row, Rule, Text, new_app, new_rule, with_rule, matches_of, first_of, fault_of}
+use Rattle.clap.specs.Words.{App, Row, Rule, Text, new_app, new_rule, with_rule, matches_of, all_of, first_of, fault_of}
 use Rattle.clap.specs.Simple.{on_top}
 use Rattle.clap.specs.declared.builder.ArgAction.TheVariants.{Set}
 use Rattle.clap.specs.declared.builder.value_parser.ValueParser.TheVariants as parser
-use Rattle.command_line.specs.CommandLine.{config_rule}
+
+-- the paths of the configurations, 1 to 8, one of which at least is required
+abbrev pub configs_rule : Rule
+configs_rule = record (new_rule (codes "CONFIG")) { action = Some Set; range = Some (record { start_inclusive = 1; end_inclusive = 8 }); required = true }
 
 -- `--quota Q`, 1 to 256, 16 by default
 abbrev pub quota_rule : Rule
@@ -16,17 +19,20 @@ abbrev pub bare_app : App
 bare_app = on_top (λ s. record s { no_binary_name = true; has_version = true }) (new_app (codes "accesslab"))
 
 abbrev pub lab_app : App
-lab_app = with_rule (with_rule bare_app config_rule) quota_rule
+lab_app = with_rule (with_rule bare_app configs_rule) quota_rule
 
--- the value that the words give each argument
+-- what the words give each argument
 abbrev pub given : List Text → List Row
 given words = matches_of lab_app words
 
 -- The words spell these values.
-pub record Spells (words : List Text) (config : List ℕ) (quota : ℕ) : Type 0 where
+pub record Spells (words configs : List Text) (quota : ℕ) : Type 0 where
   -- clap finds no fault in them
   pub right : fault_of lab_app words ≡ []
-  pub config_is : first_of (codes "CONFIG") (given words) ≡ Some config
+  -- each path, in order
+  pub configs_are : all_of (codes "CONFIG") (given words) ≡ Some configs
+  pub some : 1 ≤ length configs
+  pub few : length configs ≤ 8
   pub text : Text
   pub quota_text : first_of (codes "quota") (given words) ≡ Some text
   -- decimal digits, with or without a plus before them
@@ -37,4 +43,4 @@ pub record Spells (words : List Text) (config : List ℕ) (quota : ℕ) : Type 0
 
 -- The words spell values.
 abbrev pub SpellsSomething : List Text → Type 0
-SpellsSomething words = (config : List ℕ) × (quota : ℕ) × Spells words config quota
+SpellsSomething words = (configs : List Text) × (quota : ℕ) × Spells words configs quota

@@ -2,22 +2,34 @@
 ghost use Rattle.std.specs.Prelude.{◌≡◌, false, map, string_bytes, IfOk, IfErr};
 ghost use Rattle.clap.specs.Words.{app_of, rule_of};
 ghost use Rattle.command_line.specs.CommandLine.{IsRefused};
-ghost use Rattle.command_line.specs.AccesslabWords.{quota_rule, bare_app, lab_app, Spells, SpellsSomething};
+ghost use Rattle.command_line.specs.AccesslabWords.{configs_rule, quota_rule, bare_app, lab_app, Spells, SpellsSomething};
 
-use crate::arguments::{config_arg, number};
+use crate::arguments::number;
 use crate::refusal::Refusal;
 use clap::{Arg, ArgAction, Command};
+use config::MAX_PLANS;
 use std::alloc::{AllocError, Global};
 
 const MAX_QUOTA: u32 = 256;
 
 /// The values of the words after the program's name.
-#[derive(Clone, Copy, Debug)]
+#[derive(Debug, Drop)]
 pub struct LabWords<'a> {
-    /// The path of the configuration.
-    pub config: &'a str,
+    /// The paths of the configurations, 1 to 8, of which the first is in force at the start.
+    pub configs: Vec<&'a str>,
     /// How many datagrams of a circuit the network keeps in each direction, 1 to 256.
     pub quota: u16,
+}
+
+fn configs_arg<'a>(alloc: Global) -> Arg<'a>
+    ensures rule { rule_of result ≡ configs_rule }
+    ensures local { result.global ≡ false }
+{
+    Arg::new(alloc, "CONFIG")
+        .action(ArgAction::Set)
+        .num_args(1..=MAX_PLANS)
+        .required(true)
+        .help("The configurations, TOML files; the first is in force at the start")
 }
 
 fn quota_arg<'a>(alloc: Global) -> Arg<'a>
@@ -44,15 +56,15 @@ fn named<'a>(alloc: Global) -> Command<'a>
 fn command<'a>(alloc: Global) -> Result<Command<'a>, AllocError>
     ensures { IfOk result (λ command. app_of command ≡ lab_app) }
 {
-    let config = config_arg(alloc);
+    let configs = configs_arg(alloc);
     let quota = quota_arg(alloc);
-    let first = named(alloc).arg(config)?;
+    let first = named(alloc).arg(configs)?;
     first.arg(quota)
 }
 
 /// The values of the words after the program's name.
 pub fn words<'a>(alloc: Global, words: &'a [String]) -> Result<LabWords<'a>, Refusal>
-    ensures values { IfOk result (λ values. Spells (map string_bytes words.entry.now) values.config.now values.quota) }
+    ensures values { IfOk result (λ values. Spells (map string_bytes words.entry.now) (map (λ path. path.now) values.configs.items) values.quota) }
     ensures refused { IfErr result (IsRefused lab_app SpellsSomething (map string_bytes words.entry.now)) }
 {
     let Ok(command) = command(alloc) else {
@@ -62,14 +74,20 @@ pub fn words<'a>(alloc: Global, words: &'a [String]) -> Result<LabWords<'a>, Ref
         Ok(matches) => matches,
         Err(error) => return Err(Refusal::Usage(error)),
     };
-    let Some(config) = matches.get_str("CONFIG") else {
+    let Some(configs) = matches.get_strs("CONFIG") else {
         return Err(Refusal::BadValue);
     };
+    if configs.is_empty() || MAX_PLANS < configs.len() {
+        return Err(Refusal::BadValue);
+    }
     let Some(quota) = number(&matches, "quota", 1, MAX_QUOTA) else {
         return Err(Refusal::BadValue);
     };
     let Ok(quota) = u16::try_from(quota) else {
         return Err(Refusal::BadValue);
     };
-    Ok(LabWords { config, quota })
+    match configs.to_vec(alloc) {
+        Ok(configs) => Ok(LabWords { configs, quota }),
+        Err(_) => Err(Refusal::Memory),
+    }
 }

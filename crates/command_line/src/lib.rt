@@ -1,5 +1,5 @@
 //! What the programs do before they run: the words of each command line, refused command lines, the
-//! configuration's file and the exit statuses.
+//! files of configurations and the exit statuses.
 #![tactic(auto)]
 
 pub mod accessd_words;
@@ -12,7 +12,7 @@ mod status;
 mod words;
 
 pub use arguments::{config_arg, number};
-pub use configuration::read_configuration;
+pub use configuration::{read_configuration, read_plans};
 pub use refusal::Refusal;
 pub use status::{FAILED, REFUSED, UNOPENED, UNREADABLE, complain};
 pub use words::given_words;

@@ -255,12 +255,12 @@ one_settings t a b h k differ =
 -- rules 44 to 49: what a fault names breaks its rule
 
 -- two entries of which the first stands before the second
-two : {X : Type 0} (R : X → X → Type 0) (xs : List X) (m n : ℕ) (x y : X) → AllPairs R xs → m < n → IsEntry xs m x → IsEntry xs n y → R x y
+pub two : {X : Type 0} (R : X → X → Type 0) (xs : List X) (m n : ℕ) (x y : X) → AllPairs R xs → m < n → IsEntry xs m x → IsEntry xs n y → R x y
 two R xs m n x y all less a b =
     let one = all (m - 1) (n - 1) x (omega (arith, a.counted, b.counted)) (slice_get_within xs (n - 1) y b.there) in
     subst (λ q. R q y) (read_at xs (m - 1) x x a.there) (subst (R _) (read_at xs (n - 1) y x b.there) one)
 
-one_of : {X : Type 0} (P : X → Type 0) (xs : List X) (n : ℕ) (x : X) → All P xs → IsEntry xs n x → P x
+pub one_of : {X : Type 0} (P : X → Type 0) (xs : List X) (n : ℕ) (x : X) → All P xs → IsEntry xs n x → P x
 one_of P xs n x all a = subst P (read_at xs (n - 1) x x a.there) (all (n - 1) x (slice_get_within xs (n - 1) x a.there))
 
 breaks_names : (s : Settings) (same : SameName) → AreSame s same → NamesDiffer s → ⊥
@@ -324,34 +324,28 @@ pub record KeepsBelow (s : Settings) (number : ℕ) : Type 0 where
   pub subnets : 49 < number → OnSubnets s
 
 -- a valid configuration keeps all of them
-keeps_all : (s : Settings) → KeepsRules s → KeepsBelow s 50
+pub keeps_all : (s : Settings) → KeepsRules s → KeepsBelow s 52
 keeps_all s h = record { names = λ _. h.names; regions = λ _. h.regions; pools4 = λ _. h.pools4; pools6 = λ _. h.pools6; gateways = λ _. h.gateways; subnets = λ _. h.subnets }
 
 -- the least broken rule: those below are kept
 keeps_below : (s : Settings) (fault : ConfigFault) → IsLeastRule s fault → KeepsBelow s (number_of fault)
 keeps_below s (IdTwice same) h = record { names = λ l. absurd (omega arith); regions = λ l. absurd (omega arith); pools4 = λ l. absurd (omega arith); pools6 = λ l. absurd (omega arith); gateways = λ l. absurd (omega arith); subnets = λ l. absurd (omega arith) }
 keeps_below s (RegionTwice a b) h = record { names = λ _. h.0; regions = λ l. absurd (omega arith); pools4 = λ l. absurd (omega arith); pools6 = λ l. absurd (omega arith); gateways = λ l. absurd (omega arith); subnets = λ l. absurd (omega arith) }
-keeps_below s (Overlap4 a b) h = record { names = λ _. h.0; regions = λ _. h.1; pools4 = λ l. absurd (omega arith); pools6 = λ l. absurd (omega arith); gateways = λ l. absurd (omega arith); subnets = λ l. absurd (omega arith) }
-keeps_below s (Overlap6 a b) h = record { names = λ _. h.0; regions = λ _. h.1; pools4 = λ _. h.2; pools6 = λ l. absurd (omega arith); gateways = λ l. absurd (omega arith); subnets = λ l. absurd (omega arith) }
-keeps_below s (GatewayInPool a key b) h = record { names = λ _. h.0; regions = λ _. h.1; pools4 = λ _. h.2; pools6 = λ _. h.3; gateways = λ l. absurd (omega arith); subnets = λ l. absurd (omega arith) }
-keeps_below s (OffSubnet a key) h = record { names = λ _. h.0; regions = λ _. h.1; pools4 = λ _. h.2; pools6 = λ _. h.3; gateways = λ _. h.4; subnets = λ l. absurd (omega arith) }
-keeps_below s Memory h = absurd h
-keeps_below s (Text error) h = absurd h
-keeps_below s (Missing location) h = absurd h
-keeps_below s (Limit limit) h = absurd h
+keeps_below s (Overlap4 a b) h = record { names = λ _. h.0; regions = λ _. h.1.0; pools4 = λ l. absurd (omega arith); pools6 = λ l. absurd (omega arith); gateways = λ l. absurd (omega arith); subnets = λ l. absurd (omega arith) }
+keeps_below s (Overlap6 a b) h = record { names = λ _. h.0; regions = λ _. h.1.0; pools4 = λ _. h.1.1; pools6 = λ l. absurd (omega arith); gateways = λ l. absurd (omega arith); subnets = λ l. absurd (omega arith) }
+keeps_below s (GatewayInPool a key b) h = record { names = λ _. h.0; regions = λ _. h.1.0; pools4 = λ _. h.1.1; pools6 = λ _. h.1.2; gateways = λ l. absurd (omega arith); subnets = λ l. absurd (omega arith) }
+keeps_below s (OffSubnet a key) h = record { names = λ _. h.0; regions = λ _. h.1.regions; pools4 = λ _. h.1.pools4; pools6 = λ _. h.1.pools6; gateways = λ _. h.1.gateways; subnets = λ l. absurd (omega arith) }
+keeps_below s fault h = absurd h.1
 
 -- and the rule itself is not
-breaks_its : (s : Settings) (fault : ConfigFault) (number : ℕ) → IsLeastRule s fault → KeepsBelow s number → number_of fault < number → ⊥
+pub breaks_its : (s : Settings) (fault : ConfigFault) (number : ℕ) → IsLeastRule s fault → KeepsBelow s number → number_of fault < number → ⊥
 breaks_its s (IdTwice same) number h keeps less = breaks_names s same h (keeps.names less)
 breaks_its s (RegionTwice a b) number h keeps less = breaks_regions s a b h.1 (keeps.regions less)
-breaks_its s (Overlap4 a b) number h keeps less = breaks_pools4 s a b h.2 (keeps.pools4 less)
-breaks_its s (Overlap6 a b) number h keeps less = breaks_pools6 s a b h.3 (keeps.pools6 less)
-breaks_its s (GatewayInPool a key b) number h keeps less = breaks_gateways s a key b h.4 (keeps.gateways less)
-breaks_its s (OffSubnet a key) number h keeps less = breaks_subnets s a key h.5 (keeps.subnets less)
-breaks_its s Memory number h keeps less = absurd h
-breaks_its s (Text error) number h keeps less = absurd h
-breaks_its s (Missing location) number h keeps less = absurd h
-breaks_its s (Limit limit) number h keeps less = absurd h
+breaks_its s (Overlap4 a b) number h keeps less = breaks_pools4 s a b h.1.1 (keeps.pools4 less)
+breaks_its s (Overlap6 a b) number h keeps less = breaks_pools6 s a b h.1.2 (keeps.pools6 less)
+breaks_its s (GatewayInPool a key b) number h keeps less = breaks_gateways s a key b h.1.3 (keeps.gateways less)
+breaks_its s (OffSubnet a key) number h keeps less = breaks_subnets s a key h.2 (keeps.subnets less)
+breaks_its s fault number h keeps less = absurd h.1
 
 one_document : (text : List ℕ) (d e : Members) → parse_document text ≡ Some d → parse_document text ≡ Some e → d ≡ e
 one_document text d e h k = same_Some d e (sym h ∙ k)
@@ -371,7 +365,7 @@ pub record Passes (text : List ℕ) (number : ℕ) : Type 0 where
 on_document : (P : Members → Type 0) (text : List ℕ) (d e : Members) → parse_document text ≡ Some d → parse_document text ≡ Some e → P d → P e
 on_document P text d e h k p = subst P (one_document text d e h k) p
 
-passes_valid : (text : List ℕ) (s : Settings) → IsConfig text s → Passes text 50
+passes_valid : (text : List ℕ) (s : Settings) → IsConfig text s → Passes text 52
 passes_valid text s h = record {
   parses = λ _. (h.0, h.1);
   all = λ doc e _. on_document (λ d. HasAll (tables_of d)) text h.0 doc h.1 e h.2.all;
@@ -394,12 +388,7 @@ passes text (Limit limit) other h = record {
   all = λ d e _. on_document (λ x. HasAll (tables_of x)) text h.0 d h.1 e h.2.all;
   read = λ d e l. absurd (omega arith);
 }
-passes text (IdTwice same) other h = passes_rule text (IdTwice same) h.0 h.1 h.2
-passes text (RegionTwice a b) other h = passes_rule text (RegionTwice a b) h.0 h.1 h.2
-passes text (Overlap4 a b) other h = passes_rule text (Overlap4 a b) h.0 h.1 h.2
-passes text (Overlap6 a b) other h = passes_rule text (Overlap6 a b) h.0 h.1 h.2
-passes text (GatewayInPool a key b) other h = passes_rule text (GatewayInPool a key b) h.0 h.1 h.2
-passes text (OffSubnet a key) other h = passes_rule text (OffSubnet a key) h.0 h.1 h.2
+passes text fault other h = passes_rule text fault h.0 h.1 h.2
 
 -- a text that passes a rule has no fault of it
 clash_rule : (text : List ℕ) (fault : ConfigFault) (n : ℕ) (doc : Members) → parse_document text ≡ Some doc → BreaksRule (tables_of doc) fault → Passes text n → 44 ≤ number_of fault → number_of fault < n → ⊥
@@ -415,28 +404,15 @@ clash text (Missing location) n other h p less = missing_lacks (tables_of h.0) l
 clash text (Limit limit) n other h p less =
     let read = p.read h.0 h.1 less in
     unfit_is_unread (tables_of h.0) limit read.0 h.2.broken read.1
-clash text (IdTwice same) n other h p less = clash_rule text (IdTwice same) n h.0 h.1 h.2 p (omega arith) less
-clash text (RegionTwice a b) n other h p less = clash_rule text (RegionTwice a b) n h.0 h.1 h.2 p (omega arith) less
-clash text (Overlap4 a b) n other h p less = clash_rule text (Overlap4 a b) n h.0 h.1 h.2 p (omega arith) less
-clash text (Overlap6 a b) n other h p less = clash_rule text (Overlap6 a b) n h.0 h.1 h.2 p (omega arith) less
-clash text (GatewayInPool a key b) n other h p less = clash_rule text (GatewayInPool a key b) n h.0 h.1 h.2 p (omega arith) less
-clash text (OffSubnet a key) n other h p less = clash_rule text (OffSubnet a key) n h.0 h.1 h.2 p (omega arith) less
+clash text fault n other h p less = clash_rule text fault n h.0 h.1 h.2 p (omega arith) less
 
 -- each number is one of the rules'
-number_below : (fault : ConfigFault) → number_of fault < 50
+pub number_below : (fault : ConfigFault) → number_of fault < 52
 number_below Memory = omega arith
-number_below (Text error) = omega arith
-number_below (Missing location) = omega arith
-number_below (Limit limit) = omega arith
-number_below (IdTwice same) = omega arith
-number_below (RegionTwice a b) = omega arith
-number_below (Overlap4 a b) = omega arith
-number_below (Overlap6 a b) = omega arith
-number_below (GatewayInPool a key b) = omega arith
-number_below (OffSubnet a key) = omega arith
+number_below fault = omega arith
 
 pub not_both : (text : List ℕ) (s : Settings) (fault : ConfigFault) → IsConfig text s → fault ≢ Memory → IsFaultOf text fault → ⊥
-not_both text s fault h other broken = clash text fault 50 other broken (passes_valid text s h) (number_below fault)
+not_both text s fault h other broken = clash text fault 52 other broken (passes_valid text s h) (number_below fault)
 
 pub same_fault_number : (text : List ℕ) (f g : ConfigFault) → f ≢ Memory → g ≢ Memory → IsFaultOf text f → IsFaultOf text g → number_of f ≡ number_of g
 same_fault_number text f g other_f other_g h k =

@@ -1,7 +1,12 @@
+pub mod DifferenceLemmas
 pub mod FaultLemmas
 pub mod IndexLemmas
 pub mod LawLemmas
+pub mod MembershipLemmas
 pub mod PartLemmas
+pub mod PlanLawLemmas
+pub mod PlanLemmas
 pub mod PoolLemmas
 pub mod RuleLemmas
 pub mod TopologyLemmas
+pub mod UnionLemmas

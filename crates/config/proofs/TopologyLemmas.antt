@@ -19,8 +19,9 @@ use Rattle.settings.specs.Settings.{Settings, IsWithinLimits}
 use Rattle.settings.specs.declared.settings.CircuitConfig.{CircuitConfig}
 use Rattle.settings.specs.declared.settings.RelayConfig.{RelayConfig}
 use Rattle.config.specs.CircuitPart.{CircuitPart, IsPart, listen_of, part_of, parts_of, source_at}
+use Rattle.config.specs.Membership.{IsMembership, MembershipValue}
 use Rattle.config.specs.Rules.{IsSound}
-use Rattle.config.specs.Topology.{IsTopology, RegionsDiffer, Topology, circuit_found, circuit_at_index, has_id, is_relay, listen, relay_circuit, topology_of}
+use Rattle.config.specs.Topology.{IsTopology, RegionsDiffer, Topology, circuit_found, circuit_at_index, has_id, is_relay, listen, relay_circuit, serves, topology_with}
 use Rattle.config.proofs.PartLemmas.{all_at, never}
 
 -- ---- elements by their indexes
@@ -37,7 +38,7 @@ module _ {A B : Type 0} (f : A → B) (xs : List A) (apart : AllPairs (λ a b. f
   unlike c d x y at other below same =
       apart c d x below (slice_get_within xs d y other) (ap f (get_or_from_slice_get xs c x x at) ∙ same ∙ sym (ap f (get_or_from_slice_get xs d y x other)))
 
-  same_index : (c d : ℕ) (x y : A) → slice_get xs c ≡ Some x → slice_get xs d ≡ Some y → f y ≡ f x → d ≡ c
+  pub same_index : (c d : ℕ) (x y : A) → slice_get xs c ≡ Some x → slice_get xs d ≡ Some y → f y ≡ f x → d ≡ c
   same_index c d x y at other same =
       let before : c < d → ⊥ = λ below. unlike c d x y at other below (sym same) in
       let behind : d < c → ⊥ = λ above. unlike d c y x other at above same in
@@ -88,9 +89,9 @@ source_is [] n h = absurd (omega (arith, h))
 source_is (r ∷ rs) zero h = refl
 source_is (r ∷ rs) (suc n) h = source_is rs n (omega (arith, h))
 
-module _ (settings : Settings) (sound : IsSound settings) where
+module _ (settings : Settings) (plans : MembershipValue) (sound : IsSound settings) (each : IsMembership (length settings.circuits) plans) where
   abbrev t : Topology
-  t = topology_of settings
+  t = topology_with settings plans
 
   abbrev values : CircuitConfig → CircuitPart
   values circuit = part_of circuit (source_at settings.relays circuit.relay) settings.server.listen4 settings.server.listen6 settings.server.duid.items
@@ -123,7 +124,7 @@ module _ (settings : Settings) (sound : IsSound settings) where
       same_index (λ (circuit : CircuitConfig). circuit.region) settings.circuits sound.rules.regions d c y.0 x.0 y.1 x.1
       (ap (λ (p : CircuitPart). p.region) (sym x.2) ∙ same ∙ ap (λ (p : CircuitPart). p.region) y.2)
 
-  pub is_topology : All IsPart (parts_of settings) → IsTopology (topology_of settings)
+  pub is_topology : All IsPart (parts_of settings) → IsTopology (topology_with settings plans)
   is_topology are_parts = record {
     few_relays = subst (λ n. n ≤ 8) (sym (length-map settings.relays (λ (r : RelayConfig). r.source))) sound.relays;
     few_circuits = subst (λ n. n ≤ 1024) (sym (length-map settings.circuits values)) sound.circuits;
@@ -133,6 +134,7 @@ module _ (settings : Settings) (sound : IsSound settings) where
     relay = its_relay;
     ids = ids;
     regions = regions_differ;
+    plans = subst (λ n. IsMembership n plans) (sym (length-map settings.circuits values)) each;
   }
 
 -- ---- finding a relay's circuit
@@ -145,8 +147,8 @@ nowhere topology relay id none = ap (circuit_at_index topology relay) none
 
 pub somewhere : (topology : Topology) (relay : Source) (id : Option (List ℕ)) (c : ℕ) (part : CircuitPart)
     → position (has_id id) topology.circuits ≡ Some c → slice_get topology.circuits c ≡ Some part
-    → relay_circuit topology relay id ≡ circuit_found relay c (Some part)
-somewhere topology relay id c part found there = ap (circuit_at_index topology relay) found ∙ ap (circuit_found relay c) there
+    → relay_circuit topology relay id ≡ circuit_found relay c (serves topology c) (Some part)
+somewhere topology relay id c part found there = ap (circuit_at_index topology relay) found ∙ ap (circuit_found relay c (serves topology c)) there
 
-pub own_relay : (relay : Source) (c : ℕ) (part : CircuitPart) → same_source part.relay relay ≡ true → circuit_found relay c (Some part) ≡ Some (c, part)
-own_relay relay c part same = rw same refl
+pub own_relay : (relay : Source) (c : ℕ) (served : Bool) (part : CircuitPart) → same_source part.relay relay ≡ true → served ≡ true → circuit_found relay c served (Some part) ≡ Some (c, part)
+own_relay relay c served part same is = rw (same, is) refl

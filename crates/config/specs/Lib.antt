@@ -1,6 +1,10 @@
 pub mod Broken
 pub mod CircuitPart
+pub mod Differences
+pub mod Membership
 pub mod Pairs
+pub mod Plans
 pub mod Rules
 pub mod Topology
+pub mod Union
 pub mod Valid

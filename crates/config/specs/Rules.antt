@@ -56,6 +56,13 @@ pub record IsOnSubnet (circuit : CircuitConfig) : Type 0 where
 abbrev pub OnSubnets : Settings → Type 0
 OnSubnets settings = All IsOnSubnet settings.circuits
 
+-- rules 45 to 48, which are about the circuits alone
+pub record CircuitsApart (settings : Settings) : Type 0 where
+  pub regions : RegionsDiffer settings
+  pub pools4 : Pools4Apart settings
+  pub pools6 : Pools6Apart settings
+  pub gateways : GatewaysOutside settings
+
 -- rules 44 to 49
 pub record KeepsRules (settings : Settings) : Type 0 where
   pub names : NamesDiffer settings

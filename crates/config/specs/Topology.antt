@@ -1,5 +1,5 @@
 -- What relays and server know of a configuration.
-use Rattle.std.specs.Prelude.{◌≡◌, ◌≢◌, ℕ, ◌≤◌, Bool, false, ◌||◌, List, length, map, Option, Some, None, All, slice_get, if◌then◌else◌}
+use Rattle.std.specs.Prelude.{◌≡◌, ◌≢◌, ℕ, ◌≤◌, Bool, false, ◌||◌, ◌&&◌, List, length, map, Option, Some, None, All, slice_get, if◌then◌else◌}
 use Rattle.std.specs.List.{list_any, position}
 use Rattle.std.specs.Str.{bytes_eq}
 use Rattle.types.specs.Addr.{same_source}
@@ -8,21 +8,40 @@ use Rattle.types.specs.declared.dest.Proto.{Proto}
 use Rattle.types.specs.declared.dest.Proto.TheVariants.{V4, V6}
 use Rattle.settings.specs.Settings.{Settings}
 use Rattle.config.specs.CircuitPart.{CircuitPart, IsPart, listen_of, parts_of}
+use Rattle.config.specs.Membership.{IsMembership, MembershipValue, has, with_plan}
+use Rattle.config.specs.Plans.{PlansValue, one_plan}
 
--- the server's addresses, where each relay's datagrams come from, and each circuit's part
+-- the server's addresses, where each relay's datagrams come from, each circuit's part, and which circuits are served
 pub record Topology : Type 0 where
   pub listen4 : Source
   pub listen6 : Source
   pub relays : List Source
   pub circuits : List CircuitPart
+  pub plans : MembershipValue
 
-abbrev pub topology_of : Settings → Topology
-topology_of settings = record {
+abbrev pub topology_with : Settings → MembershipValue → Topology
+topology_with settings plans = record {
   listen4 = settings.server.listen4;
   listen6 = settings.server.listen6;
   relays = map (λ relay. relay.source) settings.relays;
   circuits = parts_of settings;
+  plans = plans;
 }
+
+-- at the start the first plan is in force
+abbrev pub plans_topology : PlansValue → Topology
+plans_topology plans = topology_with plans.union (record { count = plans.count; members = plans.members; plan = 0 })
+
+abbrev pub topology_of : Settings → Topology
+topology_of settings = plans_topology (one_plan settings)
+
+-- whether the plan in force has this circuit
+abbrev pub serves : Topology → ℕ → Bool
+serves topology c = has topology.plans topology.plans.plan c
+
+-- another plan is in force, if there is such a plan
+abbrev pub reloaded : ℕ → Topology → Topology
+reloaded plan topology = record topology { plans = with_plan plan topology.plans }
 
 -- the server's address of each protocol
 abbrev pub listen : Topology → Proto → Source
@@ -43,17 +62,17 @@ abbrev pub has_id : Option (List ℕ) → CircuitPart → Bool
 has_id None part = false
 has_id (Some id) part = bytes_eq id part.id
 
--- the circuit of this index, if it is the relay's that sends from here
-abbrev pub circuit_found : Source → ℕ → Option CircuitPart → Option (ℕ × CircuitPart)
-circuit_found relay c None = None
-circuit_found relay c (Some part) = if same_source part.relay relay then Some (c, part) else None
+-- the circuit of this index, if it is the relay's that sends from here, and is served
+abbrev pub circuit_found : Source → ℕ → Bool → Option CircuitPart → Option (ℕ × CircuitPart)
+circuit_found relay c served None = None
+circuit_found relay c served (Some part) = if same_source part.relay relay && served then Some (c, part) else None
 
 abbrev pub circuit_at_index : Topology → Source → Option ℕ → Option (ℕ × CircuitPart)
 circuit_at_index topology relay None = None
-circuit_at_index topology relay (Some c) = circuit_found relay c (slice_get topology.circuits c)
+circuit_at_index topology relay (Some c) = circuit_found relay c (serves topology c) (slice_get topology.circuits c)
 
 -- The index and the part of the circuit of exactly this id, which has to be one of the relay that sends from
--- this source.
+-- this source, and served.
 abbrev pub relay_circuit : Topology → Source → Option (List ℕ) → Option (ℕ × CircuitPart)
 relay_circuit topology relay id = circuit_at_index topology relay (position (has_id id) topology.circuits)
 
@@ -77,3 +96,4 @@ pub record IsTopology (topology : Topology) : Type 0 where
   pub ids : (c : ℕ) (part : CircuitPart) → slice_get topology.circuits c ≡ Some part
       → (d : ℕ) (other : CircuitPart) → slice_get topology.circuits d ≡ Some other → other.id ≡ part.id → d ≡ c
   pub regions : RegionsDiffer topology.circuits
+  pub plans : IsMembership (length topology.circuits) topology.plans

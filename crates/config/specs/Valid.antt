@@ -10,7 +10,7 @@ use Rattle.settings.specs.Broken.{IsMissing, IsUnfit}
 use Rattle.settings.specs.Keys.{HasAll}
 use Rattle.settings.specs.Read.{IsRead}
 use Rattle.settings.specs.Settings.{Settings}
-use Rattle.config.specs.Rules.{NamesDiffer, RegionsDiffer, Pools4Apart, Pools6Apart, GatewaysOutside, KeepsRules}
+use Rattle.config.specs.Rules.{NamesDiffer, RegionsDiffer, Pools4Apart, Pools6Apart, CircuitsApart, KeepsRules}
 use Rattle.settings.specs.Tables.{Tables, tables_of}
 
 -- no rule is broken, and these are the values
@@ -22,21 +22,21 @@ pub record IsValid (tables : Tables) (settings : Settings) : Type 0 where
   -- rules 44 to 49
   pub rules : KeepsRules settings
 
--- The fault is the lowest of rules 44 to 49 that the settings break, and the entries that it names break
+-- The fault is the lowest of rules 45 to 48 that the settings break, and the entries that it names break
 -- it.
+abbrev pub IsLeastOfCircuits : Settings → ConfigFault → Type 0
+IsLeastOfCircuits s (RegionTwice first second) = ShareRegion s first second
+IsLeastOfCircuits s (Overlap4 first second) = RegionsDiffer s × SharePool4 s first second
+IsLeastOfCircuits s (Overlap6 first second) = RegionsDiffer s × Pools4Apart s × SharePool6 s first second
+IsLeastOfCircuits s (GatewayInPool circuit key owner) =
+    RegionsDiffer s × Pools4Apart s × Pools6Apart s × IsGatewayInPool s circuit key owner
+IsLeastOfCircuits s fault = ⊥
+
+-- the same of rules 44 to 49
 abbrev pub IsLeastRule : Settings → ConfigFault → Type 0
 IsLeastRule s (IdTwice same) = AreSame s same
-IsLeastRule s (RegionTwice first second) = NamesDiffer s × ShareRegion s first second
-IsLeastRule s (Overlap4 first second) = NamesDiffer s × RegionsDiffer s × SharePool4 s first second
-IsLeastRule s (Overlap6 first second) = NamesDiffer s × RegionsDiffer s × Pools4Apart s × SharePool6 s first second
-IsLeastRule s (GatewayInPool circuit key owner) =
-    NamesDiffer s × RegionsDiffer s × Pools4Apart s × Pools6Apart s × IsGatewayInPool s circuit key owner
-IsLeastRule s (OffSubnet circuit key) =
-    NamesDiffer s × RegionsDiffer s × Pools4Apart s × Pools6Apart s × GatewaysOutside s × IsOffSubnet s circuit key
-IsLeastRule s Memory = ⊥
-IsLeastRule s (Text error) = ⊥
-IsLeastRule s (Missing location) = ⊥
-IsLeastRule s (Limit limit) = ⊥
+IsLeastRule s (OffSubnet circuit key) = NamesDiffer s × CircuitsApart s × IsOffSubnet s circuit key
+IsLeastRule s fault = NamesDiffer s × IsLeastOfCircuits s fault
 
 -- the settings that were read break a rule, and the fault is the lowest one
 pub record BreaksRule (tables : Tables) (fault : ConfigFault) : Type 0 where

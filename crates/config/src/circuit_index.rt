@@ -1,6 +1,7 @@
 //! Where each circuit stands, by its id.
-ghost use Rattle.std.specs.Prelude.{◌≡◌, ◌≢◌, ◌<◌, length, map, AllPairs, IfOk, IfSome};
-ghost use Rattle.std.specs.List.{position};
+ghost use Rattle.std.specs.Prelude.{◌≡◌, ◌≢◌, ◌<◌, [], length, map, not, AllPairs, IfOk, IfSome, OnOk};
+ghost use Rattle.indexmap.specs.IndexSet.{insert_key};
+ghost use Rattle.std.specs.List.{list_any, position};
 ghost use Rattle.std.specs.Str.{bytes_eq};
 
 use indexmap::IndexSet;
@@ -38,6 +39,31 @@ impl CircuitIndex {
             ids.insert(circuit.id.copy())?;
         }
         Ok(CircuitIndex { ids })
+    }
+
+    /// An index of no circuits.
+    pub fn new(alloc: Global) -> CircuitIndex
+        ensures { result ≡ [] }
+    {
+        CircuitIndex {
+            ids: IndexSet::new(alloc),
+        }
+    }
+
+    /// Adds the id of one more circuit, unless it is there; whether it has been added. An error where memory is refused.
+    pub fn add(&mut self, id: CircuitId) -> Result<bool, AllocError>
+        ensures added { IfOk result (λ added. added ≡ not (list_any (bytes_eq id) self.old)) }
+        ensures value { OnOk result (self.new ≡ insert_key bytes_eq self.old id) }
+    {
+        let added = self.ids.insert(id)?;
+        Ok(added)
+    }
+
+    /// Whether there is a circuit with exactly this id.
+    pub fn contains(&self, id: &CircuitId) -> bool
+        ensures { result ≡ list_any (bytes_eq id.now) self.now }
+    {
+        self.ids.contains(id)
     }
 
     /// Where the circuit with exactly this id stands.

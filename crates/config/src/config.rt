@@ -4,6 +4,7 @@ ghost use Rattle.toml.specs.Parse.{parse_document};
 ghost use Rattle.toml.specs.View.{table_view};
 ghost use Rattle.config.specs.Rules.{IsSound, IsIdAt, KeepsRules};
 ghost use Rattle.settings.specs.Settings.{IsServerWithinLimits, IsRelayWithinLimits, IsWithinLimits};
+ghost use Rattle.config.specs.Union.{has_circuit};
 ghost use Rattle.config.specs.Valid.{IsConfig, IsFaultOf};
 
 use crate::circuit_index::CircuitIndex;
@@ -54,17 +55,11 @@ fn document(alloc: Global, text: &str) -> Result<Table, ConfigFault>
 }
 
 impl Config {
-    /// The configuration of values that keep the rules; an error where memory is refused.
-    fn of(alloc: Global, values: Values) -> Result<Config, AllocError>
-        requires server { IsServerWithinLimits values.server }
-        requires some_relay { 1 ≤ length values.relays.items }
-        requires few_relays { length values.relays.items ≤ 8 }
-        requires relays { All IsRelayWithinLimits values.relays.items }
-        requires some_circuit { 1 ≤ length values.circuits.items }
-        requires few_circuits { length values.circuits.items ≤ 1024 }
-        requires circuits { All (IsWithinLimits values.relays.items) values.circuits.items }
-        requires rules { KeepsRules (record { server = values.server; relays = values.relays.items; circuits = values.circuits.items }) }
-        ensures { IfOk result (λ config. config ≡ record { server = values.server; relays = values.relays.items; circuits = values.circuits.items }) }
+    /// The configuration of values that keep their limits and the rules; an error where memory is refused.
+    pub(crate) fn of(alloc: Global, values: Values) -> Result<Config, AllocError>
+        requires { IsSound (record { server = values.server; relays = values.relays.items; circuits = values.circuits.items }) }
+        ensures value { IfOk result (λ config. config ≡ record { server = values.server; relays = values.relays.items; circuits = values.circuits.items }) }
+        ensures sound { IfOk result IsSound }
     {
         let index = CircuitIndex::of(alloc, &values.circuits)?;
         Ok(Config {
@@ -78,6 +73,7 @@ impl Config {
     /// Reads a text: its configuration, or the lowest rule that it breaks and what breaks it.
     pub fn read(alloc: Global, text: &str) -> Result<Config, ConfigFault>
         ensures valid { IfOk result (IsConfig text.now) }
+        ensures sound { IfOk result IsSound }
         ensures broken { IfErr result (IsFaultOf text.now) }
     {
         let doc = match document(alloc, text) {
@@ -145,6 +141,14 @@ impl Config {
         &self.circuits[circuit.index()]
     }
 
+    /// All relays, in their order.
+    pub(crate) fn relays(&self) -> &[RelayConfig]
+        ensures value { result.now ≡ self.now.relays }
+        ensures sound { IsSound self.now }
+    {
+        &self.relays
+    }
+
     /// All circuits, in their order.
     pub(crate) fn circuits(&self) -> &[CircuitConfig]
         ensures value { result.now ≡ self.now.circuits }
@@ -161,5 +165,11 @@ impl Config {
         ensures none { IfNone result ((index : ℕ) → ¬ IsIdAt self.now.circuits index id.now) }
     {
         Circuit::new(self.index.find(id)?)
+    }
+    /// Whether there is a circuit with exactly this id.
+    pub(crate) fn has_circuit(&self, id: &CircuitId) -> bool
+        ensures { result ≡ has_circuit id.now self.now }
+    {
+        self.index.contains(id)
     }
 }

@@ -1,9 +1,9 @@
 //! The rules about a configuration's values, for any number of relays and circuits.
 ghost use Rattle.std.specs.Prelude.{◌≡◌, ◌≢◌, ◌+◌, ◌<◌, List, length, slice_get, All, AllPairs, Some, OnOk, IfErr, IfSome, IfNone};
 ghost use Rattle.config.specs.Broken.{AreSame, AreTwo, AreTwoRelays, HasSource, IsGatewayInPool, IsOffSubnet};
-ghost use Rattle.config.specs.Rules.{IsOnSubnet, NamesDiffer, GatewaysOutside, KeepsRules};
+ghost use Rattle.config.specs.Rules.{IsOnSubnet, NamesDiffer, GatewaysOutside, CircuitsApart, KeepsRules};
 ghost use Rattle.settings.specs.Settings.{Settings, IsWithinLimits};
-ghost use Rattle.config.specs.Valid.{IsLeastRule};
+ghost use Rattle.config.specs.Valid.{IsLeastOfCircuits, IsLeastRule};
 
 use crate::pairs::{Relation, first_of_all, first_pair, first_related};
 use crate::relations::{
@@ -120,6 +120,27 @@ fn circuit_off_subnet(circuits: &[CircuitConfig]) -> Option<(CircuitRef, Circuit
     None
 }
 
+/// Rules 45 to 48 between circuits, in their order: the lowest that is broken, and the circuits that break
+/// it.
+pub fn circuit_rules(circuits: &[CircuitConfig]) -> Result<(), ConfigFault>
+    ensures ok { OnOk result ((s : Settings) → s.circuits ≡ circuits.now → CircuitsApart s) }
+    ensures err { IfErr result (λ fault. (s : Settings) → s.circuits ≡ circuits.now → IsLeastOfCircuits s fault) }
+{
+    if let Some((first, second)) = two_circuits::<SameRegion>(circuits) {
+        return Err(ConfigFault::RegionTwice(first, second));
+    }
+    if let Some((first, second)) = two_circuits::<SharedPool4>(circuits) {
+        return Err(ConfigFault::Overlap4(first, second));
+    }
+    if let Some((first, second)) = two_circuits::<SharedPool6>(circuits) {
+        return Err(ConfigFault::Overlap6(first, second));
+    }
+    if let Some((circuit, key, owner)) = gateway_in_pool(circuits) {
+        return Err(ConfigFault::GatewayInPool(circuit, key, owner));
+    }
+    Ok(())
+}
+
 /// Rules 44 to 49 about the values of the server, its relays and its circuits, in their order: the lowest
 /// that is broken, and the entries that break it.
 pub fn rules(
@@ -134,17 +155,8 @@ pub fn rules(
     if let Some(same) = same_name(server, relays, circuits) {
         return Err(ConfigFault::IdTwice(same));
     }
-    if let Some((first, second)) = two_circuits::<SameRegion>(circuits) {
-        return Err(ConfigFault::RegionTwice(first, second));
-    }
-    if let Some((first, second)) = two_circuits::<SharedPool4>(circuits) {
-        return Err(ConfigFault::Overlap4(first, second));
-    }
-    if let Some((first, second)) = two_circuits::<SharedPool6>(circuits) {
-        return Err(ConfigFault::Overlap6(first, second));
-    }
-    if let Some((circuit, key, owner)) = gateway_in_pool(circuits) {
-        return Err(ConfigFault::GatewayInPool(circuit, key, owner));
+    if let Err(fault) = circuit_rules(circuits) {
+        return Err(fault);
     }
     if let Some((circuit, key)) = circuit_off_subnet(circuits) {
         return Err(ConfigFault::OffSubnet(circuit, key));

@@ -92,9 +92,12 @@ impl Bench {
         }
     }
 
-    /// A frame reaches a circuit's relay. `None` where there is no such circuit.
+    /// A frame reaches a circuit's relay. `None` where no such circuit is served.
     pub fn up(&mut self, id: &[u8], proto: Proto, frame: &[u8]) -> Option<Answer> {
         let circuit = self.config.circuit(&CircuitId::new(id)?)?;
+        if !self.relays.serves(circuit) {
+            return None;
+        }
         mark(&mut self.out);
         match self.relays.up(circuit, proto, frame, &mut self.out) {
             Ok(()) => Some(Answer::SentUp),

@@ -341,7 +341,7 @@ holds_more count table after states new within holds own same = record { each = 
       let less : c < count = grind arith in
       still_has (32 * count) (32 * c) table after state same (inl (omega (arith, less))) (holds.each c state less (sym (get_set_other states count c new other) ∙ there))
 
-sides : (c k : ℕ) → (c ≡ k → ⊥) → (32 * c + 32 ≤ 32 * k) ⊎ (32 * k + 32 ≤ 32 * c)
+pub sides : (c k : ℕ) → (c ≡ k → ⊥) → (32 * c + 32 ≤ 32 * k) ⊎ (32 * k + 32 ≤ 32 * c)
 sides c k other = at (nat_lt c k) refl where
   at : (b : Bool) → nat_lt c k ≡ b → (32 * c + 32 ≤ 32 * k) ⊎ (32 * k + 32 ≤ 32 * c)
   at true less = let below : c < k = grind arith in inl (omega (arith, below))

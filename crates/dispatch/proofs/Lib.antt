@@ -1,4 +1,5 @@
 pub mod AnswerLemmas
+pub mod ClosedLemmas
 pub mod ComeBackLemmas
 pub mod DeadlineLemmas
 pub mod ReceivedLemmas
@@ -7,4 +8,5 @@ pub mod RestartLemmas
 pub mod SaveLemmas
 pub mod ServerLemmas
 pub mod TickLemmas
+pub mod TurnedLemmas
 pub mod WithStates

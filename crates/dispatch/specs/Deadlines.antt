@@ -19,6 +19,11 @@ held_until o s =
     if nat_lt s 16 then option_map until_of (slice_index_or o.four.slots s None)
     else option_map until_of (slice_index_or o.six.slots (s - 16) None)
 
+-- the same of a circuit, which may be closed
+abbrev pub held_in : Option OpenCircuitValue → ℕ → Option ℕ
+held_in None s = None
+held_in (Some o) s = held_until o s
+
 -- Of a circuit whose first slot has this number: nothing while it is closed; while it is open, until when each slot is
 -- held that is live.
 abbrev pub HasDeadlines : DeadlinesValue → ℕ → Option OpenCircuitValue → Type 0
@@ -31,11 +36,6 @@ pub record HoldsDeadlines (table : DeadlinesValue) (states : List (Option OpenCi
   pub each : (c : ℕ) (state : Option OpenCircuitValue) → slice_get states c ≡ Some state → HasDeadlines table (32 * c) state
 
 -- ---- only proofs need these
-
--- the same of a circuit, which may be closed
-abbrev pub held_in : Option OpenCircuitValue → ℕ → Option ℕ
-held_in None s = None
-held_in (Some o) s = held_until o s
 
 -- all but the 32 slots from this number on have the deadlines that they had
 pub record SameBeside (first : ℕ) (old new : DeadlinesValue) : Type 0 where

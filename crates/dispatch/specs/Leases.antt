@@ -75,7 +75,7 @@ served_leases part d fault l (Some b) = kept fault (served part d b) l
 abbrev pub after_datagram : CircuitPart → DeliveryValue → ℕ → Leases → Leases
 after_datagram part d fault l = served_leases part d fault l l.book
 
--- ---- a moment, a restart
+-- ---- a moment, a restart, a reload
 
 abbrev pub after_tick : ℕ → Leases → Leases
 after_tick now l = record l { book = option_map (book_at now) l.book }
@@ -102,6 +102,12 @@ come_back fault kept is_new = record {
 abbrev pub after_restart : Image → ℕ → Leases → Leases
 after_restart (Byte byte) fault l = come_back fault (l.restarts byte) (l.is_new byte)
 after_restart Unreadable fault l = record l { book = None }
+
+-- At a reload, by whether the circuit was served and whether it is now: one that is no longer served loses its offers, and keeps
+-- its bindings, its bars, its clock and its region. Every other one stays as it is.
+abbrev pub turned : Bool → Bool → Leases → Leases
+turned true false l = record l { book = option_map kept_book l.book }
+turned before now l = l
 
 -- at opening, and after a restart over a region that is read as it is
 abbrev pub region_leases : CircuitPart → ℕ → Region → Bool → Leases

@@ -5,3 +5,4 @@ pub mod Received
 pub mod Server
 pub mod ServerValue
 pub mod Ticked
+pub mod Turned

@@ -3,11 +3,13 @@ ghost use Rattle.std.specs.Prelude.{◌≡◌, ◌<◌, ◌≤◌, ◌+◌, ℕ,
 ghost use Rattle.config.specs.CircuitPart.{IsPart};
 ghost use Rattle.dispatch.specs.Deadlines.{HasDeadlines, SameBeside, held_in};
 ghost use Rattle.dispatch.specs.Leases.{IsBroughtUp, after_datagram, counts_of, found_leases};
+ghost use Rattle.timers.specs.Deadlines.{deadline};
 ghost use Rattle.types.specs.Slots.{last_until};
 ghost use Rattle.dispatch.specs.Received.{IsAnswer, answered, circuit_saves, fails_at};
 ghost use Rattle.requests.specs.RelayedMessage.{IsRelayedMessage};
 ghost use Rattle.dispatch.specs.ServerValue.{HasPools, IsReadyFor, leases_of, open_book};
 ghost use Rattle.dispatch.specs.Ticked.{IsLater, state_at};
+ghost use Rattle.dispatch.specs.Turned.{state_unoffered};
 ghost use Rattle.lease_disk.specs.Device.{ChangesOne, Touches, WritesAt};
 ghost use Rattle.lease_disk.specs.Region.{IsClean};
 
@@ -143,11 +145,35 @@ impl CircuitServer {
     pub(crate) fn set_deadlines(&self, table: &mut Deadlines, first: usize)
         requires room { first + 32 ≤ length table.old.slots }
         requires most { first ≤ 32736 }
+        ensures own { (s : ℕ) → s < 32 → deadline table.new (first + s) ≡ held_in self.now s }
         ensures deadlines { HasDeadlines table.new first self.now }
         ensures beside { SameBeside first table.old table.new }
     {
         'slots: for slot in 0..32 {
             put(table, first + slot, self.until(slot));
+        }
+    }
+
+    /// The circuit is no longer served: it loses its offers, and its slots have the deadlines of what is left, where this is the
+    /// number of the first one.
+    pub(crate) fn turn_off(&mut self, table: &mut Deadlines, first: usize)
+        requires room { first + 32 ≤ length table.old.slots }
+        requires most { first ≤ 32736 }
+        ensures state { self.new ≡ state_unoffered self.old }
+        ensures own { (s : ℕ) → s < 32 → deadline table.new (first + s) ≡ held_in self.new s }
+        ensures deadlines { HasDeadlines table.new first self.new }
+        ensures beside { SameBeside first table.old table.new }
+    {
+        self.withdraw_offers();
+        self.set_deadlines(table, first);
+    }
+
+    /// Drops the offers of an open circuit.
+    fn withdraw_offers(&mut self)
+        ensures { self.new ≡ state_unoffered self.old }
+    {
+        if let Some(circuit) = &mut self.state {
+            circuit.withdraw_offers();
         }
     }
 

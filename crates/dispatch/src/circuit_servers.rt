@@ -1,24 +1,26 @@
 //! The servers of all circuits: one tick moves the clocks of all at once.
-ghost use Rattle.std.specs.Prelude.{◌≡◌, ◌<◌, ◌≤◌, ◌+◌, ◌*◌, [], List, Some, length, map, slice_set, All, true, is_some, nat_lt, option_map, IfOk};
+ghost use Rattle.std.specs.Prelude.{◌≡◌, ◌<◌, ◌≤◌, ◌+◌, ◌*◌, ℕ, [], List, Some, length, map, replicate, slice_set, All, true, is_some, nat_lt, option_map, IfOk};
 ghost use Rattle.config.specs.CircuitPart as parts;
 ghost use Rattle.config.specs.CircuitPart.{IsPart};
 ghost use Rattle.config.specs.Topology.{RegionsDiffer};
-ghost use Rattle.dispatch.specs.Deadlines.{HasDeadlines, HoldsDeadlines, SameBeside};
+ghost use Rattle.dispatch.specs.Deadlines.{HasDeadlines, HoldsDeadlines, SameBeside, held_in};
 ghost use Rattle.dispatch.specs.Leases.{AreBroughtUp, AreSynced, HasRegions, KeepsOthers, after_datagram, found_leases};
 ghost use Rattle.dispatch.specs.Received.{IsAnswer, answered, circuit_saves, fails_at};
 ghost use Rattle.requests.specs.RelayedMessage.{IsRelayedMessage};
 ghost use Rattle.dispatch.specs.ServerValue.{HasItsPools, HasPools, IsReady, IsReadyFor, leases_of, open_book, with_states};
 ghost use Rattle.dispatch.specs.Ticked.{state_at, state_of};
+ghost use Rattle.dispatch.specs.Turned.{AreTurned, state_unoffered, turns_off};
 ghost use Rattle.lease_disk.specs.Device.{Touches, WritesAt};
+ghost use Rattle.timers.specs.Deadlines.{deadline};
 
 use crate::circuit_server::CircuitServer;
-use config::CircuitPart;
+use config::{CircuitPart, Circuits};
 use lease_disk::Disk;
 use requests::RelayedMessage;
 use std::alloc::{AllocError, Global};
 use std::marker::Model;
 use timers::Deadlines;
-use types::{Delivery, Discard, Moment};
+use types::{Circuit, Delivery, Discard, Moment};
 use wire::PacketBuf;
 
 /// How many slots a circuit has, of both pools.
@@ -45,7 +47,7 @@ impl Model for CircuitServers {
 impl CircuitServers {
     /// A server for each of so many circuits. Each is closed.
     pub(crate) fn closed(alloc: Global, count: usize) -> Result<CircuitServers, AllocError>
-        ensures { IfOk result (λ servers. length servers ≡ count) }
+        ensures { IfOk result (λ servers. servers ≡ replicate count None) }
     {
         let servers = closed_servers(alloc, count)?;
         Ok(CircuitServers {
@@ -116,6 +118,22 @@ impl CircuitServers {
         self.ticked = self.ticked.later(now);
     }
 
+    /// The circuit is no longer served: it loses its offers, and its slots have the deadlines of what is left.
+    pub(crate) fn turn_off(&mut self, index: usize, table: &mut Deadlines)
+        requires index { index < length self.old }
+        requires few { index < 1024 }
+        requires room { 32 * index + 32 ≤ length table.old.slots }
+        ensures states { self.new ≡ slice_set self.old index (state_unoffered (state_of self.old index)) }
+        ensures own { (s : ℕ) → s < 32 → deadline table.new (32 * index + s) ≡ held_in (state_of self.new index) s }
+        ensures deadlines { HasDeadlines table.new (32 * index) (state_of self.new index) }
+        ensures beside { SameBeside (32 * index) table.old table.new }
+    {
+        let moment = self.ticked;
+        let server = &mut self.servers[index];
+        server.tick(moment);
+        server.turn_off(table, SLOTS * index);
+    }
+
     /// Begins each with what its region holds, which is moved to format 2 in this buffer, and gives its slots their deadlines.
     pub(crate) fn restart<D: Disk>(
         &mut self,
@@ -150,9 +168,35 @@ impl CircuitServers {
     }
 }
 
+/// Turns off each circuit that is served and that this plan does not have.
+pub(crate) fn turn_off_all(
+    servers: &mut CircuitServers,
+    circuits: &Circuits,
+    plan: usize,
+    table: &mut Deadlines,
+)
+    requires size { length servers.old ≡ length circuits.now.circuits }
+    requires held { HoldsDeadlines table.old servers.old }
+    ensures { AreTurned (turns_off circuits.now plan) servers.old servers.new table.old table.new }
+{
+    'circuits: for index in 0..circuits.count() {
+        if turns_off(circuits, plan, Circuit::at(index)) {
+            servers.turn_off(index, table);
+        }
+    }
+}
+
+/// Whether a circuit turns off when this plan comes into force: it is served, and the plan does not have it.
+fn turns_off(circuits: &Circuits, plan: usize, circuit: Circuit) -> bool
+    requires { circuit < length circuits.now.circuits }
+    ensures { result ≡ turns_off circuits.now plan circuit }
+{
+    circuits.serves(circuit) && !circuits.serves_in(plan, circuit)
+}
+
 /// A server for each of so many circuits. Each is closed.
 fn closed_servers(alloc: Global, count: usize) -> Result<Vec<CircuitServer>, AllocError>
-    ensures { IfOk result (λ servers. length servers.items ≡ count) }
+    ensures { IfOk result (λ servers. servers.items ≡ replicate count None) }
 {
     let mut servers = Vec::with_capacity(alloc, count)?;
     'servers: for _ in 0..count {

@@ -14,6 +14,7 @@ ghost use Rattle.requests.specs.Request4.{request4_in};
 ghost use Rattle.dispatch.specs.Server.{book_at, datagram_served, drop, message6_served, request4_served};
 ghost use Rattle.dispatch.specs.ServerValue.{HasPools, IsReadyFor, open_book};
 ghost use Rattle.dispatch.specs.Ticked.{open_at};
+ghost use Rattle.dispatch.specs.Turned.{open_unoffered};
 ghost use Rattle.lease_disk.specs.Device.{Touches, TouchesNothing};
 ghost use Rattle.lease_disk.specs.Layout.{is_format2};
 ghost use Rattle.lease_disk.specs.Region.{IsClean, Region, effective, faults_after};
@@ -89,6 +90,13 @@ impl OpenCircuit {
         bindings_v4::laws::expires_by_the_clock(&self.four, self.clock, later);
         bindings_v6::laws::expires_by_the_clock(&self.six, self.clock, later);
         self.clock = later;
+    }
+
+    /// Drops every offer, live or expired. Bindings, bars and the clock stay.
+    pub(crate) fn withdraw_offers(&mut self)
+        ensures { self.new ≡ open_unoffered self.old }
+    {
+        self.four.withdraw_offers();
     }
 
     /// Until when a slot of the circuit is held, live or expired, in seconds.

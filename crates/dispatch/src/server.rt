@@ -1,23 +1,23 @@
 //! The server of all circuits, over a device that keeps their leases.
-ghost use Rattle.std.specs.Prelude.{◌≡◌, ◌<◌, ◌≤◌, ◌+◌, ◌*◌, ◌↔◌, ℕ, length, map, slice_get, Some, true, false, is_some, nat_lt, count_by, IfOk, IfErr, OnErr};
+ghost use Rattle.std.specs.Prelude.{◌≡◌, ◌<◌, ◌≤◌, ◌+◌, ◌*◌, ◌↔◌, ℕ, Option, length, map, slice_get, Some, true, false, is_some, nat_lt, count_by, IfOk, IfErr, OnErr};
 ghost use Rattle.config.specs.CircuitPart.{parts_of};
-ghost use Rattle.config.specs.Topology.{IsTopology, topology_of};
+ghost use Rattle.config.specs.Topology.{IsTopology, plans_topology, reloaded, serves, topology_of};
 ghost use Rattle.requests.specs.Addressee as who;
-ghost use Rattle.dispatch.specs.Deadlines.{HoldsDeadlines};
-ghost use Rattle.dispatch.specs.Leases.{AreBroughtUp, AreSynced, HasRegions, KeepsOthers, after_tick, found_leases, received_leases};
+ghost use Rattle.dispatch.specs.Deadlines.{HoldsDeadlines, held_in};
+ghost use Rattle.dispatch.specs.Leases.{AreBroughtUp, AreSynced, HasRegions, KeepsOthers, Leases, after_tick, found_leases, received_leases, turned};
 ghost use Rattle.dispatch.specs.Received.{IsAnswer, fails_at, received, received_saves};
-ghost use Rattle.dispatch.specs.ServerValue.{AreReady, books_in, leases_in};
+ghost use Rattle.dispatch.specs.ServerValue.{AreReady, OpenCircuitValue, books_in, leases_in};
 ghost use Rattle.dispatch.specs.declared.server.OpenFault.TheVariants as fault;
 ghost use Rattle.lease_disk.specs.Device.{WritesAt};
 ghost use Rattle.types.specs.Delivery.{delivery};
 ghost use Rattle.lease_disk.specs.Region.{Region};
 ghost use Rattle.timers.specs.Deadlines.{deadline, is_due};
 
-use crate::circuit_servers::{CircuitServers, SLOTS};
-use config::{CircuitPart, Circuits, Config};
+use crate::circuit_servers::{CircuitServers, SLOTS, turn_off_all};
+use config::{CircuitPart, Circuits, Config, Plans};
 use lease_disk::{Disk, HALVES_SIZE};
 use requests::addressee;
-use std::alloc::Global;
+use std::alloc::{AllocError, Global};
 use std::marker::Model;
 use thiserror::Error;
 use timers::Deadlines;
@@ -96,20 +96,73 @@ impl Server {
         let Ok(circuits) = Circuits::of(alloc, config) else {
             return Err(OpenFault::Memory);
         };
-        let count = config.circuit_count();
-        let Ok(mut servers) = CircuitServers::closed(alloc, count) else {
+        Server::over(alloc, circuits, disk)
+    }
+
+    /// The same of several plans, of which the first is in force. Each circuit of any of them begins with the leases and the
+    /// clock that its region holds.
+    pub fn open_plans<D: Disk>(
+        alloc: Global,
+        plans: &Plans,
+        disk: &mut D,
+    ) -> Result<Server, OpenFault>
+        requires synced { D.tells ≡ true → AreSynced (parts_of plans.now.union) (D.device disk.old).region }
+        ensures topology { IfOk result (λ server. server.topology ≡ plans_topology plans.now) }
+        ensures sound { IfOk result (λ server. IsTopology (plans_topology plans.now)) }
+        ensures leases { D.tells ≡ true → IfOk result (λ server. leases_in (D.device disk.new).region server ≡ map (found_leases (D.device disk.old).region (D.device disk.old).fuse) (parts_of plans.now.union)) }
+        ensures ready { D.tells ≡ true → IfOk result (λ server. AreReady (D.device disk.new).region server) }
+        ensures large { IfOk result (λ server. HasRegions (parts_of plans.now.union) (D.device disk.new).count) }
+        ensures small { IfErr result (λ why. why ≡ fault.DiskTooSmall → ¬ HasRegions (parts_of plans.now.union) (D.device disk.old).count) }
+        ensures untouched { OnErr result (D.device disk.new ≡ D.device disk.old) }
+        ensures regions { D.tells ≡ true → IfOk result (λ server. AreBroughtUp (parts_of plans.now.union) (D.device disk.old) (D.device disk.new)) }
+        ensures others { D.tells ≡ true → KeepsOthers (parts_of plans.now.union) (D.device disk.old) (D.device disk.new) }
+        ensures count { (D.device disk.new).count ≡ (D.device disk.old).count }
+        ensures reads { (D.device disk.new).reads ≤ (D.device disk.old).reads + 5 * length plans.now.union.circuits }
+        ensures writes { (D.device disk.new).writes ≤ (D.device disk.old).writes + 4 * length plans.now.union.circuits }
+    {
+        let Ok(circuits) = Circuits::of_plans(alloc, plans) else {
             return Err(OpenFault::Memory);
         };
-        let Ok(mut deadlines) = Deadlines::new(alloc, SLOTS * count) else {
+        Server::over(alloc, circuits, disk)
+    }
+
+    /// The server of these circuits over a device, as `open` begins one.
+    fn over<D: Disk>(alloc: Global, circuits: Circuits, disk: &mut D) -> Result<Server, OpenFault>
+        requires some { 1 ≤ length circuits.circuits }
+        requires sound { IsTopology circuits }
+        requires synced { D.tells ≡ true → AreSynced circuits.circuits (D.device disk.old).region }
+        ensures topology { IfOk result (λ server. server.topology ≡ circuits) }
+        ensures leases { D.tells ≡ true → IfOk result (λ server. leases_in (D.device disk.new).region server ≡ map (found_leases (D.device disk.old).region (D.device disk.old).fuse) circuits.circuits) }
+        ensures ready { D.tells ≡ true → IfOk result (λ server. AreReady (D.device disk.new).region server) }
+        ensures large { IfOk result (λ server. HasRegions circuits.circuits (D.device disk.new).count) }
+        ensures small { IfErr result (λ why. why ≡ fault.DiskTooSmall → ¬ HasRegions circuits.circuits (D.device disk.old).count) }
+        ensures untouched { OnErr result (D.device disk.new ≡ D.device disk.old) }
+        ensures regions { D.tells ≡ true → IfOk result (λ server. AreBroughtUp circuits.circuits (D.device disk.old) (D.device disk.new)) }
+        ensures others { D.tells ≡ true → KeepsOthers circuits.circuits (D.device disk.old) (D.device disk.new) }
+        ensures count { (D.device disk.new).count ≡ (D.device disk.old).count }
+        ensures reads { (D.device disk.new).reads ≤ (D.device disk.old).reads + 5 * length circuits.circuits }
+        ensures writes { (D.device disk.new).writes ≤ (D.device disk.old).writes + 4 * length circuits.circuits }
+    {
+        let Ok(mut server) = Server::closed(alloc, circuits) else {
             return Err(OpenFault::Memory);
         };
-        let Ok(mut buffer) = Vec::from_elem(alloc, 0, HALVES_SIZE) else {
-            return Err(OpenFault::Memory);
-        };
-        if !has_regions(circuits.parts(), disk.regions()) {
+        if !has_regions(server.circuits.parts(), disk.regions()) {
             return Err(OpenFault::DiskTooSmall);
         }
-        servers.restart(circuits.parts(), disk, &mut buffer, &mut deadlines);
+        server.restart(disk);
+        Ok(server)
+    }
+
+    /// The server of these circuits before any region is read: each circuit is closed. All memory is taken here.
+    fn closed(alloc: Global, circuits: Circuits) -> Result<Server, AllocError>
+        requires some { 1 ≤ length circuits.circuits }
+        requires sound { IsTopology circuits }
+        ensures { IfOk result (λ server. server.topology ≡ circuits) }
+    {
+        let count = circuits.count();
+        let servers = CircuitServers::closed(alloc, count)?;
+        let deadlines = Deadlines::new(alloc, SLOTS * count)?;
+        let buffer = Vec::from_elem(alloc, 0, HALVES_SIZE)?;
         Ok(Server {
             circuits,
             servers,
@@ -210,6 +263,32 @@ impl Server {
     {
         self.servers.tick(now);
         self.deadlines.sweep(now);
+    }
+
+    /// Puts another plan in force, 0 the first; false, and nothing changed, where there is no such plan. A circuit that is no
+    /// longer served loses its offers, and keeps its bindings, its bars, its clock and its region; its deadlines are those
+    /// of what is left. Of every other circuit nothing is touched, not an offer and not a deadline. It looks at each circuit
+    /// once at most.
+    pub fn reload(&mut self, plan: u8) -> bool
+        ensures topology { self.new.topology ≡ reloaded plan self.old.topology }
+        ensures answer { result ≡ nat_lt plan self.old.topology.plans.count }
+        ensures refused { result ≡ false → self.new ≡ self.old }
+        ensures leases { (regions : ℕ → Region) (c : ℕ) (l : Leases) → slice_get (leases_in regions self.old) c ≡ Some l
+            → slice_get (leases_in regions self.new) c ≡ Some (turned (serves self.old.topology c) (serves self.new.topology c) l) }
+        ensures count { length self.new.states ≡ length self.old.states }
+        ensures ready { (regions : ℕ → Region) → AreReady regions self.old → AreReady regions self.new }
+        ensures kept { (c : ℕ) → serves self.old.topology c ≡ serves self.new.topology c → slice_get self.new.states c ≡ slice_get self.old.states c }
+        ensures deadlines { (c : ℕ) → serves self.old.topology c ≡ serves self.new.topology c → (s : ℕ) → s < 32 → deadline self.new.deadlines (32 * c + s) ≡ deadline self.old.deadlines (32 * c + s) }
+        ensures left { (c : ℕ) (state : Option OpenCircuitValue) → serves self.old.topology c ≡ true → serves self.new.topology c ≡ false → slice_get self.new.states c ≡ Some state
+            → (s : ℕ) → s < 32 → deadline self.new.deadlines (32 * c + s) ≡ held_in state s }
+    {
+        let number = usize::from(plan);
+        if !self.circuits.has_plan(number) {
+            return false;
+        }
+        let table = &mut self.deadlines;
+        turn_off_all(&mut self.servers, &self.circuits, number, table);
+        self.circuits.reload(number)
     }
 
     /// Begins each circuit anew with what its region holds, without offers. One whose region cannot be

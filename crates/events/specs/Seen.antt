@@ -1,6 +1,7 @@
 -- What one circuit sees of the events of a whole run.
-use Rattle.std.specs.Prelude.{ℕ, Bool, true, false, List, Option, Some, None, ◌==◌, if◌then◌else◌, slice_index_or}
-use Rattle.std.specs.List.{filter_map}
+use Rattle.std.specs.Prelude.{ℕ, Bool, true, false, not, ◌&&◌, ◌||◌, List, [], ◌∷◌, Option, Some, None, ◌==◌, if◌then◌else◌, slice_get, slice_index_or}
+use Rattle.std.specs.List.{cons_option}
+use Rattle.std.specs.Option.{unwrap_or}
 use Rattle.types.specs.declared.dest.Proto.{Proto}
 use Rattle.lease_disk.specs.declared.image.Image.TheVariants.{Byte}
 use Rattle.events.specs.declared.comeback.Comeback.{Comeback}
@@ -19,25 +20,40 @@ pub data Seen : Type 0 where
   Tick : ℕ → Seen
   -- the server restarts, and the circuit's region comes back so
   Restart : Comeback → Seen
+  -- the circuit is turned on or off
+  Turn : Bool → Seen
 
 -- How circuit c's region comes back, by the list of a restart. Past the end of the list each unsynced byte is 0, and no
 -- call fails.
 abbrev pub comeback_at : ℕ → List Comeback → Comeback
 comeback_at c comebacks = slice_index_or comebacks c (record { image = Byte 0; move_fault = 0 })
 
--- what circuit c sees of an event: what names it, every tick, and how its own region comes back at every restart, but
--- no stray
-abbrev pub seen_of : ℕ → Event → Option Seen
-seen_of c (event.Frame circuit proto bytes) = if circuit == c then Some (Frame proto bytes.now) else None
-seen_of c (event.Up circuit j now fault) = if circuit == c then Some (Up j now fault) else None
-seen_of c (event.Down circuit j) = if circuit == c then Some (Down j) else None
-seen_of c (event.Tick now) = Some (Tick now)
-seen_of c (event.Restart comebacks) = Some (Restart (comeback_at c comebacks.now))
-seen_of c stray = None
+-- a circuit that is on or not sees a reload where that turns it
+abbrev pub turn_to : Bool → Bool → Option Seen
+turn_to true false = Some (Turn false)
+turn_to false true = Some (Turn true)
+turn_to on next = None
 
--- what circuit c sees of a run, in order
-abbrev pub seen_by : ℕ → List Event → List Seen
-seen_by c events = filter_map (seen_of c) events
+-- What circuit c, which is on or not, and which these plans have, sees of an event: what names it, every tick, how its own
+-- region comes back at every restart, and what turns it, but no stray.
+abbrev pub seen_of : List Bool → ℕ → Bool → Event → Option Seen
+seen_of plans c on (event.Frame circuit proto bytes) = if circuit == c then Some (Frame proto bytes.now) else None
+seen_of plans c on (event.Up circuit j now fault) = if circuit == c then Some (Up j now fault) else None
+seen_of plans c on (event.Down circuit j) = if circuit == c then Some (Down j) else None
+seen_of plans c on (event.Tick now) = Some (Tick now)
+seen_of plans c on (event.Restart comebacks) = Some (Restart (comeback_at c comebacks.now))
+seen_of plans c on (event.Reload plan) = turn_to on (unwrap_or (slice_get plans plan) on)
+seen_of plans c on stray = None
+
+-- whether it is on after an event: where another plan came into force, by whether that has it
+abbrev pub is_on_after : List Bool → Bool → Event → Bool
+is_on_after plans on (event.Reload plan) = unwrap_or (slice_get plans plan) on
+is_on_after plans on event = on
+
+-- what it sees of a run, in order
+unfoldable pub seen_by : List Bool → ℕ → Bool → List Event → List Seen
+seen_by plans c on [] = []
+seen_by plans c on (e ∷ events) = cons_option (seen_of plans c on e) (seen_by plans c (is_on_after plans on e) events)
 
 -- the circuit that an event names
 abbrev pub named_by : Event → Option ℕ
@@ -45,6 +61,11 @@ named_by (event.Frame circuit proto bytes) = Some circuit
 named_by (event.Up circuit j now fault) = Some circuit
 named_by (event.Down circuit j) = Some circuit
 named_by event = None
+
+-- the plan that an event puts in force
+abbrev pub reload_of : Event → Option ℕ
+reload_of (event.Reload plan) = Some plan
+reload_of event = None
 
 abbrev pub is_restart : Event → Bool
 is_restart (event.Restart comebacks) = true

@@ -18,6 +18,8 @@ pub enum Event<'a> {
     /// The server and the disk stop and start again. Each circuit's region comes back as the list says; that of a
     /// circuit past its end with `Image::Byte(0)`, and without a fault.
     Restart(&'a [Comeback]),
+    /// The plan of this number, 0 the first, comes into force.
+    Reload(u8),
     /// A datagram that no relay of the configuration sent reaches the server at this moment.
     StrayUp(Proto, Source, &'a [u8], Moment),
     /// A datagram that the server did not send reaches a relay.

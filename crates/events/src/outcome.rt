@@ -17,4 +17,6 @@ pub enum Outcome {
     Done,
     /// The source of a stray is one of the configuration, so it is none. Nothing happened.
     NotAStray,
+    /// There is no such plan. Nothing happened.
+    NoPlan,
 }

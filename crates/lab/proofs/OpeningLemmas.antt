@@ -35,4 +35,4 @@ pub same_opened : (setup : Setup) (one other : Opening) → ((i : ℕ) → i < 3
 same_opened setup one other bytes fault =
     let found : recovered (counts_of setup.part) other.byte ≡ recovered (counts_of setup.part) one.byte = same_book one.byte other.byte bytes (counts_of setup.part) (is_format2 one.byte) refl in
     let format : is_format2 other.byte ≡ is_format2 one.byte = same_format one.byte other.byte bytes in
-    λ j. start (fault j) (option_map (book_in setup.part) (found j)) (format j)
+    λ j. start setup.begins_on (fault j) (option_map (book_in setup.part) (found j)) (format j)

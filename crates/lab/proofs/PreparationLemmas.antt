@@ -1,5 +1,5 @@
 -- The lines before all events.
-use Rattle.std.proofs.Common.{◌≡◌, ℕ, ◌+◌, ◌<◌, ◌⊎◌, inl, inr, Bool, true, false, cond, eqb, eqb-true, eq-eqb, List, [], ◌∷◌, ◌++◌, length, take, drop, refl, ap, sym, subst, ◌∙◌, arith, append_assoc, append-nil, length-append, take-append-drop, take_all}
+use Rattle.std.proofs.Common.{◌≡◌, ℕ, ◌+◌, ◌<◌, ◌⊎◌, inl, inr, Bool, true, false, cond, eqb, eqb-true, eq-eqb, List, [], ◌∷◌, ◌++◌, length, map, take, drop, refl, ap, sym, subst, ◌∙◌, arith, append_assoc, append-nil, length-append, take-append-drop, take_all}
 use Rattle.std.specs.Prelude.{⊤, ◌-◌, nat_lt, if◌then◌else◌, Option, Some, None, slice_get, slice_index, option_map}
 use Rattle.std.specs.Io.KnownBytes.{Consumes, IsAtEnd, Keeps, prepend_known}
 use Rattle.std.proofs.KnownBytes.{Consumes-kept, prepend_known-nil}
@@ -8,8 +8,11 @@ use Rattle.std.proofs.lemmas.List.{length-take-le}
 use Rattle.std.proofs.lemmas.Option.{same_Some, slice_get-map}
 use Rattle.config.specs.CircuitPart.{CircuitPart, part_in, part_of, source_at}
 use Rattle.config.specs.Rules.{IsSound}
+use Rattle.config.specs.Membership.{IsMembership, MembershipValue}
+use Rattle.config.specs.Plans.{PlansValue}
 use Rattle.settings.specs.Settings.{Settings}
 use Rattle.settings.specs.declared.settings.CircuitConfig.{CircuitConfig}
+use Rattle.config.proofs.MembershipLemmas.{is_membership}
 use Rattle.config.proofs.TopologyLemmas.{regions_differ}
 use Rattle.lease_disk.specs.Crash.{filled, formatted_region, IsFormattedOld}
 use Rattle.lease_disk.specs.Crash as crash
@@ -17,10 +20,10 @@ use Rattle.lease_disk.specs.Device.{Device, ChangesOne}
 use Rattle.lease_disk.specs.Layout.{formatted_old}
 use Rattle.lease_disk.specs.Model.{ModelDiskValue, SameBut, device_of, fuse_of, region_of, state_of}
 use Rattle.lease_disk.specs.Region.{Region, is_within}
-use Rattle.world.specs.Alone.{Setup}
+use Rattle.world.specs.Alone.{Setup, setup_of}
 use Rattle.world.specs.Headline.{CircuitState}
-use Rattle.world.specs.Start.{Opening, setup_in}
-use Rattle.world.proofs.SetupLemmas.{its_part}
+use Rattle.world.specs.Start.{Opening, begins_on, setup_in}
+use Rattle.world.proofs.SetupLemmas.{its_part, setup_at}
 use Rattle.lab_text.specs.declared.parse_line.ParsedLine.{ParsedLine}
 use Rattle.lab_text.specs.declared.parse_line.ParsedLine.TheVariants as parsed_line
 use Rattle.events.specs.declared.comeback.Comeback.{Comeback}
@@ -46,11 +49,11 @@ pub formatted_are_ready : (count : ℕ) (regions : ℕ → Region) → ((q : ℕ
 formatted_are_ready count regions formatted = λ q inside. formatted_ready (regions q) (formatted q inside)
 
 -- before the first line
-pub formatted_over : (settings : Settings) (quota count : ℕ) (device : Device) → ((c : ℕ) (part : CircuitPart) → part_in settings c ≡ Some part → part.region < count)
-    → ((q : ℕ) → q < count → device.region q ≡ formatted_region) → ((q : ℕ) → q < count → device.fuse q ≡ 0) → AreOver settings quota device first_openings
-formatted_over settings quota count device within formatted none = record {
+pub formatted_over : (plans : PlansValue) (quota count : ℕ) (device : Device) → ((c : ℕ) (part : CircuitPart) → part_in plans.union c ≡ Some part → part.region < count)
+    → ((q : ℕ) → q < count → device.region q ≡ formatted_region) → ((q : ℕ) → q < count → device.fuse q ≡ 0) → AreOver plans quota device first_openings
+formatted_over plans quota count device within formatted none = record {
   each = λ c setup h.
-      let inside = within c setup.part (its_part settings quota c setup h) in
+      let inside = within c setup.part (its_part plans quota c setup h) in
       record {
         byte = λ i l. ap (λ (r : Region). r.byte i) (sym (formatted setup.part.region inside));
         move_fault = sym (none setup.part.region inside);
@@ -93,73 +96,80 @@ load_ready at bytes old new state before = subst IsReady (sym state) (record { r
 pub move_ready : (old new : Region) → new ≡ old → IsReady old → IsReady new
 move_ready old new state before = subst IsReady (sym state) before
 
+-- one plan that has all circuits
+abbrev one_of : Settings → MembershipValue
+one_of settings = record { count = 1; members = map (λ (circuit : CircuitConfig). true ∷ []) settings.circuits; plan = 0 }
+
+one_is : (settings : Settings) → IsMembership (length settings.circuits) (one_of settings)
+one_is settings = is_membership (λ (circuit : CircuitConfig). true ∷ []) settings.circuits 1 (omega arith) (omega arith) (λ i d within. refl)
+
 -- the opening of circuit c's region and of every other
-opening_at : (settings : Settings) (quota c d region : ℕ) (one : CircuitPart) (other : Setup) (old new : ModelDiskValue) (next : Opening) (openings : ℕ → Opening) (t : Bool) → IsSound settings
-    → eqb c d ≡ t → part_in settings c ≡ Some one → setup_in settings quota d ≡ Some other → one.region ≡ region
+opening_at : (plans : PlansValue) (quota c d region : ℕ) (one : CircuitPart) (other : Setup) (old new : ModelDiskValue) (next : Opening) (openings : ℕ → Opening) (t : Bool) → IsSound plans.union
+    → eqb c d ≡ t → part_in plans.union c ≡ Some one → setup_in plans quota d ≡ Some other → one.region ≡ region
     → Changes region old new → IsOpening (device_of new) region next → IsOpening (device_of old) other.part.region (openings d)
     → IsOpening (device_of new) other.part.region (cond t next (openings d))
-opening_at settings quota c d region one other old new next openings true sound e is there at changes opening over =
+opening_at plans quota c d region one other old new next openings true sound e is there at changes opening over =
     let same : c ≡ d = eqb-true c d e in
-    let part : part_in settings c ≡ Some other.part = ap (part_in settings) same ∙ its_part settings quota d other there in
+    let part : part_in plans.union c ≡ Some other.part = ap (part_in plans.union) same ∙ its_part plans quota d other there in
     let place : other.part.region ≡ region = ap (λ (p : CircuitPart). p.region) (same_Some _ _ (sym part ∙ is)) ∙ at in
     subst (λ r. IsOpening (device_of new) r next) (sym place) opening
-opening_at settings quota c d region one other old new next openings false sound e is there at changes opening over =
+opening_at plans quota c d region one other old new next openings false sound e is there at changes opening over =
     let apart : other.part.region ≡ region → ⊥ = λ same.
-    let f : true ≡ false = sym (eq-eqb c d (regions_differ settings sound c d one other.part is (its_part settings quota d other there) (at ∙ sym same))) ∙ e in absurd (cc) in
+    let f : true ≡ false = sym (eq-eqb c d (regions_differ plans.union (one_of plans.union) sound (one_is plans.union) c d one other.part is (its_part plans quota d other there) (at ∙ sym same))) ∙ e in absurd (cc) in
     record {
       byte = λ i l. over.byte i l ∙ ap (λ (r : Region). r.byte i) (sym (changes.region refl other.part.region apart));
       move_fault = over.move_fault ∙ sym (changes.fuse refl other.part.region apart);
     }
 
-module _ (settings : Settings) (sound : IsSound settings) (c : ℕ) (circuit : CircuitConfig) (there : slice_get settings.circuits c ≡ Some circuit) where
+module _ (plans : PlansValue) (sound : IsSound plans.union) (c : ℕ) (circuit : CircuitConfig) (there : slice_get plans.union.circuits c ≡ Some circuit) where
   abbrev one : CircuitPart
-  one = part_of circuit (source_at settings.relays circuit.relay) settings.server.listen4 settings.server.listen6 settings.server.duid.items
+  one = part_of circuit (source_at plans.union.relays circuit.relay) plans.union.server.listen4 plans.union.server.listen6 plans.union.server.duid.items
 
-  is_part : part_in settings c ≡ Some one
+  is_part : part_in plans.union c ≡ Some one
   is_part =
-      let values : CircuitConfig → CircuitPart = λ x. part_of x (source_at settings.relays x.relay) settings.server.listen4 settings.server.listen6 settings.server.duid.items in
-      slice_get-map values settings.circuits c ∙ ap (option_map values) there
+      let values : CircuitConfig → CircuitPart = λ x. part_of x (source_at plans.union.relays x.relay) plans.union.server.listen4 plans.union.server.listen6 plans.union.server.duid.items in
+      slice_get-map values plans.union.circuits c ∙ ap (option_map values) there
 
-  module _ (quota : ℕ) (old new : ModelDiskValue) (changes : Changes circuit.region old new) (openings : ℕ → Opening) (over : AreOver settings quota (device_of old) openings) where
-    over_after : (next : Opening) → (IsOpening (device_of old) circuit.region (openings c) → IsOpening (device_of new) circuit.region next) → AreOver settings quota (device_of new) (with_opening c next openings)
+  module _ (quota : ℕ) (old new : ModelDiskValue) (changes : Changes circuit.region old new) (openings : ℕ → Opening) (over : AreOver plans quota (device_of old) openings) where
+    over_after : (next : Opening) → (IsOpening (device_of old) circuit.region (openings c) → IsOpening (device_of new) circuit.region next) → AreOver plans quota (device_of new) (with_opening c next openings)
     over_after next here = record {
-      each = λ d other h. opening_at settings quota c d circuit.region one other old new next openings (eqb c d) sound refl is_part h refl changes (here own) (over.each d other h);
+      each = λ d other h. opening_at plans quota c d circuit.region one other old new next openings (eqb c d) sound refl is_part h refl changes (here own) (over.each d other h);
     } where
       own : IsOpening (device_of old) circuit.region (openings c)
-      own = over.each c (record { part = one; quota = quota }) (ap (option_map (λ (p : CircuitPart). record { part = p; quota = quota })) is_part)
+      own = over.each c (setup_of quota one (begins_on plans c)) (setup_at plans quota c one is_part)
 
     pub fill_over : (byte : ℕ) → state_of new circuit.region ≡ filled byte (state_of old circuit.region) → fuse_of new circuit.region ≡ fuse_of old circuit.region
-        → AreOver settings quota (device_of new) (with_opening c (record (openings c) { byte = λ i. byte }) openings)
+        → AreOver plans quota (device_of new) (with_opening c (record (openings c) { byte = λ i. byte }) openings)
     fill_over byte state fuse = over_after (record (openings c) { byte = λ i. byte }) (λ own. record {
       byte = λ i l. let few : nat_lt i 32768 ≡ true = grind (arith, l) in sym (ap (λ (r : Region). r.byte i) state ∙ ap (λ b. if b then byte else 0) few);
       move_fault = own.move_fault ∙ sym fuse;
     })
 
     pub old_over : IsFormattedOld (state_of new circuit.region) → fuse_of new circuit.region ≡ fuse_of old circuit.region
-        → AreOver settings quota (device_of new) (with_opening c (record (openings c) { byte = formatted_old }) openings)
+        → AreOver plans quota (device_of new) (with_opening c (record (openings c) { byte = formatted_old }) openings)
     old_over is fuse = over_after (record (openings c) { byte = formatted_old }) (λ own. record {
       byte = λ i l. sym (is.byte i l);
       move_fault = own.move_fault ∙ sym fuse;
     })
 
     pub load_over : (at : ℕ) (bytes : List ℕ) → state_of new circuit.region ≡ crash.loaded at bytes (state_of old circuit.region) → fuse_of new circuit.region ≡ fuse_of old circuit.region
-        → AreOver settings quota (device_of new) (with_opening c (record (openings c) { byte = loaded at bytes (openings c).byte }) openings)
+        → AreOver plans quota (device_of new) (with_opening c (record (openings c) { byte = loaded at bytes (openings c).byte }) openings)
     load_over at bytes state fuse = over_after (record (openings c) { byte = loaded at bytes (openings c).byte }) (λ own. record {
       byte = λ i l. ap (λ b. if is_within at (length bytes) i then slice_index bytes (i - at) else b) (own.byte i l) ∙ sym (ap (λ (r : Region). r.byte i) state);
       move_fault = own.move_fault ∙ sym fuse;
     })
 
     pub move_over : (fault : ℕ) → state_of new circuit.region ≡ state_of old circuit.region → fuse_of new circuit.region ≡ fault
-        → AreOver settings quota (device_of new) (with_opening c (record (openings c) { move_fault = fault }) openings)
+        → AreOver plans quota (device_of new) (with_opening c (record (openings c) { move_fault = fault }) openings)
     move_over fault state fuse = over_after (record (openings c) { move_fault = fault }) (λ own. record {
       byte = λ i l. own.byte i l ∙ sym (ap (λ (r : Region). r.byte i) state);
       move_fault = sym fuse;
     })
 
 -- the lines before events are these
-pub prepared_as : (settings : Settings) (quota : ℕ) (device : Device) (parsed : ParsedLine) (is : ParsedLine) (bytes : List ℕ) (openings : ℕ → Opening) → parsed ≡ is
-    → ArePrepared settings quota device (prepared (line_of is bytes) openings) → ArePrepared settings quota device (prepared (line_of parsed bytes) openings)
-prepared_as settings quota device parsed is bytes openings e h = subst (λ p. ArePrepared settings quota device (prepared (line_of p bytes) openings)) (sym e) h
+pub prepared_as : (plans : PlansValue) (quota : ℕ) (device : Device) (parsed : ParsedLine) (is : ParsedLine) (bytes : List ℕ) (openings : ℕ → Opening) → parsed ≡ is
+    → ArePrepared plans quota device (prepared (line_of is bytes) openings) → ArePrepared plans quota device (prepared (line_of parsed bytes) openings)
+prepared_as plans quota device parsed is bytes openings e h = subst (λ p. ArePrepared plans quota device (prepared (line_of p bytes) openings)) (sym e) h
 
 -- ---- a line that was parsed
 
@@ -179,33 +189,34 @@ others_begin (parsed_line.Frame c proto len) bytes openings ignored fill old loa
 others_begin (parsed_line.Up c j now fault) bytes openings ignored fill old load move = refl
 others_begin (parsed_line.Down c j) bytes openings ignored fill old load move = refl
 others_begin (parsed_line.Tick now) bytes openings ignored fill old load move = refl
+others_begin (parsed_line.Reload plan) bytes openings ignored fill old load move = refl
 others_begin (parsed_line.StrayUp proto source len now) bytes openings ignored fill old load move = refl
 others_begin (parsed_line.StrayDown relay source len) bytes openings ignored fill old load move = refl
 
 -- ---- the text
 
-one_line : (settings : Settings) (quota number : ℕ) (openings : ℕ → Opening) (line : List ℕ) (lines : List (List ℕ))
-    → output_from settings quota number openings (line ∷ lines)
-    ≡ or_begin (prepared (line_of_text settings line) openings) (λ next. output_from settings quota (number + 1) next lines) (lab_from settings quota number (first_machines settings quota openings) (line ∷ lines))
+one_line : (plans : PlansValue) (quota number : ℕ) (openings : ℕ → Opening) (line : List ℕ) (lines : List (List ℕ))
+    → output_from plans quota number openings (line ∷ lines)
+    ≡ or_begin (prepared (line_of_text plans.union plans.count line) openings) (λ next. output_from plans quota (number + 1) next lines) (lab_from plans quota number (first_machines plans quota openings) (line ∷ lines))
 unfolding output_from
-one_line settings quota number openings line lines = refl
+one_line plans quota number openings line lines = refl
 
-no_line : (settings : Settings) (quota number : ℕ) (openings : ℕ → Opening) → output_from settings quota number openings [] ≡ record { text = []; status = 0 }
+no_line : (plans : PlansValue) (quota number : ℕ) (openings : ℕ → Opening) → output_from plans quota number openings [] ≡ record { text = []; status = 0 }
 unfolding output_from
-no_line settings quota number openings = refl
+no_line plans quota number openings = refl
 
-no_event : (settings : Settings) (quota number : ℕ) (openings : ℕ → Opening) → lab_from settings quota number (first_machines settings quota openings) [] ≡ record { text = []; status = 0 }
+no_event : (plans : PlansValue) (quota number : ℕ) (openings : ℕ → Opening) → lab_from plans quota number (first_machines plans quota openings) [] ≡ record { text = []; status = 0 }
 unfolding lab_from
-no_event settings quota number openings = refl
+no_event plans quota number openings = refl
 
 no_lines : lines_of [] ≡ []
 unfolding lines_of
 no_lines = refl
 
 -- nothing was read
-pub prepared_first : (settings : Settings) (quota : ℕ) (given : Option (List ℕ)) (device : Device) → AreOver settings quota device first_openings
-    → PreparedSoFar settings quota 1 false given given device (λ rest. ⊤)
-prepared_first settings quota given device over = record {
+pub prepared_first : (plans : PlansValue) (quota : ℕ) (given : Option (List ℕ)) (device : Device) → AreOver plans quota device first_openings
+    → PreparedSoFar plans quota 1 false given given device (λ rest. ⊤)
+prepared_first plans quota given device over = record {
   openings = first_openings;
   over = over;
   read = [];
@@ -213,15 +224,15 @@ prepared_first settings quota given device over = record {
   whole = λ rest known. refl;
 }
 
-pub nothing_held : (settings : Settings) (quota : ℕ) (given : Option (List ℕ)) (none : List ℕ) (device : Device) → none ≡ [] → PreparedSoFar settings quota 1 false given given device (λ rest. ⊤)
-    → PreparedSoFar settings quota 1 false given (prepend_known none given) device (λ rest. ⊤)
-nothing_held settings quota given none device is s =
-    subst (λ left. PreparedSoFar settings quota 1 false given left device (λ rest. ⊤)) (sym (ap (λ v. prepend_known v given) is ∙ prepend_known-nil given)) s
+pub nothing_held : (plans : PlansValue) (quota : ℕ) (given : Option (List ℕ)) (none : List ℕ) (device : Device) → none ≡ [] → PreparedSoFar plans quota 1 false given given device (λ rest. ⊤)
+    → PreparedSoFar plans quota 1 false given (prepend_known none given) device (λ rest. ⊤)
+nothing_held plans quota given none device is s =
+    subst (λ left. PreparedSoFar plans quota 1 false given left device (λ rest. ⊤)) (sym (ap (λ v. prepend_known v given) is ∙ prepend_known-nil given)) s
 
 -- more is read ahead
-pub prepared_kept : (settings : Settings) (quota number : ℕ) (begun : Bool) (given left left2 : Option (List ℕ)) (device : Device) (Known : List ℕ → Type 0)
-    → PreparedSoFar settings quota number begun given left device Known → Keeps left left2 → PreparedSoFar settings quota number begun given left2 device Known
-prepared_kept settings quota number begun given left left2 device Known s ahead = record {
+pub prepared_kept : (plans : PlansValue) (quota number : ℕ) (begun : Bool) (given left left2 : Option (List ℕ)) (device : Device) (Known : List ℕ → Type 0)
+    → PreparedSoFar plans quota number begun given left device Known → Keeps left left2 → PreparedSoFar plans quota number begun given left2 device Known
+prepared_kept plans quota number begun given left left2 device Known s ahead = record {
   openings = s.openings;
   over = s.over;
   read = s.read;
@@ -230,94 +241,94 @@ prepared_kept settings quota number begun given left left2 device Known s ahead 
 }
 
 -- what is applied before events
-next_of : (settings : Settings) (quota : ℕ) (device : Device) (o : Option (ℕ → Opening)) → ArePrepared settings quota device o → (next : ℕ → Opening) × AreOver settings quota device next × (o ≡ Some next)
-next_of settings quota device None h = absurd h
-next_of settings quota device (Some next) over = (next, over, refl)
+next_of : (plans : PlansValue) (quota : ℕ) (device : Device) (o : Option (ℕ → Opening)) → ArePrepared plans quota device o → (next : ℕ → Opening) × AreOver plans quota device next × (o ≡ Some next)
+next_of plans quota device None h = absurd h
+next_of plans quota device (Some next) over = (next, over, refl)
 
-goes_on : (settings : Settings) (quota number : ℕ) (openings next : ℕ → Opening) (line : List ℕ) (lines : List (List ℕ)) → prepared (line_of_text settings line) openings ≡ Some next
-    → output_from settings quota number openings (line ∷ lines) ≡ output_from settings quota (number + 1) next lines
-goes_on settings quota number openings next line lines is =
-    one_line settings quota number openings line lines
-    ∙ ap (λ o. or_begin o (λ n. output_from settings quota (number + 1) n lines) (lab_from settings quota number (first_machines settings quota openings) (line ∷ lines))) is
+goes_on : (plans : PlansValue) (quota number : ℕ) (openings next : ℕ → Opening) (line : List ℕ) (lines : List (List ℕ)) → prepared (line_of_text plans.union plans.count line) openings ≡ Some next
+    → output_from plans quota number openings (line ∷ lines) ≡ output_from plans quota (number + 1) next lines
+goes_on plans quota number openings next line lines is =
+    one_line plans quota number openings line lines
+    ∙ ap (λ o. or_begin o (λ n. output_from plans quota (number + 1) n lines) (lab_from plans quota number (first_machines plans quota openings) (line ∷ lines))) is
 
 -- one line more
-pub prepared_next : (settings : Settings) (quota number : ℕ) (given left left2 : Option (List ℕ)) (device device2 : Device) (line : List ℕ)
-    → PreparedSoFar settings quota number false given left device (λ rest. ⊤) → IsLine left left2 line
-    → ((openings : ℕ → Opening) → AreOver settings quota device openings → ArePrepared settings quota device2 (prepared (line_of_text settings line) openings))
-    → PreparedSoFar settings quota (number + 1) false given left2 device2 (λ rest. ⊤)
-prepared_next settings quota number given left left2 device device2 line s read applies =
-    let on = next_of settings quota device2 (prepared (line_of_text settings line) s.openings) (applies s.openings s.over) in
+pub prepared_next : (plans : PlansValue) (quota number : ℕ) (given left left2 : Option (List ℕ)) (device device2 : Device) (line : List ℕ)
+    → PreparedSoFar plans quota number false given left device (λ rest. ⊤) → IsLine left left2 line
+    → ((openings : ℕ → Opening) → AreOver plans quota device openings → ArePrepared plans quota device2 (prepared (line_of_text plans.union plans.count line) openings))
+    → PreparedSoFar plans quota (number + 1) false given left2 device2 (λ rest. ⊤)
+prepared_next plans quota number given left left2 device device2 line s read applies =
+    let on = next_of plans quota device2 (prepared (line_of_text plans.union plans.count line) s.openings) (applies s.openings s.over) in
     record {
       openings = on.0;
       over = on.1;
       read = s.read ++ (line ++ 10 ∷ []);
       consumed = consumes_more given left left2 s.read (line ++ 10 ∷ []) s.consumed read.read;
       whole = λ rest known.
-          ap (lab_output settings quota) (append_assoc s.read (line ++ 10 ∷ []) rest) ∙ s.whole ((line ++ 10 ∷ []) ++ rest) tt
-          ∙ ap (λ text. output_from settings quota number s.openings (lines_of text)) (append_assoc line (10 ∷ []) rest)
-          ∙ ap (output_from settings quota number s.openings) (line_before line rest read.plain)
-          ∙ goes_on settings quota number s.openings on.0 line (lines_of rest) on.2;
+          ap (lab_output plans quota) (append_assoc s.read (line ++ 10 ∷ []) rest) ∙ s.whole ((line ++ 10 ∷ []) ++ rest) tt
+          ∙ ap (λ text. output_from plans quota number s.openings (lines_of text)) (append_assoc line (10 ∷ []) rest)
+          ∙ ap (output_from plans quota number s.openings) (line_before line rest read.plain)
+          ∙ goes_on plans quota number s.openings on.0 line (lines_of rest) on.2;
     }
 
 -- A line that is an event begins the run.
-abbrev Begins : Settings → List ℕ → Type 0
-Begins settings line = (openings : ℕ → Opening) → prepared (line_of_text settings line) openings ≡ None
+abbrev Begins : PlansValue → List ℕ → Type 0
+Begins plans line = (openings : ℕ → Opening) → prepared (line_of_text plans.union plans.count line) openings ≡ None
 
-begins_event : (settings : Settings) (quota number : ℕ) (openings : ℕ → Opening) (line : List ℕ) (lines : List (List ℕ)) → Begins settings line
-    → output_from settings quota number openings (line ∷ lines) ≡ lab_from settings quota number (first_machines settings quota openings) (line ∷ lines)
-begins_event settings quota number openings line lines e =
-    one_line settings quota number openings line lines
-    ∙ ap (λ o. or_begin o (λ next. output_from settings quota (number + 1) next lines) (lab_from settings quota number (first_machines settings quota openings) (line ∷ lines))) (e openings)
+begins_event : (plans : PlansValue) (quota number : ℕ) (openings : ℕ → Opening) (line : List ℕ) (lines : List (List ℕ)) → Begins plans line
+    → output_from plans quota number openings (line ∷ lines) ≡ lab_from plans quota number (first_machines plans quota openings) (line ∷ lines)
+begins_event plans quota number openings line lines e =
+    one_line plans quota number openings line lines
+    ∙ ap (λ o. or_begin o (λ next. output_from plans quota (number + 1) next lines) (lab_from plans quota number (first_machines plans quota openings) (line ∷ lines))) (e openings)
 
 -- The rest of the text is all events.
-abbrev pub IsBegun : Settings → ℕ → ℕ → (List ℕ → Type 0) → Type 0
-IsBegun settings quota number Known =
-    (openings : ℕ → Opening) (rest : List ℕ) → Known rest → output_from settings quota number openings (lines_of rest) ≡ lab_from settings quota number (first_machines settings quota openings) (lines_of rest)
+abbrev pub IsBegun : PlansValue → ℕ → ℕ → (List ℕ → Type 0) → Type 0
+IsBegun plans quota number Known =
+    (openings : ℕ → Opening) (rest : List ℕ) → Known rest → output_from plans quota number openings (lines_of rest) ≡ lab_from plans quota number (first_machines plans quota openings) (lines_of rest)
 
-pub begun_newline : (settings : Settings) (quota number : ℕ) (held : List ℕ) (len : ℕ) → HoldsLine held len → Begins settings (take len held) → IsBegun settings quota number (Fits held (Newline len))
-begun_newline settings quota number held len holds e = λ openings rest known.
+pub begun_newline : (plans : PlansValue) (quota number : ℕ) (held : List ℕ) (len : ℕ) → HoldsLine held len → Begins plans (take len held) → IsBegun plans quota number (Fits held (Newline len))
+begun_newline plans quota number held len holds e = λ openings rest known.
     let cut : lines_of rest ≡ take len held ∷ lines_of known.0 =
     ap lines_of (known.1 ∙ append_assoc (take len held) (10 ∷ []) known.0) ∙ line_before (take len held) known.0 holds.plain in
-    ap (output_from settings quota number openings) cut ∙ begins_event settings quota number openings (take len held) (lines_of known.0) e ∙ sym (ap (lab_from settings quota number (first_machines settings quota openings)) cut)
+    ap (output_from plans quota number openings) cut ∙ begins_event plans quota number openings (take len held) (lines_of known.0) e ∙ sym (ap (lab_from plans quota number (first_machines plans quota openings)) cut)
 
-last_begun : (settings : Settings) (quota number : ℕ) (held : List ℕ) → lacks 10 held ≡ true → Begins settings held
-    → (openings : ℕ → Opening) → output_from settings quota number openings (lines_of held) ≡ lab_from settings quota number (first_machines settings quota openings) (lines_of held)
-last_begun settings quota number [] plain e openings =
-    ap (output_from settings quota number openings) no_lines ∙ no_line settings quota number openings
-    ∙ sym (ap (lab_from settings quota number (first_machines settings quota openings)) no_lines ∙ no_event settings quota number openings)
-last_begun settings quota number (b ∷ held) plain e openings =
-    ap (output_from settings quota number openings) (line_last b held plain) ∙ begins_event settings quota number openings (b ∷ held) [] e
-    ∙ sym (ap (lab_from settings quota number (first_machines settings quota openings)) (line_last b held plain))
+last_begun : (plans : PlansValue) (quota number : ℕ) (held : List ℕ) → lacks 10 held ≡ true → Begins plans held
+    → (openings : ℕ → Opening) → output_from plans quota number openings (lines_of held) ≡ lab_from plans quota number (first_machines plans quota openings) (lines_of held)
+last_begun plans quota number [] plain e openings =
+    ap (output_from plans quota number openings) no_lines ∙ no_line plans quota number openings
+    ∙ sym (ap (lab_from plans quota number (first_machines plans quota openings)) no_lines ∙ no_event plans quota number openings)
+last_begun plans quota number (b ∷ held) plain e openings =
+    ap (output_from plans quota number openings) (line_last b held plain) ∙ begins_event plans quota number openings (b ∷ held) [] e
+    ∙ sym (ap (lab_from plans quota number (first_machines plans quota openings)) (line_last b held plain))
 
-pub begun_last : (settings : Settings) (quota number : ℕ) (held : List ℕ) (left : Option (List ℕ)) (len : ℕ) → HoldsLast held left len → Begins settings (take len held)
-    → IsBegun settings quota number (Fits held (EndOfInput len))
-begun_last settings quota number held left len holds e = λ openings rest known.
+pub begun_last : (plans : PlansValue) (quota number : ℕ) (held : List ℕ) (left : Option (List ℕ)) (len : ℕ) → HoldsLast held left len → Begins plans (take len held)
+    → IsBegun plans quota number (Fits held (EndOfInput len))
+begun_last plans quota number held left len holds e = λ openings rest known.
     let all : take len held ≡ held = take_all len held (let size = holds.size in omega arith) in
-    subst (λ text. output_from settings quota number openings (lines_of text) ≡ lab_from settings quota number (first_machines settings quota openings) (lines_of text)) (sym known)
-    (last_begun settings quota number held holds.plain (λ before. ap (λ text. prepared (line_of_text settings text) before) (sym all) ∙ e before) openings)
+    subst (λ text. output_from plans quota number openings (lines_of text) ≡ lab_from plans quota number (first_machines plans quota openings) (lines_of text)) (sym known)
+    (last_begun plans quota number held holds.plain (λ before. ap (λ text. prepared (line_of_text plans.union plans.count text) before) (sym all) ∙ e before) openings)
 
-long_begun : (settings : Settings) (quota number : ℕ) (front rest : List ℕ) → lacks 10 front ≡ true → 8192 < length front
-    → (openings : ℕ → Opening) → output_from settings quota number openings (lines_of (front ++ rest)) ≡ lab_from settings quota number (first_machines settings quota openings) (lines_of (front ++ rest))
-long_begun settings quota number [] rest plain long openings = absurd (omega arith)
-long_begun settings quota number (b ∷ front) rest plain long openings =
+long_begun : (plans : PlansValue) (quota number : ℕ) (front rest : List ℕ) → lacks 10 front ≡ true → 8192 < length front
+    → (openings : ℕ → Opening) → output_from plans quota number openings (lines_of (front ++ rest)) ≡ lab_from plans quota number (first_machines plans quota openings) (lines_of (front ++ rest))
+long_begun plans quota number [] rest plain long openings = absurd (omega arith)
+long_begun plans quota number (b ∷ front) rest plain long openings =
     let begins = line_begins b front rest plain in
     let line = (b ∷ front) ++ begins.more in
     let size = length-append (b ∷ front) begins.more in
-    ap (output_from settings quota number openings) begins.is
-    ∙ begins_event settings quota number openings line begins.others (λ before. ap (λ l. prepared l before) (long_is settings line (omega arith)))
-    ∙ sym (ap (lab_from settings quota number (first_machines settings quota openings)) begins.is)
+    ap (output_from plans quota number openings) begins.is
+    ∙ begins_event plans quota number openings line begins.others (λ before. ap (λ l. prepared l before) (long_is plans.union plans.count line (omega arith)))
+    ∙ sym (ap (lab_from plans quota number (first_machines plans quota openings)) begins.is)
 
-pub begun_long : (settings : Settings) (quota number : ℕ) (held : List ℕ) → HoldsLong held → IsBegun settings quota number (Fits held TooLong)
-begun_long settings quota number held holds = λ openings rest known.
+pub begun_long : (plans : PlansValue) (quota number : ℕ) (held : List ℕ) → HoldsLong held → IsBegun plans quota number (Fits held TooLong)
+begun_long plans quota number held holds = λ openings rest known.
     let cut : take holds.size held ++ (drop holds.size held ++ known.0) ≡ rest =
     sym (append_assoc (take holds.size held) (drop holds.size held) known.0) ∙ ap (λ v. v ++ known.0) (take-append-drop holds.size held) ∙ sym known.1 in
-    subst (λ text. output_from settings quota number openings (lines_of text) ≡ lab_from settings quota number (first_machines settings quota openings) (lines_of text)) cut
-    (long_begun settings quota number (take holds.size held) (drop holds.size held ++ known.0) holds.plain
+    subst (λ text. output_from plans quota number openings (lines_of text) ≡ lab_from plans quota number (first_machines plans quota openings) (lines_of text)) cut
+    (long_begun plans quota number (take holds.size held) (drop holds.size held ++ known.0) holds.plain
     (let e = length-take-le holds.size held holds.within in let f = holds.long in omega arith) openings)
 
-pub prepared_begun : (settings : Settings) (quota number : ℕ) (given left : Option (List ℕ)) (device : Device) (Known : List ℕ → Type 0)
-    → PreparedSoFar settings quota number false given left device (λ rest. ⊤) → IsBegun settings quota number Known → PreparedSoFar settings quota number true given left device Known
-prepared_begun settings quota number given left device Known s begins = record {
+pub prepared_begun : (plans : PlansValue) (quota number : ℕ) (given left : Option (List ℕ)) (device : Device) (Known : List ℕ → Type 0)
+    → PreparedSoFar plans quota number false given left device (λ rest. ⊤) → IsBegun plans quota number Known → PreparedSoFar plans quota number true given left device Known
+prepared_begun plans quota number given left device Known s begins = record {
   openings = s.openings;
   over = s.over;
   read = s.read;
@@ -338,18 +349,18 @@ pub nothing_more : (bytes : List ℕ) (left : Option (List ℕ)) → length byte
 nothing_more bytes left none end = record { size = none; short = omega arith; plain = ap (lacks 10) (none_left bytes none) ∙ no_ten; end = end }
 
 -- the last line, which is no event
-last_on : (settings : Settings) (quota number : ℕ) (openings next : ℕ → Opening) (line : List ℕ) → lacks 10 line ≡ true
-    → prepared (line_of_text settings line) openings ≡ Some next → output_from settings quota number openings (lines_of line) ≡ record { text = []; status = 0 }
-last_on settings quota number openings next [] plain is = ap (output_from settings quota number openings) no_lines ∙ no_line settings quota number openings
-last_on settings quota number openings next (b ∷ line) plain is =
-    ap (output_from settings quota number openings) (line_last b line plain) ∙ goes_on settings quota number openings next (b ∷ line) [] is ∙ no_line settings quota (number + 1) next
+last_on : (plans : PlansValue) (quota number : ℕ) (openings next : ℕ → Opening) (line : List ℕ) → lacks 10 line ≡ true
+    → prepared (line_of_text plans.union plans.count line) openings ≡ Some next → output_from plans quota number openings (lines_of line) ≡ record { text = []; status = 0 }
+last_on plans quota number openings next [] plain is = ap (output_from plans quota number openings) no_lines ∙ no_line plans quota number openings
+last_on plans quota number openings next (b ∷ line) plain is =
+    ap (output_from plans quota number openings) (line_last b line plain) ∙ goes_on plans quota number openings next (b ∷ line) [] is ∙ no_line plans quota (number + 1) next
 
-pub prepared_last : (settings : Settings) (quota number : ℕ) (given left left2 : Option (List ℕ)) (device device2 : Device) (line none : List ℕ) → none ≡ []
-    → PreparedSoFar settings quota number false given left device (λ rest. ⊤) → IsLast left left2 line
-    → ((openings : ℕ → Opening) → AreOver settings quota device openings → ArePrepared settings quota device2 (prepared (line_of_text settings line) openings))
-    → PreparedSoFar settings quota number true given (prepend_known none left2) device2 (Fits none (EndOfInput 0))
-prepared_last settings quota number given left left2 device device2 line none is s read applies =
-    let on = next_of settings quota device2 (prepared (line_of_text settings line) s.openings) (applies s.openings s.over) in
+pub prepared_last : (plans : PlansValue) (quota number : ℕ) (given left left2 : Option (List ℕ)) (device device2 : Device) (line none : List ℕ) → none ≡ []
+    → PreparedSoFar plans quota number false given left device (λ rest. ⊤) → IsLast left left2 line
+    → ((openings : ℕ → Opening) → AreOver plans quota device openings → ArePrepared plans quota device2 (prepared (line_of_text plans.union plans.count line) openings))
+    → PreparedSoFar plans quota number true given (prepend_known none left2) device2 (Fits none (EndOfInput 0))
+prepared_last plans quota number given left left2 device device2 line none is s read applies =
+    let on = next_of plans quota device2 (prepared (line_of_text plans.union plans.count line) s.openings) (applies s.openings s.over) in
     record {
       openings = on.0;
       over = on.1;
@@ -359,18 +370,18 @@ prepared_last settings quota number given left left2 device device2 line none is
           (consumes_more given left left2 s.read line s.consumed read.part.read);
       whole = λ rest known.
           let end : rest ≡ [] = known ∙ is in
-          ap (λ v. lab_output settings quota ((s.read ++ line) ++ v)) end ∙ ap (lab_output settings quota) (append-nil (s.read ++ line))
-          ∙ s.whole line tt ∙ last_on settings quota number s.openings on.0 line read.part.plain on.2
-          ∙ sym (ap (λ v. lab_from settings quota number (first_machines settings quota on.0) (lines_of v)) end ∙ ap (lab_from settings quota number (first_machines settings quota on.0)) no_lines ∙ no_event settings quota number on.0);
+          ap (λ v. lab_output plans quota ((s.read ++ line) ++ v)) end ∙ ap (lab_output plans quota) (append-nil (s.read ++ line))
+          ∙ s.whole line tt ∙ last_on plans quota number s.openings on.0 line read.part.plain on.2
+          ∙ sym (ap (λ v. lab_from plans quota number (first_machines plans quota on.0) (lines_of v)) end ∙ ap (lab_from plans quota number (first_machines plans quota on.0)) no_lines ∙ no_event plans quota number on.0);
     }
 
 -- ---- the opening
 
-pub opened_so_far : (settings : Settings) (quota number : ℕ) (given left holds : Option (List ℕ)) (device : Device) (states : List CircuitState) (Known : List ℕ → Type 0)
-    → PreparedSoFar settings quota number true given left device Known → ((openings : ℕ → Opening) → AreOver settings quota device openings → AllRepresent settings quota states (first_machines settings quota openings))
-    → SoFar settings quota number (lab_output settings quota) given left holds holds states Known
-opened_so_far settings quota number given left holds device states Known s represents = record {
-  machines = first_machines settings quota s.openings;
+pub opened_so_far : (plans : PlansValue) (quota number : ℕ) (given left holds : Option (List ℕ)) (device : Device) (states : List CircuitState) (Known : List ℕ → Type 0)
+    → PreparedSoFar plans quota number true given left device Known → ((openings : ℕ → Opening) → AreOver plans quota device openings → AllRepresent plans quota states (first_machines plans quota openings))
+    → SoFar plans quota number (lab_output plans quota) given left holds holds states Known
+opened_so_far plans quota number given left holds device states Known s represents = record {
+  machines = first_machines plans quota s.openings;
   represents = represents s.openings s.over;
   read = s.read;
   consumed = s.consumed;

@@ -3,6 +3,8 @@ use Rattle.std.proofs.Common.{◌≡◌, ℕ, ◌<◌, List, get_or, refl, sym, 
 use Rattle.std.specs.Prelude.{Option, Some, None, Result, Ok, Err, IfOk, IfErr, option_map, slice_get}
 use Rattle.std.proofs.lemmas.Option.{same_Some, slice_get-map, slice_get-get_or}
 use Rattle.config.specs.CircuitPart.{CircuitPart, part_in, part_of, parts_of, source_at}
+use Rattle.config.specs.Plans.{PlansValue}
+use Rattle.config.specs.Topology.{plans_topology}
 use Rattle.settings.specs.Settings.{Settings}
 use Rattle.settings.specs.declared.settings.CircuitConfig.{CircuitConfig}
 use Rattle.dispatch.specs.Leases.{AreSynced, HasRegions}
@@ -17,7 +19,7 @@ use Rattle.world.proofs.SetupLemmas.{its_part}
 use Rattle.lab.specs.Lab.{first_machine, first_machines}
 use Rattle.lab.specs.Preparations.{AreOver, AreReady, AreWithin, IsOpening}
 use Rattle.lab.proofs.OpeningLemmas.{same_opened}
-use Rattle.lab.specs.Follows.{AllRepresent}
+use Rattle.lab.specs.Follows.{AllRepresent, KnowsPlans}
 
 within_at : (settings : Settings) (count c : ℕ) (part : CircuitPart) (o : Option CircuitConfig) → AreWithin settings count → slice_get settings.circuits c ≡ o
     → option_map (λ (x : CircuitConfig). part_of x (source_at settings.relays x.relay) settings.server.listen4 settings.server.listen6 settings.server.duid.items) o ≡ Some part → part.region < count
@@ -30,19 +32,24 @@ part_within settings count c part within h =
     (sym (slice_get-map (λ (x : CircuitConfig). part_of x (source_at settings.relays x.relay) settings.server.listen4 settings.server.listen6 settings.server.duid.items) settings.circuits c) ∙ h)
 
 -- it begins with the machines of the openings over this device
-represents : (settings : Settings) (quota count : ℕ) (device : Device) (states : List CircuitState) → AreWithin settings count → AreReady count device.region → Starts settings quota device states
-    → (openings : ℕ → Opening) → AreOver settings quota device openings → AllRepresent settings quota states (first_machines settings quota openings)
-represents settings quota count device states within ready starts openings over = record {
+represents : (plans : PlansValue) (quota count : ℕ) (device : Device) (states : List CircuitState) → AreWithin plans.union count → AreReady count device.region → Starts plans quota device states
+    → (openings : ℕ → Opening) → AreOver plans quota device openings → AllRepresent plans quota states (first_machines plans quota openings)
+represents plans quota count device states within ready starts openings over = record {
   each = λ c setup h.
       let found : IsOpening device setup.part.region (openings c) = over.each c setup h in
       subst (Represents c states setup) (sym (ap (first_machine (openings c)) h ∙ same_opened setup (opening_in device setup) (openings c) found.byte found.move_fault))
-      (starts.each c setup h (ready setup.part.region (part_within settings count c setup.part within (its_part settings quota c setup h))).readable);
+      (starts.each c setup h (ready setup.part.region (part_within plans.union count c setup.part within (its_part plans quota c setup h))).readable);
+  members = starts.members;
 }
 
-pub represents_ok : (settings : Settings) (quota count : ℕ) (device : Device) (r : Result WorldValue OpenFault) → AreWithin settings count → AreReady count device.region
-    → IfOk r (λ world. Starts settings quota device (states world)) → IfOk r (λ world. (openings : ℕ → Opening) → AreOver settings quota device openings → AllRepresent settings quota (states world) (first_machines settings quota openings))
-represents_ok settings quota count device (Ok world) within ready starts = represents settings quota count device (states world) within ready starts
-represents_ok settings quota count device (Err why) within ready starts = tt
+pub represents_ok : (plans : PlansValue) (quota count : ℕ) (device : Device) (r : Result WorldValue OpenFault) → AreWithin plans.union count → AreReady count device.region
+    → IfOk r (λ world. Starts plans quota device (states world)) → IfOk r (λ world. (openings : ℕ → Opening) → AreOver plans quota device openings → AllRepresent plans quota (states world) (first_machines plans quota openings))
+represents_ok plans quota count device (Ok world) within ready starts = represents plans quota count device (states world) within ready starts
+represents_ok plans quota count device (Err why) within ready starts = tt
+
+-- the first plan is in force
+pub known_at_first : (plans : PlansValue) (world : WorldValue) → world.relays.topology ≡ plans_topology plans → KnowsPlans plans world.relays.topology
+known_at_first plans world is = record { plan = 0; is = is }
 
 -- what an opening asks of the device
 pub are_synced : (settings : Settings) (count : ℕ) (regions : ℕ → Region) → AreWithin settings count → AreReady count regions → AreSynced (parts_of settings) regions

@@ -1,11 +1,12 @@
 -- What a line and a run of lines do to the world and to the writer. Only proofs need these.
-use Rattle.std.specs.Prelude.{◌≡◌, ℕ, ◌⊎◌, ◌==◌, if◌then◌else◌, List, ◌++◌, length, Option, Some, None}
+use Rattle.std.specs.Prelude.{◌≡◌, ℕ, ◌⊎◌, ◌==◌, if◌then◌else◌, Bool, List, ◌++◌, length, Option, Some, None}
 use Rattle.std.specs.Io.KnownBytes.{Appends, Consumes}
-use Rattle.settings.specs.Settings.{Settings}
+use Rattle.config.specs.Plans.{PlansValue}
+use Rattle.config.specs.Topology.{Topology, topology_with}
 use Rattle.events.specs.declared.comeback.Comeback.{Comeback}
 use Rattle.world.specs.Alone.{Alone, Setup}
-use Rattle.world.specs.Headline.{CircuitState, Represents}
-use Rattle.world.specs.Start.{setup_in}
+use Rattle.world.specs.Headline.{CircuitState, Represents, plans_at}
+use Rattle.world.specs.Start.{members_of, setup_in}
 use Rattle.events.specs.Seen.{Seen, seen_of}
 use Rattle.events.specs.declared.event.Event.{Event}
 use Rattle.lab.specs.Lab.{Output, LineResult, Refused, Applied, lab_from}
@@ -16,23 +17,29 @@ use Rattle.lab_text.specs.declared.parse_line.Parsed.{Parsed}
 use Rattle.lab.specs.Output.{bad_text}
 use Rattle.lab_text.specs.Writing.{AppendsPrefix}
 
--- each circuit's state represents its machine
-pub record AllRepresent (settings : Settings) (quota : ℕ) (states : List CircuitState) (machines : ℕ → Alone) : Type 0 where
-  pub each : (c : ℕ) (setup : Setup) → setup_in settings quota c ≡ Some setup → Represents c states setup (machines c)
+-- each circuit's state represents its machine, and says which plans have it
+pub record AllRepresent (plans : PlansValue) (quota : ℕ) (states : List CircuitState) (machines : ℕ → Alone) : Type 0 where
+  pub each : (c : ℕ) (setup : Setup) → setup_in plans quota c ≡ Some setup → Represents c states setup (machines c)
+  pub members : (c : ℕ) → plans_at c states ≡ members_of plans c
+
+-- relays and server are those of these plans, whichever is in force
+pub record KnowsPlans (plans : PlansValue) (topology : Topology) : Type 0 where
+  pub plan : ℕ
+  pub is : topology ≡ topology_with plans.union (record { count = plans.count; members = plans.members; plan = plan })
 
 -- The event is this one, seen by this circuit alone.
 abbrev pub Names : ℕ → Seen → Event → Type 0
-Names circuit seen event = (c : ℕ) → seen_of c event ≡ (if circuit == c then Some seen else None)
+Names circuit seen event = (plans : List Bool) (c : ℕ) (on : Bool) → seen_of plans c on event ≡ (if circuit == c then Some seen else None)
 
 -- This line was parsed to this, with its bytes and its comebacks in these buffers.
-pub record Says (settings : Settings) (bytes : List ℕ) (comebacks : List Comeback) (line : List ℕ) (parsed : Parsed) : Type 0 where
-  pub means : Means parsed bytes comebacks (line_of_text settings line)
-  pub within : ParsedWithin settings parsed
+pub record Says (plans : PlansValue) (bytes : List ℕ) (comebacks : List Comeback) (line : List ℕ) (parsed : Parsed) : Type 0 where
+  pub means : Means parsed bytes comebacks (line_of_text plans.union plans.count line)
+  pub within : ParsedWithin plans.union plans.count parsed
 
 -- A line was applied, and its output was written.
-pub record IsApplied (settings : Settings) (quota : ℕ) (written : List ℕ) (machines : ℕ → Alone) (states : List CircuitState) (held holds : Option (List ℕ)) : Type 0 where
+pub record IsApplied (plans : PlansValue) (quota : ℕ) (written : List ℕ) (machines : ℕ → Alone) (states : List CircuitState) (held holds : Option (List ℕ)) : Type 0 where
   pub appended : Appends held holds written
-  pub represents : AllRepresent settings quota states machines
+  pub represents : AllRepresent plans quota states machines
 
 -- The last line of the output was written, or, where the writer failed, a prefix of it.
 abbrev pub IsRefusal : ℕ → Option (List ℕ) → Option (List ℕ) → ℕ → Type 0
@@ -41,32 +48,32 @@ IsRefusal number held holds status =
 
 -- World and writer follow the result of a line: the run goes on where no status is returned, and else
 -- it ends.
-abbrev pub Follows : Settings → ℕ → ℕ → LineResult → List CircuitState → Option (List ℕ) → Option (List ℕ) → Option ℕ → Type 0
-Follows settings quota number (Applied written machines) states held holds None = IsApplied settings quota written machines states held holds
-Follows settings quota number (Applied written machines) states held holds (Some status) = (status ≡ 6) × AppendsPrefix held holds written
-Follows settings quota number Refused states held holds None = ⊥
-Follows settings quota number Refused states held holds (Some status) = IsRefusal number held holds status
+abbrev pub Follows : PlansValue → ℕ → ℕ → LineResult → List CircuitState → Option (List ℕ) → Option (List ℕ) → Option ℕ → Type 0
+Follows plans quota number (Applied written machines) states held holds None = IsApplied plans quota written machines states held holds
+Follows plans quota number (Applied written machines) states held holds (Some status) = (status ≡ 6) × AppendsPrefix held holds written
+Follows plans quota number Refused states held holds None = ⊥
+Follows plans quota number Refused states held holds (Some status) = IsRefusal number held holds status
 
 -- The line that lacks its line feed: an empty one ends the run with status 0, and so does one that is
 -- not bad.
-abbrev pub FollowsLast : Settings → ℕ → ℕ → List ℕ → LineResult → List CircuitState → Option (List ℕ) → Option (List ℕ) → ℕ → Type 0
-FollowsLast settings quota number line result states held holds status =
+abbrev pub FollowsLast : PlansValue → ℕ → ℕ → List ℕ → LineResult → List CircuitState → Option (List ℕ) → Option (List ℕ) → ℕ → Type 0
+FollowsLast plans quota number line result states held holds status =
     ((length line ≡ 0) × (status ≡ 0) × (holds ≡ held))
-    ⊎ ((length line ≡ 0 → ⊥) × (((status ≡ 0) × Follows settings quota number result states held holds None) ⊎ Follows settings quota number result states held holds (Some status)))
+    ⊎ ((length line ≡ 0 → ⊥) × (((status ≡ 0) × Follows plans quota number result states held holds None) ⊎ Follows plans quota number result states held holds (Some status)))
 
 -- the output that follows what was written
 abbrev pub after : List ℕ → Output → Output
 after written o = record { text = written ++ o.text; status = o.status }
 
 -- A run that is about to apply the line with this number, and what is known of the rest of the text.
-pub record SoFar (settings : Settings) (quota number : ℕ) (output : List ℕ → Output) (given left held holds : Option (List ℕ)) (states : List CircuitState) (Known : List ℕ → Type 0) : Type 0 where
+pub record SoFar (plans : PlansValue) (quota number : ℕ) (output : List ℕ → Output) (given left held holds : Option (List ℕ)) (states : List CircuitState) (Known : List ℕ → Type 0) : Type 0 where
   pub machines : ℕ → Alone
-  pub represents : AllRepresent settings quota states machines
+  pub represents : AllRepresent plans quota states machines
   pub read : List ℕ
   pub consumed : Consumes given left read
   pub written : List ℕ
   pub appended : Appends held holds written
-  pub whole : (rest : List ℕ) → Known rest → output (read ++ rest) ≡ after written (lab_from settings quota number machines (lines_of rest))
+  pub whole : (rest : List ℕ) → Known rest → output (read ++ rest) ≡ after written (lab_from plans quota number machines (lines_of rest))
 
 -- A run that has read these bytes and ended with this status.
 pub record Ends (output : List ℕ → Output) (given left held holds : Option (List ℕ)) (status : ℕ) : Type 0 where

@@ -1,15 +1,17 @@
 -- The output for a text of event lines, by one machine for each circuit.
-use Rattle.std.specs.Prelude.{ℕ, ◌+◌, ◌-◌, ◌==◌, if◌then◌else◌, List, [], ◌∷◌, ◌++◌, length, slice_index, Option, Some, None}
-use Rattle.settings.specs.Settings.{Settings}
+use Rattle.std.specs.Prelude.{ℕ, ◌+◌, ◌-◌, ◌==◌, if◌then◌else◌, Bool, false, List, [], ◌∷◌, ◌++◌, length, slice_get, slice_index, Option, Some, None}
+use Rattle.config.specs.Plans.{PlansValue}
 use Rattle.events.specs.declared.comeback.Comeback.{Comeback}
 use Rattle.lease_disk.specs.Layout.{formatted, formatted_old}
 use Rattle.lease_disk.specs.Region.{is_within}
 use Rattle.world.specs.Alone.{Alone, Setup, Step, Dropped, Done, alone_step, unsent}
-use Rattle.world.specs.Start.{Opening, opened, setup_in}
-use Rattle.events.specs.Seen.{Seen}
+use Rattle.world.specs.Headline.{after_seen}
+use Rattle.world.specs.Start.{Opening, members_of, opened, setup_in}
+use Rattle.std.specs.Option.{unwrap_or}
+use Rattle.events.specs.Seen.{Seen, turn_to}
 use Rattle.events.specs.Seen as sees
 use Rattle.lab_text.specs.Fields.{comeback_in}
-use Rattle.lab_text.specs.Line.{Line, Ignored, Bad, Fill, Old, Load, Move, Named, Tick, Restart, Stray, line_of_text}
+use Rattle.lab_text.specs.Line.{Line, Ignored, Bad, Fill, Old, Load, Move, Named, Tick, Restart, Reload, Stray, line_of_text}
 use Rattle.lab_text.specs.Lines.{lines_of}
 use Rattle.lab.specs.Output.{effect_text, with_newline, bad_text}
 
@@ -40,26 +42,33 @@ abbrev pub ticked : ℕ → Alone → Option Setup → Alone
 ticked now a None = a
 ticked now a (Some setup) = (alone_step setup (sees.Tick now) a).next
 
+-- another plan comes into force for the machine of a circuit that these plans have
+abbrev pub reloaded : List Bool → ℕ → Alone → Option Setup → Alone
+reloaded has plan a None = a
+reloaded has plan a (Some setup) = after_seen setup (turn_to a.on (unwrap_or (slice_get has plan) a.on)) a
+
 -- the server and the disk start again for a machine
 abbrev pub restarted : Comeback → Alone → Option Setup → Alone
 restarted comeback a None = a
 restarted comeback a (Some setup) = (alone_step setup (sees.Restart comeback) a).next
 
-abbrev pub line_result : Settings → ℕ → (ℕ → Alone) → Line → LineResult
-line_result settings quota machines Ignored = Applied [] machines
-line_result settings quota machines Bad = Refused
+abbrev pub line_result : PlansValue → ℕ → (ℕ → Alone) → Line → LineResult
+line_result plans quota machines Ignored = Applied [] machines
+line_result plans quota machines Bad = Refused
 -- what says what a region holds, after an event
-line_result settings quota machines (Fill c byte) = Refused
-line_result settings quota machines (Old c) = Refused
-line_result settings quota machines (Load c at bytes) = Refused
-line_result settings quota machines (Move c fault) = Refused
-line_result settings quota machines (Named c seen) = named_result c seen machines (setup_in settings quota c)
-line_result settings quota machines (Tick now) =
-    Applied (with_newline (effect_text [] Done)) (λ c. ticked now (machines c) (setup_in settings quota c))
-line_result settings quota machines (Restart named) =
-    Applied (with_newline (effect_text [] Done)) (λ c. restarted (comeback_in c named) (machines c) (setup_in settings quota c))
+line_result plans quota machines (Fill c byte) = Refused
+line_result plans quota machines (Old c) = Refused
+line_result plans quota machines (Load c at bytes) = Refused
+line_result plans quota machines (Move c fault) = Refused
+line_result plans quota machines (Named c seen) = named_result c seen machines (setup_in plans quota c)
+line_result plans quota machines (Tick now) =
+    Applied (with_newline (effect_text [] Done)) (λ c. ticked now (machines c) (setup_in plans quota c))
+line_result plans quota machines (Restart named) =
+    Applied (with_newline (effect_text [] Done)) (λ c. restarted (comeback_in c named) (machines c) (setup_in plans quota c))
+line_result plans quota machines (Reload plan) =
+    Applied (with_newline (effect_text [] Done)) (λ c. reloaded (members_of plans c) plan (machines c) (setup_in plans quota c))
 -- a stray changes no machine
-line_result settings quota machines (Stray why) = Applied (with_newline (effect_text [] (Dropped why))) machines
+line_result plans quota machines (Stray why) = Applied (with_newline (effect_text [] (Dropped why))) machines
 
 -- The n-th line is bad and ends the output with status 3, or what it writes precedes the output for the rest.
 abbrev pub and_then : ℕ → LineResult → ((ℕ → Alone) → Output) → Output
@@ -67,10 +76,10 @@ and_then n Refused rest = record { text = bad_text n; status = 3 }
 and_then n (Applied written machines) rest = record { text = written ++ (rest machines).text; status = (rest machines).status }
 
 -- the output for these lines, the first of which is the n-th of the text, with status 0 at their end
-unfoldable pub lab_from : Settings → ℕ → ℕ → (ℕ → Alone) → List (List ℕ) → Output
-lab_from settings quota n machines [] = record { text = []; status = 0 }
-lab_from settings quota n machines (line ∷ lines) =
-    and_then n (line_result settings quota machines (line_of_text settings line)) (λ next. lab_from settings quota (n + 1) next lines)
+unfoldable pub lab_from : PlansValue → ℕ → ℕ → (ℕ → Alone) → List (List ℕ) → Output
+lab_from plans quota n machines [] = record { text = []; status = 0 }
+lab_from plans quota n machines (line ∷ lines) =
+    and_then n (line_result plans quota machines (line_of_text plans.union plans.count line)) (λ next. lab_from plans quota (n + 1) next lines)
 
 -- ---- before all events
 
@@ -93,11 +102,11 @@ prepared line openings = None
 
 -- a circuit's machine at the start, by what its opening finds
 abbrev pub first_machine : Opening → Option Setup → Alone
-first_machine opening None = unsent
+first_machine opening None = unsent false
 first_machine opening (Some setup) = opened setup opening
 
-abbrev pub first_machines : Settings → ℕ → (ℕ → Opening) → ℕ → Alone
-first_machines settings quota openings c = first_machine (openings c) (setup_in settings quota c)
+abbrev pub first_machines : PlansValue → ℕ → (ℕ → Opening) → ℕ → Alone
+first_machines plans quota openings c = first_machine (openings c) (setup_in plans quota c)
 
 abbrev pub or_begin : Option (ℕ → Opening) → ((ℕ → Opening) → Output) → Output → Output
 or_begin None rest events = events
@@ -105,20 +114,20 @@ or_begin (Some openings) rest events = rest openings
 
 -- The same where no event came before them: a line that says what a region holds writes nothing, and any other begins
 -- the events.
-unfoldable pub output_from : Settings → ℕ → ℕ → (ℕ → Opening) → List (List ℕ) → Output
-output_from settings quota n openings [] = record { text = []; status = 0 }
-output_from settings quota n openings (line ∷ lines) =
-    or_begin (prepared (line_of_text settings line) openings) (λ next. output_from settings quota (n + 1) next lines)
-    (lab_from settings quota n (first_machines settings quota openings) (line ∷ lines))
+unfoldable pub output_from : PlansValue → ℕ → ℕ → (ℕ → Opening) → List (List ℕ) → Output
+output_from plans quota n openings [] = record { text = []; status = 0 }
+output_from plans quota n openings (line ∷ lines) =
+    or_begin (prepared (line_of_text plans.union plans.count line) openings) (λ next. output_from plans quota (n + 1) next lines)
+    (lab_from plans quota n (first_machines plans quota openings) (line ∷ lines))
 
 -- every region was just formatted, and no call fails
 abbrev pub first_openings : ℕ → Opening
 first_openings c = record { byte = formatted; move_fault = 0 }
 
 -- the output for a text
-abbrev pub lab_output : Settings → ℕ → List ℕ → Output
-lab_output settings quota text = output_from settings quota 1 first_openings (lines_of text)
+abbrev pub lab_output : PlansValue → ℕ → List ℕ → Output
+lab_output plans quota text = output_from plans quota 1 first_openings (lines_of text)
 
 -- the output for a text of events alone, over these machines
-abbrev pub events_output : Settings → ℕ → (ℕ → Alone) → List ℕ → Output
-events_output settings quota machines text = lab_from settings quota 1 machines (lines_of text)
+abbrev pub events_output : PlansValue → ℕ → (ℕ → Alone) → List ℕ → Output
+events_output plans quota machines text = lab_from plans quota 1 machines (lines_of text)

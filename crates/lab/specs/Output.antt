@@ -39,6 +39,7 @@ outcome_effect (outcome.Framed circuit dest) out = Framed (record { dest = dest;
 outcome_effect outcome.Done out = Done
 -- no line asks for it
 outcome_effect outcome.NotAStray out = Gone
+outcome_effect outcome.NoPlan out = Gone
 
 -- a line with its line feed
 abbrev pub with_newline : List ℕ → List ℕ

@@ -1,6 +1,7 @@
 -- A text before its first event. Only proofs need these.
 use Rattle.std.specs.Prelude.{◌≡◌, ℕ, ◌<◌, Bool, true, false, List, ◌++◌, slice_get, Option, Some, None}
 use Rattle.std.specs.Io.KnownBytes.{Consumes}
+use Rattle.config.specs.Plans.{PlansValue}
 use Rattle.settings.specs.Settings.{Settings}
 use Rattle.settings.specs.declared.settings.CircuitConfig.{CircuitConfig}
 use Rattle.lease_disk.specs.Device.{Device}
@@ -28,24 +29,24 @@ pub record IsOpening (device : Device) (region : ℕ) (opening : Opening) : Type
   pub move_fault : opening.move_fault ≡ device.fuse region
 
 -- each circuit's opening finds this
-pub record AreOver (settings : Settings) (quota : ℕ) (device : Device) (openings : ℕ → Opening) : Type 0 where
-  pub each : (c : ℕ) (setup : Setup) → setup_in settings quota c ≡ Some setup → IsOpening device setup.part.region (openings c)
+pub record AreOver (plans : PlansValue) (quota : ℕ) (device : Device) (openings : ℕ → Opening) : Type 0 where
+  pub each : (c : ℕ) (setup : Setup) → setup_in plans quota c ≡ Some setup → IsOpening device setup.part.region (openings c)
 
 -- A line that is no event was applied: the openings are over the new device.
-abbrev pub ArePrepared : Settings → ℕ → Device → Option (ℕ → Opening) → Type 0
-ArePrepared settings quota device None = ⊥
-ArePrepared settings quota device (Some openings) = AreOver settings quota device openings
+abbrev pub ArePrepared : PlansValue → ℕ → Device → Option (ℕ → Opening) → Type 0
+ArePrepared plans quota device None = ⊥
+ArePrepared plans quota device (Some openings) = AreOver plans quota device openings
 
 -- the output for these lines, by whether they begin with an event
-abbrev pub output_by : Bool → Settings → ℕ → ℕ → (ℕ → Opening) → List (List ℕ) → Output
-output_by false settings quota number openings lines = output_from settings quota number openings lines
-output_by true settings quota number openings lines = lab_from settings quota number (first_machines settings quota openings) lines
+abbrev pub output_by : Bool → PlansValue → ℕ → ℕ → (ℕ → Opening) → List (List ℕ) → Output
+output_by false plans quota number openings lines = output_from plans quota number openings lines
+output_by true plans quota number openings lines = lab_from plans quota number (first_machines plans quota openings) lines
 
 -- The lines before the one with this number were read, none of which is an event, and what is known of
 -- the rest of the text. `begun` is whether it begins with an event.
-pub record PreparedSoFar (settings : Settings) (quota number : ℕ) (begun : Bool) (given left : Option (List ℕ)) (device : Device) (Known : List ℕ → Type 0) : Type 0 where
+pub record PreparedSoFar (plans : PlansValue) (quota number : ℕ) (begun : Bool) (given left : Option (List ℕ)) (device : Device) (Known : List ℕ → Type 0) : Type 0 where
   pub openings : ℕ → Opening
-  pub over : AreOver settings quota device openings
+  pub over : AreOver plans quota device openings
   pub read : List ℕ
   pub consumed : Consumes given left read
-  pub whole : (rest : List ℕ) → Known rest → lab_output settings quota (read ++ rest) ≡ output_by begun settings quota number openings (lines_of rest)
+  pub whole : (rest : List ℕ) → Known rest → lab_output plans quota (read ++ rest) ≡ output_by begun plans quota number openings (lines_of rest)

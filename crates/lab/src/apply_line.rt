@@ -1,7 +1,6 @@
 //! One line of events, applied to the machine.
 ghost use Rattle.std.specs.Prelude.{◌≡◌, ◌+◌, ◌<◌, ◌≤◌, ℕ, true, length, Some, IfSome};
-ghost use Rattle.settings.specs.Settings.{Settings};
-ghost use Rattle.config.specs.Topology.{topology_of};
+ghost use Rattle.config.specs.Plans.{PlansValue};
 ghost use Rattle.types.specs.declared.discard.Discard.{Discard};
 ghost use Rattle.world.specs.Alone.{Alone};
 ghost use Rattle.world.specs.Start.{setup_in};
@@ -9,15 +8,15 @@ ghost use Rattle.events.specs.Seen.{Seen};
 ghost use Rattle.events.specs.Stray.{is_stray, stray_outcome};
 ghost use Rattle.events.specs.declared.outcome.Outcome.TheVariants as outcome;
 ghost use Rattle.lab.specs.Lab.{named_result, line_result};
-ghost use Rattle.lab_text.specs.Line.{Line, line_of_text, Tick, Stray};
+ghost use Rattle.lab_text.specs.Line.{Line, line_of_text, Tick, Reload, Stray};
 ghost use Rattle.lab_text.specs.ParsedLine.{line_of, IsRestart, IsWithin};
-ghost use Rattle.lab.specs.Follows.{AllRepresent, Names, IsRefusal, Says, Follows, FollowsLast};
+ghost use Rattle.lab.specs.Follows.{AllRepresent, KnowsPlans, Names, IsRefusal, Says, Follows, FollowsLast};
 ghost use Rattle.lab.specs.Run.{IsEnd, IsStatus};
 
 use crate::buffers::Buffers;
 use crate::output::{write_bad_line, write_done, write_outcome};
 use crate::status::{BAD_LINE, DONE, FAILED};
-use config::Config;
+use config::Plans;
 use events::Comeback;
 use lab_text::parse_line::{Parsed, ParsedLine};
 use lab_text::{ByteWriter, MAX_LINE};
@@ -41,22 +40,22 @@ pub(crate) fn refuse<W: ByteWriter>(number: u64, writer: &mut W) -> u8
 /// Applies an event of a circuit. Returns a status where the run ends with it.
 fn apply_event<M: Machine, W: ByteWriter>(
     machine: &mut M,
-    config: &Config,
+    plans: &Plans,
     circuit: Circuit,
     event: &Event<'_>,
     out: &mut PacketBuf,
     writer: &mut W,
 ) -> Option<u8>
-    requires { circuit < length config.now.circuits }
-    ensures follows { (quota number : ℕ) (machines : ℕ → Alone) (seen : Seen) → Names circuit seen event.now → AllRepresent config.now quota (M.states machine.old) machines
-        → Follows config.now quota number (named_result circuit seen machines (setup_in config.now quota circuit)) (M.states machine.new) (W.contents writer.old) (W.contents writer.new) result }
-    ensures topology { M.topology machine.new ≡ M.topology machine.old }
+    requires { circuit < length plans.now.union.circuits }
+    ensures follows { (quota number : ℕ) (machines : ℕ → Alone) (seen : Seen) → Names circuit seen event.now → AllRepresent plans.now quota (M.states machine.old) machines
+        → Follows plans.now quota number (named_result circuit seen machines (setup_in plans.now quota circuit)) (M.states machine.new) (W.contents writer.old) (W.contents writer.new) result }
+    ensures known { (set : PlansValue) → KnowsPlans set (M.topology machine.old) → KnowsPlans set (M.topology machine.new) }
     ensures status { IfSome result IsEnd }
     ensures quiet { ¬ (result ≡ Some 6) → W.failures writer.new ≡ W.failures writer.old }
     ensures cause { result ≡ Some 6 → W.failures writer.new ≡ W.failures writer.old + 1 }
 {
     let outcome = machine.step(event, out);
-    let named = config.at(circuit);
+    let named = plans.union().at(circuit);
     match write_outcome(writer, named.id.as_bytes(), outcome, out) {
         Ok(()) => None,
         Err(_) => Some(FAILED),
@@ -70,14 +69,35 @@ fn apply_tick<M: Machine, W: ByteWriter>(
     out: &mut PacketBuf,
     writer: &mut W,
 ) -> Option<u8>
-    ensures follows { (settings : Settings) (quota number : ℕ) (machines : ℕ → Alone) → AllRepresent settings quota (M.states machine.old) machines
-        → Follows settings quota number (line_result settings quota machines (Tick now)) (M.states machine.new) (W.contents writer.old) (W.contents writer.new) result }
-    ensures topology { M.topology machine.new ≡ M.topology machine.old }
+    ensures follows { (plans : PlansValue) (quota number : ℕ) (machines : ℕ → Alone) → AllRepresent plans quota (M.states machine.old) machines
+        → Follows plans quota number (line_result plans quota machines (Tick now)) (M.states machine.new) (W.contents writer.old) (W.contents writer.new) result }
+    ensures known { (set : PlansValue) → KnowsPlans set (M.topology machine.old) → KnowsPlans set (M.topology machine.new) }
     ensures status { IfSome result IsEnd }
     ensures quiet { ¬ (result ≡ Some 6) → W.failures writer.new ≡ W.failures writer.old }
     ensures cause { result ≡ Some 6 → W.failures writer.new ≡ W.failures writer.old + 1 }
 {
     let _ = machine.step(&Event::Tick(now), out);
+    match write_done(writer) {
+        Ok(()) => None,
+        Err(_) => Some(FAILED),
+    }
+}
+
+/// Puts another plan in force, which there is. Returns a status where the run ends with it.
+fn apply_reload<M: Machine, W: ByteWriter>(
+    machine: &mut M,
+    plan: u8,
+    out: &mut PacketBuf,
+    writer: &mut W,
+) -> Option<u8>
+    ensures follows { (plans : PlansValue) (quota number : ℕ) (machines : ℕ → Alone) → plan < plans.count → AllRepresent plans quota (M.states machine.old) machines
+        → Follows plans quota number (line_result plans quota machines (Reload plan)) (M.states machine.new) (W.contents writer.old) (W.contents writer.new) result }
+    ensures known { (set : PlansValue) → KnowsPlans set (M.topology machine.old) → KnowsPlans set (M.topology machine.new) }
+    ensures status { IfSome result IsEnd }
+    ensures quiet { ¬ (result ≡ Some 6) → W.failures writer.new ≡ W.failures writer.old }
+    ensures cause { result ≡ Some 6 → W.failures writer.new ≡ W.failures writer.old + 1 }
+{
+    let _ = machine.step(&Event::Reload(plan), out);
     match write_done(writer) {
         Ok(()) => None,
         Err(_) => Some(FAILED),
@@ -91,9 +111,9 @@ fn apply_restart<M: Machine, W: ByteWriter>(
     out: &mut PacketBuf,
     writer: &mut W,
 ) -> Option<u8>
-    ensures follows { (settings : Settings) (quota number : ℕ) (line : Line) (machines : ℕ → Alone) → IsRestart comebacks.now line → AllRepresent settings quota (M.states machine.old) machines
-        → Follows settings quota number (line_result settings quota machines line) (M.states machine.new) (W.contents writer.old) (W.contents writer.new) result }
-    ensures topology { M.topology machine.new ≡ M.topology machine.old }
+    ensures follows { (plans : PlansValue) (quota number : ℕ) (line : Line) (machines : ℕ → Alone) → IsRestart comebacks.now line → AllRepresent plans quota (M.states machine.old) machines
+        → Follows plans quota number (line_result plans quota machines line) (M.states machine.new) (W.contents writer.old) (W.contents writer.new) result }
+    ensures known { (set : PlansValue) → KnowsPlans set (M.topology machine.old) → KnowsPlans set (M.topology machine.new) }
     ensures status { IfSome result IsEnd }
     ensures quiet { ¬ (result ≡ Some 6) → W.failures writer.new ≡ W.failures writer.old }
     ensures cause { result ≡ Some 6 → W.failures writer.new ≡ W.failures writer.old + 1 }
@@ -113,10 +133,10 @@ fn apply_stray<M: Machine, W: ByteWriter>(
     writer: &mut W,
 ) -> Option<u8>
     requires { is_stray event.now ≡ true }
-    ensures follows { (settings : Settings) (quota number : ℕ) (why : Discard) (machines : ℕ → Alone) → AllRepresent settings quota (M.states machine.old) machines
+    ensures follows { (plans : PlansValue) (quota number : ℕ) (why : Discard) (machines : ℕ → Alone) → AllRepresent plans quota (M.states machine.old) machines
         → stray_outcome (M.topology machine.old) event.now ≡ Some (outcome.Dropped why)
-        → Follows settings quota number (line_result settings quota machines (Stray why)) (M.states machine.new) (W.contents writer.old) (W.contents writer.new) result }
-    ensures topology { M.topology machine.new ≡ M.topology machine.old }
+        → Follows plans quota number (line_result plans quota machines (Stray why)) (M.states machine.new) (W.contents writer.old) (W.contents writer.new) result }
+    ensures known { (set : PlansValue) → KnowsPlans set (M.topology machine.old) → KnowsPlans set (M.topology machine.new) }
     ensures status { IfSome result IsEnd }
     ensures quiet { ¬ (result ≡ Some 6) → W.failures writer.new ≡ W.failures writer.old }
     ensures cause { result ≡ Some 6 → W.failures writer.new ≡ W.failures writer.old + 1 }
@@ -132,16 +152,16 @@ fn apply_stray<M: Machine, W: ByteWriter>(
 /// ends with it.
 fn apply<M: Machine, W: ByteWriter>(
     machine: &mut M,
-    config: &Config,
+    plans: &Plans,
     number: u64,
     parsed: ParsedLine,
     buffers: &mut Buffers,
     writer: &mut W,
 ) -> Option<u8>
-    requires { IsWithin config.now parsed }
-    ensures follows { (quota : ℕ) (machines : ℕ → Alone) → AllRepresent config.now quota (M.states machine.old) machines → M.topology machine.old ≡ topology_of config.now
-        → Follows config.now quota number (line_result config.now quota machines (line_of parsed buffers.old.bytes)) (M.states machine.new) (W.contents writer.old) (W.contents writer.new) result }
-    ensures topology { M.topology machine.new ≡ M.topology machine.old }
+    requires { IsWithin plans.now.union plans.now.count parsed }
+    ensures follows { (quota : ℕ) (machines : ℕ → Alone) → AllRepresent plans.now quota (M.states machine.old) machines → KnowsPlans plans.now (M.topology machine.old)
+        → Follows plans.now quota number (line_result plans.now quota machines (line_of parsed buffers.old.bytes)) (M.states machine.new) (W.contents writer.old) (W.contents writer.new) result }
+    ensures known { (set : PlansValue) → KnowsPlans set (M.topology machine.old) → KnowsPlans set (M.topology machine.new) }
     ensures status { IfSome result IsEnd }
     ensures quiet { ¬ (result ≡ Some 6) → W.failures writer.new ≡ W.failures writer.old }
     ensures cause { result ≡ Some 6 → W.failures writer.new ≡ W.failures writer.old + 1 }
@@ -156,17 +176,18 @@ fn apply<M: Machine, W: ByteWriter>(
         | ParsedLine::Move(_, _) => Some(refuse(number, writer)),
         ParsedLine::Frame(circuit, proto, len) => {
             let event = Event::Frame(circuit, proto, &buffers.bytes[..len]);
-            apply_event(machine, config, circuit, &event, &mut buffers.out, writer)
+            apply_event(machine, plans, circuit, &event, &mut buffers.out, writer)
         }
         ParsedLine::Up(circuit, j, now, fault) => {
             let event = Event::Up(circuit, j, now, fault);
-            apply_event(machine, config, circuit, &event, &mut buffers.out, writer)
+            apply_event(machine, plans, circuit, &event, &mut buffers.out, writer)
         }
         ParsedLine::Down(circuit, j) => {
             let event = Event::Down(circuit, j);
-            apply_event(machine, config, circuit, &event, &mut buffers.out, writer)
+            apply_event(machine, plans, circuit, &event, &mut buffers.out, writer)
         }
         ParsedLine::Tick(now) => apply_tick(machine, now, &mut buffers.out, writer),
+        ParsedLine::Reload(plan) => apply_reload(machine, plan, &mut buffers.out, writer),
         ParsedLine::StrayUp(proto, source, len, now) => {
             let event = Event::StrayUp(proto, source, &buffers.bytes[..len], now);
             apply_stray(machine, &event, &mut buffers.out, writer)
@@ -179,14 +200,14 @@ fn apply<M: Machine, W: ByteWriter>(
 }
 
 /// What the line says, where it was not parsed before.
-fn parsed_line(config: &Config, line: &[u8], known: Option<Parsed>, buffers: &mut Buffers) -> Parsed
+fn parsed_line(plans: &Plans, line: &[u8], known: Option<Parsed>, buffers: &mut Buffers) -> Parsed
     requires short { length line.now ≤ 8192 }
-    requires known { IfSome known (Says config.now buffers.old.bytes buffers.old.comebacks line.now) }
-    ensures { Says config.now buffers.new.bytes buffers.new.comebacks line.now result }
+    requires known { IfSome known (Says plans.now buffers.old.bytes buffers.old.comebacks line.now) }
+    ensures { Says plans.now buffers.new.bytes buffers.new.comebacks line.now result }
 {
     match known {
         Some(parsed) => parsed,
-        None => buffers.parse(config, line),
+        None => buffers.parse(plans, line),
     }
 }
 
@@ -194,7 +215,7 @@ fn parsed_line(config: &Config, line: &[u8], known: Option<Parsed>, buffers: &mu
 /// ends with it.
 pub(crate) fn apply_line<M: Machine, W: ByteWriter>(
     machine: &mut M,
-    config: &Config,
+    plans: &Plans,
     number: u64,
     line: &[u8],
     known: Option<Parsed>,
@@ -202,16 +223,16 @@ pub(crate) fn apply_line<M: Machine, W: ByteWriter>(
     writer: &mut W,
 ) -> Option<u8>
     requires short { length line.now ≤ 8192 }
-    requires known { IfSome known (Says config.now buffers.old.bytes buffers.old.comebacks line.now) }
-    ensures follows { (quota : ℕ) (machines : ℕ → Alone) → AllRepresent config.now quota (M.states machine.old) machines → M.topology machine.old ≡ topology_of config.now
-        → Follows config.now quota number (line_result config.now quota machines (line_of_text config.now line.now)) (M.states machine.new) (W.contents writer.old) (W.contents writer.new) result }
-    ensures topology { M.topology machine.new ≡ M.topology machine.old }
+    requires known { IfSome known (Says plans.now buffers.old.bytes buffers.old.comebacks line.now) }
+    ensures follows { (quota : ℕ) (machines : ℕ → Alone) → AllRepresent plans.now quota (M.states machine.old) machines → KnowsPlans plans.now (M.topology machine.old)
+        → Follows plans.now quota number (line_result plans.now quota machines (line_of_text plans.now.union plans.now.count line.now)) (M.states machine.new) (W.contents writer.old) (W.contents writer.new) result }
+    ensures known { (set : PlansValue) → KnowsPlans set (M.topology machine.old) → KnowsPlans set (M.topology machine.new) }
     ensures status { IfSome result IsEnd }
     ensures quiet { ¬ (result ≡ Some 6) → W.failures writer.new ≡ W.failures writer.old }
     ensures cause { result ≡ Some 6 → W.failures writer.new ≡ W.failures writer.old + 1 }
 {
-    match parsed_line(config, line, known, buffers) {
-        Parsed::Event(parsed) => apply(machine, config, number, parsed, buffers, writer),
+    match parsed_line(plans, line, known, buffers) {
+        Parsed::Event(parsed) => apply(machine, plans, number, parsed, buffers, writer),
         Parsed::Restart => apply_restart(machine, &buffers.comebacks, &mut buffers.out, writer),
     }
 }
@@ -220,7 +241,7 @@ pub(crate) fn apply_line<M: Machine, W: ByteWriter>(
 /// the status. An empty one is no line.
 pub(crate) fn apply_last_line<M: Machine, W: ByteWriter>(
     machine: &mut M,
-    config: &Config,
+    plans: &Plans,
     number: u64,
     line: &[u8],
     known: Option<Parsed>,
@@ -228,9 +249,9 @@ pub(crate) fn apply_last_line<M: Machine, W: ByteWriter>(
     writer: &mut W,
 ) -> u8
     requires short { length line.now ≤ 8192 }
-    requires known { IfSome known (Says config.now buffers.old.bytes buffers.old.comebacks line.now) }
-    ensures follows { (quota : ℕ) (machines : ℕ → Alone) → AllRepresent config.now quota (M.states machine.old) machines → M.topology machine.old ≡ topology_of config.now
-        → FollowsLast config.now quota number line.now (line_result config.now quota machines (line_of_text config.now line.now)) (M.states machine.new) (W.contents writer.old) (W.contents writer.new) result }
+    requires known { IfSome known (Says plans.now buffers.old.bytes buffers.old.comebacks line.now) }
+    ensures follows { (quota : ℕ) (machines : ℕ → Alone) → AllRepresent plans.now quota (M.states machine.old) machines → KnowsPlans plans.now (M.topology machine.old)
+        → FollowsLast plans.now quota number line.now (line_result plans.now quota machines (line_of_text plans.now.union plans.now.count line.now)) (M.states machine.new) (W.contents writer.old) (W.contents writer.new) result }
     ensures status { IsStatus result }
     ensures quiet { ¬ (result ≡ 6) → W.failures writer.new ≡ W.failures writer.old }
     ensures cause { result ≡ 6 → W.failures writer.new ≡ W.failures writer.old + 1 }
@@ -238,7 +259,7 @@ pub(crate) fn apply_last_line<M: Machine, W: ByteWriter>(
     if line.is_empty() {
         return DONE;
     }
-    match apply_line(machine, config, number, line, known, buffers, writer) {
+    match apply_line(machine, plans, number, line, known, buffers, writer) {
         Some(status) => status,
         None => DONE,
     }

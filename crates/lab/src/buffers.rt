@@ -2,7 +2,7 @@
 ghost use Rattle.std.specs.Prelude.{◌≤◌, length};
 ghost use Rattle.lab.specs.Follows.{Says};
 
-use config::Config;
+use config::Plans;
 use events::Comeback;
 use lab_text::parse_line::{Parsed, parse_line};
 use lab_text::{MAX_BYTES, ZEROED};
@@ -30,10 +30,16 @@ impl Buffers {
     }
 
     /// Parses a line, whose bytes and comebacks are in the buffers until the next one is parsed.
-    pub(crate) fn parse(&mut self, config: &Config, line: &[u8]) -> Parsed
+    pub(crate) fn parse(&mut self, plans: &Plans, line: &[u8]) -> Parsed
         requires { length line.now ≤ 8192 }
-        ensures { Says config.now self.new.bytes self.new.comebacks line.now result }
+        ensures { Says plans.now self.new.bytes self.new.comebacks line.now result }
     {
-        parse_line(config, line, &mut self.bytes, &mut self.comebacks)
+        parse_line(
+            plans.union(),
+            plans.count(),
+            line,
+            &mut self.bytes,
+            &mut self.comebacks,
+        )
     }
 }

@@ -1,10 +1,9 @@
 //! A run over the lines of a text.
 ghost use Rattle.std.specs.Prelude.{◌≡◌, ◌+◌, ◌<◌, ◌≤◌, ℕ, List, Option, Some, length, take, IfSome};
 ghost use Rattle.std.specs.Io.KnownBytes.{Appends, prepend_known};
-ghost use Rattle.config.specs.Topology.{topology_of};
 ghost use Rattle.world.specs.Alone.{Alone};
 ghost use Rattle.lab.specs.Lab.{Output, events_output};
-ghost use Rattle.lab.specs.Follows.{AllRepresent, Ends, Says, SoFar};
+ghost use Rattle.lab.specs.Follows.{AllRepresent, Ends, KnowsPlans, Says, SoFar};
 ghost use Rattle.lab_text.specs.LineEnd.{Fits, IsCounted, IsLineEnd, len_of, feeds_of};
 ghost use Rattle.lab_text.specs.ReadAhead.{held};
 ghost use Rattle.lab.specs.Run.{IsPartial, IsStatus, HasCause, HasNoCause};
@@ -12,7 +11,7 @@ ghost use Rattle.lab.specs.Run.{IsPartial, IsStatus, HasCause, HasNoCause};
 use crate::apply_line::{apply_last_line, apply_line, refuse};
 use crate::buffers::Buffers;
 use crate::status::FAILED;
-use config::Config;
+use config::Plans;
 use lab_text::{
     ByteReader, ByteWriter, LineEnd, MAX_TEXT, NextLine, ReadAhead, flush_and_read_line,
 };
@@ -21,7 +20,7 @@ use world::Machine;
 /// Applies the lines in order from this one on, up to the end or to the first bad one.
 pub(crate) fn apply_lines<M: Machine, R: ByteReader, W: ByteWriter>(
     machine: &mut M,
-    config: &Config,
+    plans: &Plans,
     next: NextLine,
     ahead: &mut ReadAhead,
     buffers: &mut Buffers,
@@ -31,12 +30,12 @@ pub(crate) fn apply_lines<M: Machine, R: ByteReader, W: ByteWriter>(
     requires end { IsLineEnd (held ahead.old) (R.remaining reader.old) next.end }
     requires within { len_of next.end ≤ 8192 }
     requires inside { len_of next.end + feeds_of next.end ≤ length (held ahead.old) }
-    requires parsed { IfSome next.parsed (Says config.now buffers.old.bytes buffers.old.comebacks (take (len_of next.end) (held ahead.old))) }
+    requires parsed { IfSome next.parsed (Says plans.now buffers.old.bytes buffers.old.comebacks (take (len_of next.end) (held ahead.old))) }
     requires lines { next.earlier + length (held ahead.old) ≤ ahead.old.count }
     requires below { ahead.old.count < 18446744073709551615 }
     ensures ends { (quota : ℕ) (output : List ℕ → Output) (given holds : Option (List ℕ))
-        → SoFar config.now quota (next.earlier + 1) output given (prepend_known (held ahead.old) (R.remaining reader.old)) holds (W.contents writer.old) (M.states machine.old) (Fits (held ahead.old) next.end)
-        → M.topology machine.old ≡ topology_of config.now
+        → SoFar plans.now quota (next.earlier + 1) output given (prepend_known (held ahead.old) (R.remaining reader.old)) holds (W.contents writer.old) (M.states machine.old) (Fits (held ahead.old) next.end)
+        → KnowsPlans plans.now (M.topology machine.old)
         → Ends output given (R.remaining reader.new) holds (W.contents writer.new) result }
     ensures status { IsStatus result }
     ensures cause { (given : Option (List ℕ)) → IsCounted given (R.remaining reader.old) 0 ahead.old.count → result ≡ 6
@@ -54,11 +53,11 @@ pub(crate) fn apply_lines<M: Machine, R: ByteReader, W: ByteWriter>(
             LineEnd::TooLong => return refuse(number, writer),
             LineEnd::EndOfInput(len) => {
                 let line = &ahead.as_slice()[..len];
-                return apply_last_line(machine, config, number, line, known, buffers, writer);
+                return apply_last_line(machine, plans, number, line, known, buffers, writer);
             }
         };
         let line = &ahead.as_slice()[..len];
-        let ended = apply_line(machine, config, number, line, known, buffers, writer);
+        let ended = apply_line(machine, plans, number, line, known, buffers, writer);
         if let Some(status) = ended {
             return status;
         }
@@ -77,20 +76,20 @@ pub(crate) fn apply_lines<M: Machine, R: ByteReader, W: ByteWriter>(
 /// where the reader or the writer fails or 2^64 - 1 bytes were read.
 pub fn lab<M: Machine, R: ByteReader, W: ByteWriter>(
     machine: &mut M,
-    config: &Config,
+    plans: &Plans,
     reader: &mut R,
     writer: &mut W,
 ) -> u8
     // The output is that of the whole text.
-    ensures written { (quota : ℕ) (machines : ℕ → Alone) (text : List ℕ) → AllRepresent config.now quota (M.states machine.old) machines
-        → M.topology machine.old ≡ topology_of config.now → R.remaining reader.old ≡ Some text → ¬ (result ≡ 6)
-        → Appends (W.contents writer.old) (W.contents writer.new) (events_output config.now quota machines text).text
-        × (result ≡ (events_output config.now quota machines text).status) }
+    ensures written { (quota : ℕ) (machines : ℕ → Alone) (text : List ℕ) → AllRepresent plans.now quota (M.states machine.old) machines
+        → KnowsPlans plans.now (M.topology machine.old) → R.remaining reader.old ≡ Some text → ¬ (result ≡ 6)
+        → Appends (W.contents writer.old) (W.contents writer.new) (events_output plans.now quota machines text).text
+        × (result ≡ (events_output plans.now quota machines text).status) }
 
     // Where the reader or the writer failed, a prefix of the output for what was read is written.
-    ensures partial { (quota : ℕ) (machines : ℕ → Alone) → AllRepresent config.now quota (M.states machine.old) machines
-        → M.topology machine.old ≡ topology_of config.now → result ≡ 6
-        → IsPartial (events_output config.now quota machines) (R.remaining reader.old) (R.remaining reader.new) (W.contents writer.old) (W.contents writer.new) }
+    ensures partial { (quota : ℕ) (machines : ℕ → Alone) → AllRepresent plans.now quota (M.states machine.old) machines
+        → KnowsPlans plans.now (M.topology machine.old) → result ≡ 6
+        → IsPartial (events_output plans.now quota machines) (R.remaining reader.old) (R.remaining reader.new) (W.contents writer.old) (W.contents writer.new) }
 
     // No other status is returned.
     ensures status { IsStatus result }
@@ -111,7 +110,7 @@ pub fn lab<M: Machine, R: ByteReader, W: ByteWriter>(
     };
     apply_lines(
         machine,
-        config,
+        plans,
         next,
         &mut ahead,
         &mut buffers,

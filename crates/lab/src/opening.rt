@@ -4,7 +4,7 @@ ghost use Rattle.std.specs.Io.KnownBytes.{Appends};
 ghost use Rattle.dispatch.specs.declared.server.OpenFault.TheVariants as fault;
 ghost use Rattle.lab.specs.Lab.{first_machines, lab_output};
 ghost use Rattle.lab.specs.Run.{IsPartial, IsStatus, HasCause, HasNoCause};
-ghost use Rattle.config.specs.Topology.{topology_of};
+ghost use Rattle.config.specs.Topology.{plans_topology};
 ghost use Rattle.lab.specs.Preparations.{AreOver, AreReady, AreWithin};
 ghost use Rattle.lab.specs.Follows.{AllRepresent};
 ghost use Rattle.lease_disk.specs.Model.{device_of, state_of};
@@ -15,35 +15,35 @@ use crate::buffers::Buffers;
 use crate::engine::apply_lines;
 use crate::preparations::prepare_all;
 use crate::status::{FAILED, UNOPENED};
-use config::Config;
+use config::Plans;
 use dispatch::region_count;
 use lab_text::{ByteReader, ByteWriter, ReadAhead};
 use lease_disk::ModelDisk;
 use std::alloc::Global;
 use world::{OpenFault, World};
 
-/// The world of a configuration over this disk.
-fn opened(alloc: Global, config: &Config, disk: ModelDisk, quota: u16) -> Result<World, OpenFault>
+/// The world of some plans over this disk.
+fn opened(alloc: Global, plans: &Plans, disk: ModelDisk, quota: u16) -> Result<World, OpenFault>
     requires some { 1 ≤ quota }
     requires most { quota ≤ 256 }
-    requires regions { AreWithin config.now (length disk.regions) }
+    requires regions { AreWithin plans.now.union (length disk.regions) }
     requires ready { AreReady (length disk.regions) (state_of disk) }
-    ensures represents { IfOk result (λ world. (openings : ℕ → Opening) → AreOver config.now quota (device_of disk) openings → AllRepresent config.now quota (states world) (first_machines config.now quota openings)) }
-    ensures topology { IfOk result (λ world. world.relays.topology ≡ topology_of config.now) }
+    ensures represents { IfOk result (λ world. (openings : ℕ → Opening) → AreOver plans.now quota (device_of disk) openings → AllRepresent plans.now quota (states world) (first_machines plans.now quota openings)) }
+    ensures topology { IfOk result (λ world. world.relays.topology ≡ plans_topology plans.now) }
     ensures memory { IfErr result (λ why. why ≡ fault.Memory) }
 {
-    World::open(alloc, config, disk, quota)
+    World::open_plans(alloc, plans, disk, quota)
 }
 
 /// Prepares the regions of a formatted disk as the lines before all events say, opens a world of the
-/// configuration over it, applies the other lines of the text and writes the outcome of each. Returns the
+/// plans over it, of which the first is in force, applies the other lines of the text and writes the outcome of each. Returns the
 /// status: 0 at the end of the text, 3 at a bad line, 4 where the world was not opened, 6 exactly where
 /// the reader or the writer fails or 2^64 - 1 bytes were read.
 ///
 /// The contract does not say that 4 is returned only when out of memory.
 pub fn run<R: ByteReader, W: ByteWriter>(
     alloc: Global,
-    config: &Config,
+    plans: &Plans,
     quota: u16,
     reader: &mut R,
     writer: &mut W,
@@ -53,8 +53,8 @@ pub fn run<R: ByteReader, W: ByteWriter>(
 
     // The output is that of the whole text.
     ensures written { (text : List ℕ) → R.remaining reader.old ≡ Some text → ¬ (result ≡ 4) → ¬ (result ≡ 6)
-        → Appends (W.contents writer.old) (W.contents writer.new) (lab_output config.now quota text).text
-        × (result ≡ (lab_output config.now quota text).status) }
+        → Appends (W.contents writer.old) (W.contents writer.new) (lab_output plans.now quota text).text
+        × (result ≡ (lab_output plans.now quota text).status) }
 
     // Without a world nothing is written.
     ensures unwritten { result ≡ 4 → W.contents writer.new ≡ W.contents writer.old }
@@ -63,26 +63,26 @@ pub fn run<R: ByteReader, W: ByteWriter>(
     ensures status { (result ≡ 4) ⊎ IsStatus result }
 
     // Where the reader or the writer failed, a prefix of the output for what was read is written.
-    ensures partial { result ≡ 6 → IsPartial (lab_output config.now quota) (R.remaining reader.old) (R.remaining reader.new) (W.contents writer.old) (W.contents writer.new) }
+    ensures partial { result ≡ 6 → IsPartial (lab_output plans.now quota) (R.remaining reader.old) (R.remaining reader.new) (W.contents writer.old) (W.contents writer.new) }
 
     // A failure has a cause, and nothing else comes of one.
     ensures cause { result ≡ 6 → HasCause (R.remaining reader.old) (R.remaining reader.new) (R.failures reader.old) (R.failures reader.new) (W.failures writer.old) (W.failures writer.new) }
     ensures quiet { ¬ (result ≡ 6) → HasNoCause (R.remaining reader.old) (R.remaining reader.new) (R.failures reader.old) (R.failures reader.new) (W.failures writer.old) (W.failures writer.new) }
 {
-    let Ok(mut disk) = ModelDisk::new(alloc, region_count(config)) else {
+    let Ok(mut disk) = ModelDisk::new(alloc, region_count(plans.union())) else {
         return UNOPENED;
     };
     let mut ahead = ReadAhead::new();
     let mut buffers = Buffers::new();
-    let Ok(next) = prepare_all(&mut disk, config, &mut ahead, &mut buffers, reader) else {
+    let Ok(next) = prepare_all(&mut disk, plans, &mut ahead, &mut buffers, reader) else {
         return FAILED;
     };
-    let Ok(mut world) = opened(alloc, config, disk, quota) else {
+    let Ok(mut world) = opened(alloc, plans, disk, quota) else {
         return UNOPENED;
     };
     apply_lines(
         &mut world,
-        config,
+        plans,
         next,
         &mut ahead,
         &mut buffers,

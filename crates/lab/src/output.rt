@@ -202,5 +202,6 @@ pub(crate) fn write_outcome<W: ByteWriter>(
         Outcome::Framed(_, dest) => write_frame(writer, id, dest, out),
         Outcome::Done => write_done(writer),
         Outcome::NotAStray => writer.write_all(b"gone\n"),
+        Outcome::NoPlan => writer.write_all(b"gone\n"),
     }
 }

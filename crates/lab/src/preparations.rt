@@ -15,7 +15,7 @@ ghost use Rattle.lab_text.specs.ReadAhead.{held};
 ghost use Rattle.lab_text.specs.declared.parse_line.Parsed.TheVariants.{Event};
 
 use crate::buffers::Buffers;
-use config::Config;
+use config::Plans;
 use lab_text::parse_line::{Parsed, ParsedLine};
 use lab_text::{ByteReader, Failed, LineEnd, MAX_BYTES, MAX_TEXT, NextLine, ReadAhead, read_line};
 use lease_disk::{ModelDisk, format_old};
@@ -38,15 +38,15 @@ fn format_region(disk: &mut ModelDisk, region: u16)
 /// that it says.
 fn prepare_region(
     disk: &mut ModelDisk,
-    config: &Config,
+    plans: &Plans,
     parsed: ParsedLine,
     bytes: &[u8; MAX_BYTES],
 ) -> Option<Parsed>
-    requires named { IsWithin config.now parsed }
-    requires regions { AreWithin config.now (length disk.old.regions) }
+    requires named { IsWithin plans.now.union plans.now.count parsed }
+    requires regions { AreWithin plans.now.union (length disk.old.regions) }
     requires ready { AreReady (length disk.old.regions) (state_of disk.old) }
-    ensures prepared { IfNone result ((quota : ℕ) (openings : ℕ → Opening) → AreOver config.now quota (device_of disk.old) openings
-        → ArePrepared config.now quota (device_of disk.new) (prepared (line_of parsed bytes.now) openings)) }
+    ensures prepared { IfNone result ((quota : ℕ) (openings : ℕ → Opening) → AreOver plans.now quota (device_of disk.old) openings
+        → ArePrepared plans.now quota (device_of disk.new) (prepared (line_of parsed bytes.now) openings)) }
     ensures event { IfSome result (λ _. (openings : ℕ → Opening) → prepared (line_of parsed bytes.now) openings ≡ None) }
     ensures parsed { IfSome result (λ event. event ≡ Event parsed) }
     ensures same { IfSome result (λ _. disk.new ≡ disk.old) }
@@ -56,19 +56,19 @@ fn prepare_region(
     match parsed {
         ParsedLine::Ignored => {}
         ParsedLine::Fill(circuit, byte) => {
-            let region = config.at(circuit).region;
+            let region = plans.union().at(circuit).region;
             disk.fill(region, byte);
         }
         ParsedLine::Old(circuit) => {
-            let region = config.at(circuit).region;
+            let region = plans.union().at(circuit).region;
             format_region(disk, region);
         }
         ParsedLine::Load(circuit, at, len) => {
-            let region = config.at(circuit).region;
+            let region = plans.union().at(circuit).region;
             disk.load(region, at, &bytes[..len]);
         }
         ParsedLine::Move(circuit, fault) => {
-            let region = config.at(circuit).region;
+            let region = plans.union().at(circuit).region;
             disk.fail_at(region, fault);
         }
         _ => return Some(Parsed::Event(parsed)),
@@ -79,26 +79,26 @@ fn prepare_region(
 /// Applies a line that may come before all events, or returns the event that it says.
 fn prepare(
     disk: &mut ModelDisk,
-    config: &Config,
+    plans: &Plans,
     line: &[u8],
     buffers: &mut Buffers,
 ) -> Option<Parsed>
     requires short { length line.now ≤ 8192 }
-    requires regions { AreWithin config.now (length disk.old.regions) }
+    requires regions { AreWithin plans.now.union (length disk.old.regions) }
     requires ready { AreReady (length disk.old.regions) (state_of disk.old) }
-    ensures event { IfSome result (λ _. (openings : ℕ → Opening) → prepared (line_of_text config.now line.now) openings ≡ None) }
-    ensures parsed { IfSome result (Says config.now buffers.new.bytes buffers.new.comebacks line.now) }
-    ensures prepared { IfNone result ((quota : ℕ) (openings : ℕ → Opening) → AreOver config.now quota (device_of disk.old) openings
-        → ArePrepared config.now quota (device_of disk.new) (prepared (line_of_text config.now line.now) openings)) }
+    ensures event { IfSome result (λ _. (openings : ℕ → Opening) → prepared (line_of_text plans.now.union plans.now.count line.now) openings ≡ None) }
+    ensures parsed { IfSome result (Says plans.now buffers.new.bytes buffers.new.comebacks line.now) }
+    ensures prepared { IfNone result ((quota : ℕ) (openings : ℕ → Opening) → AreOver plans.now quota (device_of disk.old) openings
+        → ArePrepared plans.now quota (device_of disk.new) (prepared (line_of_text plans.now.union plans.now.count line.now) openings)) }
     ensures same { IfSome result (λ _. disk.new ≡ disk.old) }
     ensures count { length disk.new.regions ≡ length disk.old.regions }
     ensures ready { AreReady (length disk.new.regions) (state_of disk.new) }
 {
-    let parsed = match buffers.parse(config, line) {
+    let parsed = match buffers.parse(plans, line) {
         Parsed::Event(parsed) => parsed,
         Parsed::Restart => return Some(Parsed::Restart),
     };
-    prepare_region(disk, config, parsed, &buffers.bytes)
+    prepare_region(disk, plans, parsed, &buffers.bytes)
 }
 
 /// Applies the last line of the text, which lacks its line feed, where it may come before all events, and
@@ -106,29 +106,29 @@ fn prepare(
 /// where there is none.
 fn prepare_last(
     disk: &mut ModelDisk,
-    config: &Config,
+    plans: &Plans,
     len: usize,
     ahead: &mut ReadAhead,
     buffers: &mut Buffers,
 ) -> (LineEnd, Option<Parsed>)
     requires short { len ≤ 8192 }
     requires inside { len ≤ length (held ahead.old) }
-    requires regions { AreWithin config.now (length disk.old.regions) }
+    requires regions { AreWithin plans.now.union (length disk.old.regions) }
     requires ready { AreReady (length disk.old.regions) (state_of disk.old) }
     ensures prepared { (quota number : ℕ) (given left : Option (List ℕ)) → HoldsLast (held ahead.old) left len
-        → PreparedSoFar config.now quota number false given (prepend_known (held ahead.old) left) (device_of disk.old) (λ rest. ⊤)
-        → PreparedSoFar config.now quota number true given (prepend_known (held ahead.new) left) (device_of disk.new) (Fits (held ahead.new) result.0) }
+        → PreparedSoFar plans.now quota number false given (prepend_known (held ahead.old) left) (device_of disk.old) (λ rest. ⊤)
+        → PreparedSoFar plans.now quota number true given (prepend_known (held ahead.new) left) (device_of disk.new) (Fits (held ahead.new) result.0) }
     ensures end { (left : Option (List ℕ)) → HoldsLast (held ahead.old) left len → IsLineEnd (held ahead.new) left result.0 }
     ensures within { len_of result.0 ≤ 8192 }
     ensures inside { len_of result.0 + feeds_of result.0 ≤ length (held ahead.new) }
-    ensures parsed { IfSome result.1 (Says config.now buffers.new.bytes buffers.new.comebacks (take (len_of result.0) (held ahead.new))) }
+    ensures parsed { IfSome result.1 (Says plans.now buffers.new.bytes buffers.new.comebacks (take (len_of result.0) (held ahead.new))) }
     ensures shorter { length (held ahead.new) ≤ length (held ahead.old) }
     ensures count { ahead.new.count ≡ ahead.old.count }
     ensures regions { length disk.new.regions ≡ length disk.old.regions }
     ensures ready { AreReady (length disk.new.regions) (state_of disk.new) }
 {
     let line = &ahead.as_slice()[..len];
-    if let Some(parsed) = prepare(disk, config, line, buffers) {
+    if let Some(parsed) = prepare(disk, plans, line, buffers) {
         return (LineEnd::EndOfInput(len), Some(parsed));
     }
     ahead.consume(len);
@@ -139,22 +139,22 @@ fn prepare_last(
 /// end of the text. Writes nothing.
 pub(crate) fn prepare_all<R: ByteReader>(
     disk: &mut ModelDisk,
-    config: &Config,
+    plans: &Plans,
     ahead: &mut ReadAhead,
     buffers: &mut Buffers,
     reader: &mut R,
 ) -> Result<NextLine, Failed>
-    requires regions { AreWithin config.now (length disk.old.regions) }
+    requires regions { AreWithin plans.now.union (length disk.old.regions) }
     requires formatted { (q : ℕ) → q < length disk.old.regions → state_of disk.old q ≡ formatted_region }
     requires sound { (q : ℕ) → q < length disk.old.regions → fuse_of disk.old q ≡ 0 }
     requires held { held ahead.old ≡ [] }
     requires count { ahead.old.count ≡ 0 }
     ensures prepared { IfOk result (λ next. (quota : ℕ)
-        → PreparedSoFar config.now quota (next.earlier + 1) true (R.remaining reader.old) (prepend_known (held ahead.new) (R.remaining reader.new)) (device_of disk.new) (Fits (held ahead.new) next.end)) }
+        → PreparedSoFar plans.now quota (next.earlier + 1) true (R.remaining reader.old) (prepend_known (held ahead.new) (R.remaining reader.new)) (device_of disk.new) (Fits (held ahead.new) next.end)) }
     ensures end { IfOk result (λ next. IsLineEnd (held ahead.new) (R.remaining reader.new) next.end) }
     ensures within { IfOk result (λ next. len_of next.end ≤ 8192) }
     ensures inside { IfOk result (λ next. len_of next.end + feeds_of next.end ≤ length (held ahead.new)) }
-    ensures parsed { IfOk result (λ next. IfSome next.parsed (Says config.now buffers.new.bytes buffers.new.comebacks (take (len_of next.end) (held ahead.new)))) }
+    ensures parsed { IfOk result (λ next. IfSome next.parsed (Says plans.now buffers.new.bytes buffers.new.comebacks (take (len_of next.end) (held ahead.new)))) }
     ensures lines { IfOk result (λ next. next.earlier + length (held ahead.new) ≤ ahead.new.count) }
     ensures below { OnOk result (ahead.new.count < 18446744073709551615) }
     ensures regions { length disk.new.regions ≡ length disk.old.regions }
@@ -172,12 +172,12 @@ pub(crate) fn prepare_all<R: ByteReader>(
             LineEnd::Newline(len) => len,
             LineEnd::TooLong => return Ok(NextLine::new(earlier, end, None)),
             LineEnd::EndOfInput(len) => {
-                let (end, parsed) = prepare_last(disk, config, len, ahead, buffers);
+                let (end, parsed) = prepare_last(disk, plans, len, ahead, buffers);
                 return Ok(NextLine::new(earlier, end, parsed));
             }
         };
         let line = &ahead.as_slice()[..len];
-        if let Some(event) = prepare(disk, config, line, buffers) {
+        if let Some(event) = prepare(disk, plans, line, buffers) {
             return Ok(NextLine::new(earlier, end, Some(event)));
         }
         ahead.consume(len + 1);

@@ -37,21 +37,21 @@ pub all_consumed : (left : Option (List ℕ)) (held : List ℕ) → Consumes (pr
 all_consumed None held = tt
 all_consumed (Some xs) held = refl
 
-pub consumes_behind : (a b c : Option (List ℕ)) (bytes : List ℕ) → Keeps a b → Consumes b c bytes → Consumes a c bytes
-consumes_behind None b c bytes h k = tt
-consumes_behind (Some x) None c bytes h k = absurd h
-consumes_behind (Some x) (Some y) None bytes h k = absurd k
-consumes_behind (Some x) (Some y) (Some z) bytes h k = sym h ∙ k
+pub consumes_after : (a b c : Option (List ℕ)) (bytes : List ℕ) → Keeps a b → Consumes b c bytes → Consumes a c bytes
+consumes_after None b c bytes h k = tt
+consumes_after (Some x) None c bytes h k = absurd h
+consumes_after (Some x) (Some y) None bytes h k = absurd k
+consumes_after (Some x) (Some y) (Some z) bytes h k = sym h ∙ k
 
 -- a line and its line feed
 pub line_consumed : (a left : Option (List ℕ)) (held text rest : List ℕ) (len : ℕ) → text ≡ held → rest ≡ drop (len + 1) held → Keeps a (prepend_known held left) → HoldsLine held len
     → IsLine a (prepend_known rest left) (take len text)
-line_consumed a left held text rest len is behind kept h =
+line_consumed a left held text rest len is after kept h =
     subst (λ v. IsLine a (prepend_known rest left) (take len v)) (sym is)
-    (subst (λ v. IsLine a (prepend_known v left) (take len held)) (sym behind) (record {
+    (subst (λ v. IsLine a (prepend_known v left) (take len held)) (sym after) (record {
       plain = h.plain;
       read =
-          consumes_behind a (prepend_known held left) _ _ kept
+          consumes_after a (prepend_known held left) _ _ kept
           (held_consumed left held (take len held ++ 10 ∷ []) (drop (len + 1) held)
           (sym (append_assoc (take len held) (10 ∷ []) (drop (len + 1) held) ∙ around held len 10 h.inside h.feed)));
     }))
@@ -61,13 +61,13 @@ pub last_consumed : (a left : Option (List ℕ)) (held text : List ℕ) (len : �
 last_consumed a left held text len is kept h =
     let all : take len text ≡ held = ap (take len) is ∙ take_all len held (let e = h.size in omega arith) in
     subst (IsLast a left) (sym all) (record {
-      part = record { plain = h.plain; read = consumes_behind a (prepend_known held left) left held kept (all_consumed left held) };
+      part = record { plain = h.plain; read = consumes_after a (prepend_known held left) left held kept (all_consumed left held) };
       end = h.end;
     })
 
 -- what was read before the reader failed
 pub cut_consumed : (a left : Option (List ℕ)) (held : List ℕ) → Keeps a (prepend_known held left) → IsCut a left
-cut_consumed a left held kept = record { front = held; read = consumes_behind a (prepend_known held left) left held kept (all_consumed left held) }
+cut_consumed a left held kept = record { front = held; read = consumes_after a (prepend_known held left) left held kept (all_consumed left held) }
 
 -- a range without its first bytes
 pub slice_range_advance : (xs : List ℕ) (from to n : ℕ) → n ≤ length (slice_range xs from to) → slice_range xs (from + n) to ≡ drop n (slice_range xs from to)
@@ -77,7 +77,7 @@ slice_range_advance xs from to n within =
     let whole : to - from ≡ n + k = omega (arith, size) in
     ap (take k) (sym (drop-drop n from xs)) ∙ sym (drop-take n k (drop from xs)) ∙ ap (λ m. drop n (take m (drop from xs))) (sym whole)
 
--- a range from the front, and more behind it
+-- a range from the front, and more after it
 pub slice_range_more : (xs ys : List ℕ) (start end n : ℕ) → start ≡ 0 → take end ys ≡ take end xs → slice_range ys start (end + n) ≡ slice_range xs start end ++ slice_range ys end (end + n)
 slice_range_more xs ys start end n first same =
     let all : (end + n) - 0 ≡ end + n = omega arith in

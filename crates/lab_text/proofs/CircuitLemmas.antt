@@ -17,6 +17,7 @@ abbrev pub has_id : List ℕ → CircuitConfig → Bool
 has_id id circuit = bytes_eq circuit.id id
 
 named_is : (settings : Settings) (id : List ℕ) → circuit_named settings id ≡ position_from (has_id id) 0 settings.circuits
+unfolding circuit_named
 named_is settings id = position_from-zero (has_id id) settings.circuits
 
 none_at : (id : List ℕ) (i : ℕ) (c : CircuitConfig) (cs : List CircuitConfig) (t : Bool) → bytes_eq c.id id ≡ t → (c.id ≡ id → ⊥) → position_from (has_id id) (i + 1) cs ≡ None → cond t (Some i) (position_from (has_id id) (i + 1) cs) ≡ None
@@ -72,7 +73,7 @@ pub found_named : (settings : Settings) (id : List ℕ) (index : ℕ) → IsSoun
 found_named settings id index sound h =
     let one = λ (j : ℕ) (e : IsIdAt settings.circuits j id).
     let before : j < index → ⊥ = λ less. apart settings.circuits j index id sound.rules.names.ids less (circuit_at settings.circuits j id e) (circuit_at settings.circuits index id h) in
-    let behind : index < j → ⊥ = λ less. apart settings.circuits index j id sound.rules.names.ids less (circuit_at settings.circuits index id h) (circuit_at settings.circuits j id e) in
+    let after : index < j → ⊥ = λ less. apart settings.circuits index j id sound.rules.names.ids less (circuit_at settings.circuits index id h) (circuit_at settings.circuits j id e) in
     let same : j ≡ index = omega arith in
     same in
     let e : 0 + index ≡ index = omega arith in

@@ -1,6 +1,8 @@
 pub mod AheadLemmas
 pub mod CircuitLemmas
 pub mod CutLemmas
+pub mod FieldLemmas
+pub mod FormLemmas
 pub mod NumberLemmas
 pub mod PartLemmas
 pub mod ReadLemmas

@@ -52,16 +52,16 @@ bytes_of (b ∷ digits) =
     else None
 
 -- the index of the circuit with exactly this id
-abbrev pub circuit_named : Settings → List ℕ → Option ℕ
+unfoldable pub circuit_named : Settings → List ℕ → Option ℕ
 circuit_named settings id = position (λ circuit. bytes_eq circuit.id id) settings.circuits
 
 -- the index of the first relay with exactly this name
-abbrev pub relay_named : Settings → List ℕ → Option ℕ
+unfoldable pub relay_named : Settings → List ℕ → Option ℕ
 relay_named settings name = position (λ relay. bytes_eq relay.name.items name) settings.relays
 
 -- ---- an address and port
 
--- what a text has before and behind the first of these bytes
+-- what a text has before and after the first of these bytes
 abbrev pub parted : ℕ → List ℕ → Option (List ℕ × List ℕ)
 parted byte text = option_map (λ i. (take i text, drop (i + 1) text)) (position (λ b. b == byte) text)
 
@@ -104,7 +104,7 @@ abbrev pub or_here : Bool → ℕ → List ℕ → Option (List ℕ × List ℕ)
 or_here here b text (Some parts) = Some (with_front b parts)
 or_here here b text None = if here then Some ([], text) else None
 
--- what a text has before and behind the last of these bytes
+-- what a text has before and after the last of these bytes
 unfoldable pub parted_last : ℕ → List ℕ → Option (List ℕ × List ℕ)
 parted_last byte [] = None
 parted_last byte (b ∷ text) = or_here (b == byte) b text (parted_last byte text)

@@ -83,7 +83,7 @@ len_of (Newline len) = len
 len_of (EndOfInput len) = len
 len_of TooLong = 0
 
--- how many line feeds are held behind it
+-- how many line feeds are held after it
 abbrev pub feeds_of : LineEnd → ℕ
 feeds_of (Newline len) = 1
 feeds_of (EndOfInput len) = 0

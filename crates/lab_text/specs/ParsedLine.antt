@@ -1,5 +1,5 @@
 -- What the parser of a line returns, as a line. Only proofs need these.
-use Rattle.std.specs.Prelude.{◌≡◌, ℕ, ◌+◌, ◌<◌, ◌≤◌, Bool, true, false, List, length, take, ⊤}
+use Rattle.std.specs.Prelude.{◌≡◌, ℕ, ◌+◌, ◌<◌, ◌≤◌, Bool, true, false, List, length, take, Option, Some, None, ⊤}
 use Rattle.settings.specs.Settings.{Settings}
 use Rattle.types.specs.declared.discard.Discard.TheVariants.{UnknownSource, NotServer}
 use Rattle.config.specs.Topology.{topology_of, is_relay, is_server}
@@ -11,7 +11,7 @@ use Rattle.events.specs.declared.comeback.Comeback.{Comeback}
 use Rattle.lab_text.specs.declared.parse_line.Parsed.{Parsed}
 use Rattle.lab_text.specs.declared.parse_line.Parsed.TheVariants.{Event, Restart}
 use Rattle.lab_text.specs.Fields.{comeback_in}
-use Rattle.lab_text.specs.Line.{Line, Ignored, Bad, Fill, Old, Load, Move, Named, Tick, Stray}
+use Rattle.lab_text.specs.Line.{Line, Ignored, Bad, Fill, Old, Load, Move, Named, Tick, Reload, Stray}
 use Rattle.lab_text.specs.Line as line
 
 -- The line that a parsed line is. A frame has the first of these bytes, and so has what is loaded.
@@ -26,23 +26,30 @@ line_of (parsed.Frame circuit proto len) bytes = Named circuit (Frame proto (tak
 line_of (parsed.Up circuit j now fault) bytes = Named circuit (Up j now fault)
 line_of (parsed.Down circuit j) bytes = Named circuit (Down j)
 line_of (parsed.Tick now) bytes = Tick now
+line_of (parsed.Reload plan) bytes = Reload plan
 line_of (parsed.StrayUp proto source len now) bytes = Stray UnknownSource
 line_of (parsed.StrayDown relay source len) bytes = Stray NotServer
 
--- The circuit or the relay exists, the buffer has room for the bytes, and a stray is one.
-abbrev pub IsWithin : Settings → ParsedLine → Type 0
-IsWithin settings parsed.Ignored = ⊤
-IsWithin settings parsed.Bad = ⊤
-IsWithin settings (parsed.Fill circuit byte) = circuit < length settings.circuits
-IsWithin settings (parsed.Old circuit) = circuit < length settings.circuits
-IsWithin settings (parsed.Load circuit at len) = (circuit < length settings.circuits) × (len ≤ 2048) × (at + len ≤ 32768)
-IsWithin settings (parsed.Move circuit fault) = circuit < length settings.circuits
-IsWithin settings (parsed.Frame circuit proto len) = (circuit < length settings.circuits) × (len ≤ 2048)
-IsWithin settings (parsed.Up circuit j now fault) = circuit < length settings.circuits
-IsWithin settings (parsed.Down circuit j) = circuit < length settings.circuits
-IsWithin settings (parsed.Tick now) = ⊤
-IsWithin settings (parsed.StrayUp proto source len now) = (len ≤ 2048) × (is_relay (topology_of settings) source ≡ false)
-IsWithin settings (parsed.StrayDown relay source len) =
+-- What is no line of its form is bad.
+abbrev pub line_or_bad : Option ParsedLine → List ℕ → Line
+line_or_bad None bytes = Bad
+line_or_bad (Some parsed) bytes = line_of parsed bytes
+
+-- The circuit, the relay or the plan exists, the buffer has room for the bytes, and a stray is one.
+abbrev pub IsWithin : Settings → ℕ → ParsedLine → Type 0
+IsWithin settings plans parsed.Ignored = ⊤
+IsWithin settings plans parsed.Bad = ⊤
+IsWithin settings plans (parsed.Fill circuit byte) = circuit < length settings.circuits
+IsWithin settings plans (parsed.Old circuit) = circuit < length settings.circuits
+IsWithin settings plans (parsed.Load circuit at len) = (circuit < length settings.circuits) × (len ≤ 2048) × (at + len ≤ 32768)
+IsWithin settings plans (parsed.Move circuit fault) = circuit < length settings.circuits
+IsWithin settings plans (parsed.Frame circuit proto len) = (circuit < length settings.circuits) × (len ≤ 2048)
+IsWithin settings plans (parsed.Up circuit j now fault) = circuit < length settings.circuits
+IsWithin settings plans (parsed.Down circuit j) = circuit < length settings.circuits
+IsWithin settings plans (parsed.Tick now) = ⊤
+IsWithin settings plans (parsed.Reload plan) = plan < plans
+IsWithin settings plans (parsed.StrayUp proto source len now) = (len ≤ 2048) × (is_relay (topology_of settings) source ≡ false)
+IsWithin settings plans (parsed.StrayDown relay source len) =
     (len ≤ 2048) × (relay < length settings.relays) × (is_server (topology_of settings) source ≡ false)
 
 -- The line is a restart after which regions come back as this buffer says.
@@ -61,6 +68,6 @@ abbrev pub Means : Parsed → List ℕ → List Comeback → Line → Type 0
 Means (Event parsed) bytes comebacks given = line_of parsed bytes ≡ given
 Means Restart bytes comebacks given = IsRestart comebacks given
 
-abbrev pub ParsedWithin : Settings → Parsed → Type 0
-ParsedWithin settings (Event parsed) = IsWithin settings parsed
-ParsedWithin settings Restart = ⊤
+abbrev pub ParsedWithin : Settings → ℕ → Parsed → Type 0
+ParsedWithin settings plans (Event parsed) = IsWithin settings plans parsed
+ParsedWithin settings plans Restart = ⊤

@@ -20,6 +20,7 @@ pub(crate) fn circuit_named(config: &Config, id: &[u8]) -> Option<Circuit>
 }
 
 /// The first relay with exactly this name.
+#[tactic(auto, unfolding(crate::specs::Fields::relay_named))]
 pub(crate) fn relay_named(config: &Config, name: &[u8]) -> Option<RelayNo>
     ensures value { result ≡ relay_named config.now name.now }
     ensures within { IfSome result (λ relay. relay < length config.now.relays) }

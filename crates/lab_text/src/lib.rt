@@ -6,6 +6,7 @@ mod circuits;
 mod comebacks;
 mod digits;
 mod fields;
+mod form;
 mod hexadecimal;
 mod line;
 pub mod parse_line;

@@ -1,16 +1,15 @@
 //! The parser of a line.
-ghost use Rattle.std.specs.Prelude.{◌≡◌, ◌≤◌, ℕ, List, [], option_map, IfSome};
-ghost use Rattle.settings.specs.Settings.{Settings};
+ghost use Rattle.std.specs.Prelude.{◌≡◌, ◌≤◌, [], option_map, IfSome};
 ghost use Rattle.lab_text.specs.Fields.{number_to, proto_of};
-ghost use Rattle.lab_text.specs.FieldsAfter.{fields_after, fields_of_next};
-ghost use Rattle.lab_text.specs.Line.{fill_line, old_line, load_line, move_line, frame_line, up_line, down_line, tick_line, stray_up_line, stray_down_line, restart_line, event_line, plain_line, short_line};
-ghost use Rattle.lab_text.specs.ParsedLine.{line_of, IsRestartOrBad, Means, ParsedWithin};
-ghost use Rattle.lab_text.specs.ParsedLine.{IsWithin};
+ghost use Rattle.lab_text.specs.FieldsAfter.{fields_after, texts};
+ghost use Rattle.lab_text.specs.Line.{form_of, line_of_form, line_of_found, restart_line, short_line};
+ghost use Rattle.lab_text.specs.ParsedLine.{line_or_bad, IsRestartOrBad, IsWithin, Means, ParsedWithin};
 
 use crate::circuits::{circuit_named, is_relay, is_server, relay_named};
 use crate::comebacks::{clear_comebacks, clear_names, move_fault, named_comeback};
 use crate::digits::number;
-use crate::fields::first_field;
+use crate::fields::{Fields, first_field, next_field};
+use crate::form::{Form, form_named};
 use crate::hexadecimal::{MAX_BYTES, byte, bytes_at};
 use crate::sources::source;
 use config::Config;
@@ -23,6 +22,9 @@ pub const MAX_NUMBER: u64 = 65535;
 
 /// The last call of the disk in a save.
 pub const MAX_FAULT: u64 = 6;
+
+/// The greatest number that names a plan.
+const MAX_PLAN: u64 = 255;
 
 /// The length of a region.
 const MAX_OFFSET: u64 = 32768;
@@ -48,6 +50,8 @@ pub enum ParsedLine {
     Up(Circuit, u16, Moment, u8),
     Down(Circuit, u16),
     Tick(Moment),
+    /// The plan that is in force from now on, 0 the first.
+    Reload(u8),
     /// The length of the datagram in bytes.
     StrayUp(Proto, Source, usize, Moment),
     /// The length of the datagram in bytes.
@@ -61,16 +65,6 @@ pub enum Parsed {
     Event(ParsedLine),
     /// A restart. How the regions come back is in a buffer of its own.
     Restart,
-}
-
-/// The next field and what follows it, `None` where none is left.
-fn next_field<'a>(rest: Option<&'a [u8]>) -> Option<(&'a [u8], Option<&'a [u8]>)>
-    ensures { fields_after (option_map (λ line. line.now) rest.entry) ≡ fields_of_next (option_map (λ parts. (parts.0.now, option_map (λ line. line.now) parts.1)) result) }
-{
-    match rest {
-        Some(line) => Some(first_field(line)),
-        None => None,
-    }
 }
 
 /// The protocol, `4` or `6`.
@@ -117,6 +111,16 @@ fn offset(text: &[u8]) -> Option<usize>
     }
 }
 
+/// The number of a plan.
+fn plan_number(text: &[u8]) -> Option<u8>
+    ensures { result ≡ number_to 255 text.now }
+{
+    match number(text, MAX_PLAN) {
+        Some(number) => Some(number as u8),
+        None => None,
+    }
+}
+
 /// A moment in seconds.
 fn moment(text: &[u8]) -> Option<Moment>
     ensures { result ≡ number_to 1099511627775 text.now }
@@ -124,251 +128,6 @@ fn moment(text: &[u8]) -> Option<Moment>
     match number(text, LAST_MOMENT) {
         Some(seconds) => Moment::new(seconds),
         None => None,
-    }
-}
-
-/// `fill CID HH`.
-fn parse_fill(config: &Config, rest: Option<&[u8]>) -> ParsedLine
-    ensures value { (bytes : List ℕ) → line_of result bytes ≡ fill_line config.now (fields_after (option_map (λ line. line.now) rest.entry)) }
-    ensures within { IsWithin config.now result }
-{
-    let Some((circuit, rest)) = next_field(rest) else {
-        return ParsedLine::Bad;
-    };
-    let Some((digits, rest)) = next_field(rest) else {
-        return ParsedLine::Bad;
-    };
-    if next_field(rest).is_some() {
-        return ParsedLine::Bad;
-    }
-    match (circuit_named(config, circuit), byte(digits)) {
-        (Some(circuit), Some(byte)) => ParsedLine::Fill(circuit, byte),
-        _ => ParsedLine::Bad,
-    }
-}
-
-/// `old CID`.
-fn parse_old(config: &Config, rest: Option<&[u8]>) -> ParsedLine
-    ensures value { (bytes : List ℕ) → line_of result bytes ≡ old_line config.now (fields_after (option_map (λ line. line.now) rest.entry)) }
-    ensures within { IsWithin config.now result }
-{
-    let Some((circuit, rest)) = next_field(rest) else {
-        return ParsedLine::Bad;
-    };
-    if next_field(rest).is_some() {
-        return ParsedLine::Bad;
-    }
-    match circuit_named(config, circuit) {
-        Some(circuit) => ParsedLine::Old(circuit),
-        None => ParsedLine::Bad,
-    }
-}
-
-/// `load CID AT HEX`.
-fn parse_load(config: &Config, rest: Option<&[u8]>, bytes: &mut [u8; MAX_BYTES]) -> ParsedLine
-    ensures value { line_of result bytes.new ≡ load_line config.now (fields_after (option_map (λ line. line.now) rest.entry)) }
-    ensures within { IsWithin config.now result }
-{
-    let Some((circuit, rest)) = next_field(rest) else {
-        return ParsedLine::Bad;
-    };
-    let Some((at, rest)) = next_field(rest) else {
-        return ParsedLine::Bad;
-    };
-    let Some((digits, rest)) = next_field(rest) else {
-        return ParsedLine::Bad;
-    };
-    if next_field(rest).is_some() {
-        return ParsedLine::Bad;
-    }
-    match (
-        circuit_named(config, circuit),
-        offset(at),
-        bytes_at(digits, bytes),
-    ) {
-        (Some(circuit), Some(at), Some(len)) if at + len <= REGION => {
-            ParsedLine::Load(circuit, at, len)
-        }
-        _ => ParsedLine::Bad,
-    }
-}
-
-/// `move CID M`.
-fn parse_move(config: &Config, rest: Option<&[u8]>) -> ParsedLine
-    ensures value { (bytes : List ℕ) → line_of result bytes ≡ move_line config.now (fields_after (option_map (λ line. line.now) rest.entry)) }
-    ensures within { IsWithin config.now result }
-{
-    let Some((circuit, rest)) = next_field(rest) else {
-        return ParsedLine::Bad;
-    };
-    let Some((call, rest)) = next_field(rest) else {
-        return ParsedLine::Bad;
-    };
-    if next_field(rest).is_some() {
-        return ParsedLine::Bad;
-    }
-    match (circuit_named(config, circuit), move_fault(call)) {
-        (Some(circuit), Some(fault)) => ParsedLine::Move(circuit, fault),
-        _ => ParsedLine::Bad,
-    }
-}
-
-/// `frame CID PROTO HEX`.
-fn parse_frame(config: &Config, rest: Option<&[u8]>, bytes: &mut [u8; MAX_BYTES]) -> ParsedLine
-    ensures value { line_of result bytes.new ≡ frame_line config.now (fields_after (option_map (λ line. line.now) rest.entry)) }
-    ensures within { IsWithin config.now result }
-{
-    let Some((circuit, rest)) = next_field(rest) else {
-        return ParsedLine::Bad;
-    };
-    let Some((proto, rest)) = next_field(rest) else {
-        return ParsedLine::Bad;
-    };
-    let Some((digits, rest)) = next_field(rest) else {
-        return ParsedLine::Bad;
-    };
-    if next_field(rest).is_some() {
-        return ParsedLine::Bad;
-    }
-    match (
-        circuit_named(config, circuit),
-        protocol(proto),
-        bytes_at(digits, bytes),
-    ) {
-        (Some(circuit), Some(proto), Some(len)) => ParsedLine::Frame(circuit, proto, len),
-        _ => ParsedLine::Bad,
-    }
-}
-
-/// `up CID J NOW FAULT`.
-fn parse_up(config: &Config, rest: Option<&[u8]>) -> ParsedLine
-    ensures value { (bytes : List ℕ) → line_of result bytes ≡ up_line config.now (fields_after (option_map (λ line. line.now) rest.entry)) }
-    ensures within { IsWithin config.now result }
-{
-    let Some((circuit, rest)) = next_field(rest) else {
-        return ParsedLine::Bad;
-    };
-    let Some((j, rest)) = next_field(rest) else {
-        return ParsedLine::Bad;
-    };
-    let Some((now, rest)) = next_field(rest) else {
-        return ParsedLine::Bad;
-    };
-    let Some((fault, rest)) = next_field(rest) else {
-        return ParsedLine::Bad;
-    };
-    if next_field(rest).is_some() {
-        return ParsedLine::Bad;
-    }
-    match (
-        circuit_named(config, circuit),
-        datagram_number(j),
-        moment(now),
-        fault_number(fault),
-    ) {
-        (Some(circuit), Some(j), Some(now), Some(fault)) => {
-            ParsedLine::Up(circuit, j, now, fault)
-        }
-        _ => ParsedLine::Bad,
-    }
-}
-
-/// `down CID J`.
-fn parse_down(config: &Config, rest: Option<&[u8]>) -> ParsedLine
-    ensures value { (bytes : List ℕ) → line_of result bytes ≡ down_line config.now (fields_after (option_map (λ line. line.now) rest.entry)) }
-    ensures within { IsWithin config.now result }
-{
-    let Some((circuit, rest)) = next_field(rest) else {
-        return ParsedLine::Bad;
-    };
-    let Some((j, rest)) = next_field(rest) else {
-        return ParsedLine::Bad;
-    };
-    if next_field(rest).is_some() {
-        return ParsedLine::Bad;
-    }
-    match (circuit_named(config, circuit), datagram_number(j)) {
-        (Some(circuit), Some(j)) => ParsedLine::Down(circuit, j),
-        _ => ParsedLine::Bad,
-    }
-}
-
-/// `tick NOW`.
-fn parse_tick(rest: Option<&[u8]>) -> ParsedLine
-    ensures value { (bytes : List ℕ) → line_of result bytes ≡ tick_line (fields_after (option_map (λ line. line.now) rest.entry)) }
-    ensures within { (settings : Settings) → IsWithin settings result }
-{
-    let Some((now, rest)) = next_field(rest) else {
-        return ParsedLine::Bad;
-    };
-    if next_field(rest).is_some() {
-        return ParsedLine::Bad;
-    }
-    match moment(now) {
-        Some(now) => ParsedLine::Tick(now),
-        None => ParsedLine::Bad,
-    }
-}
-
-/// `strayup PROTO SRC HEX NOW`.
-fn parse_stray_up(config: &Config, rest: Option<&[u8]>, bytes: &mut [u8; MAX_BYTES]) -> ParsedLine
-    ensures value { line_of result bytes.new ≡ stray_up_line config.now (fields_after (option_map (λ line. line.now) rest.entry)) }
-    ensures within { IsWithin config.now result }
-{
-    let Some((proto, rest)) = next_field(rest) else {
-        return ParsedLine::Bad;
-    };
-    let Some((from, rest)) = next_field(rest) else {
-        return ParsedLine::Bad;
-    };
-    let Some((digits, rest)) = next_field(rest) else {
-        return ParsedLine::Bad;
-    };
-    let Some((now, rest)) = next_field(rest) else {
-        return ParsedLine::Bad;
-    };
-    if next_field(rest).is_some() {
-        return ParsedLine::Bad;
-    }
-    match (
-        protocol(proto),
-        source(from),
-        bytes_at(digits, bytes),
-        moment(now),
-    ) {
-        (Some(proto), Some(source), Some(len), Some(now)) if !is_relay(config, source) => {
-            ParsedLine::StrayUp(proto, source, len, now)
-        }
-        _ => ParsedLine::Bad,
-    }
-}
-
-/// `straydown RELAY SRC HEX`.
-fn parse_stray_down(config: &Config, rest: Option<&[u8]>, bytes: &mut [u8; MAX_BYTES]) -> ParsedLine
-    ensures value { line_of result bytes.new ≡ stray_down_line config.now (fields_after (option_map (λ line. line.now) rest.entry)) }
-    ensures within { IsWithin config.now result }
-{
-    let Some((name, rest)) = next_field(rest) else {
-        return ParsedLine::Bad;
-    };
-    let Some((from, rest)) = next_field(rest) else {
-        return ParsedLine::Bad;
-    };
-    let Some((digits, rest)) = next_field(rest) else {
-        return ParsedLine::Bad;
-    };
-    if next_field(rest).is_some() {
-        return ParsedLine::Bad;
-    }
-    match (
-        relay_named(config, name),
-        source(from),
-        bytes_at(digits, bytes),
-    ) {
-        (Some(relay), Some(source), Some(len)) if !is_server(config, source) => {
-            ParsedLine::StrayDown(relay, source, len)
-        }
-        _ => ParsedLine::Bad,
     }
 }
 
@@ -400,81 +159,121 @@ fn parse_restart(
     true
 }
 
-/// Parses the line of one event by its first field and what follows it.
-fn parse_event(
+/// Parses a line of this form by its other fields.
+fn parse_form(
     config: &Config,
-    word: &[u8],
-    rest: Option<&[u8]>,
+    plans: usize,
+    form: Form,
+    fields: &[&[u8]],
     bytes: &mut [u8; MAX_BYTES],
-) -> ParsedLine
-    ensures value { line_of result bytes.new ≡ event_line config.now word.now (fields_after (option_map (λ line. line.now) rest.entry)) }
-    ensures within { IsWithin config.now result }
+) -> Option<ParsedLine>
+    ensures value { line_or_bad result bytes.new ≡ line_of_form config.now plans form (texts fields.now) }
+    ensures within { IfSome result (IsWithin config.now plans) }
 {
-    if word == b"frame".as_slice() {
-        return parse_frame(config, rest, bytes);
+    match (form, fields) {
+        (Form::Fill, [circuit, digits]) => Some(ParsedLine::Fill(
+            circuit_named(config, circuit)?,
+            byte(digits)?,
+        )),
+        (Form::Old, [circuit]) => Some(ParsedLine::Old(circuit_named(config, circuit)?)),
+        (Form::Load, [circuit, at, digits]) => {
+            let circuit = circuit_named(config, circuit)?;
+            let at = offset(at)?;
+            let len = bytes_at(digits, bytes)?;
+            if at + len > REGION {
+                return None;
+            }
+            Some(ParsedLine::Load(circuit, at, len))
+        }
+        (Form::Move, [circuit, call]) => Some(ParsedLine::Move(
+            circuit_named(config, circuit)?,
+            move_fault(call)?,
+        )),
+        (Form::Frame, [circuit, proto, digits]) => Some(ParsedLine::Frame(
+            circuit_named(config, circuit)?,
+            protocol(proto)?,
+            bytes_at(digits, bytes)?,
+        )),
+        (Form::Up, [circuit, j, now, fault]) => Some(ParsedLine::Up(
+            circuit_named(config, circuit)?,
+            datagram_number(j)?,
+            moment(now)?,
+            fault_number(fault)?,
+        )),
+        (Form::Down, [circuit, j]) => Some(ParsedLine::Down(
+            circuit_named(config, circuit)?,
+            datagram_number(j)?,
+        )),
+        (Form::Tick, [now]) => Some(ParsedLine::Tick(moment(now)?)),
+        (Form::Reload, [plan]) => {
+            let plan = plan_number(plan)?;
+            if usize::from(plan) >= plans {
+                return None;
+            }
+            Some(ParsedLine::Reload(plan))
+        }
+        (Form::StrayUp, [proto, from, digits, now]) => {
+            let proto = protocol(proto)?;
+            let source = source(from)?;
+            let len = bytes_at(digits, bytes)?;
+            let now = moment(now)?;
+            if is_relay(config, source) {
+                return None;
+            }
+            Some(ParsedLine::StrayUp(proto, source, len, now))
+        }
+        (Form::StrayDown, [relay, from, digits]) => {
+            let relay = relay_named(config, relay)?;
+            let source = source(from)?;
+            let len = bytes_at(digits, bytes)?;
+            if is_server(config, source) {
+                return None;
+            }
+            Some(ParsedLine::StrayDown(relay, source, len))
+        }
+        _ => None,
     }
-    if word == b"up".as_slice() {
-        return parse_up(config, rest);
-    }
-    if word == b"down".as_slice() {
-        return parse_down(config, rest);
-    }
-    if word == b"tick".as_slice() {
-        return parse_tick(rest);
-    }
-    if word == b"strayup".as_slice() {
-        return parse_stray_up(config, rest, bytes);
-    }
-    if word == b"straydown".as_slice() {
-        return parse_stray_down(config, rest, bytes);
-    }
-    ParsedLine::Bad
 }
 
 /// Parses a line that is no restart by its first field and what follows it.
-fn parse_plain(
+fn parse_fields(
     config: &Config,
+    plans: usize,
     word: &[u8],
     rest: Option<&[u8]>,
     bytes: &mut [u8; MAX_BYTES],
-) -> ParsedLine
-    ensures value { line_of result bytes.new ≡ plain_line config.now word.now (fields_after (option_map (λ line. line.now) rest.entry)) }
-    ensures within { IsWithin config.now result }
+) -> Option<ParsedLine>
+    ensures value { line_or_bad result bytes.new ≡ line_of_found config.now plans (form_of word.now) (fields_after (option_map (λ line. line.now) rest.entry)) }
+    ensures within { IfSome result (IsWithin config.now plans) }
 {
-    if word == b"fill".as_slice() {
-        return parse_fill(config, rest);
-    }
-    if word == b"old".as_slice() {
-        return parse_old(config, rest);
-    }
-    if word == b"load".as_slice() {
-        return parse_load(config, rest, bytes);
-    }
-    if word == b"move".as_slice() {
-        return parse_move(config, rest);
-    }
-    parse_event(config, word, rest, bytes)
+    let form = form_named(word)?;
+    let fields = Fields::of(rest);
+    parse_form(config, plans, form, fields.as_slice(), bytes)
 }
 
-/// Parses a line that is not too long.
+/// Parses a line that is not too long. `plans` is how many plans there are, 1 to 8.
 pub fn parse_line(
     config: &Config,
+    plans: usize,
     line: &[u8],
     bytes: &mut [u8; MAX_BYTES],
     comebacks: &mut [Comeback; MAX_CIRCUITS],
 ) -> Parsed
-    ensures value { Means result bytes.new comebacks.new (short_line config.now line.now) }
-    ensures within { ParsedWithin config.now result }
+    ensures value { Means result bytes.new comebacks.new (short_line config.now plans line.now) }
+    ensures within { ParsedWithin config.now plans result }
 {
     if line.is_empty() || line[0] == b'#' {
         return Parsed::Event(ParsedLine::Ignored);
     }
     let (word, rest) = first_field(line);
-    if word != b"restart".as_slice() {
-        return Parsed::Event(parse_plain(config, word, rest, bytes));
+    if word == b"restart".as_slice() {
+        if !parse_restart(config, rest, comebacks) {
+            return Parsed::Event(ParsedLine::Bad);
+        }
+        return Parsed::Restart;
     }
-    if !parse_restart(config, rest, comebacks) {
-        return Parsed::Event(ParsedLine::Bad);
+    match parse_fields(config, plans, word, rest, bytes) {
+        Some(parsed) => Parsed::Event(parsed),
+        None => Parsed::Event(ParsedLine::Bad),
     }
-    Parsed::Restart
 }

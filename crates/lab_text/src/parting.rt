@@ -13,7 +13,7 @@ fn index_of(text: &[u8], byte: u8) -> Option<usize>
     text.iter().position(|b| *b == byte)
 }
 
-/// What a text has before and behind the first of these bytes.
+/// What a text has before and after the first of these bytes.
 pub(crate) fn parted(text: &[u8], byte: u8) -> Option<(&[u8], &[u8])>
     ensures { option_map (λ parts. (parts.0.now, parts.1.now)) result ≡ parted byte text.now }
 {
@@ -23,7 +23,7 @@ pub(crate) fn parted(text: &[u8], byte: u8) -> Option<(&[u8], &[u8])>
     Some((&text[..at], &text[at + 1..]))
 }
 
-/// What a text has before and behind the last of these bytes.
+/// What a text has before and after the last of these bytes.
 pub(crate) fn parted_last(text: &[u8], byte: u8) -> Option<(&[u8], &[u8])>
     ensures { option_map (λ parts. (parts.0.now, parts.1.now)) result ≡ parted_last byte text.now }
 {

@@ -6,7 +6,7 @@ ghost use Rattle.lab_text.specs.LineEnd.{IsCounted};
 use crate::line::{MAX_LINE, MAX_TEXT};
 use crate::streams::{ByteReader, Failed};
 
-/// The most bytes that are held at a time: room for the longest line and a read behind it.
+/// The most bytes that are held at a time: room for the longest line and a read after it.
 pub const CAPACITY: usize = 4 * MAX_LINE;
 
 /// The bytes from `start` to `end` were read and not yet consumed.
@@ -76,7 +76,7 @@ impl ReadAhead {
         self.start += amount;
     }
 
-    /// Makes room behind the bytes that are held.
+    /// Makes room after the bytes that are held.
     fn move_to_front(&mut self)
         ensures held { held self.new ≡ held self.old }
         ensures start { self.new.start ≡ 0 }
@@ -92,7 +92,7 @@ impl ReadAhead {
         self.end = len;
     }
 
-    /// Reads behind the bytes that are held, at most so many that `MAX_TEXT` is not exceeded, and returns
+    /// Reads after the bytes that are held, at most so many that `MAX_TEXT` is not exceeded, and returns
     /// whether there were any: false at the end of the input. `Failed` also where `MAX_TEXT` was reached.
     pub fn fill<R: ByteReader>(&mut self, reader: &mut R) -> Result<bool, Failed>
         requires room { length (held self.old) ≤ 8192 }

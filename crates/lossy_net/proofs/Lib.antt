@@ -3,3 +3,4 @@ pub mod Places
 pub mod Segments
 pub mod Lists
 pub mod Sends
+pub mod Clears

@@ -83,6 +83,20 @@ impl Net {
         old.len == self.quota
     }
 
+    /// Loses all datagrams of this circuit, in both directions.
+    pub fn clear(&mut self, circuit: Circuit)
+        requires { circuit < length self.old.circuits }
+        ensures empty { (dir : Dir) → datagrams self.new circuit dir ≡ [] }
+        ensures others { (other : ℕ) (way : Dir) → other ≢ circuit → datagrams self.new other way ≡ datagrams self.old other way }
+        ensures circuits { length self.new.circuits ≡ length self.old.circuits }
+        ensures quota { self.new.quota ≡ self.old.quota }
+    {
+        let up = ring_index(circuit, Dir::Up);
+        let down = ring_index(circuit, Dir::Down);
+        self.rings[up] = Ring::EMPTY;
+        self.rings[down] = Ring::EMPTY;
+    }
+
     /// The datagram with this number in the list of this circuit and direction, 0 the newest; `None`
     /// exactly where there are not that many.
     pub fn deliver(&self, circuit: Circuit, dir: Dir, number: u16) -> Option<(Proto, &[u8])>

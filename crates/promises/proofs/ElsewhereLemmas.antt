@@ -40,8 +40,8 @@ use Rattle.requests.specs.Request4.{request4_in}
 use Rattle.requests.specs.Request6.{request6_in}
 use Rattle.dispatch.specs.Server.{Book, Served, book_at, kept_book, served, datagram_served, decision4_served, decision6_served, forward_served, message4_served, message6_served, reply4_to, reply6_to, request4_served, request6_served}
 use Rattle.lossy_net.specs.Net.{Datagram}
-use Rattle.events.specs.Seen.{Seen, Frame, Up, Down, Tick, Restart}
-use Rattle.world.specs.Alone.{Alone, Setup, Dropped, alone_step, answer_step, book_step, delivery_of, down_step, frame_step, frames, is_fault, reply_step, sent_frame, served_step, up_step}
+use Rattle.events.specs.Seen.{Seen, Frame, Up, Down, Tick, Restart, Turn}
+use Rattle.world.specs.Alone.{Alone, Setup, Dropped, alone_step, answer_step, book_step, delivery_of, down_step, frame_step, frames, if_on, is_fault, reply_step, sent_frame, served_step, up_step}
 use Rattle.promises.specs.Elsewhere.{served_elsewhere}
 
 module _ (relay listen4 listen6 : Source) where
@@ -171,7 +171,7 @@ module _ (relay listen4 listen6 : Source) where
   serving : (setup : Setup) (fault : ℕ) (a : Alone) (proto : Proto) (done : Served) → served_step (setup_there setup) fault a proto done ≡ served_step setup fault a proto done
   serving setup fault a proto done = λ i.
       if not done.is_kept then answering setup (record a { book = Some done.book }) proto done.answer i
-      else if is_fault fault then record {
+      else if is_fault 6 fault then record {
         effect = Dropped reason.DiskFault;
         next = record a { book = None; doubt = if nat_le 5 fault then Some (kept_book done.book) else a.doubt };
       }
@@ -198,11 +198,12 @@ module _ (relay listen4 listen6 : Source) where
   step : (setup : Setup) (s : Seen) (a : Alone) → alone_step (setup_there setup) s a ≡ alone_step setup s a
   unfolding alone_step
   step setup (Frame proto frame) a =
-      ap (frame_step (setup_there setup) a proto) (up setup.part proto frame) ∙ framed setup a proto (relayed_up setup.part proto frame)
-  step setup (Up j now fault) a = upwards setup now fault a (slice_get a.up j)
-  step setup (Down j) a = downwards setup a (slice_get a.down j)
+      ap (if_on a) (ap (frame_step (setup_there setup) a proto) (up setup.part proto frame) ∙ framed setup a proto (relayed_up setup.part proto frame))
+  step setup (Up j now fault) a = ap (if_on a) (upwards setup now fault a (slice_get a.up j))
+  step setup (Down j) a = ap (if_on a) (downwards setup a (slice_get a.down j))
   step setup (Tick now) a = refl
   step setup (Restart comeback) a = refl
+  step setup (Turn on) a = refl
 
   pub frames_elsewhere : (setup : Setup) (seen : List Seen) (a : Alone) → frames (served_elsewhere relay listen4 listen6 setup) seen a ≡ frames setup seen a
   unfolding frames

@@ -1,3 +1,4 @@
+pub mod ApartLemmas
 pub mod BookLemmas
 pub mod ConfigLemmas
 pub mod ElsewhereLemmas
@@ -14,3 +15,4 @@ pub mod PoolLemmas
 pub mod PoolLemmas4
 pub mod PoolLemmas6
 pub mod PooledMaps
+pub mod SeenLemmas

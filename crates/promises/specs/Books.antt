@@ -1,5 +1,5 @@
 -- The books of a circuit's machine, and what makes a book the circuit's.
-use Rattle.std.specs.Prelude.{ℕ, ◌+◌, ◌<◌, ◌≤◌, List, IfSome}
+use Rattle.std.specs.Prelude.{◌≡◌, ◌⊎◌, ℕ, ◌+◌, ◌<◌, ◌≤◌, List, IfSome, IsSomeAnd}
 use Rattle.std.specs.FinMap.{get}
 use Rattle.types.specs.Addr.{number4, number6}
 use Rattle.types.specs.Key6.{Key6Value}
@@ -14,6 +14,11 @@ pub record HasBooks (IsOne : Book → Type 0) (a : Alone) : Type 0 where
   pub book : IfSome a.book IsOne
   pub kept : IfSome a.kept IsOne
   pub doubt : IfSome a.doubt IsOne
+
+-- some client has this address, bound or, for DHCPv4, on offer
+abbrev pub HasAddress : Proto → ℕ → Book → Type 0
+HasAddress V4 address b = (client : List ℕ) × (IsSomeAnd (get b.four.bindings client) (λ lease. lease.address ≡ address) ⊎ IsSomeAnd (get b.four.offers client) (λ lease. lease.address ≡ address))
+HasAddress V6 address b = (client : Key6Value) × IsSomeAnd (get b.six.bindings client) (λ lease. lease.address ≡ address)
 
 -- the lowest address of the circuit's pool of a protocol, as a number, and how many addresses it has
 abbrev pub first_of : CircuitPart → Proto → ℕ

@@ -8,6 +8,7 @@ use Rattle.types.specs.declared.dest.Proto.TheVariants.{V4}
 use Rattle.slots.specs.Key.{key4_cmp}
 use Rattle.slots.specs.Maps.{Lease, Clients}
 use Rattle.bindings_v6.specs.Book6.{empty_book}
+use Rattle.config.specs.Membership.{MembershipValue}
 use Rattle.config.specs.CircuitPart.{CircuitPart}
 use Rattle.config.specs.Topology.{Topology}
 use Rattle.dispatch.specs.Server.{Book}
@@ -53,13 +54,17 @@ part_a1 = record part_a {
   count4 = 16;
 }
 
+-- one plan has both
+abbrev pub both_served : MembershipValue
+both_served = record { count = 1; members = (true ∷ []) ∷ (true ∷ []) ∷ []; plan = 0 }
+
 -- both, with relays that send from these sources
 abbrev pub with_relays : List Source → Topology
-with_relays relays = record { listen4 = part_a.listen4; listen6 = part_a.listen6; relays = relays; circuits = part_a ∷ part_a1 ∷ [] }
+with_relays relays = record { listen4 = part_a.listen4; listen6 = part_a.listen6; relays = relays; circuits = part_a ∷ part_a1 ∷ []; plans = both_served }
 
--- a circuit of which the network keeps 16 datagrams in each direction
+-- a circuit that is served, of which the network keeps 16 datagrams in each direction
 abbrev pub with_quota_16 : CircuitPart → Setup
-with_quota_16 part = setup_of 16 part
+with_quota_16 part = setup_of 16 part true
 
 abbrev pub setup_a : Setup
 setup_a = with_quota_16 part_a
@@ -152,11 +157,16 @@ no_leases = offers_at 0 empty
 
 -- a circuit with a new region of format 2, where nothing was sent
 abbrev pub begun : Alone
-begun = start 0 (Some no_leases) true
+begun = start true 0 (Some no_leases) true
+
+-- the same circuit where the plan in force does not have it
+abbrev pub begun_off : Alone
+begun_off = start false 0 (Some no_leases) true
 
 -- one datagram towards the server, a book of offers, and nothing saved so far
 abbrev pub with_up : List ℕ → ℕ → Clients key4_cmp → Alone
 with_up bytes clock offers = record {
+  on = true;
   up = datagram bytes ∷ [];
   down = [];
   book = Some (offers_at clock offers);
@@ -179,8 +189,12 @@ closed = record asked { book = None; doubt = Some leased }
 
 -- The same circuit where the region was still of format 1, and this call of the device fails in its move.
 abbrev pub begun_in_format_1 : ℕ → Alone
-begun_in_format_1 fault = start fault (Some no_leases) false
+begun_in_format_1 fault = start true fault (Some no_leases) false
 
 -- a region that cannot be read
 abbrev pub unreadable : Comeback
 unreadable = record { image = Unreadable; move_fault = 0 }
+
+-- the circuit in which client 1 asks for what it is offered, turned off: the offer and the datagram are gone
+abbrev pub turned_off : Alone
+turned_off = record { on = false; up = []; down = []; book = Some (offers_at 100 empty); kept = Some no_leases; doubt = None; format = New }

@@ -39,9 +39,9 @@ use Rattle.requests.specs.Request4.{request4_in}
 use Rattle.requests.specs.Request6.{request6_in}
 use Rattle.dispatch.specs.Server.{Book, book_at}
 use Rattle.lossy_net.specs.Net.{Datagram}
-use Rattle.world.specs.Alone.{Alone, Setup, Effect, Dropped, Gone, SentUp, SentDown, Framed, Done, alone_step, is_move_fault}
+use Rattle.world.specs.Alone.{Alone, Setup, Effect, Dropped, Gone, SentUp, SentDown, Framed, Done, alone_step, is_fault}
 use Rattle.lease_disk.specs.declared.image.Image.TheVariants.{Byte}
-use Rattle.events.specs.Seen.{Seen, Frame, Up, Down, Tick, Restart}
+use Rattle.events.specs.Seen.{Seen, Frame, Up, Down, Tick, Restart, Turn}
 
 -- what tells the clients of a protocol apart
 abbrev pub ClientOf : Proto → Type 0
@@ -184,10 +184,11 @@ datagram_lines part effect now (Some b) (Some d) = proto_lines part effect (book
 
 abbrev pub lines : Setup → Seen → Alone → List Line
 lines setup (Frame proto frame) a = []
-lines setup (Up j now fault) a = datagram_lines setup.part (alone_step setup (Up j now fault) a).effect now a.book (slice_get a.up j)
+lines setup (Up j now fault) a = if a.on then datagram_lines setup.part (alone_step setup (Up j now fault) a).effect now a.book (slice_get a.up j) else []
 lines setup (Down j) a = []
 lines setup (Tick now) a = []
 lines setup (Restart comeback) a = []
+lines setup (Turn on) a = []
 
 -- and all that the machine grants and ends of what it sees, in order
 unfoldable pub ledger : Setup → List Seen → Alone → List Line
@@ -220,4 +221,4 @@ pub record BeginsKnowing (proto : Proto) (g : Grant (ClientOf proto)) (fault : �
   pub found : Book
   pub kept : a.kept ≡ Some found
   pub knows : Knows proto g found
-  pub opens : is_move_fault fault ≡ false → a.book ≡ Some found
+  pub opens : is_fault 4 fault ≡ false → a.book ≡ Some found

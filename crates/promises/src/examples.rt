@@ -1,6 +1,6 @@
 //! The definitions on worked examples, computed by the prover. The values stand in `specs/Examples.antt`
 //! and were taken from the standards and the profile, not from a program.
-ghost use Rattle.std.specs.Prelude.{◌≡◌, [], ◌∷◌, Some, None, false, ◌++◌, take, drop, replicate};
+ghost use Rattle.std.specs.Prelude.{◌≡◌, [], ◌∷◌, Some, None, true, false, ◌++◌, take, drop, replicate};
 ghost use Rattle.std.specs.FinMap.{empty};
 ghost use Rattle.types.specs.Delivery.{delivery};
 ghost use Rattle.types.specs.declared.dest.Proto.TheVariants.{V4, V6};
@@ -8,9 +8,9 @@ ghost use Rattle.types.specs.declared.discard.Discard.TheVariants as reason;
 ghost use Rattle.requests.specs.Addressee.{addressee};
 ghost use Rattle.relay.specs.Relays.{relayed_up};
 ghost use Rattle.world.specs.Alone.{alone_step, after_all, frames, Dropped, Gone, SentDown, start, New, Old, Moving};
-ghost use Rattle.promises.specs.Examples.{part_a, with_relays, setup_a, setup_a1, at_port, client_message, discover, discover_up, peer, solicit, solicit_up, relayed_message, relayed_discover, offer, client, offers_at, one_offer, lease_until, datagram, with_up, begun, no_leases, asked, leased, closed, ack, begun_in_format_1, unreadable};
+ghost use Rattle.promises.specs.Examples.{part_a, with_relays, setup_a, setup_a1, at_port, client_message, discover, discover_up, peer, solicit, solicit_up, relayed_message, relayed_discover, offer, client, offers_at, one_offer, lease_until, datagram, with_up, begun, no_leases, begun_off, asked, leased, closed, ack, begun_in_format_1, turned_off, unreadable};
 ghost use Rattle.promises.specs.Granted.{Granted4, lines, restart_over};
-ghost use Rattle.events.specs.Seen.{Frame, Up, Down, Tick, Restart};
+ghost use Rattle.events.specs.Seen.{Frame, Up, Down, Tick, Restart, Turn};
 
 /// What the relay sends up of a frame, and which frames it drops.
 pub fn frames_go_up()
@@ -138,5 +138,16 @@ pub fn a_region_moves()
     ensures again { after_all setup_a (restart_over 0 0 ∷ []) (begun_in_format_1 2) ≡ begun }
     ensures fails { after_all setup_a (restart_over 0 2 ∷ []) (begun_in_format_1 3) ≡ begun_in_format_1 2 }
     ensures new { after_all setup_a (restart_over 2 2 ∷ []) (begun_in_format_1 3) ≡ begun }
-    ensures damaged { (start 0 None false).format ≡ Old }
+    ensures damaged { (start true 0 None false).format ≡ Old }
+{}
+
+/// A circuit that turns off loses its offers and what the network had of it, and nothing of it goes on while it is off; its
+/// leases and its clock stay. One that turns on is served.
+pub fn a_circuit_turns_off()
+    ensures off { (alone_step setup_a (Turn false) asked).next ≡ turned_off }
+    ensures frame { (alone_step setup_a (Frame V4 (discover 1 [])) turned_off).effect ≡ Gone }
+    ensures up { (alone_step setup_a (Up 0 110 0) turned_off).effect ≡ Gone }
+    ensures down { (alone_step setup_a (Down 0) turned_off).effect ≡ Gone }
+    ensures on { frames setup_a (Turn true ∷ Frame V4 (discover 1 []) ∷ Up 0 100 0 ∷ Down 0 ∷ []) begun_off ≡ offer 0 ∷ [] }
+    ensures leases { (after_all setup_a (Up 0 110 0 ∷ Turn false ∷ Turn true ∷ []) asked).kept ≡ Some leased }
 {}

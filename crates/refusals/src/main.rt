@@ -6,9 +6,10 @@
 //! this step, `run` also runs the world, and both then print how many further requests are granted before
 //! one is refused. Where the two numbers are equal, a run takes no memory.
 //!
-//! Or it reads a configuration whose first line is `# disk`, `# server` or `# world`, makes a disk, opens
+//! Or it reads a configuration whose first line is `# disk   1`, `# server 1` or `# world  1`, makes a disk, opens
 //! over both what that line names, and prints how many further requests are granted before one is refused.
-//! The difference between its number and that of `# disk` is what the opening made.
+//! The difference between its number and that of `# disk` is what the opening made. With an 8 in place of the 1 the
+//! configuration is eight plans.
 #![tactic(auto)]
 
 mod client;
@@ -24,7 +25,7 @@ use steps::{Step, opened};
 use world::World;
 
 /// The number of the request that is refused. The configuration of 1024 circuits makes some 25,000.
-const REFUSED: u32 = 30_000;
+const REFUSED: u32 = 40_000;
 
 /// Makes at most `most` requests until one is refused, and returns how many were granted.
 fn granted(alloc: Global, most: u32) -> u32 {
@@ -73,7 +74,8 @@ fn left_by_opening(rt: &HostRuntime, beginning: &[u8]) -> Option<u32> {
     bytes.extend_from_slice(beginning).ok()?;
     rt.reader().read_to_end(&mut bytes).ok()?;
     let text = str::from_utf8(&bytes).ok()?;
-    if !Opening::of(beginning).succeeds(rt.alloc(), text) {
+    let is_eightfold = beginning.get(9) == Some(&b'8');
+    if !Opening::of(beginning).succeeds(rt.alloc(), text, is_eightfold) {
         return None;
     }
     Some(granted(rt.alloc(), REFUSED))

@@ -1,5 +1,5 @@
-//! What is opened over a configuration and a disk, for a count of the requests for memory that it makes.
-use config::Config;
+//! What is opened over configurations and a disk, for a count of the requests for memory that it makes.
+use config::Plans;
 use dispatch::Server;
 use lease_disk::ModelDisk;
 use std::alloc::Global;
@@ -11,7 +11,7 @@ const REGIONS: u16 = 1024;
 /// What is opened.
 #[derive(Clone, Copy, Debug, PartialEq, Eq)]
 pub enum Opening {
-    /// The configuration and the disk alone, which the others begin with.
+    /// The configurations and the disk alone, which the others begin with.
     Disk,
     Server,
     /// A world whose network keeps one datagram of a circuit and direction.
@@ -30,9 +30,11 @@ impl Opening {
         Opening::Disk
     }
 
-    /// Whether the configuration is read and all of this opened.
-    pub fn succeeds(self, alloc: Global, text: &str) -> bool {
-        let Ok(config) = Config::read(alloc, text) else {
+    /// Whether the configuration is read, once or eight times, and all of this opened.
+    pub fn succeeds(self, alloc: Global, text: &str, is_eightfold: bool) -> bool {
+        let texts = [text; 8];
+        let count = if is_eightfold { 8 } else { 1 };
+        let Ok(plans) = Plans::read(alloc, &texts[..count]) else {
             return false;
         };
         let Ok(mut disk) = ModelDisk::new(alloc, REGIONS) else {
@@ -40,8 +42,8 @@ impl Opening {
         };
         match self {
             Opening::Disk => true,
-            Opening::Server => Server::open(alloc, &config, &mut disk).is_ok(),
-            Opening::World => World::open(alloc, &config, disk, 1).is_ok(),
+            Opening::Server => Server::open_plans(alloc, &plans, &mut disk).is_ok(),
+            Opening::World => World::open_plans(alloc, &plans, disk, 1).is_ok(),
         }
     }
 }

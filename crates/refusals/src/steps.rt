@@ -5,7 +5,7 @@ ghost use Rattle.lease_disk.specs.Model.{state_of};
 ghost use Rattle.lease_disk.specs.Region.{IsClean};
 
 use crate::watched::Watched;
-use config::Config;
+use config::{Config, Plans};
 use dispatch::{OpenFault, Server};
 use fixtures::ONE_CIRCUIT;
 use lease_disk::ModelDisk;
@@ -30,6 +30,8 @@ pub enum Step {
     /// One for the server, and one for the world.
     Disk,
     Server,
+    /// The same configuration twice.
+    Plans,
     World,
 }
 
@@ -42,6 +44,7 @@ impl Step {
             b"net" => Step::Net,
             b"disk" => Step::Disk,
             b"server" => Step::Server,
+            b"plans" => Step::Plans,
             _ => Step::World,
         }
     }
@@ -55,6 +58,7 @@ impl fmt::Display for Step {
             Step::Net => "net",
             Step::Disk => "disk",
             Step::Server => "server",
+            Step::Plans => "plans",
             Step::World => "world",
         })
     }
@@ -95,6 +99,16 @@ fn config(alloc: Global) -> Result<Config, Trouble> {
     }
 }
 
+fn plans(alloc: Global) -> Result<Plans, Trouble> {
+    match Plans::read(alloc, &[ONE_CIRCUIT, ONE_CIRCUIT]) {
+        Ok(plans) => Ok(plans),
+        Err(fault) => {
+            expect(fault.number() == MEMORY, Step::Plans)?;
+            Err(Trouble::Memory(Step::Plans))
+        }
+    }
+}
+
 fn disk(alloc: Global) -> Result<ModelDisk, Trouble>
     ensures count { IfOk result (λ disk. length disk.regions ≡ 1) }
     ensures synced { IfOk result (λ disk. (q : ℕ) → IsClean (state_of disk q)) }
@@ -125,16 +139,16 @@ fn server(alloc: Global, config: &Config, mut disk: ModelDisk) -> Result<(), Tro
 
 /// A world over a disk in which nothing is unsynced, whose network keeps 16 datagrams of a circuit and
 /// direction.
-fn open_over(alloc: Global, config: &Config, disk: ModelDisk) -> Result<World, OpenFault>
+fn open_over(alloc: Global, plans: &Plans, disk: ModelDisk) -> Result<World, OpenFault>
     requires synced { (q : ℕ) → IsClean (state_of disk q) }
 {
-    World::open(alloc, config, disk, 16)
+    World::open_plans(alloc, plans, disk, 16)
 }
 
-fn world(alloc: Global, config: &Config, disk: ModelDisk) -> Result<World, Trouble>
+fn world(alloc: Global, plans: &Plans, disk: ModelDisk) -> Result<World, Trouble>
     requires synced { (q : ℕ) → IsClean (state_of disk q) }
 {
-    match open_over(alloc, config, disk) {
+    match open_over(alloc, plans, disk) {
         Ok(world) => Ok(world),
         Err(OpenFault::Memory) => Err(Trouble::Memory(Step::World)),
         Err(OpenFault::DiskTooSmall) => Err(Trouble::Wrong(Step::World)),
@@ -158,10 +172,14 @@ fn over_disks(alloc: Global, config: &Config, last: Step) -> Result<Option<World
     if last != Step::Disk {
         server(alloc, config, of_server)?;
     }
-    if last != Step::World {
+    if last == Step::Disk || last == Step::Server {
         return Ok(None);
     }
-    world(alloc, config, of_world).map(Some)
+    let plans = plans(alloc)?;
+    if last == Step::Plans {
+        return Ok(None);
+    }
+    world(alloc, &plans, of_world).map(Some)
 }
 
 /// The steps up to this one, which is done. After the last there is a world.

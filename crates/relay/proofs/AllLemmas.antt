@@ -1,5 +1,5 @@
 -- All circuits together, on the way down, do what each does alone.
-use Rattle.std.proofs.Common.{◌≡◌, ◌≢◌, ℕ, ◌<◌, Bool, true, false, cond, List, [], ◌∷◌, length, get_or, Option, Some, None, Result, Ok, Err, refl, sym, ap, ◌∙◌, subst, arith}
+use Rattle.std.proofs.Common.{◌≡◌, ◌≢◌, ℕ, ◌<◌, Bool, true, false, ◌&&◌, cond, List, [], ◌∷◌, length, get_or, Option, Some, None, Result, Ok, Err, refl, sym, ap, ◌∙◌, subst, arith}
 use Rattle.std.specs.Prelude.{slice_get, nat_lt, ◌==◌}
 use Rattle.std.specs.List.{position}
 use Rattle.std.proofs.lemmas.Bool.{lt-ltb}
@@ -26,7 +26,7 @@ use Rattle.v6_message.specs.RelayReading.{relay_of}
 use Rattle.relay.specs.Down.{◌>>=◌, AddressedFrame, frame_for, frame_on_link}
 use Rattle.relay.specs.Down4.{addressed_by4, is_named, message_in_reply, reply_of, suboptions_in, relayed_down4}
 use Rattle.relay.specs.Down6.{addressed_by, frame_inside, relay_in_reply, reply_of6, relayed_down6}
-use Rattle.config.specs.Topology.{Topology, circuit_found, circuit_at_index, has_id, listen, relay_circuit}
+use Rattle.config.specs.Topology.{Topology, circuit_found, circuit_at_index, has_id, listen, relay_circuit, serves}
 use Rattle.config.proofs.TopologyLemmas.{bytes_eq_self, own_relay, same_is_one, same_source_self, somewhere}
 use Rattle.relay.specs.Relays.{CircuitFrame, addressed_frame, for_circuit, link_of, or_unknown, own_circuit, own_circuit_from, proto_of, relayed_down, relayed_down_in, relayed_down_from}
 use Rattle.relay.proofs.RelaysLemmas.{by_proto, is_v4, is_v6, own_from}
@@ -54,11 +54,11 @@ by_relay false c part own came = absurd cc
 
 by_found : (topology : Topology) (source : Source) (id : Option (List ℕ)) (c : ℕ) (found : Option CircuitPart) (own : ℕ × CircuitPart)
     → slice_get topology.circuits c ≡ found → position (has_id id) topology.circuits ≡ Some c
-    → circuit_found source c found ≡ Some own
+    → circuit_found source c (serves topology c) found ≡ Some own
     → (slice_get topology.circuits own.0 ≡ Some own.1) × (has_id id own.1 ≡ true)
 by_found topology source id c None own at first came = absurd cc
 by_found topology source id c (Some part) own at first came =
-    let is = by_relay (same_source part.relay source) c part own came in
+    let is = by_relay (same_source part.relay source && serves topology c) c part own came in
     let named : has_id id part ≡ true =
     ap (has_id id) (sym (get_or_from_slice_get topology.circuits c part part at)) ∙ (position-Some (has_id id) topology.circuits c part first).1 in
     (ap (slice_get topology.circuits) (sym is.0) ∙ at ∙ ap Some is.1, ap (has_id id) (sym is.1) ∙ named)
@@ -135,9 +135,9 @@ position_of_one p x = by_test (p x) refl
     by_test false fails = rw (position_or_len_is p (x ∷ []) 1 x (omega arith) (λ k less. let first : k ≡ 0 = omega (arith, less) in ap (λ i. p (get_or (x ∷ []) i x)) first ∙ fails) (λ less. absurd (omega (arith, less)))) refl
 
 module _ (topology : Topology) (relay : ℕ) (proto : Proto) (part : CircuitPart)
-    (only : topology.circuits ≡ part ∷ []) (behind : slice_get topology.relays relay ≡ Some part.relay) where
+    (only : topology.circuits ≡ part ∷ []) (served : serves topology 0 ≡ true) (behind : slice_get topology.relays relay ≡ Some part.relay) where
   at_only : (b : Bool) → or_unknown (circuit_at_index topology part.relay (cond b (Some 0) None)) ≡ cond b (Ok (0, part)) (Err reason.UnknownCircuitDown)
-  at_only true = rw (ap (λ circuits. slice_get circuits 0) only, same_source_self part.relay) refl
+  at_only true = rw (ap (λ circuits. slice_get circuits 0) only, same_source_self part.relay, served) refl
   at_only false = refl
 
   only_own : (id : Option (List ℕ)) → own_circuit topology relay id ≡ cond (has_id id part) (Ok (0, part)) (Err reason.UnknownCircuitDown)
@@ -161,12 +161,12 @@ module _ (topology : Topology) (relay : ℕ) (proto : Proto) (part : CircuitPart
       ∙ by_name (has_id reply.circuit_id part) reply
 
 pub only_one : (topology : Topology) (relay : ℕ) (source : Source) (proto : Proto) (datagram : List ℕ) (part : CircuitPart)
-    → topology.circuits ≡ part ∷ [] → slice_get topology.relays relay ≡ Some part.relay → proto_of topology source ≡ Some proto
+    → topology.circuits ≡ part ∷ [] → serves topology 0 ≡ true → slice_get topology.relays relay ≡ Some part.relay → proto_of topology source ≡ Some proto
     → relayed_down_in topology relay source datagram ≡ for_circuit 0 (relayed_down part proto datagram)
 unfolding relayed_down_from
-only_one topology relay source proto datagram part only behind is =
+only_one topology relay source proto datagram part only served behind is =
     by_proto topology relay source datagram proto is
-    ∙ only_frame topology relay proto part only behind (addressed_frame proto datagram)
+    ∙ only_frame topology relay proto part only served behind (addressed_frame proto datagram)
     ∙ ap (for_circuit 0) (sym (relayed_down_is part proto datagram))
 
 -- ---- the circuit that is named
@@ -205,6 +205,7 @@ pub named_first : (circuits : List CircuitPart) (c : ℕ) (part : CircuitPart) (
 named_first circuits c part suboptions = first_with_id circuits c part (four.look_up 1 suboptions)
 
 module _ (topology : Topology) (relay c : ℕ) (proto : Proto) (part : CircuitPart) (there : slice_get topology.circuits c ≡ Some part)
+    (served : serves topology c ≡ true)
     (alone : (d : ℕ) (other : CircuitPart) → slice_get topology.circuits d ≡ Some other → other.id ≡ part.id → d ≡ c)
     (behind : slice_get topology.relays relay ≡ Some part.relay) where
   its_own : (id : Option (List ℕ)) → has_id id part ≡ true → own_circuit topology relay id ≡ Ok (c, part)
@@ -212,7 +213,7 @@ module _ (topology : Topology) (relay c : ℕ) (proto : Proto) (part : CircuitPa
       own_from topology relay part.relay id behind
       ∙ ap or_unknown (
       somewhere topology part.relay id c part (first_with_id topology.circuits c part id there alone named) there
-      ∙ own_relay part.relay c part (same_source_self part.relay)
+      ∙ own_relay part.relay c (serves topology c) part (same_source_self part.relay) served
       )
 
   its_frame : (r : Result AddressedFrame Discard) → ((reply : AddressedFrame) → r ≡ Ok reply → has_id reply.circuit_id part ≡ true)
@@ -226,14 +227,14 @@ module _ (topology : Topology) (relay c : ℕ) (proto : Proto) (part : CircuitPa
 
 -- a datagram whose frame, if there is one, is for this circuit comes down to it
 its_circuit : (topology : Topology) (relay : ℕ) (source : Source) (proto : Proto) (datagram : List ℕ) (c : ℕ) (part : CircuitPart)
-    → slice_get topology.circuits c ≡ Some part → ((d : ℕ) (other : CircuitPart) → slice_get topology.circuits d ≡ Some other → other.id ≡ part.id → d ≡ c)
+    → slice_get topology.circuits c ≡ Some part → serves topology c ≡ true → ((d : ℕ) (other : CircuitPart) → slice_get topology.circuits d ≡ Some other → other.id ≡ part.id → d ≡ c)
     → slice_get topology.relays relay ≡ Some part.relay → proto_of topology source ≡ Some proto
     → ((reply : AddressedFrame) → addressed_frame proto datagram ≡ Ok reply → has_id reply.circuit_id part ≡ true)
     → relayed_down_in topology relay source datagram ≡ for_circuit c (relayed_down part proto datagram)
 unfolding relayed_down_from
-its_circuit topology relay source proto datagram c part there alone behind is names =
+its_circuit topology relay source proto datagram c part there served alone behind is names =
     by_proto topology relay source datagram proto is
-    ∙ its_frame topology relay c proto part there alone behind (addressed_frame proto datagram) names
+    ∙ its_frame topology relay c proto part there served alone behind (addressed_frame proto datagram) names
     ∙ ap (for_circuit c) (sym (relayed_down_is part proto datagram))
 
 -- ---- the circuit that a DHCPv4 reply names
@@ -263,12 +264,12 @@ named_by_agent (Ok read) m suboptions reply same agent h =
     sym (ap (λ reply. reply.circuit_id) same_reply)
 
 pub its_circuit4 : (topology : Topology) (relay : ℕ) (source : Source) (datagram : List ℕ) (c : ℕ) (part : CircuitPart) (m : MessageValue) (suboptions : List (ℕ × List ℕ))
-    → slice_get topology.circuits c ≡ Some part → ((d : ℕ) (other : CircuitPart) → slice_get topology.circuits d ≡ Some other → other.id ≡ part.id → d ≡ c)
+    → slice_get topology.circuits c ≡ Some part → serves topology c ≡ true → ((d : ℕ) (other : CircuitPart) → slice_get topology.circuits d ≡ Some other → other.id ≡ part.id → d ≡ c)
     → slice_get topology.relays relay ≡ Some part.relay → source ≡ topology.listen4
     → message_of datagram ≡ Ok m → agent_of m ≡ Some (Ok suboptions) → is_named suboptions part ≡ true
     → relayed_down_in topology relay source datagram ≡ for_circuit c (relayed_down part V4 datagram)
-its_circuit4 topology relay source datagram c part m suboptions there alone behind server is agent named =
-    its_circuit topology relay source V4 datagram c part there alone behind
+its_circuit4 topology relay source datagram c part m suboptions there served alone behind server is agent named =
+    its_circuit topology relay source V4 datagram c part there served alone behind
     (is_v4 topology source (ap (same_source source) (sym server) ∙ same_source_self source))
     (λ reply read. ap (λ id. has_id id part) (named_by_agent (reply_of datagram) m suboptions reply (λ read replied. reply_message datagram m read is replied) agent read) ∙ named)
 
@@ -304,10 +305,10 @@ named_by_interface (Ok read) m id reply same given h =
     (subst (λ found. addressed_by read found (look_up RELAY_MESSAGE read.options) ≡ Ok reply) found h)
 
 pub its_circuit6 : (topology : Topology) (relay : ℕ) (source : Source) (datagram : List ℕ) (c : ℕ) (part : CircuitPart) (m : RelayValue)
-    → slice_get topology.circuits c ≡ Some part → ((d : ℕ) (other : CircuitPart) → slice_get topology.circuits d ≡ Some other → other.id ≡ part.id → d ≡ c)
+    → slice_get topology.circuits c ≡ Some part → serves topology c ≡ true → ((d : ℕ) (other : CircuitPart) → slice_get topology.circuits d ≡ Some other → other.id ≡ part.id → d ≡ c)
     → slice_get topology.relays relay ≡ Some part.relay → proto_of topology source ≡ Some V6
     → relay_of datagram ≡ Ok m → look_up INTERFACE_ID m.options ≡ Some part.id
     → relayed_down_in topology relay source datagram ≡ for_circuit c (relayed_down part V6 datagram)
-its_circuit6 topology relay source datagram c part m there alone behind server is given =
-    its_circuit topology relay source V6 datagram c part there alone behind server
+its_circuit6 topology relay source datagram c part m there served alone behind server is given =
+    its_circuit topology relay source V6 datagram c part there served alone behind server
     (λ reply read. ap (λ id. has_id id part) (named_by_interface (reply_of6 datagram) m part.id reply (λ read replied. reply_relay datagram m read is replied) given read) ∙ bytes_eq_self part.id)

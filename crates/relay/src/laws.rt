@@ -5,7 +5,7 @@ ghost use Rattle.types.specs.declared.addr.Source.{Source};
 ghost use Rattle.types.specs.declared.dest.Proto.{Proto};
 ghost use Rattle.types.specs.declared.dest.Proto.TheVariants.{V4, V6};
 ghost use Rattle.config.specs.CircuitPart.{CircuitPart, IsPart};
-ghost use Rattle.config.specs.Topology.{Topology, listen};
+ghost use Rattle.config.specs.Topology.{Topology, listen, serves};
 ghost use Rattle.v4_message.specs.Agent.{agent_of};
 ghost use Rattle.v4_message.specs.Reading.{message_of};
 ghost use Rattle.v4_message.specs.Spelling.{MessageValue};
@@ -26,11 +26,11 @@ pub fn agrees()
         → relayed_down part proto datagram ≡ Ok frame.frame }
 {}
 
-/// Where there is one circuit, its relay makes of the server's datagrams what the circuit's own part
+/// Where there is one circuit, which is served, its relay makes of the server's datagrams what the circuit's own part
 /// does.
 pub fn only_circuit()
     ensures { (topology : Topology) (relay : ℕ) (source : Source) (proto : Proto) (datagram : List ℕ) (part : CircuitPart)
-        → topology.circuits ≡ part ∷ [] → slice_get topology.relays relay ≡ Some part.relay
+        → topology.circuits ≡ part ∷ [] → serves topology 0 ≡ true → slice_get topology.relays relay ≡ Some part.relay
         → proto_of topology source ≡ Some proto
         → relayed_down_in topology relay source datagram ≡ for_circuit 0 (relayed_down part proto datagram) }
 {}
@@ -41,11 +41,11 @@ pub fn source_decides()
         → topology.listen4 ≢ topology.listen6 → proto_of topology (listen topology proto) ≡ Some proto }
 {}
 
-/// A DHCPv4 reply that names a circuit comes down to it, by the relay behind which the circuit is, as the
-/// circuit's own part makes it, where no other circuit has this id.
+/// A DHCPv4 reply that names a circuit that is served comes down to it, by the relay behind which the circuit is, as
+/// the circuit's own part makes it, where no other circuit has this id.
 pub fn named_circuit()
     ensures { (topology : Topology) (relay : ℕ) (source : Source) (datagram : List ℕ) (c : ℕ) (part : CircuitPart) (m : MessageValue) (suboptions : List (ℕ × List ℕ))
-        → slice_get topology.circuits c ≡ Some part
+        → slice_get topology.circuits c ≡ Some part → serves topology c ≡ true
         → ((d : ℕ) (other : CircuitPart) → slice_get topology.circuits d ≡ Some other → other.id ≡ part.id → d ≡ c)
         → slice_get topology.relays relay ≡ Some part.relay → source ≡ topology.listen4
         → message_of datagram ≡ Ok m → agent_of m ≡ Some (Ok suboptions) → is_named suboptions part ≡ true
@@ -55,7 +55,7 @@ pub fn named_circuit()
 /// The same for DHCPv6, where the interface id names the circuit.
 pub fn named_circuit6()
     ensures { (topology : Topology) (relay : ℕ) (source : Source) (datagram : List ℕ) (c : ℕ) (part : CircuitPart) (m : RelayValue)
-        → slice_get topology.circuits c ≡ Some part
+        → slice_get topology.circuits c ≡ Some part → serves topology c ≡ true
         → ((d : ℕ) (other : CircuitPart) → slice_get topology.circuits d ≡ Some other → other.id ≡ part.id → d ≡ c)
         → slice_get topology.relays relay ≡ Some part.relay → proto_of topology source ≡ Some V6
         → relay_of datagram ≡ Ok m → look_up INTERFACE_ID m.options ≡ Some part.id

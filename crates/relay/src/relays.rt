@@ -1,16 +1,17 @@
 //! All relays of a configuration.
-ghost use Rattle.std.specs.Prelude.{◌≡◌, ◌<◌, nat_lt, [], length, option_map, replicate, Ok, Err, Some, IfOk, IfErr, OnOk, OnErr, slice_get};
+ghost use Rattle.std.specs.Prelude.{◌≡◌, ◌<◌, nat_lt, true, [], length, option_map, replicate, Ok, Err, Some, IfOk, IfErr, OnOk, OnErr, slice_get};
 ghost use Rattle.types.specs.declared.dest.Proto.TheVariants as protocol;
 ghost use Rattle.config.specs.CircuitPart as parts;
-ghost use Rattle.config.specs.Topology.{IsTopology, is_relay, is_server, topology_of};
+ghost use Rattle.config.specs.Membership.{has};
+ghost use Rattle.config.specs.Topology.{IsTopology, is_relay, is_server, plans_topology, reloaded, serves, topology_of};
 ghost use Rattle.relay.specs.Relays.{one_more, own_circuit, relayed_down_from, relayed_down_in, relayed_up};
 
 use crate::down4::{read_reply, read_suboptions, relay_down4};
 use crate::down6::{read_options, read_reply6, relay_down6};
 use crate::up4::relay_up4;
 use crate::up6::relay_up6;
-use config::{CircuitPart, Circuits, Config};
-use std::alloc::{AllocError, Global};
+use config::{CircuitPart, Circuits, Config, Plans};
+use std::alloc::Global;
 use std::marker::Model;
 use thiserror::Error;
 use types::{Circuit, Dest, Discard, Proto, RelayNo, Source};
@@ -41,29 +42,45 @@ impl Model for Relays {
 }
 
 impl Relays {
-    /// The relays of a configuration. All memory that they need is taken here.
+    /// The relays of a configuration, which serve all its circuits. All memory that they need is taken here.
     pub fn new(alloc: Global, config: &Config) -> Result<Relays, Memory>
         ensures topology { IfOk result (λ relays. relays.topology ≡ topology_of config.now) }
         ensures sound { IfOk result (λ relays. IsTopology (topology_of config.now)) }
         ensures discarded { IfOk result (λ relays. relays.discarded ≡ replicate (length config.now.circuits) 0) }
     {
-        Relays::of(alloc, config).map_err(|_| Memory)
+        match Circuits::of(alloc, config) {
+            Ok(circuits) => Relays::over(alloc, circuits),
+            Err(_) => Err(Memory),
+        }
     }
 
-    fn of(alloc: Global, config: &Config) -> Result<Relays, AllocError>
-        ensures topology { IfOk result (λ relays. relays.topology ≡ topology_of config.now) }
-        ensures sound { IfOk result (λ relays. IsTopology (topology_of config.now)) }
-        ensures discarded { IfOk result (λ relays. relays.discarded ≡ replicate (length config.now.circuits) 0) }
+    /// The relays of some plans, of which the first is in force. All memory that they need is taken here.
+    pub fn new_plans(alloc: Global, plans: &Plans) -> Result<Relays, Memory>
+        ensures topology { IfOk result (λ relays. relays.topology ≡ plans_topology plans.now) }
+        ensures sound { IfOk result (λ relays. IsTopology (plans_topology plans.now)) }
+        ensures discarded { IfOk result (λ relays. relays.discarded ≡ replicate (length plans.now.union.circuits) 0) }
     {
-        let circuits = Circuits::of(alloc, config)?;
-        let discarded = vec![in alloc; 0; circuits.count()]?;
-        Ok(Relays {
-            circuits,
-            discarded,
-        })
+        match Circuits::of_plans(alloc, plans) {
+            Ok(circuits) => Relays::over(alloc, circuits),
+            Err(_) => Err(Memory),
+        }
     }
 
-    /// What the relay of a circuit makes of a client's frame there: the datagram for the server is in
+    /// The relays of these circuits.
+    fn over(alloc: Global, circuits: Circuits) -> Result<Relays, Memory>
+        ensures topology { IfOk result (λ relays. relays.topology ≡ circuits) }
+        ensures discarded { IfOk result (λ relays. relays.discarded ≡ replicate (length circuits.circuits) 0) }
+    {
+        match vec![in alloc; 0; circuits.count()] {
+            Ok(discarded) => Ok(Relays {
+                circuits,
+                discarded,
+            }),
+            Err(_) => Err(Memory),
+        }
+    }
+
+    /// What the relay of a circuit that is served makes of a client's frame there: the datagram for the server is in
     /// `out`, or the frame is discarded and counted.
     pub fn up(
         &mut self,
@@ -72,7 +89,8 @@ impl Relays {
         frame: &[u8],
         out: &mut PacketBuf,
     ) -> Result<(), Discard>
-        requires { circuit < length self.old.topology.circuits }
+        requires exists { circuit < length self.old.topology.circuits }
+        requires served { serves self.old.topology circuit ≡ true }
         ensures ok { OnOk result ((part : parts.CircuitPart) → slice_get self.old.topology.circuits circuit ≡ Some part → relayed_up part proto frame.now ≡ Ok out.new) }
         ensures err { IfErr result (λ why. (part : parts.CircuitPart) → slice_get self.old.topology.circuits circuit ≡ Some part → relayed_up part proto frame.now ≡ Err why) }
         ensures empty { OnErr result (out.new ≡ []) }
@@ -177,6 +195,37 @@ impl Relays {
             Some(circuit) => Ok(circuit),
             None => Err(Discard::UnknownCircuitDown),
         }
+    }
+
+    /// Whether a circuit is served: the plan in force has it.
+    pub fn serves(&self, circuit: Circuit) -> bool
+        requires { circuit < length self.now.topology.circuits }
+        ensures { result ≡ serves self.now.topology circuit }
+    {
+        self.circuits.serves(circuit)
+    }
+
+    /// Whether there is such a plan.
+    pub fn has_plan(&self, plan: u8) -> bool
+        ensures { result ≡ nat_lt plan self.now.topology.plans.count }
+    {
+        self.circuits.has_plan(usize::from(plan))
+    }
+
+    /// Whether there is such a plan and it has this circuit.
+    pub fn serves_in(&self, plan: u8, circuit: Circuit) -> bool
+        requires { circuit < length self.now.topology.circuits }
+        ensures { result ≡ has self.now.topology.plans plan circuit }
+    {
+        self.circuits.serves_in(usize::from(plan), circuit)
+    }
+
+    /// Puts another plan in force; false, and nothing changed, where there is no such plan.
+    pub fn reload(&mut self, plan: u8) -> bool
+        ensures value { self.new ≡ record self.old { topology = reloaded plan self.old.topology } }
+        ensures answer { result ≡ nat_lt plan self.old.topology.plans.count }
+    {
+        self.circuits.reload(usize::from(plan))
     }
 
     /// The index of a circuit's relay.

@@ -2,7 +2,7 @@
 ghost use Rattle.std.specs.Prelude.{◌<◌};
 
 use command_line::FAILED;
-use config::Config;
+use config::Plans;
 use fixtures::ONE_CIRCUIT;
 use lab::*;
 use std::alloc::{AllocError, Global};
@@ -92,7 +92,7 @@ fn so_many(left: usize, interrupts: usize) -> Calls {
 
 /// Whether a run over a text writes the lines and ends with the status of a row.
 fn gives(alloc: Global, text: &str, row: Row) -> bool {
-    let Ok(config) = Config::read(alloc, ONE_CIRCUIT) else {
+    let Ok(plans) = Plans::read(alloc, &[ONE_CIRCUIT]) else {
         return false;
     };
     let mut reader = StdReader::new(Reader {
@@ -105,7 +105,7 @@ fn gives(alloc: Global, text: &str, row: Row) -> bool {
         most: row.writes.0,
         calls: so_many(row.writes.1, row.interrupts),
     });
-    let ended = run(alloc, &config, 16, &mut reader, &mut writer);
+    let ended = run(alloc, &plans, 16, &mut reader, &mut writer);
     ended == row.status && writer.into_inner().taken.as_slice() == row.lines.as_bytes()
 }
 

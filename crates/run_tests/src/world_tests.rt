@@ -216,7 +216,7 @@ fn back(image: Image) -> Comeback {
     }
 }
 
-/// Whether what names circuits and relays that do not exist comes to nothing.
+/// Whether what names circuits, relays and plans that do not exist comes to nothing.
 fn passes_over_what_does_not_exist(alloc: Global) -> bool {
     let Ok(mut world) = opened(alloc, 1) else {
         return false;
@@ -239,6 +239,12 @@ fn passes_over_what_does_not_exist(alloc: Global) -> bool {
     ];
     each_comes_to(&mut world, &events, Outcome::Gone)
         && each_comes_to(&mut world, &[Event::Restart(&comebacks)], Outcome::Done)
+        && each_comes_to(
+            &mut world,
+            &[Event::Reload(1), Event::Reload(255)],
+            Outcome::NoPlan,
+        )
+        && each_comes_to(&mut world, &[Event::Reload(0)], Outcome::Done)
         && is_answered(&mut world, Kind4::Discover, &[], 255)
 }
 

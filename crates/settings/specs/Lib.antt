@@ -1,4 +1,5 @@
 pub mod Broken
+pub mod Differences
 pub mod Fault
 pub mod Field
 pub mod Keys

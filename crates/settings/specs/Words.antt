@@ -17,9 +17,10 @@ use Rattle.settings.specs.declared.limit_fault.LimitFault.TheVariants.{Relays, C
 use Rattle.settings.specs.declared.fault.Location.{Location}
 use Rattle.settings.specs.declared.fault.Location.TheVariants.{Table, Server as AtServer, Relay as AtRelay, Circuit as AtCircuit}
 use Rattle.settings.specs.declared.fault.ConfigFault.{ConfigFault}
-use Rattle.settings.specs.declared.fault.ConfigFault.TheVariants.{Memory, Text, Missing, Limit, IdTwice, RegionTwice, Overlap4, Overlap6, GatewayInPool, OffSubnet}
+use Rattle.settings.specs.declared.fault.ConfigFault.TheVariants.{Memory, Text, Missing, Limit, IdTwice, RegionTwice, Overlap4, Overlap6, GatewayInPool, OffSubnet, ServerDiffers, CircuitDiffers}
 use Rattle.settings.specs.declared.fault.SameName.{SameName}
 use Rattle.settings.specs.declared.fault.SameName.TheVariants.{Ids, Names, Sources, Listens, Listen4, Listen6}
+use Rattle.settings.specs.Differences.{server_difference_words, circuit_difference_words}
 use Rattle.settings.specs.Names.{table_name, server_key, relay_key, circuit_key}
 
 -- a circuit's id between quotation marks, or its number if it has none that can be read
@@ -131,3 +132,5 @@ fault_words (Overlap4 first second) = Some (two_words first second (codes " shar
 fault_words (Overlap6 first second) = Some (two_words first second (codes " share DHCPv6 addresses"))
 fault_words (GatewayInPool circuit key owner) = Some (in_pool_words circuit key owner)
 fault_words (OffSubnet circuit key) = Some (codes "circuit " ++ (circuit_name circuit ++ (codes ": " ++ off_subnet_words key)))
+fault_words (ServerDiffers difference) = Some (server_difference_words difference)
+fault_words (CircuitDiffers difference) = Some (circuit_difference_words difference)

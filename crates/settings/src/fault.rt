@@ -2,6 +2,7 @@
 ghost use Rattle.std.specs.Prelude.{◌≡◌, Some};
 ghost use Rattle.settings.specs.Words.{circuit_kind, missing_words, same_words, off_subnet_words, fault_words};
 
+use crate::differences::{CircuitDifference, ServerDifference};
 use crate::limit_fault::LimitFault;
 use crate::names::{CircuitKey, CircuitRef, RelayKey, ServerKey, TableName};
 use std::error::Error;
@@ -106,8 +107,8 @@ fn off_subnet(key: CircuitKey) -> &'static str
     }
 }
 
-/// Why a text is not a configuration, in the order of the rules' numbers. Of several rules that it breaks,
-/// the one with the lowest number is reported.
+/// Why a text is not a configuration, or several are not those of one server, in the order of the rules'
+/// numbers. Of several rules that a text breaks, the one with the lowest number is reported.
 #[derive(Debug, PartialEq, Eq, Drop)]
 pub enum ConfigFault {
     /// Out of memory, which says nothing about the text.
@@ -126,6 +127,10 @@ pub enum ConfigFault {
     GatewayInPool(CircuitRef, CircuitKey, CircuitRef),
     /// The circuit's gateway, or the pool that begins at this key, doesn't fit its subnet.
     OffSubnet(CircuitRef, CircuitKey),
+    /// The server or the relays of two configurations differ.
+    ServerDiffers(ServerDifference),
+    /// Two configurations have a circuit of one id, but not with the same values.
+    CircuitDiffers(CircuitDifference),
 }
 
 impl fmt::Display for ConfigFault {
@@ -157,6 +162,8 @@ impl fmt::Display for ConfigFault {
                 let why = off_subnet(*key);
                 write!(f, "circuit {circuit}: {why}")
             }
+            ConfigFault::ServerDiffers(difference) => write!(f, "{difference}"),
+            ConfigFault::CircuitDiffers(difference) => write!(f, "{difference}"),
         }
     }
 }
@@ -166,7 +173,7 @@ impl Error for ConfigFault {}
 impl ConfigFault {
     ghost use Rattle.settings.specs.Fault.{number_of};
 
-    /// The number of the rule, 40 to 49.
+    /// The number of the rule, 40 to 51.
     pub fn number(&self) -> u8
         ensures { result ≡ number_of self.now }
     {
@@ -181,6 +188,8 @@ impl ConfigFault {
             ConfigFault::Overlap6(_, _) => 47,
             ConfigFault::GatewayInPool(_, _, _) => 48,
             ConfigFault::OffSubnet(_, _) => 49,
+            ConfigFault::ServerDiffers(_) => 50,
+            ConfigFault::CircuitDiffers(_) => 51,
         }
     }
 }

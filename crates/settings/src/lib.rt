@@ -2,6 +2,7 @@
 //! with it.
 #![tactic(auto)]
 
+mod differences;
 mod entries;
 mod fault;
 mod keys;
@@ -16,6 +17,7 @@ mod settings;
 mod text_forms;
 mod values;
 
+pub use differences::{CircuitDifference, ServerDifference, ServerPart};
 pub use fault::{ConfigFault, Location, SameName};
 pub use limit_fault::{CircuitLimit, LimitFault, Outside};
 pub use limits::{MAX_DNS, MAX_NAME, MAX_PREFIX4, MIN_PREFIX4};

@@ -151,7 +151,7 @@ impl fmt::Display for CircuitKey {
 }
 
 /// The id as text: its bytes are ASCII.
-fn text_of(id: &CircuitId) -> &str
+pub fn text_of(id: &CircuitId) -> &str
     ensures { result.now ≡ id.now }
 {
     let Ok(text) = std::str::from_utf8(id.as_bytes()) else {

@@ -61,6 +61,31 @@ pub fn copy_of<T: Copy + Default, const N: usize>(values: &ArrayVec<T, N>) -> Ar
     copy
 }
 
+impl ServerConfig {
+    /// A copy of the server's values.
+    pub fn copy(&self) -> ServerConfig
+        ensures { result ≡ self.now }
+    {
+        ServerConfig {
+            listen4: self.listen4,
+            listen6: self.listen6,
+            duid: copy_of(&self.duid),
+        }
+    }
+}
+
+impl RelayConfig {
+    /// A copy of the relay's values.
+    pub fn copy(&self) -> RelayConfig
+        ensures { result ≡ self.now }
+    {
+        RelayConfig {
+            name: copy_of(&self.name),
+            source: self.source,
+        }
+    }
+}
+
 impl CircuitConfig {
     /// A copy of the circuit's values.
     pub fn copy(&self) -> CircuitConfig

@@ -23,7 +23,7 @@ use Rattle.v4_message.specs.Spelling.{MessageValue, IsValid, Spells, message_byt
 use Rattle.v4_message.proofs.Exact as messages
 use Rattle.v4_message.proofs.Lengths.{length-message_bytes, length-spelled_message}
 use Rattle.config.specs.CircuitPart.{CircuitPart, IsPart}
-use Rattle.config.specs.Topology.{Topology, is_relay}
+use Rattle.config.specs.Topology.{Topology, is_relay, serves}
 use Rattle.config.proofs.TopologyLemmas.{bytes_eq_self, same_source_self}
 use Rattle.requests.specs.Addressee.{addressee}
 use Rattle.requests.specs.Addressee4.{message_check}
@@ -167,7 +167,7 @@ is_short part frame m p s short =
 -- ---- its circuit
 
 -- Where no other circuit has its id, a circuit's messages pass the server's tests.
-module _ (topology : Topology) (c : ℕ) (part : CircuitPart) (there : slice_get topology.circuits c ≡ Some part)
+module _ (topology : Topology) (c : ℕ) (part : CircuitPart) (there : slice_get topology.circuits c ≡ Some part) (served : serves topology c ≡ true)
     (alone : (d : ℕ) (other : CircuitPart) → slice_get topology.circuits d ≡ Some other → other.id ≡ part.id → d ≡ c) where
   is_found : position (is_named (agent_suboptions part)) topology.circuits ≡ Some c
   is_found = named_first topology.circuits c part (agent_suboptions part) there alone (bytes_eq_self part.id)
@@ -175,7 +175,7 @@ module _ (topology : Topology) (c : ℕ) (part : CircuitPart) (there : slice_get
   is_checked : (m : MessageValue) → m.header.op ≡ 1 → look_up RELAY_AGENT_INFORMATION m.options ≡ None
       → is_unspecified part.gateway4.0 ≡ false → message_check topology part.relay (Ok (with_agent_information part m)) ≡ Ok c
   is_checked m request new gateway =
-      rw (eq-eqb m.header.op 1 request, gateway, look_up-append_same m.options RELAY_AGENT_INFORMATION (agent_information part) new, agent_is_read part, is_found, there, same_source_self part.relay, bytes_eq_self part.gateway4.0) refl
+      rw (eq-eqb m.header.op 1 request, gateway, look_up-append_same m.options RELAY_AGENT_INFORMATION (agent_information part) new, agent_is_read part, is_found, there, same_source_self part.relay, served, bytes_eq_self part.gateway4.0) refl
 
   message_is_addressed : (now : ℕ) (frame datagram : List ℕ) → is_relay topology part.relay ≡ true → IsPart part → AreBytes frame
       → IsSentUp part frame datagram → addressee topology (delivery V4 part.relay now datagram) ≡ Ok c
@@ -192,4 +192,4 @@ module _ (topology : Topology) (c : ℕ) (part : CircuitPart) (there : slice_get
       → (relayed_up6 part frame ≡ Ok datagram → relay_of datagram ≡ Ok (relay_forward part (take 16 frame) (drop 16 frame)))
       → relayed_up part proto frame ≡ Ok datagram → addressee topology (delivery proto part.relay now datagram) ≡ Ok c
   relayed_is_addressed V4 now frame datagram known p fits reads e = message_is_addressed now frame datagram known p fits (is_sent_up part frame datagram e)
-  relayed_is_addressed V6 now frame datagram known p fits reads e = forward_is_addressed topology c part there alone now frame datagram known p e (reads e)
+  relayed_is_addressed V6 now frame datagram known p fits reads e = forward_is_addressed topology c part there served alone now frame datagram known p e (reads e)

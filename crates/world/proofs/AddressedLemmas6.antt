@@ -9,7 +9,7 @@ use Rattle.v6_options.specs.Spelling.{option, spelling}
 use Rattle.v6_message.specs.Relay.{relay_bytes, relay_header}
 use Rattle.v6_message.specs.RelayReading.{relay_of}
 use Rattle.config.specs.CircuitPart.{CircuitPart, IsPart}
-use Rattle.config.specs.Topology.{Topology, has_id, is_relay}
+use Rattle.config.specs.Topology.{Topology, has_id, is_relay, serves}
 use Rattle.config.proofs.TopologyLemmas.{bytes_eq_self, same_source_self}
 use Rattle.requests.specs.Addressee.{addressee}
 use Rattle.requests.specs.Addressee6.{relay_check}
@@ -33,12 +33,12 @@ is_short part frame p short long =
     omega (arith, header, all, options, last, peer, message, p.link6_size, p.id.most, short)
 
 -- Where no other circuit has its id, a circuit's messages pass the server's tests.
-pub forward_is_addressed : (topology : Topology) (c : ℕ) (part : CircuitPart) → slice_get topology.circuits c ≡ Some part
+pub forward_is_addressed : (topology : Topology) (c : ℕ) (part : CircuitPart) → slice_get topology.circuits c ≡ Some part → serves topology c ≡ true
     → ((d : ℕ) (other : CircuitPart) → slice_get topology.circuits d ≡ Some other → other.id ≡ part.id → d ≡ c)
     → (now : ℕ) (frame datagram : List ℕ) → is_relay topology part.relay ≡ true → IsPart part
     → relayed_up6 part frame ≡ Ok datagram → relay_of datagram ≡ Ok (relay_forward part (take 16 frame) (drop 16 frame))
     → addressee topology (delivery V6 part.relay now datagram) ≡ Ok c
-forward_is_addressed topology c part there alone now frame datagram known p sent read =
+forward_is_addressed topology c part there served alone now frame datagram known p sent read =
     let is = up6_sent part frame datagram sent in
     ap (λ bytes. addressee topology (delivery V6 part.relay now bytes)) is.2
     ∙ within topology (delivery V6 part.relay now (relay_bytes (relay_forward part (take 16 frame) (drop 16 frame)))) known (is_short part frame p is.1 is.0)
@@ -50,4 +50,4 @@ forward_is_addressed topology c part there alone now frame datagram known p sent
     found = first_with_id topology.circuits c part (Some part.id) there alone (bytes_eq_self part.id)
 
     checked : relay_check topology part.relay (Ok (relay_forward part (take 16 frame) (drop 16 frame))) ≡ Ok c
-    checked = rw (found, there, same_source_self part.relay, bytes_eq_self part.link6) refl
+    checked = rw (found, there, same_source_self part.relay, served, bytes_eq_self part.link6) refl

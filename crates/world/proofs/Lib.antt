@@ -4,9 +4,11 @@ pub mod Runs
 pub mod SetupLemmas
 pub mod StartLemmas
 pub mod WorldLemmas
+pub mod ReloadLemmas
 pub mod ReturnLemmas
 pub mod ReturnLemmas6
 pub mod CircuitSteps
 pub mod StateLemmas
 pub mod StrayLemmas
+pub mod ServedLemmas
 pub mod ShownLemmas

@@ -1,34 +1,50 @@
 -- One more event at the end of a run.
-use Rattle.std.proofs.Common.{◌≡◌, ℕ, ◌+◌, ◌<◌, ◌≤◌, Bool, true, false, cond, eqb, ltb, List, [], ◌∷◌, ◌++◌, length, take, get_or, refl, sym, ap, subst, ◌∙◌, arith, append_assoc, length-append, append-nil, eq-eqb, ltb-false}
+use Rattle.std.proofs.Common.{◌≡◌, ℕ, ◌+◌, ◌<◌, ◌≤◌, Bool, true, false, cond, eqb, ltb, List, [], ◌∷◌, ◌++◌, length, take, drop, get_or, refl, sym, ap, subst, ◌∙◌, arith, append_assoc, length-append, append-nil, eq-eqb, ltb-false}
 use borrow.Author.Tests.{ltb-true}
-use Rattle.std.specs.Prelude.{Option, Some, None}
+use Rattle.std.specs.Prelude.{◌==◌, if◌then◌else◌, Option, Some, None}
 use Rattle.std.specs.List.{cons_option}
-use Rattle.std.proofs.lemmas.List.{take_more, take_all, take-append-le}
+use Rattle.std.specs.Option.{option_to_list}
+use Rattle.std.proofs.lemmas.List.{take_more, take_all, take-append-drop, take-append-le}
 use Rattle.std.proofs.lemmas.List.Elements.{filter_map-append}
 use Rattle.std.proofs.lemmas.Bool.{eqb-true}
-use Rattle.std.proofs.Math.Seq.{take-nil}
+use Rattle.std.proofs.Math.Seq.{take-append_seam, take-nil}
 use Rattle.relay.specs.SentFrame.{SentFrame}
 use Rattle.relay.specs.Relays.{CircuitFrame}
 use Rattle.world.specs.Alone.{Setup, Alone, Effect, Dropped, Gone, SentUp, SentDown, Framed, Done, alone_step, sent_frame, after_all, frames}
-use Rattle.events.specs.Seen.{Seen, Frame, Up, Down, seen_of, seen_by, named_by, is_restart}
-use Rattle.world.specs.Headline.{CircuitState, Represents, towards, frames_to, frame_of, IsOutcome, Answers, after_seen, Steps, Reaches, AreFrames, BeginsWith, Emits, EmitsAt}
+use Rattle.events.specs.Seen.{Seen, Frame, Up, Down, is_on_after, seen_of, seen_by, named_by, is_restart, reload_of}
+use Rattle.world.specs.Headline.{CircuitState, Represents, frames_to, frame_of, IsOutcome, Answers, after_seen, is_on_at, plans_at, seen_at, seen_from, Steps, Reaches, AreFrames, Emits, EmitsAt}
 use Rattle.events.specs.Stray.{is_stray}
 use Rattle.events.specs.declared.event.Event.{Event}
 use Rattle.events.specs.declared.event.Event.TheVariants as event
 use Rattle.events.specs.declared.outcome.Outcome.{Outcome}
 use Rattle.events.specs.declared.outcome.Outcome.TheVariants as outcome
 
--- what a circuit sees of one event, as a list
-abbrev seen_list : Option Seen → List Seen
-seen_list None = []
-seen_list (Some s) = s ∷ []
+-- whether a circuit is on after all events
+abbrev pub is_on_after_all : List Bool → Bool → List Event → Bool
+is_on_after_all plans on [] = on
+is_on_after_all plans on (e ∷ events) = is_on_after_all plans (is_on_after plans on e) events
 
-seen_alone : (o : Option Seen) → cons_option o [] ≡ seen_list o
+-- What a run reaches, and which circuits are on then.
+pub record Turned (events : List Event) (start now : List CircuitState) : Type 0 where
+  pub count : length now ≡ length start
+  pub plans : (c : ℕ) → plans_at c now ≡ plans_at c start
+  pub turns : (c : ℕ) → is_on_at c now ≡ is_on_after_all (plans_at c start) (is_on_at c start) events
+  pub each : (c : ℕ) (setup : Setup) (a : Alone) → Represents c start setup a → Represents c now setup (after_all setup (seen_from c start events) a)
+
+pub turned_reaches : (events : List Event) (start now : List CircuitState) → Turned events start now → Reaches events start now
+turned_reaches events start now turned = record { count = turned.count; plans = turned.plans; each = turned.each }
+
+-- the frames towards circuit c
+abbrev towards : ℕ → CircuitFrame → Option SentFrame
+towards c sent = if sent.circuit == c then Some sent.frame else None
+
+seen_alone : (o : Option Seen) → cons_option o [] ≡ option_to_list o
 seen_alone None = refl
 seen_alone (Some s) = refl
 
-one_seen : (c : ℕ) (e : Event) → seen_by c (e ∷ []) ≡ seen_list (seen_of c e)
-one_seen c e = seen_alone (seen_of c e)
+seen_first : (o : Option Seen) (xs ys : List Seen) → cons_option o (xs ++ ys) ≡ cons_option o xs ++ ys
+seen_first None xs ys = refl
+seen_first (Some s) xs ys = refl
 
 after_all-append : (setup : Setup) (xs ys : List Seen) (a : Alone) → after_all setup (xs ++ ys) a ≡ after_all setup ys (after_all setup xs a)
 unfolding after_all
@@ -41,21 +57,36 @@ frames-append setup [] ys a = refl
 frames-append setup (x ∷ xs) ys a =
     ap (λ fs. sent_frame (alone_step setup x a).effect ++ fs) (frames-append setup xs ys _) ∙ sym (append_assoc (sent_frame (alone_step setup x a).effect) _ _)
 
-after_list : (setup : Setup) (o : Option Seen) (b : Alone) → after_all setup (seen_list o) b ≡ after_seen setup o b
+after_list : (setup : Setup) (o : Option Seen) (b : Alone) → after_all setup (option_to_list o) b ≡ after_seen setup o b
 unfolding after_all
 after_list setup None b = refl
 after_list setup (Some s) b = refl
 
 -- what a circuit sees of one event more
-seen_more : (c : ℕ) (es : List Event) (e : Event) → seen_by c (es ++ e ∷ []) ≡ seen_by c es ++ seen_list (seen_of c e)
-seen_more c es e = filter_map-append (seen_of c) es (e ∷ []) ∙ ap (λ ss. seen_by c es ++ ss) (one_seen c e)
+seen_more : (plans : List Bool) (c : ℕ) (on : Bool) (es : List Event) (e : Event)
+    → seen_by plans c on (es ++ e ∷ []) ≡ seen_by plans c on es ++ option_to_list (seen_of plans c (is_on_after_all plans on es) e)
+unfolding seen_by
+seen_more plans c on [] e = seen_alone (seen_of plans c on e)
+seen_more plans c on (x ∷ es) e =
+    ap (cons_option (seen_of plans c on x)) (seen_more plans c (is_on_after plans on x) es e)
+    ∙ seen_first (seen_of plans c on x) (seen_by plans c (is_on_after plans on x) es) _
+
+on_more : (plans : List Bool) (on : Bool) (es : List Event) (e : Event) → is_on_after_all plans on (es ++ e ∷ []) ≡ is_on_after plans (is_on_after_all plans on es) e
+on_more plans on [] e = refl
+on_more plans on (x ∷ es) e = on_more plans (is_on_after plans on x) es e
+
+-- from the state that a run reached
+seen_next : (es : List Event) (e : Event) (start now : List CircuitState) → Turned es start now → (c : ℕ) → seen_from c start (es ++ e ∷ []) ≡ seen_from c start es ++ option_to_list (seen_at c now e)
+seen_next es e start now reaches c =
+    seen_more (plans_at c start) c (is_on_at c start) es e
+    ∙ ap (λ s. seen_from c start es ++ option_to_list s) (λ i. seen_of (sym (reaches.plans c) i) c (sym (reaches.turns c) i) e)
 
 -- the machine after one event more
-after_one : (setup : Setup) (c : ℕ) (es : List Event) (e : Event) (a : Alone)
-    → after_all setup (seen_by c (es ++ e ∷ [])) a ≡ after_seen setup (seen_of c e) (after_all setup (seen_by c es) a)
-after_one setup c es e a =
-    ap (λ seen. after_all setup seen a) (seen_more c es e)
-    ∙ after_all-append setup (seen_by c es) (seen_list (seen_of c e)) a ∙ after_list setup (seen_of c e) (after_all setup (seen_by c es) a)
+after_one : (setup : Setup) (es : List Event) (e : Event) (start now : List CircuitState) → Turned es start now → (c : ℕ) (a : Alone)
+    → after_all setup (seen_from c start (es ++ e ∷ [])) a ≡ after_seen setup (seen_at c now e) (after_all setup (seen_from c start es) a)
+after_one setup es e start now reaches c a =
+    ap (λ seen. after_all setup seen a) (seen_next es e start now reaches c)
+    ∙ after_all-append setup (seen_from c start es) (option_to_list (seen_at c now e)) a ∙ after_list setup (seen_at c now e) (after_all setup (seen_from c start es) a)
 
 -- a frame of circuit c goes towards c
 frame_towards : (c : ℕ) (frame : SentFrame) → frames_to c (record { circuit = c; frame = frame } ∷ []) ≡ frame ∷ []
@@ -71,27 +102,29 @@ by_effect c (Framed frame) o out h =
 by_effect c Done o out h = ap (λ v. frames_to c (frame_of v out)) h.0
 
 -- what leaves towards c with one event is what its machine lets leave
-sent_with_one : (setup : Setup) (c : ℕ) (s : Option Seen) (b : Alone) (o : Outcome) (out : List ℕ) → Answers c setup s b o out → frames_to c (frame_of o out) ≡ frames setup (seen_list s) b
+sent_with_one : (setup : Setup) (c : ℕ) (s : Option Seen) (b : Alone) (o : Outcome) (out : List ℕ) → Answers c setup s b o out → frames_to c (frame_of o out) ≡ frames setup (option_to_list s) b
 unfolding frames
 sent_with_one setup c None b o out h = h
 sent_with_one setup c (Some s) b o out h = by_effect c (alone_step setup s b).effect o out h ∙ sym (append-nil (sent_frame (alone_step setup s b).effect))
 
-pub reaches_more : (es : List Event) (e : Event) (start now new : List CircuitState) (o : Outcome) (out : List ℕ) → Reaches es start now → Steps e now new o out → Reaches (es ++ e ∷ []) start new
+pub reaches_more : (es : List Event) (e : Event) (start now new : List CircuitState) (o : Outcome) (out : List ℕ) → Turned es start now → Steps e now new o out → Turned (es ++ e ∷ []) start new
 reaches_more es e start now new o out reaches steps = record {
   count = steps.count ∙ reaches.count;
+  plans = λ c. steps.plans c ∙ reaches.plans c;
+  turns = λ c. steps.turns c ∙ (λ i. is_on_after (reaches.plans c i) (reaches.turns c i) e) ∙ sym (on_more (plans_at c start) (is_on_at c start) es e);
   each = λ c setup a here.
       let P : Alone → Type 0 = λ b. Represents c new setup b in
-      subst P (sym (after_one setup c es e a)) (steps.each c setup _ (reaches.each c setup a here));
+      subst P (sym (after_one setup es e start now reaches c a)) (steps.each c setup _ (reaches.each c setup a here));
 }
 
 -- the frames with one event more
-frames_more : (es : List Event) (e : Event) (start now new : List CircuitState) (o : Outcome) (out : List ℕ) → Reaches es start now → Steps e now new o out
+frames_more : (es : List Event) (e : Event) (start now new : List CircuitState) (o : Outcome) (out : List ℕ) → Turned es start now → Steps e now new o out
     → (c : ℕ) (setup : Setup) (a : Alone) → Represents c start setup a
-    → frames setup (seen_by c (es ++ e ∷ [])) a ≡ frames setup (seen_by c es) a ++ frames_to c (frame_of o out)
+    → frames setup (seen_from c start (es ++ e ∷ [])) a ≡ frames setup (seen_from c start es) a ++ frames_to c (frame_of o out)
 frames_more es e start now new o out reaches steps c setup a here =
-    ap (λ seen. frames setup seen a) (seen_more c es e)
-    ∙ frames-append setup (seen_by c es) (seen_list (seen_of c e)) a
-    ∙ ap (λ fs. frames setup (seen_by c es) a ++ fs) (sym (sent_with_one setup c (seen_of c e) _ o out (steps.answers c setup _ (reaches.each c setup a here))))
+    ap (λ seen. frames setup seen a) (seen_next es e start now reaches c)
+    ∙ frames-append setup (seen_from c start es) (option_to_list (seen_at c now e)) a
+    ∙ ap (λ fs. frames setup (seen_from c start es) a ++ fs) (sym (sent_with_one setup c (seen_at c now e) _ o out (steps.answers c setup _ (reaches.each c setup a here))))
 
 same_name : {k m : ℕ} → Some m ≡ Some k → eqb m k ≡ true
 same_name {k} {m} h = eq-eqb m k cc
@@ -101,14 +134,15 @@ seen_answer : (k m : ℕ) (s : Seen) (setup : Setup) (b : Alone) (o : Outcome) (
 seen_answer k m s setup b o out is h = ((alone_step setup s b).effect, rw is at h)
 
 -- a circuit sees the event that names it, so the outcome is its machine's
-its_answer : (k : ℕ) (e : Event) (setup : Setup) (b : Alone) (o : Outcome) (out : List ℕ) → named_by e ≡ Some k → Answers k setup (seen_of k e) b o out → (f : Effect) × IsOutcome k f o out
-its_answer k (event.Frame circuit proto bytes) setup b o out named h = seen_answer k circuit (Frame proto bytes.now) setup b o out (same_name named) h
-its_answer k (event.Up circuit j now fault) setup b o out named h = seen_answer k circuit (Up j now fault) setup b o out (same_name named) h
-its_answer k (event.Down circuit j) setup b o out named h = seen_answer k circuit (Down j) setup b o out (same_name named) h
-its_answer k (event.Tick now) setup b o out named h = absurd cc
-its_answer k (event.Restart images) setup b o out named h = absurd cc
-its_answer k (event.StrayUp proto source bytes now) setup b o out named h = absurd cc
-its_answer k (event.StrayDown relay source bytes) setup b o out named h = absurd cc
+its_answer : (k : ℕ) (old : List CircuitState) (e : Event) (setup : Setup) (b : Alone) (o : Outcome) (out : List ℕ) → named_by e ≡ Some k → Answers k setup (seen_at k old e) b o out → (f : Effect) × IsOutcome k f o out
+its_answer k old (event.Frame circuit proto bytes) setup b o out named h = seen_answer k circuit (Frame proto bytes.now) setup b o out (same_name named) h
+its_answer k old (event.Up circuit j now fault) setup b o out named h = seen_answer k circuit (Up j now fault) setup b o out (same_name named) h
+its_answer k old (event.Down circuit j) setup b o out named h = seen_answer k circuit (Down j) setup b o out (same_name named) h
+its_answer k old (event.Tick now) setup b o out named h = absurd cc
+its_answer k old (event.Restart images) setup b o out named h = absurd cc
+its_answer k old (event.Reload plan) setup b o out named h = absurd cc
+its_answer k old (event.StrayUp proto source bytes now) setup b o out named h = absurd cc
+its_answer k old (event.StrayDown relay source bytes) setup b o out named h = absurd cc
 
 -- ---- towards a circuit that doesn't exist
 
@@ -128,22 +162,40 @@ past_step e old new o out steps c past = by_name e refl where
   silent v is none = ap (λ w. frames_to c (frame_of w out)) is ∙ ap (frames_to c) none
 
   -- the event names c itself, which doesn't exist, or another circuit
-  at_name : (k : ℕ) → named_by e ≡ Some k → (b : Bool) → eqb k c ≡ b → (eqb k c ≡ false → seen_of c e ≡ None) → frames_to c (frame_of o out) ≡ []
+  at_name : (k : ℕ) → named_by e ≡ Some k → (b : Bool) → eqb k c ≡ b → (eqb k c ≡ false → seen_at c old e ≡ None) → frames_to c (frame_of o out) ≡ []
   at_name k named true same blind = silent outcome.Gone (steps.gone k named (subst (λ n. length old ≤ n) (sym (eqb-true k c same)) past)).0 refl
   at_name k named false other blind = steps.away c (blind other)
 
   by_name : (v : Event) → e ≡ v → frames_to c (frame_of o out) ≡ []
-  by_name (event.Frame circuit proto bytes) is = at_name circuit (ap named_by is) (eqb circuit c) refl (λ other. ap (seen_of c) is ∙ rw other refl)
-  by_name (event.Up circuit j now fault) is = at_name circuit (ap named_by is) (eqb circuit c) refl (λ other. ap (seen_of c) is ∙ rw other refl)
-  by_name (event.Down circuit j) is = at_name circuit (ap named_by is) (eqb circuit c) refl (λ other. ap (seen_of c) is ∙ rw other refl)
+  by_name (event.Frame circuit proto bytes) is = at_name circuit (ap named_by is) (eqb circuit c) refl (λ other. ap (seen_at c old) is ∙ rw other refl)
+  by_name (event.Up circuit j now fault) is = at_name circuit (ap named_by is) (eqb circuit c) refl (λ other. ap (seen_at c old) is ∙ rw other refl)
+  by_name (event.Down circuit j) is = at_name circuit (ap named_by is) (eqb circuit c) refl (λ other. ap (seen_at c old) is ∙ rw other refl)
   by_name (event.Tick now) is = silent outcome.Done (steps.ticked now is).0 refl
   by_name (event.Restart images) is = silent outcome.Done (steps.restarted (ap is_restart is)).0 refl
+  by_name (event.Reload plan) is = ap (frames_to c) (steps.reloaded plan (ap reload_of is)).silent.0
   by_name (event.StrayUp proto source bytes now) is = ap (frames_to c) (steps.stray (ap is_stray is)).0
   by_name (event.StrayDown relay source bytes) is = ap (frames_to c) (steps.stray (ap is_stray is)).0
 
 -- ---- the frames with one event more
 
-module _ (es : List Event) (e : Event) (start now new : List CircuitState) (o : Outcome) (out : List ℕ) (reaches : Reaches es start now) (steps : Steps e now new o out) where
+-- The first of these frames are those of a run.
+record BeginsWith (events : List Event) (start : List CircuitState) (sent : List CircuitFrame) : Type 0 where
+  first : List CircuitFrame
+  rest : List CircuitFrame
+  split : sent ≡ first ++ rest
+  are_frames : AreFrames events start first
+
+-- the same by how many they are
+begins_by : (events : List Event) (start : List CircuitState) (sent : List CircuitFrame) → (m : ℕ) × AreFrames events start (take m sent) → BeginsWith events start sent
+begins_by events start sent (m, are) = record { first = take m sent; rest = drop m sent; split = sym (take-append-drop m sent); are_frames = are }
+
+how_many : (events : List Event) (start : List CircuitState) (sent : List CircuitFrame) → BeginsWith events start sent → (m : ℕ) × AreFrames events start (take m sent)
+how_many events start sent begins = (
+  length begins.first,
+  subst (AreFrames events start) (sym (ap (take (length begins.first)) begins.split ∙ take-append_seam begins.first begins.rest)) begins.are_frames,
+)
+
+module _ (es : List Event) (e : Event) (start now new : List CircuitState) (o : Outcome) (out : List ℕ) (reaches : Turned es start now) (steps : Steps e now new o out) where
   are_frames_more : (sent : List CircuitFrame) → AreFrames es start sent → AreFrames (es ++ e ∷ []) start (sent ++ frame_of o out)
   are_frames_more sent are = record {
     each = λ c setup a here.
@@ -182,12 +234,13 @@ module _ (es : List Event) (e : Event) (start now new : List CircuitState) (o : 
     by false few = begins_more sent n (ltb-false (length es) n few) (in_order n)
 
 pub emits_more : (es : List Event) (e : Event) (start now new : List CircuitState) (o : Outcome) (out : List ℕ) (before taken taken' : List CircuitFrame)
-    → Emits es start before taken → Reaches es start now → Steps e now new o out → taken' ≡ taken ++ frame_of o out → Emits (es ++ e ∷ []) start before taken'
+    → Emits es start before taken → Turned es start now → Steps e now new o out → taken' ≡ taken ++ frame_of o out → Emits (es ++ e ∷ []) start before taken'
 emits_more es e start now new o out before taken taken' emits reaches steps more = record {
   sent = emits.sent ++ frame_of o out;
   taken = more ∙ ap (λ fs. fs ++ frame_of o out) emits.taken ∙ append_assoc before emits.sent (frame_of o out);
   are_frames = are_frames_more es e start now new o out reaches steps emits.sent emits.are_frames;
-  in_order = begins es e start now new o out reaches steps emits.sent emits.are_frames emits.in_order;
+  in_order = λ n.
+      how_many _ start _ (begins es e start now new o out reaches steps emits.sent emits.are_frames (λ k. begins_by _ start emits.sent (emits.in_order k)) n);
 }
 
 none_is_one : {n : ℕ} → n ≡ 0 → n ≡ 1 → ⊥
@@ -207,36 +260,36 @@ module _ (events : List Event) (n : ℕ) (e : Event) (there : n < length events)
   one_more : take (n + 1) events ≡ take n events ++ e ∷ []
   one_more = take_more events n e there ∙ ap (λ x. take n events ++ x ∷ []) (sym is)
 
-  pub reaches_next : (start now new : List CircuitState) (o : Outcome) (out : List ℕ) → Reaches (take n events) start now → Steps e now new o out → Reaches (take (n + 1) events) start new
+  pub reaches_next : (start now new : List CircuitState) (o : Outcome) (out : List ℕ) → Turned (take n events) start now → Steps e now new o out → Turned (take (n + 1) events) start new
   reaches_next start now new o out reaches steps =
-      let P : List Event → Type 0 = λ es. Reaches es start new in
+      let P : List Event → Type 0 = λ es. Turned es start new in
       subst P (sym one_more) (reaches_more (take n events) e start now new o out reaches steps)
 
   pub emits_next : (start now new : List CircuitState) (o : Outcome) (out : List ℕ) (before taken taken' : List CircuitFrame)
-      → Emits (take n events) start before taken → Reaches (take n events) start now → Steps e now new o out → taken' ≡ taken ++ frame_of o out → Emits (take (n + 1) events) start before taken'
+      → Emits (take n events) start before taken → Turned (take n events) start now → Steps e now new o out → taken' ≡ taken ++ frame_of o out → Emits (take (n + 1) events) start before taken'
   emits_next start now new o out before taken taken' emits reaches steps more =
       let P : List Event → Type 0 = λ es. Emits es start before taken' in
       subst P (sym one_more) (emits_more (take n events) e start now new o out before taken taken' emits reaches steps more)
 
   -- the frame that left is the one of the circuit that the event names
-  counted : (start now new : List CircuitState) (o : Outcome) (out : List ℕ) → Reaches (take n events) start now → Steps e now new o out
+  counted : (start now new : List CircuitState) (o : Outcome) (out : List ℕ) → Turned (take n events) start now → Steps e now new o out
       → (k : ℕ) → named_by e ≡ Some k → length (frame_of o out) ≡ 1 → (there : Bool) → ltb k (length start) ≡ there → EmitsAt n events start
   counted start now new o out reaches steps k named one true there = record {
     circuit = k;
     there = ltb-true k (length start) there;
     more = λ setup a here.
-        let answer = its_answer k e setup _ o out named (steps.answers k setup _ (reaches.each k setup a here)) in
-        ap (λ es. length (frames setup (seen_by k es) a)) one_more
+        let answer = its_answer k now e setup _ o out named (steps.answers k setup _ (reaches.each k setup a here)) in
+        ap (λ es. length (frames setup (seen_from k start es) a)) one_more
         ∙ ap length (frames_more (take n events) e start now new o out reaches steps k setup a here)
-        ∙ length-append (frames setup (seen_by k (take n events)) a) (frames_to k (frame_of o out))
-        ∙ ap (λ m. length (frames setup (seen_by k (take n events)) a) + m) (counts_its k answer.0 o out answer.1 one);
+        ∙ length-append (frames setup (seen_from k start (take n events)) a) (frames_to k (frame_of o out))
+        ∙ ap (λ m. length (frames setup (seen_from k start (take n events)) a) + m) (counts_its k answer.0 o out answer.1 one);
   }
   counted start now new o out reaches steps k named one false there =
       let far : length start ≤ k = ltb-false k (length start) there in
       let gone : length now ≤ k = omega (arith, reaches.count) in
       absurd (none_is_one (ap (λ v. length (frame_of v out)) (steps.gone k named gone).0 ∙ refl) one)
 
-  pub emits_at : (start now new : List CircuitState) (o : Outcome) (out : List ℕ) → Reaches (take n events) start now → Steps e now new o out → length (frame_of o out) ≡ 1 → EmitsAt n events start
+  pub emits_at : (start now new : List CircuitState) (o : Outcome) (out : List ℕ) → Turned (take n events) start now → Steps e now new o out → length (frame_of o out) ≡ 1 → EmitsAt n events start
   emits_at start now new o out reaches steps one = by_event e refl where
     by_event : (v : Event) → e ≡ v → EmitsAt n events start
     by_event (event.Frame circuit proto bytes) is = counted start now new o out reaches steps circuit (ap named_by is) one (ltb circuit (length start)) refl
@@ -244,18 +297,19 @@ module _ (events : List Event) (n : ℕ) (e : Event) (there : n < length events)
     by_event (event.Down circuit j) is = counted start now new o out reaches steps circuit (ap named_by is) one (ltb circuit (length start)) refl
     by_event (event.Tick moment) is = absurd (none_is_one (ap (λ v. length (frame_of v out)) (steps.ticked moment is).0) one)
     by_event (event.Restart images) is = absurd (none_is_one (ap (λ v. length (frame_of v out)) (steps.restarted (ap is_restart is)).0) one)
+    by_event (event.Reload plan) is = absurd (none_is_one (ap length (steps.reloaded plan (ap reload_of is)).silent.0) one)
     by_event (event.StrayUp proto source bytes moment) is = absurd (none_is_one (ap length (steps.stray (ap is_stray is)).0) one)
     by_event (event.StrayDown relay source bytes) is = absurd (none_is_one (ap length (steps.stray (ap is_stray is)).0) one)
 
-pub reaches_nothing : (start : List CircuitState) → Reaches [] start start
-unfolding after_all
-reaches_nothing start = record { count = refl; each = λ c setup a here. here }
+pub reaches_nothing : (start : List CircuitState) → Turned [] start start
+unfolding after_all seen_by
+reaches_nothing start = record { count = refl; plans = λ c. refl; turns = λ c. refl; each = λ c setup a here. here }
 
 pub emits_nothing : (start : List CircuitState) (taken : List CircuitFrame) → Emits [] start taken taken
-unfolding frames
-emits_nothing start taken = record { sent = []; taken = sym (append-nil taken); are_frames = no_frames; in_order = λ n. nothing (take n []) (take-nil n) } where
+unfolding frames seen_by
+emits_nothing start taken = record { sent = []; taken = sym (append-nil taken); are_frames = no_frames; in_order = λ n. nothing n (take n []) (take-nil n) } where
   no_frames : AreFrames [] start []
   no_frames = record { each = λ c setup a here. refl; past = λ c far. refl }
 
-  nothing : (events : List Event) → events ≡ [] → BeginsWith events start []
-  nothing events is = record { first = []; rest = []; split = refl; are_frames = subst (λ es. AreFrames es start []) (sym is) no_frames }
+  nothing : (n : ℕ) (events : List Event) → events ≡ [] → (m : ℕ) × AreFrames events start (take m [])
+  nothing n events is = (0, subst (λ es. AreFrames es start []) (sym is) no_frames)

@@ -6,7 +6,7 @@ use Rattle.types.specs.Delivery.{DeliveryValue}
 use Rattle.types.specs.declared.discard.Discard.{Discard}
 use Rattle.types.specs.declared.discard.Discard.TheVariants.{CircuitClosed, DiskFault}
 use Rattle.config.specs.CircuitPart.{CircuitPart}
-use Rattle.dispatch.specs.Leases.{Leases, after_datagram, after_saving, after_tick, after_restart, come_back, formats_of, found_leases, kept, moved_format, region_leases, restarts_of, served_leases}
+use Rattle.dispatch.specs.Leases.{Leases, after_datagram, after_saving, after_tick, after_restart, come_back, formats_of, found_leases, kept, moved_format, region_leases, restarts_of, served_leases, turned}
 use Rattle.dispatch.specs.Received.{Answered, after_save, answered}
 use Rattle.dispatch.specs.Server.{Book, Served, book_at, kept_book, served}
 use Rattle.lease_disk.specs.Crash.{crashed}
@@ -15,7 +15,8 @@ use Rattle.lease_disk.specs.declared.image.Image.{Image}
 use Rattle.lease_disk.specs.declared.image.Image.TheVariants.{Byte, Unreadable}
 use Rattle.lossy_net.specs.Net.{Datagram}
 use Rattle.types.specs.declared.dest.Proto.{Proto}
-use Rattle.world.specs.Alone.{Alone, Dropped, Setup, answer_step, alone_step, book_step, delivery_of, found, is_fault, is_move_fault, is_new, or_kept, served_step, start, up_step}
+use Rattle.std.specs.Option.{option_or}
+use Rattle.world.specs.Alone.{Alone, Dropped, Gone, Setup, Step, answer_step, alone_step, book_step, delivery_of, found, if_on, is_fault, is_new, served_step, start, up_step}
 use Rattle.world.specs.Alone as alone
 use Rattle.world.specs.Headline.{CircuitState, Shows}
 use Rattle.events.specs.Seen.{Up}
@@ -35,16 +36,16 @@ closed_is_sure a b h = absurd cc
 
 -- ---- the start
 
-found_alike : (kept : Option Book) (b : Bool) → kept ≡ (if b then or_kept None kept else kept)
+found_alike : (kept : Option Book) (b : Bool) → kept ≡ (if b then option_or None kept else kept)
 found_alike kept true = refl
 found_alike kept false = refl
 
 -- a move that fails
 
-fault_is : (fault : ℕ) → is_move_fault fault ≡ not (effective 4 fault == 0)
+fault_is : (fault : ℕ) → is_fault 4 fault ≡ not (effective 4 fault == 0)
 fault_is fault = grind arith
 
-late_is : (fault : ℕ) → is_move_fault fault ≡ true → nat_le 3 (effective 4 fault) ≡ nat_le 3 fault
+late_is : (fault : ℕ) → is_fault 4 fault ≡ true → nat_le 3 (effective 4 fault) ≡ nat_le 3 fault
 late_is fault e = grind (arith, e)
 
 format_late : (late : Bool) (byte : ℕ) → (late && byte == 2) ≡ is_new (if late then alone.Moving else alone.Old) byte
@@ -52,7 +53,7 @@ format_late true byte = refl
 format_late false byte = refl
 
 -- a book in format 1, by whether its move fails
-brought : (fault : ℕ) (b : Book) (a : Alone) (fails : Bool) → is_move_fault fault ≡ fails → (effective 4 fault == 0) ≡ not fails
+brought : (fault : ℕ) (b : Book) (a : Alone) (fails : Bool) → is_fault 4 fault ≡ fails → (effective 4 fault == 0) ≡ not fails
     → Holds (record { book = if not (effective 4 fault == 0) then None else Some b; restarts = λ any. Some b; is_new = λ byte. moved_format (effective 4 fault) byte })
     (if fails then record a { book = None; kept = Some b; doubt = None; format = if nat_le 3 fault then alone.Moving else alone.Old } else record a { book = Some b; kept = Some b; doubt = None; format = alone.New })
 brought fault b a true e none = record {
@@ -72,8 +73,8 @@ pub holds_come_back : (fault : ℕ) (kept : Option Book) (two : Bool) (a : Alone
 holds_come_back fault None true a = record { book = refl; restarts = λ any. found_alike None (any == 0xa5); formats = λ byte. refl; sure = λ c opened. refl }
 holds_come_back fault (Some b) true a = record { book = refl; restarts = λ any. found_alike (Some b) (any == 0xa5); formats = λ byte. refl; sure = λ c opened. refl }
 holds_come_back fault None false a = record { book = refl; restarts = λ any. found_alike None (any == 0xa5); formats = λ byte. refl; sure = λ c opened. refl }
-holds_come_back fault (Some b) false a = brought fault b a (is_move_fault fault) refl (zero_is (effective 4 fault == 0) (fault_is fault)) where
-  zero_is : (z : Bool) → is_move_fault fault ≡ not z → z ≡ not (is_move_fault fault)
+holds_come_back fault (Some b) false a = brought fault b a (is_fault 4 fault) refl (zero_is (effective 4 fault == 0) (fault_is fault)) where
+  zero_is : (z : Bool) → is_fault 4 fault ≡ not z → z ≡ not (is_fault 4 fault)
   zero_is true e = sym (ap not e)
   zero_is false e = sym (ap not e)
 
@@ -86,12 +87,24 @@ sure_at now (Some opened) doubt sure b h = sure opened refl
 pub holds_tick : (now : ℕ) (l : Leases) (a : Alone) → Holds l a → Holds (after_tick now l) (record a { book = option_map (book_at now) a.book })
 holds_tick now l a h = record { book = ap (option_map (book_at now)) h.book; restarts = h.restarts; formats = h.formats; sure = sure_at now a.book a.doubt h.sure }
 
+-- ---- a circuit that is turned on or off
+
+sure_kept : (book doubt : Option Book) → ((b : Book) → book ≡ Some b → doubt ≡ None) → (b : Book) → option_map kept_book book ≡ Some b → doubt ≡ None
+sure_kept None doubt sure b h = absurd cc
+sure_kept (Some opened) doubt sure b h = sure opened refl
+
+pub holds_off : (l : Leases) (a : Alone) → Holds l a → Holds (turned true false l) (alone.turned false a)
+holds_off l a h = record { book = ap (option_map kept_book) h.book; restarts = h.restarts; formats = h.formats; sure = sure_kept a.book a.doubt h.sure }
+
+pub holds_on : (l : Leases) (a : Alone) → Holds l a → Holds (turned false true l) (alone.turned true a)
+holds_on l a h = record { book = h.book; restarts = h.restarts; formats = h.formats; sure = h.sure }
+
 -- ---- a restart
 
-pub holds_restart : (fault : ℕ) (i : Image) (l : Leases) (a : Alone) → Holds l a → Holds (after_restart i fault l) (alone.with_image fault i a)
+pub holds_restart : (fault : ℕ) (i : Image) (l : Leases) (a : Alone) → Holds l a → Holds (after_restart i fault l) (alone.after_restart fault i a)
 holds_restart fault (Byte byte) l a h =
-    subst (λ kept. Holds (come_back fault kept (l.is_new byte)) (alone.with_image fault (Byte byte) a)) (sym (h.restarts byte))
-    (subst (λ two. Holds (come_back fault (found byte a) two) (alone.with_image fault (Byte byte) a)) (sym (h.formats byte)) (holds_come_back fault (found byte a) (is_new a.format byte) a))
+    subst (λ kept. Holds (come_back fault kept (l.is_new byte)) (alone.after_restart fault (Byte byte) a)) (sym (h.restarts byte))
+    (subst (λ two. Holds (come_back fault (found byte a) two) (alone.after_restart fault (Byte byte) a)) (sym (h.formats byte)) (holds_come_back fault (found byte a) (is_new a.format byte) a))
 holds_restart fault Unreadable l a h = record { book = refl; restarts = h.restarts; formats = h.formats; sure = closed_is_sure a }
 
 -- what is found in a region as a crash left it
@@ -111,7 +124,7 @@ abbrev torn : ℕ → Book → Alone → Alone
 torn fault b a = record a { book = None; doubt = if nat_le 5 fault then Some (kept_book b) else a.doubt }
 
 abbrev booked : ℕ → Served → Alone → Alone
-booked fault done a = if not done.is_kept then record a { book = Some done.book } else if is_fault fault then torn fault done.book a else saved done.book a
+booked fault done a = if not done.is_kept then record a { book = Some done.book } else if is_fault 6 fault then torn fault done.book a else saved done.book a
 
 abbrev pub after_up : CircuitPart → DeliveryValue → ℕ → Alone → Option Book → Alone
 after_up part e fault a None = a
@@ -128,11 +141,11 @@ its_fails part e fault (Some b) = save_fails fault (served part e b)
 -- No call of the save fails, or the one that the fault names does.
 record IsNone (fault : ℕ) : Type 0 where
   none : effective 6 fault ≡ 0
-  not_one : is_fault fault ≡ false
+  not_one : is_fault 6 fault ≡ false
 
 record IsOne (fault : ℕ) : Type 0 where
   one : effective 6 fault ≡ fault
-  is_one : is_fault fault ≡ true
+  is_one : is_fault 6 fault ≡ true
   not_zero : (fault == 0) ≡ false
 
 classify : (fault : ℕ) → IsNone fault ⊎ IsOne fault
@@ -142,20 +155,20 @@ classify (suc n) = by (leb (suc n) 6) refl where
   by true within = inr (record { one = ap (λ b. if b then suc n else 0) within; is_one = (λ i. le-leb 1 (suc n) (omega arith) i && within i); not_zero = ne_eqb (suc n) 0 (λ h. omega (arith, h)) })
   by false past = inl (record { none = ap (λ b. if b then suc n else 0) past; not_one = (λ i. le-leb 1 (suc n) (omega arith) i && past i) })
 
-fails_is : (fault : ℕ) → (effective 6 fault == 0) ≡ not (is_fault fault)
+fails_is : (fault : ℕ) → (effective 6 fault == 0) ≡ not (is_fault 6 fault)
 fails_is fault = by (classify fault) where
-  by : IsNone fault ⊎ IsOne fault → (effective 6 fault == 0) ≡ not (is_fault fault)
+  by : IsNone fault ⊎ IsOne fault → (effective 6 fault == 0) ≡ not (is_fault 6 fault)
   by (inl c) = (λ i. c.none i == 0) ∙ sym (ap not c.not_one)
   by (inr c) = (λ i. c.one i == 0) ∙ c.not_zero ∙ sym (ap not c.is_one)
 
 -- a save that did not fail: every restart finds its book
-found_saved : (b : Book) (doubt : Option Book) (gate : Bool) → doubt ≡ None → Some b ≡ (if gate then or_kept doubt (Some b) else Some b)
-found_saved b doubt true none = sym (ap (λ d. or_kept d (Some b)) none)
+found_saved : (b : Book) (doubt : Option Book) (gate : Bool) → doubt ≡ None → Some b ≡ (if gate then option_or doubt (Some b) else Some b)
+found_saved b doubt true none = sym (ap (λ d. option_or d (Some b)) none)
 found_saved b doubt false none = refl
 
 -- a save that failed: a restart may find its book from the fifth call on
 found_torn : (b : Book) (doubt kept : Option Book) (late gate : Bool)
-    → (if late && gate then Some b else if gate then or_kept doubt kept else kept) ≡ (if gate then or_kept (if late then Some b else doubt) kept else kept)
+    → (if late && gate then Some b else if gate then option_or doubt kept else kept) ≡ (if gate then option_or (if late then Some b else doubt) kept else kept)
 found_torn b doubt kept true true = refl
 found_torn b doubt kept true false = refl
 found_torn b doubt kept false true = refl
@@ -180,7 +193,7 @@ module _ (fault : ℕ) (l : Leases) (a : Alone) (h : Holds l a) (was : Book) (op
     sure = closed_is_sure (torn fault b a);
   }
 
-  holds_after_saving : (b : Book) → IsNone fault ⊎ IsOne fault → Holds (after_saving (effective 6 fault) b l) (if is_fault fault then torn fault b a else saved b a)
+  holds_after_saving : (b : Book) → IsNone fault ⊎ IsOne fault → Holds (after_saving (effective 6 fault) b l) (if is_fault 6 fault then torn fault b a else saved b a)
   holds_after_saving b (inl c) =
       let P : ℕ → Bool → Type 0 = λ k f. Holds (after_saving k b l) (if f then torn fault b a else saved b a) in
       subst₂ P (sym c.none) (sym c.not_one) (holds_saved b)
@@ -219,9 +232,13 @@ module _ (setup : Setup) (fault : ℕ) (a : Alone) (proto : Proto) (answer : Res
 
   served_step_is : (is_kept : Bool) → served_step setup fault a proto (of is_kept) ≡ answer_step setup (booked fault (of is_kept) a) proto (after_save (save_fails fault (of is_kept)) (of is_kept)).answer
   served_step_is true =
-      by_fault (is_fault fault)
+      by_fault (is_fault 6 fault)
       ∙ sym (ap (λ z. answer_step setup (booked fault (of true) a) proto (after_save (not z) (of true)).answer) (fails_is fault))
   served_step_is false = refl
+
+-- a circuit that is on
+pub on_is : (a : Alone) (step : Step) → a.on ≡ true → if_on a step ≡ step
+on_is a step on = ap (λ b. if b then step else record { effect = Gone; next = a }) on
 
 -- a closed circuit, or a datagram that is served
 book_step_is : (setup : Setup) (now fault : ℕ) (a : Alone) (d : Datagram) (book : Option Book)
@@ -229,10 +246,10 @@ book_step_is : (setup : Setup) (now fault : ℕ) (a : Alone) (d : Datagram) (boo
 book_step_is setup now fault a d None = refl
 book_step_is setup now fault a d (Some b) = let done = served setup.part (delivery_of setup.part now d) b in served_step_is setup fault a d.proto done.answer done.book done.is_kept
 
-pub up_step_is : (setup : Setup) (a : Alone) (j now fault : ℕ) (d : Datagram) → slice_get a.up j ≡ Some d
+pub up_step_is : (setup : Setup) (a : Alone) (j now fault : ℕ) (d : Datagram) → a.on ≡ true → slice_get a.up j ≡ Some d
     → alone_step setup (Up j now fault) a ≡ answer_step setup (after_up setup.part (delivery_of setup.part now d) fault a a.book) d.proto (its_answer setup.part (delivery_of setup.part now d) fault a.book)
 unfolding alone_step
-up_step_is setup a j now fault d is = ap (up_step setup now fault a) is ∙ book_step_is setup now fault a d a.book
+up_step_is setup a j now fault d on is = on_is a (up_step setup now fault a (slice_get a.up j)) on ∙ ap (up_step setup now fault a) is ∙ book_step_is setup now fault a d a.book
 
 -- ---- the queues
 
@@ -247,16 +264,25 @@ booked_down fault b a true true = refl
 booked_down fault b a true false = refl
 booked_down fault b a false f = refl
 
+booked_on : (fault : ℕ) (b : Book) (a : Alone) (is_kept f : Bool) → (if not is_kept then record a { book = Some b } else if f then torn fault b a else saved b a).on ≡ a.on
+booked_on fault b a true true = refl
+booked_on fault b a true false = refl
+booked_on fault b a false f = refl
+
+pub on_stays : (part : CircuitPart) (e : DeliveryValue) (fault : ℕ) (a : Alone) (book : Option Book) → (after_up part e fault a book).on ≡ a.on
+on_stays part e fault a None = refl
+on_stays part e fault a (Some b) = let done = served part e b in booked_on fault done.book a done.is_kept (is_fault 6 fault)
+
 pub up_stays : (part : CircuitPart) (e : DeliveryValue) (fault : ℕ) (a : Alone) (book : Option Book) → (after_up part e fault a book).up ≡ a.up
 up_stays part e fault a None = refl
-up_stays part e fault a (Some b) = let done = served part e b in booked_up fault done.book a done.is_kept (is_fault fault)
+up_stays part e fault a (Some b) = let done = served part e b in booked_up fault done.book a done.is_kept (is_fault 6 fault)
 
 pub down_stays : (part : CircuitPart) (e : DeliveryValue) (fault : ℕ) (a : Alone) (book : Option Book) → (after_up part e fault a book).down ≡ a.down
 down_stays part e fault a None = refl
-down_stays part e fault a (Some b) = let done = served part e b in booked_down fault done.book a done.is_kept (is_fault fault)
+down_stays part e fault a (Some b) = let done = served part e b in booked_down fault done.book a done.is_kept (is_fault 6 fault)
 
 come_back_ups : (fault : ℕ) (kept : Option Book) (two : Bool) (a : Alone) → (alone.come_back fault kept two a).up ≡ a.up
-come_back_ups fault kept two a = by (two || not (is_some kept)) (is_move_fault fault) where
+come_back_ups fault kept two a = by (two || not (is_some kept)) (is_fault 4 fault) where
   by : (b c : Bool) → (if b then record a { book = kept; kept = kept; doubt = None; format = if two then alone.New else alone.Old }
       else if c then record a { book = None; kept = kept; doubt = None; format = if nat_le 3 fault then alone.Moving else alone.Old }
       else record a { book = kept; kept = kept; doubt = None; format = alone.New }).up ≡ a.up
@@ -265,7 +291,7 @@ come_back_ups fault kept two a = by (two || not (is_some kept)) (is_move_fault f
   by false false = refl
 
 come_back_downs : (fault : ℕ) (kept : Option Book) (two : Bool) (a : Alone) → (alone.come_back fault kept two a).down ≡ a.down
-come_back_downs fault kept two a = by (two || not (is_some kept)) (is_move_fault fault) where
+come_back_downs fault kept two a = by (two || not (is_some kept)) (is_fault 4 fault) where
   by : (b c : Bool) → (if b then record a { book = kept; kept = kept; doubt = None; format = if two then alone.New else alone.Old }
       else if c then record a { book = None; kept = kept; doubt = None; format = if nat_le 3 fault then alone.Moving else alone.Old }
       else record a { book = kept; kept = kept; doubt = None; format = alone.New }).down ≡ a.down
@@ -273,20 +299,36 @@ come_back_downs fault kept two a = by (two || not (is_some kept)) (is_move_fault
   by false true = refl
   by false false = refl
 
-pub restart_ups : (fault : ℕ) (i : Image) (a : Alone) → (alone.with_image fault i a).up ≡ a.up
+come_back_on : (fault : ℕ) (kept : Option Book) (two : Bool) (a : Alone) → (alone.come_back fault kept two a).on ≡ a.on
+come_back_on fault kept two a = by (two || not (is_some kept)) (is_fault 4 fault) where
+  by : (b c : Bool) → (if b then record a { book = kept; kept = kept; doubt = None; format = if two then alone.New else alone.Old }
+      else if c then record a { book = None; kept = kept; doubt = None; format = if nat_le 3 fault then alone.Moving else alone.Old }
+      else record a { book = kept; kept = kept; doubt = None; format = alone.New }).on ≡ a.on
+  by true c = refl
+  by false true = refl
+  by false false = refl
+
+pub restart_ups : (fault : ℕ) (i : Image) (a : Alone) → (alone.after_restart fault i a).up ≡ a.up
 restart_ups fault (Byte byte) a = come_back_ups fault (found byte a) (is_new a.format byte) a
 restart_ups fault Unreadable a = refl
 
-pub restart_downs : (fault : ℕ) (i : Image) (a : Alone) → (alone.with_image fault i a).down ≡ a.down
+pub restart_on : (fault : ℕ) (i : Image) (a : Alone) → (alone.after_restart fault i a).on ≡ a.on
+restart_on fault (Byte byte) a = come_back_on fault (found byte a) (is_new a.format byte) a
+restart_on fault Unreadable a = refl
+
+pub restart_downs : (fault : ℕ) (i : Image) (a : Alone) → (alone.after_restart fault i a).down ≡ a.down
 restart_downs fault (Byte byte) a = come_back_downs fault (found byte a) (is_new a.format byte) a
 restart_downs fault Unreadable a = refl
 
 -- at the start nothing was sent
-pub start_ups : (fault : ℕ) (kept : Option Book) (two : Bool) → (start fault kept two).up ≡ []
-start_ups fault kept two = come_back_ups fault kept two alone.unsent
+pub start_ups : (on : Bool) (fault : ℕ) (kept : Option Book) (two : Bool) → (start on fault kept two).up ≡ []
+start_ups on fault kept two = come_back_ups fault kept two (alone.unsent on)
 
-pub start_downs : (fault : ℕ) (kept : Option Book) (two : Bool) → (start fault kept two).down ≡ []
-start_downs fault kept two = come_back_downs fault kept two alone.unsent
+pub start_downs : (on : Bool) (fault : ℕ) (kept : Option Book) (two : Bool) → (start on fault kept two).down ≡ []
+start_downs on fault kept two = come_back_downs fault kept two (alone.unsent on)
+
+pub start_on : (on : Bool) (fault : ℕ) (kept : Option Book) (two : Bool) → (start on fault kept two).on ≡ on
+start_on on fault kept two = come_back_on fault kept two (alone.unsent on)
 
 -- ---- a reply
 

@@ -1,10 +1,12 @@
 -- The states of a world that was just opened represent their circuits' machines at the start.
 use Rattle.std.proofs.Common.{◌≡◌, ℕ, [], length, map, sym, ap, subst, ◌∙◌}
-use Rattle.std.specs.Prelude.{Some, None, if◌then◌else◌, slice_get, option_map, true}
+use Rattle.std.specs.Prelude.{Some, slice_get, slice_index_or, option_map, true}
 use Rattle.std.proofs.lemmas.Option.{slice_get-map}
 use Rattle.std.proofs.lemmas.List.{length-map}
 use Rattle.config.specs.CircuitPart.{CircuitPart, part_of, source_at, part_in, parts_of}
-use Rattle.config.specs.Topology.{IsTopology, Topology, topology_of}
+use Rattle.config.specs.Membership.{has}
+use Rattle.config.specs.Plans.{PlansValue}
+use Rattle.config.specs.Topology.{IsTopology, Topology, plans_topology, serves}
 use Rattle.settings.specs.Settings.{Settings}
 use Rattle.settings.specs.declared.settings.CircuitConfig.{CircuitConfig}
 use Rattle.dispatch.specs.Leases.{HasRegions, come_back, found_leases, recovered_book, region_leases}
@@ -18,22 +20,25 @@ use Rattle.lossy_net.specs.declared.dir.Dir.{Dir}
 use Rattle.lossy_net.specs.declared.dir.Dir.TheVariants as dir
 use Rattle.world.specs.Alone.{setup_of, start, unsent}
 use Rattle.world.specs.Headline.{Represents}
-use Rattle.world.specs.Start.{IsReadable, Starts, opened, opening_in}
+use Rattle.world.specs.Start.{IsReadable, Starts, begins_on, opened, opening_in}
 use Rattle.world.specs.StepsAs.{Each, IsFor, Returns, IsWorldOf, IsWorld}
 use Rattle.world.specs.World.{WorldValue, state_of, states}
 use Rattle.world.proofs.SetupLemmas.{by_part}
-use Rattle.world.proofs.ShownLemmas.{holds_come_back, start_downs, start_ups}
+use Rattle.world.proofs.ShownLemmas.{holds_come_back, start_downs, start_on, start_ups}
 use Rattle.world.proofs.StateLemmas.{leases_now, state_at}
-use Rattle.world.proofs.WorldLemmas.{states_count}
+use Rattle.world.proofs.WorldLemmas.{on_is_served, plans_are, states_count}
 
 -- ---- a world that was just opened
 
-module _ (settings : Settings) (quota : ℕ) (w : WorldValue) (sound : IsTopology (topology_of settings)) (topology : w.relays.topology ≡ topology_of settings) (served : w.server.topology ≡ topology_of settings)
-    (device : Device) (leases : leases_now w ≡ map (found_leases device.region device.fuse) (parts_of settings))
-    (large : HasRegions (parts_of settings) (length w.disk.regions)) (ready : AreReady (disk.state_of w.disk) w.server)
-    (count : length w.net.circuits ≡ length settings.circuits) (empty : (c : ℕ) (way : Dir) → datagrams w.net c way ≡ []) where
+module _ (plans : PlansValue) (quota : ℕ) (w : WorldValue) (sound : IsTopology (plans_topology plans)) (topology : w.relays.topology ≡ plans_topology plans) (served : w.server.topology ≡ plans_topology plans)
+    (device : Device) (leases : leases_now w ≡ map (found_leases device.region device.fuse) (parts_of plans.union))
+    (large : HasRegions (parts_of plans.union) (length w.disk.regions)) (ready : AreReady (disk.state_of w.disk) w.server)
+    (count : length w.net.circuits ≡ length plans.union.circuits) (empty : (c : ℕ) (way : Dir) → datagrams w.net c way ≡ []) where
+  abbrev settings : Settings
+  settings = plans.union
+
   abbrev t : Topology
-  t = topology_of settings
+  t = plans_topology plans
 
   abbrev regions : ℕ → Region
   regions = device.region
@@ -52,31 +57,35 @@ module _ (settings : Settings) (quota : ℕ) (w : WorldValue) (sound : IsTopolog
     returned = λ c part at. subst (Each (Returns t c part)) (sym (empty c dir.Down)) tt;
   })
 
-  pub starts : w.net.quota ≡ quota → Starts settings quota device (states w)
+  pub starts : w.net.quota ≡ quota → Starts plans quota device (states w)
   starts quotas = record {
     count = states_count w opens ∙ count;
+    members = λ c. (plans_are w opens c) ∙ ap (λ (v : Topology). slice_index_or v.plans.members c []) topology;
+    on = λ c. (on_is_served w opens c) ∙ ap (λ v. serves v c) topology;
     each = λ c setup there readable.
-        by_part (λ s. IsReadable device s → Represents c (states w) s (opened s (opening_in device s))) settings quota c setup there (λ part there readable. at c part there readable) readable;
+        by_part (λ s. IsReadable device s → Represents c (states w) s (opened s (opening_in device s))) plans quota c setup there (λ part there readable. at c part there readable) readable;
   }
     where
       at : (c : ℕ) (part : CircuitPart) → part_in settings c ≡ Some part → (regions part.region).readable ≡ true
-          → Represents c (states w) (setup_of quota part) (start (device.fuse part.region) (recovered_book part (regions part.region).byte) (is_format2 (regions part.region).byte))
+          → Represents c (states w) (setup_of quota part (begins_on plans c)) (start (begins_on plans c) (device.fuse part.region) (recovered_book part (regions part.region).byte) (is_format2 (regions part.region).byte))
       at c part there readable =
           let fault = device.fuse part.region in
           let kept = recovered_book part (regions part.region).byte in
           let two = is_format2 (regions part.region).byte in
           let found = come_back fault kept two in
           let is_found : found_leases regions device.fuse part ≡ found = ap (region_leases part fault (regions part.region)) readable in
-          let begins = holds_come_back fault kept two unsent in
+          let on = begins_on plans c in
+          let begins = holds_come_back fault kept two (unsent on) in
           record {
             state = state_of w c part found;
             there =
                 state_at (state_of w) w.server.topology.circuits (leases_now w) c part found (ap (λ (v : Topology). slice_get v.circuits c) served ∙ there)
                 (ap (λ xs. slice_get xs c) leases ∙ slice_get-map (found_leases regions device.fuse) (parts_of settings) c ∙ ap (option_map (found_leases regions device.fuse)) there ∙ ap Some is_found);
             shows = record {
-              setup_is = λ i. setup_of (quotas i) part;
-              up = empty c dir.Up ∙ sym (start_ups fault kept two);
-              down = empty c dir.Down ∙ sym (start_downs fault kept two);
+              setup_is = λ i. setup_of (quotas i) part (has (topology i).plans 0 c);
+              on = ap (λ v. serves v c) topology ∙ sym (start_on on fault kept two);
+              up = empty c dir.Up ∙ sym (start_ups on fault kept two);
+              down = empty c dir.Down ∙ sym (start_downs on fault kept two);
               book = begins.book;
               restarts = begins.restarts;
               formats = begins.formats;

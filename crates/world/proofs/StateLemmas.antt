@@ -1,6 +1,7 @@
 -- The states of a world, by parts and leases.
-use Rattle.std.proofs.Common.{◌≡◌, ℕ, zero, suc, ◌<◌, false, eqb, List, [], ◌∷◌, length, set, refl, sym, ap, ◌∙◌, arith}
-use Rattle.std.specs.Prelude.{Some, slice_get}
+use Rattle.std.proofs.Common.{◌≡◌, ℕ, zero, suc, ◌<◌, ◌≤◌, Bool, false, eqb, List, [], ◌∷◌, length, set, refl, sym, ap, ◌∙◌, arith}
+use Rattle.std.specs.Prelude.{Option, Some, None, slice_get}
+use Rattle.std.specs.Option.{option_map_or}
 use Rattle.std.proofs.lemmas.Option.{same_Some}
 use Rattle.config.specs.CircuitPart.{CircuitPart}
 use Rattle.dispatch.specs.Leases.{Leases}
@@ -27,6 +28,12 @@ get_set_other (y ∷ ys) zero (suc c) x apart = refl
 get_set_other (y ∷ ys) (suc k) zero x apart = refl
 get_set_other (y ∷ ys) (suc k) (suc c) x apart = get_set_other ys k c x (λ same. apart (ap suc same))
 
+-- what is past the end is not
+pub past_end : {A : Type 0} (xs : List A) (n : ℕ) → length xs ≤ n → slice_get xs n ≡ None
+past_end [] n past = refl
+past_end (x ∷ xs) zero past = absurd (omega (arith, past))
+past_end (x ∷ xs) (suc n) past = past_end xs n (omega (arith, past))
+
 -- what is within a list is there
 pub is_there : {A : Type 0} (xs : List A) (k : ℕ) → k < length xs → (x : A) × (slice_get xs k ≡ Some x)
 is_there [] k h = absurd (omega (arith, h))
@@ -34,6 +41,13 @@ is_there (x ∷ xs) zero h = (x, refl)
 is_there (x ∷ xs) (suc k) h = is_there xs k (omega (arith, h))
 
 -- ---- states
+
+-- which plans have a circuit, and whether it is served, where it is there
+abbrev pub plans_in : Option CircuitState → List Bool
+plans_in slot = option_map_or (λ (state : CircuitState). state.plans) slot []
+
+abbrev pub is_on_in : Option CircuitState → Bool
+is_on_in slot = option_map_or (λ (state : CircuitState). state.on) slot false
 
 pub state_at : (f : ℕ → CircuitPart → Leases → CircuitState) (parts : List CircuitPart) (all : List Leases) (k : ℕ) (p : CircuitPart) (b : Leases)
     → slice_get parts k ≡ Some p → slice_get all k ≡ Some b → slice_get (each_state f parts all) k ≡ Some (f k p b)

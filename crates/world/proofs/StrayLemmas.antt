@@ -1,6 +1,6 @@
 -- What server and relay make of strays.
 use Rattle.std.proofs.Common.{◌≡◌, ℕ, Bool, true, false, List, refl, sym, ◌∙◌}
-use Rattle.std.specs.Prelude.{◌||◌, Option, None, Result, Ok, Err, slice_index}
+use Rattle.std.specs.Prelude.{◌||◌, Option, None, Result, Ok, Err, slice_index, slice_index_or, []}
 use Rattle.types.specs.Addr.{same_source}
 use Rattle.types.specs.Delivery.{DeliveryValue}
 use Rattle.types.specs.declared.addr.Source.{Source}
@@ -14,8 +14,10 @@ use Rattle.dispatch.specs.Server.{Book}
 use Rattle.lease_disk.specs.Device.{Device}
 use Rattle.lossy_net.specs.Net.{NetValue, datagrams}
 use Rattle.lossy_net.specs.declared.dir.Dir.TheVariants.{Up, Down}
+use Rattle.world.specs.Alone.{setup_of}
 use Rattle.world.specs.Headline.{CircuitState}
-use Rattle.config.specs.Topology.{Topology, is_relay, is_server}
+use Rattle.config.specs.Membership.{has}
+use Rattle.config.specs.Topology.{Topology, is_relay, is_server, serves}
 use Rattle.relay.specs.Relays.{CircuitFrame, RelaysValue, relayed_down_in}
 
 either_false : (a b : Bool) → (a || b) ≡ false → (a ≡ false) × (b ≡ false)
@@ -43,7 +45,9 @@ stray_saves topology e books h = rw h refl
 -- a circuit's state, by network, relays and device
 abbrev pub states_over : NetValue → RelaysValue → Device → ℕ → CircuitPart → Leases → CircuitState
 states_over net relays device c part leases = record {
-  setup = record { part = part; quota = net.quota };
+  setup = setup_of net.quota part (has relays.topology.plans 0 c);
+  plans = slice_index_or relays.topology.plans.members c [];
+  on = serves relays.topology c;
   up = datagrams net c Up;
   down = datagrams net c Down;
   discarded = slice_index relays.discarded c;

@@ -1,5 +1,6 @@
 -- The machine of one circuit that has relay, network and server for itself.
 use Rattle.std.specs.Prelude.{ℕ, ◌==◌, ◌&&◌, ◌||◌, nat_le, is_some, Bool, true, false, not, List, [], ◌∷◌, ◌++◌, length, take, slice_get, Option, Some, None, option_map, Result, Ok, Err, if◌then◌else◌}
+use Rattle.std.specs.Option.{option_or}
 use Rattle.types.specs.Delivery.{DeliveryValue}
 use Rattle.types.specs.declared.dest.Proto.{Proto}
 use Rattle.types.specs.declared.discard.Discard.{Discard}
@@ -12,17 +13,17 @@ use Rattle.lease_disk.specs.Layout.{gate_open}
 use Rattle.lossy_net.specs.Net.{Datagram}
 use Rattle.relay.specs.SentFrame.{SentFrame}
 use Rattle.relay.specs.Relays.{relayed_up, relayed_down}
-use Rattle.events.specs.declared.comeback.Comeback.{Comeback}
-use Rattle.events.specs.Seen.{Seen, Frame, Up, Down, Tick, Restart}
+use Rattle.events.specs.Seen.{Seen, Frame, Up, Down, Tick, Restart, Turn}
 
--- What the machine knows: the circuit's part of the configuration, and how many datagrams the network
--- keeps in each direction.
+-- What the machine knows: the circuit's part of the configuration, how many datagrams the network keeps in each
+-- direction, and whether the circuit is on at the start.
 pub record Setup : Type 0 where
   pub part : CircuitPart
   pub quota : ℕ
+  pub begins_on : Bool
 
-abbrev pub setup_of : ℕ → CircuitPart → Setup
-setup_of quota part = record { part = part; quota = quota }
+abbrev pub setup_of : ℕ → CircuitPart → Bool → Setup
+setup_of quota part on = record { part = part; quota = quota; begins_on = on }
 
 -- The format of the circuit's region: 1, 2, or 2 where the byte that says so, which is in doubt, becomes 2.
 pub data Format : Type 0 where
@@ -37,6 +38,8 @@ is_new New byte = true
 is_new Moving byte = byte == 2
 
 pub record Alone : Type 0 where
+  -- whether the circuit is served
+  pub on : Bool
   -- what the network keeps, newest first: towards the server, and towards the relay
   pub up : List Datagram
   pub down : List Datagram
@@ -48,25 +51,25 @@ pub record Alone : Type 0 where
   pub doubt : Option Book
   pub format : Format
 
--- The call of the device that fails in a move, from 1 to 4. Any other number is none.
-abbrev pub is_move_fault : ℕ → Bool
-is_move_fault fault = nat_le 1 fault && nat_le fault 4
+-- The call of the device that fails, from 1 on, of so many. Any other number is none.
+abbrev pub is_fault : ℕ → ℕ → Bool
+is_fault calls fault = nat_le 1 fault && nat_le fault calls
 
 -- What a region holds comes back: a book, or none where it is damaged, in format 2 or in format 1. A book in format 1 is
--- moved to format 2. Where that fails, the circuit is closed, and the region holds the book all the same; from the third
--- call on the format is in doubt.
+-- moved to format 2, by four calls of the device. Where one of them fails, the circuit is closed, and the region holds the
+-- book all the same; from the third call on the format is in doubt.
 abbrev pub come_back : ℕ → Option Book → Bool → Alone → Alone
 come_back fault kept two a =
     if two || not (is_some kept) then record a { book = kept; kept = kept; doubt = None; format = if two then New else Old }
-    else if is_move_fault fault then record a { book = None; kept = kept; doubt = None; format = if nat_le 3 fault then Moving else Old }
+    else if is_fault 4 fault then record a { book = None; kept = kept; doubt = None; format = if nat_le 3 fault then Moving else Old }
     else record a { book = kept; kept = kept; doubt = None; format = New }
 
 -- At the start nothing was sent. The circuit begins with the book that its region holds.
-abbrev pub unsent : Alone
-unsent = record { up = []; down = []; book = None; kept = None; doubt = None; format = New }
+abbrev pub unsent : Bool → Alone
+unsent on = record { on = on; up = []; down = []; book = None; kept = None; doubt = None; format = New }
 
-abbrev pub start : ℕ → Option Book → Bool → Alone
-start fault kept two = come_back fault kept two unsent
+abbrev pub start : Bool → ℕ → Option Book → Bool → Alone
+start on fault kept two = come_back fault kept two (unsent on)
 
 -- What an event does.
 pub data Effect : Type 0 where
@@ -98,16 +101,12 @@ abbrev pub answer_step : Setup → Alone → Proto → Result (List ℕ) Discard
 answer_step setup a proto (Err why) = record { effect = Dropped why; next = a }
 answer_step setup a proto (Ok bytes) = record { effect = SentDown (length bytes); next = record a { down = with_newest setup.quota proto bytes a.down } }
 
--- The call of the device that fails in a save, from 1 to 6. Any other number is none.
-abbrev pub is_fault : ℕ → Bool
-is_fault fault = nat_le 1 fault && nat_le fault 6
-
--- What changes more than offers is saved before the reply leaves. A save that fails closes the circuit;
--- where its fifth or sixth call failed, the new book is in doubt.
+-- What changes more than offers is saved before the reply leaves, by six calls of the device. A save that fails closes
+-- the circuit; where its fifth or sixth call failed, the new book is in doubt.
 abbrev pub served_step : Setup → ℕ → Alone → Proto → Served → Step
 served_step setup fault a proto done =
     if not done.is_kept then answer_step setup (record a { book = Some done.book }) proto done.answer
-    else if is_fault fault then record {
+    else if is_fault 6 fault then record {
       effect = Dropped DiskFault;
       next = record a { book = None; doubt = if nat_le 5 fault then Some (kept_book done.book) else a.doubt };
     }
@@ -135,30 +134,34 @@ abbrev pub down_step : Setup → Alone → Option Datagram → Step
 down_step setup a None = record { effect = Gone; next = a }
 down_step setup a (Some d) = reply_step a (relayed_down setup.part d.proto d.bytes)
 
-abbrev pub or_kept : Option Book → Option Book → Option Book
-or_kept None kept = kept
-or_kept (Some doubt) kept = Some doubt
-
 -- What a restart finds where each unsynced byte became this one: the book in doubt where its gate then
 -- reads open, and else the kept one.
 abbrev pub found : ℕ → Alone → Option Book
-found byte a = if byte == gate_open then or_kept a.doubt a.kept else a.kept
+found byte a = if byte == gate_open then option_or a.doubt a.kept else a.kept
 
 -- A region that cannot be read closes the circuit, and what was in doubt stays so.
-abbrev pub with_image : ℕ → Image → Alone → Alone
-with_image fault (Byte byte) a = come_back fault (found byte a) (is_new a.format byte) a
-with_image fault Unreadable a = record a { book = None }
+abbrev pub after_restart : ℕ → Image → Alone → Alone
+after_restart fault (Byte byte) a = come_back fault (found byte a) (is_new a.format byte) a
+after_restart fault Unreadable a = record a { book = None }
 
-abbrev pub after_restart : Comeback → Alone → Alone
-after_restart comeback a = with_image comeback.move_fault comeback.image a
+-- A circuit that turns off loses what the network keeps of it, and its offers. It keeps all else, and begins with it when it
+-- turns on again.
+abbrev pub turned : Bool → Alone → Alone
+turned true a = record a { on = true }
+turned false a = record a { on = false; up = []; down = []; book = option_map kept_book a.book }
+
+-- while it is off nothing reaches its relay or its server
+abbrev pub if_on : Alone → Step → Step
+if_on a step = if a.on then step else record { effect = Gone; next = a }
 
 -- One event.
 unfoldable pub alone_step : Setup → Seen → Alone → Step
-alone_step setup (Frame proto frame) a = frame_step setup a proto (relayed_up setup.part proto frame)
-alone_step setup (Up j now fault) a = up_step setup now fault a (slice_get a.up j)
-alone_step setup (Down j) a = down_step setup a (slice_get a.down j)
+alone_step setup (Frame proto frame) a = if_on a (frame_step setup a proto (relayed_up setup.part proto frame))
+alone_step setup (Up j now fault) a = if_on a (up_step setup now fault a (slice_get a.up j))
+alone_step setup (Down j) a = if_on a (down_step setup a (slice_get a.down j))
 alone_step setup (Tick now) a = record { effect = Done; next = record a { book = option_map (book_at now) a.book } }
-alone_step setup (Restart comeback) a = record { effect = Done; next = after_restart comeback a }
+alone_step setup (Restart comeback) a = record { effect = Done; next = after_restart comeback.move_fault comeback.image a }
+alone_step setup (Turn on) a = record { effect = Done; next = turned on a }
 
 -- Whether an event writes to the circuit's region: by a save, whether it fails or not, or by the crash and the move of
 -- a restart.
@@ -173,10 +176,11 @@ up_writes setup now book (Some d) = book_writes setup now d book
 
 abbrev pub writes : Setup → Seen → Alone → Bool
 writes setup (Frame proto frame) a = false
-writes setup (Up j now fault) a = up_writes setup now a.book (slice_get a.up j)
+writes setup (Up j now fault) a = a.on && up_writes setup now a.book (slice_get a.up j)
 writes setup (Down j) a = false
 writes setup (Tick now) a = false
 writes setup (Restart comeback) a = true
+writes setup (Turn on) a = false
 
 -- the frame that leaves with an effect, if one does
 abbrev pub sent_frame : Effect → List SentFrame

@@ -1,11 +1,11 @@
 -- The words of the headline: when the state of a circuit in the world represents the circuit's machine,
 -- what a step and a run of the world do, and which frames leave towards a circuit.
-use Rattle.std.specs.Prelude.{◌≡◌, ◌≢◌, ℕ, ◌+◌, ◌<◌, ◌≤◌, List, [], ◌∷◌, ◌++◌, length, take, slice_get, Option, Some, None, option_map, true, false, ◌==◌, if◌then◌else◌}
+use Rattle.std.specs.Prelude.{◌≡◌, ℕ, ◌+◌, ◌<◌, ◌≤◌, List, [], ◌∷◌, ◌++◌, length, take, slice_get, Bool, Option, Some, None, option_map, true, false, ◌==◌, if◌then◌else◌}
 use Rattle.std.specs.List.{filter_map}
-use Rattle.config.specs.CircuitPart.{CircuitPart}
+use Rattle.std.specs.Option.{option_map_or}
+use Rattle.config.specs.Topology.{Topology, reloaded}
 use Rattle.dispatch.specs.Leases.{Leases}
 use Rattle.dispatch.specs.Server.{Book}
-use Rattle.lease_disk.specs.Device.{Device}
 use Rattle.lease_disk.specs.Region.{Region}
 use Rattle.lossy_net.specs.Net.{Datagram}
 use Rattle.relay.specs.SentFrame.{SentFrame}
@@ -15,14 +15,16 @@ use Rattle.events.specs.declared.event.Event.TheVariants as event
 use Rattle.events.specs.declared.outcome.Outcome.{Outcome}
 use Rattle.events.specs.declared.outcome.Outcome.TheVariants as outcome
 use Rattle.world.specs.Alone.{Setup, Alone, Effect, Dropped, Gone, SentUp, SentDown, Framed, Done, alone_step, after_all, found, frames, is_new, writes}
-use Rattle.events.specs.Seen.{Seen, seen_of, seen_by, named_by, is_restart}
+use Rattle.events.specs.Seen.{Seen, seen_of, seen_by, named_by, is_on_after, is_restart, reload_of}
 use Rattle.events.specs.Stray.{is_stray}
 
 -- All that the world has of one circuit: its part of the configuration and the quota, what the network
 -- keeps of it, how many of its frames the relay discarded, what its server and its region hold, and which
--- call of the device from now on fails for its region.
+-- call of the device from now on fails for its region; which plans have it, and whether it is served.
 pub record CircuitState : Type 0 where
   pub setup : Setup
+  pub plans : List Bool
+  pub on : Bool
   pub up : List Datagram
   pub down : List Datagram
   pub discarded : ℕ
@@ -33,12 +35,12 @@ pub record CircuitState : Type 0 where
 -- A circuit's state shows this machine, set up like this.
 pub record Shows (state : CircuitState) (setup : Setup) (a : Alone) : Type 0 where
   pub setup_is : state.setup ≡ setup
+  pub on : state.on ≡ a.on
   pub up : state.up ≡ a.up
   pub down : state.down ≡ a.down
   pub book : state.leases.book ≡ a.book
-  -- whatever each unsynced byte becomes, a restart finds in the region what the machine finds
+  -- whatever each unsynced byte becomes, a restart finds in the region what the machine finds, and in the same format
   pub restarts : (byte : ℕ) → state.leases.restarts byte ≡ found byte a
-  -- and whether the region is of format 2
   pub formats : (byte : ℕ) → state.leases.is_new byte ≡ is_new a.format byte
   -- an open circuit has no book in doubt
   pub sure : (b : Book) → a.book ≡ Some b → a.doubt ≡ None
@@ -49,12 +51,23 @@ pub record Represents (c : ℕ) (states : List CircuitState) (setup : Setup) (a 
   pub there : slice_get states c ≡ Some state
   pub shows : Shows state setup a
 
--- the frames of circuit c among all that left, in order
-abbrev pub towards : ℕ → CircuitFrame → Option SentFrame
-towards c sent = if sent.circuit == c then Some sent.frame else None
+-- which plans have circuit c, and whether it is served
+abbrev pub plans_at : ℕ → List CircuitState → List Bool
+plans_at c states = option_map_or (λ (state : CircuitState). state.plans) (slice_get states c) []
 
+abbrev pub is_on_at : ℕ → List CircuitState → Bool
+is_on_at c states = option_map_or (λ (state : CircuitState). state.on) (slice_get states c) false
+
+-- what circuit c then sees of an event, and of a run
+abbrev pub seen_at : ℕ → List CircuitState → Event → Option Seen
+seen_at c states e = seen_of (plans_at c states) c (is_on_at c states) e
+
+abbrev pub seen_from : ℕ → List CircuitState → List Event → List Seen
+seen_from c states events = seen_by (plans_at c states) c (is_on_at c states) events
+
+-- the frames of circuit c among all that left, in order
 abbrev pub frames_to : ℕ → List CircuitFrame → List SentFrame
-frames_to c sent = filter_map (towards c) sent
+frames_to c sent = filter_map (λ (one : CircuitFrame). if one.circuit == c then Some one.frame else None) sent
 
 -- the frame of a step's outcome, whose bytes are in `out`
 abbrev pub frame_of : Outcome → List ℕ → List CircuitFrame
@@ -65,6 +78,7 @@ frame_of (outcome.SentUp len) out = []
 frame_of (outcome.SentDown len) out = []
 frame_of outcome.Done out = []
 frame_of outcome.NotAStray out = []
+frame_of outcome.NoPlan out = []
 
 -- An effect of circuit c's machine as an outcome, with what `out` then holds.
 abbrev pub IsOutcome : ℕ → Effect → Outcome → List ℕ → Type 0
@@ -87,66 +101,67 @@ after_seen setup (Some s) a = (alone_step setup s a).next
 abbrev pub region_at : ℕ → List CircuitState → Option Region
 region_at c states = option_map (λ (state : CircuitState). state.region) (slice_get states c)
 
+-- What comes of a reload of plan k, by whether there is such a plan, which each circuit says.
+pub record IsReloaded (k : ℕ) (old new : List CircuitState) (o : Outcome) (out : List ℕ) : Type 0 where
+  pub done : (c : ℕ) (has : Bool) → slice_get (plans_at c old) k ≡ Some has → o ≡ outcome.Done
+  pub no_plan : (c : ℕ) → c < length old → slice_get (plans_at c old) k ≡ None → (o ≡ outcome.NoPlan) × (new ≡ old)
+  pub silent : (frame_of o out ≡ []) × (out ≡ [])
+
 -- One event, taken whole.
 pub record Steps (e : Event) (old new : List CircuitState) (o : Outcome) (out : List ℕ) : Type 0 where
   pub count : length new ≡ length old
+  -- which plans have a circuit stays, and a reload turns it
+  pub plans : (c : ℕ) → plans_at c new ≡ plans_at c old
+  pub turns : (c : ℕ) → is_on_at c new ≡ is_on_after (plans_at c old) (is_on_at c old) e
   -- a state that represents a machine represents it after what its circuit saw
-  pub each : (c : ℕ) (setup : Setup) (a : Alone) → Represents c old setup a → Represents c new setup (after_seen setup (seen_of c e) a)
+  pub each : (c : ℕ) (setup : Setup) (a : Alone) → Represents c old setup a → Represents c new setup (after_seen setup (seen_at c old e) a)
   -- and the outcome is the machine's
-  pub answers : (c : ℕ) (setup : Setup) (a : Alone) → Represents c old setup a → Answers c setup (seen_of c e) a o out
+  pub answers : (c : ℕ) (setup : Setup) (a : Alone) → Represents c old setup a → Answers c setup (seen_at c old e) a o out
   -- a circuit that sees an event that saves nothing keeps its region byte for byte
-  pub quiet : (c : ℕ) (setup : Setup) (a : Alone) (s : Seen) → Represents c old setup a → seen_of c e ≡ Some s → writes setup s a ≡ false → region_at c new ≡ region_at c old
+  pub quiet : (c : ℕ) (setup : Setup) (a : Alone) (s : Seen) → Represents c old setup a → seen_at c old e ≡ Some s → writes setup s a ≡ false → region_at c new ≡ region_at c old
   -- what a circuit doesn't see leaves its state as it was
-  pub others : (c : ℕ) → seen_of c e ≡ None → slice_get new c ≡ slice_get old c
+  pub others : (c : ℕ) → seen_at c old e ≡ None → slice_get new c ≡ slice_get old c
   -- and no frame leaves towards it
-  pub away : (c : ℕ) → seen_of c e ≡ None → frames_to c (frame_of o out) ≡ []
+  pub away : (c : ℕ) → seen_at c old e ≡ None → frames_to c (frame_of o out) ≡ []
   -- an event of a circuit that doesn't exist is gone, and nothing changes
   pub gone : (c : ℕ) → named_by e ≡ Some c → length old ≤ c → (o ≡ outcome.Gone) × (out ≡ []) × (new ≡ old)
   -- a tick is done
   pub ticked : (now : ℕ) → e ≡ event.Tick now → (o ≡ outcome.Done) × (out ≡ [])
   -- and so is a restart, which names no circuit either
   pub restarted : is_restart e ≡ true → (o ≡ outcome.Done) × (out ≡ [])
+  -- and a reload, where there is such a plan; else nothing changes
+  pub reloaded : (k : ℕ) → reload_of e ≡ Some k → IsReloaded k old new o out
   -- a stray changes nothing, and nothing leaves with it
   pub stray : is_stray e ≡ true → (frame_of o out ≡ []) × (out ≡ []) × (new ≡ old)
 
--- no circuit's region
-abbrev pub IsSpare : List CircuitPart → ℕ → Type 0
-IsSpare parts r = (c : ℕ) (part : CircuitPart) → slice_get parts c ≡ Some part → part.region ≢ r
-
--- The regions of no circuit stay as they were, and so do their fuses.
-pub record KeepsSpares (parts : List CircuitPart) (old new : Device) : Type 0 where
-  pub region : (r : ℕ) → IsSpare parts r → new.region r ≡ old.region r
-  pub fuse : (r : ℕ) → IsSpare parts r → new.fuse r ≡ old.fuse r
+-- what relays and server know after it
+abbrev pub topology_after : Event → Topology → Topology
+topology_after (event.Reload plan) topology = reloaded plan topology
+topology_after e topology = topology
 
 -- A run reaches these states: each represents its machine after all that its circuit saw.
 pub record Reaches (events : List Event) (start now : List CircuitState) : Type 0 where
   pub count : length now ≡ length start
-  pub each : (c : ℕ) (setup : Setup) (a : Alone) → Represents c start setup a → Represents c now setup (after_all setup (seen_by c events) a)
+  pub plans : (c : ℕ) → plans_at c now ≡ plans_at c start
+  pub each : (c : ℕ) (setup : Setup) (a : Alone) → Represents c start setup a → Represents c now setup (after_all setup (seen_from c start events) a)
 
 -- These are the frames of a run: towards each circuit those of its machine, on what it saw, and none
 -- towards a circuit that doesn't exist.
 pub record AreFrames (events : List Event) (start : List CircuitState) (sent : List CircuitFrame) : Type 0 where
-  pub each : (c : ℕ) (setup : Setup) (a : Alone) → Represents c start setup a → frames_to c sent ≡ frames setup (seen_by c events) a
+  pub each : (c : ℕ) (setup : Setup) (a : Alone) → Represents c start setup a → frames_to c sent ≡ frames setup (seen_from c start events) a
   pub past : (c : ℕ) → length start ≤ c → frames_to c sent ≡ []
 
--- The first of these frames are those of a run.
-pub record BeginsWith (events : List Event) (start : List CircuitState) (sent : List CircuitFrame) : Type 0 where
-  pub first : List CircuitFrame
-  pub rest : List CircuitFrame
-  pub split : sent ≡ first ++ rest
-  pub are_frames : AreFrames events start first
-
--- A sink that had taken some frames has taken those of the run too, in the order of the events: the
--- frames of the first n events precede those of the others, for every n.
+-- A sink that had taken some frames has taken those of the run too, in the order of the events: for every n
+-- the frames of the first n events are the first of those that left.
 pub record Emits (events : List Event) (start : List CircuitState) (before now : List CircuitFrame) : Type 0 where
   pub sent : List CircuitFrame
   pub taken : now ≡ before ++ sent
   pub are_frames : AreFrames events start sent
-  pub in_order : (n : ℕ) → BeginsWith (take n events) start sent
+  pub in_order : (n : ℕ) → (m : ℕ) × AreFrames (take n events) start (take m sent)
 
 -- With event n one more frame leaves, towards a circuit that exists.
 pub record EmitsAt (n : ℕ) (events : List Event) (start : List CircuitState) : Type 0 where
   pub circuit : ℕ
   pub there : circuit < length start
   pub more : (setup : Setup) (a : Alone) → Represents circuit start setup a
-      → length (frames setup (seen_by circuit (take (n + 1) events)) a) ≡ length (frames setup (seen_by circuit (take n events)) a) + 1
+      → length (frames setup (seen_from circuit start (take (n + 1) events)) a) ≡ length (frames setup (seen_from circuit start (take n events)) a) + 1

@@ -1,6 +1,8 @@
 -- What shows of a world: a state for each circuit.
-use Rattle.std.specs.Prelude.{ℕ, suc, List, [], ◌∷◌, slice_index}
+use Rattle.std.specs.Prelude.{ℕ, suc, List, [], ◌∷◌, slice_index, slice_index_or}
 use Rattle.config.specs.CircuitPart.{CircuitPart}
+use Rattle.config.specs.Membership.{has}
+use Rattle.config.specs.Topology.{serves}
 use Rattle.dispatch.specs.Leases.{Leases}
 use Rattle.dispatch.specs.ServerValue.{ServerValue, leases_in}
 use Rattle.lease_disk.specs.Model.{ModelDiskValue}
@@ -8,7 +10,6 @@ use Rattle.lease_disk.specs.Model as disk
 use Rattle.lossy_net.specs.Net.{NetValue, datagrams}
 use Rattle.lossy_net.specs.declared.dir.Dir.TheVariants.{Up, Down}
 use Rattle.relay.specs.Relays.{RelaysValue}
-use Rattle.world.specs.Alone.{setup_of}
 use Rattle.world.specs.Headline.{CircuitState}
 
 pub record WorldValue : Type 0 where
@@ -20,7 +21,9 @@ pub record WorldValue : Type 0 where
 -- circuit c's state, with its part of the configuration and its leases
 abbrev pub state_of : WorldValue → ℕ → CircuitPart → Leases → CircuitState
 state_of w c part leases = record {
-  setup = setup_of w.net.quota part;
+  setup = record { part = part; quota = w.net.quota; begins_on = has w.relays.topology.plans 0 c };
+  plans = slice_index_or w.relays.topology.plans.members c [];
+  on = serves w.relays.topology c;
   up = datagrams w.net c Up;
   down = datagrams w.net c Down;
   discarded = slice_index w.relays.discarded c;

@@ -6,16 +6,16 @@ ghost use Rattle.types.specs.declared.dest.Proto.TheVariants.{V6};
 ghost use Rattle.config.specs.CircuitPart.{CircuitPart, IsPart};
 ghost use Rattle.requests.specs.Addressee.{addressee};
 ghost use Rattle.dispatch.specs.Server.{Book, served};
-ghost use Rattle.config.specs.Topology.{Topology, is_relay, listen};
+ghost use Rattle.config.specs.Topology.{Topology, is_relay, listen, serves};
 ghost use Rattle.relay.specs.Relays.{for_circuit, relayed_down, relayed_down_in, relayed_up};
 ghost use Rattle.wire.specs.Bytes.{AreBytes};
 ghost use Rattle.world.specs.StepsAs.{IsDue};
 
-/// What the relay sends up for a circuit is that circuit's at the server, at any moment, among any circuits of which
-/// no other has its id, and any relays of which one is its own.
+/// What the relay sends up for a circuit is that circuit's at the server that serves it, at any moment, among any
+/// circuits of which no other has its id, and any relays of which one is its own.
 pub fn comes_to_its_circuit()
     ensures { (topology : Topology) (c : ℕ) (part : CircuitPart) (proto : Proto) (now : ℕ) (frame datagram : List ℕ)
-        → slice_get topology.circuits c ≡ Some part
+        → slice_get topology.circuits c ≡ Some part → serves topology c ≡ true
         → ((d : ℕ) (other : CircuitPart) → slice_get topology.circuits d ≡ Some other → other.id ≡ part.id → d ≡ c)
         → is_relay topology part.relay ≡ true → IsPart part → AreBytes frame
         → relayed_up part proto frame ≡ Ok datagram → addressee topology (delivery proto part.relay now datagram) ≡ Ok c }
@@ -23,12 +23,12 @@ pub fn comes_to_its_circuit()
     relay::laws::forward_is_read();
 }
 
-/// What the server answers to a circuit's datagram comes down to that circuit, by the relay behind which
-/// it is, as the circuit's own part makes it. For DHCPv6 the server's two addresses have to differ, as in
+/// What the server answers to the datagram of a circuit that is served comes down to that circuit, by the relay behind
+/// which it is, as the circuit's own part makes it. For DHCPv6 the server's two addresses have to differ, as in
 /// every configuration, and the answer has to fit a datagram, as every one that the server writes does.
 pub fn reply_comes_to_its_circuit()
     ensures { (topology : Topology) (relay c : ℕ) (part : CircuitPart) (d : DeliveryValue) (bytes : List ℕ) (b : Book)
-        → slice_get topology.circuits c ≡ Some part
+        → slice_get topology.circuits c ≡ Some part → serves topology c ≡ true
         → ((d : ℕ) (other : CircuitPart) → slice_get topology.circuits d ≡ Some other → other.id ≡ part.id → d ≡ c)
         → slice_get topology.relays relay ≡ Some part.relay → IsPart part → AreBytes d.bytes
         → addressee topology (delivery d.proto part.relay d.moment d.bytes) ≡ Ok c → (served part d b).answer ≡ Ok bytes

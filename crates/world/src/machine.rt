@@ -2,7 +2,8 @@
 ghost use Rattle.std.specs.Prelude.{◌≡◌, ◌+◌, ◌<◌, List, ◌++◌, length, take, true, false, IfErr, IfSome, OnOk};
 ghost use Rattle.lease_disk.specs.Device.{Device};
 ghost use Rattle.config.specs.Topology.{Topology};
-ghost use Rattle.world.specs.Headline.{CircuitState, EmitsAt, Emits, KeepsSpares, Reaches, Steps, frame_of};
+ghost use Rattle.dispatch.specs.Leases.{KeepsOthers};
+ghost use Rattle.world.specs.Headline.{CircuitState, EmitsAt, Emits, Reaches, Steps, frame_of, topology_after};
 ghost use Rattle.events.specs.Stray.{stray_outcome};
 
 use crate::sink::Sink;
@@ -14,7 +15,7 @@ pub trait Machine {
     /// The state of each circuit.
     ghost states: { Self → List CircuitState };
 
-    /// What the relays know of the configuration.
+    /// What the relays know of the configurations, and which is in force.
     ghost topology: { Self → Topology };
 
     /// The device of the circuits' regions.
@@ -24,8 +25,8 @@ pub trait Machine {
     fn step(&mut self, event: &Event<'_>, out: &mut PacketBuf) -> Outcome
         ensures steps { Steps event.now (states self.old) (states self.new) result out.new }
         ensures stray { IfSome (stray_outcome (topology self.old) event.now) (λ expected. result ≡ expected) }
-        ensures topology { topology self.new ≡ topology self.old }
-        ensures spares { KeepsSpares (topology self.old).circuits (device self.old) (device self.new) };
+        ensures topology { topology self.new ≡ topology_after event.now (topology self.old) }
+        ensures spares { KeepsOthers (topology self.old).circuits (device self.old) (device self.new) };
 }
 
 /// Hands the frame of an outcome to the sink, if there is one.
@@ -44,6 +45,7 @@ fn deliver<S: Sink>(outcome: Outcome, out: &PacketBuf, sink: &mut S) -> bool
         Outcome::SentDown(_) => true,
         Outcome::Done => true,
         Outcome::NotAStray => true,
+        Outcome::NoPlan => true,
     }
 }
 
@@ -56,7 +58,7 @@ pub fn run<M: Machine, S: Sink>(
 ) -> Result<(), usize>
     ensures frames { OnOk result (Emits events.now (M.states machine.old) (S.taken sink.old) (S.taken sink.new)) }
     ensures reaches { OnOk result (Reaches events.now (M.states machine.old) (M.states machine.new)) }
-    ensures spares { KeepsSpares (M.topology machine.old).circuits (M.device machine.old) (M.device machine.new) }
+    ensures spares { KeepsOthers (M.topology machine.old).circuits (M.device machine.old) (M.device machine.new) }
     ensures quiet { OnOk result (S.refusals sink.new ≡ S.refusals sink.old) }
 
     // The sink refused the frame of event n: it has those of the events before, and the machine has

@@ -1,24 +1,29 @@
 //! A world: its relays, the network, the server and a disk.
-ghost use Rattle.std.specs.Prelude.{◌≡◌, ℕ, ◌+◌, ◌<◌, ◌≤◌, [], Some, length, nat_lt, slice_get, take, IfOk, IfErr, IfSome, OnOk};
+ghost use Rattle.std.specs.Prelude.{◌≡◌, ℕ, ◌+◌, ◌<◌, ◌≤◌, [], Some, length, nat_lt, if◌then◌else◌, slice_get, take, IfOk, IfErr, IfSome, OnOk};
 ghost use Rattle.config.specs.CircuitPart.{CircuitPart, parts_of};
-ghost use Rattle.dispatch.specs.Leases.{AreBroughtUp, AreSynced, HasRegions};
+ghost use Rattle.dispatch.specs.Leases.{AreBroughtUp, AreSynced, HasRegions, KeepsOthers};
 ghost use Rattle.dispatch.specs.declared.server.OpenFault.TheVariants as fault;
 ghost use Rattle.lease_disk.specs.Crash.{crashed};
 ghost use Rattle.lease_disk.specs.Model.{device_of, fuse_of, state_of};
-ghost use Rattle.config.specs.Topology.{RegionsDiffer, topology_of};
-ghost use Rattle.world.specs.Headline.{EmitsAt, Emits, KeepsSpares, Reaches, Steps, frame_of};
+ghost use Rattle.config.specs.Plans.{one_plan};
+ghost use Rattle.config.specs.Topology.{RegionsDiffer, plans_topology, reloaded, topology_of};
+ghost use Rattle.lossy_net.specs.Net.{datagrams};
+ghost use Rattle.lossy_net.specs.declared.dir.Dir.{Dir};
+ghost use Rattle.world.specs.Headline.{EmitsAt, Emits, Reaches, Steps, frame_of, topology_after};
 ghost use Rattle.events.specs.Seen.{Frame, Up, Down, Tick, Restart, comeback_at};
+ghost use Rattle.events.specs.declared.event.Event as event;
+ghost use Rattle.events.specs.declared.event.Event.TheVariants as events;
 ghost use Rattle.events.specs.declared.outcome.Outcome.TheVariants as outcome;
 ghost use Rattle.world.specs.Start.{Starts};
 ghost use Rattle.events.specs.Stray.{stray_outcome, stray_down_outcome, stray_up_outcome};
-ghost use Rattle.world.specs.StepsAs.{AllMove, Moves};
+ghost use Rattle.world.specs.StepsAs.{AllMove, IsWorld, Moves, turns_off};
 ghost use Rattle.world.specs.World.{states};
 ghost use Rattle.wire.specs.Bytes.{AreBytes};
 
 use crate::addressed::{comes_to_its_circuit, reply_comes_to_its_circuit};
 use crate::machine::{Machine, run};
 use crate::sink::Sink;
-use config::Config;
+use config::{Config, Plans};
 use dispatch::{OpenFault, Server};
 use events::{Comeback, Event, Outcome};
 use lease_disk::{Image, ModelDisk};
@@ -49,7 +54,7 @@ impl Model for World {
     ghost invariant = { λ w. IsWorld (record { relays = w.relays; net = w.net; server = w.server; disk = w.disk }) };
 }
 
-/// There is no such circuit.
+/// There is no such circuit, or it is not served.
 fn gone(out: &mut PacketBuf) -> Outcome
     ensures gone { result ≡ outcome.Gone }
     ensures empty { out.new ≡ [] }
@@ -73,7 +78,7 @@ fn crash_all(server: &Server, disk: &mut ModelDisk, comebacks: &[Comeback])
     ensures faults { (c : ℕ) (part : CircuitPart) → slice_get server.now.topology.circuits c ≡ Some part
         → fuse_of disk.new part.region ≡ (comeback_at c comebacks.now).move_fault }
     ensures count { length disk.new.regions ≡ length disk.old.regions }
-    ensures spares { KeepsSpares server.now.topology.circuits (device_of disk.old) (device_of disk.new) }
+    ensures spares { KeepsOthers server.now.topology.circuits (device_of disk.old) (device_of disk.new) }
 {
     'circuits: for index in 0..server.circuit_count() {
         let circuit = Circuit::at(index);
@@ -94,10 +99,26 @@ fn clear_faults(server: &Server, disk: &mut ModelDisk)
     ensures states { state_of disk.new ≡ state_of disk.old }
     ensures faults { (c : ℕ) (part : CircuitPart) → slice_get server.now.topology.circuits c ≡ Some part → fuse_of disk.new part.region ≡ 0 }
     ensures count { length disk.new.regions ≡ length disk.old.regions }
-    ensures spares { KeepsSpares server.now.topology.circuits (device_of disk.old) (device_of disk.new) }
+    ensures spares { KeepsOthers server.now.topology.circuits (device_of disk.old) (device_of disk.new) }
 {
     'circuits: for index in 0..server.circuit_count() {
         disk.fail_at(server.part(Circuit::at(index)).region(), 0);
+    }
+}
+
+/// Loses what the network keeps of each circuit that a plan turns off.
+fn clear_all(relays: &Relays, net: &mut Net, plan: u8)
+    requires few { length relays.now.topology.circuits ≤ 1024 }
+    requires count { length net.old.circuits ≡ length relays.now.topology.circuits }
+    ensures queues { (c : ℕ) (dir : Dir) → datagrams net.new c dir ≡ (if turns_off relays.now.topology plan c then [] else datagrams net.old c dir) }
+    ensures count { length net.new.circuits ≡ length net.old.circuits }
+    ensures quota { net.new.quota ≡ net.old.quota }
+{
+    'circuits: for index in 0..net.circuit_count() {
+        let circuit = Circuit::at(index);
+        if relays.serves(circuit) && !relays.serves_in(plan, circuit) {
+            net.clear(circuit);
+        }
     }
 }
 
@@ -115,10 +136,10 @@ impl World {
         requires some { 1 ≤ quota }
         requires most { quota ≤ 256 }
         requires synced { AreSynced (parts_of config.now) (state_of disk) }
-        ensures starts { IfOk result (λ world. Starts config.now quota (device_of disk) (states world)) }
+        ensures starts { IfOk result (λ world. Starts (one_plan config.now) quota (device_of disk) (states world)) }
         ensures topology { IfOk result (λ world. world.relays.topology ≡ topology_of config.now) }
         ensures regions { IfOk result (λ world. AreBroughtUp (parts_of config.now) (device_of disk) (device_of world.disk)) }
-        ensures others { IfOk result (λ world. KeepsSpares (parts_of config.now) (device_of disk) (device_of world.disk)) }
+        ensures others { IfOk result (λ world. KeepsOthers (parts_of config.now) (device_of disk) (device_of world.disk)) }
         ensures faults { IfOk result (λ world. (c : ℕ) (part : CircuitPart) → slice_get (parts_of config.now) c ≡ Some part → fuse_of world.disk part.region ≡ 0) }
         ensures small { IfErr result (λ why. why ≡ fault.DiskTooSmall → ¬ HasRegions (parts_of config.now) (length disk.regions)) }
         ensures large { IfOk result (λ world. HasRegions (parts_of config.now) (length disk.regions)) }
@@ -129,17 +150,61 @@ impl World {
         let Ok(net) = Net::new(alloc, config.circuit_count(), usize::from(quota)) else {
             return Err(OpenFault::Memory);
         };
-        let server = match Server::open(alloc, config, &mut disk) {
-            Ok(server) => server,
-            Err(why) => return Err(why),
+        match Server::open(alloc, config, &mut disk) {
+            Ok(server) => Ok(World::over(relays, net, server, disk)),
+            Err(why) => Err(why),
+        }
+    }
+
+    /// The same for several plans, of which the first is in force. The regions of all their circuits are recovered.
+    pub fn open_plans(
+        alloc: Global,
+        plans: &Plans,
+        mut disk: ModelDisk,
+        quota: u16,
+    ) -> Result<World, OpenFault>
+        requires some { 1 ≤ quota }
+        requires most { quota ≤ 256 }
+        requires synced { AreSynced (parts_of plans.now.union) (state_of disk) }
+        ensures starts { IfOk result (λ world. Starts plans.now quota (device_of disk) (states world)) }
+        ensures topology { IfOk result (λ world. world.relays.topology ≡ plans_topology plans.now) }
+        ensures regions { IfOk result (λ world. AreBroughtUp (parts_of plans.now.union) (device_of disk) (device_of world.disk)) }
+        ensures others { IfOk result (λ world. KeepsOthers (parts_of plans.now.union) (device_of disk) (device_of world.disk)) }
+        ensures faults { IfOk result (λ world. (c : ℕ) (part : CircuitPart) → slice_get (parts_of plans.now.union) c ≡ Some part → fuse_of world.disk part.region ≡ 0) }
+        ensures small { IfErr result (λ why. why ≡ fault.DiskTooSmall → ¬ HasRegions (parts_of plans.now.union) (length disk.regions)) }
+        ensures large { IfOk result (λ world. HasRegions (parts_of plans.now.union) (length disk.regions)) }
+    {
+        let Ok(relays) = Relays::new_plans(alloc, plans) else {
+            return Err(OpenFault::Memory);
         };
+        let count = plans.union().circuit_count();
+        let Ok(net) = Net::new(alloc, count, usize::from(quota)) else {
+            return Err(OpenFault::Memory);
+        };
+        match Server::open_plans(alloc, plans, &mut disk) {
+            Ok(server) => Ok(World::over(relays, net, server, disk)),
+            Err(why) => Err(why),
+        }
+    }
+
+    /// A world of these, in which no call of the disk fails.
+    fn over(relays: Relays, net: Net, server: Server, mut disk: ModelDisk) -> World
+        requires { IsWorld (record { relays = relays; net = net; server = server; disk = disk }) }
+        ensures relays { result.relays ≡ relays }
+        ensures net { result.net ≡ net }
+        ensures server { result.server ≡ server }
+        ensures states { state_of result.disk ≡ state_of disk }
+        ensures count { length result.disk.regions ≡ length disk.regions }
+        ensures faults { (c : ℕ) (part : CircuitPart) → slice_get server.topology.circuits c ≡ Some part → fuse_of result.disk part.region ≡ 0 }
+        ensures spares { KeepsOthers server.topology.circuits (device_of disk) (device_of result.disk) }
+    {
         clear_faults(&server, &mut disk);
-        Ok(World {
+        World {
             relays,
             net,
             server,
             disk,
-        })
+        }
     }
 
     /// The disk.
@@ -171,6 +236,9 @@ impl World {
         ensures disk { self.new.disk ≡ self.old.disk }
     {
         comes_to_its_circuit();
+        if !self.relays.serves(circuit) {
+            return gone(out);
+        }
         match self.relays.up(circuit, proto, frame, out) {
             Ok(()) => {
                 self.net.send(circuit, Dir::Up, proto, out);
@@ -194,9 +262,12 @@ impl World {
         requires { circuit < length self.old.net.circuits }
         ensures moves { Moves circuit (Up number now fault) (states self.old) (states self.new) result out.new }
         ensures topology { self.new.relays.topology ≡ self.old.relays.topology }
-        ensures spares { KeepsSpares self.old.relays.topology.circuits (device_of self.old.disk) (device_of self.new.disk) }
+        ensures spares { KeepsOthers self.old.relays.topology.circuits (device_of self.old.disk) (device_of self.new.disk) }
     {
         reply_comes_to_its_circuit();
+        if !self.relays.serves(circuit) {
+            return gone(out);
+        }
         out.clear();
         let part = self.server.part(circuit);
         let (source, region) = (part.relay(), part.region());
@@ -227,6 +298,9 @@ impl World {
         ensures topology { self.new.relays.topology ≡ self.old.relays.topology }
         ensures disk { self.new.disk ≡ self.old.disk }
     {
+        if !self.relays.serves(circuit) {
+            return gone(out);
+        }
         out.clear();
         let Some((proto, datagram)) = self.net.deliver(circuit, Dir::Down, number) else {
             return Outcome::Gone;
@@ -257,13 +331,29 @@ impl World {
         ensures moves { AllMove (λ c. Restart (comeback_at c comebacks.now)) (states self.old) (states self.new) result out.new }
         ensures done { result ≡ outcome.Done }
         ensures topology { self.new.relays.topology ≡ self.old.relays.topology }
-        ensures spares { KeepsSpares self.old.relays.topology.circuits (device_of self.old.disk) (device_of self.new.disk) }
+        ensures spares { KeepsOthers self.old.relays.topology.circuits (device_of self.old.disk) (device_of self.new.disk) }
         ensures empty { out.new ≡ [] }
     {
         out.clear();
         crash_all(&self.server, &mut self.disk, comebacks);
         self.server.restart(&mut self.disk);
         clear_faults(&self.server, &mut self.disk);
+        Outcome::Done
+    }
+
+    /// Another plan comes into force, if there is such a plan.
+    fn reload(&mut self, plan: u8, out: &mut PacketBuf) -> Outcome
+        ensures steps { (e : event.Event) → e ≡ events.Reload plan → Steps e (states self.old) (states self.new) result out.new }
+        ensures topology { self.new.relays.topology ≡ reloaded plan self.old.relays.topology }
+        ensures disk { self.new.disk ≡ self.old.disk }
+    {
+        out.clear();
+        if !self.relays.has_plan(plan) {
+            return Outcome::NoPlan;
+        }
+        clear_all(&self.relays, &mut self.net, plan);
+        let _ = self.server.reload(plan);
+        let _ = self.relays.reload(plan);
         Outcome::Done
     }
 
@@ -325,8 +415,8 @@ impl World {
     pub fn step(&mut self, event: &Event<'_>, out: &mut PacketBuf) -> Outcome
         ensures steps { Steps event.now (states self.old) (states self.new) result out.new }
         ensures stray { IfSome (stray_outcome self.old.relays.topology event.now) (λ expected. result ≡ expected) }
-        ensures topology { self.new.relays.topology ≡ self.old.relays.topology }
-        ensures spares { KeepsSpares self.old.relays.topology.circuits (device_of self.old.disk) (device_of self.new.disk) }
+        ensures topology { self.new.relays.topology ≡ topology_after event.now self.old.relays.topology }
+        ensures spares { KeepsOthers self.old.relays.topology.circuits (device_of self.old.disk) (device_of self.new.disk) }
     {
         match *event {
             Event::Frame(circuit, proto, frame) => {
@@ -349,6 +439,7 @@ impl World {
             }
             Event::Tick(now) => self.tick(now, out),
             Event::Restart(comebacks) => self.restart(comebacks, out),
+            Event::Reload(plan) => self.reload(plan, out),
             Event::StrayUp(proto, source, datagram, now) => {
                 self.stray_up(proto, source, datagram, now, out)
             }
@@ -363,7 +454,7 @@ impl World {
     pub fn run<S: Sink>(&mut self, events: &[Event<'_>], sink: &mut S) -> Result<(), usize>
         ensures frames { OnOk result (Emits events.now (states self.old) (S.taken sink.old) (S.taken sink.new)) }
         ensures reaches { OnOk result (Reaches events.now (states self.old) (states self.new)) }
-        ensures spares { KeepsSpares self.old.relays.topology.circuits (device_of self.old.disk) (device_of self.new.disk) }
+        ensures spares { KeepsOthers self.old.relays.topology.circuits (device_of self.old.disk) (device_of self.new.disk) }
         ensures quiet { OnOk result (S.refusals sink.new ≡ S.refusals sink.old) }
 
         // The sink refused the frame of event n: it has those of the events before, and the world has

@@ -6,11 +6,11 @@ use Rattle.lab.proofs.apply_line.apply_line.Goals as goal
 
 pub returns-in-Event-clause-follows : goal.returns-in-Event-clause-follows
 returns-in-Event-clause-follows g c = λ quota machines represents knows.
-    let settings = c.args.config.now in
-    subst (λ line. Follows settings quota c.args.number (line_result settings quota machines line) (g.M.Machine.states c.apply.new.machine) (g.W.ByteWriter.contents c.args.writer.now) (g.W.ByteWriter.contents c.apply.new.writer) c.apply.result)
+    let plans = c.args.plans.now in
+    subst (λ line. Follows plans quota c.args.number (line_result plans quota machines line) (g.M.Machine.states c.apply.new.machine) (g.W.ByteWriter.contents c.args.writer.now) (g.W.ByteWriter.contents c.apply.new.writer) c.apply.result)
     c.in-Event.ensures.means (c.apply.ensures.follows quota machines represents knows)
 
 pub returns-in-Restart-clause-follows : goal.returns-in-Restart-clause-follows
 returns-in-Restart-clause-follows g c = λ quota machines represents knows.
-    let settings = c.args.config.now in
-    c.apply_restart.ensures.follows settings quota c.args.number (line_of_text settings c.args.line.now) machines c.in-Restart.ensures.means represents
+    let plans = c.args.plans.now in
+    c.apply_restart.ensures.follows plans quota c.args.number (line_of_text plans.union plans.count c.args.line.now) machines c.in-Restart.ensures.means represents

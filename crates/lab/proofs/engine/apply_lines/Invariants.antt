@@ -1,8 +1,8 @@
 use Rattle.std.proofs.Common.{◌≡◌, ℕ, ◌+◌, ◌≤◌, ◌<◌, List, length, take}
 use Rattle.std.specs.Prelude.{Option, IfSome}
 use Rattle.std.specs.Io.KnownBytes.{prepend_known}
-use Rattle.config.specs.Topology.{topology_of}
-use Rattle.lab.specs.Follows.{Says, SoFar}
+use Rattle.lab.specs.Follows.{KnowsPlans, Says, SoFar}
+use Rattle.config.specs.Plans.{PlansValue}
 use Rattle.lab.specs.Lab.{Output}
 use Rattle.lab_text.specs.LineEnd.{Fits, IsCounted, IsLineEnd, len_of, feeds_of}
 use Rattle.lab_text.specs.ReadAhead.{held}
@@ -10,11 +10,11 @@ use Rattle.lab.proofs.engine.apply_lines.Given as goal
 
 abbrev pub invariant-lines : goal.invariant-lines
 invariant-lines g l = record {
-  topology : g.M.Machine.topology l.machine ≡ g.M.Machine.topology l.fn.machine;
+  plans_known : (set : PlansValue) → KnowsPlans set (g.M.Machine.topology l.fn.machine) → KnowsPlans set (g.M.Machine.topology l.machine);
   end : IsLineEnd (held l.ahead) (g.R.ByteReader.remaining l.reader) l.end;
   within : len_of l.end ≤ 8192;
   inside : len_of l.end + feeds_of l.end ≤ length (held l.ahead);
-  known : IfSome l.known (Says l.fn.config l.buffers.bytes l.buffers.comebacks (take (len_of l.end) (held l.ahead)));
+  known : IfSome l.known (Says l.fn.plans l.buffers.bytes l.buffers.comebacks (take (len_of l.end) (held l.ahead)));
   lines : l.earlier + length (held l.ahead) ≤ l.ahead.count;
   below : l.ahead.count < 18446744073709551615;
   reader_quiet : g.R.ByteReader.failures l.reader ≡ g.R.ByteReader.failures l.fn.reader;
@@ -22,7 +22,7 @@ invariant-lines g l = record {
   counted : IsCounted (g.R.ByteReader.remaining l.fn.reader) (g.R.ByteReader.remaining l.reader) l.fn.ahead.count l.ahead.count;
   so_far :
       (quota : ℕ) (output : List ℕ → Output) (given holds : Option (List ℕ))
-      → SoFar l.fn.config quota (l.fn.next.earlier + 1) output given (prepend_known (held l.fn.ahead) (g.R.ByteReader.remaining l.fn.reader)) holds (g.W.ByteWriter.contents l.fn.writer) (g.M.Machine.states l.fn.machine) (Fits (held l.fn.ahead) l.fn.next.end)
-      → g.M.Machine.topology l.fn.machine ≡ topology_of l.fn.config
-      → SoFar l.fn.config quota (l.earlier + 1) output given (prepend_known (held l.ahead) (g.R.ByteReader.remaining l.reader)) holds (g.W.ByteWriter.contents l.writer) (g.M.Machine.states l.machine) (Fits (held l.ahead) l.end);
+      → SoFar l.fn.plans quota (l.fn.next.earlier + 1) output given (prepend_known (held l.fn.ahead) (g.R.ByteReader.remaining l.fn.reader)) holds (g.W.ByteWriter.contents l.fn.writer) (g.M.Machine.states l.fn.machine) (Fits (held l.fn.ahead) l.fn.next.end)
+      → KnowsPlans l.fn.plans (g.M.Machine.topology l.fn.machine)
+      → SoFar l.fn.plans quota (l.earlier + 1) output given (prepend_known (held l.ahead) (g.R.ByteReader.remaining l.reader)) holds (g.W.ByteWriter.contents l.writer) (g.M.Machine.states l.machine) (Fits (held l.ahead) l.end);
 }

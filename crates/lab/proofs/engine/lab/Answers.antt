@@ -7,7 +7,7 @@ use Rattle.lab.proofs.engine.lab.Goals as goal
 
 pub returns-in_default-clause-partial : goal.returns-in_default-clause-partial
 returns-in_default-clause-partial g c = λ quota machines represents knows failed.
-    partial_none (events_output c.args.config.now quota machines) _ _ _ _ _ _ c.flush_and_read_line.ensures.counted c.flush_and_read_line.ensures.written
+    partial_none (events_output c.args.plans.now quota machines) _ _ _ _ _ _ c.flush_and_read_line.ensures.counted c.flush_and_read_line.ensures.written
 
 pub returns-in_default-clause-cause : goal.returns-in_default-clause-cause
 returns-in_default-clause-cause g c = λ failed.
@@ -18,14 +18,14 @@ apply_lines-requires-clause-lines g c = omega (arith, c.flush_and_read_line.ensu
 
 pub returns-clause-written : goal.returns-clause-written
 returns-clause-written g c = λ quota machines text represents knows is fine.
-    ended_written (events_output c.args.config.now quota machines) text _ _ _ _ c.apply_lines.result
-    (c.apply_lines.ensures.ends quota (events_output c.args.config.now quota machines) _ _
-    (at_start c.args.config.now quota machines _ _ _ _ _ _ _ c.new-ahead.ensures.held c.flush_and_read_line.ensures.kept c.flush_and_read_line.ensures.written represents) knows) is fine
+    ended_written (events_output c.args.plans.now quota machines) text _ _ _ _ c.apply_lines.result
+    (c.apply_lines.ensures.ends quota (events_output c.args.plans.now quota machines) _ _
+    (at_start c.args.plans.now quota machines _ _ _ _ _ _ _ c.new-ahead.ensures.held c.flush_and_read_line.ensures.kept c.flush_and_read_line.ensures.written represents) knows) is fine
 
 pub returns-clause-partial : goal.returns-clause-partial
 returns-clause-partial g c = λ quota machines represents knows failed.
-    let ends = c.apply_lines.ensures.ends quota (events_output c.args.config.now quota machines) _ _
-    (at_start c.args.config.now quota machines _ _ _ _ _ _ _ c.new-ahead.ensures.held c.flush_and_read_line.ensures.kept c.flush_and_read_line.ensures.written represents) knows in
+    let ends = c.apply_lines.ensures.ends quota (events_output c.args.plans.now quota machines) _ _
+    (at_start c.args.plans.now quota machines _ _ _ _ _ _ _ c.new-ahead.ensures.held c.flush_and_read_line.ensures.kept c.flush_and_read_line.ensures.written represents) knows in
     record { read = ends.read; consumed = ends.consumed; partial = ends.partial failed }
 
 pub returns-clause-cause : goal.returns-clause-cause

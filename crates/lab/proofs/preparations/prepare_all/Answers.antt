@@ -24,9 +24,9 @@ lines-init g c = record {
   quiet = refl;
   counted = rw c.requires.count (counted_none _ 0);
   so_far = λ quota.
-      nothing_held c.args.config.now quota _ (held c.args.ahead.now) (device_of c.args.disk.now) c.requires.held
-      (prepared_first c.args.config.now quota _ (device_of c.args.disk.now)
-      (formatted_over c.args.config.now quota (length c.args.disk.now.regions) (device_of c.args.disk.now) (λ n part h. part_within c.args.config.now (length c.args.disk.now.regions) n part c.requires.regions h) c.requires.formatted c.requires.sound));
+      nothing_held c.args.plans.now quota _ (held c.args.ahead.now) (device_of c.args.disk.now) c.requires.held
+      (prepared_first c.args.plans.now quota _ (device_of c.args.disk.now)
+      (formatted_over c.args.plans.now quota (length c.args.disk.now.regions) (device_of c.args.disk.now) (λ n part h. part_within c.args.plans.now.union (length c.args.disk.now.regions) n part c.requires.regions h) c.requires.formatted c.requires.sound));
 }
 
 pub returns-in_default-clause-counted : goal.returns-in_default-clause-counted
@@ -35,10 +35,10 @@ returns-in_default-clause-counted g c = counted_more _ _ _ _ _ _ c.lines.invaria
 pub returns-in-TooLong-clause-prepared : goal.returns-in-TooLong-clause-prepared
 returns-in-TooLong-clause-prepared g c = λ quota.
     rw c.new.ensures
-    (prepared_begun c.args.config.now quota (c.lines.earlier + 1) _ _ (device_of c.lines.disk) _
-    (prepared_kept c.args.config.now quota (c.lines.earlier + 1) false _ _ _ (device_of c.lines.disk) _ (c.lines.invariant.so_far quota) c.read_line.ensures.kept)
-    (subst (λ e. IsBegun c.args.config.now quota (c.lines.earlier + 1) (Fits (held c.read_line.new.ahead) e)) (sym c.in-TooLong.is)
-    (begun_long c.args.config.now quota (c.lines.earlier + 1) (held c.read_line.new.ahead) (rw c.in-TooLong.is at c.in-Ok.ensures.end))))
+    (prepared_begun c.args.plans.now quota (c.lines.earlier + 1) _ _ (device_of c.lines.disk) _
+    (prepared_kept c.args.plans.now quota (c.lines.earlier + 1) false _ _ _ (device_of c.lines.disk) _ (c.lines.invariant.so_far quota) c.read_line.ensures.kept)
+    (subst (λ e. IsBegun c.args.plans.now quota (c.lines.earlier + 1) (Fits (held c.read_line.new.ahead) e)) (sym c.in-TooLong.is)
+    (begun_long c.args.plans.now quota (c.lines.earlier + 1) (held c.read_line.new.ahead) (rw c.in-TooLong.is at c.in-Ok.ensures.end))))
 
 pub returns-in-TooLong-clause-counted : goal.returns-in-TooLong-clause-counted
 returns-in-TooLong-clause-counted g c = counted_more _ _ _ _ _ _ c.lines.invariant.counted c.read_line.ensures.counted
@@ -53,7 +53,7 @@ pub returns-in-EndOfInput-clause-prepared : goal.returns-in-EndOfInput-clause-pr
 returns-in-EndOfInput-clause-prepared g c = λ quota.
     rw c.new-in-EndOfInput.ensures
     (c.prepare_last-end.ensures.prepared quota (c.lines.earlier + 1) _ _ (rw c.in-EndOfInput.is at c.in-Ok.ensures.end)
-    (prepared_kept c.args.config.now quota (c.lines.earlier + 1) false _ _ _ (device_of c.lines.disk) _ (c.lines.invariant.so_far quota) c.read_line.ensures.kept))
+    (prepared_kept c.args.plans.now quota (c.lines.earlier + 1) false _ _ _ (device_of c.lines.disk) _ (c.lines.invariant.so_far quota) c.read_line.ensures.kept))
 
 pub returns-in-EndOfInput-clause-end : goal.returns-in-EndOfInput-clause-end
 returns-in-EndOfInput-clause-end g c =
@@ -71,12 +71,12 @@ returns-in-EndOfInput-clause-counted g c = rw c.prepare_last-end.ensures.count (
 pub returns-in-Some-clause-prepared : goal.returns-in-Some-clause-prepared
 returns-in-Some-clause-prepared g c = λ quota.
     let feeds = rw c.in-Newline.is at c.in-Ok.ensures.end in
-    rw c.new-in-Some.ensures (subst (λ d. PreparedSoFar c.args.config.now quota (c.lines.earlier + 1) true (g.R.ByteReader.remaining c.args.reader.now) (prepend_known (held c.read_line.new.ahead) (g.R.ByteReader.remaining c.read_line.new.reader)) (device_of d) (Fits (held c.read_line.new.ahead) (Newline c.in-Newline.len)))
+    rw c.new-in-Some.ensures (subst (λ d. PreparedSoFar c.args.plans.now quota (c.lines.earlier + 1) true (g.R.ByteReader.remaining c.args.reader.now) (prepend_known (held c.read_line.new.ahead) (g.R.ByteReader.remaining c.read_line.new.reader)) (device_of d) (Fits (held c.read_line.new.ahead) (Newline c.in-Newline.len)))
     (sym c.in-Some.ensures.same)
-    (prepared_begun c.args.config.now quota (c.lines.earlier + 1) _ _ (device_of c.lines.disk) _
-    (prepared_kept c.args.config.now quota (c.lines.earlier + 1) false _ _ _ (device_of c.lines.disk) _ (c.lines.invariant.so_far quota) c.read_line.ensures.kept)
-    (begun_newline c.args.config.now quota (c.lines.earlier + 1) (held c.read_line.new.ahead) c.in-Newline.len feeds
-    (λ openings. ap (λ text. prepared (line_of_text c.args.config.now (take c.in-Newline.len text)) openings) (sym c.as_slice.ensures) ∙ c.in-Some.ensures.event openings))))
+    (prepared_begun c.args.plans.now quota (c.lines.earlier + 1) _ _ (device_of c.lines.disk) _
+    (prepared_kept c.args.plans.now quota (c.lines.earlier + 1) false _ _ _ (device_of c.lines.disk) _ (c.lines.invariant.so_far quota) c.read_line.ensures.kept)
+    (begun_newline c.args.plans.now quota (c.lines.earlier + 1) (held c.read_line.new.ahead) c.in-Newline.len feeds
+    (λ openings. ap (λ text. prepared (line_of_text c.args.plans.now.union c.args.plans.now.count (take c.in-Newline.len text)) openings) (sym c.as_slice.ensures) ∙ c.in-Some.ensures.event openings))))
 
 pub returns-in-Some-clause-counted : goal.returns-in-Some-clause-counted
 returns-in-Some-clause-counted g c = counted_more _ _ _ _ _ _ c.lines.invariant.counted c.read_line.ensures.counted
@@ -84,7 +84,7 @@ returns-in-Some-clause-counted g c = counted_more _ _ _ _ _ _ c.lines.invariant.
 pub returns-in-Some-clause-parsed : goal.returns-in-Some-clause-parsed
 returns-in-Some-clause-parsed g c =
     rw c.new-in-Some.ensures
-    (subst (λ text. Says c.args.config.now c.prepare.new.buffers.bytes c.prepare.new.buffers.comebacks (take c.in-Newline.len text) c.in-Some.event) c.as_slice.ensures c.in-Some.ensures.parsed)
+    (subst (λ text. Says c.args.plans.now c.prepare.new.buffers.bytes c.prepare.new.buffers.comebacks (take c.in-Newline.len text) c.in-Some.event) c.as_slice.ensures c.in-Some.ensures.parsed)
 
 pub lines-preserved : goal.lines-preserved
 lines-preserved g c =
@@ -100,8 +100,8 @@ lines-preserved g c =
       quiet = c.in-Ok.ensures.quiet ∙ c.lines.invariant.quiet;
       counted = rw c.consume.ensures.count (counted_more _ _ _ _ _ _ c.lines.invariant.counted c.read_line.ensures.counted);
       so_far = λ quota.
-          prepared_next c.args.config.now quota (c.lines.earlier + 1) _ _ _ (device_of c.lines.disk) (device_of c.prepare.new.disk) (take c.in-Newline.len text)
-          (prepared_kept c.args.config.now quota (c.lines.earlier + 1) false _ _ _ (device_of c.lines.disk) _ (c.lines.invariant.so_far quota) c.read_line.ensures.kept)
+          prepared_next c.args.plans.now quota (c.lines.earlier + 1) _ _ _ (device_of c.lines.disk) (device_of c.prepare.new.disk) (take c.in-Newline.len text)
+          (prepared_kept c.args.plans.now quota (c.lines.earlier + 1) false _ _ _ (device_of c.lines.disk) _ (c.lines.invariant.so_far quota) c.read_line.ensures.kept)
           (line_consumed _ _ (held c.read_line.new.ahead) text _ c.in-Newline.len c.as_slice.ensures c.consume.ensures.held (Keeps-refl _) feeds)
           (λ openings over. c.in_default-prepare.ensures.prepared quota openings over);
     }

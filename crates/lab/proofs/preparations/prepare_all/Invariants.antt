@@ -17,5 +17,5 @@ invariant-lines g l = record {
   counted : IsCounted (g.R.ByteReader.remaining l.fn.reader) (g.R.ByteReader.remaining l.reader) 0 l.ahead.count;
   so_far :
       (quota : ℕ)
-      → PreparedSoFar l.fn.config quota (l.earlier + 1) false (g.R.ByteReader.remaining l.fn.reader) (prepend_known (held l.ahead) (g.R.ByteReader.remaining l.reader)) (device_of l.disk) (λ rest. ⊤);
+      → PreparedSoFar l.fn.plans quota (l.earlier + 1) false (g.R.ByteReader.remaining l.fn.reader) (prepend_known (held l.ahead) (g.R.ByteReader.remaining l.reader)) (device_of l.disk) (λ rest. ⊤);
 }

@@ -15,20 +15,20 @@ use Rattle.lab.proofs.preparations.prepare_last.Goals as goal
 
 pub returns-in-Some-clause-prepared : goal.returns-in-Some-clause-prepared
 returns-in-Some-clause-prepared c = λ quota number given left last so_far.
-    subst (λ d. PreparedSoFar c.args.config.now quota number true given (prepend_known (held c.args.ahead.now) left) (device_of d) (Fits (held c.args.ahead.now) (EndOfInput c.args.len)))
+    subst (λ d. PreparedSoFar c.args.plans.now quota number true given (prepend_known (held c.args.ahead.now) left) (device_of d) (Fits (held c.args.ahead.now) (EndOfInput c.args.len)))
     (sym c.in-Some.ensures.same)
-    (prepared_begun c.args.config.now quota number _ _ (device_of c.args.disk.now) _ so_far
-    (begun_last c.args.config.now quota number (held c.args.ahead.now) _ c.args.len last
-    (λ openings. ap (λ text. prepared (line_of_text c.args.config.now (take c.args.len text)) openings) (sym c.as_slice.ensures) ∙ c.in-Some.ensures.event openings)))
+    (prepared_begun c.args.plans.now quota number _ _ (device_of c.args.disk.now) _ so_far
+    (begun_last c.args.plans.now quota number (held c.args.ahead.now) _ c.args.len last
+    (λ openings. ap (λ text. prepared (line_of_text c.args.plans.now.union c.args.plans.now.count (take c.args.len text)) openings) (sym c.as_slice.ensures) ∙ c.in-Some.ensures.event openings)))
 
 pub returns-in-Some-clause-parsed : goal.returns-in-Some-clause-parsed
 returns-in-Some-clause-parsed c =
-    subst (λ text. Says c.args.config.now c.prepare.new.buffers.bytes c.prepare.new.buffers.comebacks (take c.args.len text) c.in-Some.parsed) c.as_slice.ensures c.in-Some.ensures.parsed
+    subst (λ text. Says c.args.plans.now c.prepare.new.buffers.bytes c.prepare.new.buffers.comebacks (take c.args.len text) c.in-Some.parsed) c.as_slice.ensures c.in-Some.ensures.parsed
 
 pub returns-clause-prepared : goal.returns-clause-prepared
 returns-clause-prepared c = λ quota number given left last so_far.
     let gone = ap length c.consume.ensures.held ∙ length-drop c.args.len (held c.args.ahead.now) in
-    prepared_last c.args.config.now quota number _ _ _ (device_of c.args.disk.now) (device_of c.prepare.new.disk) (take c.args.len c.as_slice.result.now) (held c.consume.new.self)
+    prepared_last c.args.plans.now quota number _ _ _ (device_of c.args.disk.now) (device_of c.prepare.new.disk) (take c.args.len c.as_slice.result.now) (held c.consume.new.self)
     (none_left _ (let e = last.size in omega (arith, gone, e)))
     so_far
     (last_consumed _ _ (held c.args.ahead.now) c.as_slice.result.now c.args.len c.as_slice.ensures (Keeps-refl _) last)

@@ -1,4 +1,4 @@
 use Rattle.refusals.proofs.steps.open_over.Goals as goal
 
-pub open-requires-clause-synced : goal.open-requires-clause-synced
-open-requires-clause-synced c = λ k d within readable. c.requires.synced _
+pub open_plans-requires-clause-synced : goal.open_plans-requires-clause-synced
+open_plans-requires-clause-synced c = λ k d within readable. c.requires.synced _

@@ -1,10 +1,9 @@
-use Rattle.std.proofs.Common.{◌≡◌, ◌≢◌, ◌<◌, ◌≤◌, ◌+◌, ℕ, Bool, true, false, List, length, refl, sym, ap, subst, ◌∙◌, arith}
+use Rattle.std.proofs.Common.{◌≡◌, ◌≢◌, ℕ, Bool, true, false, List, refl, sym, ap, subst, ◌∙◌, arith}
 use Rattle.std.specs.Prelude.{◌==◌, Some, slice_get, slice_index}
 use Rattle.std.proofs.lemmas.Option.{slice_get_within}
-use Rattle.config.specs.CircuitPart.{CircuitPart}
 use Rattle.lease_disk.specs.Model.{ModelDiskValue, SameBut, fuse_of, region_of, state_of}
 use Rattle.lease_disk.specs.Region.{Region}
-use Rattle.world.proofs.WorldLemmas.{by_index, spare_is_other}
+use Rattle.world.proofs.ServedLemmas.{by_index, spare_is_other}
 use Rattle.world.proofs.world.clear_faults.Goals as goal
 
 -- a fuse that is 0 stays so where another one, or this one, is cleared

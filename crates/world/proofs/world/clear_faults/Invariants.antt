@@ -2,14 +2,14 @@ use Rattle.std.proofs.Common.{◌≡◌, ℕ, ◌<◌, length}
 use Rattle.std.specs.Prelude.{Some, slice_get}
 use Rattle.config.specs.CircuitPart.{CircuitPart}
 use Rattle.lease_disk.specs.Model.{device_of, fuse_of, state_of}
-use Rattle.world.specs.Headline.{KeepsSpares}
+use Rattle.dispatch.specs.Leases.{KeepsOthers}
 use Rattle.world.proofs.world.clear_faults.Given as goal
 
 -- no call fails for the circuits so far
 abbrev pub invariant-circuits : goal.invariant-circuits
 invariant-circuits l = record {
   count : length l.disk.regions ≡ length l.fn.disk.regions;
-  spares : KeepsSpares l.server.topology.circuits (device_of l.fn.disk) (device_of l.disk);
+  spares : KeepsOthers l.server.topology.circuits (device_of l.fn.disk) (device_of l.disk);
   states : state_of l.disk ≡ state_of l.fn.disk;
   faults : (c : ℕ) (part : CircuitPart) → slice_get l.server.topology.circuits c ≡ Some part → c < l.index → fuse_of l.disk part.region ≡ 0;
 }

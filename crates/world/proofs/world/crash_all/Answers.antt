@@ -1,11 +1,12 @@
-use Rattle.std.proofs.Common.{◌≡◌, ◌≢◌, ◌<◌, ◌≤◌, ◌+◌, ℕ, length, sym, ap, subst, ◌∙◌, arith, rules}
+use Rattle.std.proofs.Common.{◌≡◌, ◌≢◌, ◌<◌, ℕ, length, ap, subst, ◌∙◌, arith, rules}
 use Rattle.std.specs.Prelude.{Some, slice_get}
 use Rattle.std.proofs.lemmas.Option.{slice_get_within}
 use Rattle.config.specs.CircuitPart.{CircuitPart}
 use Rattle.events.specs.Seen.{comeback_at}
 use Rattle.lease_disk.specs.Crash.{crashed}
 use Rattle.lease_disk.specs.Model.{fuse_of, region_of, state_of}
-use Rattle.world.proofs.WorldLemmas.{all_at, by_index, not_its, spare_is_other}
+use Rattle.world.proofs.ServedLemmas.{by_index, not_its, spare_is_other}
+use Rattle.world.proofs.WorldLemmas.{all_at}
 use Rattle.world.proofs.world.crash_all.Goals as goal
 
 pub crash-requires : goal.crash-requires

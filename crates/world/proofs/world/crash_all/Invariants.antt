@@ -3,7 +3,7 @@ use Rattle.std.specs.Prelude.{Some, slice_get}
 use Rattle.config.specs.CircuitPart.{CircuitPart}
 use Rattle.lease_disk.specs.Crash.{crashed}
 use Rattle.lease_disk.specs.Model.{device_of, fuse_of, state_of}
-use Rattle.world.specs.Headline.{KeepsSpares}
+use Rattle.dispatch.specs.Leases.{KeepsOthers}
 use Rattle.events.specs.Seen.{comeback_at}
 use Rattle.world.proofs.world.crash_all.Given as goal
 
@@ -11,7 +11,7 @@ use Rattle.world.proofs.world.crash_all.Given as goal
 abbrev pub invariant-circuits : goal.invariant-circuits
 invariant-circuits l = record {
   count : length l.disk.regions ≡ length l.fn.disk.regions;
-  spares : KeepsSpares l.server.topology.circuits (device_of l.fn.disk) (device_of l.disk);
+  spares : KeepsOthers l.server.topology.circuits (device_of l.fn.disk) (device_of l.disk);
   done : (c : ℕ) (part : CircuitPart) → slice_get l.server.topology.circuits c ≡ Some part → c < l.index → state_of l.disk part.region ≡ crashed (comeback_at c l.comebacks).image (state_of l.fn.disk part.region);
   faults : (c : ℕ) (part : CircuitPart) → slice_get l.server.topology.circuits c ≡ Some part → c < l.index → fuse_of l.disk part.region ≡ (comeback_at c l.comebacks).move_fault;
   others : (c : ℕ) (part : CircuitPart) → slice_get l.server.topology.circuits c ≡ Some part → l.index ≤ c → state_of l.disk part.region ≡ state_of l.fn.disk part.region;

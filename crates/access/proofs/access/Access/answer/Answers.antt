@@ -28,6 +28,7 @@ invariant_of-self c =
       subst (λ (t : Topology). HasRegions t.circuits new.regions) (sym c.receive-answer.ensures.topology)
           (subst (λ (n : ℕ). HasRegions c.self.inside.server.topology.circuits n) (sym count) was.5),
       was.6,
+      was.7,
     )
 
 -- before the datagram

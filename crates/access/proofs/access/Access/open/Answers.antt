@@ -3,7 +3,9 @@ use Rattle.std.proofs.lemmas.List.{length-map}
 use Rattle.config.specs.Topology.{Topology}
 use Rattle.config.specs.CircuitPart.{parts_of}
 use Rattle.dispatch.specs.Leases.{HasRegions}
+use Rattle.access.specs.Access.{ServesEach}
 use Rattle.access.specs.Sockets.{AreOwnRelays, IsSocket, Refuses}
+use Rattle.access.proofs.RelayLemmas.{serves_each}
 use Rattle.access.proofs.access.Access.open.Goals as goal
 
 pub invariant_of-result : goal.invariant_of-result
@@ -18,6 +20,7 @@ invariant_of-result g c =
       search rules,
       search rules,
       subst (λ (t : Topology). AreOwnRelays t.relays t.circuits c.in-Ok-bind.sockets.circuits.items) (sym topology) bound.own,
+      subst ServesEach (sym topology) (serves_each config),
     )
 
 -- the device has as many regions as before it was opened

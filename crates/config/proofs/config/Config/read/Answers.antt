@@ -1,4 +1,4 @@
-use Rattle.std.proofs.Common.{List, subst}
+use Rattle.std.proofs.Common.{List, rules, subst}
 use Rattle.settings.specs.declared.settings.CircuitConfig.{CircuitConfig}
 use Rattle.settings.specs.declared.settings.RelayConfig.{RelayConfig}
 use Rattle.config.specs.Valid.{IsLeastRule}
@@ -16,3 +16,15 @@ returns-in-Err-rules-clause-broken c =
     let of_circuits = subst (λ (cs : List CircuitConfig). IsLeastRule (record { server = v.server; relays = c.deref.result.now; circuits = cs }) fault) c.deref-2.ensures.value c.in-Err-rules.ensures.err in
     let broken = subst (λ (rs : List RelayConfig). IsLeastRule (record { server = v.server; relays = rs; circuits = v.circuits.items }) fault) c.deref.ensures.value of_circuits in
     broken_is_fault c.args.text.now _ _ _ fault c.in-Ok.ensures.ok c.in-Ok-tables_in.ensures.tables c.in-Ok-tables_in.ensures.all c.in-Ok-values_in.ensures.read broken
+
+pub of-requires : goal.of-requires
+of-requires c = record {
+  some_relay = search rules;
+  relays = search rules;
+  some_circuit = search rules;
+  circuits = search rules;
+  server = search rules;
+  each_relay = search rules;
+  limits = search rules;
+  rules = search rules;
+}

@@ -11,7 +11,7 @@ use Rattle.world.specs.World.{WorldValue, state_of, states}
 use Rattle.events.specs.declared.outcome.Outcome.{Outcome}
 use Rattle.events.specs.declared.outcome.Outcome.TheVariants as outcome
 use Rattle.world.proofs.StateLemmas.{moves}
-use Rattle.world.proofs.WorldLemmas.{the_circuit, whole, each_at, down_gone, down_framed, down_dropped}
+use Rattle.world.proofs.WorldLemmas.{the_circuit, whole, each_at, down_gone, down_framed, down_dropped, down_off}
 use Rattle.world.proofs.world.World.down.Goals.{in-Ok, in-Err}
 use Rattle.world.proofs.world.World.down.Goals as goal
 
@@ -21,10 +21,11 @@ returns-in_default-clause-moves c =
     let k = c.args.circuit in
     let within = subst (λ (v : WorldValue). k < length v.net.circuits) (sym c.self.view_is) c.requires in
     let the = the_circuit w c.self.invariant k within in
+    let on = sym c.serves.ensures ∙ c.if-not-serves.false in
     let P : WorldValue → Type 0 = λ v. Moves k (Down c.args.number) (states v) (states v) outcome.Gone c.clear.new.self in
     subst P c.self.view_is (
     moves k (Down c.args.number) w w the.part the.leases the.leases outcome.Gone c.clear.new.self refl (whole w) refl the.served the.its the.its (λ n other. refl) (λ n other p l there. refl)
-    (down_gone k w the.part the.leases c.args.number c.clear.new.self (sym c.in_default.ensures) c.clear.ensures)
+    (down_gone k w the.part the.leases c.args.number c.clear.new.self on (sym c.in_default.ensures) c.clear.ensures)
     )
 
 pub down-requires : goal.down-requires
@@ -52,13 +53,28 @@ returns-clause-moves c =
     let d : Datagram = record { proto = c.in-Some.proto; bytes = c.in-Some.datagram.now } in
     let there : slice_get (datagrams w.net k dir.Down) c.args.number ≡ Some d = sym c.in-Some.ensures in
     let source = c.listen-source.ensures ∙ ap (λ p. listen_of p d.proto) (same_Some c.part.result.now the.part (sym c.part.ensures ∙ the.served)) ∙ is.sound.listens k the.part d.proto the.there in
-    let comes = each_at (Returns t k the.part) (datagrams w.net k dir.Down) c.args.number d (is.returned k the.part the.there) there relay here in
+    let on = sym c.serves.ensures ∙ c.if-not-serves.false in
+    let comes = each_at (Returns t k the.part) (datagrams w.net k dir.Down) c.args.number d (is.returned k the.part the.there) there t.plans relay on here in
     let result = sym comes ∙ ap (λ s. relayed_down_in t relay s d.bytes) (sym source) in
     let P : WorldValue → Type 0 = λ v. Moves k (Down c.args.number) (states v) (states v) c.match-down.result c.down.new.out in
     let O : Outcome → Type 0 = λ o. StepsAs k (Down c.args.number) (state_of w k the.part the.leases) (state_of w k the.part the.leases) o c.down.new.out in
     subst P c.self.view_is (
     moves k (Down c.args.number) w w the.part the.leases the.leases c.match-down.result c.down.new.out refl (whole w) refl the.served the.its the.its (λ n other. refl) (λ n other p l there. refl)
     (elim c.match-down.branch [
-      | in-Ok v ↦ subst O (sym v.result-is) (down_framed k w the.part the.leases c.args.number d there v.in-Ok.sent.0 v.in-Ok.sent.1 c.down.new.out (result ∙ v.in-Ok.ensures.ok))
-      | in-Err v ↦ subst O (sym v.result-is) (down_dropped k w the.part the.leases c.args.number d there v.in-Err.why c.down.new.out (result ∙ v.in-Err.ensures.err) v.in-Err.ensures.empty)
+      | in-Ok v ↦ subst O (sym v.result-is) (down_framed k w the.part the.leases c.args.number d on there v.in-Ok.sent.0 v.in-Ok.sent.1 c.down.new.out (result ∙ v.in-Ok.ensures.ok))
+      | in-Err v ↦ subst O (sym v.result-is) (down_dropped k w the.part the.leases c.args.number d on there v.in-Err.why c.down.new.out (result ∙ v.in-Err.ensures.err) v.in-Err.ensures.empty)
     ]))
+
+pub returns-then-not-serves-clause-moves : goal.returns-then-not-serves-clause-moves
+returns-then-not-serves-clause-moves c =
+    let w : WorldValue = record { relays = c.self.inside.relays; net = c.self.inside.net; server = c.self.inside.server; disk = c.self.inside.disk } in
+    let k = c.args.circuit in
+    let within = subst (λ (v : WorldValue). k < length v.net.circuits) (sym c.self.view_is) c.requires in
+    let the = the_circuit w c.self.invariant k within in
+    let off = sym c.serves.ensures ∙ c.if-not-serves.true in
+    let P : WorldValue → Type 0 = λ v. Moves k (Down c.args.number) (states v) (states v) c.gone.result c.gone.new.out in
+    let O : Outcome → Type 0 = λ o. Moves k (Down c.args.number) (states w) (states w) o c.gone.new.out in
+    subst P c.self.view_is (subst O (sym c.gone.ensures.gone) (
+    moves k (Down c.args.number) w w the.part the.leases the.leases outcome.Gone c.gone.new.out refl (whole w) refl the.served the.its the.its (λ n other. refl) (λ n other p l there. refl)
+    (down_off k w the.part the.leases c.gone.new.out off c.gone.ensures.empty c.args.number)
+    ))

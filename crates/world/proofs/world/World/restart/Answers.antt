@@ -3,12 +3,13 @@ use Rattle.config.specs.Topology.{Topology}
 use Rattle.dispatch.specs.Leases.{HasRegions}
 use Rattle.dispatch.specs.ServerValue.{AreReady, leases_in}
 use Rattle.lease_disk.specs.Model as disk
-use Rattle.world.specs.Headline.{KeepsSpares}
+use Rattle.dispatch.specs.Leases.{KeepsOthers}
 use Rattle.events.specs.Seen.{Restart, comeback_at}
 use Rattle.world.specs.StepsAs.{AllMove}
 use Rattle.world.specs.World.{WorldValue, states}
 use Rattle.events.specs.declared.outcome.Outcome.TheVariants as outcome
-use Rattle.world.proofs.WorldLemmas.{all_restart, are_synced, has_regions, others_spared, spares_then, still_world}
+use Rattle.world.proofs.ServedLemmas.{are_synced, spares_then}
+use Rattle.world.proofs.WorldLemmas.{all_restart, has_regions, still_world}
 use Rattle.world.proofs.world.World.restart.Goals as goal
 
 pub returns-clause-moves : goal.returns-clause-moves
@@ -19,7 +20,7 @@ returns-clause-moves c =
     let faults = disk.fuse_of c.crash_all.new.disk in
     let P : WorldValue → Type 0 = λ v. AllMove (λ n. Restart (comeback_at n c.args.comebacks.now)) (states v) (states new) outcome.Done c.clear.new.self in
     subst P c.self.view_is (
-    all_restart w new (λ n. comeback_at n c.args.comebacks.now) regions faults c.clear.new.self refl c.clear.ensures (ap (λ (t : Topology). t.circuits) c.restart.ensures.topology)
+    all_restart w new (λ n. comeback_at n c.args.comebacks.now) regions faults c.clear.new.self refl refl c.clear.ensures (ap (λ (t : Topology). t.circuits) c.restart.ensures.topology)
     (ap (λ regions. leases_in regions c.restart.new.self) c.clear_faults.ensures.states ∙ c.restart.ensures.leases refl) c.crash_all.ensures.crashed c.crash_all.ensures.faults
     )
 
@@ -50,9 +51,9 @@ returns-clause-spares c =
     let first = disk.device_of c.crash_all.new.disk in
     let middle = disk.device_of c.restart.new.disk in
     let new = disk.device_of c.clear_faults.new.disk in
-    let P : WorldValue → Type 0 = λ v. KeepsSpares v.relays.topology.circuits (disk.device_of v.disk) new in
+    let P : WorldValue → Type 0 = λ v. KeepsOthers v.relays.topology.circuits (disk.device_of v.disk) new in
     subst P c.self.view_is
-    (subst (λ (t : Topology). KeepsSpares t.circuits (disk.device_of w.disk) new) c.self.invariant.served
+    (subst (λ (t : Topology). KeepsOthers t.circuits (disk.device_of w.disk) new) c.self.invariant.served
     (spares_then w.server.topology.circuits (disk.device_of w.disk) middle new
-    (spares_then w.server.topology.circuits (disk.device_of w.disk) first middle c.crash_all.ensures.spares (others_spared w.server.topology.circuits first middle (c.restart.ensures.others refl)))
-    (subst (λ (t : Topology). KeepsSpares t.circuits middle new) c.restart.ensures.topology c.clear_faults.ensures.spares)))
+    (spares_then w.server.topology.circuits (disk.device_of w.disk) first middle c.crash_all.ensures.spares (c.restart.ensures.others refl))
+    (subst (λ (t : Topology). KeepsOthers t.circuits middle new) c.restart.ensures.topology c.clear_faults.ensures.spares)))

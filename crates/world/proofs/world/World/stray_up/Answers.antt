@@ -9,7 +9,8 @@ use Rattle.events.specs.Stray.{stray_up_outcome}
 use Rattle.events.specs.declared.outcome.Outcome.TheVariants as outcome
 use Rattle.lease_disk.proofs.Frames.{writes_count}
 use Rattle.world.proofs.StrayLemmas.{states_over, stray_received, stray_leases, stray_saves, refusal_is, no_ok, same_reason}
-use Rattle.world.proofs.WorldLemmas.{same_device, still_world}
+use Rattle.world.proofs.ServedLemmas.{same_device}
+use Rattle.world.proofs.WorldLemmas.{still_world}
 use Rattle.world.proofs.world.World.stray_up.Goals as goal
 
 pub unreachable-requires : goal.unreachable-requires

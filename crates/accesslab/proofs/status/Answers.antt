@@ -1,0 +1,15 @@
+use Rattle.std.proofs.Common.{length, arith}
+use Rattle.std.proofs.lemmas.List.{length-map}
+use Rattle.accesslab.proofs.status.Goals as goal
+
+pub run-requires-clause-some : goal.run-requires-clause-some
+run-requires-clause-some c =
+    let count = length-map c.in-Ok-words.values.configs.items (λ path. path.now) in
+    let some = c.in-Ok-words.ensures.values.some in
+    omega (arith, count, some)
+
+pub run-requires-clause-few : goal.run-requires-clause-few
+run-requires-clause-few c =
+    let count = length-map c.in-Ok-words.values.configs.items (λ path. path.now) in
+    let few = c.in-Ok-words.ensures.values.few in
+    omega (arith, count, few)

@@ -1,0 +1,10 @@
+use Rattle.std.proofs.Common.{◌≡◌, length}
+use Rattle.dispatch.specs.Turned.{AreTurned, turns_off}
+use Rattle.dispatch.proofs.TurnedLemmas.{so_far}
+use Rattle.dispatch.proofs.circuit_servers.turn_off_all.Given as goal
+
+abbrev pub invariant-circuits : goal.invariant-circuits
+invariant-circuits l = record {
+  end : l.index-end ≡ length l.circuits.circuits;
+  turned : AreTurned (so_far (turns_off l.circuits l.plan) l.index) l.fn.servers l.servers l.fn.table l.table;
+}

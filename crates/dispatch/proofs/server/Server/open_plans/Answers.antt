@@ -1,0 +1,64 @@
+use Rattle.std.proofs.Common.{◌≡◌, length, map, sym, ap, subst, ◌∙◌, arith, Result, Ok, Err}
+use Rattle.std.specs.Prelude.{IfErr, IfOk}
+use Rattle.std.proofs.lemmas.List.{length-map}
+use Rattle.config.specs.Plans.{PlansValue}
+use Rattle.config.specs.Topology.{IsTopology, Topology, plans_topology}
+use Rattle.dispatch.specs.Leases.{AreBroughtUp, AreSynced, HasRegions, KeepsOthers, found_leases}
+use Rattle.dispatch.specs.ServerValue.{leases_in}
+use Rattle.dispatch.specs.declared.server.OpenFault.TheVariants as fault
+use Rattle.dispatch.proofs.server.Server.open_plans.Goals as goal
+
+same_count : (plans : PlansValue) (topology : Topology) → topology ≡ plans_topology plans → length topology.circuits ≡ length plans.union.circuits
+same_count plans topology same = ap (λ (t : Topology). length t.circuits) same ∙ length-map plans.union.circuits _
+
+pub over-requires-clause-some : goal.over-requires-clause-some
+over-requires-clause-some g c = omega (arith, same_count c.args.plans.now c.in-Ok.circuits c.in-Ok.ensures.topology, c.in-Ok.ensures.rules.some_circuit)
+
+pub over-requires-clause-sound : goal.over-requires-clause-sound
+over-requires-clause-sound g c = subst IsTopology (sym c.in-Ok.ensures.topology) c.in-Ok.ensures.sound
+
+pub over-requires-clause-synced : goal.over-requires-clause-synced
+over-requires-clause-synced g c tells =
+    subst (λ (t : Topology). AreSynced t.circuits (g.D.Disk.device c.args.disk.now).region) (sym c.in-Ok.ensures.topology) (c.requires.synced tells)
+
+pub returns-clause-topology : goal.returns-clause-topology
+returns-clause-topology g c = subst (λ (t : Topology). IfOk c.over.result (λ server. server.topology ≡ t)) c.in-Ok.ensures.topology c.over.ensures.topology
+
+in_any : {T E : Type 0} (result : Result T E) (P : Type 0) → P → IfOk result (λ any. P)
+in_any (Ok value) P holds = holds
+in_any (Err why) P holds = tt
+
+pub returns-clause-sound : goal.returns-clause-sound
+returns-clause-sound g c = in_any c.over.result (IsTopology (plans_topology c.args.plans.now)) c.in-Ok.ensures.sound
+
+pub returns-clause-leases : goal.returns-clause-leases
+returns-clause-leases g c tells =
+    let old = g.D.Disk.device c.args.disk.now in
+    let new = g.D.Disk.device c.over.new.disk in
+    subst (λ (t : Topology). IfOk c.over.result (λ server. leases_in new.region server ≡ map (found_leases old.region old.fuse) t.circuits)) c.in-Ok.ensures.topology (c.over.ensures.leases tells)
+
+pub returns-clause-large : goal.returns-clause-large
+returns-clause-large g c =
+    subst (λ (t : Topology). IfOk c.over.result (λ server. HasRegions t.circuits (g.D.Disk.device c.over.new.disk).count)) c.in-Ok.ensures.topology c.over.ensures.large
+
+pub returns-clause-small : goal.returns-clause-small
+returns-clause-small g c =
+    subst (λ (t : Topology). IfErr c.over.result (λ why. why ≡ fault.DiskTooSmall → ¬ HasRegions t.circuits (g.D.Disk.device c.args.disk.now).count)) c.in-Ok.ensures.topology c.over.ensures.small
+
+pub returns-clause-regions : goal.returns-clause-regions
+returns-clause-regions g c tells =
+    let old = g.D.Disk.device c.args.disk.now in
+    let new = g.D.Disk.device c.over.new.disk in
+    subst (λ (t : Topology). IfOk c.over.result (λ server. AreBroughtUp t.circuits old new)) c.in-Ok.ensures.topology (c.over.ensures.regions tells)
+
+pub returns-clause-others : goal.returns-clause-others
+returns-clause-others g c tells =
+    let old = g.D.Disk.device c.args.disk.now in
+    let new = g.D.Disk.device c.over.new.disk in
+    subst (λ (t : Topology). KeepsOthers t.circuits old new) c.in-Ok.ensures.topology (c.over.ensures.others tells)
+
+pub returns-clause-reads : goal.returns-clause-reads
+returns-clause-reads g c = omega (arith, c.over.ensures.reads, same_count c.args.plans.now c.in-Ok.circuits c.in-Ok.ensures.topology)
+
+pub returns-clause-writes : goal.returns-clause-writes
+returns-clause-writes g c = omega (arith, c.over.ensures.writes, same_count c.args.plans.now c.in-Ok.circuits c.in-Ok.ensures.topology)

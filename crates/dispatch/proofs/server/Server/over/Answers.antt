@@ -1,0 +1,52 @@
+use Rattle.std.proofs.Common.{◌≤◌, ◌+◌, ◌*◌, map, length, refl, sym, ap, subst, ◌∙◌}
+use Rattle.config.specs.Topology.{Topology}
+use Rattle.dispatch.specs.Leases.{AreBroughtUp, AreSynced, HasRegions, KeepsOthers, found_leases}
+use Rattle.dispatch.specs.ServerValue.{ServerValue}
+use Rattle.dispatch.proofs.server.Server.over.Goals as goal
+
+-- whether the device has the regions
+
+pub returns-then-not-has_regions-clause-small : goal.returns-then-not-has_regions-clause-small
+returns-then-not-has_regions-clause-small g c = λ e has.
+    let parts = c.parts.ensures ∙ ap (λ (s : ServerValue). s.topology.circuits) c.server.view_is ∙ ap (λ (t : Topology). t.circuits) c.in-Ok.ensures in
+    c.if-not-has_regions.ensures.no refl (subst (HasRegions c.parts.result.now) (sym c.regions.ensures) (subst (λ ps. HasRegions ps (g.D.Disk.device c.args.disk.now).count) (sym parts) has))
+
+pub restart-requires-clause-regions : goal.restart-requires-clause-regions
+restart-requires-clause-regions g c =
+    let parts = c.parts.ensures ∙ ap (λ (s : ServerValue). s.topology.circuits) c.server.view_is in
+    subst (λ ps. HasRegions ps (g.D.Disk.device c.args.disk.now).count) parts (subst (HasRegions c.parts.result.now) c.regions.ensures (c.if-not-has_regions.ensures.yes refl))
+
+pub returns-clause-large : goal.returns-clause-large
+returns-clause-large g c =
+    let parts = c.parts.ensures ∙ ap (λ (s : ServerValue). s.topology.circuits) c.server.view_is ∙ ap (λ (t : Topology). t.circuits) c.in-Ok.ensures in
+    subst (HasRegions c.args.circuits.circuits) (sym c.restart.ensures.count)
+    (subst (λ ps. HasRegions ps (g.D.Disk.device c.args.disk.now).count) parts (subst (HasRegions c.parts.result.now) c.regions.ensures (c.if-not-has_regions.ensures.yes refl)))
+
+-- what the restart of all makes of it
+
+pub restart-requires-clause-synced : goal.restart-requires-clause-synced
+restart-requires-clause-synced g c tells = subst (λ (t : Topology). AreSynced t.circuits (g.D.Disk.device c.args.disk.now).region) (sym c.in-Ok.ensures) (c.requires.synced tells)
+
+pub returns-clause-topology : goal.returns-clause-topology
+returns-clause-topology g c = c.restart.ensures.topology ∙ c.in-Ok.ensures
+
+pub returns-clause-leases : goal.returns-clause-leases
+returns-clause-leases g c tells =
+    let old = g.D.Disk.device c.args.disk.now in
+    c.restart.ensures.leases tells ∙ ap (λ (t : Topology). map (found_leases old.region old.fuse) t.circuits) c.in-Ok.ensures
+
+pub returns-clause-regions : goal.returns-clause-regions
+returns-clause-regions g c tells =
+    subst (λ (t : Topology). AreBroughtUp t.circuits (g.D.Disk.device c.args.disk.now) (g.D.Disk.device c.restart.new.disk)) c.in-Ok.ensures (c.restart.ensures.regions tells)
+
+pub returns-clause-others : goal.returns-clause-others
+returns-clause-others g c tells =
+    subst (λ (t : Topology). KeepsOthers t.circuits (g.D.Disk.device c.args.disk.now) (g.D.Disk.device c.restart.new.disk)) c.in-Ok.ensures (c.restart.ensures.others tells)
+
+pub returns-clause-reads : goal.returns-clause-reads
+returns-clause-reads g c =
+    subst (λ (t : Topology). (g.D.Disk.device c.restart.new.disk).reads ≤ (g.D.Disk.device c.args.disk.now).reads + 5 * length t.circuits) c.in-Ok.ensures c.restart.ensures.reads
+
+pub returns-clause-writes : goal.returns-clause-writes
+returns-clause-writes g c =
+    subst (λ (t : Topology). (g.D.Disk.device c.restart.new.disk).writes ≤ (g.D.Disk.device c.args.disk.now).writes + 4 * length t.circuits) c.in-Ok.ensures c.restart.ensures.writes
