@@ -1,8 +1,15 @@
--- Datagrams that were carried one after the other.
-use Rattle.std.proofs.Common.{◌≡◌, ◌∙◌, ◌+◌, ℕ, refl, sym, ap, ap₂, List, [], ◌∷◌, ◌++◌, length, arith}
-use Rattle.std.proofs.lemmas.List.Elements.{All-append, All-cons, All-nil}
-use Rattle.access.specs.Access.{AccessValue, HasCarried}
+-- Sockets that were tried one after the other.
+use Rattle.std.proofs.Common.{inl, inr, ◌≡◌, ◌∙◌, ◌+◌, ℕ, suc, refl, sym, ap, ap₂, List, [], ◌∷◌, ◌++◌, length, arith, append_assoc, append-nil, subst}
+use Rattle.std.specs.Prelude.{◌⊎◌}
+use Rattle.types.specs.declared.addr.Source.{Source}
+use Rattle.config.specs.Topology.{Topology}
+use Rattle.udp.specs.History.{Entry, Failed, Took, with_entry}
+use Rattle.udp.specs.declared.history.Role.{Role}
+use Rattle.types.specs.declared.dest.Proto.{Proto}
+use Rattle.udp.specs.declared.history.Role.TheVariants as role
+use Rattle.access.specs.Access.{AccessValue, HasCarried, HasServed}
 use Rattle.access.specs.Counts.{counted, counted_all}
+use Rattle.access.specs.Turn.{Both, InOrder, IsTaken, IsTried, Tries}
 use Rattle.access.specs.declared.counts.Counts.{Counts}
 use Rattle.access.specs.declared.counts.Outcome.{Outcome}
 
@@ -14,27 +21,71 @@ pub length_append : (a b : List Outcome) → length (a ++ b) ≡ length a + leng
 length_append [] b = omega arith
 length_append (o ∷ a) b = let inside : length (a ++ b) ≡ length a + length b = length_append a b in omega (arith, inside)
 
--- a datagram is taken, something becomes of it, and that is counted
-pub carried_by : (Can : Outcome → Type 0) (old mid seen : AccessValue) (counts : Counts) (o : Outcome)
-    → mid ≡ record old { taken = old.taken + 1 } → seen ≡ mid → counts ≡ counted o seen.counts → Can o → HasCarried Can 1 old (record seen { counts = counts })
-carried_by Can old mid seen counts o is_mid is_seen is_counts can = record {
-  outcomes = o ∷ [];
-  each = All-cons Can o [] can (All-nil Can);
-  many = refl;
-  after = ap₂ (λ (s : AccessValue) (n : Counts). record s { counts = n }) (is_seen ∙ is_mid) (is_counts ∙ ap (λ (s : AccessValue). counted o s.counts) (is_seen ∙ is_mid));
+-- of the configuration and the ports nothing changes
+pub carried_topology : (Try : Tries) (n : ℕ) (a b : AccessValue) → HasCarried Try n a b → b.topology ≡ a.topology
+carried_topology Try n a b carried = ap (λ (s : AccessValue). s.topology) carried.after
+
+pub carried_port : (Try : Tries) (n : ℕ) (a b : AccessValue) → HasCarried Try n a b → b.port ≡ a.port
+carried_port Try n a b carried = ap (λ (s : AccessValue). s.port) carried.after
+
+pub carried_then : (First Second : Tries) (m n : ℕ) (a b c : AccessValue) → HasCarried First m a b → HasCarried Second n b c → HasCarried (Both First Second) (m + n) a c
+carried_then First Second m n a b c first second = record {
+  entries = first.entries ++ second.entries;
+  outcomes = first.outcomes ++ second.outcomes;
+  tried = record { before = first.entries; after = second.entries; done = first.outcomes; more = second.outcomes; one = first.tried; other = second.tried; entries_are = refl; outcomes_are = refl };
+  many = length_append first.outcomes second.outcomes ∙ ap₂ (λ i j. i + j) first.many second.many;
+  after = second.after ∙ (ap (λ (s : AccessValue). record s { counts = counted_all second.outcomes s.counts; history = s.history ++ second.entries }) first.after
+      ∙ ap₂ (λ (counts : Counts) (history : List Entry). record a { counts = counts; history = history }) (sym (counted_append first.outcomes second.outcomes a.counts))
+      (append_assoc a.history first.entries second.entries));
 }
 
--- of the configuration nothing changes
-pub carried_topology : (Can : Outcome → Type 0) (n : ℕ) (a b : AccessValue) → HasCarried Can n a b → b.topology ≡ a.topology
-carried_topology Can n a b carried = ap (λ (s : AccessValue). s.topology) carried.after
+-- no socket was tried yet
+pub carried_none : (a : AccessValue) (Try : Tries) → Try [] [] → HasCarried Try 0 a a
+carried_none a Try tried = record { entries = []; outcomes = []; tried = tried; many = refl; after = ap (λ (history : List Entry). record a { history = history }) (sym (append-nil a.history)) }
 
-pub carried_then : (Can : Outcome → Type 0) (m n : ℕ) (a b c : AccessValue) → HasCarried Can m a b → HasCarried Can n b c → HasCarried Can (m + n) a c
-carried_then Can m n a b c first then =
-    let taken : a.taken + m + n ≡ a.taken + (m + n) = omega arith in
+-- the next socket in order
+pub carried_again : (Try : ℕ → Tries) (n m k : ℕ) (a b c : AccessValue) → HasCarried (InOrder Try n) m a b → HasCarried (Try n) k b c → HasCarried (InOrder Try (n + 1)) (m + k) a c
+carried_again Try n m k a b c first second =
+    let both = carried_then (InOrder Try n) (Try n) m k a b c first second in
+    let more : suc n ≡ n + 1 = omega arith in
+    subst (λ (i : ℕ). HasCarried (InOrder Try i) (m + k) a c) more (record { entries = both.entries; outcomes = both.outcomes; tried = both.tried; many = both.many; after = both.after })
+
+-- what a failed receive adds
+idle_entries : (role : Role) (old new : List Entry) → (new ≡ old) ⊎ (new ≡ with_entry (Failed role) old) → (entries : List Entry) × ((entries ≡ []) ⊎ (entries ≡ Failed role ∷ [])) × (new ≡ old ++ entries)
+idle_entries role old new (inl same) = ([], inl refl, same ∙ sym (append-nil old))
+idle_entries role old new (inr failed) = (Failed role ∷ [], inr refl, failed)
+
+-- a socket from which nothing was taken
+pub carried_idle : (role : Role) (Made : Source → List ℕ → List Entry → Outcome → Type 0) (old : AccessValue) (history : List Entry)
+    → (history ≡ old.history) ⊎ (history ≡ with_entry (Failed role) old.history) → HasCarried (IsTried role Made) 0 old (record old { history = history })
+carried_idle role Made old history idle =
+    let e = idle_entries role old.history history idle in
+    record { entries = e.0; outcomes = []; tried = inl (e.1, refl); many = refl; after = ap (λ (h : List Entry). record old { history = h }) e.2 }
+
+-- a socket from which a datagram was taken, something was made of it, and that was counted
+pub carried_taken : (role : Role) (Made : Source → List ℕ → List Entry → Outcome → Type 0) (old : AccessValue) (taken history rest : List Entry) (counts : Counts) (from : Source) (bytes : List ℕ) (became : Outcome)
+    → taken ≡ with_entry (Took role from bytes) old.history → history ≡ taken ++ rest → counts ≡ counted became old.counts → Made from bytes rest became
+    → HasCarried (IsTried role Made) 1 old (record old { counts = counts; history = history })
+carried_taken role Made old taken history rest counts from bytes became took added count made = record {
+  entries = Took role from bytes ∷ rest;
+  outcomes = became ∷ [];
+  tried = inr (record { from = from; bytes = bytes; rest = rest; outcome = became; entries_are = refl; outcomes_are = refl; made = made });
+  many = refl;
+  after = ap₂ (λ (c : Counts) (h : List Entry). record old { counts = c; history = h }) count (added ∙ ap (λ h. h ++ rest) took ∙ append_assoc old.history (Took role from bytes ∷ []) rest);
+}
+
+-- the server's socket from which nothing was taken
+pub served_idle : (now : ℕ) (proto : Proto) (old : AccessValue) (history : List Entry) → (history ≡ old.history) ⊎ (history ≡ with_entry (Failed (role.Server proto)) old.history)
+    → HasServed now proto 0 old (record old { history = history })
+served_idle now proto old history idle =
+    let e = idle_entries (role.Server proto) old.history history idle in
     record {
-      outcomes = first.outcomes ++ then.outcomes;
-      each = All-append Can first.outcomes then.outcomes first.each then.each;
-      many = length_append first.outcomes then.outcomes ∙ ap₂ (λ i j. i + j) first.many then.many;
-      after = then.after ∙ (ap (λ (s : AccessValue). record s { counts = counted_all then.outcomes s.counts; taken = s.taken + n }) first.after
-          ∙ ap₂ (λ (counts : Counts) (k : ℕ). record a { counts = counts; taken = k }) (sym (counted_append first.outcomes then.outcomes a.counts)) taken);
+      entries = e.0;
+      outcomes = [];
+      tried = inl (e.1, refl);
+      many = refl;
+      kept = record { topology = refl; served = refl; regions = refl; formats = refl; port = refl; turns = refl };
+      counts = refl;
+      history = e.2;
+      idle = λ none. ap (λ (h : List Entry). record old { history = h }) e.2;
     }

@@ -6,3 +6,4 @@ pub mod OpeningLemmas
 pub mod RelayLemmas
 pub mod TurnLemmas
 pub mod CountLemmas
+pub mod UpLemmas

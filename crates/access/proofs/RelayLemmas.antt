@@ -1,17 +1,14 @@
--- A circuit's sockets use the socket of its own relay, and each circuit is served.
+-- A circuit's own relay, lists of sockets, and that each circuit is served.
 use Rattle.std.proofs.Common.{◌≡◌, ◌∙◌, ◌<◌, ℕ, zero, suc, List, [], ◌∷◌, ◌++◌, length, map, refl, sym, ap, subst, arith}
 use Rattle.std.specs.Prelude.{Bool, false, true, Some, slice_get, slice_index_or, option_map}
 use Rattle.std.proofs.lemmas.List.{get_or-replicate, length-map}
 use Rattle.std.proofs.lemmas.Option.{same_Some, slice_get-map}
-use Rattle.types.specs.declared.addr.Source.{Source}
 use Rattle.settings.specs.Settings.{Settings}
 use Rattle.settings.specs.declared.settings.CircuitConfig.{CircuitConfig}
 use Rattle.settings.specs.declared.settings.RelayConfig.{RelayConfig}
 use Rattle.config.specs.CircuitPart.{CircuitPart, part_in, part_of, source_at}
 use Rattle.config.specs.Topology.{topology_of}
 use Rattle.access.specs.Access.{ServesEach}
-use Rattle.access.specs.Sockets.{AreOwnRelays}
-use Rattle.access.specs.declared.sockets.CircuitSockets.{CircuitSockets}
 
 source_there : (relays : List RelayConfig) (n : ℕ) → n < length relays → slice_get (map (λ relay. relay.source) relays) n ≡ Some (source_at relays n)
 source_there [] n within = absurd (omega (arith, within))
@@ -26,15 +23,16 @@ own_relay settings c circuit there within part is =
     let same : own circuit ≡ part = same_Some (own circuit) part (sym (slice_get-map own settings.circuits c ∙ ap (option_map own) there) ∙ is) in
     source_there settings.relays circuit.relay within ∙ ap (λ (p : CircuitPart). Some p.relay) same
 
--- the sockets of one more circuit
-pub own_pushed : (relays : List Source) (parts : List CircuitPart) (circuits : List CircuitSockets) (next : CircuitSockets) → AreOwnRelays relays parts circuits
-    → ((part : CircuitPart) → slice_get parts (length circuits) ≡ Some part → slice_get relays next.relay ≡ Some part.relay) → AreOwnRelays relays parts (circuits ++ next ∷ [])
-own_pushed relays parts [] next own new zero part sockets there is =
-    subst (λ (s : CircuitSockets). slice_get relays s.relay ≡ Some part.relay) (same_Some next sockets is) (new part there)
-own_pushed relays parts [] next own new (suc c) part sockets there is = absurd cc
-own_pushed relays [] (s ∷ rest) next own new c part sockets there is = absurd cc
-own_pushed relays (p ∷ ps) (s ∷ rest) next own new zero part sockets there is = own zero part sockets there is
-own_pushed relays (p ∷ ps) (s ∷ rest) next own new (suc c) part sockets there is = own_pushed relays ps rest next (λ k. own (suc k)) new c part sockets there is
+-- what holds of each element with its own in another list holds with one more
+module _ {A B : Type 0} where
+  pub pushed : (P : ℕ → A → B → Type 0) (xs : List A) (ys : List B) (next : B) → ((k : ℕ) (x : A) (y : B) → slice_get xs k ≡ Some x → slice_get ys k ≡ Some y → P k x y)
+      → ((x : A) → slice_get xs (length ys) ≡ Some x → P (length ys) x next)
+      → (k : ℕ) (x : A) (y : B) → slice_get xs k ≡ Some x → slice_get (ys ++ next ∷ []) k ≡ Some y → P k x y
+  pushed P xs [] next own new zero x y there is = subst (P 0 x) (same_Some next y is) (new x there)
+  pushed P xs [] next own new (suc k) x y there is = absurd cc
+  pushed P [] (w ∷ ys) next own new k x y there is = absurd cc
+  pushed P (v ∷ xs) (w ∷ ys) next own new zero x y there is = own zero x y there is
+  pushed P (v ∷ xs) (w ∷ ys) next own new (suc k) x y there is = pushed (λ n. P (suc n)) xs ys next (λ n. own (suc n)) new k x y there is
 
 -- a configuration alone serves each of its circuits
 pub serves_each : (settings : Settings) → ServesEach (topology_of settings)

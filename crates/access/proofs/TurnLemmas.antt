@@ -10,8 +10,10 @@ use Rattle.requests.specs.Addressee.{addressee}
 use Rattle.dispatch.specs.Received.{addressee_answered, answered, circuit_answered}
 use Rattle.dispatch.specs.Server.{Book}
 use Rattle.dispatch.specs.ServerValue.{ServerValue, books_in}
-use Rattle.access.specs.Access.{AccessValue, HasCarried, HasCounted, HasServed, HasTurned, StayClosed, books_at}
+use Rattle.udp.specs.declared.history.Role.TheVariants as role
+use Rattle.access.specs.Access.{AccessValue, HasAnswered, HasCarried, HasCounted, HasServed, HasTurned, StayClosed, books_at}
 use Rattle.access.specs.Counts.{counted_all, more_by}
+use Rattle.access.specs.Turn.{IsTried, Tries}
 use Rattle.access.specs.declared.counts.Counts.{Counts}
 use Rattle.access.specs.declared.counts.Outcome.{Outcome}
 use Rattle.access.specs.declared.counts.Outcome.TheVariants as outcome
@@ -27,18 +29,17 @@ counted_then m n a b c first then = record {
   after = then.after ∙ (ap (counted_all then.outcomes) first.after ∙ sym (counted_append first.outcomes then.outcomes a));
 }
 
-carried_counts : (Can : Outcome → Type 0) (n : ℕ) (a b : AccessValue) → HasCarried Can n a b → HasCounted n a.counts b.counts
-carried_counts Can n a b carried = record { outcomes = carried.outcomes; many = carried.many; after = ap (λ (s : AccessValue). s.counts) carried.after }
+carried_counts : (Try : Tries) (n : ℕ) (a b : AccessValue) → HasCarried Try n a b → HasCounted n a.counts b.counts
+carried_counts Try n a b carried = record { outcomes = carried.outcomes; many = carried.many; after = ap (λ (s : AccessValue). s.counts) carried.after }
 
-served_counts : (proto : Proto) (now n : ℕ) (a b : AccessValue) → HasServed proto now n a b → HasCounted n a.counts b.counts
-served_counts proto now n a b (inl (none, same)) = record { outcomes = []; many = sym none; after = ap (λ (s : AccessValue). s.counts) same }
-served_counts proto now n a b (inr (one, answered)) = record { outcomes = _ ∷ []; many = sym one; after = answered.counts }
+served_counts : (now : ℕ) (proto : Proto) (n : ℕ) (a b : AccessValue) → HasServed now proto n a b → HasCounted n a.counts b.counts
+served_counts now proto n a b served = record { outcomes = served.outcomes; many = served.many; after = served.counts }
 
 pub turned_counts : (now n : ℕ) (old new : AccessValue) → HasTurned now n old new → HasCounted n old.counts new.counts
 turned_counts now n old new t =
     let frames = carried_counts _ t.frames old t.relayed t.from_circuits in
-    let four = served_counts _ now t.datagrams4 t.relayed t.served4 t.at_server4 in
-    let six = served_counts _ now t.datagrams6 t.served4 t.served6 t.at_server6 in
+    let four = served_counts now _ t.datagrams4 t.relayed t.served4 t.at_server4 in
+    let six = served_counts now _ t.datagrams6 t.served4 t.served6 t.at_server6 in
     let answers = carried_counts _ t.answers t.served6 t.delivered t.from_relays in
     let all = counted_then (t.frames + t.datagrams4 + t.datagrams6) t.answers _ _ _
     (counted_then (t.frames + t.datagrams4) t.datagrams6 _ _ _ (counted_then t.frames t.datagrams4 _ _ _ frames four) six) answers in
@@ -60,19 +61,18 @@ counted_received n a b counts most =
 
 -- ---- books
 
-carried_server : (Can : Outcome → Type 0) (n : ℕ) (a b : AccessValue) → HasCarried Can n a b → b.server ≡ a.server
-carried_server Can n a b carried = ap (λ (s : AccessValue). s.server) carried.after
+carried_server : (Try : Tries) (n : ℕ) (a b : AccessValue) → HasCarried Try n a b → b.server ≡ a.server
+carried_server Try n a b carried = ap (λ (s : AccessValue). s.server) carried.after
 
-quiet_server : (proto : Proto) (now n : ℕ) (a b : AccessValue) → HasServed proto now n a b → n ≡ 0 → b.server ≡ a.server
-quiet_server proto now n a b (inl (none, same)) zero_is = ap (λ (s : AccessValue). s.server) same
-quiet_server proto now n a b (inr (one, answered)) zero_is = absurd (omega (arith, one, zero_is))
+quiet_server : (now : ℕ) (proto : Proto) (n : ℕ) (a b : AccessValue) → HasServed now proto n a b → n ≡ 0 → b.server ≡ a.server
+quiet_server now proto n a b served none = ap (λ (s : AccessValue). s.server) (served.idle none)
 
 pub quiet : (now n : ℕ) (old new : AccessValue) → HasTurned now n old new → n ≡ 0 → books_in new.server ≡ books_at now (books_in old.server)
 quiet now n old new t none =
     let four : t.datagrams4 ≡ 0 = omega (arith, t.many, none) in
     let six : t.datagrams6 ≡ 0 = omega (arith, t.many, none) in
-    let same = carried_server _ t.answers t.served6 t.delivered t.from_relays ∙ (quiet_server _ now t.datagrams6 t.served4 t.served6 t.at_server6 six
-    ∙ (quiet_server _ now t.datagrams4 t.relayed t.served4 t.at_server4 four ∙ carried_server _ t.frames old t.relayed t.from_circuits)) in
+    let same = carried_server _ t.answers t.served6 t.delivered t.from_relays ∙ (quiet_server now _ t.datagrams6 t.served4 t.served6 t.at_server6 six
+    ∙ (quiet_server now _ t.datagrams4 t.relayed t.served4 t.at_server4 four ∙ carried_server _ t.frames old t.relayed t.from_circuits)) in
     t.ticked ∙ ap (λ (s : ServerValue). books_at now (books_in s)) same
 
 set_closed : (books : List (Option Book)) (c at : ℕ) (book : Option Book) → slice_get books c ≡ Some None → (slice_get books at ≡ Some None → book ≡ None)
@@ -99,18 +99,21 @@ addressee_closed : (topology : Topology) (d : DeliveryValue) (fails : Bool) (boo
 addressee_closed topology d fails books (Err why) c closed = closed
 addressee_closed topology d fails books (Ok at) c closed = circuit_closed at d fails books (slice_get topology.circuits at) (slice_get books at) refl c closed
 
-served_closed : (proto : Proto) (now n : ℕ) (a b : AccessValue) → HasServed proto now n a b → StayClosed a.server b.server
-served_closed proto now n a b (inl (none, same)) c closed = subst (λ (s : AccessValue). slice_get (books_in s.server) c ≡ Some None) (sym same) closed
-served_closed proto now n a b (inr (one, answered)) c closed =
-    subst (λ books. slice_get books c ≡ Some None) (sym answered.books) (addressee_closed a.server.topology _ _ _ (addressee a.server.topology (delivery proto answered.from now answered.datagram)) c closed)
+served_closed : (now : ℕ) (proto : Proto) (n : ℕ) (a b : AccessValue) → HasServed now proto n a b → StayClosed a.server b.server
+served_closed now proto n a b served c closed = by served.tried where
+  by : IsTried (role.Server proto) (HasAnswered now proto a b) served.entries served.outcomes → slice_get (books_in b.server) c ≡ Some None
+  by (inl (entries, none)) = subst (λ (s : ServerValue). slice_get (books_in s) c ≡ Some None) (sym (quiet_server now proto n a b served (sym served.many ∙ ap length none))) closed
+  by (inr taken) =
+      subst (λ books. slice_get books c ≡ Some None) (sym taken.made.books)
+      (addressee_closed a.server.topology _ _ _ (addressee a.server.topology (delivery proto taken.from now taken.bytes)) c closed)
 
-carried_closed : (Can : Outcome → Type 0) (n : ℕ) (a b : AccessValue) → HasCarried Can n a b → StayClosed a.server b.server
-carried_closed Can n a b carried c closed = subst (λ (s : ServerValue). slice_get (books_in s) c ≡ Some None) (sym (carried_server Can n a b carried)) closed
+carried_closed : (Try : Tries) (n : ℕ) (a b : AccessValue) → HasCarried Try n a b → StayClosed a.server b.server
+carried_closed Try n a b carried c closed = subst (λ (s : ServerValue). slice_get (books_in s) c ≡ Some None) (sym (carried_server Try n a b carried)) closed
 
 pub turned_closed : (now n : ℕ) (old new : AccessValue) → HasTurned now n old new → StayClosed old.server new.server
 turned_closed now n old new t c closed =
     let relayed = carried_closed _ t.frames old t.relayed t.from_circuits c closed in
-    let four = served_closed _ now t.datagrams4 t.relayed t.served4 t.at_server4 c relayed in
-    let six = served_closed _ now t.datagrams6 t.served4 t.served6 t.at_server6 c four in
+    let four = served_closed now _ t.datagrams4 t.relayed t.served4 t.at_server4 c relayed in
+    let six = served_closed now _ t.datagrams6 t.served4 t.served6 t.at_server6 c four in
     let delivered = carried_closed _ t.answers t.served6 t.delivered t.from_relays c six in
     subst (λ books. slice_get books c ≡ Some None) (sym t.ticked) (ticked_closed now (books_in t.delivered.server) c delivered)

@@ -1,19 +1,24 @@
 -- What shows of relay and server over sockets, and what a turn does.
-use Rattle.std.specs.Prelude.{◌≡◌, ◌≤◌, ◌<◌, ◌+◌, ◌⊎◌, ℕ, All, Bool, true, false, List, length, map, Option, Some, None, option_map, slice_get, nat_le, nat_lt, Result, Ok, Err, ⊤, if◌then◌else◌}
+use Rattle.std.specs.Prelude.{◌≡◌, ◌≤◌, ◌<◌, ◌+◌, ◌++◌, ℕ, All, true, List, length, map, Option, Some, None, option_map, slice_get, nat_le, nat_lt, if◌then◌else◌}
 use Rattle.types.specs.Delivery.{delivery}
 use Rattle.types.specs.declared.addr.Source.{Source}
 use Rattle.types.specs.declared.dest.Proto.{Proto}
 use Rattle.types.specs.declared.dest.Proto.TheVariants.{V4, V6}
-use Rattle.types.specs.declared.discard.Discard.{Discard}
 use Rattle.lease_disk.specs.FileDisk.{FileDiskValue}
-use Rattle.dispatch.specs.Received.{received}
+use Rattle.dispatch.specs.Leases.{HasRegions}
+use Rattle.dispatch.specs.Received.{Received, received}
 use Rattle.dispatch.specs.Server.{Book, book_at}
 use Rattle.dispatch.specs.ServerValue.{ServerValue, books_in}
 use Rattle.config.specs.Topology.{Topology, serves}
-use Rattle.access.specs.Counts.{counted, counted_all}
+use Rattle.udp.specs.History.{Entry, Ticked, with_entry}
+use Rattle.udp.specs.declared.history.Role.TheVariants as role
+use Rattle.access.specs.Counts.{counted_all}
+use Rattle.access.specs.Sockets.{AreBound}
+use Rattle.access.specs.declared.sockets.Sockets.{Sockets}
 use Rattle.access.specs.declared.counts.Counts.{Counts}
 use Rattle.access.specs.declared.counts.Outcome.{Outcome}
 use Rattle.access.specs.declared.counts.Outcome.TheVariants as outcome
+use Rattle.access.specs.Turn.{CircuitsSockets, GoesOn, IsTried, RelaysSockets, Tries}
 
 pub record AccessValue : Type 0 where
   -- what the relays know of the configuration
@@ -22,15 +27,24 @@ pub record AccessValue : Type 0 where
   pub disk : FileDiskValue
   -- the format in which the opening found each circuit's region
   pub formats : List (Option ℕ)
+  -- the first of the circuits' ports
+  pub port : ℕ
   -- what became of the datagrams that were taken
   pub counts : Counts
-  -- how many datagrams were taken from sockets, and how many turns were made
-  pub taken : ℕ
+  -- what happened at the sockets, and how many turns were made
+  pub history : List Entry
   pub turns : ℕ
 
 -- each circuit is served
 abbrev pub ServesEach : Topology → Type 0
 ServesEach topology = (c : ℕ) → c < length topology.circuits → serves topology c ≡ true
+
+-- Each circuit and each relay has its sockets, which have their roles and addresses, each circuit has a region, and each is served.
+abbrev pub IsAccess : Topology → Sockets → ServerValue → ℕ → ℕ → Source → Source → Type 0
+IsAccess topology sockets server regions port listen4 listen6 =
+    (length sockets.circuits.items ≡ length topology.circuits) × (length sockets.circuits.items ≤ 16) × All (λ circuit. circuit.relay < length sockets.relays.items) sockets.circuits.items
+    × (length sockets.relays.items ≡ length topology.relays) × (length sockets.relays.items ≤ 8) × HasRegions server.topology.circuits regions × AreBound topology port sockets × ServesEach topology
+    × (listen4 ≡ topology.listen4) × (listen6 ≡ topology.listen6) × (port ≤ 65472)
 
 -- ---- the clock
 
@@ -40,31 +54,13 @@ moment_of seconds before = if nat_le seconds 1099511627775 then seconds else bef
 
 -- ---- one datagram
 
--- What can become of a client's frame, and of a datagram that a relay takes.
-abbrev pub CanRelay : Outcome → Type 0
-CanRelay outcome.Relayed = ⊤
-CanRelay outcome.Unsent = ⊤
-CanRelay (outcome.Dropped why) = ⊤
-CanRelay o = ⊥
-
-abbrev pub CanDeliver : Outcome → Type 0
-CanDeliver outcome.Delivered = ⊤
-CanDeliver outcome.Unsent = ⊤
-CanDeliver (outcome.Dropped why) = ⊤
-CanDeliver o = ⊥
-
--- What becomes of a datagram that the server takes, by its answer and whether the system took that.
-abbrev pub answer_outcome : Result (List ℕ) Discard → Bool → Outcome
-answer_outcome (Ok bytes) true = outcome.Answered
-answer_outcome (Ok bytes) false = outcome.Unsent
-answer_outcome (Err why) sent = outcome.Dropped why
-
--- Datagrams were taken from sockets, and nothing else changed than the counts.
-pub record HasCarried (Can : Outcome → Type 0) (count : ℕ) (old new : AccessValue) : Type 0 where
+-- Some sockets were tried, and nothing else changed than the counts and the history.
+pub record HasCarried (Try : Tries) (count : ℕ) (old new : AccessValue) : Type 0 where
+  pub entries : List Entry
   pub outcomes : List Outcome
-  pub each : All Can outcomes
+  pub tried : Try entries outcomes
   pub many : length outcomes ≡ count
-  pub after : new ≡ record old { counts = counted_all outcomes old.counts; taken = old.taken + count }
+  pub after : new ≡ record old { counts = counted_all outcomes old.counts; history = old.history ++ entries }
 
 -- What relays and server know of the configuration, the number of regions and turns, and what the opening found, stay.
 pub record HasKept (old new : AccessValue) : Type 0 where
@@ -72,22 +68,31 @@ pub record HasKept (old new : AccessValue) : Type 0 where
   pub served : new.server.topology ≡ old.server.topology
   pub regions : new.disk.regions ≡ old.disk.regions
   pub formats : new.formats ≡ old.formats
+  pub port : new.port ≡ old.port
   pub turns : new.turns ≡ old.turns
 
--- The server took a datagram from a socket: its books are those after it, where the save failed or not, and what
--- became of it is counted.
-pub record HasAnswered (proto : Proto) (now : ℕ) (old new : AccessValue) : Type 0 where
-  pub from : Source
-  pub datagram : List ℕ
-  pub sent : Bool
-  pub kept : HasKept old new
-  pub books : books_in new.server ≡ (received old.server.topology (delivery proto from now datagram) (nat_lt old.disk.failures new.disk.failures) (books_in old.server)).books
-  pub counts : new.counts ≡ counted (answer_outcome (received old.server.topology (delivery proto from now datagram) (nat_lt old.disk.failures new.disk.failures) (books_in old.server)).answer sent) old.counts
-  pub taken : new.taken ≡ old.taken + 1
+-- what the server makes of a datagram that was taken at a moment
+abbrev pub served_at : ℕ → Proto → Source → List ℕ → AccessValue → AccessValue → Received
+served_at now proto from datagram old new =
+    received old.server.topology (delivery proto from now datagram) (nat_lt old.disk.failures new.disk.failures) (books_in old.server)
 
--- One of the server's sockets was tried: it gave nothing, or one datagram.
-abbrev pub HasServed : Proto → ℕ → ℕ → AccessValue → AccessValue → Type 0
-HasServed proto now count old new = ((count ≡ 0) × (new ≡ old)) ⊎ ((count ≡ 1) × HasAnswered proto now old new)
+-- The answer goes from the server's socket to where the datagram came from, and the books are those after it, where the save failed
+-- or not.
+pub record HasAnswered (now : ℕ) (proto : Proto) (old new : AccessValue) (from : Source) (datagram : List ℕ) (rest : List Entry) (became : Outcome) : Type 0 where
+  pub books : books_in new.server ≡ (served_at now proto from datagram old new).books
+  pub goes_on : GoesOn (role.Server proto) from outcome.Answered (served_at now proto from datagram old new).answer rest became
+
+-- One of the server's sockets was tried.
+pub record HasServed (now : ℕ) (proto : Proto) (count : ℕ) (old new : AccessValue) : Type 0 where
+  pub entries : List Entry
+  pub outcomes : List Outcome
+  pub tried : IsTried (role.Server proto) (HasAnswered now proto old new) entries outcomes
+  pub many : length outcomes ≡ count
+  pub kept : HasKept old new
+  pub counts : new.counts ≡ counted_all outcomes old.counts
+  pub history : new.history ≡ old.history ++ entries
+  -- where no datagram was taken nothing else changed
+  pub idle : count ≡ 0 → new ≡ record old { history = old.history ++ entries }
 
 -- ---- a turn
 
@@ -105,13 +110,13 @@ pub record HasTurned (now count : ℕ) (old new : AccessValue) : Type 0 where
   pub datagrams4 : ℕ
   pub datagrams6 : ℕ
   pub answers : ℕ
-  pub from_circuits : HasCarried CanRelay frames old relayed
-  pub at_server4 : HasServed V4 now datagrams4 relayed served4
-  pub at_server6 : HasServed V6 now datagrams6 served4 served6
-  pub from_relays : HasCarried CanDeliver answers served6 delivered
+  pub from_circuits : HasCarried (CircuitsSockets old.topology) frames old relayed
+  pub at_server4 : HasServed now V4 datagrams4 relayed served4
+  pub at_server6 : HasServed now V6 datagrams6 served4 served6
+  pub from_relays : HasCarried (RelaysSockets old.topology old.port) answers served6 delivered
   pub ticked : books_in new.server ≡ books_at now (books_in delivered.server)
+  pub history : new.history ≡ with_entry (Ticked now) delivered.history
   pub counts : new.counts ≡ delivered.counts
-  pub taken : new.taken ≡ delivered.taken
   pub many : count ≡ frames + datagrams4 + datagrams6 + answers
 
 -- ---- what follows

@@ -1,32 +1,41 @@
 -- The addresses that sockets are bound to.
 use Rattle.std.specs.Prelude.{◌≡◌, ◌<◌, ◌+◌, ◌*◌, ◌⊎◌, ℕ, List, [], ◌∷◌, ◌++◌, ⊤, length, Some, slice_get}
-use Rattle.std.specs.Net.Socket.{socket_ip, socket_port}
-use Rattle.std.specs.declared.net.ip_addr.IpAddr.TheVariants.{V4}
-use Rattle.std.specs.declared.net.socket_addr.SocketAddr.{SocketAddr}
 use Rattle.types.specs.declared.addr.Source.{Source}
 use Rattle.types.specs.declared.dest.Dest.{Dest}
+use Rattle.types.specs.declared.dest.Proto.{Proto}
+use Rattle.types.specs.declared.dest.Proto.TheVariants.{V4, V6}
 use Rattle.types.specs.declared.dest.Dest.TheVariants.{Broadcast, Unicast, Peer}
 use Rattle.settings.specs.declared.settings.RelayConfig.{RelayConfig}
 use Rattle.settings.specs.Settings.{Settings}
 use Rattle.config.specs.CircuitPart.{CircuitPart}
+use Rattle.config.specs.Topology.{Topology}
+use Rattle.udp.specs.declared.datagram_socket.DatagramSocket.{DatagramSocket}
+use Rattle.udp.specs.declared.history.Role.{Role}
+use Rattle.udp.specs.declared.history.Role.TheVariants as role
 use Rattle.access.specs.declared.access.AccessFault.{AccessFault}
 use Rattle.access.specs.declared.access.AccessFault.TheVariants as fault
 use Rattle.access.specs.declared.sockets.CircuitSockets.{CircuitSockets}
+use Rattle.access.specs.declared.sockets.Sockets.{Sockets}
 use Rattle.access.specs.declared.sockets.SocketFault.{SocketFault}
 use Rattle.access.specs.declared.sockets.SocketFault.TheVariants as socket
-
--- the system's form of an IPv4 address and port
-pub record IsSystemForm (at : Source) (form : SocketAddr) : Type 0 where
-  pub ip : socket_ip form ≡ V4 (record { octets = at.addr.0 })
-  pub port : socket_port form ≡ at.port
 
 -- this port of 127.0.0.1
 abbrev pub local_port : ℕ → Source
 local_port port = record { addr = record { 0 = 127 ∷ 0 ∷ 0 ∷ 1 ∷ [] }; port = port }
 
--- one of a circuit's two sockets; each circuit has four ports, the first circuit's begin at `port`
+-- Where a circuit listens for a protocol, and where frames towards its clients go. Each circuit has four ports, the first circuit's
+-- begin at `port`.
+abbrev pub listen_port : ℕ → ℕ → Proto → Source
+listen_port port c V4 = local_port (port + 4 * c)
+listen_port port c V6 = local_port (port + 4 * c + 1)
+
+abbrev pub client_port : ℕ → ℕ → Proto → Source
+client_port port c V4 = local_port (port + 4 * c + 2)
+client_port port c V6 = local_port (port + 4 * c + 3)
+
+-- one of a circuit's two sockets
 abbrev pub IsCircuitSocket : ℕ → ℕ → Source → Type 0
-IsCircuitSocket count port at = (c : ℕ) × (c < count) × ((at ≡ local_port (port + 4 * c)) ⊎ (at ≡ local_port (port + 4 * c + 1)))
+IsCircuitSocket count port at = (c : ℕ) × (proto : Proto) × (c < count) × (at ≡ listen_port port c proto)
 
 abbrev pub IsRelaySocket : List RelayConfig → Source → Type 0
 IsRelaySocket relays at = (r : ℕ) × (relay : RelayConfig) × (slice_get relays r ≡ Some relay) × (at ≡ relay.source)
@@ -53,7 +62,28 @@ framed Broadcast frame = 0 ∷ frame
 framed (Unicast chaddr yiaddr) frame = 1 ∷ frame
 framed (Peer address) frame = address.0 ++ frame
 
--- The sockets of each circuit use the socket of its own relay, whose datagrams come from the relay's source.
-abbrev pub AreOwnRelays : List Source → List CircuitPart → List CircuitSockets → Type 0
-AreOwnRelays relays parts circuits =
-    (c : ℕ) (part : CircuitPart) (sockets : CircuitSockets) → slice_get parts c ≡ Some part → slice_get circuits c ≡ Some sockets → slice_get relays sockets.relay ≡ Some part.relay
+-- ---- what each socket is for, and where it is bound
+
+pub record IsBound (socket : DatagramSocket) (its_role : Role) (its_address : Source) : Type 0 where
+  pub role : socket.role ≡ its_role
+  pub at : socket.at ≡ its_address
+
+-- a circuit's two sockets, and the socket of its relay
+pub record AreCircuitSockets (relays : List Source) (port c : ℕ) (part : CircuitPart) (sockets : CircuitSockets) : Type 0 where
+  pub socket4 : IsBound sockets.socket4 (role.Circuit c V4) (listen_port port c V4)
+  pub socket6 : IsBound sockets.socket6 (role.Circuit c V6) (listen_port port c V6)
+  pub relay : slice_get relays sockets.relay ≡ Some part.relay
+
+abbrev pub AreOwnSockets : List Source → ℕ → List CircuitPart → List CircuitSockets → Type 0
+AreOwnSockets relays port parts circuits =
+    (c : ℕ) (part : CircuitPart) (sockets : CircuitSockets) → slice_get parts c ≡ Some part → slice_get circuits c ≡ Some sockets → AreCircuitSockets relays port c part sockets
+
+abbrev pub AreRelaySockets : List Source → List DatagramSocket → Type 0
+AreRelaySockets relays sockets = (r : ℕ) (at : Source) (socket : DatagramSocket) → slice_get relays r ≡ Some at → slice_get sockets r ≡ Some socket → IsBound socket (role.Relay r) at
+
+-- Each socket has its role and its address.
+pub record AreBound (topology : Topology) (port : ℕ) (sockets : Sockets) : Type 0 where
+  pub circuits : AreOwnSockets topology.relays port topology.circuits sockets.circuits.items
+  pub listen4 : IsBound sockets.listen4 (role.Server V4) topology.listen4
+  pub listen6 : IsBound sockets.listen6 (role.Server V6) topology.listen6
+  pub relays : AreRelaySockets topology.relays sockets.relays.items

@@ -1,21 +1,22 @@
 //! Relay and server over sockets.
-ghost use Rattle.std.specs.Prelude.{◌≡◌, ◌≤◌, ◌<◌, ◌+◌, ◌*◌, ◌↔◌, length, map, true, is_some, Some, slice_get, Err, IfOk, IfErr};
-ghost use Rattle.access.specs.Access.{CanDeliver, CanRelay, HasAnswered, HasCarried, HasCounted, HasReached, HasServed, HasTurned, StayClosed, books_at};
+ghost use Rattle.std.specs.Prelude.{◌≡◌, ◌≤◌, ◌<◌, ◌+◌, ◌*◌, ◌↔◌, [], length, map, true, is_some, Some, slice_get, Err, IfOk, IfErr};
+ghost use Rattle.access.specs.Access.{HasCarried, HasCounted, HasReached, HasServed, HasTurned, StayClosed, books_at};
 ghost use Rattle.access.specs.Counts.{more_by, none};
 ghost use Rattle.access.specs.Opening.{found_format, was_old};
 ghost use Rattle.access.specs.Sockets.{IsSocket, RefusesSocket};
+ghost use Rattle.access.specs.Turn.{CircuitSocket, CircuitsSockets, RelaySocket, RelaysSockets};
 ghost use Rattle.access.specs.declared.access.AccessFault.TheVariants as fault;
 ghost use Rattle.config.specs.CircuitPart.{parts_of};
 ghost use Rattle.dispatch.specs.Leases.{HasRegions};
 ghost use Rattle.dispatch.specs.ServerValue.{books_in};
-ghost use Rattle.config.specs.Topology.{topology_of};
+ghost use Rattle.config.specs.Topology.{listen, topology_of};
 
 use crate::clock::moment;
 use crate::counts::{Counts, Outcome};
-use crate::datagram_socket::BUFFER_LEN;
-use crate::frame::{Framed, put_frame};
+use crate::frame::{Framed, proto_of, put_frame};
 use crate::opening::{Formats, open_server};
-use crate::sockets::{MAX_SERVED, SocketFault, Sockets};
+use crate::sending::send_on;
+use crate::sockets::{MAX_SERVED, SocketFault, Sockets, client};
 use config::Config;
 use dispatch::{OpenFault, Server};
 use lease_disk::{FORMAT, FileDisk, OLD_FORMAT};
@@ -27,7 +28,8 @@ use std::rt::Clock;
 use std::thread;
 use std::time::Duration;
 use thiserror::Error;
-use types::{Circuit, Count, Dest, Moment, Proto, RelayNo, Source};
+use types::{Circuit, Count, Moment, Proto, RelayNo, Source};
+use udp::{BUFFER_LEN, Happened, History};
 use wire::PacketBuf;
 
 /// Why relay and server were not opened.
@@ -63,23 +65,22 @@ pub struct Access {
     buffer: [u8; BUFFER_LEN],
     out: PacketBuf,
     frame: Framed,
+    /// The first of the circuits' ports.
+    port: u16,
     counts: Counts,
-    taken: Count,
+    history: History,
     turns: Count,
 }
 
 impl Model for Access {
-    ghost use Rattle.std.specs.Prelude.{◌≡◌, ◌≤◌, ◌<◌, length, All};
-    ghost use Rattle.access.specs.Access.{AccessValue, ServesEach};
-    ghost use Rattle.access.specs.Sockets.{AreOwnRelays};
-    ghost use Rattle.dispatch.specs.Leases.{HasRegions};
+    ghost use Rattle.access.specs.Access.{AccessValue, IsAccess};
 
     ghost Value = { AccessValue };
 
-    ghost view = { λ a. record { topology = a.relays.topology; server = a.server; disk = a.disk; formats = a.formats.items; counts = a.counts; taken = a.taken.count; turns = a.turns.count } };
+    ghost view = { λ a. record { topology = a.relays.topology; server = a.server; disk = a.disk; formats = a.formats.items; port = a.port; counts = a.counts; history = a.history.entries; turns = a.turns.count } };
 
-    // each circuit and each relay has its sockets, each circuit its own relay's and a region, and each circuit is served
-    ghost invariant = { λ a. (length a.sockets.circuits.items ≡ length a.relays.topology.circuits) × (length a.sockets.circuits.items ≤ 16) × All (λ circuit. circuit.relay < length a.sockets.relays.items) a.sockets.circuits.items × (length a.sockets.relays.items ≡ length a.relays.topology.relays) × (length a.sockets.relays.items ≤ 8) × HasRegions a.server.topology.circuits a.disk.regions × AreOwnRelays a.relays.topology.relays a.relays.topology.circuits a.sockets.circuits.items × ServesEach a.relays.topology };
+    // each circuit and each relay has its sockets, which have their roles and addresses, each circuit a region, and each is served
+    ghost invariant = { λ a. IsAccess a.relays.topology a.sockets a.server a.disk.regions a.port a.listen4 a.listen6 };
 }
 
 impl Access {
@@ -106,7 +107,8 @@ impl Access {
         ensures reads { IfOk result (λ access. access.disk.reads ≤ disk.reads + 6 * length config.now.circuits) }
         ensures writes { IfOk result (λ access. access.disk.writes ≤ disk.writes + 4 * length config.now.circuits) }
         ensures counts { IfOk result (λ access. access.counts ≡ none) }
-        ensures taken { IfOk result (λ access. access.taken ≡ 0) }
+        ensures port { IfOk result (λ access. access.port ≡ port) }
+        ensures silent { IfOk result (λ access. access.history ≡ []) }
         ensures turns { IfOk result (λ access. access.turns ≡ 0) }
         ensures circuits { result ≡ Err fault.TooManyCircuits ↔ (16 < length config.now.circuits) }
         ensures small { IfErr result (λ why. why ≡ fault.Disk → ¬ HasRegions (parts_of config.now) disk.regions) }
@@ -139,8 +141,9 @@ impl Access {
             buffer: [0; BUFFER_LEN],
             out: PacketBuf::new(),
             frame: Framed::new(),
+            port,
             counts: Counts::new(),
-            taken: Count::new(),
+            history: History::new(),
             turns: Count::new(),
         })
     }
@@ -170,7 +173,7 @@ impl Access {
     pub fn turn(&mut self, now: Moment) -> u32
         ensures most { result ≤ 42 }
         ensures turned { HasTurned now result self.old self.new }
-        ensures taken { self.new.taken ≡ self.old.taken + result }
+        ensures port { self.new.port ≡ self.old.port }
         ensures turns { self.new.turns ≡ self.old.turns + 1 }
         ensures counts { HasCounted result self.old.counts self.new.counts }
         ensures received { self.new.counts.received ≡ more_by result self.old.counts.received }
@@ -187,6 +190,7 @@ impl Access {
         let datagrams6 = self.take_at_server(Proto::V6, now);
         let answers = self.take_from_relays();
         self.server.tick(now);
+        self.history = self.history.then(&Happened::Ticked(now));
         self.turns.tick();
         frames + datagrams4 + datagrams6 + answers
     }
@@ -235,7 +239,9 @@ impl Access {
     }
 
     /// Where the server receives datagrams of a protocol.
-    fn listen(&self, proto: Proto) -> Source {
+    fn listen(&self, proto: Proto) -> Source
+        ensures { result ≡ listen self.now.topology proto }
+    {
         match proto {
             Proto::V4 => self.listen4,
             Proto::V6 => self.listen6,
@@ -245,7 +251,7 @@ impl Access {
     /// Takes a frame from each of the circuits' sockets to its relay.
     fn take_from_circuits(&mut self) -> u32
         ensures most { result ≤ 32 }
-        ensures carried { HasCarried CanRelay result self.old self.new }
+        ensures carried { HasCarried (CircuitsSockets self.old.topology) result self.old self.new }
     {
         let mut taken = 0;
         'circuits: for index in 0..self.sockets.circuits.len() {
@@ -255,78 +261,60 @@ impl Access {
         taken
     }
 
-    /// Takes a frame from a circuit's socket to its relay.
+    /// Takes a frame from a circuit's socket to its relay, and sends what that makes of it on to the server.
     fn take_frame(&mut self, index: usize, proto: Proto) -> u32
         requires { index < length self.old.topology.circuits }
         ensures most { result ≤ 1 }
-        ensures carried { HasCarried CanRelay result self.old self.new }
+        ensures carried { HasCarried (CircuitSocket self.old.topology index proto) result self.old self.new }
     {
-        let socket = self.sockets.circuits[index].socket(proto);
-        let Some((len, _)) = socket.take(&mut self.buffer, &mut self.taken) else {
+        let to = self.listen(proto);
+        let sockets = &self.sockets.circuits[index];
+        let socket = sockets.socket(proto);
+        let Some((len, _)) = socket.take(&mut self.buffer, &mut self.history) else {
             return 0;
         };
-        let outcome = self.relay_up(index, proto, len);
+        let frame = &self.buffer[..len];
+        let made = self
+            .relays
+            .up(Circuit::at(index), proto, frame, &mut self.out);
+        let from = &self.sockets.relays[self.sockets.circuits[index].relay];
+        let out = self.out.as_slice();
+        let outcome = send_on(made, from, to, out, Outcome::Relayed, &mut self.history);
         self.counts.count(outcome);
         1
     }
 
-    /// Sends a client's frame on to the server.
-    fn relay_up(&mut self, index: usize, proto: Proto, len: usize) -> Outcome
-        requires index { index < length self.old.topology.circuits }
-        requires len { len ≤ 1281 }
-        ensures same { self.new ≡ self.old }
-        ensures up { CanRelay result }
-    {
-        let relay = self.sockets.circuits[index].relay;
-        let circuit = Circuit::at(index);
-        let frame = &self.buffer[..len];
-        match self.relays.up(circuit, proto, frame, &mut self.out) {
-            Ok(()) => {
-                let to = self.listen(proto);
-                let sent = self.sockets.relays[relay].send(self.out.as_slice(), to);
-                Outcome::Relayed.if_sent(sent)
-            }
-            Err(why) => Outcome::Dropped(why),
-        }
-    }
-
-    /// Takes a datagram from the server's socket of a protocol to the server.
+    /// Takes a datagram from the server's socket of a protocol, and answers it.
     fn take_at_server(&mut self, proto: Proto, now: Moment) -> u32
         ensures most { result ≤ 1 }
-        ensures served { HasServed proto now result self.old self.new }
+        ensures served { HasServed now proto result self.old self.new }
     {
         let socket = self.sockets.server(proto);
-        let Some((len, from)) = socket.take(&mut self.buffer, &mut self.taken) else {
+        let Some((len, from)) = socket.take(&mut self.buffer, &mut self.history) else {
             return 0;
         };
-        self.answer(proto, from, len, now);
-        1
-    }
-
-    /// Answers a relay's datagram.
-    fn answer(&mut self, proto: Proto, from: Source, len: usize, now: Moment)
-        requires { len ≤ 1281 }
-        ensures { HasAnswered proto now self.old (record self.new { taken = self.new.taken + 1 }) }
-    {
         let datagram = &self.buffer[..len];
-        let answer = self
+        let made = self
             .server
             .receive(proto, from, datagram, now, &mut self.disk, &mut self.out);
-        let outcome = match answer {
-            Ok(()) => {
-                let socket = self.sockets.server(proto);
-                let sent = socket.send(self.out.as_slice(), from);
-                Outcome::Answered.if_sent(sent)
-            }
-            Err(why) => Outcome::Dropped(why),
-        };
+        let socket = self.sockets.server(proto);
+        let out = self.out.as_slice();
+        let outcome = send_on(
+            made,
+            socket,
+            from,
+            out,
+            Outcome::Answered,
+            &mut self.history,
+        );
         self.counts.count(outcome);
+        1
     }
 
     /// Takes a datagram from each relay's socket to the circuit that it is for.
     fn take_from_relays(&mut self) -> u32
         ensures most { result ≤ 8 }
-        ensures carried { HasCarried CanDeliver result self.old self.new }
+        ensures carried { HasCarried (RelaysSockets self.old.topology self.old.port) result self.old self.new }
     {
         let mut taken = 0;
         'relays: for index in 0..self.sockets.relays.len() {
@@ -335,38 +323,37 @@ impl Access {
         taken
     }
 
-    /// Takes a datagram from a relay's socket to the circuit that it is for.
+    /// Takes a datagram from a relay's socket, and sends what it has for a circuit on to its clients.
     fn take_answer(&mut self, index: usize) -> u32
         requires { index < length self.old.topology.relays }
         ensures most { result ≤ 1 }
-        ensures carried { HasCarried CanDeliver result self.old self.new }
+        ensures carried { HasCarried (RelaySocket self.old.topology self.old.port index) result self.old self.new }
     {
         let socket = &self.sockets.relays[index];
-        let Some((len, from)) = socket.take(&mut self.buffer, &mut self.taken) else {
+        let Some((len, from)) = socket.take(&mut self.buffer, &mut self.history) else {
             return 0;
         };
-        let outcome = self.relay_down(index, from, len);
-        self.counts.count(outcome);
-        1
-    }
-
-    /// Sends the server's answer on to the client, from the circuit's own socket.
-    fn relay_down(&mut self, index: usize, from: Source, len: usize) -> Outcome
-        requires index { index < length self.old.topology.relays }
-        requires len { len ≤ 1281 }
-        ensures same { self.new ≡ self.old }
-        ensures down { CanDeliver result }
-    {
         let datagram = &self.buffer[..len];
         let relay = RelayNo::at(index);
-        match self.relays.down(relay, from, datagram, &mut self.out) {
-            Ok((circuit, dest)) => {
-                put_frame(dest, self.out.as_slice(), &mut self.frame);
-                let sockets = &self.sockets.circuits[circuit.index()];
-                let sent = sockets.deliver(dest, self.frame.as_slice());
-                Outcome::Delivered.if_sent(sent)
+        let outcome = match self.relays.down(relay, from, datagram, &mut self.out) {
+            Ok(sent) => {
+                put_frame(sent.1, self.out.as_slice(), &mut self.frame);
+                let proto = proto_of(sent.1);
+                let from = self.sockets.circuits[sent.0.index()].socket(proto);
+                let to = client(self.port, sent.0, proto);
+                let frame = self.frame.as_slice();
+                send_on(
+                    Ok(()),
+                    from,
+                    to,
+                    frame,
+                    Outcome::Delivered,
+                    &mut self.history,
+                )
             }
             Err(why) => Outcome::Dropped(why),
-        }
+        };
+        self.counts.count(outcome);
+        1
     }
 }

@@ -4,11 +4,11 @@
 mod access;
 mod clock;
 mod counts;
-mod datagram_socket;
 mod device;
 mod frame;
 pub mod laws;
 mod opening;
+mod sending;
 mod sockets;
 
 pub use access::{Access, AccessFault};

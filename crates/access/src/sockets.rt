@@ -1,15 +1,16 @@
 //! The sockets of relay, server and circuits.
 ghost use Rattle.std.specs.Prelude.{◌≡◌, ◌≤◌, ◌<◌, ◌+◌, ◌*◌, length, map, All, Some, slice_get, option_map, IfOk, IfErr};
 ghost use Rattle.config.specs.CircuitPart.{CircuitPart, part_in, parts_of};
-ghost use Rattle.access.specs.Sockets.{AreOwnRelays, IsCircuitSocket, IsRelaySocket, IsSocket, Refuses, local_port};
+ghost use Rattle.config.specs.Topology.{topology_of};
+ghost use Rattle.access.specs.Sockets.{AreBound, AreCircuitSockets, AreOwnSockets, AreRelaySockets, IsBound, IsCircuitSocket, IsRelaySocket, IsSocket, Refuses, client_port, local_port};
 
-use crate::datagram_socket::DatagramSocket;
 use config::Config;
 use std::alloc::{AllocError, Global};
 use std::io;
 use std::net::Net;
 use thiserror::Error;
-use types::{Addr4, Circuit, Dest, Proto, RelayNo, Source};
+use types::{Addr4, Circuit, Proto, RelayNo, Source};
+use udp::{DatagramSocket, Role};
 
 /// The most circuits that are served.
 pub const MAX_SERVED: usize = 16;
@@ -37,9 +38,6 @@ pub struct CircuitSockets {
     pub socket4: DatagramSocket,
     /// The same for DHCPv6.
     pub socket6: DatagramSocket,
-    /// Where its DHCPv4 frames go, and its DHCPv6 frames.
-    pub client4: Source,
-    pub client6: Source,
     /// The index of its relay.
     pub relay: usize,
 }
@@ -64,11 +62,25 @@ pub(crate) fn local(port: u16) -> Source
     }
 }
 
-fn bind<R: Net>(net: &R, at: Source) -> Result<DatagramSocket, SocketFault>
-    ensures { IfErr result (Refuses (λ refused. refused ≡ at)) }
+/// Where frames of a protocol towards a circuit go. Each circuit has four ports, the first one's begin at `port`.
+pub(crate) fn client(port: u16, circuit: Circuit, proto: Proto) -> Source
+    requires circuit { circuit < 16 }
+    requires most { port ≤ 65472 }
+    ensures { result ≡ client_port port circuit proto }
 {
-    match DatagramSocket::bind(net, at) {
-        Ok(port) => Ok(port),
+    let first = port + PORTS * circuit.index() as u16;
+    match proto {
+        Proto::V4 => local(first + 2),
+        Proto::V6 => local(first + 3),
+    }
+}
+
+fn bind<R: Net>(net: &R, role: Role, at: Source) -> Result<DatagramSocket, SocketFault>
+    ensures bound { IfOk result (λ socket. IsBound socket role at) }
+    ensures refused { IfErr result (Refuses (λ refused. refused ≡ at)) }
+{
+    match DatagramSocket::bind(net, role, at) {
+        Ok(socket) => Ok(socket),
         Err(error) if error.kind() == io::ErrorKind::OutOfMemory => Err(SocketFault::Memory),
         Err(_) => Err(SocketFault::Bind(at)),
     }
@@ -88,19 +100,15 @@ impl CircuitSockets {
         requires most { port ≤ 65472 }
         ensures behind { IfOk result (λ circuit. circuit.relay < length config.now.relays) }
         ensures relay { IfOk result (λ circuit. option_map (λ values. values.relay) (slice_get config.now.circuits index) ≡ Some circuit.relay) }
-        ensures own { IfOk result (λ circuit. (part : CircuitPart) → part_in config.now index ≡ Some part → slice_get (map (λ relay. relay.source) config.now.relays) circuit.relay ≡ Some part.relay) }
-        ensures client4 { IfOk result (λ circuit. circuit.client4 ≡ local_port (port + 4 * index + 2)) }
-        ensures client6 { IfOk result (λ circuit. circuit.client6 ≡ local_port (port + 4 * index + 3)) }
+        ensures own { IfOk result (λ circuit. (part : CircuitPart) → part_in config.now index ≡ Some part → AreCircuitSockets (map (λ relay. relay.source) config.now.relays) port index part circuit) }
         ensures refused { IfErr result (Refuses (IsCircuitSocket (length config.now.circuits) port)) }
     {
         let circuit = Circuit::at(index);
         let relay = config.at(circuit).relay.index();
         let first = port + PORTS * index as u16;
         Ok(CircuitSockets {
-            socket4: bind(net, local(first))?,
-            socket6: bind(net, local(first + 1))?,
-            client4: local(first + 2),
-            client6: local(first + 3),
+            socket4: bind(net, Role::Circuit(circuit, Proto::V4), local(first))?,
+            socket6: bind(net, Role::Circuit(circuit, Proto::V6), local(first + 1))?,
             relay,
         })
     }
@@ -117,14 +125,6 @@ impl CircuitSockets {
             Proto::V6 => &self.socket6,
         }
     }
-
-    /// Sends a frame to the clients, from the circuit's own socket. Returns whether the system took it.
-    pub fn deliver(&self, dest: Dest, frame: &[u8]) -> bool {
-        match dest {
-            Dest::Peer(_) => self.socket6.send(frame, self.client6),
-            Dest::Broadcast | Dest::Unicast(_, _) => self.socket4.send(frame, self.client4),
-        }
-    }
 }
 
 fn bind_circuits<R: Net>(
@@ -137,7 +137,7 @@ fn bind_circuits<R: Net>(
     requires most { port ≤ 65472 }
     ensures count { IfOk result (λ circuits. length circuits.items ≡ length config.now.circuits) }
     ensures behind { IfOk result (λ circuits. All (λ circuit. circuit.relay < length config.now.relays) circuits.items) }
-    ensures own { IfOk result (λ circuits. AreOwnRelays (map (λ relay. relay.source) config.now.relays) (parts_of config.now) circuits.items) }
+    ensures own { IfOk result (λ circuits. AreOwnSockets (map (λ relay. relay.source) config.now.relays) port (parts_of config.now) circuits.items) }
     ensures refused { IfErr result (Refuses (IsCircuitSocket (length config.now.circuits) port)) }
 {
     let Ok(mut circuits) = Vec::with_capacity(alloc, config.circuit_count()) else {
@@ -158,6 +158,7 @@ fn bind_relays<R: Net>(
     config: &Config,
 ) -> Result<Vec<DatagramSocket>, SocketFault>
     ensures count { IfOk result (λ relays. length relays.items ≡ length config.now.relays) }
+    ensures own { IfOk result (λ relays. AreRelaySockets (map (λ relay. relay.source) config.now.relays) relays.items) }
     ensures refused { IfErr result (Refuses (IsRelaySocket config.now.relays)) }
 {
     let Ok(mut relays) = Vec::with_capacity(alloc, config.relay_count()) else {
@@ -165,10 +166,10 @@ fn bind_relays<R: Net>(
     };
     'relays: for index in 0..config.relay_count() {
         let relay = RelayNo::at(index);
-        let socket = bind(net, config.relay(relay).source)?;
-        if relays.push(socket).is_err() {
+        let socket = bind(net, Role::Relay(relay), config.relay(relay).source)?;
+        let Ok(()) = relays.push(socket) else {
             return Err(SocketFault::Memory);
-        }
+        };
     }
     Ok(relays)
 }
@@ -198,13 +199,13 @@ impl Sockets {
         ensures circuits { IfOk result (λ sockets. length sockets.circuits.items ≡ length config.now.circuits) }
         ensures relays { IfOk result (λ sockets. length sockets.relays.items ≡ length config.now.relays) }
         ensures behind { IfOk result (λ sockets. All (λ circuit. circuit.relay < length config.now.relays) sockets.circuits.items) }
-        ensures own { IfOk result (λ sockets. AreOwnRelays (map (λ relay. relay.source) config.now.relays) (parts_of config.now) sockets.circuits.items) }
+        ensures bound { IfOk result (AreBound (topology_of config.now) port) }
         ensures refused { IfErr result (Refuses (IsSocket config.now port)) }
     {
         let server = config.server();
         let circuits = bind_circuits(net, alloc, config, port)?;
-        let listen4 = bind(net, server.listen4)?;
-        let listen6 = bind(net, server.listen6)?;
+        let listen4 = bind(net, Role::Server(Proto::V4), server.listen4)?;
+        let listen6 = bind(net, Role::Server(Proto::V6), server.listen6)?;
         let relays = bind_relays(net, alloc, config)?;
         Ok(Sockets {
             circuits,

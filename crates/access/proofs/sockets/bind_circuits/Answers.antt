@@ -2,9 +2,9 @@ use Rattle.std.proofs.Common.{◌≡◌, ◌<◌, length, map, sym, subst, rules
 use Rattle.std.specs.Prelude.{All, Some, slice_get}
 use Rattle.std.proofs.lemmas.List.Elements.{All-push}
 use Rattle.config.specs.CircuitPart.{parts_of}
-use Rattle.access.specs.Sockets.{AreOwnRelays}
+use Rattle.access.specs.Sockets.{AreCircuitSockets, AreOwnSockets}
 use Rattle.access.specs.declared.sockets.CircuitSockets.{CircuitSockets}
-use Rattle.access.proofs.RelayLemmas.{own_pushed}
+use Rattle.access.proofs.RelayLemmas.{pushed}
 use Rattle.access.proofs.sockets.bind_circuits.Goals as goal
 
 pub circuits-preserved : goal.circuits-preserved
@@ -22,7 +22,8 @@ circuits-preserved g c =
       port = was.port;
       count = search rules;
       behind = subst (λ circuits. All is_behind circuits) (sym c.in-Ok-push.ensures.items) (All-push is_behind items next was.behind c.in_ok-sockets.ensures.behind);
-      own = subst (λ circuits. AreOwnRelays relays (parts_of config) circuits) (sym c.in-Ok-push.ensures.items)
-          (own_pushed relays (parts_of config) items next was.own
-          (λ part there. c.in_ok-sockets.ensures.own part (subst (λ n. slice_get (parts_of config) n ≡ Some part) was.count there)));
+      own = subst (λ circuits. AreOwnSockets relays c.args.port (parts_of config) circuits) (sym c.in-Ok-push.ensures.items)
+          (pushed (AreCircuitSockets relays c.args.port) (parts_of config) items next was.own
+          (λ part there. subst (λ n. AreCircuitSockets relays c.args.port n part next) (sym was.count)
+          (c.in_ok-sockets.ensures.own part (subst (λ n. slice_get (parts_of config) n ≡ Some part) was.count there))));
     }

@@ -1,7 +1,7 @@
 use Rattle.std.proofs.Common.{◌≡◌, ◌≤◌, ◌<◌, length, map}
 use Rattle.std.specs.Prelude.{All}
 use Rattle.config.specs.CircuitPart.{parts_of}
-use Rattle.access.specs.Sockets.{AreOwnRelays}
+use Rattle.access.specs.Sockets.{AreOwnSockets}
 use Rattle.access.proofs.sockets.bind_circuits.Given as goal
 
 abbrev pub invariant-circuits : goal.invariant-circuits
@@ -12,5 +12,5 @@ invariant-circuits g l = record {
   port : l.port ≤ 65472;
   count : length l.circuits.items ≡ l.index;
   behind : All (λ circuit. circuit.relay < length l.config.relays) l.circuits.items;
-  own : AreOwnRelays (map (λ relay. relay.source) l.config.relays) (parts_of l.config) l.circuits.items;
+  own : AreOwnSockets (map (λ relay. relay.source) l.config.relays) l.port (parts_of l.config) l.circuits.items;
 }

@@ -1,5 +1,6 @@
-use Rattle.std.proofs.Common.{◌≡◌, ◌≤◌, length}
+use Rattle.std.proofs.Common.{◌≡◌, ◌≤◌, length, map}
 use Rattle.config.specs.Rules.{IsSound}
+use Rattle.access.specs.Sockets.{AreRelaySockets}
 use Rattle.access.proofs.sockets.bind_relays.Given as goal
 
 abbrev pub invariant-relays : goal.invariant-relays
@@ -8,4 +9,5 @@ invariant-relays g l = record {
   end : l.index-end ≡ length l.config.relays;
   sound : IsSound l.config;
   count : length l.relays.items ≡ l.index;
+  own : AreRelaySockets (map (λ relay. relay.source) l.config.relays) l.relays.items;
 }

@@ -4,7 +4,7 @@ use Rattle.config.specs.Topology.{Topology}
 use Rattle.config.specs.CircuitPart.{parts_of}
 use Rattle.dispatch.specs.Leases.{HasRegions}
 use Rattle.access.specs.Access.{ServesEach}
-use Rattle.access.specs.Sockets.{AreOwnRelays, IsSocket, Refuses}
+use Rattle.access.specs.Sockets.{AreBound, IsSocket, Refuses}
 use Rattle.access.proofs.RelayLemmas.{serves_each}
 use Rattle.access.proofs.access.Access.open.Goals as goal
 
@@ -19,8 +19,11 @@ invariant_of-result g c =
       bound.relays ∙ sym (ap (λ (t : Topology). length t.relays) topology ∙ length-map config.relays _),
       search rules,
       search rules,
-      subst (λ (t : Topology). AreOwnRelays t.relays t.circuits c.in-Ok-bind.sockets.circuits.items) (sym topology) bound.own,
+      subst (λ (t : Topology). AreBound t c.args.port c.in-Ok-bind.sockets) (sym topology) bound.bound,
       subst ServesEach (sym topology) (serves_each config),
+      search rules,
+      search rules,
+      search rules,
     )
 
 -- the device has as many regions as before it was opened

@@ -1,5 +1,8 @@
 use Rattle.std.proofs.Common.{◌≡◌, ◌≤◌, ◌*◌, length}
-use Rattle.access.specs.Access.{CanRelay, HasCarried}
+use Rattle.std.specs.Prelude.{ℕ}
+use Rattle.types.specs.declared.dest.Proto.TheVariants.{V4, V6}
+use Rattle.access.specs.Access.{HasCarried}
+use Rattle.access.specs.Turn.{Both, CircuitSocket, InOrder}
 use Rattle.access.proofs.access.Access.take_from_circuits.Given as goal
 
 abbrev pub invariant-circuits : goal.invariant-circuits
@@ -8,5 +11,6 @@ invariant-circuits l = record {
   end : l.index-end ≡ length l.self.topology.circuits;
   few : l.index-end ≤ 16;
   taken : l.taken ≤ 2 * l.index;
-  so_far : HasCarried CanRelay l.taken l.fn.self l.self;
+  same : l.self.topology ≡ l.fn.self.topology;
+  so_far : HasCarried (InOrder (λ c. Both (CircuitSocket l.fn.self.topology c V4) (CircuitSocket l.fn.self.topology c V6)) l.index) l.taken l.fn.self l.self;
 }

@@ -2,31 +2,42 @@ use Rattle.std.proofs.Common.{◌≡◌, ◌∙◌, refl, ap, subst, rules}
 use Rattle.std.specs.Prelude.{Some, slice_get}
 use Rattle.lease_disk.specs.FileDisk.{untold}
 use Rattle.dispatch.specs.ServerValue.{books_in, circuits_in}
-use Rattle.access.specs.Access.{AccessValue, books_at}
+use Rattle.config.specs.Topology.{Topology}
+use Rattle.udp.specs.History.{Ticked, with_entry}
+use Rattle.access.specs.Access.{AccessValue, HasCarried, books_at}
+use Rattle.access.specs.Turn.{RelaysSockets}
+use Rattle.access.proofs.CarryLemmas.{carried_port, carried_topology}
 use Rattle.access.proofs.ClockLemmas.{reached, ticked}
 use Rattle.access.proofs.TurnLemmas.{counted_received, quiet, turned_closed, turned_counts}
 use Rattle.access.proofs.access.Access.turn.Goals as goal
 
 pub returns-clause-turned : goal.returns-clause-turned
-returns-clause-turned c = record {
-  relayed = c.take_from_circuits-frames.new.self;
-  served4 = c.take_at_server-datagrams4.new.self;
-  served6 = c.take_at_server-datagrams6.new.self;
-  delivered = c.take_from_relays-answers.new.self;
-  frames = c.take_from_circuits-frames.result;
-  datagrams4 = c.take_at_server-datagrams4.result;
-  datagrams6 = c.take_at_server-datagrams6.result;
-  answers = c.take_from_relays-answers.result;
-  from_circuits = c.take_from_circuits-frames.ensures.carried;
-  at_server4 = c.take_at_server-datagrams4.ensures.served;
-  at_server6 = c.take_at_server-datagrams6.ensures.served;
-  from_relays = c.take_from_relays-answers.ensures.carried;
-  ticked = ticked (λ region. untold) c.args.now (circuits_in c.tick.new.self) (circuits_in c.self.inside.server) (c.tick.ensures.leases (λ region. untold))
-      ∙ ap (λ (s : AccessValue). books_at c.args.now (books_in s.server)) c.self.view_is;
-  counts = ap (λ (s : AccessValue). s.counts) c.self.view_is;
-  taken = ap (λ (s : AccessValue). s.taken) c.self.view_is;
-  many = refl;
-}
+returns-clause-turned c =
+    let four = c.take_at_server-datagrams4.ensures.served.kept in
+    let six = c.take_at_server-datagrams6.ensures.served.kept in
+    let topology = six.topology ∙ four.topology ∙ carried_topology _ c.take_from_circuits-frames.result _ _ c.take_from_circuits-frames.ensures.carried in
+    let port = six.port ∙ four.port ∙ carried_port _ c.take_from_circuits-frames.result _ _ c.take_from_circuits-frames.ensures.carried in
+    record {
+      relayed = c.take_from_circuits-frames.new.self;
+      served4 = c.take_at_server-datagrams4.new.self;
+      served6 = c.take_at_server-datagrams6.new.self;
+      delivered = c.take_from_relays-answers.new.self;
+      frames = c.take_from_circuits-frames.result;
+      datagrams4 = c.take_at_server-datagrams4.result;
+      datagrams6 = c.take_at_server-datagrams6.result;
+      answers = c.take_from_relays-answers.result;
+      from_circuits = c.take_from_circuits-frames.ensures.carried;
+      at_server4 = c.take_at_server-datagrams4.ensures.served;
+      at_server6 = c.take_at_server-datagrams6.ensures.served;
+      from_relays = subst (λ (t : Topology). HasCarried (RelaysSockets t c.args.self.now.port) c.take_from_relays-answers.result c.take_at_server-datagrams6.new.self c.take_from_relays-answers.new.self) topology
+          (subst (λ p. HasCarried (RelaysSockets c.take_at_server-datagrams6.new.self.topology p) c.take_from_relays-answers.result c.take_at_server-datagrams6.new.self c.take_from_relays-answers.new.self) port
+          c.take_from_relays-answers.ensures.carried);
+      ticked = ticked (λ region. untold) c.args.now (circuits_in c.tick.new.self) (circuits_in c.self.inside.server) (c.tick.ensures.leases (λ region. untold))
+          ∙ ap (λ (s : AccessValue). books_at c.args.now (books_in s.server)) c.self.view_is;
+      counts = ap (λ (s : AccessValue). s.counts) c.self.view_is;
+      history = c.then-self-inside.ensures ∙ ap (λ (s : AccessValue). with_entry (Ticked c.args.now) s.history) c.self.view_is;
+      many = refl;
+    }
 
 pub returns-clause-counts : goal.returns-clause-counts
 returns-clause-counts c = turned_counts c.args.now _ c.args.self.now _ (returns-clause-turned c)

@@ -1,4 +1,7 @@
-use Rattle.std.proofs.Common.{◌≡◌, ◌<◌, length, sym, subst, map, rules}
+use Rattle.std.proofs.Common.{◌≡◌, ◌<◌, ◌∙◌, ap, length, sym, subst, map, rules}
+use Rattle.types.specs.declared.dest.Proto.TheVariants.{V4, V6}
+use Rattle.udp.specs.declared.history.Role.TheVariants as role
+use Rattle.access.specs.Sockets.{local_port}
 use Rattle.std.specs.Prelude.{Some, slice_get}
 use Rattle.access.proofs.RelayLemmas.{own_relay}
 use Rattle.access.proofs.sockets.CircuitSockets.bind.Goals as goal
@@ -9,5 +12,14 @@ returns-clause-own g c = λ part is.
     let circuit = c.at.result.now in
     let there : slice_get config.circuits c.args.index ≡ Some circuit = subst (λ i. slice_get config.circuits i ≡ Some circuit) c.at-circuit.ensures c.at.ensures.value in
     let within : circuit.relay < length config.relays = search rules in
-    subst (λ n. slice_get (map (λ relay. relay.source) config.relays) n ≡ Some part.relay) (sym c.index-relay.ensures.value)
-    (own_relay config c.args.index circuit there within part is)
+    record {
+      socket4 = record {
+        role = c.in_ok-bind.ensures.bound.role ∙ ap (λ k. role.Circuit k V4) c.at-circuit.ensures;
+        at = c.in_ok-bind.ensures.bound.at ∙ c.local.ensures ∙ ap local_port (search rules);
+      };
+      socket6 = record {
+        role = c.in_ok-bind-2.ensures.bound.role ∙ ap (λ k. role.Circuit k V6) c.at-circuit.ensures;
+        at = c.in_ok-bind-2.ensures.bound.at ∙ c.local-2.ensures ∙ ap local_port (search rules);
+      };
+      relay = subst (λ n. slice_get (map (λ relay. relay.source) config.relays) n ≡ Some part.relay) (sym c.index-relay.ensures.value) (own_relay config c.args.index circuit there within part is);
+    }

@@ -1,0 +1,101 @@
+-- What a turn adds to the history: each datagram that was taken is followed by what the definitions make of it.
+use Rattle.std.specs.Prelude.{◌≡◌, ◌⊎◌, ℕ, zero, suc, ◌+◌, ◌*◌, Bool, List, [], ◌∷◌, ◌++◌, length, Some, slice_get, Result, Ok, Err, if◌then◌else◌}
+use Rattle.types.specs.declared.addr.Source.{Source}
+use Rattle.types.specs.declared.dest.Dest.{Dest}
+use Rattle.types.specs.declared.dest.Dest.TheVariants.{Broadcast, Unicast, Peer}
+use Rattle.types.specs.declared.dest.Proto.{Proto}
+use Rattle.types.specs.declared.dest.Proto.TheVariants.{V4, V6}
+use Rattle.types.specs.declared.discard.Discard.{Discard}
+use Rattle.config.specs.CircuitPart.{CircuitPart}
+use Rattle.config.specs.Topology.{Topology, listen}
+use Rattle.relay.specs.Relays.{CircuitFrame, relayed_down_in, relayed_up}
+use Rattle.udp.specs.History.{Entry, Failed, Sent, Took, with_entry}
+use Rattle.udp.specs.declared.history.Role.{Role}
+use Rattle.udp.specs.declared.history.Role.TheVariants as role
+use Rattle.access.specs.Sockets.{client_port, framed}
+use Rattle.access.specs.declared.counts.Outcome.{Outcome}
+use Rattle.access.specs.declared.counts.Outcome.TheVariants as outcome
+
+-- What happens at some sockets, with what becomes of the datagrams that are taken.
+abbrev pub Tries : Type 1
+Tries = List Entry → List Outcome → Type 0
+
+-- first the one, then the other
+pub record Both (First Second : Tries) (entries : List Entry) (outcomes : List Outcome) : Type 0 where
+  pub before : List Entry
+  pub after : List Entry
+  pub done : List Outcome
+  pub more : List Outcome
+  pub one : First before done
+  pub other : Second after more
+  pub entries_are : entries ≡ before ++ after
+  pub outcomes_are : outcomes ≡ done ++ more
+
+-- one after the other, from 0 on, so many of them
+abbrev pub InOrder : (ℕ → Tries) → ℕ → Tries
+InOrder Try zero entries outcomes = (entries ≡ []) × (outcomes ≡ [])
+InOrder Try (suc n) entries outcomes = Both (InOrder Try n) (Try n) entries outcomes
+
+-- A socket is tried once: nothing waited, or the receive failed.
+abbrev pub IsIdle : Role → Tries
+IsIdle socket entries outcomes = ((entries ≡ []) ⊎ (entries ≡ Failed socket ∷ [])) × (outcomes ≡ [])
+
+-- or a datagram was taken, and something is made of its source and its bytes
+pub record IsTaken (socket : Role) (Made : Source → List ℕ → List Entry → Outcome → Type 0) (entries : List Entry) (outcomes : List Outcome) : Type 0 where
+  pub from : Source
+  pub bytes : List ℕ
+  pub rest : List Entry
+  pub outcome : Outcome
+  pub entries_are : entries ≡ Took socket from bytes ∷ rest
+  pub outcomes_are : outcomes ≡ outcome ∷ []
+  pub made : Made from bytes rest outcome
+
+abbrev pub IsTried : Role → (Source → List ℕ → List Entry → Outcome → Type 0) → Tries
+IsTried socket Made entries outcomes = IsIdle socket entries outcomes ⊎ IsTaken socket Made entries outcomes
+
+-- Bytes go from a socket to an address, or nothing goes for a reason.
+abbrev pub GoesOn : Role → Source → Outcome → Result (List ℕ) Discard → List Entry → Outcome → Type 0
+GoesOn socket to done (Err why) rest became = (rest ≡ []) × (became ≡ outcome.Dropped why)
+GoesOn socket to done (Ok bytes) rest became = (accepted : Bool) × (rest ≡ Sent socket to bytes accepted ∷ []) × (became ≡ (if accepted then done else outcome.Unsent))
+
+-- The same by what a call says of it, and the history before and after it.
+abbrev pub WentOn : Role → Source → Outcome → Result (Unit {0}) Discard → List ℕ → List Entry → List Entry → Outcome → Type 0
+WentOn socket to done (Err why) bytes old new became = (new ≡ old) × (became ≡ outcome.Dropped why)
+WentOn socket to done (Ok _) bytes old new became = (accepted : Bool) × (new ≡ with_entry (Sent socket to bytes accepted) old) × (became ≡ (if accepted then done else outcome.Unsent))
+
+-- ---- a client's frame
+
+-- It goes on from the socket of the circuit's own relay to where the server listens.
+pub record IsSentUp (topology : Topology) (c : ℕ) (proto : Proto) (frame : List ℕ) (rest : List Entry) (became : Outcome) : Type 0 where
+  pub part : CircuitPart
+  pub relay : ℕ
+  pub its_part : slice_get topology.circuits c ≡ Some part
+  pub its_relay : slice_get topology.relays relay ≡ Some part.relay
+  pub goes_on : GoesOn (role.Relay relay) (listen topology proto) outcome.Relayed (relayed_up part proto frame) rest became
+
+abbrev pub CircuitSocket : Topology → ℕ → Proto → Tries
+CircuitSocket topology c proto = IsTried (role.Circuit c proto) (λ from frame. IsSentUp topology c proto frame)
+
+-- each circuit's two sockets, in order
+abbrev pub CircuitsSockets : Topology → Tries
+CircuitsSockets topology = InOrder (λ c. Both (CircuitSocket topology c V4) (CircuitSocket topology c V6)) (length topology.circuits)
+
+-- ---- a datagram at a relay
+
+abbrev pub proto_of : Dest → Proto
+proto_of Broadcast = V4
+proto_of (Unicast chaddr yiaddr) = V4
+proto_of (Peer address) = V6
+
+-- What it has for a circuit goes on from that circuit's own socket to its client's port.
+abbrev pub IsSentDown : ℕ → Result CircuitFrame Discard → List Entry → Outcome → Type 0
+IsSentDown port (Err why) rest became = (rest ≡ []) × (became ≡ outcome.Dropped why)
+IsSentDown port (Ok sent) rest became =
+    let proto = proto_of sent.frame.dest in
+    GoesOn (role.Circuit sent.circuit proto) (client_port port sent.circuit proto) outcome.Delivered (Ok (framed sent.frame.dest sent.frame.bytes)) rest became
+
+abbrev pub RelaySocket : Topology → ℕ → ℕ → Tries
+RelaySocket topology port r = IsTried (role.Relay r) (λ from datagram. IsSentDown port (relayed_down_in topology r from datagram))
+
+abbrev pub RelaysSockets : Topology → ℕ → Tries
+RelaysSockets topology port = InOrder (RelaySocket topology port) (length topology.relays)

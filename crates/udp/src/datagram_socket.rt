@@ -1,0 +1,96 @@
+//! A UDP socket that never waits. What the system does with it is in three functions, and each says in the history
+//! what it did.
+ghost use Rattle.std.specs.Prelude.{◌≡◌, ◌≤◌, ◌⊎◌, take, IfOk, IfSome, IfNone};
+ghost use Rattle.types.specs.declared.addr.Source.{Source};
+ghost use Rattle.udp.specs.Address.{IsSystemForm};
+ghost use Rattle.udp.specs.History.{Failed, Sent, Took, with_entry};
+
+use crate::history::{Happened, History, Role};
+use std::io;
+use std::io::ErrorKind;
+use std::net::{IpAddr, Ipv4Addr, Net, SocketAddr, UdpSocket};
+use types::{Addr4, MAX_DATAGRAM, Source};
+
+/// The length of the buffer that a datagram is received in. It has one byte more than the longest that is
+/// served, so that of a longer one enough arrives to be refused for its length.
+pub const BUFFER_LEN: usize = MAX_DATAGRAM + 1;
+
+/// A bound UDP socket that never waits.
+#[derive(Drop)]
+pub struct DatagramSocket {
+    socket: UdpSocket,
+    /// What it is for, and the address and port that it is bound to.
+    pub role: Role,
+    pub at: Source,
+}
+
+/// The system's form of an address and port.
+fn system_address(source: Source) -> SocketAddr
+    ensures { IsSystemForm source result }
+{
+    let Addr4([a, b, c, d]) = source.addr;
+    SocketAddr::new(IpAddr::V4(Ipv4Addr::new(a, b, c, d)), source.port)
+}
+
+/// An IPv4 address and port of the system's form.
+fn source_of(address: SocketAddr) -> Option<Source>
+    ensures some { IfSome result (λ source. IsSystemForm source address) }
+    ensures none { IfNone result ((source : Source) → ¬ IsSystemForm source address) }
+{
+    match address.ip() {
+        IpAddr::V4(ip) => Some(Source {
+            addr: Addr4(ip.octets()),
+            port: address.port(),
+        }),
+        IpAddr::V6(_) => None,
+    }
+}
+
+impl DatagramSocket {
+    /// Binds a socket to this address and port.
+    pub fn bind<R: Net>(net: &R, role: Role, at: Source) -> io::Result<DatagramSocket>
+        ensures role { IfOk result (λ socket. socket.role ≡ role) }
+        ensures at { IfOk result (λ socket. socket.at ≡ at) }
+    {
+        let socket = UdpSocket::bind(net, system_address(at))?;
+        socket.set_nonblocking(true)?;
+        Ok(DatagramSocket { socket, role, at })
+    }
+
+    /// Takes a datagram that waits, if there is one: how many bytes of it are in `buffer`, and where it
+    /// came from. One whose receive fails is lost.
+    pub fn take(
+        &self,
+        buffer: &mut [u8; BUFFER_LEN],
+        history: &mut History,
+    ) -> Option<(usize, Source)>
+        ensures len { IfSome result (λ received. received.0 ≤ 1281) }
+        ensures some { IfSome result (λ received. history.new.entries ≡ with_entry (Took self.now.role received.1 (take received.0 buffer.new)) history.old.entries) }
+        ensures none { IfNone result ((history.new.entries ≡ history.old.entries) ⊎ (history.new.entries ≡ with_entry (Failed self.now.role) history.old.entries)) }
+    {
+        match self.socket.recv_from(buffer) {
+            Ok((len, from)) => {
+                let Some(from) = source_of(from) else {
+                    *history = history.then(&Happened::Failed(self.role));
+                    return None;
+                };
+                *history = history.then(&Happened::Took(self.role, from, &buffer[..len]));
+                Some((len, from))
+            }
+            Err(error) if error.kind() == ErrorKind::WouldBlock => None,
+            Err(_) => {
+                *history = history.then(&Happened::Failed(self.role));
+                None
+            }
+        }
+    }
+
+    /// Sends a datagram, or loses it. Returns whether the system accepted it.
+    pub fn send(&self, datagram: &[u8], to: Source, history: &mut History) -> bool
+        ensures { history.new.entries ≡ with_entry (Sent self.now.role to datagram.now result) history.old.entries }
+    {
+        let accepted = self.socket.send_to(datagram, system_address(to)).is_ok();
+        *history = history.then(&Happened::Sent(self.role, to, datagram, accepted));
+        accepted
+    }
+}
