@@ -1,5 +1,5 @@
 -- What shows of relay and server over sockets, and what a turn does.
-use Rattle.std.specs.Prelude.{◌≡◌, ◌≤◌, ◌<◌, ◌+◌, ◌++◌, ℕ, All, true, List, length, map, Option, Some, None, option_map, slice_get, nat_le, nat_lt, if◌then◌else◌}
+use Rattle.std.specs.Prelude.{◌≡◌, ◌≤◌, ◌<◌, ◌+◌, ◌++◌, ℕ, zero, suc, All, true, List, length, map, Option, Some, None, option_map, slice_get, nat_lt}
 use Rattle.types.specs.Delivery.{delivery}
 use Rattle.types.specs.declared.addr.Source.{Source}
 use Rattle.types.specs.declared.dest.Proto.{Proto}
@@ -13,6 +13,7 @@ use Rattle.config.specs.Topology.{Topology, serves}
 use Rattle.udp.specs.History.{Entry, Ticked, with_entry}
 use Rattle.udp.specs.declared.history.Role.TheVariants as role
 use Rattle.access.specs.Counts.{counted_all}
+use Rattle.access.specs.Moments.{HasRead}
 use Rattle.access.specs.Sockets.{AreBound}
 use Rattle.access.specs.declared.sockets.Sockets.{Sockets}
 use Rattle.access.specs.declared.counts.Counts.{Counts}
@@ -45,12 +46,6 @@ IsAccess topology sockets server regions port listen4 listen6 =
     (length sockets.circuits.items ≡ length topology.circuits) × (length sockets.circuits.items ≤ 16) × All (λ circuit. circuit.relay < length sockets.relays.items) sockets.circuits.items
     × (length sockets.relays.items ≡ length topology.relays) × (length sockets.relays.items ≤ 8) × HasRegions server.topology.circuits regions × AreBound topology port sockets × ServesEach topology
     × (listen4 ≡ topology.listen4) × (listen6 ≡ topology.listen6) × (port ≤ 65472)
-
--- ---- the clock
-
--- the moment at so many seconds since 1970, or the one before where it is past the last
-abbrev pub moment_of : ℕ → ℕ → ℕ
-moment_of seconds before = if nat_le seconds 1099511627775 then seconds else before
 
 -- ---- one datagram
 
@@ -118,6 +113,21 @@ pub record HasTurned (now count : ℕ) (old new : AccessValue) : Type 0 where
   pub history : new.history ≡ with_entry (Ticked now) delivered.history
   pub counts : new.counts ≡ delivered.counts
   pub many : count ≡ frames + datagrams4 + datagrams6 + answers
+
+-- ---- turns
+
+-- The clock was read, and a turn was made at its moment.
+pub record HasTurnedOnce (before now : ℕ) (old new : AccessValue) : Type 0 where
+  pub read : AccessValue
+  pub count : ℕ
+  pub reads : HasRead before now old.history read.history
+  pub rest : read ≡ record old { history = read.history }
+  pub turn : HasTurned now count read new
+
+-- So many turns, the last one at this moment: each is at the moment of a reading of its own.
+abbrev pub HasServedTurns : ℕ → ℕ → AccessValue → AccessValue → Type 0
+HasServedTurns zero now old new = (now ≡ 0) × (new ≡ old)
+HasServedTurns (suc n) now old new = (before : ℕ) × (middle : AccessValue) × HasServedTurns n before old middle × HasTurnedOnce before now middle new
 
 -- ---- what follows
 

@@ -10,6 +10,7 @@ use Rattle.settings.specs.Settings.{Settings}
 use Rattle.config.specs.CircuitPart.{CircuitPart}
 use Rattle.config.specs.Topology.{Topology}
 use Rattle.udp.specs.declared.datagram_socket.DatagramSocket.{DatagramSocket}
+use Rattle.udp.specs.History.{Entry, Refused, with_entry}
 use Rattle.udp.specs.declared.history.Role.{Role}
 use Rattle.udp.specs.declared.history.Role.TheVariants as role
 use Rattle.access.specs.declared.access.AccessFault.{AccessFault}
@@ -43,6 +44,10 @@ IsRelaySocket relays at = (r : ℕ) × (relay : RelayConfig) × (slice_get relay
 -- a circuit's, the server's for DHCPv4 and DHCPv6, or a relay's
 abbrev pub IsSocket : Settings → ℕ → Source → Type 0
 IsSocket config port at = IsCircuitSocket (length config.circuits) port at ⊎ (at ≡ config.server.listen4) ⊎ (at ≡ config.server.listen6) ⊎ IsRelaySocket config.relays at
+
+-- all that happened since then is that the system refused to bind a socket to this address
+abbrev pub WasRefused : List Entry → List Entry → Source → Type 0
+WasRefused old new at = (socket : Role) × (new ≡ with_entry (Refused socket at) old)
 
 -- Where an address is refused, it is one of these.
 abbrev pub Refuses : (Source → Type 0) → SocketFault → Type 0

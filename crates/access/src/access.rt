@@ -1,9 +1,9 @@
 //! Relay and server over sockets.
-ghost use Rattle.std.specs.Prelude.{◌≡◌, ◌≤◌, ◌<◌, ◌+◌, ◌*◌, ◌↔◌, [], length, map, true, is_some, Some, slice_get, Err, IfOk, IfErr};
-ghost use Rattle.access.specs.Access.{HasCarried, HasCounted, HasReached, HasServed, HasTurned, StayClosed, books_at};
+ghost use Rattle.std.specs.Prelude.{◌≡◌, ◌≤◌, ◌<◌, ◌+◌, ◌*◌, ◌↔◌, ℕ, [], length, map, true, is_some, Some, slice_get, Err, IfOk, IfErr};
+ghost use Rattle.access.specs.Access.{HasCarried, HasCounted, HasReached, HasServed, HasServedTurns, HasTurned, StayClosed, books_at};
 ghost use Rattle.access.specs.Counts.{more_by, none};
 ghost use Rattle.access.specs.Opening.{found_format, was_old};
-ghost use Rattle.access.specs.Sockets.{IsSocket, RefusesSocket};
+ghost use Rattle.access.specs.Sockets.{IsSocket, RefusesSocket, WasRefused};
 ghost use Rattle.access.specs.Turn.{CircuitSocket, CircuitsSockets, RelaySocket, RelaysSockets};
 ghost use Rattle.access.specs.declared.access.AccessFault.TheVariants as fault;
 ghost use Rattle.config.specs.CircuitPart.{parts_of};
@@ -16,7 +16,7 @@ use crate::counts::{Counts, Outcome};
 use crate::frame::{Framed, proto_of, put_frame};
 use crate::opening::{Formats, open_server};
 use crate::sending::send_on;
-use crate::sockets::{MAX_SERVED, SocketFault, Sockets, client};
+use crate::sockets::{MAX_SERVED, MAX_SOCKETS, SocketFault, Sockets, client};
 use config::Config;
 use dispatch::{OpenFault, Server};
 use lease_disk::{FORMAT, FileDisk, OLD_FORMAT};
@@ -25,11 +25,9 @@ use std::alloc::Global;
 use std::marker::Model;
 use std::net::Net;
 use std::rt::Clock;
-use std::thread;
-use std::time::Duration;
 use thiserror::Error;
 use types::{Circuit, Count, Moment, Proto, RelayNo, Source};
-use udp::{BUFFER_LEN, Happened, History};
+use udp::{BUFFER_LEN, History, Waiter};
 use wire::PacketBuf;
 
 /// Why relay and server were not opened.
@@ -70,6 +68,8 @@ pub struct Access {
     counts: Counts,
     history: History,
     turns: Count,
+    /// What waits until one of the sockets has a datagram.
+    waiter: Waiter,
 }
 
 impl Model for Access {
@@ -90,15 +90,15 @@ impl Access {
     /// towards it go to the two ports after these; the ports of each other circuit come 4 later.
     ///
     /// More than 16 circuits are refused first, then a device without the region of a circuit, then
-    /// an address that no socket can be bound to.
+    /// an address that the system refuses to bind a socket to, which `opening` notes.
     pub fn open<R: Net>(
         net: &R,
         alloc: Global,
         config: &Config,
         mut disk: FileDisk,
         port: u16,
+        opening: &mut History,
     ) -> Result<Access, AccessFault>
-        requires least { 1024 ≤ port }
         requires most { port ≤ 65472 }
         ensures topology { IfOk result (λ access. access.topology ≡ topology_of config.now) }
         ensures served { IfOk result (λ access. access.server.topology ≡ topology_of config.now) }
@@ -112,7 +112,8 @@ impl Access {
         ensures turns { IfOk result (λ access. access.turns ≡ 0) }
         ensures circuits { result ≡ Err fault.TooManyCircuits ↔ (16 < length config.now.circuits) }
         ensures small { IfErr result (λ why. why ≡ fault.Disk → ¬ HasRegions (parts_of config.now) disk.regions) }
-        ensures socket { IfErr result (RefusesSocket (λ at. IsSocket config.now port at × HasRegions (parts_of config.now) disk.regions)) }
+        ensures socket { IfErr result (RefusesSocket (λ at. IsSocket config.now port at × HasRegions (parts_of config.now) disk.regions × WasRefused opening.old.entries opening.new.entries at)) }
+        ensures bound { IfOk result (λ _. opening.new.entries ≡ opening.old.entries) }
     {
         if config.circuit_count() > MAX_SERVED {
             return Err(AccessFault::TooManyCircuits);
@@ -125,7 +126,10 @@ impl Access {
         let Ok(relays) = Relays::new(alloc, config) else {
             return Err(AccessFault::Memory);
         };
-        let sockets = match Sockets::bind(net, alloc, config, port) {
+        let Ok(mut waiter) = Waiter::new(net, alloc, MAX_SOCKETS) else {
+            return Err(AccessFault::Memory);
+        };
+        let sockets = match Sockets::bind(net, alloc, config, port, &mut waiter, opening) {
             Ok(sockets) => sockets,
             Err(SocketFault::Memory) => return Err(AccessFault::Memory),
             Err(SocketFault::Bind(at)) => return Err(AccessFault::Socket(at)),
@@ -145,24 +149,28 @@ impl Access {
             counts: Counts::new(),
             history: History::new(),
             turns: Count::new(),
+            waiter,
         })
     }
 
-    /// Makes so many turns by the system's clock. A turn that took no datagram is followed by a sleep of so
-    /// many milliseconds.
+    /// Makes so many turns, each at the moment that the system's clock then has. A turn that took no datagram is followed
+    /// by a wait for the next one, of at most so many milliseconds.
     pub fn serve<R: Clock>(&mut self, rt: &R, turns: u32, pause: u16)
+        ensures turned { (now : ℕ) × HasServedTurns turns now self.old self.new }
         ensures turns { self.new.turns ≡ self.old.turns + turns }
         ensures topology { self.new.topology ≡ self.old.topology }
         ensures served { self.new.server.topology ≡ self.old.server.topology }
         ensures regions { self.new.disk.regions ≡ self.old.disk.regions }
         ensures formats { self.new.formats ≡ self.old.formats }
+        ensures port { self.new.port ≡ self.old.port }
         ensures closed { StayClosed self.old.server self.new.server }
     {
         let mut now = Moment::first();
         'turns: for _ in 0..turns {
-            now = moment(rt, now);
+            now = moment(rt, now, &mut self.history);
             if self.turn(now) == 0 && pause > 0 {
-                thread::sleep(rt, Duration::from_millis(u64::from(pause)));
+                // the turn found each socket empty
+                self.waiter.wait(rt, pause);
             }
         }
     }
@@ -190,7 +198,7 @@ impl Access {
         let datagrams6 = self.take_at_server(Proto::V6, now);
         let answers = self.take_from_relays();
         self.server.tick(now);
-        self.history = self.history.then(&Happened::Ticked(now));
+        self.history.tick(now);
         self.turns.tick();
         frames + datagrams4 + datagrams6 + answers
     }
@@ -297,16 +305,10 @@ impl Access {
         let made = self
             .server
             .receive(proto, from, datagram, now, &mut self.disk, &mut self.out);
-        let socket = self.sockets.server(proto);
-        let out = self.out.as_slice();
-        let outcome = send_on(
-            made,
-            socket,
-            from,
-            out,
-            Outcome::Answered,
-            &mut self.history,
-        );
+        // an answer goes to where the datagram came from
+        let (to, out) = (from, self.out.as_slice());
+        let own = self.sockets.server(proto);
+        let outcome = send_on(made, own, to, out, Outcome::Answered, &mut self.history);
         self.counts.count(outcome);
         1
     }
@@ -341,15 +343,8 @@ impl Access {
                 let proto = proto_of(sent.1);
                 let from = self.sockets.circuits[sent.0.index()].socket(proto);
                 let to = client(self.port, sent.0, proto);
-                let frame = self.frame.as_slice();
-                send_on(
-                    Ok(()),
-                    from,
-                    to,
-                    frame,
-                    Outcome::Delivered,
-                    &mut self.history,
-                )
+                let (made, frame) = (Ok(()), self.frame.as_slice());
+                send_on(made, from, to, frame, Outcome::Delivered, &mut self.history)
             }
             Err(why) => Outcome::Dropped(why),
         };

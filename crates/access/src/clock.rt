@@ -1,11 +1,12 @@
 //! Moments by the system's clock.
 ghost use Rattle.std.specs.Prelude.{◌≡◌, ◌/◌};
 ghost use Rattle.std.specs.Duration.{as_nanos};
-ghost use Rattle.access.specs.Access.{moment_of};
+ghost use Rattle.access.specs.Moments.{HasRead, moment_of};
 
 use std::rt::Clock;
 use std::time::Duration;
 use types::Moment;
+use udp::{History, read_clock};
 
 /// The moment at so many whole seconds after the first, or the one before where that is past the last.
 pub fn moment_of(since: Duration, before: Moment) -> Moment
@@ -15,9 +16,11 @@ pub fn moment_of(since: Duration, before: Moment) -> Moment
 }
 
 /// This moment in seconds since 1970, or the one before where the clock can't be read.
-pub fn moment<R: Clock>(rt: &R, before: Moment) -> Moment {
-    match rt.since_1970() {
-        Ok(since) => moment_of(since, before),
-        Err(_) => before,
+pub(crate) fn moment<R: Clock>(rt: &R, before: Moment, history: &mut History) -> Moment
+    ensures { HasRead before result history.old.entries history.new.entries }
+{
+    match read_clock(rt, history) {
+        Some(since) => moment_of(since, before),
+        None => before,
     }
 }

@@ -1,11 +1,12 @@
 //! The device in a file, which keeps the leases.
-ghost use Rattle.std.specs.Prelude.{◌≡◌, ◌≢◌, ◌≤◌, ◌<◌, ◌+◌, ◌*◌, ℕ, true, length, Some, IfOk, IfErr, OnOk, slice_get};
+ghost use Rattle.std.specs.Prelude.{◌≡◌, ◌≢◌, ◌≤◌, ◌<◌, ◌+◌, ◌*◌, ℕ, true, false, length, Some, IfOk, IfErr, OnOk, slice_get};
 ghost use Rattle.access.specs.declared.device.DeviceFault.TheVariants as fault;
 ghost use Rattle.settings.specs.declared.settings.CircuitConfig.{CircuitConfig};
 ghost use Rattle.lease_disk.specs.Crash.{IsFormatted};
 ghost use Rattle.lease_disk.specs.FileDisk.{uncalled};
 
 use crate::sockets::MAX_SERVED;
+use command_line::accessd_words::AccessWords;
 use config::Config;
 use dispatch::region_count;
 use lease_disk::{Disk, FileDisk, FileFault, format};
@@ -76,4 +77,20 @@ pub fn format_device<R: Files<File = File>>(
         format_regions(config, &mut disk)?;
     }
     Ok(disk)
+}
+
+/// Opens the file that the words name as the device of a configuration: as it is, or formatted where they ask for that.
+pub fn device_of<R: Files<File = File>>(
+    rt: &R,
+    words: &AccessWords<'_>,
+    config: &Config,
+) -> Result<FileDisk, DeviceFault>
+    ensures formats { words.now.format ≡ true → length config.now.circuits ≤ 16 → IfOk result (λ disk. disk.writes ≡ 4 * length config.now.circuits) }
+    ensures opens { words.now.format ≡ false → IfOk result (λ disk. disk ≡ uncalled disk.regions) }
+{
+    if words.format {
+        format_device(rt, words.disk, config)
+    } else {
+        open_device(rt, words.disk)
+    }
 }

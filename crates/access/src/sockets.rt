@@ -2,18 +2,20 @@
 ghost use Rattle.std.specs.Prelude.{◌≡◌, ◌≤◌, ◌<◌, ◌+◌, ◌*◌, length, map, All, Some, slice_get, option_map, IfOk, IfErr};
 ghost use Rattle.config.specs.CircuitPart.{CircuitPart, part_in, parts_of};
 ghost use Rattle.config.specs.Topology.{topology_of};
-ghost use Rattle.access.specs.Sockets.{AreBound, AreCircuitSockets, AreOwnSockets, AreRelaySockets, IsBound, IsCircuitSocket, IsRelaySocket, IsSocket, Refuses, client_port, local_port};
+ghost use Rattle.access.specs.Sockets.{AreBound, AreCircuitSockets, AreOwnSockets, AreRelaySockets, IsBound, IsCircuitSocket, IsRelaySocket, IsSocket, Refuses, WasRefused, client_port, local_port};
 
 use config::Config;
 use std::alloc::{AllocError, Global};
-use std::io;
 use std::net::Net;
 use thiserror::Error;
 use types::{Addr4, Circuit, Proto, RelayNo, Source};
-use udp::{DatagramSocket, Role};
+use udp::{BindFault, DatagramSocket, History, Role, Waiter};
 
 /// The most circuits that are served.
 pub const MAX_SERVED: usize = 16;
+
+/// How many sockets there are at most: two of each circuit and the server, and one of each relay.
+pub(crate) const MAX_SOCKETS: usize = 2 * MAX_SERVED + 2 + 8;
 
 /// Ports of one circuit: two where it listens, and two where its frames go.
 const PORTS: u16 = 4;
@@ -75,14 +77,25 @@ pub(crate) fn client(port: u16, circuit: Circuit, proto: Proto) -> Source
     }
 }
 
-fn bind<R: Net>(net: &R, role: Role, at: Source) -> Result<DatagramSocket, SocketFault>
+/// Binds a socket, which is watched from then on.
+fn bind<R: Net>(
+    net: &R,
+    role: Role,
+    at: Source,
+    waiter: &mut Waiter,
+    history: &mut History,
+) -> Result<DatagramSocket, SocketFault>
     ensures bound { IfOk result (λ socket. IsBound socket role at) }
-    ensures refused { IfErr result (Refuses (λ refused. refused ≡ at)) }
+    ensures silent { IfOk result (λ _. history.new.entries ≡ history.old.entries) }
+    ensures refused { IfErr result (Refuses (λ refused. (refused ≡ at) × WasRefused history.old.entries history.new.entries at)) }
 {
-    match DatagramSocket::bind(net, role, at) {
-        Ok(socket) => Ok(socket),
-        Err(error) if error.kind() == io::ErrorKind::OutOfMemory => Err(SocketFault::Memory),
-        Err(_) => Err(SocketFault::Bind(at)),
+    match DatagramSocket::bind(net, role, at, history) {
+        Ok(mut socket) => {
+            waiter.watch(&mut socket);
+            Ok(socket)
+        }
+        Err(BindFault::Memory) => Err(SocketFault::Memory),
+        Err(BindFault::Refused) => Err(SocketFault::Bind(at)),
     }
 }
 
@@ -94,6 +107,8 @@ impl CircuitSockets {
         config: &Config,
         port: u16,
         index: usize,
+        waiter: &mut Waiter,
+        history: &mut History,
     ) -> Result<CircuitSockets, SocketFault>
         requires few { length config.now.circuits ≤ 16 }
         requires index { index < length config.now.circuits }
@@ -101,14 +116,21 @@ impl CircuitSockets {
         ensures behind { IfOk result (λ circuit. circuit.relay < length config.now.relays) }
         ensures relay { IfOk result (λ circuit. option_map (λ values. values.relay) (slice_get config.now.circuits index) ≡ Some circuit.relay) }
         ensures own { IfOk result (λ circuit. (part : CircuitPart) → part_in config.now index ≡ Some part → AreCircuitSockets (map (λ relay. relay.source) config.now.relays) port index part circuit) }
-        ensures refused { IfErr result (Refuses (IsCircuitSocket (length config.now.circuits) port)) }
+        ensures silent { IfOk result (λ _. history.new.entries ≡ history.old.entries) }
+        ensures refused { IfErr result (Refuses (λ at. IsCircuitSocket (length config.now.circuits) port at × WasRefused history.old.entries history.new.entries at)) }
     {
         let circuit = Circuit::at(index);
         let relay = config.at(circuit).relay.index();
         let first = port + PORTS * index as u16;
+        let (role4, role6) = (
+            Role::Circuit(circuit, Proto::V4),
+            Role::Circuit(circuit, Proto::V6),
+        );
+        let socket4 = bind(net, role4, local(first), waiter, history)?;
+        let socket6 = bind(net, role6, local(first + 1), waiter, history)?;
         Ok(CircuitSockets {
-            socket4: bind(net, Role::Circuit(circuit, Proto::V4), local(first))?,
-            socket6: bind(net, Role::Circuit(circuit, Proto::V6), local(first + 1))?,
+            socket4,
+            socket6,
             relay,
         })
     }
@@ -132,19 +154,22 @@ fn bind_circuits<R: Net>(
     alloc: Global,
     config: &Config,
     port: u16,
+    waiter: &mut Waiter,
+    history: &mut History,
 ) -> Result<Vec<CircuitSockets>, SocketFault>
     requires few { length config.now.circuits ≤ 16 }
     requires most { port ≤ 65472 }
     ensures count { IfOk result (λ circuits. length circuits.items ≡ length config.now.circuits) }
     ensures behind { IfOk result (λ circuits. All (λ circuit. circuit.relay < length config.now.relays) circuits.items) }
     ensures own { IfOk result (λ circuits. AreOwnSockets (map (λ relay. relay.source) config.now.relays) port (parts_of config.now) circuits.items) }
-    ensures refused { IfErr result (Refuses (IsCircuitSocket (length config.now.circuits) port)) }
+    ensures silent { IfOk result (λ _. history.new.entries ≡ history.old.entries) }
+    ensures refused { IfErr result (Refuses (λ at. IsCircuitSocket (length config.now.circuits) port at × WasRefused history.old.entries history.new.entries at)) }
 {
     let Ok(mut circuits) = Vec::with_capacity(alloc, config.circuit_count()) else {
         return Err(SocketFault::Memory);
     };
     'circuits: for index in 0..config.circuit_count() {
-        let sockets = CircuitSockets::bind(net, config, port, index)?;
+        let sockets = CircuitSockets::bind(net, config, port, index, waiter, history)?;
         let Ok(()) = circuits.push(sockets) else {
             return Err(SocketFault::Memory);
         };
@@ -156,17 +181,21 @@ fn bind_relays<R: Net>(
     net: &R,
     alloc: Global,
     config: &Config,
+    waiter: &mut Waiter,
+    history: &mut History,
 ) -> Result<Vec<DatagramSocket>, SocketFault>
     ensures count { IfOk result (λ relays. length relays.items ≡ length config.now.relays) }
     ensures own { IfOk result (λ relays. AreRelaySockets (map (λ relay. relay.source) config.now.relays) relays.items) }
-    ensures refused { IfErr result (Refuses (IsRelaySocket config.now.relays)) }
+    ensures silent { IfOk result (λ _. history.new.entries ≡ history.old.entries) }
+    ensures refused { IfErr result (Refuses (λ at. IsRelaySocket config.now.relays at × WasRefused history.old.entries history.new.entries at)) }
 {
     let Ok(mut relays) = Vec::with_capacity(alloc, config.relay_count()) else {
         return Err(SocketFault::Memory);
     };
     'relays: for index in 0..config.relay_count() {
         let relay = RelayNo::at(index);
-        let socket = bind(net, Role::Relay(relay), config.relay(relay).source)?;
+        let source = config.relay(relay).source;
+        let socket = bind(net, Role::Relay(relay), source, waiter, history)?;
         let Ok(()) = relays.push(socket) else {
             return Err(SocketFault::Memory);
         };
@@ -186,13 +215,15 @@ impl Sockets {
         }
     }
 
-    /// Binds all sockets of a configuration. Those of the first circuit begin at `port`, those of each
-    /// other one 4 later.
+    /// Binds all sockets of a configuration, and watches them. Those of the first circuit begin at `port`, those of
+    /// each other one 4 later.
     pub fn bind<R: Net>(
         net: &R,
         alloc: Global,
         config: &Config,
         port: u16,
+        waiter: &mut Waiter,
+        history: &mut History,
     ) -> Result<Sockets, SocketFault>
         requires few { length config.now.circuits ≤ 16 }
         requires most { port ≤ 65472 }
@@ -200,13 +231,15 @@ impl Sockets {
         ensures relays { IfOk result (λ sockets. length sockets.relays.items ≡ length config.now.relays) }
         ensures behind { IfOk result (λ sockets. All (λ circuit. circuit.relay < length config.now.relays) sockets.circuits.items) }
         ensures bound { IfOk result (AreBound (topology_of config.now) port) }
-        ensures refused { IfErr result (Refuses (IsSocket config.now port)) }
+        ensures silent { IfOk result (λ _. history.new.entries ≡ history.old.entries) }
+        ensures refused { IfErr result (Refuses (λ at. IsSocket config.now port at × WasRefused history.old.entries history.new.entries at)) }
     {
         let server = config.server();
-        let circuits = bind_circuits(net, alloc, config, port)?;
-        let listen4 = bind(net, Role::Server(Proto::V4), server.listen4)?;
-        let listen6 = bind(net, Role::Server(Proto::V6), server.listen6)?;
-        let relays = bind_relays(net, alloc, config)?;
+        let (role4, role6) = (Role::Server(Proto::V4), Role::Server(Proto::V6));
+        let circuits = bind_circuits(net, alloc, config, port, waiter, history)?;
+        let listen4 = bind(net, role4, server.listen4, waiter, history)?;
+        let listen6 = bind(net, role6, server.listen6, waiter, history)?;
+        let relays = bind_relays(net, alloc, config, waiter, history)?;
         Ok(Sockets {
             circuits,
             listen4,

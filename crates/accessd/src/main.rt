@@ -1,16 +1,17 @@
 //! Runs relay and server over UDP sockets on loopback, with the leases kept in a file.
 #![tactic(auto)]
 
-ghost use Rattle.std.specs.Prelude.{◌≡◌, ◌≤◌, ◌⊎◌, IfErr};
+ghost use Rattle.std.specs.Prelude.{◌≡◌, ◌≤◌, ◌⊎◌, ◌*◌, true, false, length, IfErr, IfOk};
+ghost use Rattle.lease_disk.specs.FileDisk.{uncalled};
 ghost use Rattle.accessd.specs.Status.{IsExitStatus, status_of, device_status};
 
-use access::{Access, AccessFault, AccessWords, DeviceFault, format_device, open_device};
+use access::{Access, AccessFault, AccessWords, DeviceFault, History, device_of, warn};
 use command_line::{REFUSED, UNOPENED, UNREADABLE, complain, given_words, read_configuration};
 use config::Config;
 use dispatch::region_count;
 use lease_disk::FileDisk;
 use std::process::ExitCode;
-use types::{Addr4, Circuit, Source};
+use types::{Addr4, Circuit, RelayNo, Source};
 
 /// The status of a device that does not serve.
 fn device_status(fault: DeviceFault) -> u8
@@ -37,14 +38,11 @@ fn report_device(rt: &HostRuntime, path: &str, fault: DeviceFault) {
 
 /// The device in the file with the leases, formatted where that is asked for.
 fn device(rt: &HostRuntime, config: &Config, values: &AccessWords<'_>) -> Result<FileDisk, u8>
-    ensures { IfErr result (λ status. (status ≡ 4) ⊎ (status ≡ 5)) }
+    ensures formats { values.now.format ≡ true → length config.now.circuits ≤ 16 → IfOk result (λ disk. disk.writes ≡ 4 * length config.now.circuits) }
+    ensures opens { values.now.format ≡ false → IfOk result (λ disk. disk ≡ uncalled disk.regions) }
+    ensures status { IfErr result (λ status. (status ≡ 4) ⊎ (status ≡ 5)) }
 {
-    let disk = if values.format {
-        format_device(rt, values.disk, config)
-    } else {
-        open_device(rt, values.disk)
-    };
-    match disk {
+    match device_of(rt, values, config) {
         Ok(disk) => Ok(disk),
         Err(fault) => {
             report_device(rt, values.disk, fault);
@@ -78,6 +76,31 @@ fn refuse(rt: &HostRuntime, config: &Config, disk: &str, fault: AccessFault) -> 
             let _ = eprintln!(rt; "{count} circuits: {fault}");
             REFUSED
         }
+    }
+}
+
+/// Reports what is wrong with an address, in a line of its own.
+fn report_address(rt: &HostRuntime, config: &Config, port: u16, at: Source)
+    requires few { length config.now.circuits ≤ 16 }
+    requires most { port ≤ 65472 }
+{
+    if let Some(warning) = warn(at, port, config.circuit_count()) {
+        let Source { addr, port } = at;
+        let Addr4([a, b, c, d]) = addr;
+        let _ = eprintln!(rt; "{a}.{b}.{c}.{d}:{port}: {warning}");
+    }
+}
+
+/// The same of each address of the server and the relays.
+fn report_addresses(rt: &HostRuntime, config: &Config, port: u16)
+    requires few { length config.now.circuits ≤ 16 }
+    requires most { port ≤ 65472 }
+{
+    report_address(rt, config, port, config.server().listen4);
+    report_address(rt, config, port, config.server().listen6);
+    for index in 0..config.relay_count() {
+        let source = config.relay(RelayNo::at(index)).source;
+        report_address(rt, config, port, source);
     }
 }
 
@@ -130,7 +153,6 @@ fn text_of(id: &[u8]) -> &str {
 
 /// Opens relay and server, takes the turns, and returns the status.
 fn run(rt: &HostRuntime, values: AccessWords<'_>) -> u8
-    requires least { 1024 ≤ values.port }
     requires most { values.port ≤ 65472 }
     ensures { IsExitStatus result }
 {
@@ -142,10 +164,12 @@ fn run(rt: &HostRuntime, values: AccessWords<'_>) -> u8
         Ok(disk) => disk,
         Err(status) => return status,
     };
-    let mut access = match Access::open(rt, rt.alloc(), &config, disk, values.port) {
+    let mut opening = History::new();
+    let mut access = match Access::open(rt, rt.alloc(), &config, disk, values.port, &mut opening) {
         Ok(access) => access,
         Err(fault) => return refuse(rt, &config, values.disk, fault),
     };
+    report_addresses(rt, &config, values.port);
     report_moves(rt, &config, &access);
     report_start(rt, &config, &access, &values);
     access.serve(rt, values.turns, values.pause);

@@ -1,12 +1,12 @@
 -- How the logic stores what happened at the sockets. Nothing of it has to be believed.
-use Rattle.std.specs.Prelude.{◌≡◌, ℕ, Bool, true, false, cond, ◌==◌, List, [], refl}
+use Rattle.std.specs.Prelude.{◌≡◌, ℕ, Bool, true, false, cond, ◌==◌, List, [], Option, Some, None, refl}
 use Rattle.std.specs.Coded.{Coded, code_by, coded_ℕ, coded_bool, coded_list, coded×}
 use mathlib.Core.Path.{ap}
 use Rattle.types.specs.declared.addr.Source.{Source}
 use Rattle.types.specs.declared.dest.Proto.TheVariants.{V4, V6}
 use Rattle.udp.specs.declared.history.Role.{Role}
 use Rattle.udp.specs.declared.history.Role.TheVariants.{Circuit, Server, Relay}
-use Rattle.udp.specs.History.{Entry, Took, Failed, Sent, Ticked}
+use Rattle.udp.specs.History.{Entry, Took, Failed, Sent, Ticked, Refused, Read}
 
 -- a socket, as two numbers
 abbrev role_parts : Role → ℕ × ℕ
@@ -35,7 +35,11 @@ source_of p = record { addr = record { 0 = p.0 }; port = p.1 }
 abbrev none : Source
 none = source_of ([], 0)
 
--- which of the four it is, its socket, the other end, the bytes, and whether they were accepted
+-- a reading, as whether there is one, and which
+abbrev reading_of : Bool → ℕ → Option ℕ
+reading_of is_read time = cond is_read (Some time) None
+
+-- which of the six it is, its socket, the other end, the bytes, and whether they were accepted
 abbrev Parts : Type 0
 Parts = ℕ × ((ℕ × ℕ) × ((List ℕ × ℕ) × (List ℕ × Bool)))
 
@@ -44,19 +48,27 @@ entry_parts (Took socket from bytes) = (0, (role_parts socket, (source_parts fro
 entry_parts (Failed socket) = (1, (role_parts socket, (source_parts none, ([], false))))
 entry_parts (Sent socket to bytes accepted) = (2, (role_parts socket, (source_parts to, (bytes, accepted))))
 entry_parts (Ticked now) = (3, ((0, now), (source_parts none, ([], false))))
+entry_parts (Refused socket at) = (4, (role_parts socket, (source_parts at, ([], false))))
+entry_parts (Read None) = (5, ((0, 0), (source_parts none, ([], false))))
+entry_parts (Read (Some time)) = (5, ((0, time), (source_parts none, ([], true))))
 
 abbrev entry_of : Parts → Entry
 entry_of p =
     cond (p.0 == 0) (Took (role_of p.1.0) (source_of p.1.1.0) p.1.1.1.0)
     (cond (p.0 == 1) (Failed (role_of p.1.0))
     (cond (p.0 == 2) (Sent (role_of p.1.0) (source_of p.1.1.0) p.1.1.1.0 p.1.1.1.1)
-    (Ticked p.1.0.1)))
+    (cond (p.0 == 3) (Ticked p.1.0.1)
+    (cond (p.0 == 4) (Refused (role_of p.1.0) (source_of p.1.1.0))
+    (Read (reading_of p.1.1.1.1 p.1.0.1))))))
 
 pub entry_back : (e : Entry) → entry_of (entry_parts e) ≡ e
 entry_back (Took socket from bytes) = ap (λ role. Took role from bytes) (role_back socket)
 entry_back (Failed socket) = ap Failed (role_back socket)
 entry_back (Sent socket to bytes accepted) = ap (λ role. Sent role to bytes accepted) (role_back socket)
 entry_back (Ticked now) = refl
+entry_back (Refused socket at) = ap (λ role. Refused role at) (role_back socket)
+entry_back (Read None) = refl
+entry_back (Read (Some time)) = refl
 
 abbrev parts_code : Coded Parts
 parts_code = coded× coded_ℕ (coded× (coded× coded_ℕ coded_ℕ) (coded× (coded× (coded_list coded_ℕ) coded_ℕ) (coded× (coded_list coded_ℕ) coded_bool)))

@@ -1,5 +1,6 @@
--- What happened at the sockets, in order.
-use Rattle.std.specs.Prelude.{ℕ, Bool, List, [], ◌∷◌, ◌++◌}
+-- What happened at the sockets and the clock, in order.
+use Rattle.std.specs.Prelude.{ℕ, Bool, List, [], ◌∷◌, ◌++◌, Option, option_map}
+use Rattle.std.specs.Duration.{as_nanos}
 use Rattle.types.specs.declared.addr.Source.{Source}
 use Rattle.udp.specs.declared.history.Happened.{Happened}
 use Rattle.udp.specs.declared.history.Happened.TheVariants as happened
@@ -14,12 +15,18 @@ pub data Entry : Type 0 where
   Sent : Role → Source → List ℕ → Bool → Entry
   -- the moment at which a turn ended
   Ticked : ℕ → Entry
+  -- the system refused to bind this socket to this address
+  Refused : Role → Source → Entry
+  -- the system's clock was read, in nanoseconds since 1970; None where it could not be read
+  Read : Option ℕ → Entry
 
 abbrev pub entry_of : Happened → Entry
 entry_of (happened.Took socket from bytes) = Took socket from bytes.now
 entry_of (happened.Failed socket) = Failed socket
 entry_of (happened.Sent socket to bytes accepted) = Sent socket to bytes.now accepted
 entry_of (happened.Ticked now) = Ticked now
+entry_of (happened.Refused socket at) = Refused socket at
+entry_of (happened.Read time) = Read (option_map as_nanos time)
 
 abbrev pub with_entry : Entry → List Entry → List Entry
 with_entry entry entries = entries ++ entry ∷ []

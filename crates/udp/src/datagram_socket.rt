@@ -1,24 +1,34 @@
 //! A UDP socket that never waits. What the system does with it is in three functions, and each says in the history
 //! what it did.
-ghost use Rattle.std.specs.Prelude.{◌≡◌, ◌≤◌, ◌⊎◌, take, IfOk, IfSome, IfNone};
+ghost use Rattle.std.specs.Prelude.{◌≡◌, ◌≤◌, ◌⊎◌, take, Err, IfOk, IfSome, IfNone};
 ghost use Rattle.types.specs.declared.addr.Source.{Source};
 ghost use Rattle.udp.specs.Address.{IsSystemForm};
-ghost use Rattle.udp.specs.History.{Failed, Sent, Took, with_entry};
+ghost use Rattle.udp.specs.History.{Failed, Refused, Sent, Took, with_entry};
+ghost use Rattle.udp.specs.declared.datagram_socket.BindFault.TheVariants as fault;
 
 use crate::history::{Happened, History, Role};
-use std::io;
+use mio::net::UdpSocket;
 use std::io::ErrorKind;
-use std::net::{IpAddr, Ipv4Addr, Net, SocketAddr, UdpSocket};
+use std::net::{IpAddr, Ipv4Addr, Net, SocketAddr};
 use types::{Addr4, MAX_DATAGRAM, Source};
 
 /// The length of the buffer that a datagram is received in. It has one byte more than the longest that is
 /// served, so that of a longer one enough arrives to be refused for its length.
 pub const BUFFER_LEN: usize = MAX_DATAGRAM + 1;
 
+/// Why a socket was not bound.
+#[derive(Clone, Copy, Debug, PartialEq, Eq)]
+pub enum BindFault {
+    /// The system is out of memory.
+    Memory,
+    /// The system refused the address.
+    Refused,
+}
+
 /// A bound UDP socket that never waits.
 #[derive(Drop)]
 pub struct DatagramSocket {
-    socket: UdpSocket,
+    pub(crate) socket: UdpSocket,
     /// What it is for, and the address and port that it is bound to.
     pub role: Role,
     pub at: Source,
@@ -48,13 +58,26 @@ fn source_of(address: SocketAddr) -> Option<Source>
 
 impl DatagramSocket {
     /// Binds a socket to this address and port.
-    pub fn bind<R: Net>(net: &R, role: Role, at: Source) -> io::Result<DatagramSocket>
+    pub fn bind<R: Net>(
+        net: &R,
+        role: Role,
+        at: Source,
+        history: &mut History,
+    ) -> Result<DatagramSocket, BindFault>
         ensures role { IfOk result (λ socket. socket.role ≡ role) }
         ensures at { IfOk result (λ socket. socket.at ≡ at) }
+        ensures silent { IfOk result (λ _. history.new.entries ≡ history.old.entries) }
+        ensures refused { result ≡ Err fault.Refused → history.new.entries ≡ with_entry (Refused role at) history.old.entries }
+        ensures memory { result ≡ Err fault.Memory → history.new.entries ≡ history.old.entries }
     {
-        let socket = UdpSocket::bind(net, system_address(at))?;
-        socket.set_nonblocking(true)?;
-        Ok(DatagramSocket { socket, role, at })
+        match UdpSocket::bind(net, system_address(at)) {
+            Ok(socket) => Ok(DatagramSocket { socket, role, at }),
+            Err(error) if error.kind() == ErrorKind::OutOfMemory => Err(BindFault::Memory),
+            Err(_) => {
+                *history = history.then(&Happened::Refused(role, at));
+                Err(BindFault::Refused)
+            }
+        }
     }
 
     /// Takes a datagram that waits, if there is one: how many bytes of it are in `buffer`, and where it

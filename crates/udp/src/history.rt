@@ -1,10 +1,11 @@
-//! What happened at the sockets, which contracts see and the program does not: it takes no memory.
+//! What happened at the sockets and the clock, which contracts see and the program does not: it takes no memory.
 ghost use Rattle.std.specs.Prelude.{◌≡◌, List, []};
 ghost use Rattle.std.specs.Borrow.{ftrue};
-ghost use Rattle.udp.specs.History.{Entry, noted};
+ghost use Rattle.udp.specs.History.{Entry, Ticked, noted, with_entry};
 ghost use Rattle.udp.specs.EntryCode.{entries_code};
 
 use std::marker::{Model, PhantomData};
+use std::time::Duration;
 use types::{Circuit, Moment, Proto, RelayNo, Source};
 
 /// A socket by what it is for.
@@ -29,6 +30,10 @@ pub enum Happened<'a> {
     Sent(Role, Source, &'a [u8], bool),
     /// The clocks were moved to this moment, with which a turn ends.
     Ticked(Moment),
+    /// The system refused to bind this socket to this address.
+    Refused(Role, Source),
+    /// The system's clock was read: the time since 1970, or none.
+    Read(Option<Duration>),
 }
 
 /// All that happened, in order.
@@ -52,12 +57,19 @@ impl History {
         }
     }
 
-    /// This happened as well.
-    pub fn then(&self, what: &Happened<'_>) -> History
+    /// This happened as well. Only what calls the system notes what that did.
+    pub(crate) fn then(&self, what: &Happened<'_>) -> History
         ensures { result.entries ≡ noted what.now self.now.entries }
     {
         History {
             marker: PhantomData,
         }
+    }
+
+    /// The clocks were moved to this moment as well.
+    pub fn tick(&mut self, now: Moment)
+        ensures { self.new.entries ≡ with_entry (Ticked now) self.old.entries }
+    {
+        *self = self.then(&Happened::Ticked(now));
     }
 }

@@ -1,8 +1,12 @@
-//! UDP sockets whose history contracts see.
+//! UDP sockets and a clock whose history contracts see, and waiting for datagrams.
 #![tactic(auto)]
 
+mod clock;
 mod datagram_socket;
 mod history;
+mod waiting;
 
-pub use datagram_socket::{BUFFER_LEN, DatagramSocket};
+pub use clock::read_clock;
+pub use datagram_socket::{BUFFER_LEN, BindFault, DatagramSocket};
 pub use history::{Happened, History, Role};
+pub use waiting::Waiter;

@@ -1,0 +1,17 @@
+//! Readings of the system's clock.
+ghost use Rattle.std.specs.Prelude.{◌≡◌, option_map};
+ghost use Rattle.std.specs.Duration.{as_nanos};
+ghost use Rattle.udp.specs.History.{Read, with_entry};
+
+use crate::history::{Happened, History};
+use std::rt::Clock;
+use std::time::Duration;
+
+/// The time since 1970 by the system's clock, if that can be read.
+pub fn read_clock<R: Clock>(rt: &R, history: &mut History) -> Option<Duration>
+    ensures { history.new.entries ≡ with_entry (Read (option_map as_nanos result)) history.old.entries }
+{
+    let time = rt.since_1970().ok();
+    *history = history.then(&Happened::Read(time));
+    time
+}
