@@ -2,14 +2,13 @@
 use Rattle.std.proofs.Common.{inl, inr, ◌≡◌, ◌∙◌, ◌+◌, ℕ, suc, refl, sym, ap, ap₂, List, [], ◌∷◌, ◌++◌, length, arith, append_assoc, append-nil, subst}
 use Rattle.std.specs.Prelude.{◌⊎◌}
 use Rattle.types.specs.declared.addr.Source.{Source}
-use Rattle.config.specs.Topology.{Topology}
 use Rattle.udp.specs.History.{Entry, Failed, Took, with_entry}
 use Rattle.udp.specs.declared.history.Role.{Role}
 use Rattle.types.specs.declared.dest.Proto.{Proto}
 use Rattle.udp.specs.declared.history.Role.TheVariants as role
 use Rattle.access.specs.Access.{AccessValue, HasCarried, HasServed}
 use Rattle.access.specs.Counts.{counted, counted_all}
-use Rattle.access.specs.Turn.{Both, InOrder, IsTaken, IsTried, Tries}
+use Rattle.access.specs.Turn.{Both, InOrder, IsTried, Tries}
 use Rattle.access.specs.declared.counts.Counts.{Counts}
 use Rattle.access.specs.declared.counts.Outcome.{Outcome}
 

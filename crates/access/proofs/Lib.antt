@@ -3,7 +3,9 @@ pub mod CarryLemmas
 pub mod ClockLemmas
 pub mod FormatLemmas
 pub mod OpeningLemmas
+pub mod RefusedLemmas
 pub mod RelayLemmas
 pub mod TurnLemmas
 pub mod CountLemmas
 pub mod UpLemmas
+pub mod WarningLemmas

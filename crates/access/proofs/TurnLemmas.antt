@@ -10,9 +10,11 @@ use Rattle.requests.specs.Addressee.{addressee}
 use Rattle.dispatch.specs.Received.{addressee_answered, answered, circuit_answered}
 use Rattle.dispatch.specs.Server.{Book}
 use Rattle.dispatch.specs.ServerValue.{ServerValue, books_in}
+use Rattle.udp.specs.History.{Entry}
 use Rattle.udp.specs.declared.history.Role.TheVariants as role
-use Rattle.access.specs.Access.{AccessValue, HasAnswered, HasCarried, HasCounted, HasServed, HasTurned, StayClosed, books_at}
+use Rattle.access.specs.Access.{AccessValue, HasAnswered, HasCarried, HasCounted, HasServed, HasServedTurns, HasTurned, StayClosed, books_at}
 use Rattle.access.specs.Counts.{counted_all, more_by}
+use Rattle.access.specs.Moments.{HasRead}
 use Rattle.access.specs.Turn.{IsTried, Tries}
 use Rattle.access.specs.declared.counts.Counts.{Counts}
 use Rattle.access.specs.declared.counts.Outcome.{Outcome}
@@ -117,3 +119,15 @@ turned_closed now n old new t c closed =
     let six = served_closed now _ t.datagrams6 t.served4 t.served6 t.at_server6 c four in
     let delivered = carried_closed _ t.answers t.served6 t.delivered t.from_relays c six in
     subst (λ books. slice_get books c ≡ Some None) (sym t.ticked) (ticked_closed now (books_in t.delivered.server) c delivered)
+
+-- ---- turns
+
+-- one turn more, at the moment of the next reading
+pub served_once : (n before now count : ℕ) (old middle inside new : AccessValue) (history : List Entry) → HasServedTurns n before old middle → inside ≡ middle
+    → HasRead before now inside.history history → HasTurned now count (record inside { history = history }) new → HasServedTurns (n + 1) now old new
+served_once n before now count old middle inside new history were same read turn =
+    let reads = subst (λ (s : AccessValue). HasRead before now s.history history) same read in
+    let turned = subst (λ (s : AccessValue). HasTurned now count (record s { history = history }) new) same turn in
+    let more : suc n ≡ n + 1 = omega arith in
+    let once : HasServedTurns (suc n) now old new = (before, middle, were, record { read = record middle { history = history }; count = count; reads = reads; rest = refl; turn = turned }) in
+    subst (λ k. HasServedTurns k now old new) more once

@@ -2,8 +2,9 @@ use Rattle.std.proofs.Common.{◌≡◌, ◌<◌, length, map, sym, subst, rules
 use Rattle.std.specs.Prelude.{All, Some, slice_get}
 use Rattle.std.proofs.lemmas.List.Elements.{All-push}
 use Rattle.config.specs.CircuitPart.{parts_of}
-use Rattle.access.specs.Sockets.{AreCircuitSockets, AreOwnSockets}
+use Rattle.access.specs.Sockets.{AreCircuitSockets, AreOwnSockets, IsCircuitSocket, Refuses, WasRefused}
 use Rattle.access.specs.declared.sockets.CircuitSockets.{CircuitSockets}
+use Rattle.access.proofs.RefusedLemmas.{refused_some}
 use Rattle.access.proofs.RelayLemmas.{pushed}
 use Rattle.access.proofs.sockets.bind_circuits.Goals as goal
 
@@ -26,4 +27,12 @@ circuits-preserved g c =
           (pushed (AreCircuitSockets relays c.args.port) (parts_of config) items next was.own
           (λ part there. subst (λ n. AreCircuitSockets relays c.args.port n part next) (sym was.count)
           (c.in_ok-sockets.ensures.own part (subst (λ n. slice_get (parts_of config) n ≡ Some part) was.count there))));
+      silent = search rules;
     }
+
+pub returns-in_err-sockets-clause-refused : goal.returns-in_err-sockets-clause-refused
+returns-in_err-sockets-clause-refused g c =
+    let Is = IsCircuitSocket (length c.args.config.now.circuits) c.args.port in
+    let refused : Refuses (λ at. Is at × WasRefused c.args.history.now.entries c.bind.new.history.entries at) c.in_err-sockets.field-0.0 =
+    refused_some Is Is _ _ _ _ (λ at was. was) c.circuits.invariant.silent c.in_err-sockets.ensures.refused in
+    search rules

@@ -13,4 +13,5 @@ invariant-circuits g l = record {
   count : length l.circuits.items ≡ l.index;
   behind : All (λ circuit. circuit.relay < length l.config.relays) l.circuits.items;
   own : AreOwnSockets (map (λ relay. relay.source) l.config.relays) l.port (parts_of l.config) l.circuits.items;
+  silent : l.history.entries ≡ l.fn.history.entries;
 }

@@ -1,10 +1,11 @@
-use Rattle.std.proofs.Common.{◌≡◌, ◌∙◌, length, map, sym, ap, subst, rules}
+use Rattle.std.proofs.Common.{◌≡◌, ◌∙◌, refl, length, map, sym, ap, subst, rules}
 use Rattle.std.specs.Prelude.{Some, option_map, slice_get}
 use Rattle.std.proofs.lemmas.Option.{same_Some, slice_get-map}
 use Rattle.types.specs.declared.addr.Source.{Source}
 use Rattle.settings.specs.declared.settings.RelayConfig.{RelayConfig}
 use Rattle.udp.specs.declared.history.Role.TheVariants as role
-use Rattle.access.specs.Sockets.{AreRelaySockets, IsBound}
+use Rattle.access.specs.Sockets.{AreRelaySockets, IsBound, IsRelaySocket, Refuses, WasRefused}
+use Rattle.access.proofs.RefusedLemmas.{refused_one}
 use Rattle.access.proofs.RelayLemmas.{pushed}
 use Rattle.access.proofs.sockets.bind_relays.Goals as goal
 
@@ -28,4 +29,14 @@ relays-preserved g c =
           (pushed (λ r at socket. IsBound socket (role.Relay r) at) (map source config.relays) items next was.own
           (λ at there. subst (λ a. IsBound next (role.Relay (length items)) a) (same_Some here.source at (sym found ∙ there))
           (subst (λ n. IsBound next (role.Relay n) here.source) number c.in_ok-socket.ensures.bound)));
+      silent = search rules;
     }
+
+pub returns-in_err-socket-clause-refused : goal.returns-in_err-socket-clause-refused
+returns-in_err-socket-clause-refused g c =
+    let relays = c.args.config.now.relays in
+    let at = c.relay.result.now.source in
+    let is : IsRelaySocket relays at = (c.at-relay.result, c.relay.result.now, c.relay.ensures.value, refl) in
+    let refused : Refuses (λ at. IsRelaySocket relays at × WasRefused c.args.history.now.entries c.bind.new.history.entries at) c.in_err-socket.field-0.0 =
+    refused_one (IsRelaySocket relays) at _ _ _ _ is c.relays.invariant.silent c.in_err-socket.ensures.refused in
+    search rules

@@ -10,4 +10,5 @@ invariant-relays g l = record {
   sound : IsSound l.config;
   count : length l.relays.items ≡ l.index;
   own : AreRelaySockets (map (λ relay. relay.source) l.config.relays) l.relays.items;
+  silent : l.history.entries ≡ l.fn.history.entries;
 }

@@ -4,7 +4,7 @@ use Rattle.config.specs.Topology.{Topology}
 use Rattle.config.specs.CircuitPart.{parts_of}
 use Rattle.dispatch.specs.Leases.{HasRegions}
 use Rattle.access.specs.Access.{ServesEach}
-use Rattle.access.specs.Sockets.{AreBound, IsSocket, Refuses}
+use Rattle.access.specs.Sockets.{AreBound, IsSocket, Refuses, WasRefused}
 use Rattle.access.proofs.RelayLemmas.{serves_each}
 use Rattle.access.proofs.access.Access.open.Goals as goal
 
@@ -31,7 +31,8 @@ pub returns-in-Err-Bind-clause-socket : goal.returns-in-Err-Bind-clause-socket
 returns-in-Err-Bind-clause-socket g c =
     let config = c.args.config.now in
     let why = c.in-Err-Bind in
-    let is_socket : IsSocket config c.args.port why.at = subst (Refuses (IsSocket config c.args.port)) why.field-0-is why.ensures.refused in (
-      subst (IsSocket config c.args.port) (sym why.at-is) is_socket,
+    let refused = subst (Refuses (λ at. IsSocket config c.args.port at × WasRefused c.args.opening.now.entries c.bind.new.history.entries at)) why.field-0-is why.ensures.refused in (
+      subst (IsSocket config c.args.port) (sym why.at-is) refused.0,
       subst (HasRegions (parts_of config)) c.open_server.ensures.count c.in-Ok.ensures.large,
+      subst (WasRefused c.args.opening.now.entries c.bind.new.history.entries) (sym why.at-is) refused.1,
     )

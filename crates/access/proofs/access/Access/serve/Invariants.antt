@@ -1,5 +1,5 @@
 use Rattle.std.proofs.Common.{◌≡◌, ◌≤◌, ◌+◌}
-use Rattle.access.specs.Access.{StayClosed}
+use Rattle.access.specs.Access.{HasServedTurns, StayClosed}
 use Rattle.access.proofs.access.Access.serve.Given as goal
 
 abbrev pub invariant-turns : goal.invariant-turns
@@ -10,5 +10,7 @@ invariant-turns g l = record {
   served : l.self.server.topology ≡ l.fn.self.server.topology;
   regions : l.self.disk.regions ≡ l.fn.self.disk.regions;
   formats : l.self.formats ≡ l.fn.self.formats;
+  port : l.self.port ≡ l.fn.self.port;
+  turned : HasServedTurns l.counter l.now l.fn.self l.self;
   closed : StayClosed l.fn.self.server l.self.server;
 }

@@ -1,6 +1,5 @@
-use Rattle.std.proofs.Common.{[], ◌≡◌, ◌<◌, ◌∙◌, ℕ, length, take, refl, sym, ap, subst, append-nil}
+use Rattle.std.proofs.Common.{[], ◌≡◌, ◌<◌, ◌∙◌, length, take, refl, sym, ap, subst, append-nil}
 use Rattle.std.specs.Prelude.{◌⊎◌, Ok, Err, slice_index_or}
-use Rattle.config.specs.Topology.{Topology}
 use Rattle.relay.specs.Relays.{relayed_down_in}
 use Rattle.udp.specs.History.{Failed, Took, with_entry}
 use Rattle.udp.specs.declared.history.Role.TheVariants as role

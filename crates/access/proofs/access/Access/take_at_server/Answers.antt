@@ -1,4 +1,4 @@
-use Rattle.std.proofs.Common.{arith, false, [], ◌∷◌, ◌++◌, inr, ◌≡◌, ◌∙◌, ℕ, take, refl, sym, ap, subst, append_assoc}
+use Rattle.std.proofs.Common.{arith, false, [], ◌∷◌, ◌++◌, inr, ◌≡◌, ◌∙◌, take, refl, ap, subst, append_assoc}
 use Rattle.std.specs.Prelude.{◌⊎◌, nat_lt}
 use Rattle.types.specs.Delivery.{delivery}
 use Rattle.dispatch.specs.Received.{received}
@@ -32,7 +32,7 @@ returns-clause-served c =
     let from = c.in-Some.from in
     let bound = c.self.invariant.6 in
     let its = server_role inside.relays.topology inside.port inside.sockets bound proto c.server-socket.result.now c.server-socket.ensures.v4 c.server-socket.ensures.v6 in
-    let sender = server_role inside.relays.topology inside.port inside.sockets bound proto c.server-socket-2.result.now c.server-socket-2.ensures.v4 c.server-socket-2.ensures.v6 in
+    let sender = server_role inside.relays.topology inside.port inside.sockets bound proto c.server-own.result.now c.server-own.ensures.v4 c.server-own.ensures.v6 in
     let datagram = take c.in-Some.len c.take.new.buffer in
     let taken = c.take.new.history.entries in
     let took = subst (λ r. taken ≡ with_entry (Took r from datagram) inside.history.entries) its c.in-Some.ensures.some in

@@ -1,9 +1,8 @@
-use Rattle.std.proofs.Common.{◌≡◌, ◌<◌, ◌∙◌, ℕ, length, take, sym, ap, subst, rules}
+use Rattle.std.proofs.Common.{◌≡◌, ◌<◌, ◌∙◌, length, take, sym, ap, subst, rules}
 use Rattle.std.specs.Prelude.{◌⊎◌, Some, slice_get}
 use Rattle.config.specs.Topology.{Topology, listen}
 use Rattle.relay.specs.Relays.{relayed_up}
 use Rattle.udp.specs.History.{Failed, Took, with_entry}
-use Rattle.udp.specs.declared.history.Role.{Role}
 use Rattle.udp.specs.declared.history.Role.TheVariants as role
 use Rattle.access.specs.Access.{AccessValue, HasCarried, IsAccess}
 use Rattle.access.specs.Turn.{CircuitSocket, IsSentUp}

@@ -1,7 +1,7 @@
 use Rattle.std.proofs.Common.{◌≡◌, arith, ◌∙◌, ◌+◌, ℕ, length, ap, refl, subst, sym, rules}
 use Rattle.config.specs.Topology.{Topology}
 use Rattle.types.specs.declared.dest.Proto.TheVariants.{V4, V6}
-use Rattle.access.specs.Access.{AccessValue, HasCarried}
+use Rattle.access.specs.Access.{HasCarried}
 use Rattle.access.specs.Turn.{Both, CircuitSocket, InOrder, Tries}
 use Rattle.access.proofs.CarryLemmas.{carried_again, carried_none, carried_then, carried_topology}
 use Rattle.access.proofs.access.Access.take_from_circuits.Goals as goal

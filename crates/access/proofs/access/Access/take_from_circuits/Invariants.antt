@@ -1,5 +1,4 @@
 use Rattle.std.proofs.Common.{◌≡◌, ◌≤◌, ◌*◌, length}
-use Rattle.std.specs.Prelude.{ℕ}
 use Rattle.types.specs.declared.dest.Proto.TheVariants.{V4, V6}
 use Rattle.access.specs.Access.{HasCarried}
 use Rattle.access.specs.Turn.{Both, CircuitSocket, InOrder}

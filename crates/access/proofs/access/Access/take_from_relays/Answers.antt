@@ -1,4 +1,4 @@
-use Rattle.std.proofs.Common.{◌∙◌, ◌+◌, length, ap, refl, subst, sym, rules}
+use Rattle.std.proofs.Common.{◌∙◌, length, ap, refl, subst, sym, rules}
 use Rattle.config.specs.Topology.{Topology}
 use Rattle.access.specs.Access.{HasCarried}
 use Rattle.access.specs.Turn.{RelaySocket}
