@@ -13,6 +13,7 @@ import struct
 import subprocess
 import sys
 import threading
+import time
 
 # x86-64
 NUMBERS = {"write": 18, "lengthen": 77, "sync": 75, "sync all": 74, "send": 44, "receive": 45}
@@ -92,8 +93,12 @@ class Watch:
         self.left, self.failing = k, names
 
     def break_receives(self, port):
-        """From now on every receive from the socket with this port fails with EIO, and no other one."""
+        """From now on every receive from the socket with this port fails with EIO, and no other one. Waits for the first, since
+        one that was let through may not be done yet."""
         self.broken = [descriptor for descriptor, end in copies(self.process).items() if end.getsockname()[1] == port]
+        count = len(self.calls)
+        while "receive fails" not in self.calls[count:] and self.process.poll() is None:
+            time.sleep(0.001)
 
     def mend_receives(self):
         self.broken = []

@@ -4,7 +4,7 @@ import socket
 
 from client import DISCOVER, Circuit, Server, frame, frame6
 
-server = Server("accessd", "config.toml", "leases", "--format", "--pause", "10", turns=100)
+server = Server("accessd", "config.toml", "leases", "--format", "--pause", "10", turns=150)
 with socket.socket(socket.AF_INET, socket.SOCK_DGRAM) as end:
     end.sendto(frame(DISCOVER, 1), ("127.0.0.1", 20000))
     end.sendto(frame6("SOLICIT6", 1), ("127.0.0.1", 20001))

@@ -12,7 +12,7 @@ DATAGRAMS = {
     6801: bytes.fromhex(expand("{DOWN a OFFER 1 leased=0a00000a}")),
 }
 
-server = Server("accessd", "config.toml", "leases", "--format", "--pause", "10", turns=100)
+server = Server("accessd", "config.toml", "leases", "--format", "--pause", "10", turns=150)
 circuit = Circuit(20000)
 for address, seconds in ("127.0.0.2", 0.1), ("127.0.0.1", 2):
     for port, datagram in DATAGRAMS.items():

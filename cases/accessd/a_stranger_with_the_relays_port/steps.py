@@ -27,7 +27,7 @@ def send_all(ends):
         ends[sender].sendto(bytes.fromhex(expand(words)), ("127.0.0.1", receiver))
 
 
-server = Server("accessd", "config.toml", "leases", "--format", "--pause", "10", turns=100)
+server = Server("accessd", "config.toml", "leases", "--format", "--pause", "10", turns=150)
 circuit = Circuit(20000)
 strangers = {port: stranger(port) for port in (RELAY, LISTEN4, LISTEN6)}
 send_all(strangers)

@@ -4,7 +4,7 @@ server's own socket can't be read (12, 32). The next client is served."""
 from client import DISCOVER, Circuit, Server
 from system_calls import sockets_of
 
-server = Server("accessd", "config.toml", "leases", "--format", "--pause", "10", turns=150)
+server = Server("accessd", "config.toml", "leases", "--format", "--pause", "10", turns=200)
 circuit = Circuit(20000)
 own = sockets_of(server.process)
 WAYS = [(None, port) for port in (20000, 20001, 6767, 6547, 6801)] + [(6801, 6767), (6801, 6547), (6767, 6801), (6547, 6801)]

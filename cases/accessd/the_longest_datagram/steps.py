@@ -30,7 +30,7 @@ def of_length(words, length):
     return bytes.fromhex(expand(f"{{{words} more=fffe+{rest:04x}+00*{rest}}}"))
 
 
-server = Server("accessd", "config.toml", "leases", "--format", "--pause", "10", turns=150)
+server = Server("accessd", "config.toml", "leases", "--format", "--pause", "10", turns=200)
 circuit = Circuit(20000)
 own = sockets_of(server.process)
 for sender, port, words in DATAGRAMS:
