@@ -6,7 +6,7 @@ import select
 from client import DISCOVER, Answer, Answer6, Circuit, Server, frame, frame6
 
 PORT = 23000
-server = Server("accessd", "config.toml", "leases", "--format", "--port", str(PORT), "--pause", "50")
+server = Server("accessd", "config.toml", "leases", "--format", "--port", str(PORT), "--pause", "50", turns=300)
 circuits = [Circuit(PORT + 4 * index) for index in range(3)]
 ENDS = {end: kind for circuit in circuits for end, kind in ((circuit.socket, Answer), (circuit.socket6, Answer6))}
 
