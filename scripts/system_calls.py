@@ -1,7 +1,8 @@
-"""Watches the calls of a program that write to a file, sync it, or send a datagram, and makes one of them fail. It needs
-nothing but Linux: the program runs under a seccomp filter that asks this process about each such call
-(SECCOMP_RET_USER_NOTIF, seccomp_unotify(2)).
-    python3 system_calls.py DESCRIPTOR COMMAND..   installs the filter, sends its listener there, and becomes COMMAND"""
+"""Watches the calls of a program that write to a file, sync it, send a datagram or receive one, and makes some of them fail.
+It needs nothing but Linux: the program runs under a seccomp filter that asks this process about each such call
+(SECCOMP_RET_USER_NOTIF, seccomp_unotify(2)). And copies a program's sockets (pidfd_getfd(2)).
+    python3 system_calls.py NAMES DESCRIPTOR COMMAND..   installs the filter for the calls of these names, with commas between
+        them, sends its listener there, and becomes COMMAND"""
 import ctypes
 import errno
 import fcntl
@@ -12,10 +13,14 @@ import struct
 import subprocess
 import sys
 import threading
+import time
 
 # x86-64
-NUMBERS = {"write": 18, "lengthen": 77, "sync": 75, "sync all": 74, "send": 44}
+NUMBERS = {"write": 18, "lengthen": 77, "sync": 75, "sync all": 74, "send": 44, "receive": 45}
+# what is watched by default: a server receives in vain all the time
+OUTGOING = ("write", "lengthen", "sync", "sync all", "send")
 SYS_SECCOMP, PR_SET_NO_NEW_PRIVS, SET_MODE_FILTER, NEW_LISTENER = 317, 38, 1, 8
+SYS_PIDFD_GETFD = 438
 ALLOW, ASK = 0x7FFF0000, 0x7FC00000
 LOAD, JUMP_IF_EQUAL, RETURN = 0x20, 0x15, 0x06
 RECEIVE, ANSWER, CONTINUE = 0xC0502100, 0xC0182101, 1
@@ -25,9 +30,9 @@ def rule(code, value, if_equal=0):
     return struct.pack("HBBI", code, if_equal, 0, value)
 
 
-def listener():
+def listener(names):
     """Installs the filter for this process and what it becomes."""
-    numbers = list(NUMBERS.values())
+    numbers = [NUMBERS[name] for name in names]
     rules = [rule(LOAD, 0)]
     rules += [rule(JUMP_IF_EQUAL, number, len(numbers) - index) for index, number in enumerate(numbers)]
     rules += [rule(RETURN, ALLOW), rule(RETURN, ASK)]
@@ -42,27 +47,61 @@ def listener():
     return descriptor
 
 
+def copies(process):
+    """A copy of each socket of a program that this one has started, by its descriptor there. It is the same socket: what is sent
+    from it comes from that program's address and port."""
+    folder, itself = f"/proc/{process.pid}/fd", os.pidfd_open(process.pid)
+    libc = ctypes.CDLL(None, use_errno=True)
+    found = {}
+    for name in os.listdir(folder):
+        if os.readlink(f"{folder}/{name}").startswith("socket:"):
+            copy = libc.syscall(SYS_PIDFD_GETFD, itself, int(name), 0)
+            if copy < 0:
+                raise OSError(ctypes.get_errno(), "pidfd_getfd")
+            found[int(name)] = socket.socket(fileno=copy)
+    os.close(itself)
+    return found
+
+
+def sockets_of(process):
+    """The same by their ports."""
+    return {end.getsockname()[1]: end for end in copies(process).values()}
+
+
 class Watch:
     """The calls of one program, in order, by the names above."""
 
-    def __init__(self):
+    def __init__(self, names=OUTGOING):
+        self.names = names
         self.calls = []
         self.left, self.failing = 0, ()
+        self.broken = []
 
     def start(self, command, **how):
         """Starts the program, as subprocess.Popen does."""
         here, there = socket.socketpair()
-        words = [sys.executable, __file__, str(there.fileno()), *command]
-        process = subprocess.Popen(words, pass_fds=[there.fileno()], **how)
+        words = [sys.executable, __file__, ",".join(self.names), str(there.fileno()), *command]
+        self.process = subprocess.Popen(words, pass_fds=[there.fileno()], **how)
         there.close()
         _, descriptors, _, _ = socket.recv_fds(here, 1, 1)
         here.close()
         threading.Thread(target=self.answer_all, args=descriptors, daemon=True).start()
-        return process
+        return self.process
 
     def fail(self, k, names=tuple(NUMBERS)):
         """The k-th call of these names from now on fails with EIO."""
         self.left, self.failing = k, names
+
+    def break_receives(self, port):
+        """From now on every receive from the socket with this port fails with EIO, and no other one. Waits for the first, since
+        one that was let through may not be done yet."""
+        self.broken = [descriptor for descriptor, end in copies(self.process).items() if end.getsockname()[1] == port]
+        count = len(self.calls)
+        while "receive fails" not in self.calls[count:] and self.process.poll() is None:
+            time.sleep(0.001)
+
+    def mend_receives(self):
+        self.broken = []
 
     def since(self, count):
         """The calls after the first so many."""
@@ -79,10 +118,11 @@ class Watch:
             except OSError:
                 # the program ended
                 continue
-            number, _, _, call = struct.unpack_from("QIIi", question)
+            number, _, _, call, _, _, first_argument = struct.unpack_from("QIIiIQQ", question)
             counts = names[call] in self.failing
             self.left -= counts
-            fails = counts and self.left == 0
+            is_broken = names[call] == "receive" and first_argument in self.broken
+            fails = counts and self.left == 0 or is_broken
             self.calls.append(names[call] + (" fails" if fails else ""))
             how = (-errno.EIO, 0) if fails else (0, CONTINUE)
             try:
@@ -93,8 +133,8 @@ class Watch:
 
 
 if __name__ == "__main__":
-    with socket.socket(fileno=int(sys.argv[1])) as end:
-        own = listener()
+    with socket.socket(fileno=int(sys.argv[2])) as end:
+        own = listener(sys.argv[1].split(","))
         socket.send_fds(end, [b"x"], [own])
     os.close(own)
-    os.execvp(sys.argv[2], sys.argv[2:])
+    os.execvp(sys.argv[3], sys.argv[3:])
