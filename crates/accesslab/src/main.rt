@@ -1,13 +1,58 @@
 //! Reads events from standard input, one per line, and writes their outcomes to standard output.
 #![tactic(auto)]
 
-ghost use Rattle.std.specs.Prelude.{◌≤◌, length};
+ghost use Rattle.std.specs.Prelude.{◌≡◌, ◌≤◌, ◌⊎◌, ℕ, List, Some, length, IfSome, IsNone};
+ghost use Rattle.std.specs.Io.Buffered.{writer_contents};
+ghost use Rattle.std.specs.Io.KnownBytes.{Appends, Keeps};
 ghost use Rattle.accesslab.specs.Status.{IsExitStatus};
+ghost use Rattle.lab.specs.Lab.{lab_output};
 
-use command_line::{FAILED, UNOPENED, complain, given_words, read_plans};
+use command_line::{FAILED, StandardStreams, UNOPENED, complain, given_words, read_plans};
+use config::Plans;
 use lab::{LabWords, StdReader, StdWriter};
-use std::io::{self, BufWriter, Write};
+use std::alloc::Global;
+use std::io::{self, BufWriter, Read, Write};
 use std::process::ExitCode;
+
+/// The writer inside, once it has all that was written. None where it fails.
+fn flushed<W: Write + Drop>(writer: BufWriter<W>) -> Option<W>
+    ensures { IfSome result (λ inner. Keeps (writer_contents W.contents writer) (W.contents inner)) }
+{
+    let mut inner = writer.into_inner().ok()?;
+    inner.flush().ok()?;
+    Some(inner)
+}
+
+/// Runs over a reader and a writer as the words say. Returns the status and the writer, which has the whole output,
+/// or none where memory ran out or one of the two failed.
+fn run_over<R: Read + Drop, W: Write + Drop>(
+    alloc: Global,
+    plans: &Plans,
+    values: &LabWords<'_>,
+    reader: R,
+    writer: W,
+) -> (u8, Option<W>)
+    requires least { 1 ≤ values.now.quota }
+    requires most { values.now.quota ≤ 256 }
+    ensures written { (text : List ℕ) → R.remaining reader ≡ Some text → IfSome result.1 (λ done. Appends (W.contents writer) (W.contents done) (lab_output plans.now values.now.quota text).text) }
+    ensures exact { (text : List ℕ) → R.remaining reader ≡ Some text → IfSome result.1 (λ _. result.0 ≡ (lab_output plans.now values.now.quota text).status) }
+    ensures none { IsNone result.1 → (result.0 ≡ 4) ⊎ (result.0 ≡ 6) }
+    ensures status { IsExitStatus result.0 }
+{
+    let Ok(writer) = BufWriter::new(alloc, writer) else {
+        return (UNOPENED, None);
+    };
+    let mut reader = StdReader::new(reader);
+    let mut writer = StdWriter::new(writer);
+    let status = lab::run(alloc, plans, values.quota, &mut reader, &mut writer);
+    if status == UNOPENED || status == FAILED {
+        return (status, None);
+    }
+    match flushed(writer.into_inner()) {
+        Some(writer) => (status, Some(writer)),
+        None => (FAILED, None),
+    }
+}
 
 /// Runs over standard input and output, and returns the status.
 fn run(rt: &HostRuntime, values: LabWords<'_>) -> u8
@@ -21,18 +66,9 @@ fn run(rt: &HostRuntime, values: LabWords<'_>) -> u8
         Ok(plans) => plans,
         Err(status) => return status,
     };
-    let alloc = rt.alloc();
-    let Ok(writer) = BufWriter::new(alloc, io::writer(rt)) else {
-        return complain(rt, "open memory", UNOPENED);
-    };
-    let mut reader = StdReader::new(rt.reader());
-    let mut writer = StdWriter::new(writer);
-    let status = lab::run(alloc, &plans, values.quota, &mut reader, &mut writer);
+    let (status, _) = run_over(rt.alloc(), &plans, &values, rt.reader(), io::writer(rt));
     if status == UNOPENED {
         return complain(rt, "open memory", UNOPENED);
-    }
-    if writer.into_inner().flush().is_err() {
-        return FAILED;
     }
     status
 }
@@ -40,6 +76,10 @@ fn run(rt: &HostRuntime, values: LabWords<'_>) -> u8
 fn status(rt: &HostRuntime) -> u8
     ensures { IsExitStatus result }
 {
+    let _streams = match StandardStreams::open(rt) {
+        Ok(streams) => streams,
+        Err(status) => return status,
+    };
     let given = match given_words(rt) {
         Ok(given) => given,
         Err(status) => return status,

@@ -1,9 +1,11 @@
 -- The command line of `leases`, and the values that its words spell.
-use Rattle.std.specs.Prelude.{◌≡◌, ◌↔◌, ℕ, Bool, pos, true, List, [], Option, Some, None, codes}
+use Rattle.std.specs.Prelude.{◌≡◌, ◌↔◌, ℕ, pos, true, List, [], Option, Some, None, codes}
 use Rattle.clap.specs.Words.{App, Row, Rule, Text, new_app, new_rule, with_rule, matches_of, first_of, fault_of}
 use Rattle.clap.specs.Simple.{on_top}
 use Rattle.clap.specs.declared.builder.ArgAction.TheVariants.{Set, SetTrue}
 use Rattle.clap.specs.declared.builder.value_parser.ValueParser.TheVariants as parser
+use Rattle.command_line.specs.declared.leases_words.Form.{Form}
+use Rattle.command_line.specs.declared.leases_words.Form.TheVariants.{Json}
 use Rattle.command_line.specs.CommandLine.{IsNumber, config_rule}
 
 -- `--disk FILE`, which is required
@@ -31,18 +33,19 @@ IsMoment given None = given ≡ None
 IsMoment given (Some seconds) = IsNumber given 0 1099511627775 seconds
 
 -- What the words give the arguments is these values.
-pub record HasValues (given : List Row) (config disk : List ℕ) (at : Option ℕ) (json : Bool) : Type 0 where
+pub record HasValues (given : List Row) (config disk : List ℕ) (at : Option ℕ) (form : Form) : Type 0 where
   pub config_is : first_of (codes "CONFIG") given ≡ Some config
   pub disk_is : first_of (codes "disk") given ≡ Some disk
   pub at_is : IsMoment (first_of (codes "at") given) at
-  pub json_is : (json ≡ true) ↔ (first_of (codes "json") given ≡ Some (codes "true"))
+  -- each line is JSON exactly where `--json` is there
+  pub form_is : (form ≡ Json) ↔ (first_of (codes "json") given ≡ Some (codes "true"))
 
 -- The words spell these values.
-pub record Spells (words : List Text) (config disk : List ℕ) (at : Option ℕ) (json : Bool) : Type 0 where
+pub record Spells (words : List Text) (config disk : List ℕ) (at : Option ℕ) (form : Form) : Type 0 where
   -- clap finds no fault in them
   pub right : fault_of leases_app words ≡ []
-  pub values : HasValues (matches_of leases_app words) config disk at json
+  pub values : HasValues (matches_of leases_app words) config disk at form
 
 -- The words spell values.
 abbrev pub SpellsSomething : List Text → Type 0
-SpellsSomething words = (config : List ℕ) × (disk : List ℕ) × (at : Option ℕ) × (json : Bool) × Spells words config disk at json
+SpellsSomething words = (config : List ℕ) × (disk : List ℕ) × (at : Option ℕ) × (form : Form) × Spells words config disk at form

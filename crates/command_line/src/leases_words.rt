@@ -1,6 +1,6 @@
 //! The command line of `leases`.
-ghost use Rattle.std.specs.Prelude.{◌≡◌, ℕ, Bool, List, Option, Some, true, false, map};
-ghost use Rattle.std.specs.Prelude.{string_bytes, IfOk, IfErr, IfSome, IsNone};
+ghost use Rattle.std.specs.Prelude.{◌≡◌, ◌↔◌, ℕ, List, Option, Some, false, map};
+ghost use Rattle.std.specs.Prelude.{codes, string_bytes, IfOk, IfErr, IfSome, IsNone};
 ghost use Rattle.clap.specs.Words.{app_of, rule_of, found_of, first_value, rows_of};
 ghost use Rattle.command_line.specs.CommandLine.{IsRefused};
 ghost use Rattle.command_line.specs.LeasesWords.{at_rule, disk_rule, json_rule};
@@ -12,6 +12,13 @@ use clap::{Arg, ArgAction, ArgMatches, Command};
 use std::alloc::{AllocError, Global};
 use types::LAST_MOMENT;
 
+/// How the lines are written.
+#[derive(Clone, Copy, Debug, PartialEq, Eq)]
+pub enum Form {
+    Text,
+    Json,
+}
+
 /// The values of the words after the program's name.
 #[derive(Clone, Copy, Debug, PartialEq, Eq)]
 pub struct LeaseWords<'a> {
@@ -21,8 +28,7 @@ pub struct LeaseWords<'a> {
     pub disk: &'a str,
     /// The moment at which the leases are listed, in seconds, 0 to 1099511627775; now where there is none.
     pub at: Option<u64>,
-    /// Whether each line is JSON.
-    pub json: bool,
+    pub form: Form,
 }
 
 fn disk_arg<'a>(alloc: Global) -> Arg<'a>
@@ -110,26 +116,37 @@ fn moment<'a>(matches: &ArgMatches<'a>, id: &str) -> Option<Option<u64>>
     }
 }
 
+/// How the lines are asked for, by a flag.
+fn form_of<'a>(matches: &ArgMatches<'a>, id: &str) -> Form
+    ensures { (result ≡ Form.Json) ↔ (first_value (found_of matches.now) id.now ≡ Some (codes "true")) }
+{
+    if is_set(matches, id) {
+        Form::Json
+    } else {
+        Form::Text
+    }
+}
+
 /// The values that clap has read, where all are there and within their limits.
 fn values<'a>(matches: ArgMatches<'a>) -> Option<LeaseWords<'a>>
-    ensures some { IfSome result (λ values. HasValues (rows_of (found_of matches.entry)) values.config.now values.disk.now values.at values.json) }
-    ensures none { IsNone result → (config disk : List ℕ) (at : Option ℕ) (json : Bool) → ¬ HasValues (rows_of (found_of matches.entry)) config disk at json }
+    ensures some { IfSome result (λ values. HasValues (rows_of (found_of matches.entry)) values.config.now values.disk.now values.at values.form) }
+    ensures none { IsNone result → (config disk : List ℕ) (at : Option ℕ) (form : Form) → ¬ HasValues (rows_of (found_of matches.entry)) config disk at form }
 {
     let config = matches.get_str("CONFIG")?;
     let disk = matches.get_str("disk")?;
     let at = moment(&matches, "at")?;
-    let json = is_set(&matches, "json");
+    let form = form_of(&matches, "json");
     Some(LeaseWords {
         config,
         disk,
         at,
-        json,
+        form,
     })
 }
 
 /// The values of the words after the program's name.
 pub fn words<'a>(alloc: Global, words: &'a [String]) -> Result<LeaseWords<'a>, Refusal>
-    ensures values { IfOk result (λ values. Spells (map string_bytes words.entry.now) values.config.now values.disk.now values.at values.json) }
+    ensures values { IfOk result (λ values. Spells (map string_bytes words.entry.now) values.config.now values.disk.now values.at values.form) }
     ensures refused { IfErr result (IsRefused leases_app SpellsSomething (map string_bytes words.entry.now)) }
 {
     let Ok(command) = command(alloc) else {

@@ -1,5 +1,5 @@
-//! What the programs do before they run: the words of each command line, refused command lines, the
-//! files of configurations and the exit statuses.
+//! What the programs do before they run: the standard streams, the words of each command line, refused command
+//! lines, the files of configurations and the exit statuses.
 #![tactic(auto)]
 
 pub mod accessd_words;
@@ -8,11 +8,13 @@ mod arguments;
 mod configuration;
 pub mod leases_words;
 mod refusal;
+mod standard_streams;
 mod status;
 mod words;
 
 pub use arguments::{config_arg, number};
 pub use configuration::{read_configuration, read_plans};
 pub use refusal::Refusal;
+pub use standard_streams::StandardStreams;
 pub use status::{FAILED, REFUSED, UNOPENED, UNREADABLE, complain};
 pub use words::given_words;

@@ -6,7 +6,7 @@ use Rattle.types.specs.declared.slots.Slots.{Slots}
 use Rattle.config.specs.CircuitPart.{CircuitPart}
 use Rattle.lease_list.specs.declared.line.Closed.{Closed}
 use Rattle.lease_list.specs.declared.line.Closed.TheVariants.{Damaged, Unreadable, Busy}
-use Rattle.lease_list.specs.declared.line.Form.{Form}
+use Rattle.command_line.specs.declared.leases_words.Form.{Form}
 use Rattle.lease_list.specs.declared.steady.Unsteady.{Unsteady}
 use Rattle.lease_list.specs.declared.steady.Unsteady.TheVariants as unsteady
 use Rattle.lease_list.specs.Lease.{leases_at}

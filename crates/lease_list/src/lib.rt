@@ -2,6 +2,7 @@
 //! live leases of a circuit, and a line for each of them.
 #![tactic(auto)]
 
+mod clock;
 mod lease;
 mod line;
 mod listing;
@@ -9,9 +10,10 @@ mod region_file;
 mod row;
 mod steady;
 
-pub use command_line::leases_words::{LeaseWords, words};
+pub use clock::moment_of;
+pub use command_line::leases_words::{Form, LeaseWords, words};
 pub use lease::{Lease, leases};
-pub use line::{Closed, Form, closed_line, lease_line};
+pub use line::{Closed, closed_line, lease_line};
 pub use listing::{circuit_lines, region_lines};
 pub use region_file::{FileFault, RegionFile};
 pub use steady::{READINGS, RegionReader, Unsteady, read_steadily};

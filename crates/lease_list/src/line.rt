@@ -6,15 +6,9 @@ ghost use Rattle.lease_list.specs.Row.{line_data};
 
 use crate::lease::Lease;
 use crate::row::Row;
+use command_line::leases_words::Form;
 use serde_json::{Map, ToValue, Value, json, put};
 use std::alloc::{AllocError, Global};
-
-/// How a line is written.
-#[derive(Clone, Copy, Debug, PartialEq, Eq)]
-pub enum Form {
-    Text,
-    Json,
-}
 
 /// Why nothing is known of a circuit's leases.
 #[derive(Clone, Copy, Debug, PartialEq, Eq)]

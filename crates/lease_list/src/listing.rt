@@ -7,8 +7,9 @@ ghost use Rattle.lease_list.specs.Line.{IsLeaseLine, closed_written};
 ghost use Rattle.lease_list.specs.Listing.{AreLines, AreCircuitLines, closed_as};
 
 use crate::lease::{Lease, leases};
-use crate::line::{Closed, Form, closed_line, lease_line};
+use crate::line::{Closed, closed_line, lease_line};
 use crate::steady::{RegionReader, Unsteady, read_steadily};
+use command_line::leases_words::Form;
 use config::CircuitPart;
 use lease_disk::{REGION, slots_in};
 use std::alloc::{AllocError, Global};

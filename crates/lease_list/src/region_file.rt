@@ -5,7 +5,7 @@ ghost use Rattle.std.specs.IoError.{error_kind};
 use crate::steady::RegionReader;
 use http_server::Log;
 use lease_disk::REGION;
-use std::fs::File;
+use std::fs::{self, File};
 use std::io::{self, ErrorKind};
 use std::os::unix::fs::FileExt;
 use std::rt::Files;
@@ -42,7 +42,7 @@ pub struct RegionFile {
 }
 
 impl RegionFile {
-    /// Opens a file for reading. A folder is refused.
+    /// Opens a file for reading. What is no regular file, as a folder or a FIFO, is refused.
     pub fn open<R: Files<File = File>>(rt: &R, path: &str) -> Result<RegionFile, FileFault>
         ensures unread { IfOk result (λ file. file.readings.items ≡ []) }
         ensures quiet { IfOk result (λ file. file.failures.count ≡ 0) }
@@ -54,14 +54,15 @@ impl RegionFile {
         ensures unread { IfOk result (λ file. file.readings.items ≡ []) }
         ensures quiet { IfOk result (λ file. file.failures.count ≡ 0) }
     {
-        let file = File::open(rt, path)?;
-        let metadata = file.metadata()?;
-        if metadata.is_dir() {
-            return Err(io::Error::from(ErrorKind::IsADirectory));
+        // the opening of a FIFO would wait for one who writes to it
+        if !fs::metadata(rt, path)?.is_file() {
+            return Err(io::Error::from(ErrorKind::InvalidInput));
         }
+        let file = File::open(rt, path)?;
+        let length = file.metadata()?.len();
         Ok(RegionFile {
             file,
-            length: metadata.len(),
+            length,
             readings: Log::new(),
             failures: Count::new(),
         })

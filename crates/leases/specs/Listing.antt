@@ -2,7 +2,7 @@
 use Rattle.std.specs.Prelude.{◌≡◌, ℕ, List, Option, Some, None, Bool, true, false, ◌||◌, String}
 use Rattle.std.specs.declared.alloc.Global.{Global}
 use Rattle.config.specs.CircuitPart.{CircuitPart}
-use Rattle.lease_list.specs.declared.line.Form.{Form}
+use Rattle.command_line.specs.declared.leases_words.Form.{Form}
 use Rattle.lease_list.specs.declared.steady.Unsteady.{Unsteady}
 use Rattle.lease_list.specs.declared.steady.Unsteady.TheVariants.{Busy, Unreadable}
 use Rattle.lease_list.specs.Listing.{AreCircuitLines}

@@ -1,15 +1,17 @@
 //! Lists the leases of all circuits in the file of an `accessd`, which may run meanwhile.
 #![tactic(auto)]
 
-ghost use Rattle.std.specs.Prelude.{◌≡◌, ◌⊎◌, IfErr, IfOk, IfSome, Ok, true, false};
+ghost use Rattle.std.specs.Prelude.{◌≡◌, ◌⊎◌, IfErr, IfOk, true, false};
 ghost use Rattle.leases.specs.Listing.{HasListed};
 ghost use Rattle.leases.specs.Status.{IsExitStatus, file_status};
 
-use command_line::{FAILED, UNOPENED, UNREADABLE, complain, given_words, read_configuration};
+use command_line::{
+    FAILED, StandardStreams, UNOPENED, UNREADABLE, complain, given_words, read_configuration,
+};
 use config::{CircuitPart, Config};
 use dispatch::region_count;
 use lease_disk::REGION;
-use lease_list::{FileFault, Form, LeaseWords, RegionFile, Unsteady, circuit_lines};
+use lease_list::{FileFault, Form, LeaseWords, RegionFile, Unsteady, circuit_lines, moment_of};
 use std::alloc::AllocError;
 use std::process::ExitCode;
 use std::rt::Clock;
@@ -43,20 +45,6 @@ fn open_file(rt: &HostRuntime, config: &Config, path: &str) -> Result<RegionFile
         return Err(UNOPENED);
     }
     Ok(file)
-}
-
-/// The moment at which the leases are listed.
-fn moment(rt: &HostRuntime, at: Option<u64>) -> Result<u64, u8>
-    ensures given { IfSome at (λ at. result ≡ Ok at) }
-    ensures status { IfErr result (λ status. status ≡ 4) }
-{
-    if let Some(at) = at {
-        return Ok(at);
-    }
-    match rt.since_1970() {
-        Ok(since) => Ok(since.as_secs()),
-        Err(_) => Err(complain(rt, "the clock can't be read; --at gives a moment", UNOPENED)),
-    }
 }
 
 /// What lists a file's regions one after the other.
@@ -137,16 +125,15 @@ fn run(rt: &HostRuntime, values: LeaseWords<'_>) -> u8
         Ok(file) => file,
         Err(status) => return status,
     };
-    let at = match moment(rt, values.at) {
-        Ok(at) => at,
-        Err(status) => return status,
+    let Some(at) = moment_of(values.at, rt.since_1970().ok()) else {
+        return complain(rt, "the clock can't be read; --at gives a moment", UNOPENED);
     };
     let mut lister = Lister {
         rt,
         file,
         bytes: [0; REGION],
         at,
-        form: if values.json { Form::Json } else { Form::Text },
+        form: values.form,
         is_busy: false,
     };
     lister.list_all(&config)
@@ -155,6 +142,10 @@ fn run(rt: &HostRuntime, values: LeaseWords<'_>) -> u8
 fn status(rt: &HostRuntime) -> u8
     ensures { IsExitStatus result }
 {
+    let _streams = match StandardStreams::open(rt) {
+        Ok(streams) => streams,
+        Err(status) => return status,
+    };
     let given = match given_words(rt) {
         Ok(given) => given,
         Err(status) => return status,
