@@ -6,7 +6,9 @@ ghost use Rattle.lease_disk.specs.FileDisk.{uncalled};
 ghost use Rattle.accessd.specs.Status.{IsExitStatus, status_of, device_status};
 
 use access::{Access, AccessFault, AccessWords, DeviceFault, History, device_of, warn};
-use command_line::{REFUSED, UNOPENED, UNREADABLE, complain, given_words, read_configuration};
+use command_line::{
+    REFUSED, StandardStreams, UNOPENED, UNREADABLE, complain, given_words, read_configuration,
+};
 use config::Config;
 use dispatch::region_count;
 use lease_disk::FileDisk;
@@ -179,6 +181,10 @@ fn run(rt: &HostRuntime, values: AccessWords<'_>) -> u8
 fn status(rt: &HostRuntime) -> u8
     ensures { IsExitStatus result }
 {
+    let _streams = match StandardStreams::open(rt) {
+        Ok(streams) => streams,
+        Err(status) => return status,
+    };
     let given = match given_words(rt) {
         Ok(given) => given,
         Err(status) => return status,
