@@ -31,5 +31,7 @@ entry_of (happened.Read time) = Read (option_map as_nanos time)
 abbrev pub with_entry : Entry → List Entry → List Entry
 with_entry entry entries = entries ++ entry ∷ []
 
-abbrev pub noted : Happened → List Entry → List Entry
-noted what entries = with_entry (entry_of what) entries
+pub record HistoryValue : Type 0 where
+  pub entries : List Entry
+  -- which history it is: no contract gives a new one its number
+  pub id : ℕ

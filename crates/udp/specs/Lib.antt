@@ -1,3 +1,4 @@
 pub mod Address
 pub mod EntryCode
 pub mod History
+pub mod Socket

@@ -9,9 +9,10 @@ use std::time::Duration;
 
 /// The time since 1970 by the system's clock, if that can be read.
 pub fn read_clock<R: Clock>(rt: &R, history: &mut History) -> Option<Duration>
-    ensures { history.new.entries ≡ with_entry (Read (option_map as_nanos result)) history.old.entries }
+    ensures entries { history.new.entries ≡ with_entry (Read (option_map as_nanos result)) history.old.entries }
+    ensures same { history.new.id ≡ history.old.id }
 {
     let time = rt.since_1970().ok();
-    *history = history.then(&Happened::Read(time));
+    history.add(&Happened::Read(time));
     time
 }

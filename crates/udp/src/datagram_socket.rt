@@ -9,6 +9,7 @@ ghost use Rattle.udp.specs.declared.datagram_socket.BindFault.TheVariants as fau
 use crate::history::{Happened, History, Role};
 use mio::net::UdpSocket;
 use std::io::ErrorKind;
+use std::marker::Model;
 use std::net::{IpAddr, Ipv4Addr, Net, SocketAddr};
 use types::{Addr4, MAX_DATAGRAM, Source};
 
@@ -25,13 +26,22 @@ pub enum BindFault {
     Refused,
 }
 
-/// A bound UDP socket that never waits.
+/// A bound UDP socket that never waits, which is for one thing.
 #[derive(Drop)]
 pub struct DatagramSocket {
     pub(crate) socket: UdpSocket,
-    /// What it is for, and the address and port that it is bound to.
-    pub role: Role,
-    pub at: Source,
+    role: Role,
+    at: Source,
+    /// Which history says what happens at it.
+    history: u8,
+}
+
+impl Model for DatagramSocket {
+    ghost use Rattle.udp.specs.Socket.{SocketValue};
+
+    ghost Value = { SocketValue };
+
+    ghost view = { λ s. record { role = s.role; at = s.at; history = s.history } };
 }
 
 /// The system's form of an address and port.
@@ -64,17 +74,22 @@ impl DatagramSocket {
         at: Source,
         history: &mut History,
     ) -> Result<DatagramSocket, BindFault>
-        ensures role { IfOk result (λ socket. socket.role ≡ role) }
-        ensures at { IfOk result (λ socket. socket.at ≡ at) }
+        ensures bound { IfOk result (λ socket. socket ≡ record { role = role; at = at; history = history.old.id }) }
+        ensures same { history.new.id ≡ history.old.id }
         ensures silent { IfOk result (λ _. history.new.entries ≡ history.old.entries) }
         ensures refused { result ≡ Err fault.Refused → history.new.entries ≡ with_entry (Refused role at) history.old.entries }
         ensures memory { result ≡ Err fault.Memory → history.new.entries ≡ history.old.entries }
     {
         match UdpSocket::bind(net, system_address(at)) {
-            Ok(socket) => Ok(DatagramSocket { socket, role, at }),
+            Ok(socket) => Ok(DatagramSocket {
+                socket,
+                role,
+                at,
+                history: history.id(),
+            }),
             Err(error) if error.kind() == ErrorKind::OutOfMemory => Err(BindFault::Memory),
             Err(_) => {
-                *history = history.then(&Happened::Refused(role, at));
+                history.add(&Happened::Refused(role, at));
                 Err(BindFault::Refused)
             }
         }
@@ -87,6 +102,8 @@ impl DatagramSocket {
         buffer: &mut [u8; BUFFER_LEN],
         history: &mut History,
     ) -> Option<(usize, Source)>
+        requires { history.old.id ≡ self.now.history }
+        ensures same { history.new.id ≡ history.old.id }
         ensures len { IfSome result (λ received. received.0 ≤ 1281) }
         ensures some { IfSome result (λ received. history.new.entries ≡ with_entry (Took self.now.role received.1 (take received.0 buffer.new)) history.old.entries) }
         ensures none { IfNone result ((history.new.entries ≡ history.old.entries) ⊎ (history.new.entries ≡ with_entry (Failed self.now.role) history.old.entries)) }
@@ -94,15 +111,15 @@ impl DatagramSocket {
         match self.socket.recv_from(buffer) {
             Ok((len, from)) => {
                 let Some(from) = source_of(from) else {
-                    *history = history.then(&Happened::Failed(self.role));
+                    history.add(&Happened::Failed(self.role));
                     return None;
                 };
-                *history = history.then(&Happened::Took(self.role, from, &buffer[..len]));
+                history.add(&Happened::Took(self.role, from, &buffer[..len]));
                 Some((len, from))
             }
             Err(error) if error.kind() == ErrorKind::WouldBlock => None,
             Err(_) => {
-                *history = history.then(&Happened::Failed(self.role));
+                history.add(&Happened::Failed(self.role));
                 None
             }
         }
@@ -110,10 +127,12 @@ impl DatagramSocket {
 
     /// Sends a datagram, or loses it. Returns whether the system accepted it.
     pub fn send(&self, datagram: &[u8], to: Source, history: &mut History) -> bool
-        ensures { history.new.entries ≡ with_entry (Sent self.now.role to datagram.now result) history.old.entries }
+        requires { history.old.id ≡ self.now.history }
+        ensures entries { history.new.entries ≡ with_entry (Sent self.now.role to datagram.now result) history.old.entries }
+        ensures same { history.new.id ≡ history.old.id }
     {
         let accepted = self.socket.send_to(datagram, system_address(to)).is_ok();
-        *history = history.then(&Happened::Sent(self.role, to, datagram, accepted));
+        history.add(&Happened::Sent(self.role, to, datagram, accepted));
         accepted
     }
 }

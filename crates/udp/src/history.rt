@@ -1,7 +1,7 @@
 //! What happened at the sockets and the clock, which contracts see and the program does not: it takes no memory.
 ghost use Rattle.std.specs.Prelude.{◌≡◌, List, []};
 ghost use Rattle.std.specs.Borrow.{ftrue};
-ghost use Rattle.udp.specs.History.{Entry, Ticked, noted, with_entry};
+ghost use Rattle.udp.specs.History.{Entry, Ticked, entry_of, with_entry};
 ghost use Rattle.udp.specs.EntryCode.{entries_code};
 
 use std::marker::{Model, PhantomData};
@@ -36,15 +36,51 @@ pub enum Happened<'a> {
     Read(Option<Duration>),
 }
 
-/// All that happened, in order.
+/// A list of what happened, which has no bytes.
+#[derive(Drop)]
+struct Entries {
+    marker: PhantomData<u8>,
+    pub ghost list: { List Entry } by { entries_code },
+}
+
+impl Model for Entries {
+    ghost also_owns = { λ _. ftrue };
+}
+
+impl Entries {
+    /// None yet.
+    fn new() -> Entries
+        ensures { result.list ≡ [] }
+    {
+        Entries {
+            marker: PhantomData,
+        }
+    }
+
+    /// These, and this one.
+    fn then(&self, what: &Happened<'_>) -> Entries
+        ensures { result.list ≡ with_entry (entry_of what.now) self.now.list }
+    {
+        Entries {
+            marker: PhantomData,
+        }
+    }
+}
+
+/// All that happened, in order. A socket is used with the history that it was bound with, and no other: contracts tell one
+/// history from another by a number that none of them gives a new one, so that nothing shows two to be the same.
 #[derive(Drop)]
 pub struct History {
-    marker: PhantomData<u8>,
-    pub ghost entries: { List Entry } by { entries_code },
+    entries: Entries,
+    id: u8,
 }
 
 impl Model for History {
-    ghost also_owns = { λ _. ftrue };
+    ghost use Rattle.udp.specs.History.{HistoryValue};
+
+    ghost Value = { HistoryValue };
+
+    ghost view = { λ h. record { entries = h.entries.list; id = h.id } };
 }
 
 impl History {
@@ -53,23 +89,31 @@ impl History {
         ensures { result.entries ≡ [] }
     {
         History {
-            marker: PhantomData,
+            entries: Entries::new(),
+            id: 0,
         }
     }
 
-    /// This happened as well. Only what calls the system notes what that did.
-    pub(crate) fn then(&self, what: &Happened<'_>) -> History
-        ensures { result.entries ≡ noted what.now self.now.entries }
+    /// Which history this is.
+    pub(crate) fn id(&self) -> u8
+        ensures { result ≡ self.now.id }
     {
-        History {
-            marker: PhantomData,
-        }
+        self.id
+    }
+
+    /// This happened as well. Only what calls the system adds what that did.
+    pub(crate) fn add(&mut self, what: &Happened<'_>)
+        ensures entries { self.new.entries ≡ with_entry (entry_of what.now) self.old.entries }
+        ensures same { self.new.id ≡ self.old.id }
+    {
+        self.entries = self.entries.then(what);
     }
 
     /// The clocks were moved to this moment as well.
     pub fn tick(&mut self, now: Moment)
-        ensures { self.new.entries ≡ with_entry (Ticked now) self.old.entries }
+        ensures entries { self.new.entries ≡ with_entry (Ticked now) self.old.entries }
+        ensures same { self.new.id ≡ self.old.id }
     {
-        *self = self.then(&Happened::Ticked(now));
+        self.add(&Happened::Ticked(now));
     }
 }

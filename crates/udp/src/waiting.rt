@@ -32,8 +32,7 @@ impl Waiter {
 
     /// Watches a socket as well.
     pub fn watch(&mut self, socket: &mut DatagramSocket)
-        ensures role { socket.new.role ≡ socket.old.role }
-        ensures at { socket.new.at ≡ socket.old.at }
+        ensures { socket.new ≡ socket.old }
     {
         let Some(poll) = &self.poll else {
             return;

@@ -10,11 +10,11 @@ use denote.Shadow.{pure_i}
 use denote.Steps.{nothing}
 use denote.Triple.Entry.{on_entry}
 use denote.Triple.Walked.{Stays, says, ends_at}
-use Rattle.udp.specs.declared.history.History.{History}
-use Rattle.udp.specs.contracts.history.History as T
-use Rattle.udp.specs.contracts.history.History.new as f
-use Rattle.udp.proofs.history.History.new.Statement.{statement}
-use Rattle.udp.proofs.history.History.new.Code as code
+use Rattle.udp.specs.declared.history.Entries.{Entries}
+use Rattle.udp.specs.contracts.history.Entries as T
+use Rattle.udp.specs.contracts.history.Entries.new as f
+use Rattle.udp.proofs.history.Entries.new.Statement.{statement}
+use Rattle.udp.proofs.history.Entries.new.Code as code
 
 abbrev stayed : Stays f.ended.signature.params f.ended.kept
 stayed = tt
@@ -23,8 +23,8 @@ stayed = tt
 abbrev empty : Val
 empty = vstruct (vcons (vstruct vnil) vnil)
 
-abbrev none : History
-none = record { marker = record {}; entries = [] }
+abbrev none : Entries
+none = record { marker = record {}; list = [] }
 
 pub new_spec : {M : Type 1} → statement M
 new_spec 𝓤 𝓛 𝓜 𝓡 wired =
