@@ -1,26 +1,24 @@
 -- What is made of a datagram goes on, or is dropped.
-use Rattle.std.proofs.Common.{◌≡◌, ◌∙◌, ℕ, List, [], ◌∷◌, ◌++◌, refl, sym, ap, append-nil}
+use Rattle.std.proofs.Common.{◌≡◌, ◌∙◌, ℕ, List, [], sym, ap, subst}
 use Rattle.std.specs.Prelude.{Result, Ok, Err}
 use Rattle.types.specs.declared.addr.Source.{Source}
 use Rattle.types.specs.declared.discard.Discard.{Discard}
 use Rattle.dispatch.specs.Received.{IsAnswer}
-use Rattle.udp.specs.History.{Entry, Sent, with_entry}
+use Rattle.udp.specs.History.{Entry}
 use Rattle.udp.specs.declared.history.Role.{Role}
-use Rattle.access.specs.Turn.{GoesOn, WentOn}
-use Rattle.access.specs.declared.counts.Outcome.{Outcome}
-use Rattle.access.specs.declared.counts.Outcome.TheVariants as outcome
+use Rattle.access.specs.Turn.{HasSentOn, with_bytes}
+use Rattle.counts.specs.declared.counts.Outcome.{Outcome}
 
--- what the history has after it, and what that is
-abbrev pub Went : Role → Source → Outcome → Result (List ℕ) Discard → List Entry → List Entry → Outcome → Type 0
-Went socket to done made old new became = (rest : List Entry) × (new ≡ old ++ rest) × GoesOn socket to done made rest became
+-- what a call made is its answer
+made_is : (made : Result (List ℕ) Discard) (result : Result (Unit {0}) Discard) (out : List ℕ) → IsAnswer made result out → with_bytes result out ≡ made
+made_is (Ok bytes) (Ok unit) out is = ap Ok is.1
+made_is (Ok bytes) (Err why) out is = let never : Err why ≡ Ok tt = is.0 in absurd cc
+made_is (Err why) (Ok unit) out is = let never : Ok unit ≡ Err why = is.0 in absurd cc
+made_is (Err why) (Err other) out is = let never : Err other ≡ Err why = is.0 in let same : other ≡ why = cc in ap Err same
 
-pub went : (socket : Role) (to : Source) (done : Outcome) (made : Result (List ℕ) Discard) (result : Result (Unit {0}) Discard) (out : List ℕ) (old new : List Entry) (became : Outcome)
-    → IsAnswer made result out → WentOn socket to done result out old new became → Went socket to done made old new became
-went socket to done (Ok bytes) (Ok unit) out old new became is h =
-    (Sent socket to bytes h.0 ∷ [], h.1 ∙ ap (λ b. with_entry (Sent socket to b h.0) old) is.1, (h.0, refl, h.2))
-went socket to done (Ok bytes) (Err why) out old new became is h = let never : Err why ≡ Ok tt = is.0 in absurd cc
-went socket to done (Err why) (Ok unit) out old new became is h = let never : Ok unit ≡ Err why = is.0 in absurd cc
-went socket to done (Err why) (Err other) out old new became is h =
-    let never : Err other ≡ Err why = is.0 in
-    let same : other ≡ why = cc in
-    ([], h.0 ∙ sym (append-nil old), (refl, h.1 ∙ ap outcome.Dropped same))
+-- what was sent on, by what the arguments of the call are
+pub went : (socket its : Role) (to where_to : Source) (done : Outcome) (made : Result (List ℕ) Discard) (result : Result (Unit {0}) Discard) (bytes out : List ℕ) (old new : List Entry) (became : Outcome)
+    → socket ≡ its → to ≡ where_to → bytes ≡ out → IsAnswer made result out → HasSentOn socket to done (with_bytes result bytes) old new became → HasSentOn its where_to done made old new became
+went socket its to where_to done made result bytes out old new became s t b answer h =
+    subst (λ x. HasSentOn x where_to done made old new became) s (subst (λ y. HasSentOn socket y done made old new became) t
+    (subst (λ m. HasSentOn socket to done m old new became) (ap (with_bytes result) b ∙ made_is made result out answer) h))

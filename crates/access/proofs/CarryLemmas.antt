@@ -7,10 +7,10 @@ use Rattle.udp.specs.declared.history.Role.{Role}
 use Rattle.types.specs.declared.dest.Proto.{Proto}
 use Rattle.udp.specs.declared.history.Role.TheVariants as role
 use Rattle.access.specs.Access.{AccessValue, HasCarried, HasServed}
-use Rattle.access.specs.Counts.{counted, counted_all}
+use Rattle.counts.specs.Counts.{counted, counted_all}
 use Rattle.access.specs.Turn.{Both, InOrder, IsTried, Tries}
-use Rattle.access.specs.declared.counts.Counts.{Counts}
-use Rattle.access.specs.declared.counts.Outcome.{Outcome}
+use Rattle.counts.specs.declared.counts.Counts.{Counts}
+use Rattle.counts.specs.declared.counts.Outcome.{Outcome}
 
 pub counted_append : (a b : List Outcome) (c : Counts) → counted_all (a ++ b) c ≡ counted_all b (counted_all a c)
 counted_append [] b c = refl

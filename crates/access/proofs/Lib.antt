@@ -1,11 +1,6 @@
 pub mod AnswerLemmas
 pub mod CarryLemmas
 pub mod ClockLemmas
-pub mod FormatLemmas
-pub mod OpeningLemmas
-pub mod RefusedLemmas
-pub mod RelayLemmas
+pub mod TopologyLemmas
 pub mod TurnLemmas
-pub mod CountLemmas
 pub mod UpLemmas
-pub mod WarningLemmas

@@ -13,12 +13,12 @@ use Rattle.dispatch.specs.ServerValue.{ServerValue, books_in}
 use Rattle.udp.specs.History.{Entry}
 use Rattle.udp.specs.declared.history.Role.TheVariants as role
 use Rattle.access.specs.Access.{AccessValue, HasAnswered, HasCarried, HasCounted, HasServed, HasServedTurns, HasTurned, StayClosed, books_at}
-use Rattle.access.specs.Counts.{counted_all, more_by}
+use Rattle.counts.specs.Counts.{counted_all, more_by}
 use Rattle.access.specs.Moments.{HasRead}
 use Rattle.access.specs.Turn.{IsTried, Tries}
-use Rattle.access.specs.declared.counts.Counts.{Counts}
-use Rattle.access.specs.declared.counts.Outcome.{Outcome}
-use Rattle.access.specs.declared.counts.Outcome.TheVariants as outcome
+use Rattle.counts.specs.declared.counts.Counts.{Counts}
+use Rattle.counts.specs.declared.counts.Outcome.{Outcome}
+use Rattle.counts.specs.declared.counts.Outcome.TheVariants as outcome
 use Rattle.access.proofs.CarryLemmas.{counted_append, length_append}
 use Rattle.access.proofs.ClockLemmas.{ticked_closed}
 

@@ -1,5 +1,5 @@
 -- What shows of relay and server over sockets, and what a turn does.
-use Rattle.std.specs.Prelude.{◌≡◌, ◌≤◌, ◌<◌, ◌+◌, ◌++◌, ℕ, zero, suc, All, true, List, length, map, Option, Some, None, option_map, slice_get, nat_lt}
+use Rattle.std.specs.Prelude.{◌≡◌, ◌≤◌, ◌<◌, ◌+◌, ◌++◌, ℕ, zero, suc, All, true, List, length, map, Option, Some, None, option_map, slice_get, nat_lt, ⊤}
 use Rattle.types.specs.Delivery.{delivery}
 use Rattle.types.specs.declared.addr.Source.{Source}
 use Rattle.types.specs.declared.dest.Proto.{Proto}
@@ -12,13 +12,15 @@ use Rattle.dispatch.specs.ServerValue.{ServerValue, books_in}
 use Rattle.config.specs.Topology.{Topology, serves}
 use Rattle.udp.specs.History.{Entry, Ticked, with_entry}
 use Rattle.udp.specs.declared.history.Role.TheVariants as role
-use Rattle.access.specs.Counts.{counted_all}
+use Rattle.counts.specs.Counts.{counted_all}
 use Rattle.access.specs.Moments.{HasRead}
-use Rattle.access.specs.Sockets.{AreBound}
-use Rattle.access.specs.declared.sockets.Sockets.{Sockets}
-use Rattle.access.specs.declared.counts.Counts.{Counts}
-use Rattle.access.specs.declared.counts.Outcome.{Outcome}
-use Rattle.access.specs.declared.counts.Outcome.TheVariants as outcome
+use Rattle.access.specs.declared.access.AccessFault.{AccessFault}
+use Rattle.access.specs.declared.access.AccessFault.TheVariants as fault
+use Rattle.sockets.specs.Sockets.{AreBound}
+use Rattle.sockets.specs.declared.sockets.Sockets.{Sockets}
+use Rattle.counts.specs.declared.counts.Counts.{Counts}
+use Rattle.counts.specs.declared.counts.Outcome.{Outcome}
+use Rattle.counts.specs.declared.counts.Outcome.TheVariants as outcome
 use Rattle.access.specs.Turn.{CircuitsSockets, GoesOn, IsTried, RelaysSockets, Tries}
 
 pub record AccessValue : Type 0 where
@@ -40,12 +42,19 @@ pub record AccessValue : Type 0 where
 abbrev pub ServesEach : Topology → Type 0
 ServesEach topology = (c : ℕ) → c < length topology.circuits → serves topology c ≡ true
 
--- Each circuit and each relay has its sockets, which have their roles and addresses, each circuit has a region, and each is served.
-abbrev pub IsAccess : Topology → Sockets → ServerValue → ℕ → ℕ → Source → Source → Type 0
-IsAccess topology sockets server regions port listen4 listen6 =
+-- Each circuit and each relay has its sockets, which have their roles, their addresses and this history, each circuit has a region, and each is served.
+abbrev pub IsAccess : Topology → Sockets → ServerValue → ℕ → ℕ → ℕ → Source → Source → Type 0
+IsAccess topology sockets server regions port history listen4 listen6 =
     (length sockets.circuits.items ≡ length topology.circuits) × (length sockets.circuits.items ≤ 16) × All (λ circuit. circuit.relay < length sockets.relays.items) sockets.circuits.items
-    × (length sockets.relays.items ≡ length topology.relays) × (length sockets.relays.items ≤ 8) × HasRegions server.topology.circuits regions × AreBound topology port sockets × ServesEach topology
+    × (length sockets.relays.items ≡ length topology.relays) × (length sockets.relays.items ≤ 8) × HasRegions server.topology.circuits regions × AreBound topology port history sockets × ServesEach topology
     × (listen4 ≡ topology.listen4) × (listen6 ≡ topology.listen6) × (port ≤ 65472)
+
+-- Where an address is refused, it is one of these.
+abbrev pub RefusesSocket : (Source → Type 0) → AccessFault → Type 0
+RefusesSocket Bound fault.Memory = ⊤
+RefusesSocket Bound fault.Disk = ⊤
+RefusesSocket Bound (fault.Socket at) = Bound at
+RefusesSocket Bound fault.TooManyCircuits = ⊤
 
 -- ---- one datagram
 

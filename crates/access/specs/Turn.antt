@@ -1,20 +1,18 @@
 -- What a turn adds to the history: each datagram that was taken is followed by what the definitions make of it.
 use Rattle.std.specs.Prelude.{◌≡◌, ◌⊎◌, ℕ, zero, suc, Bool, List, [], ◌∷◌, ◌++◌, length, Some, slice_get, Result, Ok, Err, if◌then◌else◌}
 use Rattle.types.specs.declared.addr.Source.{Source}
-use Rattle.types.specs.declared.dest.Dest.{Dest}
-use Rattle.types.specs.declared.dest.Dest.TheVariants.{Broadcast, Unicast, Peer}
 use Rattle.types.specs.declared.dest.Proto.{Proto}
 use Rattle.types.specs.declared.dest.Proto.TheVariants.{V4, V6}
 use Rattle.types.specs.declared.discard.Discard.{Discard}
 use Rattle.config.specs.CircuitPart.{CircuitPart}
 use Rattle.config.specs.Topology.{Topology, listen}
 use Rattle.relay.specs.Relays.{CircuitFrame, relayed_down_in, relayed_up}
-use Rattle.udp.specs.History.{Entry, Failed, Sent, Took, with_entry}
+use Rattle.udp.specs.History.{Entry, Failed, Sent, Took}
 use Rattle.udp.specs.declared.history.Role.{Role}
 use Rattle.udp.specs.declared.history.Role.TheVariants as role
-use Rattle.access.specs.Sockets.{client_port, framed}
-use Rattle.access.specs.declared.counts.Outcome.{Outcome}
-use Rattle.access.specs.declared.counts.Outcome.TheVariants as outcome
+use Rattle.sockets.specs.Sockets.{client_port, framed, proto_of}
+use Rattle.counts.specs.declared.counts.Outcome.{Outcome}
+use Rattle.counts.specs.declared.counts.Outcome.TheVariants as outcome
 
 -- What happens at some sockets, with what becomes of the datagrams that are taken.
 abbrev pub Tries : Type 1
@@ -58,10 +56,16 @@ abbrev pub GoesOn : Role → Source → Outcome → Result (List ℕ) Discard �
 GoesOn socket to done (Err why) rest became = (rest ≡ []) × (became ≡ outcome.Dropped why)
 GoesOn socket to done (Ok bytes) rest became = (accepted : Bool) × (rest ≡ Sent socket to bytes accepted ∷ []) × (became ≡ (if accepted then done else outcome.Unsent))
 
--- The same by what a call says of it, and the history before and after it.
-abbrev pub WentOn : Role → Source → Outcome → Result (Unit {0}) Discard → List ℕ → List Entry → List Entry → Outcome → Type 0
-WentOn socket to done (Err why) bytes old new became = (new ≡ old) × (became ≡ outcome.Dropped why)
-WentOn socket to done (Ok _) bytes old new became = (accepted : Bool) × (new ≡ with_entry (Sent socket to bytes accepted) old) × (became ≡ (if accepted then done else outcome.Unsent))
+-- The same by the history before and after it.
+pub record HasSentOn (socket : Role) (to : Source) (done : Outcome) (made : Result (List ℕ) Discard) (old new : List Entry) (became : Outcome) : Type 0 where
+  pub rest : List Entry
+  pub history : new ≡ old ++ rest
+  pub goes_on : GoesOn socket to done made rest became
+
+-- what a call made, whose bytes are these
+abbrev pub with_bytes : Result (Unit {0}) Discard → List ℕ → Result (List ℕ) Discard
+with_bytes (Ok _) bytes = Ok bytes
+with_bytes (Err why) bytes = Err why
 
 -- ---- a client's frame
 
@@ -81,11 +85,6 @@ abbrev pub CircuitsSockets : Topology → Tries
 CircuitsSockets topology = InOrder (λ c. Both (CircuitSocket topology c V4) (CircuitSocket topology c V6)) (length topology.circuits)
 
 -- ---- a datagram at a relay
-
-abbrev pub proto_of : Dest → Proto
-proto_of Broadcast = V4
-proto_of (Unicast chaddr yiaddr) = V4
-proto_of (Peer address) = V6
 
 -- What it has for a circuit goes on from that circuit's own socket to its client's port.
 abbrev pub IsSentDown : ℕ → Result CircuitFrame Discard → List Entry → Outcome → Type 0

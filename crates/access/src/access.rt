@@ -1,9 +1,9 @@
 //! Relay and server over sockets.
 ghost use Rattle.std.specs.Prelude.{◌≡◌, ◌≤◌, ◌<◌, ◌+◌, ◌*◌, ◌↔◌, ℕ, [], length, map, true, is_some, Some, slice_get, Err, IfOk, IfErr};
-ghost use Rattle.access.specs.Access.{HasCarried, HasCounted, HasReached, HasServed, HasServedTurns, HasTurned, StayClosed, books_at};
-ghost use Rattle.access.specs.Counts.{more_by, none};
-ghost use Rattle.access.specs.Opening.{found_format, was_old};
-ghost use Rattle.access.specs.Sockets.{IsSocket, RefusesSocket, WasRefused};
+ghost use Rattle.access.specs.Access.{HasCarried, HasCounted, HasReached, HasServed, HasServedTurns, HasTurned, RefusesSocket, StayClosed, books_at};
+ghost use Rattle.counts.specs.Counts.{more_by, none};
+ghost use Rattle.opening.specs.Opening.{found_format, was_old};
+ghost use Rattle.sockets.specs.Sockets.{IsSocket, WasRefused};
 ghost use Rattle.access.specs.Turn.{CircuitSocket, CircuitsSockets, RelaySocket, RelaysSockets};
 ghost use Rattle.access.specs.declared.access.AccessFault.TheVariants as fault;
 ghost use Rattle.config.specs.CircuitPart.{parts_of};
@@ -12,17 +12,19 @@ ghost use Rattle.dispatch.specs.ServerValue.{books_in};
 ghost use Rattle.config.specs.Topology.{listen, topology_of};
 
 use crate::clock::moment;
-use crate::counts::{Counts, Outcome};
-use crate::frame::{Framed, proto_of, put_frame};
-use crate::opening::{Formats, open_server};
 use crate::sending::send_on;
-use crate::sockets::{MAX_SERVED, MAX_SOCKETS, SocketFault, Sockets, client};
 use config::Config;
+use counts::{Counts, Outcome};
 use dispatch::{OpenFault, Server};
 use lease_disk::{FORMAT, FileDisk, OLD_FORMAT};
+use opening::{Formats, open_server};
 use relay::Relays;
+use sockets::{
+    Framed, MAX_SERVED, MAX_SOCKETS, SocketFault, Sockets, client, proto_of, put_frame,
+};
 use std::alloc::Global;
 use std::marker::Model;
+use std::mem;
 use std::net::Net;
 use std::rt::Clock;
 use thiserror::Error;
@@ -79,8 +81,8 @@ impl Model for Access {
 
     ghost view = { λ a. record { topology = a.relays.topology; server = a.server; disk = a.disk; formats = a.formats.items; port = a.port; counts = a.counts; history = a.history.entries; turns = a.turns.count } };
 
-    // each circuit and each relay has its sockets, which have their roles and addresses, each circuit a region, and each is served
-    ghost invariant = { λ a. IsAccess a.relays.topology a.sockets a.server a.disk.regions a.port a.listen4 a.listen6 };
+    // each circuit and each relay has its sockets, which have their roles, addresses and history, each circuit a region, and each is served
+    ghost invariant = { λ a. IsAccess a.relays.topology a.sockets a.server a.disk.regions a.port a.history.id a.listen4 a.listen6 };
 }
 
 impl Access {
@@ -90,7 +92,8 @@ impl Access {
     /// towards it go to the two ports after these; the ports of each other circuit come 4 later.
     ///
     /// More than 16 circuits are refused first, then a device without the region of a circuit, then
-    /// an address that the system refuses to bind a socket to, which `opening` notes.
+    /// an address that the system refuses to bind a socket to, which `opening` then has. What was opened goes on with that
+    /// history, and leaves a new one in its place.
     pub fn open<R: Net>(
         net: &R,
         alloc: Global,
@@ -108,12 +111,12 @@ impl Access {
         ensures writes { IfOk result (λ access. access.disk.writes ≤ disk.writes + 4 * length config.now.circuits) }
         ensures counts { IfOk result (λ access. access.counts ≡ none) }
         ensures port { IfOk result (λ access. access.port ≡ port) }
-        ensures silent { IfOk result (λ access. access.history ≡ []) }
+        ensures silent { IfOk result (λ access. access.history ≡ opening.old.entries) }
         ensures turns { IfOk result (λ access. access.turns ≡ 0) }
         ensures circuits { result ≡ Err fault.TooManyCircuits ↔ (16 < length config.now.circuits) }
         ensures small { IfErr result (λ why. why ≡ fault.Disk → ¬ HasRegions (parts_of config.now) disk.regions) }
         ensures socket { IfErr result (RefusesSocket (λ at. IsSocket config.now port at × HasRegions (parts_of config.now) disk.regions × WasRefused opening.old.entries opening.new.entries at)) }
-        ensures bound { IfOk result (λ _. opening.new.entries ≡ opening.old.entries) }
+        ensures bound { IfOk result (λ _. opening.new.entries ≡ []) }
     {
         if config.circuit_count() > MAX_SERVED {
             return Err(AccessFault::TooManyCircuits);
@@ -147,7 +150,8 @@ impl Access {
             frame: Framed::new(),
             port,
             counts: Counts::new(),
-            history: History::new(),
+            // the sockets were bound with it
+            history: mem::replace(opening, History::new()),
             turns: Count::new(),
             waiter,
         })

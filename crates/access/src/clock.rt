@@ -17,7 +17,8 @@ pub fn moment_of(since: Duration, before: Moment) -> Moment
 
 /// This moment in seconds since 1970, or the one before where the clock can't be read.
 pub(crate) fn moment<R: Clock>(rt: &R, before: Moment, history: &mut History) -> Moment
-    ensures { HasRead before result history.old.entries history.new.entries }
+    ensures read { HasRead before result history.old.entries history.new.entries }
+    ensures same { history.new.id ≡ history.old.id }
 {
     match read_clock(rt, history) {
         Some(since) => moment_of(since, before),

@@ -1,7 +1,8 @@
 //! What becomes of a datagram that was taken.
-ghost use Rattle.access.specs.Turn.{WentOn};
+ghost use Rattle.std.specs.Prelude.{◌≡◌};
+ghost use Rattle.access.specs.Turn.{HasSentOn, with_bytes};
 
-use crate::counts::Outcome;
+use counts::Outcome;
 use types::{Discard, Source};
 use udp::{DatagramSocket, History};
 
@@ -14,7 +15,9 @@ pub(crate) fn send_on(
     done: Outcome,
     history: &mut History,
 ) -> Outcome
-    ensures { WentOn socket.now.role to done made bytes.now history.old.entries history.new.entries result }
+    requires { history.old.id ≡ socket.now.history }
+    ensures sent { HasSentOn socket.now.role to done (with_bytes made bytes.now) history.old.entries history.new.entries result }
+    ensures same { history.new.id ≡ history.old.id }
 {
     match made {
         Ok(()) => done.if_sent(socket.send(bytes, to, history)),

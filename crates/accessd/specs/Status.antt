@@ -2,8 +2,8 @@
 use Rattle.std.specs.Prelude.{◌≡◌, ◌⊎◌, ℕ}
 use Rattle.access.specs.declared.access.AccessFault.{AccessFault}
 use Rattle.access.specs.declared.access.AccessFault.TheVariants as fault
-use Rattle.access.specs.declared.device.DeviceFault.{DeviceFault}
-use Rattle.access.specs.declared.device.DeviceFault.TheVariants as device
+use Rattle.opening.specs.declared.device.DeviceFault.{DeviceFault}
+use Rattle.opening.specs.declared.device.DeviceFault.TheVariants as device
 
 -- why relay and server were not opened
 abbrev pub status_of : AccessFault → ℕ

@@ -4,8 +4,8 @@ use Rattle.config.specs.Topology.{Topology}
 use Rattle.config.specs.CircuitPart.{parts_of}
 use Rattle.dispatch.specs.Leases.{HasRegions}
 use Rattle.access.specs.Access.{ServesEach}
-use Rattle.access.specs.Sockets.{AreBound, IsSocket, Refuses, WasRefused}
-use Rattle.access.proofs.RelayLemmas.{serves_each}
+use Rattle.sockets.specs.Sockets.{AreBound, IsSocket, Refuses, WasRefused}
+use Rattle.access.proofs.TopologyLemmas.{serves_each}
 use Rattle.access.proofs.access.Access.open.Goals as goal
 
 pub invariant_of-result : goal.invariant_of-result
@@ -19,7 +19,7 @@ invariant_of-result g c =
       bound.relays ∙ sym (ap (λ (t : Topology). length t.relays) topology ∙ length-map config.relays _),
       search rules,
       search rules,
-      subst (λ (t : Topology). AreBound t c.args.port c.in-Ok-bind.sockets) (sym topology) bound.bound,
+      subst (λ (t : Topology). AreBound t c.args.port c.args.opening.now.id c.in-Ok-bind.sockets) (sym topology) bound.bound,
       subst ServesEach (sym topology) (serves_each config),
       search rules,
       search rules,

@@ -4,17 +4,17 @@ use Rattle.relay.specs.Relays.{relayed_down_in}
 use Rattle.udp.specs.History.{Failed, Took, with_entry}
 use Rattle.udp.specs.declared.history.Role.TheVariants as role
 use Rattle.access.specs.Access.{AccessValue, HasCarried, IsAccess}
-use Rattle.access.specs.Counts.{counted}
-use Rattle.access.specs.Sockets.{client_port, framed}
+use Rattle.counts.specs.Counts.{counted}
+use Rattle.sockets.specs.Sockets.{client_port, framed}
 use Rattle.access.specs.Turn.{IsSentDown, RelaySocket, proto_of}
 use Rattle.access.specs.contracts.access.Access.{the_view}
 use Rattle.access.specs.declared.access.Access.TheInside.{Inside}
-use Rattle.access.specs.declared.counts.Counts.{Counts}
-use Rattle.access.specs.declared.counts.Outcome.{Outcome}
-use Rattle.access.specs.declared.counts.Outcome.TheVariants as outcome
+use Rattle.counts.specs.declared.counts.Counts.{Counts}
+use Rattle.counts.specs.declared.counts.Outcome.{Outcome}
+use Rattle.counts.specs.declared.counts.Outcome.TheVariants as outcome
 use Rattle.access.proofs.AnswerLemmas.{went}
 use Rattle.access.proofs.CarryLemmas.{carried_idle, carried_taken}
-use Rattle.access.proofs.UpLemmas.{its_role, own_sockets, relay_role, went_on}
+use Rattle.access.proofs.UpLemmas.{its_own, own_sockets, relays_own}
 use Rattle.access.proofs.access.Access.take_answer.Goals.{in-Ok, in-Err}
 use Rattle.access.proofs.access.Access.take_answer.Goals as goal
 
@@ -26,14 +26,14 @@ returns-in_default-clause-carried c =
     let before : AccessValue = the_view inside in
     let within : index < length topology.relays = subst (λ (s : AccessValue). index < length s.topology.relays) (sym c.self.view_is) c.requires in
     let there : index < length inside.sockets.relays.items = subst (λ n. index < n) (sym c.self.invariant.3) within in
-    let its = relay_role topology inside.port inside.sockets c.self.invariant.6 index within there c.index-socket.result.now c.index-socket.ensures in
+    let its = (relays_own topology inside.port inside.history.id inside.sockets c.self.invariant.6 index within there c.index-socket.result.now c.index-socket.ensures).1.role in
     subst (λ (old : AccessValue). HasCarried (RelaySocket old.topology old.port index) 0 old (record before { history = c.take.new.history.entries })) c.self.view_is
     (carried_idle (role.Relay index) (λ from datagram. IsSentDown inside.port (relayed_down_in topology index from datagram)) before c.take.new.history.entries
     (subst (λ r. (c.take.new.history.entries ≡ inside.history.entries) ⊎ (c.take.new.history.entries ≡ with_entry (Failed r) inside.history.entries)) its c.in_default.ensures.none))
 
 pub invariant_of-self-2 : goal.invariant_of-self-2
 invariant_of-self-2 c =
-    let P : Inside → Type 0 = λ (i : Inside). IsAccess i.relays.topology i.sockets i.server i.disk.regions i.port i.listen4 i.listen6 in
+    let P : Inside → Type 0 = λ (i : Inside). IsAccess i.relays.topology i.sockets i.server i.disk.regions i.port i.history.id i.listen4 i.listen6 in
     let by : P c.match-down.self-inside = elim c.match-down.branch [
       | in-Ok w ↦ subst P (sym w.self-inside-is) c.self.invariant
       | in-Err w ↦ subst P (sym w.self-inside-is) c.self.invariant
@@ -49,7 +49,7 @@ returns-clause-carried c =
     let before : AccessValue = the_view inside in
     let within : index < length topology.relays = subst (λ (s : AccessValue). index < length s.topology.relays) (sym c.self.view_is) c.requires in
     let there : index < length inside.sockets.relays.items = subst (λ n. index < n) (sym c.self.invariant.3) within in
-    let its = relay_role topology port inside.sockets c.self.invariant.6 index within there c.index-socket.result.now c.index-socket.ensures in
+    let its = (relays_own topology port inside.history.id inside.sockets c.self.invariant.6 index within there c.index-socket.result.now c.index-socket.ensures).1.role in
     let datagram = take c.in-Some.len c.take.new.buffer in
     let taken = c.take.new.history.entries in
     let took = subst (λ r. taken ≡ with_entry (Took r c.in-Some.from datagram) inside.history.entries) its c.in-Some.ensures.some in
@@ -58,20 +58,19 @@ returns-clause-carried c =
       | in-Ok w ↦
           let sent = w.in-Ok.sent in
           let proto = proto_of sent.1 in
-          let own = own_sockets topology port inside.sockets c.self.invariant.6 c.self.invariant.0 sent.0 w.in-Ok.ensures.exists w.index-in-Ok.result.now
+          let own = own_sockets topology port inside.history.id inside.sockets c.self.invariant.6 c.self.invariant.0 sent.0 w.in-Ok.ensures.exists w.index-in-Ok.result.now
           (subst (λ n. w.index-in-Ok.result.now ≡ slice_index_or inside.sockets.circuits.items n w.index-in-Ok.result.now) w.index.ensures.value w.index-in-Ok.ensures) in
-          let sender = its_role topology.relays port sent.0 own.0 w.index-in-Ok.result.now w.proto_of-proto.result w.socket-from.result.now own.2 w.socket-from.ensures.v4 w.socket-from.ensures.v6
+          let sender = (its_own topology.relays port inside.history.id sent.0 own.0 w.index-in-Ok.result.now w.proto_of-proto.result w.socket-from.result.now own.2 w.socket-from.ensures.v4 w.socket-from.ensures.v6).role
           ∙ ap (role.Circuit sent.0) w.proto_of-proto.ensures in
           let to = w.client-to.ensures ∙ ap (client_port port sent.0) w.proto_of-proto.ensures in
           let bytes = w.as_slice-frame.ensures.value ∙ w.put_frame.ensures ∙ ap (framed sent.1) w.as_slice.ensures.value in
           let found = subst (λ r. relayed_down_in topology r c.in-Some.from datagram ≡ Ok (record { circuit = sent.0; frame = record { dest = sent.1; bytes = c.down.new.out } })) c.at-relay.ensures w.in-Ok.ensures.ok in
-          let g = went (role.Circuit sent.0 proto) (client_port port sent.0 proto) outcome.Delivered (Ok (framed sent.1 c.down.new.out)) (Ok tt) (framed sent.1 c.down.new.out) taken w.send_on-outcome.new.history.entries
-          w.send_on-outcome.result (refl, refl) (went_on w.socket-from.result.now.role (role.Circuit sent.0 proto) w.client-to.result (client_port port sent.0 proto) outcome.Delivered (Ok tt) w.as_slice-frame.result.now (framed sent.1 c.down.new.out)
-          taken w.send_on-outcome.new.history.entries w.send_on-outcome.result sender to bytes w.send_on-outcome.ensures) in
+          let g = went w.socket-from.result.now.role (role.Circuit sent.0 proto) w.client-to.result (client_port port sent.0 proto) outcome.Delivered (Ok (framed sent.1 c.down.new.out)) (Ok tt) w.as_slice-frame.result.now
+          (framed sent.1 c.down.new.out) taken w.send_on-outcome.new.history.entries w.send_on-outcome.result sender to bytes (refl, refl) w.send_on-outcome.ensures.sent in
           let R : Inside = record inside { buffer = c.take.new.buffer; out = c.down.new.out; frame = w.put_frame.new.out; history = w.send_on-outcome.new.history } in
           subst (λ (i : Inside). Q i c.match-down.outcome) (sym w.self-inside-is) (subst (λ (o : Outcome). Q R o) (sym w.outcome-is) (λ counts count.
-          carried_taken (role.Relay index) (λ from bytes. IsSentDown port (relayed_down_in topology index from bytes)) before taken w.send_on-outcome.new.history.entries g.0 counts c.in-Some.from datagram
-          w.send_on-outcome.result took g.1 count (subst (λ r. IsSentDown port r g.0 w.send_on-outcome.result) (sym found) g.2)))
+          carried_taken (role.Relay index) (λ from bytes. IsSentDown port (relayed_down_in topology index from bytes)) before taken w.send_on-outcome.new.history.entries g.rest counts c.in-Some.from datagram
+          w.send_on-outcome.result took g.history count (subst (λ r. IsSentDown port r g.rest w.send_on-outcome.result) (sym found) g.goes_on)))
       | in-Err w ↦
           let found = subst (λ r. relayed_down_in topology r c.in-Some.from datagram ≡ Err w.in-Err.why) c.at-relay.ensures w.in-Err.ensures.err in
           let R : Inside = record inside { buffer = c.take.new.buffer; out = c.down.new.out; history = c.take.new.history } in

@@ -7,10 +7,10 @@ use Rattle.udp.specs.declared.history.Role.TheVariants as role
 use Rattle.access.specs.Access.{AccessValue, HasCarried, IsAccess}
 use Rattle.access.specs.Turn.{CircuitSocket, IsSentUp}
 use Rattle.access.specs.contracts.access.Access.{the_view}
-use Rattle.access.specs.declared.counts.Outcome.TheVariants as outcome
+use Rattle.counts.specs.declared.counts.Outcome.TheVariants as outcome
 use Rattle.access.proofs.AnswerLemmas.{went}
 use Rattle.access.proofs.CarryLemmas.{carried_idle, carried_taken}
-use Rattle.access.proofs.UpLemmas.{its_role, own_sockets, relay_role, up_answer, went_on}
+use Rattle.access.proofs.UpLemmas.{its_own, own_sockets, relays_own, up_answer}
 use Rattle.access.proofs.access.Access.take_frame.Goals as goal
 
 pub returns-in_default-clause-carried : goal.returns-in_default-clause-carried
@@ -21,8 +21,8 @@ returns-in_default-clause-carried c =
     let proto = c.args.proto in
     let before : AccessValue = the_view inside in
     let within : index < length topology.circuits = subst (λ (s : AccessValue). index < length s.topology.circuits) (sym c.self.view_is) c.requires in
-    let own = own_sockets topology inside.port inside.sockets c.self.invariant.6 c.self.invariant.0 index within c.index-sockets.result.now c.index-sockets.ensures in
-    let its = its_role topology.relays inside.port index own.0 c.index-sockets.result.now proto c.socket-socket.result.now own.2 c.socket-socket.ensures.v4 c.socket-socket.ensures.v6 in
+    let own = own_sockets topology inside.port inside.history.id inside.sockets c.self.invariant.6 c.self.invariant.0 index within c.index-sockets.result.now c.index-sockets.ensures in
+    let its = (its_own topology.relays inside.port inside.history.id index own.0 c.index-sockets.result.now proto c.socket-socket.result.now own.2 c.socket-socket.ensures.v4 c.socket-socket.ensures.v6).role in
     subst (λ (old : AccessValue). HasCarried (CircuitSocket old.topology index proto) 0 old (record before { history = c.take.new.history.entries })) c.self.view_is
     (carried_idle (role.Circuit index proto) (λ from frame. IsSentUp topology index proto frame) before c.take.new.history.entries
     (subst (λ r. (c.take.new.history.entries ≡ inside.history.entries) ⊎ (c.take.new.history.entries ≡ with_entry (Failed r) inside.history.entries)) its c.in_default.ensures.none))
@@ -40,21 +40,21 @@ returns-clause-carried c =
     let proto = c.args.proto in
     let before : AccessValue = the_view inside in
     let within : index < length topology.circuits = subst (λ (s : AccessValue). index < length s.topology.circuits) (sym c.self.view_is) c.requires in
-    let own = own_sockets topology inside.port inside.sockets c.self.invariant.6 c.self.invariant.0 index within c.index-sockets.result.now c.index-sockets.ensures in
-    let its = its_role topology.relays inside.port index own.0 c.index-sockets.result.now proto c.socket-socket.result.now own.2 c.socket-socket.ensures.v4 c.socket-socket.ensures.v6 in
-    let relays = own_sockets topology inside.port inside.sockets c.self.invariant.6 c.self.invariant.0 index within c.index.result.now c.index.ensures in
+    let own = own_sockets topology inside.port inside.history.id inside.sockets c.self.invariant.6 c.self.invariant.0 index within c.index-sockets.result.now c.index-sockets.ensures in
+    let its = (its_own topology.relays inside.port inside.history.id index own.0 c.index-sockets.result.now proto c.socket-socket.result.now own.2 c.socket-socket.ensures.v4 c.socket-socket.ensures.v6).role in
+    let relays = own_sockets topology inside.port inside.history.id inside.sockets c.self.invariant.6 c.self.invariant.0 index within c.index.result.now c.index.ensures in
     let relay = c.index.result.now.relay in
     let its_relay : relay < length inside.sockets.relays.items = search rules in
-    let sender = relay_role topology inside.port inside.sockets c.self.invariant.6 relay (subst (λ n. relay < n) c.self.invariant.3 its_relay) its_relay c.index-from.result.now c.index-from.ensures in
+    let sender = (relays_own topology inside.port inside.history.id inside.sockets c.self.invariant.6 relay (subst (λ n. relay < n) c.self.invariant.3 its_relay) its_relay c.index-from.result.now c.index-from.ensures).1.role in
     let frame = take c.in-Some.len c.take.new.buffer in
     let took = subst (λ r. c.take.new.history.entries ≡ with_entry (Took r c.in-Some.field-0-1 frame) inside.history.entries) its c.in-Some.ensures.some in
     let to = c.listen-to.ensures ∙ ap (λ (s : AccessValue). listen s.topology proto) (sym c.self.view_is) in
     let answer = up_answer topology.circuits c.at.result relays.0 proto frame c.up-made.result c.up-made.new.out (subst (λ n. slice_get topology.circuits n ≡ Some relays.0) (sym c.at.ensures) relays.1)
     c.up-made.ensures.ok c.up-made.ensures.err c.up-made.ensures.empty in
-    let w = went (role.Relay relay) (listen topology proto) outcome.Relayed (relayed_up relays.0 proto frame) c.up-made.result c.up-made.new.out c.take.new.history.entries c.send_on-outcome.new.history.entries c.send_on-outcome.result answer
-    (went_on _ _ _ _ _ _ _ _ _ _ _ sender to c.as_slice-out.ensures.value c.send_on-outcome.ensures) in
-    let carried = carried_taken (role.Circuit index proto) (λ from bytes. IsSentUp topology index proto bytes) before c.take.new.history.entries c.send_on-outcome.new.history.entries w.0 c.count.new.self c.in-Some.field-0-1 frame
-    c.send_on-outcome.result took w.1 c.count.ensures (record { part = relays.0; relay = relay; its_part = relays.1; its_relay = relays.2.relay; goes_on = w.2 }) in
+    let w = went _ (role.Relay relay) _ (listen topology proto) outcome.Relayed (relayed_up relays.0 proto frame) c.up-made.result _ c.up-made.new.out c.take.new.history.entries c.send_on-outcome.new.history.entries c.send_on-outcome.result
+    sender to c.as_slice-out.ensures.value answer c.send_on-outcome.ensures.sent in
+    let carried = carried_taken (role.Circuit index proto) (λ from bytes. IsSentUp topology index proto bytes) before c.take.new.history.entries c.send_on-outcome.new.history.entries w.rest c.count.new.self c.in-Some.field-0-1 frame
+    c.send_on-outcome.result took w.history c.count.ensures (record { part = relays.0; relay = relay; its_part = relays.1; its_relay = relays.2.relay; goes_on = w.goes_on }) in
     subst (λ (old : AccessValue). HasCarried (CircuitSocket old.topology index proto) 1 old
     (record before { topology = c.up-made.new.self.topology; counts = c.count.new.self; history = c.send_on-outcome.new.history.entries })) c.self.view_is
     (subst (λ (t : Topology). HasCarried (CircuitSocket topology index proto) 1 before (record before { topology = t; counts = c.count.new.self; history = c.send_on-outcome.new.history.entries }))

@@ -1,5 +1,0 @@
-use Rattle.access.proofs.CountLemmas.{grow_together}
-use Rattle.access.proofs.laws.counts_grow_together.Goals as goal
-
-pub returns : goal.returns
-returns c = grow_together

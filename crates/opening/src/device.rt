@@ -1,0 +1,96 @@
+//! The device in a file, which keeps the leases.
+ghost use Rattle.std.specs.Prelude.{◌≡◌, ◌≢◌, ◌≤◌, ◌<◌, ◌+◌, ◌*◌, ℕ, true, false, length, Some, IfOk, IfErr, OnOk, slice_get};
+ghost use Rattle.opening.specs.declared.device.DeviceFault.TheVariants as fault;
+ghost use Rattle.settings.specs.declared.settings.CircuitConfig.{CircuitConfig};
+ghost use Rattle.lease_disk.specs.Crash.{IsFormatted};
+ghost use Rattle.lease_disk.specs.FileDisk.{uncalled};
+
+use sockets::MAX_SERVED;
+use command_line::accessd_words::AccessWords;
+use config::Config;
+use dispatch::region_count;
+use lease_disk::{Disk, FileDisk, FileFault, format};
+use std::fs::File;
+use std::rt::Files;
+use thiserror::Error;
+use types::Circuit;
+
+/// Why a file does not serve as the device of a configuration.
+#[derive(Clone, Copy, Debug, PartialEq, Eq, Error)]
+pub enum DeviceFault {
+    #[error("the file can't be opened, made or lengthened, or is in use")]
+    File,
+    #[error("out of memory")]
+    Memory,
+    /// A region could not be formatted.
+    #[error("a region can't be formatted")]
+    Format,
+}
+
+/// Formats the region of each circuit.
+fn format_regions<D: Disk>(config: &Config, disk: &mut D) -> Result<(), DeviceFault>
+    requires { (c : ℕ) (circuit : CircuitConfig) → slice_get config.now.circuits c ≡ Some circuit → circuit.region < (D.device disk.old).count }
+    ensures formatted { D.tells ≡ true → OnOk result ((c : ℕ) (circuit : CircuitConfig) → slice_get config.now.circuits c ≡ Some circuit → IsFormatted ((D.device disk.new).region circuit.region)) }
+    ensures count { (D.device disk.new).count ≡ (D.device disk.old).count }
+    ensures writes { OnOk result ((D.device disk.new).writes ≡ (D.device disk.old).writes + 4 * length config.now.circuits) }
+{
+    'circuits: for index in 0..config.circuit_count() {
+        let circuit = Circuit::at(index);
+        let Ok(()) = format(config.at(circuit).region, disk) else {
+            return Err(DeviceFault::Format);
+        };
+    }
+    Ok(())
+}
+
+fn fault_of(why: FileFault) -> DeviceFault
+    ensures { result ≢ fault.Format }
+{
+    match why {
+        FileFault::File => DeviceFault::File,
+        FileFault::Memory => DeviceFault::Memory,
+    }
+}
+
+/// Opens the file with this path as the device of a configuration, as it is.
+pub fn open_device<R: Files<File = File>>(rt: &R, path: &str) -> Result<FileDisk, DeviceFault>
+    ensures most { IfOk result (λ disk. disk.regions ≤ 1024) }
+    ensures new { IfOk result (λ disk. disk ≡ uncalled disk.regions) }
+    ensures refused { IfErr result (λ why. why ≢ fault.Format) }
+{
+    FileDisk::open(rt, path).map_err(fault_of)
+}
+
+/// Makes the file, where there is none, or lengthens it, and formats the region of each circuit: all
+/// leases in these are lost. Formats none where there are more circuits than are served.
+pub fn format_device<R: Files<File = File>>(
+    rt: &R,
+    path: &str,
+    config: &Config,
+) -> Result<FileDisk, DeviceFault>
+    ensures writes { length config.now.circuits ≤ 16 → IfOk result (λ disk. disk.writes ≡ 4 * length config.now.circuits) }
+    ensures none { 16 < length config.now.circuits → IfOk result (λ disk. disk.writes ≡ 0) }
+    ensures regions { IfOk result (λ disk. (c : ℕ) (circuit : CircuitConfig) → slice_get config.now.circuits c ≡ Some circuit → circuit.region < disk.regions) }
+{
+    let mut disk = FileDisk::create(rt, path, region_count(config)).map_err(fault_of)?;
+    if config.circuit_count() <= MAX_SERVED {
+        format_regions(config, &mut disk)?;
+    }
+    Ok(disk)
+}
+
+/// Opens the file that the words name as the device of a configuration: as it is, or formatted where they ask for that.
+pub fn device_of<R: Files<File = File>>(
+    rt: &R,
+    words: &AccessWords<'_>,
+    config: &Config,
+) -> Result<FileDisk, DeviceFault>
+    ensures formats { words.now.format ≡ true → length config.now.circuits ≤ 16 → IfOk result (λ disk. disk.writes ≡ 4 * length config.now.circuits) }
+    ensures opens { words.now.format ≡ false → IfOk result (λ disk. disk ≡ uncalled disk.regions) }
+{
+    if words.format {
+        format_device(rt, words.disk, config)
+    } else {
+        open_device(rt, words.disk)
+    }
+}

@@ -1,0 +1,8 @@
+//! The device in a file, and opening a server over it.
+#![tactic(auto)]
+
+mod device;
+mod opening;
+
+pub use device::{DeviceFault, device_of, format_device, open_device};
+pub use opening::{Formats, open_server};

@@ -1,0 +1,75 @@
+//! Opening the server over a device, some of whose regions may be of the format of an earlier version.
+ghost use Rattle.std.specs.Prelude.{◌≡◌, ◌≤◌, ◌+◌, ◌*◌, true, length, IfOk, IfErr};
+ghost use Rattle.opening.specs.Opening.{format_of, formats_of};
+ghost use Rattle.config.specs.CircuitPart.{parts_of};
+ghost use Rattle.config.specs.Topology.{topology_of};
+ghost use Rattle.dispatch.specs.Leases.{AreSynced, HasRegions};
+ghost use Rattle.dispatch.specs.ServerValue.{AreReady};
+ghost use Rattle.dispatch.specs.declared.server.OpenFault.TheVariants as fault;
+ghost use Rattle.lease_disk.specs.Device.{TouchesNothing};
+
+use sockets::MAX_SERVED;
+use arrayvec::ArrayVec;
+use config::Config;
+use dispatch::{OpenFault, Server};
+use lease_disk::{Disk, read_format};
+use std::alloc::Global;
+use types::Circuit;
+
+/// The byte that says the format of each circuit's region, as it was before the opening; `None` where it could not be
+/// read.
+pub type Formats = ArrayVec<Option<u8>, MAX_SERVED>;
+
+/// The byte that says the format of a region, if there is such a region and it can be read.
+fn format_of<D: Disk>(region: u16, disk: &mut D) -> Option<u8>
+    ensures found { D.tells ≡ true → result ≡ format_of (D.device disk.old) region }
+    ensures frame { TouchesNothing D.tells (D.device disk.old) (D.device disk.new) }
+    ensures reads { (D.device disk.new).reads ≤ (D.device disk.old).reads + 1 }
+{
+    if region >= disk.regions() {
+        return None;
+    }
+    read_format(region, disk).ok()
+}
+
+/// The format of each circuit's region.
+fn formats_of<D: Disk>(config: &Config, disk: &mut D) -> Formats
+    requires { length config.now.circuits ≤ 16 }
+    ensures found { D.tells ≡ true → result.items ≡ formats_of (D.device disk.old) config.now.circuits }
+    ensures all { length result.items ≡ length config.now.circuits }
+    ensures frame { TouchesNothing D.tells (D.device disk.old) (D.device disk.new) }
+    ensures reads { (D.device disk.new).reads ≤ (D.device disk.old).reads + length config.now.circuits }
+{
+    let mut found = ArrayVec::new();
+    'circuits: for index in 0..config.circuit_count() {
+        let circuit = Circuit::at(index);
+        found.push(format_of(config.at(circuit).region, disk));
+    }
+    found
+}
+
+/// Opens the server of a configuration of at most 16 circuits over a device, which moves its regions of format 1, and
+/// returns the formats that the regions had before.
+pub fn open_server<D: Disk>(
+    alloc: Global,
+    config: &Config,
+    disk: &mut D,
+) -> Result<(Server, Formats), OpenFault>
+    requires few { length config.now.circuits ≤ 16 }
+    requires synced { D.tells ≡ true → AreSynced (parts_of config.now) (D.device disk.old).region }
+    ensures formats { D.tells ≡ true → IfOk result (λ opened. opened.1.items ≡ formats_of (D.device disk.old) config.now.circuits) }
+    ensures ready { D.tells ≡ true → IfOk result (λ opened. AreReady (D.device disk.new).region opened.0) }
+    ensures all { IfOk result (λ opened. length opened.1.items ≡ length config.now.circuits) }
+    ensures topology { IfOk result (λ opened. opened.0.topology ≡ topology_of config.now) }
+    ensures large { IfOk result (λ opened. HasRegions (parts_of config.now) (D.device disk.new).count) }
+    ensures small { IfErr result (λ why. why ≡ fault.DiskTooSmall → ¬ HasRegions (parts_of config.now) (D.device disk.old).count) }
+    ensures count { (D.device disk.new).count ≡ (D.device disk.old).count }
+    ensures reads { (D.device disk.new).reads ≤ (D.device disk.old).reads + 6 * length config.now.circuits }
+    ensures writes { (D.device disk.new).writes ≤ (D.device disk.old).writes + 4 * length config.now.circuits }
+{
+    let formats = formats_of(config, disk);
+    match Server::open(alloc, config, disk) {
+        Ok(server) => Ok((server, formats)),
+        Err(why) => Err(why),
+    }
+}

@@ -1,0 +1,3 @@
+pub mod RefusedLemmas
+pub mod RelayLemmas
+pub mod WarningLemmas

@@ -1,0 +1,10 @@
+//! The sockets of relay, server and circuits, and what goes to a client.
+#![tactic(auto)]
+
+mod frame;
+mod sockets;
+mod warnings;
+
+pub use frame::{Framed, proto_of, put_frame};
+pub use sockets::{CircuitSockets, MAX_SERVED, MAX_SOCKETS, SocketFault, Sockets, client};
+pub use warnings::{Warning, warn};
