@@ -30,7 +30,7 @@ up_answer parts c part proto frame (Ok unit) out there ok err empty = subst (λ 
 up_answer parts c part proto frame (Err why) out there ok err empty = subst (λ r. IsAnswer r (Err why) out) (sym (err part there)) (refl, empty)
 
 -- a circuit's socket of a protocol is its own
-pub its_own : (relays : List Source) (port history c : ℕ) (part : CircuitPart) (sockets : CircuitSockets) (proto : Proto) (socket : SocketValue) → AreCircuitSockets relays port history c part sockets
+its_own : (relays : List Source) (port history c : ℕ) (part : CircuitPart) (sockets : CircuitSockets) (proto : Proto) (socket : SocketValue) → AreCircuitSockets relays port history c part sockets
     → (proto ≡ V4 → socket ≡ sockets.socket4) → (proto ≡ V6 → socket ≡ sockets.socket6) → IsBound socket (role.Circuit c proto) (listen_port port c proto) history
 its_own relays port history c part sockets V4 socket own four six = subst (λ s. IsBound s (role.Circuit c V4) (listen_port port c V4) history) (sym (four refl)) own.socket4
 its_own relays port history c part sockets V6 socket own four six = subst (λ s. IsBound s (role.Circuit c V6) (listen_port port c V6) history) (sym (six refl)) own.socket6
@@ -43,6 +43,14 @@ own_sockets topology port history sockets bound size c within found is =
     let one = is_there topology.circuits c within in
     let at : slice_get sockets.circuits.items c ≡ Some found = slice_get-get_or sockets.circuits.items c found (omega (arith, size, within)) ∙ ap Some (sym is) in
     (one.0, one.1, bound.circuits c one.0 found one.1 at)
+
+-- the socket of a circuit and a protocol is its own
+pub circuits_own : (topology : Topology) (port history : ℕ) (sockets : Sockets) → AreBound topology port history sockets → length sockets.circuits.items ≡ length topology.circuits
+    → (c : ℕ) → c < length topology.circuits → (found : CircuitSockets) → found ≡ slice_index_or sockets.circuits.items c found
+    → (proto : Proto) (socket : SocketValue) → (proto ≡ V4 → socket ≡ found.socket4) → (proto ≡ V6 → socket ≡ found.socket6) → IsBound socket (role.Circuit c proto) (listen_port port c proto) history
+circuits_own topology port history sockets bound size c within found is proto socket four six =
+    let own = own_sockets topology port history sockets bound size c within found is in
+    its_own topology.relays port history c own.0 found proto socket own.2 four six
 
 -- the socket of the relay of an index is its own
 pub relays_own : (topology : Topology) (port history : ℕ) (sockets : Sockets) → AreBound topology port history sockets → (r : ℕ) → r < length topology.relays → r < length sockets.relays.items

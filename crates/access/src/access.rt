@@ -19,9 +19,7 @@ use dispatch::{OpenFault, Server};
 use lease_disk::{FORMAT, FileDisk, OLD_FORMAT};
 use opening::{Formats, open_server};
 use relay::Relays;
-use sockets::{
-    Framed, MAX_SERVED, MAX_SOCKETS, SocketFault, Sockets, client, proto_of, put_frame,
-};
+use sockets::{Framed, MAX_SERVED, MAX_SOCKETS, SocketFault, Sockets, client, proto_of, put_frame};
 use std::alloc::Global;
 use std::marker::Model;
 use std::mem;

@@ -5,11 +5,11 @@ ghost use Rattle.settings.specs.declared.settings.CircuitConfig.{CircuitConfig};
 ghost use Rattle.lease_disk.specs.Crash.{IsFormatted};
 ghost use Rattle.lease_disk.specs.FileDisk.{uncalled};
 
-use sockets::MAX_SERVED;
 use command_line::accessd_words::AccessWords;
 use config::Config;
 use dispatch::region_count;
 use lease_disk::{Disk, FileDisk, FileFault, format};
+use sockets::MAX_SERVED;
 use std::fs::File;
 use std::rt::Files;
 use thiserror::Error;

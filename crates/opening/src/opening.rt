@@ -8,11 +8,11 @@ ghost use Rattle.dispatch.specs.ServerValue.{AreReady};
 ghost use Rattle.dispatch.specs.declared.server.OpenFault.TheVariants as fault;
 ghost use Rattle.lease_disk.specs.Device.{TouchesNothing};
 
-use sockets::MAX_SERVED;
 use arrayvec::ArrayVec;
 use config::Config;
 use dispatch::{OpenFault, Server};
 use lease_disk::{Disk, read_format};
+use sockets::MAX_SERVED;
 use std::alloc::Global;
 use types::Circuit;
 

@@ -1,8 +1,9 @@
-use Rattle.std.proofs.Common.{◌∙◌, length, sym, ap, subst, rules}
+use Rattle.std.proofs.Common.{◌∙◌, ℕ, length, sym, ap, subst, rules}
 use Rattle.std.proofs.lemmas.List.{length-map}
 use Rattle.config.specs.Topology.{Topology}
 use Rattle.config.specs.CircuitPart.{parts_of}
 use Rattle.dispatch.specs.Leases.{HasRegions}
+use Rattle.udp.specs.History.{HistoryValue}
 use Rattle.access.specs.Access.{ServesEach}
 use Rattle.sockets.specs.Sockets.{AreBound, IsSocket, Refuses, WasRefused}
 use Rattle.access.proofs.TopologyLemmas.{serves_each}
@@ -19,7 +20,8 @@ invariant_of-result g c =
       bound.relays ∙ sym (ap (λ (t : Topology). length t.relays) topology ∙ length-map config.relays _),
       search rules,
       search rules,
-      subst (λ (t : Topology). AreBound t c.args.port c.args.opening.now.id c.in-Ok-bind.sockets) (sym topology) bound.bound,
+      subst (λ (h : ℕ). AreBound c.in-Ok-new.relays.topology c.args.port h c.in-Ok-bind.sockets) (sym (ap (λ (h : HistoryValue). h.id) c.replace.ensures.value ∙ bound.same))
+          (subst (λ (t : Topology). AreBound t c.args.port c.args.opening.now.id c.in-Ok-bind.sockets) (sym topology) bound.bound),
       subst ServesEach (sym topology) (serves_each config),
       search rules,
       search rules,

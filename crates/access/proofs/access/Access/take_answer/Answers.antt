@@ -1,12 +1,12 @@
-use Rattle.std.proofs.Common.{[], ◌≡◌, ◌<◌, ◌∙◌, length, take, refl, sym, ap, subst, append-nil}
+use Rattle.std.proofs.Common.{ℕ, [], ◌≡◌, ◌<◌, ◌∙◌, length, take, refl, sym, ap, subst, append-nil}
 use Rattle.std.specs.Prelude.{◌⊎◌, Ok, Err, slice_index_or}
 use Rattle.relay.specs.Relays.{relayed_down_in}
 use Rattle.udp.specs.History.{Failed, Took, with_entry}
 use Rattle.udp.specs.declared.history.Role.TheVariants as role
 use Rattle.access.specs.Access.{AccessValue, HasCarried, IsAccess}
 use Rattle.counts.specs.Counts.{counted}
-use Rattle.sockets.specs.Sockets.{client_port, framed}
-use Rattle.access.specs.Turn.{IsSentDown, RelaySocket, proto_of}
+use Rattle.sockets.specs.Sockets.{client_port, framed, proto_of}
+use Rattle.access.specs.Turn.{IsSentDown, RelaySocket}
 use Rattle.access.specs.contracts.access.Access.{the_view}
 use Rattle.access.specs.declared.access.Access.TheInside.{Inside}
 use Rattle.counts.specs.declared.counts.Counts.{Counts}
@@ -14,9 +14,30 @@ use Rattle.counts.specs.declared.counts.Outcome.{Outcome}
 use Rattle.counts.specs.declared.counts.Outcome.TheVariants as outcome
 use Rattle.access.proofs.AnswerLemmas.{went}
 use Rattle.access.proofs.CarryLemmas.{carried_idle, carried_taken}
-use Rattle.access.proofs.UpLemmas.{its_own, own_sockets, relays_own}
+use Rattle.access.proofs.UpLemmas.{circuits_own, relays_own}
 use Rattle.access.proofs.access.Access.take_answer.Goals.{in-Ok, in-Err}
 use Rattle.access.proofs.access.Access.take_answer.Goals as goal
+
+pub take-requires : goal.take-requires
+take-requires c =
+    let inside = c.self.inside in
+    let topology = inside.relays.topology in
+    let index = c.args.index in
+    let within : index < length topology.relays = subst (λ (s : AccessValue). index < length s.topology.relays) (sym c.self.view_is) c.requires in
+    let there : index < length inside.sockets.relays.items = subst (λ n. index < n) (sym c.self.invariant.3) within in
+    sym (relays_own topology inside.port inside.history.id inside.sockets c.self.invariant.6 index within there c.index-socket.result.now c.index-socket.ensures).1.history
+
+pub send_on-outcome-requires : goal.send_on-outcome-requires
+send_on-outcome-requires c =
+    let inside = c.self.inside in
+    c.take.ensures.same ∙ sym (circuits_own inside.relays.topology inside.port inside.history.id inside.sockets c.self.invariant.6 c.self.invariant.0 c.in-Ok.sent.0 c.in-Ok.ensures.exists c.index-in-Ok.result.now
+    (subst (λ n. c.index-in-Ok.result.now ≡ slice_index_or inside.sockets.circuits.items n c.index-in-Ok.result.now) c.index.ensures.value c.index-in-Ok.ensures)
+    c.proto_of-proto.result c.socket-from.result.now c.socket-from.ensures.v4 c.socket-from.ensures.v6).history
+
+pub invariant_of-self : goal.invariant_of-self
+invariant_of-self c =
+    let inside = c.self.inside in
+    subst (λ (h : ℕ). IsAccess inside.relays.topology inside.sockets inside.server inside.disk.regions inside.port h inside.listen4 inside.listen6) (sym c.take.ensures.same) c.self.invariant
 
 pub returns-in_default-clause-carried : goal.returns-in_default-clause-carried
 returns-in_default-clause-carried c =
@@ -34,9 +55,12 @@ returns-in_default-clause-carried c =
 pub invariant_of-self-2 : goal.invariant_of-self-2
 invariant_of-self-2 c =
     let P : Inside → Type 0 = λ (i : Inside). IsAccess i.relays.topology i.sockets i.server i.disk.regions i.port i.history.id i.listen4 i.listen6 in
+    let inside = c.self.inside in
+    let At : ℕ → Type 0 = λ h. IsAccess inside.relays.topology inside.sockets inside.server inside.disk.regions inside.port h inside.listen4 inside.listen6 in
+    let same : (h : ℕ) → h ≡ inside.history.id → At h = λ h is. subst At (sym is) c.self.invariant in
     let by : P c.match-down.self-inside = elim c.match-down.branch [
-      | in-Ok w ↦ subst P (sym w.self-inside-is) c.self.invariant
-      | in-Err w ↦ subst P (sym w.self-inside-is) c.self.invariant
+      | in-Ok w ↦ subst P (sym w.self-inside-is) (same w.send_on-outcome.new.history.id (w.send_on-outcome.ensures.same ∙ c.take.ensures.same))
+      | in-Err w ↦ subst P (sym w.self-inside-is) (same c.take.new.history.id c.take.ensures.same)
     ] in
     by
 
@@ -58,9 +82,9 @@ returns-clause-carried c =
       | in-Ok w ↦
           let sent = w.in-Ok.sent in
           let proto = proto_of sent.1 in
-          let own = own_sockets topology port inside.history.id inside.sockets c.self.invariant.6 c.self.invariant.0 sent.0 w.in-Ok.ensures.exists w.index-in-Ok.result.now
-          (subst (λ n. w.index-in-Ok.result.now ≡ slice_index_or inside.sockets.circuits.items n w.index-in-Ok.result.now) w.index.ensures.value w.index-in-Ok.ensures) in
-          let sender = (its_own topology.relays port inside.history.id sent.0 own.0 w.index-in-Ok.result.now w.proto_of-proto.result w.socket-from.result.now own.2 w.socket-from.ensures.v4 w.socket-from.ensures.v6).role
+          let sender = (circuits_own topology port inside.history.id inside.sockets c.self.invariant.6 c.self.invariant.0 sent.0 w.in-Ok.ensures.exists w.index-in-Ok.result.now
+          (subst (λ n. w.index-in-Ok.result.now ≡ slice_index_or inside.sockets.circuits.items n w.index-in-Ok.result.now) w.index.ensures.value w.index-in-Ok.ensures)
+          w.proto_of-proto.result w.socket-from.result.now w.socket-from.ensures.v4 w.socket-from.ensures.v6).role
           ∙ ap (role.Circuit sent.0) w.proto_of-proto.ensures in
           let to = w.client-to.ensures ∙ ap (client_port port sent.0) w.proto_of-proto.ensures in
           let bytes = w.as_slice-frame.ensures.value ∙ w.put_frame.ensures ∙ ap (framed sent.1) w.as_slice.ensures.value in

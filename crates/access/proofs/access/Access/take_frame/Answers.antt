@@ -1,4 +1,4 @@
-use Rattle.std.proofs.Common.{◌≡◌, ◌<◌, ◌∙◌, length, take, sym, ap, subst, rules}
+use Rattle.std.proofs.Common.{◌≡◌, ◌<◌, ◌∙◌, ℕ, length, take, sym, ap, subst, rules}
 use Rattle.std.specs.Prelude.{◌⊎◌, Some, slice_get}
 use Rattle.config.specs.Topology.{Topology, listen}
 use Rattle.relay.specs.Relays.{relayed_up}
@@ -10,8 +10,28 @@ use Rattle.access.specs.contracts.access.Access.{the_view}
 use Rattle.counts.specs.declared.counts.Outcome.TheVariants as outcome
 use Rattle.access.proofs.AnswerLemmas.{went}
 use Rattle.access.proofs.CarryLemmas.{carried_idle, carried_taken}
-use Rattle.access.proofs.UpLemmas.{its_own, own_sockets, relays_own, up_answer}
+use Rattle.access.proofs.UpLemmas.{circuits_own, own_sockets, relays_own, up_answer}
 use Rattle.access.proofs.access.Access.take_frame.Goals as goal
+
+pub take-requires : goal.take-requires
+take-requires c =
+    let inside = c.self.inside in
+    let within : c.args.index < length inside.relays.topology.circuits = subst (λ (s : AccessValue). c.args.index < length s.topology.circuits) (sym c.self.view_is) c.requires in
+    sym (circuits_own inside.relays.topology inside.port inside.history.id inside.sockets c.self.invariant.6 c.self.invariant.0 c.args.index within c.index-sockets.result.now c.index-sockets.ensures
+    c.args.proto c.socket-socket.result.now c.socket-socket.ensures.v4 c.socket-socket.ensures.v6).history
+
+pub send_on-outcome-requires : goal.send_on-outcome-requires
+send_on-outcome-requires c =
+    let inside = c.self.inside in
+    let relay = c.index.result.now.relay in
+    let its_relay : relay < length inside.sockets.relays.items = search rules in
+    c.take.ensures.same ∙ sym (relays_own inside.relays.topology inside.port inside.history.id inside.sockets c.self.invariant.6 relay (subst (λ n. relay < n) c.self.invariant.3 its_relay) its_relay
+    c.index-from.result.now c.index-from.ensures).1.history
+
+pub invariant_of-self : goal.invariant_of-self
+invariant_of-self c =
+    let inside = c.self.inside in
+    subst (λ (h : ℕ). IsAccess inside.relays.topology inside.sockets inside.server inside.disk.regions inside.port h inside.listen4 inside.listen6) (sym c.take.ensures.same) c.self.invariant
 
 pub returns-in_default-clause-carried : goal.returns-in_default-clause-carried
 returns-in_default-clause-carried c =
@@ -21,8 +41,8 @@ returns-in_default-clause-carried c =
     let proto = c.args.proto in
     let before : AccessValue = the_view inside in
     let within : index < length topology.circuits = subst (λ (s : AccessValue). index < length s.topology.circuits) (sym c.self.view_is) c.requires in
-    let own = own_sockets topology inside.port inside.history.id inside.sockets c.self.invariant.6 c.self.invariant.0 index within c.index-sockets.result.now c.index-sockets.ensures in
-    let its = (its_own topology.relays inside.port inside.history.id index own.0 c.index-sockets.result.now proto c.socket-socket.result.now own.2 c.socket-socket.ensures.v4 c.socket-socket.ensures.v6).role in
+    let its = (circuits_own topology inside.port inside.history.id inside.sockets c.self.invariant.6 c.self.invariant.0 index within c.index-sockets.result.now c.index-sockets.ensures
+    proto c.socket-socket.result.now c.socket-socket.ensures.v4 c.socket-socket.ensures.v6).role in
     subst (λ (old : AccessValue). HasCarried (CircuitSocket old.topology index proto) 0 old (record before { history = c.take.new.history.entries })) c.self.view_is
     (carried_idle (role.Circuit index proto) (λ from frame. IsSentUp topology index proto frame) before c.take.new.history.entries
     (subst (λ r. (c.take.new.history.entries ≡ inside.history.entries) ⊎ (c.take.new.history.entries ≡ with_entry (Failed r) inside.history.entries)) its c.in_default.ensures.none))
@@ -30,7 +50,8 @@ returns-in_default-clause-carried c =
 pub invariant_of-self-2 : goal.invariant_of-self-2
 invariant_of-self-2 c =
     let inside = c.self.inside in
-    subst (λ (t : Topology). IsAccess t inside.sockets inside.server inside.disk.regions inside.port inside.listen4 inside.listen6) (sym c.up-made.ensures.topology) c.self.invariant
+    subst (λ (t : Topology). IsAccess t inside.sockets inside.server inside.disk.regions inside.port c.send_on-outcome.new.history.id inside.listen4 inside.listen6) (sym c.up-made.ensures.topology)
+    (subst (λ (h : ℕ). IsAccess inside.relays.topology inside.sockets inside.server inside.disk.regions inside.port h inside.listen4 inside.listen6) (sym (c.send_on-outcome.ensures.same ∙ c.take.ensures.same)) c.self.invariant)
 
 pub returns-clause-carried : goal.returns-clause-carried
 returns-clause-carried c =
@@ -40,8 +61,8 @@ returns-clause-carried c =
     let proto = c.args.proto in
     let before : AccessValue = the_view inside in
     let within : index < length topology.circuits = subst (λ (s : AccessValue). index < length s.topology.circuits) (sym c.self.view_is) c.requires in
-    let own = own_sockets topology inside.port inside.history.id inside.sockets c.self.invariant.6 c.self.invariant.0 index within c.index-sockets.result.now c.index-sockets.ensures in
-    let its = (its_own topology.relays inside.port inside.history.id index own.0 c.index-sockets.result.now proto c.socket-socket.result.now own.2 c.socket-socket.ensures.v4 c.socket-socket.ensures.v6).role in
+    let its = (circuits_own topology inside.port inside.history.id inside.sockets c.self.invariant.6 c.self.invariant.0 index within c.index-sockets.result.now c.index-sockets.ensures
+    proto c.socket-socket.result.now c.socket-socket.ensures.v4 c.socket-socket.ensures.v6).role in
     let relays = own_sockets topology inside.port inside.history.id inside.sockets c.self.invariant.6 c.self.invariant.0 index within c.index.result.now c.index.ensures in
     let relay = c.index.result.now.relay in
     let its_relay : relay < length inside.sockets.relays.items = search rules in

@@ -35,7 +35,7 @@ returns-clause-turned c =
       ticked = ticked (λ region. untold) c.args.now (circuits_in c.tick.new.self) (circuits_in c.self.inside.server) (c.tick.ensures.leases (λ region. untold))
           ∙ ap (λ (s : AccessValue). books_at c.args.now (books_in s.server)) c.self.view_is;
       counts = ap (λ (s : AccessValue). s.counts) c.self.view_is;
-      history = c.tick-2.ensures ∙ ap (λ (s : AccessValue). with_entry (Ticked c.args.now) s.history) c.self.view_is;
+      history = c.tick-2.ensures.entries ∙ ap (λ (s : AccessValue). with_entry (Ticked c.args.now) s.history) c.self.view_is;
       many = refl;
     }
 
