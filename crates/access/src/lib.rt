@@ -9,6 +9,6 @@ pub use access::{Access, AccessFault};
 pub use clock::moment_of;
 pub use command_line::accessd_words::{AccessWords, words};
 pub use counts::{Counts, Outcome};
-pub use opening::{DeviceFault, device_of, format_device, open_device};
-pub use sockets::{MAX_SERVED, Warning, warn};
+pub use opening::{DeviceFault, device_of};
+pub use sockets::{Warning, warn};
 pub use udp::History;
