@@ -3,7 +3,7 @@ use Rattle.std.proofs.Common.{◌≡◌, ◌∙◌, ℕ, List, ap, subst}
 use Rattle.std.specs.Prelude.{Result, Ok, Err}
 use Rattle.types.specs.declared.addr.Source.{Source}
 use Rattle.types.specs.declared.discard.Discard.{Discard}
-use Rattle.dispatch.specs.Received.{IsAnswer}
+use Rattle.circuit_server.specs.Answered.{IsAnswer}
 use Rattle.udp.specs.History.{Entry}
 use Rattle.udp.specs.declared.history.Role.{Role}
 use Rattle.access.specs.Turn.{HasSentOn, with_bytes}

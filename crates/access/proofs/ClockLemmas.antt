@@ -2,9 +2,9 @@
 use Rattle.std.proofs.Common.{◌≡◌, ◌≤◌, ℕ, zero, suc, max, List, [], ◌∷◌, map, drop, get_or, refl, ap, ap₂, subst, arith}
 use Rattle.std.specs.Prelude.{Option, Some, None, option_map, slice_get}
 use Rattle.std.proofs.lemmas.Option.{same_Some}
-use Rattle.dispatch.specs.Leases.{Leases, after_tick}
-use Rattle.dispatch.specs.Server.{Book, book_at}
-use Rattle.dispatch.specs.ServerValue.{CircuitServerValue, book_of, leases_of}
+use Rattle.circuit_server.specs.Leases.{Leases, after_tick}
+use Rattle.circuit_server.specs.Server.{Book, book_at}
+use Rattle.circuit_server.specs.CircuitServerValue.{CircuitServerValue, book_of, leases_of}
 use Rattle.lease_disk.specs.Region.{Region}
 use Rattle.access.specs.Access.{books_at}
 

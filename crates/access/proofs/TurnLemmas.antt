@@ -7,8 +7,9 @@ use Rattle.types.specs.declared.discard.Discard.{Discard}
 use Rattle.config.specs.CircuitPart.{CircuitPart}
 use Rattle.config.specs.Topology.{Topology}
 use Rattle.requests.specs.Addressee.{addressee}
-use Rattle.dispatch.specs.Received.{addressee_answered, answered, circuit_answered}
-use Rattle.dispatch.specs.Server.{Book}
+use Rattle.dispatch.specs.Received.{addressee_answered, circuit_answered}
+use Rattle.circuit_server.specs.Answered.{answered}
+use Rattle.circuit_server.specs.Server.{Book}
 use Rattle.dispatch.specs.ServerValue.{ServerValue, books_in}
 use Rattle.udp.specs.History.{Entry}
 use Rattle.udp.specs.declared.history.Role.TheVariants as role

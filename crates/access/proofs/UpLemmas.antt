@@ -8,7 +8,7 @@ use Rattle.types.specs.declared.dest.Proto.TheVariants.{V4, V6}
 use Rattle.types.specs.declared.discard.Discard.{Discard}
 use Rattle.config.specs.CircuitPart.{CircuitPart}
 use Rattle.config.specs.Topology.{Topology, listen}
-use Rattle.dispatch.specs.Received.{IsAnswer}
+use Rattle.circuit_server.specs.Answered.{IsAnswer}
 use Rattle.relay.specs.Relays.{relayed_up}
 use Rattle.udp.specs.Socket.{SocketValue}
 use Rattle.udp.specs.declared.history.Role.TheVariants as role

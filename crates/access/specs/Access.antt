@@ -5,9 +5,9 @@ use Rattle.types.specs.declared.addr.Source.{Source}
 use Rattle.types.specs.declared.dest.Proto.{Proto}
 use Rattle.types.specs.declared.dest.Proto.TheVariants.{V4, V6}
 use Rattle.lease_disk.specs.FileDisk.{FileDiskValue}
-use Rattle.dispatch.specs.Leases.{HasRegions}
+use Rattle.dispatch.specs.Regions.{HasRegions}
 use Rattle.dispatch.specs.Received.{Received, received}
-use Rattle.dispatch.specs.Server.{Book, book_at}
+use Rattle.circuit_server.specs.Server.{Book, book_at}
 use Rattle.dispatch.specs.ServerValue.{ServerValue, books_in}
 use Rattle.config.specs.Topology.{Topology, serves}
 use Rattle.udp.specs.History.{Entry, Ticked, with_entry}

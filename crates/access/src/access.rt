@@ -7,7 +7,7 @@ ghost use Rattle.sockets.specs.Sockets.{IsSocket, WasRefused};
 ghost use Rattle.access.specs.Turn.{CircuitSocket, CircuitsSockets, RelaySocket, RelaysSockets};
 ghost use Rattle.access.specs.declared.access.AccessFault.TheVariants as fault;
 ghost use Rattle.config.specs.CircuitPart.{parts_of};
-ghost use Rattle.dispatch.specs.Leases.{HasRegions};
+ghost use Rattle.dispatch.specs.Regions.{HasRegions};
 ghost use Rattle.dispatch.specs.ServerValue.{books_in};
 ghost use Rattle.config.specs.Topology.{listen, topology_of};
 

@@ -1,7 +1,7 @@
 //! Relays and server without the network between them.
 ghost use Rattle.std.specs.Prelude.{◌≡◌, length};
 ghost use Rattle.config.specs.Topology.{topology_of};
-ghost use Rattle.dispatch.specs.Leases.{HasRegions};
+ghost use Rattle.dispatch.specs.Regions.{HasRegions};
 
 use crate::unknown_disk::UnknownDisk;
 use config::Config;

@@ -5,8 +5,9 @@ use Rattle.std.proofs.lemmas.List.{length-replicate}
 use Rattle.std.proofs.lemmas.Option.{get_or_from_slice_get}
 use Rattle.config.specs.CircuitPart.{CircuitPart}
 use Rattle.timers.specs.Deadlines.{DeadlinesValue}
-use Rattle.dispatch.specs.Deadlines.{HasDeadlines, HoldsDeadlines}
-use Rattle.dispatch.specs.ServerValue.{HasItsPools, OpenCircuitValue, with_states}
+use Rattle.circuit_server.specs.Deadlines.{HasDeadlines}
+use Rattle.dispatch.specs.ServerValue.{HoldsDeadlines, with_states}
+use Rattle.circuit_server.specs.CircuitServerValue.{HasItsPools, OpenCircuitValue}
 use Rattle.dispatch.proofs.RestartLemmas.{all_with}
 use Rattle.dispatch.proofs.WithStates.{server}
 

@@ -1,11 +1,8 @@
-pub mod AnswerLemmas
 pub mod ClosedLemmas
-pub mod ComeBackLemmas
-pub mod DeadlineLemmas
+pub mod HeldDeadlines
 pub mod ReceivedLemmas
 pub mod RegionLemmas
 pub mod RestartLemmas
-pub mod SaveLemmas
 pub mod ServerLemmas
 pub mod TickLemmas
 pub mod TurnedLemmas

@@ -5,9 +5,10 @@ use Rattle.types.specs.Delivery.{DeliveryValue}
 use Rattle.config.specs.CircuitPart.{CircuitPart}
 use Rattle.config.specs.Topology.{Topology}
 use Rattle.requests.specs.Addressee.{addressee}
-use Rattle.dispatch.specs.Leases.{Leases, leases_with, addressee_leases, received_leases, after_datagram}
-use Rattle.dispatch.specs.Received.{received, with_answered, answered, circuit_answered, addressee_answered, circuit_saves, addressee_saves, received_saves}
-use Rattle.dispatch.specs.Server.{Book}
+use Rattle.circuit_server.specs.Leases.{Leases, after_datagram}
+use Rattle.dispatch.specs.Received.{addressee_answered, addressee_leases, addressee_saves, circuit_answered, leases_with, received, received_leases, received_saves, with_answered}
+use Rattle.circuit_server.specs.Answered.{answered, circuit_saves}
+use Rattle.circuit_server.specs.Server.{Book}
 
 module _ (topology : Topology) (d : DeliveryValue) (c : ℕ) (part : CircuitPart)
     (found : addressee topology d ≡ Ok c) (there : slice_get topology.circuits c ≡ Some part) where

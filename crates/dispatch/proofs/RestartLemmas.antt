@@ -7,9 +7,11 @@ use Rattle.config.specs.CircuitPart.{CircuitPart}
 use Rattle.config.specs.Topology.{RegionsDiffer}
 use Rattle.lease_disk.specs.Device.{Device, ChangesOne}
 use Rattle.lease_disk.specs.Region.{Region}
-use Rattle.dispatch.specs.Leases.{AreBroughtUp, IsBroughtUp, KeepsOthers, counts_of, found_leases, region_leases}
-use Rattle.dispatch.specs.ServerValue.{CircuitServerValue, IsReady, IsReadyFor, OpenCircuitValue, leases_of, with_states}
-use Rattle.dispatch.specs.Ticked.{state_of}
+use Rattle.circuit_server.specs.Leases.{IsBroughtUp, counts_of, found_leases, region_leases}
+use Rattle.dispatch.specs.Regions.{AreBroughtUp, KeepsOthers}
+use Rattle.circuit_server.specs.CircuitServerValue.{CircuitServerValue, IsReady, IsReadyFor, OpenCircuitValue, leases_of}
+use Rattle.dispatch.specs.ServerValue.{with_states}
+use Rattle.circuit_server.specs.Ticked.{state_of}
 use Rattle.dispatch.proofs.WithStates.{at_index, get_with, server, size_with, there_is}
 
 -- what holds of each part with its state

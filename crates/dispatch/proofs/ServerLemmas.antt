@@ -7,8 +7,8 @@ use Rattle.std.proofs.lemmas.Option.{same_Some, none-some, slice_get-map, slice_
 use Rattle.std.proofs.lemmas.List.Elements.{All-nil, All-cons, All-head, All-tail}
 use Rattle.lease_disk.specs.Region.{Region}
 use Rattle.config.specs.CircuitPart.{CircuitPart}
-use Rattle.dispatch.specs.Leases.{Leases}
-use Rattle.dispatch.specs.ServerValue.{CircuitServerValue, book_of, leases_of, part_of}
+use Rattle.circuit_server.specs.Leases.{Leases}
+use Rattle.circuit_server.specs.CircuitServerValue.{CircuitServerValue, book_of, leases_of, part_of}
 use Rattle.std.proofs.lemmas.List.{length-map, length-take-le, map-append, get_or-map, take_more}
 use Rattle.std.proofs.Math.Seq.{take-append_seam, drop-cons, get_or-append_seam}
 

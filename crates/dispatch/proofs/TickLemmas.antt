@@ -15,13 +15,14 @@ use Rattle.bindings_v4.proofs.ShownLemmas.{at_later as at_later4}
 use Rattle.bindings_v6.specs.Slots6 as slots6
 use Rattle.bindings_v6.proofs.KeptLemmas.{form6}
 use Rattle.bindings_v6.proofs.ShownLemmas.{at_later as at_later6}
-use Rattle.dispatch.specs.Deadlines.{HasDeadlines, HoldsDeadlines, swept}
-use Rattle.dispatch.specs.Leases.{after_tick, formats_of, restarts_of}
-use Rattle.dispatch.specs.Server.{book_at}
-use Rattle.dispatch.specs.ServerValue.{CircuitServerValue, HasItsPools, IsReady, IsReadyFor, OpenCircuitValue, leases_of, open_book, with_states}
-use Rattle.dispatch.specs.Ticked.{IsLater, open_at, state_at, state_of}
-use Rattle.dispatch.proofs.DeadlineLemmas.{stays_closed, stays_held}
-use Rattle.dispatch.proofs.SaveLemmas.{later_ready}
+use Rattle.circuit_server.specs.Deadlines.{HasDeadlines, swept}
+use Rattle.dispatch.specs.ServerValue.{HoldsDeadlines, with_states}
+use Rattle.circuit_server.specs.Leases.{after_tick, formats_of, restarts_of}
+use Rattle.circuit_server.specs.Server.{book_at}
+use Rattle.circuit_server.specs.CircuitServerValue.{CircuitServerValue, HasItsPools, IsReady, IsReadyFor, OpenCircuitValue, leases_of, open_book}
+use Rattle.circuit_server.specs.Ticked.{IsLater, open_at, state_at, state_of}
+use Rattle.circuit_server.proofs.DeadlineLemmas.{stays_closed, stays_held}
+use Rattle.circuit_server.proofs.SaveLemmas.{later_ready}
 use Rattle.dispatch.proofs.WithStates.{server}
 
 -- ---- the clock of a circuit is moved

@@ -12,13 +12,15 @@ use Rattle.lease_disk.specs.Region.{Region}
 use Rattle.timers.specs.Deadlines.{DeadlinesValue, deadline}
 use Rattle.bindings_v4.proofs.OfferLemmas.{same_kept, shown_without}
 use Rattle.bindings_v6.specs.Slots6 as slots6
-use Rattle.dispatch.specs.Deadlines.{HasDeadlines, HoldsDeadlines, SameBeside, held_in}
-use Rattle.dispatch.specs.Leases.{Leases, formats_of, restarts_of, turned}
-use Rattle.dispatch.specs.Server.{kept_book}
-use Rattle.dispatch.specs.ServerValue.{CircuitServerValue, HasItsPools, IsReady, IsReadyFor, OpenCircuitValue, leases_of, open_book, with_states}
-use Rattle.dispatch.specs.Ticked.{IsLater, state_of}
-use Rattle.dispatch.specs.Turned.{AreTurned, state_turned, state_unoffered}
-use Rattle.dispatch.proofs.DeadlineLemmas.{one_held, sides}
+use Rattle.circuit_server.specs.Deadlines.{HasDeadlines, SameBeside, held_in}
+use Rattle.dispatch.specs.ServerValue.{HoldsDeadlines, with_states}
+use Rattle.circuit_server.specs.Leases.{Leases, formats_of, restarts_of, turned}
+use Rattle.circuit_server.specs.Server.{kept_book}
+use Rattle.circuit_server.specs.CircuitServerValue.{CircuitServerValue, HasItsPools, IsReady, IsReadyFor, OpenCircuitValue, leases_of, open_book}
+use Rattle.circuit_server.specs.Ticked.{IsLater, state_of}
+use Rattle.circuit_server.specs.Unoffered.{state_unoffered}
+use Rattle.dispatch.specs.Turned.{AreTurned, state_turned}
+use Rattle.dispatch.proofs.HeldDeadlines.{one_held, sides}
 use Rattle.dispatch.proofs.RestartLemmas.{all_with}
 use Rattle.dispatch.proofs.TickLemmas.{own_state}
 use Rattle.dispatch.proofs.WithStates.{at_index, server, there_with}

@@ -3,7 +3,8 @@ use Rattle.std.proofs.Common.{◌≡◌, ℕ, zero, suc, ◌<◌, List, [], ◌�
 use Rattle.std.specs.Prelude.{All, Option, Some, slice_get}
 use Rattle.std.proofs.lemmas.Option.{get_or_from_slice_get, same_Some, slice_get-get_or, slice_get_within}
 use Rattle.config.specs.CircuitPart.{CircuitPart}
-use Rattle.dispatch.specs.ServerValue.{CircuitServerValue, OpenCircuitValue, part_of, with_states}
+use Rattle.circuit_server.specs.CircuitServerValue.{CircuitServerValue, OpenCircuitValue, part_of}
+use Rattle.dispatch.specs.ServerValue.{with_states}
 
 -- within a list there is an element
 pub there_is : {X : Type 0} (xs : List X) (i : ℕ) → i < length xs → (x : X) × (slice_get xs i ≡ Some x)

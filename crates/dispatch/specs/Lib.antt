@@ -1,8 +1,4 @@
-pub mod CircuitDecision
-pub mod Deadlines
-pub mod Leases
 pub mod Received
-pub mod Server
+pub mod Regions
 pub mod ServerValue
-pub mod Ticked
 pub mod Turned

@@ -1,33 +1,14 @@
 -- What the server makes of any datagram.
-use Rattle.std.specs.Prelude.{◌≡◌, ℕ, ◌==◌, ◌&&◌, Bool, not, false, List, [], Option, Some, None, slice_get, slice_set, Result, Ok, Err, if◌then◌else◌}
+use Rattle.std.specs.Prelude.{ℕ, Bool, List, Option, Some, None, slice_get, slice_set, Result, Ok, Err}
 use Rattle.types.specs.Delivery.{DeliveryValue}
 use Rattle.types.specs.declared.discard.Discard.{Discard}
-use Rattle.types.specs.declared.discard.Discard.TheVariants.{UnknownCircuit, CircuitClosed, DiskFault}
-use Rattle.lease_disk.specs.Region.{effective}
+use Rattle.types.specs.declared.discard.Discard.TheVariants.{UnknownCircuit}
 use Rattle.config.specs.CircuitPart.{CircuitPart}
 use Rattle.config.specs.Topology.{Topology}
 use Rattle.requests.specs.Addressee.{addressee}
-use Rattle.dispatch.specs.Server.{Book, Served, served}
-
--- ---- one circuit
-
--- The reply's datagram, or why there is none; and the book after it, None where the circuit is closed.
-pub record Answered : Type 0 where
-  pub answer : Result (List ℕ) Discard
-  pub book : Option Book
-
--- A reply leaves after the save, and a save that fails closes the circuit.
-abbrev pub after_save : Bool → Served → Answered
-after_save fails done =
-    if done.is_kept && fails then record { answer = Err DiskFault; book = None }
-    else record { answer = done.answer; book = Some done.book }
-
--- A datagram of a circuit, where its save fails or does not. A closed circuit answers nothing.
-abbrev pub answered : CircuitPart → DeliveryValue → Bool → Option Book → Answered
-answered part d fails None = record { answer = Err CircuitClosed; book = None }
-answered part d fails (Some b) = after_save fails (served part d b)
-
--- ---- all circuits
+use Rattle.circuit_server.specs.Answered.{Answered, answered, circuit_saves}
+use Rattle.circuit_server.specs.Leases.{Leases, after_datagram}
+use Rattle.circuit_server.specs.Server.{Book}
 
 pub record Received : Type 0 where
   pub answer : Result (List ℕ) Discard
@@ -54,14 +35,6 @@ received topology d fails books = addressee_answered topology d fails books (add
 
 -- ---- what is written
 
--- the region of a circuit, where something is saved
-abbrev pub saves : CircuitPart → Served → Option ℕ
-saves part done = if done.is_kept then Some part.region else None
-
-abbrev pub circuit_saves : DeliveryValue → Option CircuitPart → Option (Option Book) → Option ℕ
-circuit_saves d (Some part) (Some (Some b)) = saves part (served part d b)
-circuit_saves d part book = None
-
 abbrev pub addressee_saves : Topology → DeliveryValue → List (Option Book) → Result ℕ Discard → Option ℕ
 addressee_saves topology d books (Err why) = None
 addressee_saves topology d books (Ok c) = circuit_saves d (slice_get topology.circuits c) (slice_get books c)
@@ -70,13 +43,17 @@ addressee_saves topology d books (Ok c) = circuit_saves d (slice_get topology.ci
 abbrev pub received_saves : Topology → DeliveryValue → List (Option Book) → Option ℕ
 received_saves topology d books = addressee_saves topology d books (addressee topology d)
 
--- Whether a save to this region fails, where `faults` says for each region which of the device's next calls
--- fails.
-abbrev pub fails_at : (ℕ → ℕ) → Option ℕ → Bool
-fails_at faults None = false
-fails_at faults (Some region) = not (effective 6 (faults region) == 0)
+-- ---- the leases of all circuits
 
--- A result with what `out` then holds is this answer.
-abbrev pub IsAnswer : Result (List ℕ) Discard → Result (Unit {0}) Discard → List ℕ → Type 0
-IsAnswer (Ok bytes) result out = (result ≡ Ok tt) × (out ≡ bytes)
-IsAnswer (Err why) result out = (result ≡ Err why) × (out ≡ [])
+abbrev pub leases_with : ℕ → DeliveryValue → (ℕ → ℕ) → List Leases → Option CircuitPart → Option Leases → List Leases
+leases_with c d faults all (Some part) (Some l) = slice_set all c (after_datagram part d (faults part.region) l)
+leases_with c d faults all part l = all
+
+abbrev pub addressee_leases : Topology → DeliveryValue → (ℕ → ℕ) → List Leases → Result ℕ Discard → List Leases
+addressee_leases topology d faults all (Err why) = all
+addressee_leases topology d faults all (Ok c) = leases_with c d faults all (slice_get topology.circuits c) (slice_get all c)
+
+-- Only the leases of the datagram's circuit change. `faults` says for each region which of the device's
+-- next calls fails.
+abbrev pub received_leases : Topology → DeliveryValue → (ℕ → ℕ) → List Leases → List Leases
+received_leases topology d faults all = addressee_leases topology d faults all (addressee topology d)

@@ -1,24 +1,17 @@
 -- Circuits that turn off: the plan in force has them, and the one that comes into force has not. Only proofs need this.
-use Rattle.std.specs.Prelude.{◌≡◌, ℕ, ◌+◌, ◌*◌, ◌<◌, ◌&&◌, not, Bool, true, false, List, length, Option, option_map}
+use Rattle.std.specs.Prelude.{◌≡◌, ℕ, ◌+◌, ◌*◌, ◌<◌, ◌&&◌, not, Bool, true, false, List, length, Option}
 use Rattle.config.specs.Membership.{has}
 use Rattle.config.specs.Topology.{Topology, serves}
 use Rattle.timers.specs.Deadlines.{DeadlinesValue, deadline}
-use Rattle.bindings_v4.specs.Slots4.{without_offers}
-use Rattle.dispatch.specs.Deadlines.{HoldsDeadlines, held_in}
-use Rattle.dispatch.specs.ServerValue.{OpenCircuitValue}
-use Rattle.dispatch.specs.Ticked.{state_of}
+use Rattle.circuit_server.specs.Deadlines.{held_in}
+use Rattle.dispatch.specs.ServerValue.{HoldsDeadlines}
+use Rattle.circuit_server.specs.CircuitServerValue.{OpenCircuitValue}
+use Rattle.circuit_server.specs.Ticked.{state_of}
+use Rattle.circuit_server.specs.Unoffered.{state_unoffered}
 
 -- whether a circuit turns off when this plan comes into force
 abbrev pub turns_off : Topology → ℕ → ℕ → Bool
 turns_off topology plan c = serves topology c && not (has topology.plans plan c)
-
--- an open circuit without its offers
-abbrev pub open_unoffered : OpenCircuitValue → OpenCircuitValue
-open_unoffered o = record o { four = record o.four { slots = without_offers o.four.slots } }
-
--- the same of a circuit, which may be closed
-abbrev pub state_unoffered : Option OpenCircuitValue → Option OpenCircuitValue
-state_unoffered state = option_map open_unoffered state
 
 -- what a circuit has afterwards, by whether it turned off
 abbrev pub state_turned : Bool → Option OpenCircuitValue → Option OpenCircuitValue

@@ -3,17 +3,20 @@ ghost use Rattle.std.specs.Prelude.{◌≡◌, ◌<◌, ◌≤◌, ◌+◌, ◌*
 ghost use Rattle.config.specs.CircuitPart as parts;
 ghost use Rattle.config.specs.CircuitPart.{IsPart};
 ghost use Rattle.config.specs.Topology.{RegionsDiffer};
-ghost use Rattle.dispatch.specs.Deadlines.{HasDeadlines, HoldsDeadlines, SameBeside, held_in};
-ghost use Rattle.dispatch.specs.Leases.{AreBroughtUp, AreSynced, HasRegions, KeepsOthers, after_datagram, found_leases};
-ghost use Rattle.dispatch.specs.Received.{IsAnswer, answered, circuit_saves, fails_at};
+ghost use Rattle.circuit_server.specs.Deadlines.{HasDeadlines, SameBeside, held_in};
+ghost use Rattle.dispatch.specs.ServerValue.{HoldsDeadlines, with_states};
+ghost use Rattle.circuit_server.specs.Leases.{after_datagram, found_leases};
+ghost use Rattle.dispatch.specs.Regions.{AreBroughtUp, AreSynced, HasRegions, KeepsOthers};
+ghost use Rattle.circuit_server.specs.Answered.{IsAnswer, answered, circuit_saves, fails_at};
 ghost use Rattle.requests.specs.RelayedMessage.{IsRelayedMessage};
-ghost use Rattle.dispatch.specs.ServerValue.{HasItsPools, HasPools, IsReady, IsReadyFor, leases_of, open_book, with_states};
-ghost use Rattle.dispatch.specs.Ticked.{state_at, state_of};
-ghost use Rattle.dispatch.specs.Turned.{AreTurned, state_unoffered, turns_off};
+ghost use Rattle.circuit_server.specs.CircuitServerValue.{HasItsPools, HasPools, IsReady, IsReadyFor, leases_of, open_book};
+ghost use Rattle.circuit_server.specs.Ticked.{state_at, state_of};
+ghost use Rattle.circuit_server.specs.Unoffered.{state_unoffered};
+ghost use Rattle.dispatch.specs.Turned.{AreTurned, turns_off};
 ghost use Rattle.lease_disk.specs.Device.{Touches, WritesAt};
 ghost use Rattle.timers.specs.Deadlines.{deadline};
 
-use crate::circuit_server::CircuitServer;
+use circuit_server::CircuitServer;
 use config::{CircuitPart, Circuits};
 use lease_disk::Disk;
 use requests::RelayedMessage;
@@ -36,8 +39,8 @@ pub(crate) struct CircuitServers {
 
 impl Model for CircuitServers {
     ghost use Rattle.std.specs.Prelude.{List, Option, map};
-    ghost use Rattle.dispatch.specs.ServerValue.{OpenCircuitValue};
-    ghost use Rattle.dispatch.specs.Ticked.{state_at};
+    ghost use Rattle.circuit_server.specs.CircuitServerValue.{OpenCircuitValue};
+    ghost use Rattle.circuit_server.specs.Ticked.{state_at};
 
     ghost Value = { List (Option OpenCircuitValue) };
 

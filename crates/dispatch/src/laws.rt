@@ -5,7 +5,7 @@ ghost use Rattle.types.specs.declared.dest.Proto.TheVariants.{V4, V6};
 ghost use Rattle.bindings_v4.specs.Book4 as book4;
 ghost use Rattle.bindings_v6.specs.Book6 as book6;
 ghost use Rattle.config.specs.CircuitPart.{CircuitPart, IsPart};
-ghost use Rattle.dispatch.specs.Server.{Book, IsBook, book_at, kept_book, served};
+ghost use Rattle.circuit_server.specs.Server.{Book, IsBook, book_at, kept_book, served};
 
 /// A server begins with a book, and a book it stays, whatever moment passes and whatever datagram is
 /// served: every entry is live, no address is named twice, and no client has both a binding and an

@@ -3,10 +3,13 @@ ghost use Rattle.std.specs.Prelude.{◌≡◌, ◌<◌, ◌≤◌, ◌+◌, ◌*
 ghost use Rattle.config.specs.CircuitPart.{parts_of};
 ghost use Rattle.config.specs.Topology.{IsTopology, plans_topology, reloaded, serves, topology_of};
 ghost use Rattle.requests.specs.Addressee as who;
-ghost use Rattle.dispatch.specs.Deadlines.{HoldsDeadlines, held_in};
-ghost use Rattle.dispatch.specs.Leases.{AreBroughtUp, AreSynced, HasRegions, KeepsOthers, Leases, after_tick, found_leases, received_leases, turned};
-ghost use Rattle.dispatch.specs.Received.{IsAnswer, fails_at, received, received_saves};
-ghost use Rattle.dispatch.specs.ServerValue.{AreReady, OpenCircuitValue, books_in, leases_in};
+ghost use Rattle.circuit_server.specs.Deadlines.{held_in};
+ghost use Rattle.dispatch.specs.ServerValue.{AreReady, HoldsDeadlines, books_in, leases_in};
+ghost use Rattle.circuit_server.specs.Leases.{Leases, after_tick, found_leases, turned};
+ghost use Rattle.dispatch.specs.Regions.{AreBroughtUp, AreSynced, HasRegions, KeepsOthers};
+ghost use Rattle.dispatch.specs.Received.{received, received_leases, received_saves};
+ghost use Rattle.circuit_server.specs.Answered.{IsAnswer, fails_at};
+ghost use Rattle.circuit_server.specs.CircuitServerValue.{OpenCircuitValue};
 ghost use Rattle.dispatch.specs.declared.server.OpenFault.TheVariants as fault;
 ghost use Rattle.lease_disk.specs.Device.{WritesAt};
 ghost use Rattle.types.specs.Delivery.{delivery};
@@ -50,8 +53,7 @@ pub struct Server {
 
 impl Model for Server {
     ghost use Rattle.std.specs.Prelude.{◌≡◌, length};
-    ghost use Rattle.dispatch.specs.Deadlines.{HoldsDeadlines};
-    ghost use Rattle.dispatch.specs.ServerValue.{IsServer, ServerValue};
+    ghost use Rattle.dispatch.specs.ServerValue.{HoldsDeadlines, IsServer, ServerValue};
 
     ghost Value = { ServerValue };
 

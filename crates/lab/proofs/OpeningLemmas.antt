@@ -1,7 +1,7 @@
 -- What an opening makes of a region depends on the region's 32768 bytes alone.
 use Rattle.std.proofs.Common.{◌≡◌, ℕ, ◌+◌, ◌<◌, Bool, true, false, List, refl, sym, ap, ◌∙◌, arith}
 use Rattle.std.specs.Prelude.{◌==◌, Option, Some, option_map}
-use Rattle.dispatch.specs.Leases.{book_in, counts_of}
+use Rattle.circuit_server.specs.Leases.{book_in, counts_of}
 use Rattle.lease_disk.specs.Layout.{half_at, half2, is_format2}
 use Rattle.lease_disk.specs.Recovered.{recovered, slot4_of, slot6_of, entry_of}
 use Rattle.lease_disk.specs.declared.half.Half.{Half}

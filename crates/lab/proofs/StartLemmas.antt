@@ -7,7 +7,7 @@ use Rattle.config.specs.Plans.{PlansValue}
 use Rattle.config.specs.Topology.{plans_topology}
 use Rattle.settings.specs.Settings.{Settings}
 use Rattle.settings.specs.declared.settings.CircuitConfig.{CircuitConfig}
-use Rattle.dispatch.specs.Leases.{AreSynced, HasRegions}
+use Rattle.dispatch.specs.Regions.{AreSynced, HasRegions}
 use Rattle.dispatch.specs.declared.server.OpenFault.{OpenFault}
 use Rattle.dispatch.specs.declared.server.OpenFault.TheVariants.{Memory, DiskTooSmall}
 use Rattle.lease_disk.specs.Device.{Device}

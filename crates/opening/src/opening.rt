@@ -3,7 +3,7 @@ ghost use Rattle.std.specs.Prelude.{◌≡◌, ◌≤◌, ◌+◌, ◌*◌, true
 ghost use Rattle.opening.specs.Opening.{format_of, formats_of};
 ghost use Rattle.config.specs.CircuitPart.{parts_of};
 ghost use Rattle.config.specs.Topology.{topology_of};
-ghost use Rattle.dispatch.specs.Leases.{AreSynced, HasRegions};
+ghost use Rattle.dispatch.specs.Regions.{AreSynced, HasRegions};
 ghost use Rattle.dispatch.specs.ServerValue.{AreReady};
 ghost use Rattle.dispatch.specs.declared.server.OpenFault.TheVariants as fault;
 ghost use Rattle.lease_disk.specs.Device.{TouchesNothing};

@@ -6,8 +6,8 @@ use Rattle.types.specs.declared.dest.Proto.TheVariants.{V4, V6}
 use Rattle.slots.specs.Maps.{Lease}
 use Rattle.config.specs.CircuitPart.{CircuitPart}
 use Rattle.config.specs.Plans.{ArePlans, PlansValue}
-use Rattle.dispatch.specs.Leases.{recovered_book}
-use Rattle.dispatch.specs.Server.{Book}
+use Rattle.circuit_server.specs.Leases.{recovered_book}
+use Rattle.circuit_server.specs.Server.{Book}
 use Rattle.lease_disk.specs.Layout.{is_format2}
 use Rattle.events.specs.Seen.{Seen}
 use Rattle.world.specs.Alone.{Alone, Setup, after_all, unsent}

@@ -14,7 +14,7 @@ use Rattle.slots.specs.Maps.{Lease, Clients, is_live, passes, live_clients, live
 use Rattle.slots.proofs.ShownLemmas.{keep, get-live_clients, get-live_bars}
 use Rattle.bindings_v6.specs.Book6.{book6_at, empty_book}
 use Rattle.bindings_v4.specs.Book4.{in_pool, is_free, book4_at}
-use Rattle.dispatch.specs.Server.{book_at}
+use Rattle.circuit_server.specs.Server.{book_at}
 use Rattle.promises.specs.Examples.{one_offer, offers_at}
 
 pub same_bytes : IsAntisymmetric (slice_cmp nat_cmp)

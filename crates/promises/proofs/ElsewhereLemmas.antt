@@ -38,7 +38,7 @@ use Rattle.relay.specs.Down4.{addressed_frame4, relayed_down4}
 use Rattle.relay.specs.Down6.{addressed_frame6, relayed_down6}
 use Rattle.requests.specs.Request4.{request4_in}
 use Rattle.requests.specs.Request6.{request6_in}
-use Rattle.dispatch.specs.Server.{Book, Served, book_at, kept_book, served, datagram_served, decision4_served, decision6_served, forward_served, message4_served, message6_served, reply4_to, reply6_to, request4_served, request6_served}
+use Rattle.circuit_server.specs.Server.{Book, Served, book_at, kept_book, served, datagram_served, decision4_served, decision6_served, forward_served, message4_served, message6_served, reply4_to, reply6_to, request4_served, request6_served}
 use Rattle.lossy_net.specs.Net.{Datagram}
 use Rattle.events.specs.Seen.{Seen, Frame, Up, Down, Tick, Restart, Turn}
 use Rattle.world.specs.Alone.{Alone, Setup, Dropped, alone_step, answer_step, book_step, delivery_of, down_step, frame_step, frames, if_on, is_fault, reply_step, sent_frame, served_step, up_step}

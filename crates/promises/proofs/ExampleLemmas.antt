@@ -22,7 +22,7 @@ use Rattle.bindings_v4.specs.Book4.{Book4, in_pool, lowest_free}
 use Rattle.bindings_v4.specs.Table4.{Decision, answer4, discover_row as row, selecting_row, where_is, with_change, is_kept}
 use Rattle.config.specs.CircuitPart.{pool4_of}
 use Rattle.requests.specs.Request4.{request4_in}
-use Rattle.dispatch.specs.Server.{Book, Served, book_at, served, drop, decision4_served, message4_served, request4_served}
+use Rattle.circuit_server.specs.Server.{Book, Served, book_at, served, drop, decision4_served, message4_served, request4_served}
 use Rattle.relay.specs.SentFrame.{SentFrame}
 use Rattle.relay.specs.Up4.{relayed_up4}
 use Rattle.relay.specs.Down4.{reply_of, relayed_down4}

@@ -24,7 +24,7 @@ use Rattle.bindings_v4.proofs.LawLemmas.{own_granted}
 use Rattle.bindings_v4.proofs.LeaseLemmas.{lease_kept}
 use Rattle.config.specs.CircuitPart.{CircuitPart, pool4_of}
 use Rattle.requests.specs.Request4.{request4_in}
-use Rattle.dispatch.specs.Server.{Book, IsBook, request4_served, message4_served}
+use Rattle.circuit_server.specs.Server.{Book, IsBook, request4_served, message4_served}
 use Rattle.world.specs.Alone.{Effect}
 use Rattle.promises.specs.Books.{IsBookOf}
 use Rattle.promises.specs.Granted.{Grant, Line, Granted4, Ended4, Stands, Knows, granted4, end4_of, ended4, is_sent, request4_lines, message4_lines}

@@ -26,7 +26,7 @@ use Rattle.bindings_v6.specs.Table6.{answer6}
 use Rattle.bindings_v6.proofs.LeaseLemmas.{lease_kept}
 use Rattle.config.specs.CircuitPart.{CircuitPart, pool6_of}
 use Rattle.requests.specs.Request6.{request6_in}
-use Rattle.dispatch.specs.Server.{Book, IsBook, request6_served, message6_served, forward_served}
+use Rattle.circuit_server.specs.Server.{Book, IsBook, request6_served, message6_served, forward_served}
 use Rattle.world.specs.Alone.{Effect}
 use Rattle.promises.specs.Books.{IsBookOf}
 use Rattle.promises.specs.Granted.{Grant, Line, Granted6, Ended6, Stands, Knows, assigned6, granted6, end6_of, ended6, is_sent, request6_lines, message6_lines, forward_lines}

@@ -34,7 +34,7 @@ use Rattle.bindings_v6.specs.Table6.{answer6}
 use Rattle.config.specs.CircuitPart.{CircuitPart, pool4_of, pool6_of}
 use Rattle.requests.specs.Request4.{request4_in}
 use Rattle.requests.specs.Request6.{request6_in}
-use Rattle.dispatch.specs.Server.{Book, IsBook, datagram_served, request4_served, message4_served, request6_served, message6_served, forward_served}
+use Rattle.circuit_server.specs.Server.{Book, IsBook, datagram_served, request4_served, message4_served, request6_served, message6_served, forward_served}
 use Rattle.world.specs.Alone.{Effect}
 use Rattle.promises.specs.Books.{IsBookOf}
 use Rattle.promises.specs.Granted.{ClientOf, Grant, Granted, Granted4, Granted6, Ended, Stands, granted4, end4_of, ended4, assigned6, granted6, end6_of, ended6, is_sent, request4_lines, message4_lines, request6_lines, message6_lines, forward_lines, proto_lines}

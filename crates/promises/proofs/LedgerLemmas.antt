@@ -4,7 +4,7 @@ use Rattle.std.specs.Prelude.{Option, Some, None, option_map, Result, Ok, Err, s
 use Rattle.types.specs.declared.dest.Proto.{Proto}
 use Rattle.types.specs.declared.discard.Discard.{Discard}
 use Rattle.slots.specs.Maps.{address_of}
-use Rattle.dispatch.specs.Server.{Book, Served, book_at, kept_book, datagram_served, served}
+use Rattle.circuit_server.specs.Server.{Book, Served, book_at, kept_book, datagram_served, served}
 use Rattle.lease_disk.specs.declared.image.Image.{Image}
 use Rattle.lease_disk.specs.declared.image.Image.TheVariants.{Byte, Unreadable}
 use Rattle.lossy_net.specs.Net.{Datagram}

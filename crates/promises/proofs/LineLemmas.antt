@@ -9,7 +9,7 @@ use Rattle.slots.specs.Maps.{Lease, address_of}
 use Rattle.bindings_v4.proofs.LeaseLemmas as four
 use Rattle.bindings_v6.proofs.LeaseLemmas as six
 use Rattle.config.specs.CircuitPart.{CircuitPart}
-use Rattle.dispatch.specs.Server.{Book, Served, book_at, kept_book}
+use Rattle.circuit_server.specs.Server.{Book, Served, book_at, kept_book}
 use Rattle.world.specs.Alone.{Effect}
 use Rattle.promises.specs.Books.{IsInPool}
 use Rattle.promises.specs.Granted.{ClientOf, Grant, Line, Stands, Knows, binding_of, is_sent}

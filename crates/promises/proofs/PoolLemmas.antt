@@ -29,10 +29,10 @@ use Rattle.lease_disk.specs.Book as region
 use Rattle.lease_disk.specs.Recovered.{recovered}
 use Rattle.lease_disk.proofs.Books as region_books
 use Rattle.config.specs.CircuitPart.{CircuitPart, pool4_of, pool6_of}
-use Rattle.dispatch.specs.Leases.{book_in, counts_of, recovered_book}
+use Rattle.circuit_server.specs.Leases.{book_in, counts_of, recovered_book}
 use Rattle.requests.specs.Request4.{request4_in}
 use Rattle.requests.specs.Request6.{request6_in}
-use Rattle.dispatch.specs.Server.{Book, IsBook, book_at, kept_book, datagram_served, request4_served, message4_served, request6_served, message6_served, forward_served, served}
+use Rattle.circuit_server.specs.Server.{Book, IsBook, book_at, kept_book, datagram_served, request4_served, message4_served, request6_served, message6_served, forward_served, served}
 use Rattle.world.specs.Alone.{Alone, Setup, alone_step}
 use Rattle.promises.specs.Books.{HasBooks, IsBookOf}
 use Rattle.events.specs.Seen.{Seen}

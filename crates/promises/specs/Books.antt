@@ -6,7 +6,7 @@ use Rattle.types.specs.Key6.{Key6Value}
 use Rattle.types.specs.declared.dest.Proto.{Proto}
 use Rattle.types.specs.declared.dest.Proto.TheVariants.{V4, V6}
 use Rattle.config.specs.CircuitPart.{CircuitPart}
-use Rattle.dispatch.specs.Server.{Book, IsBook}
+use Rattle.circuit_server.specs.Server.{Book, IsBook}
 use Rattle.world.specs.Alone.{Alone}
 
 -- the open one, the one that was last saved, and the one in doubt, where they are

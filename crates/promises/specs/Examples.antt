@@ -11,7 +11,7 @@ use Rattle.bindings_v6.specs.Book6.{empty_book}
 use Rattle.config.specs.Membership.{MembershipValue}
 use Rattle.config.specs.CircuitPart.{CircuitPart}
 use Rattle.config.specs.Topology.{Topology}
-use Rattle.dispatch.specs.Server.{Book}
+use Rattle.circuit_server.specs.Server.{Book}
 use Rattle.events.specs.declared.comeback.Comeback.{Comeback}
 use Rattle.lease_disk.specs.declared.image.Image.TheVariants.{Unreadable}
 use Rattle.lossy_net.specs.Net.{Datagram}

@@ -37,7 +37,7 @@ use Rattle.bindings_v6.specs.Table6.{answer6}
 use Rattle.config.specs.CircuitPart.{CircuitPart, pool4_of, pool6_of}
 use Rattle.requests.specs.Request4.{request4_in}
 use Rattle.requests.specs.Request6.{request6_in}
-use Rattle.dispatch.specs.Server.{Book, book_at}
+use Rattle.circuit_server.specs.Server.{Book, book_at}
 use Rattle.lossy_net.specs.Net.{Datagram}
 use Rattle.world.specs.Alone.{Alone, Setup, Effect, Dropped, Gone, SentUp, SentDown, Framed, Done, alone_step, is_fault}
 use Rattle.lease_disk.specs.declared.image.Image.TheVariants.{Byte}

@@ -1,8 +1,8 @@
 //! What a circuit's machine keeps to, whatever happens.
 ghost use Rattle.std.specs.Prelude.{ℕ, List, IfSome};
 ghost use Rattle.config.specs.CircuitPart.{CircuitPart, IsPart};
-ghost use Rattle.dispatch.specs.Leases.{recovered_book};
-ghost use Rattle.dispatch.specs.Server.{IsBook};
+ghost use Rattle.circuit_server.specs.Leases.{recovered_book};
+ghost use Rattle.circuit_server.specs.Server.{IsBook};
 ghost use Rattle.world.specs.Alone.{Alone, Setup, after_all, alone_step};
 ghost use Rattle.promises.specs.Books.{HasBooks, IsBookOf};
 ghost use Rattle.events.specs.Seen.{Seen};

@@ -1,6 +1,6 @@
 //! A circuit whose region is of format 2.
 ghost use Rattle.std.specs.Prelude.{◌≡◌, ℕ, Bool, [], true, false, List, Option, Some, None};
-ghost use Rattle.dispatch.specs.Server.{Book};
+ghost use Rattle.circuit_server.specs.Server.{Book};
 ghost use Rattle.events.specs.Seen.{Seen};
 ghost use Rattle.promises.specs.Granted.{restart_over};
 ghost use Rattle.world.specs.Alone.{Alone, New, Setup, after_all, alone_step, found, is_fault, start};

@@ -2,7 +2,7 @@
 ghost use Rattle.std.specs.Prelude.{◌≡◌, ◌≢◌, ◌≤◌, ◌⊎◌, ℕ, Bool, List, ◌∷◌, Option, Some, IfSome};
 ghost use Rattle.config.specs.CircuitPart.{IsPart};
 ghost use Rattle.config.specs.Plans.{ArePlans, PlansValue};
-ghost use Rattle.dispatch.specs.Server.{Book};
+ghost use Rattle.circuit_server.specs.Server.{Book};
 ghost use Rattle.types.specs.declared.dest.Proto.{Proto};
 ghost use Rattle.world.specs.Alone.{Setup, after_all, alone_step, start};
 ghost use Rattle.promises.specs.Books.{HasAddress, HasBooks, IsInPool, IsBookOf};

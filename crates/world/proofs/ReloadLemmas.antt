@@ -7,7 +7,8 @@ use borrow.Author.Tests.{ltb-true}
 use Rattle.config.specs.CircuitPart.{CircuitPart}
 use Rattle.config.specs.Membership.{IsMembership, MembershipValue, has}
 use Rattle.config.specs.Topology.{Topology, reloaded, serves}
-use Rattle.dispatch.specs.Leases.{HasRegions, Leases, turned}
+use Rattle.circuit_server.specs.Leases.{Leases, turned}
+use Rattle.dispatch.specs.Regions.{HasRegions}
 use Rattle.dispatch.specs.ServerValue.{AreReady}
 use Rattle.lease_disk.specs.Model.{ModelDiskValue}
 use Rattle.lease_disk.specs.Model as disk

@@ -26,7 +26,7 @@ use Rattle.requests.specs.Addressee.{addressee}
 use Rattle.requests.specs.Addressee4.{agent_check, link_fault4, message_check}
 use Rattle.requests.specs.NamedCircuit.{circuit_check, link_check}
 use Rattle.requests.specs.Request4.{request4_in}
-use Rattle.dispatch.specs.Server.{Book, book_at, datagram_served, reply4_to, request4_served, message4_served, served}
+use Rattle.circuit_server.specs.Server.{Book, book_at, datagram_served, reply4_to, request4_served, message4_served, served}
 use Rattle.relay.specs.Down4.{is_named}
 use Rattle.relay.proofs.AllLemmas.{by_index}
 use Rattle.replies.specs.Reply4.{name_servers, echo, reply_options, reply4_bytes}

@@ -17,7 +17,7 @@ use Rattle.v6_message.specs.RelayReading.{relay_of}
 use Rattle.config.specs.CircuitPart.{CircuitPart, pool6_of}
 use Rattle.bindings_v6.specs.Table6.{answer6}
 use Rattle.requests.specs.Request6.{request6_in}
-use Rattle.dispatch.specs.Server.{Book, book_at, datagram_served, reply6_to, request6_served, message6_served, forward_served, served}
+use Rattle.circuit_server.specs.Server.{Book, book_at, datagram_served, reply6_to, request6_served, message6_served, forward_served, served}
 use Rattle.replies.specs.Reply6.{reply6_bytes}
 
 -- These bytes are a reply to a Relay-forward's message.

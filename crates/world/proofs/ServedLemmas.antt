@@ -11,9 +11,11 @@ use Rattle.config.specs.CircuitPart.{CircuitPart}
 use Rattle.config.specs.Membership.{has}
 use Rattle.config.specs.Topology.{RegionsDiffer, Topology, serves}
 use Rattle.requests.specs.Addressee.{addressee}
-use Rattle.dispatch.specs.Leases.{AreSynced, KeepsOthers, Leases, addressee_leases, after_datagram, leases_with, received_leases}
-use Rattle.dispatch.specs.Received.{IsAnswer, Received, addressee_answered, addressee_saves, answered, circuit_answered, circuit_saves, fails_at, received, received_saves, with_answered}
-use Rattle.dispatch.specs.Server.{Book, served}
+use Rattle.circuit_server.specs.Leases.{Leases, after_datagram}
+use Rattle.dispatch.specs.Regions.{AreSynced, KeepsOthers}
+use Rattle.dispatch.specs.Received.{Received, addressee_answered, addressee_leases, addressee_saves, circuit_answered, leases_with, received, received_leases, received_saves, with_answered}
+use Rattle.circuit_server.specs.Answered.{IsAnswer, answered, circuit_saves, fails_at}
+use Rattle.circuit_server.specs.Server.{Book, served}
 use Rattle.dispatch.specs.ServerValue.{books_in, leases_in}
 use Rattle.lease_disk.specs.Crash.{crashed}
 use Rattle.lease_disk.specs.Device.{Device, WritesAt}

@@ -6,9 +6,9 @@ use Rattle.types.specs.Delivery.{DeliveryValue}
 use Rattle.types.specs.declared.discard.Discard.{Discard}
 use Rattle.types.specs.declared.discard.Discard.TheVariants.{CircuitClosed, DiskFault}
 use Rattle.config.specs.CircuitPart.{CircuitPart}
-use Rattle.dispatch.specs.Leases.{Leases, after_datagram, after_saving, after_tick, after_restart, come_back, formats_of, found_leases, kept, moved_format, region_leases, restarts_of, served_leases, turned}
-use Rattle.dispatch.specs.Received.{Answered, after_save, answered}
-use Rattle.dispatch.specs.Server.{Book, Served, book_at, kept_book, served}
+use Rattle.circuit_server.specs.Leases.{Leases, after_datagram, after_saving, after_tick, after_restart, come_back, formats_of, found_leases, kept, moved_format, region_leases, restarts_of, served_leases, turned}
+use Rattle.circuit_server.specs.Answered.{Answered, after_save, answered}
+use Rattle.circuit_server.specs.Server.{Book, Served, book_at, kept_book, served}
 use Rattle.lease_disk.specs.Crash.{crashed}
 use Rattle.lease_disk.specs.Region.{Region, effective}
 use Rattle.lease_disk.specs.declared.image.Image.{Image}

@@ -9,7 +9,8 @@ use Rattle.config.specs.Plans.{PlansValue}
 use Rattle.config.specs.Topology.{IsTopology, Topology, plans_topology, serves}
 use Rattle.settings.specs.Settings.{Settings}
 use Rattle.settings.specs.declared.settings.CircuitConfig.{CircuitConfig}
-use Rattle.dispatch.specs.Leases.{HasRegions, come_back, found_leases, recovered_book, region_leases}
+use Rattle.circuit_server.specs.Leases.{come_back, found_leases, recovered_book, region_leases}
+use Rattle.dispatch.specs.Regions.{HasRegions}
 use Rattle.dispatch.specs.ServerValue.{AreReady}
 use Rattle.lease_disk.specs.Device.{Device}
 use Rattle.lease_disk.specs.Model as disk

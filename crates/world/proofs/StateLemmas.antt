@@ -4,7 +4,7 @@ use Rattle.std.specs.Prelude.{Option, Some, None, slice_get}
 use Rattle.std.specs.Option.{option_map_or}
 use Rattle.std.proofs.lemmas.Option.{same_Some}
 use Rattle.config.specs.CircuitPart.{CircuitPart}
-use Rattle.dispatch.specs.Leases.{Leases}
+use Rattle.circuit_server.specs.Leases.{Leases}
 use Rattle.dispatch.specs.ServerValue.{leases_in}
 use Rattle.world.specs.Headline.{CircuitState}
 use Rattle.events.specs.Seen.{Seen}

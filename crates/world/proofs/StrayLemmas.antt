@@ -8,9 +8,10 @@ use Rattle.types.specs.declared.discard.Discard.{Discard}
 use Rattle.types.specs.declared.discard.Discard.TheVariants.{UnknownSource, NotServer}
 use Rattle.config.specs.CircuitPart.{CircuitPart}
 use Rattle.requests.specs.Addressee.{addressee}
-use Rattle.dispatch.specs.Leases.{Leases, received_leases}
-use Rattle.dispatch.specs.Received.{IsAnswer, Received, drop_all, received, received_saves}
-use Rattle.dispatch.specs.Server.{Book}
+use Rattle.circuit_server.specs.Leases.{Leases}
+use Rattle.dispatch.specs.Received.{Received, drop_all, received, received_leases, received_saves}
+use Rattle.circuit_server.specs.Answered.{IsAnswer}
+use Rattle.circuit_server.specs.Server.{Book}
 use Rattle.lease_disk.specs.Device.{Device}
 use Rattle.lossy_net.specs.Net.{NetValue, datagrams}
 use Rattle.lossy_net.specs.declared.dir.Dir.TheVariants.{Up, Down}

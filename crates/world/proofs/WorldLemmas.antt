@@ -13,10 +13,12 @@ use Rattle.config.specs.CircuitPart.{CircuitPart, IsPart}
 use Rattle.config.specs.Membership.{has}
 use Rattle.config.specs.Topology.{Topology, is_relay, serves}
 use Rattle.config.proofs.TopologyLemmas.{is_known}
-use Rattle.dispatch.specs.Leases.{HasRegions, Leases, after_datagram, after_restart, after_tick, formats_of, found_leases, restarts_of}
-use Rattle.dispatch.specs.Received.{IsAnswer}
-use Rattle.dispatch.specs.Server.{book_at, served}
-use Rattle.dispatch.specs.ServerValue.{AreReady, CircuitServerValue, book_of, books_in, circuits_in, leases_of, part_of}
+use Rattle.circuit_server.specs.Leases.{Leases, after_datagram, after_restart, after_tick, formats_of, found_leases, restarts_of}
+use Rattle.dispatch.specs.Regions.{HasRegions}
+use Rattle.circuit_server.specs.Answered.{IsAnswer}
+use Rattle.circuit_server.specs.Server.{book_at, served}
+use Rattle.circuit_server.specs.CircuitServerValue.{CircuitServerValue, book_of, leases_of, part_of}
+use Rattle.dispatch.specs.ServerValue.{AreReady, books_in, circuits_in}
 use Rattle.dispatch.proofs.WithStates.{parts_with, size_with}
 use Rattle.lease_disk.specs.Crash.{crashed}
 use Rattle.lease_disk.specs.Model as disk

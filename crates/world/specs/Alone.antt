@@ -6,7 +6,7 @@ use Rattle.types.specs.declared.dest.Proto.{Proto}
 use Rattle.types.specs.declared.discard.Discard.{Discard}
 use Rattle.types.specs.declared.discard.Discard.TheVariants.{CircuitClosed, DiskFault}
 use Rattle.config.specs.CircuitPart.{CircuitPart}
-use Rattle.dispatch.specs.Server.{Book, Served, book_at, kept_book, served}
+use Rattle.circuit_server.specs.Server.{Book, Served, book_at, kept_book, served}
 use Rattle.lease_disk.specs.declared.image.Image.{Image}
 use Rattle.lease_disk.specs.declared.image.Image.TheVariants.{Byte, Unreadable}
 use Rattle.lease_disk.specs.Layout.{gate_open}

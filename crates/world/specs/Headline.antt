@@ -4,8 +4,8 @@ use Rattle.std.specs.Prelude.{◌≡◌, ℕ, ◌+◌, ◌<◌, ◌≤◌, List,
 use Rattle.std.specs.List.{filter_map}
 use Rattle.std.specs.Option.{option_map_or}
 use Rattle.config.specs.Topology.{Topology, reloaded}
-use Rattle.dispatch.specs.Leases.{Leases}
-use Rattle.dispatch.specs.Server.{Book}
+use Rattle.circuit_server.specs.Leases.{Leases}
+use Rattle.circuit_server.specs.Server.{Book}
 use Rattle.lease_disk.specs.Region.{Region}
 use Rattle.lossy_net.specs.Net.{Datagram}
 use Rattle.relay.specs.SentFrame.{SentFrame}

@@ -4,7 +4,7 @@ use Rattle.config.specs.CircuitPart.{part_in}
 use Rattle.config.specs.Plans.{PlansValue}
 use Rattle.events.specs.Seen.{Seen, seen_by}
 use Rattle.events.specs.declared.event.Event.{Event}
-use Rattle.dispatch.specs.Leases.{recovered_book}
+use Rattle.circuit_server.specs.Leases.{recovered_book}
 use Rattle.lease_disk.specs.Device.{Device}
 use Rattle.lease_disk.specs.Layout.{is_format2}
 use Rattle.lease_disk.specs.Region.{Region}

@@ -2,7 +2,7 @@
 use Rattle.std.specs.Prelude.{◌≡◌, ◌≢◌, ℕ, ◌≤◌, ◌==◌, ◌&&◌, not, Bool, true, false, Option, List, [], ◌∷◌, length, slice_get, Some, None, Ok}
 use Rattle.config.specs.CircuitPart.{CircuitPart}
 use Rattle.requests.specs.Addressee.{addressee}
-use Rattle.dispatch.specs.Leases.{HasRegions}
+use Rattle.dispatch.specs.Regions.{HasRegions}
 use Rattle.dispatch.specs.ServerValue.{AreReady}
 use Rattle.lease_disk.specs.Model as disk
 use Rattle.lossy_net.specs.Net.{Datagram, datagrams}

@@ -3,7 +3,7 @@ use Rattle.std.specs.Prelude.{ℕ, suc, List, [], ◌∷◌, slice_index, slice_
 use Rattle.config.specs.CircuitPart.{CircuitPart}
 use Rattle.config.specs.Membership.{has}
 use Rattle.config.specs.Topology.{serves}
-use Rattle.dispatch.specs.Leases.{Leases}
+use Rattle.circuit_server.specs.Leases.{Leases}
 use Rattle.dispatch.specs.ServerValue.{ServerValue, leases_in}
 use Rattle.lease_disk.specs.Model.{ModelDiskValue}
 use Rattle.lease_disk.specs.Model as disk

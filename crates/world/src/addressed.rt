@@ -5,7 +5,7 @@ ghost use Rattle.types.specs.declared.dest.Proto.{Proto};
 ghost use Rattle.types.specs.declared.dest.Proto.TheVariants.{V6};
 ghost use Rattle.config.specs.CircuitPart.{CircuitPart, IsPart};
 ghost use Rattle.requests.specs.Addressee.{addressee};
-ghost use Rattle.dispatch.specs.Server.{Book, served};
+ghost use Rattle.circuit_server.specs.Server.{Book, served};
 ghost use Rattle.config.specs.Topology.{Topology, is_relay, listen, serves};
 ghost use Rattle.relay.specs.Relays.{for_circuit, relayed_down, relayed_down_in, relayed_up};
 ghost use Rattle.wire.specs.Bytes.{AreBytes};

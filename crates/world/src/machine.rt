@@ -2,7 +2,7 @@
 ghost use Rattle.std.specs.Prelude.{◌≡◌, ◌+◌, ◌<◌, List, ◌++◌, length, take, true, false, IfErr, IfSome, OnOk};
 ghost use Rattle.lease_disk.specs.Device.{Device};
 ghost use Rattle.config.specs.Topology.{Topology};
-ghost use Rattle.dispatch.specs.Leases.{KeepsOthers};
+ghost use Rattle.dispatch.specs.Regions.{KeepsOthers};
 ghost use Rattle.world.specs.Headline.{CircuitState, EmitsAt, Emits, Reaches, Steps, frame_of, topology_after};
 ghost use Rattle.events.specs.Stray.{stray_outcome};
 

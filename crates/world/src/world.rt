@@ -1,7 +1,7 @@
 //! A world: its relays, the network, the server and a disk.
 ghost use Rattle.std.specs.Prelude.{◌≡◌, ℕ, ◌+◌, ◌<◌, ◌≤◌, [], Some, length, nat_lt, if◌then◌else◌, slice_get, take, IfOk, IfErr, IfSome, OnOk};
 ghost use Rattle.config.specs.CircuitPart.{CircuitPart, parts_of};
-ghost use Rattle.dispatch.specs.Leases.{AreBroughtUp, AreSynced, HasRegions, KeepsOthers};
+ghost use Rattle.dispatch.specs.Regions.{AreBroughtUp, AreSynced, HasRegions, KeepsOthers};
 ghost use Rattle.dispatch.specs.declared.server.OpenFault.TheVariants as fault;
 ghost use Rattle.lease_disk.specs.Crash.{crashed};
 ghost use Rattle.lease_disk.specs.Model.{device_of, fuse_of, state_of};

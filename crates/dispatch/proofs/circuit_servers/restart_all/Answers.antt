@@ -5,13 +5,14 @@ use Rattle.std.proofs.lemmas.Option.{slice_get_read}
 use Rattle.std.proofs.lemmas.List.Elements.{All-more}
 use Rattle.config.specs.CircuitPart.{CircuitPart, IsPart}
 use Rattle.lease_disk.specs.Region.{IsClean, Region}
-use Rattle.dispatch.specs.Deadlines.{HasDeadlines}
-use Rattle.dispatch.specs.Leases.{found_leases}
-use Rattle.dispatch.specs.ServerValue.{CircuitServerValue, HasItsPools, with_states}
+use Rattle.circuit_server.specs.Deadlines.{HasDeadlines}
+use Rattle.circuit_server.specs.Leases.{found_leases}
+use Rattle.circuit_server.specs.CircuitServerValue.{CircuitServerValue, HasItsPools}
+use Rattle.dispatch.specs.ServerValue.{with_states}
 use Rattle.dispatch.proofs.RestartLemmas.{all_leases, all_ready, all_regions, none_up, one_more_up}
 use Rattle.dispatch.proofs.ServerLemmas.{all_found}
 use Rattle.dispatch.proofs.WithStates.{parts_with, server, set_with, size_with}
-use Rattle.dispatch.proofs.DeadlineLemmas.{all_held, holds_more}
+use Rattle.dispatch.proofs.HeldDeadlines.{all_held, holds_more}
 use Rattle.dispatch.proofs.circuit_servers.restart_all.Goals as goal
 
 pub restart-requires-clause-exists : goal.restart-requires-clause-exists

@@ -1,7 +1,8 @@
 use Rattle.std.proofs.Common.{◌≡◌, ◌≤◌, ◌+◌, ◌*◌, true, take, length}
 use Rattle.std.specs.Prelude.{All}
-use Rattle.dispatch.specs.ServerValue.{HasItsPools, with_states}
-use Rattle.dispatch.proofs.DeadlineLemmas.{HoldsFirst}
+use Rattle.circuit_server.specs.CircuitServerValue.{HasItsPools}
+use Rattle.dispatch.specs.ServerValue.{with_states}
+use Rattle.dispatch.proofs.HeldDeadlines.{HoldsFirst}
 use Rattle.dispatch.proofs.RestartLemmas.{AreUp}
 use Rattle.dispatch.proofs.circuit_servers.restart_all.Given as goal
 

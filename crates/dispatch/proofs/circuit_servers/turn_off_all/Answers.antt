@@ -2,10 +2,11 @@ use Rattle.std.proofs.Common.{◌≡◌, ◌<◌, ◌+◌, ◌*◌, List, length
 use Rattle.std.specs.Prelude.{None, Option}
 use Rattle.std.proofs.lemmas.List.{get_or-set_same}
 use Rattle.timers.specs.Deadlines.{DeadlinesValue}
-use Rattle.dispatch.specs.Deadlines.{HasDeadlines, held_in}
-use Rattle.dispatch.specs.ServerValue.{OpenCircuitValue}
-use Rattle.dispatch.specs.Ticked.{state_of}
-use Rattle.dispatch.specs.Turned.{AreTurned, state_unoffered, turns_off}
+use Rattle.circuit_server.specs.Deadlines.{HasDeadlines, held_in}
+use Rattle.circuit_server.specs.CircuitServerValue.{OpenCircuitValue}
+use Rattle.circuit_server.specs.Ticked.{state_of}
+use Rattle.circuit_server.specs.Unoffered.{state_unoffered}
+use Rattle.dispatch.specs.Turned.{AreTurned, turns_off}
 use Rattle.dispatch.proofs.TurnedLemmas.{one_goes, one_stays, so_far}
 use Rattle.dispatch.proofs.circuit_servers.turn_off_all.Goals as goal
 use Rattle.dispatch.proofs.circuit_servers.turn_off_all.Goals.{then-turns_off, else-turns_off}

@@ -17,7 +17,7 @@ use Rattle.v6_message.specs.RelayReading.{relay_of}
 use Rattle.requests.specs.Request4.{request4_in}
 use Rattle.requests.specs.Request6.{request6_in}
 use Rattle.config.specs.CircuitPart.{pool4_of, pool6_of}
-use Rattle.dispatch.specs.Server.{IsBook, book_at, datagram_served, request4_served, message4_served, request6_served, message6_served, forward_served, served}
+use Rattle.circuit_server.specs.Server.{IsBook, book_at, datagram_served, request4_served, message4_served, request6_served, message6_served, forward_served, served}
 use Rattle.dispatch.proofs.laws.leaves_a_book.Goals as goal
 
 pub returns-clause-empty : goal.returns-clause-empty

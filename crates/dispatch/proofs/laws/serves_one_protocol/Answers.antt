@@ -17,7 +17,7 @@ use Rattle.v6_message.specs.RelayReading.{relay_of}
 use Rattle.config.specs.CircuitPart.{CircuitPart}
 use Rattle.requests.specs.Request4.{request4_in}
 use Rattle.requests.specs.Request6.{request6_in}
-use Rattle.dispatch.specs.Server.{Book, book_at, datagram_served, request4_served, message4_served, request6_served, message6_served, forward_served, served}
+use Rattle.circuit_server.specs.Server.{Book, book_at, datagram_served, request4_served, message4_served, request6_served, message6_served, forward_served, served}
 use Rattle.dispatch.proofs.laws.serves_one_protocol.Goals as goal
 
 -- a DHCPv4 message leaves the clock and DHCPv6's leases

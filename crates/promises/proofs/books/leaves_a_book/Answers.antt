@@ -1,4 +1,4 @@
-use Rattle.dispatch.specs.Server.{IsBook}
+use Rattle.circuit_server.specs.Server.{IsBook}
 use Rattle.promises.proofs.HeldBooks.{held_step, held_after}
 use Rattle.promises.proofs.PoolLemmas.{own_step, opened_of}
 use Rattle.promises.proofs.books.leaves_a_book.Goals as goal

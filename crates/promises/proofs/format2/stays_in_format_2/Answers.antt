@@ -1,6 +1,6 @@
 use Rattle.std.proofs.Common.{◌∙◌, ap, sym}
 use Rattle.std.specs.Prelude.{None, Option}
-use Rattle.dispatch.specs.Server.{Book}
+use Rattle.circuit_server.specs.Server.{Book}
 use Rattle.world.specs.Alone.{alone_step, come_back, found, is_new}
 use Rattle.promises.proofs.FormatLemmas.{comes_back, restarts_as_before, stays_new}
 use Rattle.promises.proofs.format2.stays_in_format_2.Goals as goal

@@ -1,5 +1,5 @@
 use Rattle.std.proofs.Common.{sym, subst}
-use Rattle.dispatch.specs.Leases.{recovered_book}
+use Rattle.circuit_server.specs.Leases.{recovered_book}
 use Rattle.lease_disk.specs.Layout.{is_format2}
 use Rattle.world.proofs.SetupLemmas.{its_part}
 use Rattle.promises.specs.Books.{IsInPool}

@@ -15,7 +15,7 @@ use Rattle.config.specs.CircuitPart.{CircuitPart, IsPart, pool4_of}
 use Rattle.config.specs.Topology.{Topology, listen, serves}
 use Rattle.bindings_v4.specs.Table4.{answer4}
 use Rattle.requests.specs.Addressee.{addressee}
-use Rattle.dispatch.specs.Server.{Book, book_at, served}
+use Rattle.circuit_server.specs.Server.{Book, book_at, served}
 use Rattle.relay.specs.Relays.{for_circuit, relayed_down, relayed_down_in}
 use Rattle.replies.specs.Reply4.{reply_message, yiaddr_in}
 use Rattle.world.specs.StepsAs.{IsDue}

@@ -1,6 +1,6 @@
 use Rattle.std.proofs.Common.{[], refl, ap, subst, ◌∙◌}
 use Rattle.config.specs.Topology.{Topology}
-use Rattle.dispatch.specs.Leases.{KeepsOthers}
+use Rattle.dispatch.specs.Regions.{KeepsOthers}
 use Rattle.world.proofs.Runs.{turned_reaches, reaches_nothing, emits_nothing, reaches_next, emits_next, emits_at}
 use Rattle.world.proofs.ServedLemmas.{spares_stay, spares_then}
 use Rattle.world.proofs.CircuitSteps.{circuits_after}

@@ -1,5 +1,5 @@
 use Rattle.std.proofs.Common.{◌≡◌, take}
-use Rattle.dispatch.specs.Leases.{KeepsOthers}
+use Rattle.dispatch.specs.Regions.{KeepsOthers}
 use Rattle.world.specs.Headline.{Emits, Reaches}
 use Rattle.world.proofs.Runs.{Turned}
 use Rattle.world.proofs.machine.run.Given as goal

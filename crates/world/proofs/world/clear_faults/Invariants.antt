@@ -2,7 +2,7 @@ use Rattle.std.proofs.Common.{◌≡◌, ℕ, ◌<◌, length}
 use Rattle.std.specs.Prelude.{Some, slice_get}
 use Rattle.config.specs.CircuitPart.{CircuitPart}
 use Rattle.lease_disk.specs.Model.{device_of, fuse_of, state_of}
-use Rattle.dispatch.specs.Leases.{KeepsOthers}
+use Rattle.dispatch.specs.Regions.{KeepsOthers}
 use Rattle.world.proofs.world.clear_faults.Given as goal
 
 -- no call fails for the circuits so far

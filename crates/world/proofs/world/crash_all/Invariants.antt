@@ -3,7 +3,7 @@ use Rattle.std.specs.Prelude.{Some, slice_get}
 use Rattle.config.specs.CircuitPart.{CircuitPart}
 use Rattle.lease_disk.specs.Crash.{crashed}
 use Rattle.lease_disk.specs.Model.{device_of, fuse_of, state_of}
-use Rattle.dispatch.specs.Leases.{KeepsOthers}
+use Rattle.dispatch.specs.Regions.{KeepsOthers}
 use Rattle.events.specs.Seen.{comeback_at}
 use Rattle.world.proofs.world.crash_all.Given as goal
 

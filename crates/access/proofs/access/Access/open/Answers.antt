@@ -2,7 +2,7 @@ use Rattle.std.proofs.Common.{◌∙◌, ℕ, length, sym, ap, subst, rules}
 use Rattle.std.proofs.lemmas.List.{length-map}
 use Rattle.config.specs.Topology.{Topology}
 use Rattle.config.specs.CircuitPart.{parts_of}
-use Rattle.dispatch.specs.Leases.{HasRegions}
+use Rattle.dispatch.specs.Regions.{HasRegions}
 use Rattle.udp.specs.History.{HistoryValue}
 use Rattle.access.specs.Access.{ServesEach}
 use Rattle.sockets.specs.Sockets.{AreBound, IsSocket, Refuses, WasRefused}

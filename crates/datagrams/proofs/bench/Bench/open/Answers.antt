@@ -1,6 +1,6 @@
 use Rattle.std.proofs.Common.{length, sym, subst}
 use Rattle.config.specs.Topology.{Topology}
-use Rattle.dispatch.specs.Leases.{HasRegions}
+use Rattle.dispatch.specs.Regions.{HasRegions}
 use Rattle.datagrams.proofs.bench.Bench.open.Goals as goal
 
 pub invariant_of-result : goal.invariant_of-result

@@ -1,11 +1,11 @@
 use Rattle.std.proofs.Common.{◌≡◌, ◌<◌, ◌*◌, nat_lt, List, map, set, length, sym, ap, subst, ◌∙◌}
 use Rattle.std.specs.Prelude.{Option, option_map}
 use Rattle.std.proofs.lemmas.List.{length-map}
-use Rattle.dispatch.specs.Deadlines.{HasDeadlines}
-use Rattle.dispatch.specs.Leases.{after_datagram}
-use Rattle.dispatch.specs.Received.{answered}
-use Rattle.dispatch.specs.ServerValue.{HasPools, IsReadyFor, OpenCircuitValue, leases_of, open_book}
-use Rattle.dispatch.specs.Ticked.{IsLater, state_at, state_of}
+use Rattle.circuit_server.specs.Deadlines.{HasDeadlines}
+use Rattle.circuit_server.specs.Leases.{after_datagram}
+use Rattle.circuit_server.specs.Answered.{answered}
+use Rattle.circuit_server.specs.CircuitServerValue.{HasPools, IsReadyFor, OpenCircuitValue, leases_of, open_book}
+use Rattle.circuit_server.specs.Ticked.{IsLater, state_at, state_of}
 use Rattle.dispatch.proofs.TickLemmas.{at_is_later, shown_at, shown_new, shown_others}
 use Rattle.dispatch.proofs.WithStates.{server}
 use Rattle.dispatch.proofs.circuit_servers.CircuitServers.answer.Given as given

@@ -1,8 +1,8 @@
 use Rattle.std.proofs.Common.{◌<◌, List, length, sym, ap, subst, ◌∙◌}
 use Rattle.std.specs.Prelude.{Option, is_some, option_map}
 use Rattle.std.proofs.lemmas.List.{length-map}
-use Rattle.dispatch.specs.ServerValue.{OpenCircuitValue, open_book}
-use Rattle.dispatch.specs.Ticked.{state_at, state_of}
+use Rattle.circuit_server.specs.CircuitServerValue.{OpenCircuitValue, open_book}
+use Rattle.circuit_server.specs.Ticked.{state_at, state_of}
 use Rattle.dispatch.proofs.TickLemmas.{shown_at, still_open}
 use Rattle.dispatch.proofs.circuit_servers.CircuitServers.is_open.Goals as goal
 

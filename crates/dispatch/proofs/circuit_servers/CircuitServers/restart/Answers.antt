@@ -1,8 +1,8 @@
 use Rattle.std.proofs.Common.{◌≡◌, ◌++◌, map, take, length, drop, sym, ap, subst, ◌∙◌, arith}
 use Rattle.std.specs.Prelude.{All}
-use Rattle.dispatch.specs.Deadlines.{HoldsDeadlines}
-use Rattle.dispatch.specs.ServerValue.{HasItsPools, IsReady, leases_of, with_states}
-use Rattle.dispatch.specs.Ticked.{state_at}
+use Rattle.dispatch.specs.ServerValue.{HoldsDeadlines, with_states}
+use Rattle.circuit_server.specs.CircuitServerValue.{HasItsPools, IsReady, leases_of}
+use Rattle.circuit_server.specs.Ticked.{state_at}
 use Rattle.dispatch.proofs.ServerLemmas.{written_through}
 use Rattle.dispatch.proofs.TickLemmas.{not_ticked}
 use Rattle.dispatch.proofs.circuit_servers.CircuitServers.restart.Given as given

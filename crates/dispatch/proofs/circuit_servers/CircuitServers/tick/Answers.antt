@@ -1,5 +1,5 @@
 use Rattle.std.proofs.Common.{map, ap, ◌∙◌}
-use Rattle.dispatch.specs.Ticked.{state_at}
+use Rattle.circuit_server.specs.Ticked.{state_at}
 use Rattle.dispatch.proofs.TickLemmas.{ticked_twice}
 use Rattle.dispatch.proofs.circuit_servers.CircuitServers.tick.Goals as goal
 

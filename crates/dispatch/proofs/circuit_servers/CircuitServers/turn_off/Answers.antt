@@ -1,10 +1,10 @@
 use Rattle.std.proofs.Common.{◌≡◌, ◌<◌, ◌*◌, List, map, set, length, sym, ap, subst, ◌∙◌}
 use Rattle.std.specs.Prelude.{Option}
 use Rattle.std.proofs.lemmas.List.{length-map}
-use Rattle.dispatch.specs.Deadlines.{HasDeadlines, held_in}
-use Rattle.dispatch.specs.ServerValue.{OpenCircuitValue}
-use Rattle.dispatch.specs.Ticked.{IsLater, state_at, state_of}
-use Rattle.dispatch.specs.Turned.{state_unoffered}
+use Rattle.circuit_server.specs.Deadlines.{HasDeadlines, held_in}
+use Rattle.circuit_server.specs.CircuitServerValue.{OpenCircuitValue}
+use Rattle.circuit_server.specs.Ticked.{IsLater, state_at, state_of}
+use Rattle.circuit_server.specs.Unoffered.{state_unoffered}
 use Rattle.dispatch.proofs.TickLemmas.{at_is_later, shown_at, shown_new, shown_others}
 use Rattle.dispatch.proofs.TurnedLemmas.{still_later}
 use Rattle.dispatch.proofs.circuit_servers.CircuitServers.turn_off.Goals as goal

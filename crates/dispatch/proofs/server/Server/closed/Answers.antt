@@ -2,8 +2,8 @@ use Rattle.std.proofs.Common.{List, length, sym, ap, subst, ◌∙◌, arith}
 use Rattle.std.specs.Prelude.{All, Option}
 use Rattle.std.proofs.lemmas.List.{length-replicate}
 use Rattle.timers.specs.Deadlines.{DeadlinesValue}
-use Rattle.dispatch.specs.Deadlines.{HoldsDeadlines}
-use Rattle.dispatch.specs.ServerValue.{HasItsPools, OpenCircuitValue, with_states}
+use Rattle.dispatch.specs.ServerValue.{HoldsDeadlines, with_states}
+use Rattle.circuit_server.specs.CircuitServerValue.{HasItsPools, OpenCircuitValue}
 use Rattle.dispatch.proofs.ClosedLemmas.{closed_held, closed_pools}
 use Rattle.dispatch.proofs.server.Server.closed.Goals as goal
 

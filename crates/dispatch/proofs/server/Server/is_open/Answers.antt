@@ -1,7 +1,7 @@
 use Rattle.std.proofs.Common.{◌≡◌, ◌<◌, ◌↔◌, map, length, true, sym, subst, arith}
 use Rattle.std.specs.Prelude.{Some, None, is_some, nat_lt, slice_get}
 use Rattle.dispatch.specs.ServerValue.{ServerValue, books_in, with_states}
-use Rattle.dispatch.specs.Ticked.{state_of}
+use Rattle.circuit_server.specs.Ticked.{state_of}
 use Rattle.dispatch.proofs.ServerLemmas.{open_at, none_past}
 use Rattle.dispatch.proofs.WithStates.{get_with, server, size_with, there_is}
 use Rattle.dispatch.proofs.server.Server.is_open.Goals as goal

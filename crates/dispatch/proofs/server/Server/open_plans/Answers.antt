@@ -3,7 +3,8 @@ use Rattle.std.specs.Prelude.{IfErr, IfOk}
 use Rattle.std.proofs.lemmas.List.{length-map}
 use Rattle.config.specs.Plans.{PlansValue}
 use Rattle.config.specs.Topology.{IsTopology, Topology, plans_topology}
-use Rattle.dispatch.specs.Leases.{AreBroughtUp, AreSynced, HasRegions, KeepsOthers, found_leases}
+use Rattle.circuit_server.specs.Leases.{found_leases}
+use Rattle.dispatch.specs.Regions.{AreBroughtUp, AreSynced, HasRegions, KeepsOthers}
 use Rattle.dispatch.specs.ServerValue.{leases_in}
 use Rattle.dispatch.specs.declared.server.OpenFault.TheVariants as fault
 use Rattle.dispatch.proofs.server.Server.open_plans.Goals as goal

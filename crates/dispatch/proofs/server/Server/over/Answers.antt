@@ -1,6 +1,7 @@
 use Rattle.std.proofs.Common.{◌≤◌, ◌+◌, ◌*◌, map, length, refl, sym, ap, subst, ◌∙◌}
 use Rattle.config.specs.Topology.{Topology}
-use Rattle.dispatch.specs.Leases.{AreBroughtUp, AreSynced, HasRegions, KeepsOthers, found_leases}
+use Rattle.circuit_server.specs.Leases.{found_leases}
+use Rattle.dispatch.specs.Regions.{AreBroughtUp, AreSynced, HasRegions, KeepsOthers}
 use Rattle.dispatch.specs.ServerValue.{ServerValue}
 use Rattle.dispatch.proofs.server.Server.over.Goals as goal
 

@@ -8,13 +8,14 @@ use Rattle.config.specs.CircuitPart.{CircuitPart}
 use Rattle.config.specs.Topology.{Topology}
 use Rattle.lease_disk.specs.Device.{WritesAt}
 use Rattle.requests.specs.Addressee.{addressee}
-use Rattle.dispatch.specs.Leases.{addressee_leases, formats_of, received_leases, restarts_of}
-use Rattle.dispatch.specs.Received.{Received, IsAnswer, addressee_answered, addressee_saves, fails_at, received, received_saves}
-use Rattle.dispatch.specs.ServerValue.{CircuitServerValue, HasItsPools, IsReady, IsReadyFor, OpenCircuitValue, ServerValue, book_of, books_in, circuits_in, leases_in, leases_of, part_of, with_states}
-use Rattle.dispatch.specs.Deadlines.{HoldsDeadlines}
-use Rattle.dispatch.specs.Ticked.{state_of}
-use Rattle.dispatch.proofs.AnswerLemmas.{because_err, because_ok, not_more}
-use Rattle.dispatch.proofs.DeadlineLemmas.{one_held}
+use Rattle.circuit_server.specs.Leases.{formats_of, restarts_of}
+use Rattle.dispatch.specs.Received.{Received, addressee_answered, addressee_leases, addressee_saves, received, received_leases, received_saves}
+use Rattle.circuit_server.specs.Answered.{IsAnswer, fails_at}
+use Rattle.circuit_server.specs.CircuitServerValue.{CircuitServerValue, HasItsPools, IsReady, IsReadyFor, OpenCircuitValue, book_of, leases_of, part_of}
+use Rattle.dispatch.specs.ServerValue.{HoldsDeadlines, ServerValue, books_in, circuits_in, leases_in, with_states}
+use Rattle.circuit_server.specs.Ticked.{state_of}
+use Rattle.circuit_server.proofs.AnswerLemmas.{because_err, because_ok, not_more}
+use Rattle.dispatch.proofs.HeldDeadlines.{one_held}
 use Rattle.dispatch.proofs.ReceivedLemmas.{received_at, leases_at, saves_at}
 use Rattle.dispatch.proofs.ServerLemmas.{all_moved, one_moved}
 use Rattle.dispatch.proofs.TickLemmas.{own_state}

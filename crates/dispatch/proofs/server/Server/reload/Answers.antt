@@ -4,10 +4,11 @@ use Rattle.std.proofs.lemmas.Option.{get_or_from_slice_get, slice_get_within}
 use Rattle.config.specs.CircuitPart.{CircuitPart}
 use Rattle.config.specs.Membership.{has}
 use Rattle.config.specs.Topology.{IsTopology, Topology, serves}
-use Rattle.dispatch.specs.Deadlines.{held_in}
-use Rattle.dispatch.specs.Leases.{turned}
-use Rattle.dispatch.specs.ServerValue.{HasItsPools, IsReady, ServerValue, circuits_in, leases_in, leases_of, with_states}
-use Rattle.dispatch.specs.Ticked.{state_of}
+use Rattle.circuit_server.specs.Deadlines.{held_in}
+use Rattle.circuit_server.specs.Leases.{turned}
+use Rattle.circuit_server.specs.CircuitServerValue.{HasItsPools, IsReady, leases_of}
+use Rattle.dispatch.specs.ServerValue.{ServerValue, circuits_in, leases_in, with_states}
+use Rattle.circuit_server.specs.Ticked.{state_of}
 use Rattle.dispatch.specs.Turned.{state_turned, turns_off}
 use Rattle.dispatch.proofs.TurnedLemmas.{all_pools, all_ready, as_before, leases_at, same_state, serves_after, still_topology, turns}
 use Rattle.dispatch.proofs.server.Server.reload.Goals as goal

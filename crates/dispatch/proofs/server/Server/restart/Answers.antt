@@ -2,8 +2,10 @@ use Rattle.std.proofs.Common.{◌<◌, ◌≤◌, ◌+◌, ◌*◌, ℕ, List, m
 use Rattle.std.specs.Prelude.{All}
 use Rattle.config.specs.CircuitPart.{CircuitPart, IsPart}
 use Rattle.config.specs.Topology.{RegionsDiffer}
-use Rattle.dispatch.specs.Leases.{AreBroughtUp, AreSynced, KeepsOthers, found_leases}
-use Rattle.dispatch.specs.ServerValue.{HasItsPools, IsReady, ServerValue, leases_of, with_states}
+use Rattle.circuit_server.specs.Leases.{found_leases}
+use Rattle.dispatch.specs.Regions.{AreBroughtUp, AreSynced, KeepsOthers}
+use Rattle.circuit_server.specs.CircuitServerValue.{HasItsPools, IsReady, leases_of}
+use Rattle.dispatch.specs.ServerValue.{ServerValue, with_states}
 use Rattle.dispatch.proofs.ServerLemmas.{written_through}
 use Rattle.dispatch.proofs.server.Server.restart.Goals as goal
 

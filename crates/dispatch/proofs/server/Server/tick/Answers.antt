@@ -1,11 +1,12 @@
 use Rattle.std.proofs.Common.{List, map, length, sym, ap, subst, ◌∙◌}
 use Rattle.std.specs.Prelude.{All, Option}
 use Rattle.std.proofs.lemmas.List.{length-map}
-use Rattle.dispatch.specs.Deadlines.{HoldsDeadlines, swept}
-use Rattle.dispatch.specs.Leases.{after_tick}
-use Rattle.dispatch.specs.ServerValue.{HasItsPools, IsReady, OpenCircuitValue, ServerValue, circuits_in, leases_in, leases_of, with_states}
-use Rattle.dispatch.specs.Ticked.{state_at}
-use Rattle.dispatch.proofs.DeadlineLemmas.{later_left, same_slots}
+use Rattle.circuit_server.specs.Deadlines.{swept}
+use Rattle.dispatch.specs.ServerValue.{HoldsDeadlines, ServerValue, circuits_in, leases_in, with_states}
+use Rattle.circuit_server.specs.Leases.{after_tick}
+use Rattle.circuit_server.specs.CircuitServerValue.{HasItsPools, IsReady, OpenCircuitValue, leases_of}
+use Rattle.circuit_server.specs.Ticked.{state_at}
+use Rattle.dispatch.proofs.HeldDeadlines.{later_left, same_slots}
 use Rattle.dispatch.proofs.TickLemmas.{all_pools_after_tick, all_ready_after_tick, held_after_tick, leases_after_tick}
 use Rattle.dispatch.proofs.server.Server.tick.Goals as goal
 

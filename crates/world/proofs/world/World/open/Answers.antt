@@ -3,11 +3,11 @@ use Rattle.std.specs.Prelude.{All}
 use Rattle.config.specs.CircuitPart.{CircuitPart, parts_of}
 use Rattle.config.specs.Plans.{one_plan}
 use Rattle.config.specs.Topology.{Topology}
-use Rattle.dispatch.specs.Leases.{HasRegions, IsBroughtUp, counts_of}
+use Rattle.circuit_server.specs.Leases.{IsBroughtUp, counts_of}
+use Rattle.dispatch.specs.Regions.{HasRegions, KeepsOthers}
 use Rattle.dispatch.specs.ServerValue.{AreReady, leases_in}
 use Rattle.lease_disk.specs.Region.{Region}
 use Rattle.lease_disk.specs.Model as disk
-use Rattle.dispatch.specs.Leases.{KeepsOthers}
 use Rattle.world.specs.Start.{Starts}
 use Rattle.world.specs.World.{WorldValue, states}
 use Rattle.world.proofs.StartLemmas.{opens, starts}

@@ -1,9 +1,8 @@
 use Rattle.std.proofs.Common.{◌≤◌, length, refl, sym, ap, subst, ◌∙◌}
 use Rattle.config.specs.Topology.{Topology}
-use Rattle.dispatch.specs.Leases.{HasRegions}
+use Rattle.dispatch.specs.Regions.{HasRegions, KeepsOthers}
 use Rattle.dispatch.specs.ServerValue.{AreReady, leases_in}
 use Rattle.lease_disk.specs.Model as disk
-use Rattle.dispatch.specs.Leases.{KeepsOthers}
 use Rattle.events.specs.Seen.{Restart, comeback_at}
 use Rattle.world.specs.StepsAs.{AllMove}
 use Rattle.world.specs.World.{WorldValue, states}

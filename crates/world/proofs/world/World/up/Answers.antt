@@ -1,17 +1,17 @@
 use Rattle.std.proofs.Common.{ℕ, ◌<◌, true, length, refl, sym, ap, subst, ◌∙◌, arith}
 use Rattle.std.specs.Prelude.{Result, slice_get}
 use Rattle.types.specs.declared.discard.Discard.{Discard}
-use Rattle.dispatch.specs.Received.{IsAnswer}
+use Rattle.circuit_server.specs.Answered.{IsAnswer}
 use Rattle.config.specs.CircuitPart.{CircuitPart}
 use Rattle.config.specs.Topology.{Topology}
-use Rattle.dispatch.specs.Leases.{after_datagram}
+use Rattle.circuit_server.specs.Leases.{after_datagram}
 use Rattle.dispatch.specs.ServerValue.{AreReady, leases_in}
 use Rattle.lease_disk.specs.Model as disk
 use Rattle.lease_disk.specs.Region.{Region}
 use Rattle.lossy_net.specs.Net.{Datagram, datagrams}
 use Rattle.lossy_net.specs.declared.dir.Dir.TheVariants as dir
 use Rattle.world.specs.Alone.{delivery_of}
-use Rattle.dispatch.specs.Leases.{KeepsOthers}
+use Rattle.dispatch.specs.Regions.{KeepsOthers}
 use Rattle.events.specs.Seen.{Up}
 use Rattle.world.specs.StepsAs.{IsFor, Returns, Moves, under}
 use Rattle.world.specs.World.{WorldValue, states}

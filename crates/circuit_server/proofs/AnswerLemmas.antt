@@ -1,0 +1,138 @@
+-- What a circuit answers to a message, by what its open circuit decides.
+use Rattle.std.proofs.Common.{◌≡◌, ℕ, ◌+◌, ◌==◌, ◌&&◌, nat_lt, Bool, true, false, not, refl, sym, ap, subst, ◌∙◌, Ok, Err, Result, is_ok, arith}
+use Rattle.std.specs.Prelude.{Option, Some, None, IfErr, if◌then◌else◌}
+use Rattle.std.proofs.lemmas.Bool.{lt-ltb, le-ltb}
+use Rattle.types.specs.Delivery.{DeliveryValue}
+use Rattle.types.specs.declared.discard.Discard.TheVariants.{DiskFault}
+use Rattle.config.specs.CircuitPart.{CircuitPart}
+use Rattle.lease_disk.specs.Device.{Device, Touches, WritesAt}
+use Rattle.lease_disk.specs.Region.{Region, effective, faults_after}
+use Rattle.circuit_server.specs.Leases.{Leases, after_datagram, formats_of, kept, restarts_of, restarts_after}
+use Rattle.circuit_server.specs.Answered.{after_save, answered, circuit_saves, fails_at, saves}
+use Rattle.circuit_server.specs.Server.{Book, Served, book_at, datagram_served, served}
+use Rattle.circuit_server.specs.CircuitServerValue.{CircuitServerValue, OpenCircuitValue, book_of, leases_of, open_book}
+
+-- ---- by whom a datagram is for
+
+pub because_err : {T E : Type 0} (P : E → Type 0) (r : Result T E) (why : E) → r ≡ Err why → P why → IfErr r P
+because_err P r why e holds = subst (λ x. IfErr x P) (sym e) holds
+
+pub because_ok : {T E : Type 0} (P : E → Type 0) (r : Result T E) (x : T) → r ≡ Ok x → IfErr r P
+because_ok P r x e = subst (λ y. IfErr y P) (sym e) tt
+
+-- ---- what is served
+
+-- at the moment's book
+pub asked : (part : CircuitPart) (d : DeliveryValue) (b later : Book) (done : Served) → later ≡ book_at d.moment b → datagram_served part d.proto d.bytes later ≡ done → served part d b ≡ done
+unfolding served
+asked part d b later done ticked is = ap (datagram_served part d.proto d.bytes) (sym ticked) ∙ is
+
+-- ---- after the save
+
+and_false : (x : Bool) → (x && false) ≡ false
+and_false false = refl
+and_false true = refl
+
+not_not : (x : Bool) → not (not x) ≡ x
+not_not false = refl
+not_not true = refl
+
+pub not_more : (n : ℕ) → nat_lt n n ≡ false
+not_more n = le-ltb n n (omega arith)
+
+one_more : (n : ℕ) → nat_lt n (n + 1) ≡ true
+one_more n = lt-ltb n (n + 1) (omega arith)
+
+-- the device counts a failure exactly where a call fails
+pub counted : {T E : Type 0} (result : Result T E) (before after : ℕ) → after ≡ faults_after result before → nat_lt before after ≡ not (is_ok result)
+counted (Ok value) before after is = ap (nat_lt before) is ∙ not_more before
+counted (Err fault) before after is = ap (nat_lt before) is ∙ one_more before
+
+pub save_held : (fails : Bool) (done : Served) → fails ≡ false → after_save fails done ≡ record { answer = done.answer; book = Some done.book }
+save_held fails done held = rw held (rw (and_false done.is_kept) refl)
+
+pub save_failed : (fails : Bool) (done : Served) → fails ≡ true → done.is_kept ≡ true → after_save fails done ≡ record { answer = Err DiskFault; book = None }
+save_failed fails done failed is = rw failed (rw is refl)
+
+-- whether a decision's save fails, by the fuse of its region
+abbrev pub save_fails : ℕ → Served → Bool
+save_fails fuse done = done.is_kept && not (effective 6 fuse == 0)
+
+fails_where : (fuses : ℕ → ℕ) (region : ℕ) (is_kept : Bool) → (is_kept && not (effective 6 (fuses region) == 0)) ≡ fails_at fuses (if is_kept then Some region else None)
+fails_where fuses region true = refl
+fails_where fuses region false = refl
+
+-- whether the save fails, by the decision and the device
+pub fails_by : {T E : Type 0} (result : Result T E) (before after : ℕ) (x : Bool) → after ≡ faults_after result before → is_ok result ≡ not x → nat_lt before after ≡ x
+fails_by result before after x is ok = counted result before after is ∙ ap not ok ∙ not_not x
+
+-- ---- the leases after it
+
+abbrev left : CircuitPart → Region → Option Book → Leases
+left part region book = record { book = book; restarts = restarts_of part region; is_new = formats_of region }
+
+abbrev before : CircuitPart → (ℕ → Region) → Book → Leases
+before part regions b = left part (regions part.region) (Some b)
+
+module _ (part : CircuitPart) (regions later : ℕ → Region) (b : Book) (done : Served) (fuse : ℕ) (ok : Bool) where
+  leases_after : (is_kept : Bool) → done.is_kept ≡ is_kept
+      → (is_kept ≡ true → restarts_of part (later part.region) ≡ restarts_after (effective 6 fuse) done.book (restarts_of part (regions part.region)))
+      → (is_kept ≡ false → later ≡ regions)
+      → ok ≡ not (is_kept && not (effective 6 fuse == 0))
+      → formats_of (later part.region) ≡ formats_of (regions part.region)
+      → left part (later part.region) (if ok then Some done.book else None) ≡ kept fuse done (before part regions b)
+  leases_after false is saves stays answer formats =
+      rw is (rw answer (λ i. left part (stays refl i part.region) (Some done.book)))
+  leases_after true is saves stays answer formats =
+      rw is (rw (answer ∙ not_not (effective 6 fuse == 0)) (λ i. record { book = if effective 6 fuse == 0 then Some done.book else None; restarts = saves refl i; is_new = formats i }))
+
+-- ---- what is written
+
+writes_if : (tells is_kept : Bool) (region : ℕ) (old new : Device) → (is_kept ≡ false → new ≡ old) → Touches tells region old new
+    → WritesAt tells (if is_kept then Some region else None) old new
+writes_if tells true region old new stays touches = touches
+writes_if tells false region old new stays touches = stays refl
+
+-- ---- what the clauses say
+
+-- an open circuit was asked, and served the datagram so
+pub record IsServed (s : CircuitServerValue) (d : DeliveryValue) (part : CircuitPart) (o : OpenCircuitValue) (done : Served) : Type 0 where
+  pub was : s ≡ record { part = part; state = Some o }
+  pub served_so : served part d (open_book o) ≡ done
+
+module _ {s : CircuitServerValue} {d : DeliveryValue} {part : CircuitPart} {o : OpenCircuitValue} {done : Served} (case : IsServed s d part o done) where
+  as_served : (fails : Bool) → answered s.part d fails (book_of s) ≡ after_save fails done
+  as_served fails = ap (λ v. answered v.part d fails (book_of v)) case.was ∙ ap (after_save fails) case.served_so
+
+  pub held : (fails : Bool) → fails ≡ false → answered s.part d fails (book_of s) ≡ record { answer = done.answer; book = Some done.book }
+  held fails saved = as_served fails ∙ save_held fails done saved
+
+  pub failed : (fails : Bool) → fails ≡ true → done.is_kept ≡ true → answered s.part d fails (book_of s) ≡ record { answer = Err DiskFault; book = None }
+  failed fails unsaved keeps = as_served fails ∙ save_failed fails done unsaved keeps
+
+  -- what is saved, and where
+  saves_so : circuit_saves d (Some s.part) (Some (book_of s)) ≡ saves part done
+  saves_so = ap (λ v. circuit_saves d (Some v.part) (Some (book_of v))) case.was ∙ ap (saves part) case.served_so
+
+  pub fails_as : (fuses : ℕ → ℕ) (fails : Bool) → fails ≡ save_fails (fuses part.region) done → fails ≡ fails_at fuses (circuit_saves d (Some s.part) (Some (book_of s)))
+  fails_as fuses fails by_decision = by_decision ∙ fails_where fuses part.region done.is_kept ∙ sym (ap (fails_at fuses) saves_so)
+
+  pub writes_as : (tells : Bool) (old new : Device) → (done.is_kept ≡ false → new ≡ old) → Touches tells part.region old new
+      → WritesAt tells (circuit_saves d (Some s.part) (Some (book_of s))) old new
+  writes_as tells old new stays touches =
+      subst (λ (region : Option ℕ). WritesAt tells region old new)
+      (sym saves_so)
+      (writes_if tells done.is_kept part.region old new stays touches)
+
+  pub leases_as : (regions later : ℕ → Region) (fuses : ℕ → ℕ) (b : Book) (ok : Bool) → b ≡ done.book
+      → (done.is_kept ≡ true → restarts_of part (later part.region) ≡ restarts_after (effective 6 (fuses part.region)) b (restarts_of part (regions part.region)))
+      → (done.is_kept ≡ false → later ≡ regions)
+      → ok ≡ not (save_fails (fuses part.region) done)
+      → formats_of (later part.region) ≡ formats_of (regions part.region)
+      → left part (later part.region) (if ok then Some b else None) ≡ after_datagram s.part d (fuses s.part.region) (leases_of regions s)
+  leases_as regions later fuses b ok book saves stays answer formats =
+      let K : Book → Type 0 = λ x. restarts_of part (later part.region) ≡ restarts_after (effective 6 (fuses part.region)) x (restarts_of part (regions part.region)) in
+      ap (λ x. left part (later part.region) (if ok then Some x else None)) book
+      ∙ leases_after part regions later (open_book o) done (fuses part.region) ok done.is_kept refl (λ keeps. subst K book (saves keeps)) stays answer formats
+      ∙ ap (λ d. kept (fuses part.region) d (before part regions (open_book o))) (sym case.served_so)
+      ∙ sym (ap (λ v. after_datagram v.part d (fuses v.part.region) (leases_of regions v)) case.was)

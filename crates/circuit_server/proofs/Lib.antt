@@ -1,0 +1,4 @@
+pub mod AnswerLemmas
+pub mod ComeBackLemmas
+pub mod DeadlineLemmas
+pub mod SaveLemmas

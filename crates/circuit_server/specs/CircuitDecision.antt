@@ -1,0 +1,69 @@
+-- What a circuit's decision makes of it. Only proofs need this.
+use Rattle.std.specs.Prelude.{◌≡◌, ℕ, ◌+◌, ◌<◌, ◌≤◌, true, Bool, is_some, List, Option, option_map, Some, IfSome, Result}
+use Rattle.types.specs.Slots.{IsWithin4, IsWithin6}
+use Rattle.types.specs.declared.discard.Discard.{Discard}
+use Rattle.config.specs.CircuitPart.{CircuitPart}
+use Rattle.types.specs.declared.slots.Slots.{Slots}
+use Rattle.lease_disk.specs.declared.content.Content.{Content}
+use Rattle.lease_disk.specs.declared.content.Content.TheVariants as content
+use Rattle.lease_disk.specs.Layout.{is_format2}
+use Rattle.lease_disk.specs.Recovered.{recovered}
+use Rattle.lease_disk.specs.Region.{Region, IsClean}
+use Rattle.lease_disk.specs.Save.{AreMarks, is_read, with_slot}
+use Rattle.bindings_v4.specs.Kept4 as kept4
+use Rattle.bindings_v4.specs.Decision4.{IsOffer}
+use Rattle.bindings_v4.specs.Slots4 as slots4
+use Rattle.bindings_v6.specs.Kept6 as kept6
+use Rattle.bindings_v6.specs.Slots6 as slots6
+use Rattle.circuit_server.specs.declared.decision.CircuitDecision.{CircuitDecision}
+use Rattle.circuit_server.specs.declared.decision.CircuitDecision.TheVariants.{V4, V6}
+use Rattle.circuit_server.specs.Server.{Served, reply4_to, reply6_to}
+use Rattle.circuit_server.specs.CircuitServerValue.{OpenCircuitValue, counts_in, kept_slots, open_book}
+
+-- the reply's datagram, or why there is none
+abbrev pub answer_of : CircuitPart → CircuitDecision → Result (List ℕ) Discard
+answer_of part (V4 m decision) = reply4_to part m decision.answer
+answer_of part (V6 forward m client decision) = reply6_to part forward m client decision.answer
+
+-- one protocol's slots change
+abbrev pub with_decision : CircuitDecision → OpenCircuitValue → OpenCircuitValue
+with_decision (V4 m decision) o = record o { four = slots4.with_decision decision o.four }
+with_decision (V6 forward m client decision) o = record o { six = slots6.with_decision decision o.six }
+
+abbrev pub is_kept : CircuitDecision → Bool
+is_kept (V4 m decision) = is_some decision.keep
+is_kept (V6 forward m client decision) = is_some decision.keep
+
+-- the slot of the region that is kept, and what it is to hold: those of the DHCPv6 pool begin at 16
+abbrev pub kept_in : CircuitDecision → Option (ℕ × Content)
+kept_in (V4 m decision) = option_map (λ kept. (kept.slot, content.Four kept.content)) decision.keep
+kept_in (V6 forward m client decision) = option_map (λ kept. (16 + kept.slot, content.Six kept.content)) decision.keep
+
+-- of what a region keeps, a decision changes the slot that it keeps alone, which is one of the pool
+abbrev pub KeepsItsSlot : CircuitDecision → OpenCircuitValue → Type 0
+KeepsItsSlot (V4 m decision) o =
+    (kept4.kept_slots o.clock (slots4.with_decision decision o.four).slots ≡ kept4.keep_in decision.keep (kept4.kept_slots o.clock o.four.slots))
+    × IfSome decision.keep (λ kept. kept.slot < o.four.pool.count) × (o.four.pool.count ≤ 16) × IfSome decision.offer (IsOffer o.clock o.four.pool.count)
+KeepsItsSlot (V6 forward m client decision) o =
+    (kept6.kept_slots o.clock (slots6.with_decision decision o.six).slots ≡ kept6.keep_in decision.keep (kept6.kept_slots o.clock o.six.slots))
+    × IfSome decision.keep (λ kept. kept.slot < o.six.pool.count) × (o.six.pool.count ≤ 16)
+
+-- a slot that is kept or offered is held within its limit
+abbrev pub IsWithin : CircuitDecision → Type 0
+IsWithin (V4 m decision) = IfSome decision.keep (λ kept. IsWithin4 kept.content) × IfSome decision.offer slots4.IsOfferWithin
+IsWithin (V6 forward m client decision) = IfSome decision.keep (λ kept. IsWithin6 kept.content)
+
+-- what an open circuit serves by a decision
+abbrev pub served_by : CircuitPart → OpenCircuitValue → CircuitDecision → Served
+served_by part o decision = record { answer = answer_of part decision; book = open_book (with_decision decision o); is_kept = is_kept decision }
+
+-- an open circuit whose region keeps it but for this slot, which is to hold this
+pub record IsToSave (region : Region) (s : ℕ) (changed : Content) (o : OpenCircuitValue) : Type 0 where
+  pub format : is_format2 region.byte ≡ true
+  pub clean : IsClean region
+  pub marks : AreMarks (counts_in o) region.byte o.marks
+  pub below : is_read (counts_in o) s ≡ true
+  pub slots : Slots
+  pub recovers : recovered (counts_in o) region.byte ≡ Some slots
+  pub later : slots.clock ≤ o.clock
+  pub kept : with_slot o.clock s changed slots ≡ kept_slots o

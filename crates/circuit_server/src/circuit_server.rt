@@ -1,0 +1,194 @@
+//! The server of one circuit: what it has while it is open, and what it makes of a message.
+ghost use Rattle.std.specs.Prelude.{◌≡◌, ◌<◌, ◌≤◌, ◌+◌, ℕ, length, [], Some, None, IfSome, true, is_some, nat_lt, option_map};
+ghost use Rattle.config.specs.CircuitPart.{IsPart};
+ghost use Rattle.circuit_server.specs.Deadlines.{HasDeadlines, SameBeside, held_in};
+ghost use Rattle.circuit_server.specs.Leases.{IsBroughtUp, after_datagram, counts_of, found_leases};
+ghost use Rattle.timers.specs.Deadlines.{deadline};
+ghost use Rattle.types.specs.Slots.{last_until};
+ghost use Rattle.circuit_server.specs.Answered.{IsAnswer, answered, circuit_saves, fails_at};
+ghost use Rattle.requests.specs.RelayedMessage.{IsRelayedMessage};
+ghost use Rattle.circuit_server.specs.CircuitServerValue.{HasPools, IsReadyFor, leases_of, open_book};
+ghost use Rattle.circuit_server.specs.Ticked.{IsLater, state_at};
+ghost use Rattle.circuit_server.specs.Unoffered.{state_unoffered};
+ghost use Rattle.lease_disk.specs.Device.{ChangesOne, Touches, WritesAt};
+ghost use Rattle.lease_disk.specs.Region.{IsClean};
+
+use crate::decision::put;
+use crate::open_circuit::OpenCircuit;
+use config::CircuitPart;
+use lease_disk::{Disk, migrate};
+use requests::RelayedMessage;
+use std::marker::Model;
+use timers::Deadlines;
+use types::{Delivery, Discard, Moment};
+use wire::PacketBuf;
+
+/// The server of one circuit: what it has while the circuit is open. A part is the circuit's part of the
+/// configuration, the same at each call, and a device the one that its region is on, which nobody else writes to
+/// meanwhile. The table is that of all circuits, in seconds; `first` is the number of the circuit's first slot in it,
+/// 32 times its index. No call takes memory.
+#[derive(Drop)]
+pub struct CircuitServer {
+    state: Option<OpenCircuit>,
+}
+
+impl Model for CircuitServer {
+    ghost use Rattle.std.specs.Prelude.{Option};
+    ghost use Rattle.circuit_server.specs.CircuitServerValue.{OpenCircuitValue};
+
+    ghost Value = { Option OpenCircuitValue };
+
+    ghost view = { λ s. s.state };
+}
+
+impl CircuitServer {
+    /// The server of a closed circuit.
+    pub fn closed() -> CircuitServer
+        ensures { result ≡ None }
+    {
+        CircuitServer { state: None }
+    }
+
+    /// Whether the circuit is open: its region was read and is not damaged, and each save to it was done.
+    pub fn is_open(&self) -> bool
+        ensures { result ≡ is_some (option_map open_book self.now) }
+    {
+        self.state.is_some()
+    }
+
+    /// Begins with what the circuit's region holds. A region of format 1 is moved to format 2 first, in this buffer. The
+    /// circuit is closed where the region cannot be read or is damaged, and where the move fails. The deadlines of its slots
+    /// are for the caller to set.
+    pub fn restart<D: Disk>(&mut self, part: &CircuitPart, disk: &mut D, buffer: &mut [u8])
+        requires part { IsPart part.now }
+        requires exists { part.now.region < (D.device disk.old).count }
+        requires buffer { length buffer.old ≡ 16384 }
+        requires clean { D.tells ≡ true → ((D.device disk.old).region part.now.region).readable ≡ true → IsClean ((D.device disk.old).region part.now.region) }
+        ensures pools { HasPools part.now self.new }
+        ensures leases { D.tells ≡ true → leases_of (D.device disk.new).region (record { part = part.now; state = self.new }) ≡ found_leases (D.device disk.old).region (D.device disk.old).fuse part.now }
+        ensures ready { D.tells ≡ true → IsReadyFor ((D.device disk.new).region part.now.region) self.new }
+        ensures region { D.tells ≡ true → IsBroughtUp (counts_of part.now) ((D.device disk.old).fuse part.now.region) ((D.device disk.old).region part.now.region) ((D.device disk.new).region part.now.region) }
+        ensures frame { ChangesOne D.tells part.now.region (D.device disk.old) (D.device disk.new) }
+        ensures reads { (D.device disk.new).reads ≤ (D.device disk.old).reads + 5 }
+        ensures writes { (D.device disk.new).writes ≤ (D.device disk.old).writes + 4 }
+    {
+        let Ok(()) = migrate(part.region(), disk, part.counts(), buffer) else {
+            self.state = None;
+            return;
+        };
+        self.state = OpenCircuit::recover(part, disk);
+    }
+
+    /// Answers a datagram of the circuit, of which this was read, at the moment of its delivery. A save that fails closes
+    /// the circuit, until a restart. At `Ok` the reply's datagram is in `out`, which stays empty otherwise; the error is
+    /// the reason for which the datagram is dropped.
+    pub fn answer<D: Disk>(
+        &mut self,
+        part: &CircuitPart,
+        delivery: &Delivery<'_>,
+        relayed: RelayedMessage<'_>,
+        disk: &mut D,
+        out: &mut PacketBuf,
+        table: &mut Deadlines,
+        first: usize,
+    ) -> Result<(), Discard>
+        requires read { IsRelayedMessage delivery.now.proto delivery.now.bytes relayed }
+        requires empty { out.old ≡ [] }
+        requires exists { part.now.region < (D.device disk.old).count }
+        requires room { first + 32 ≤ length table.old.slots }
+        requires most { first ≤ 32736 }
+        requires deadlines { HasDeadlines table.old first self.old }
+        requires pools { HasPools part.now self.old }
+        requires ready { D.tells ≡ true → IsReadyFor ((D.device disk.old).region part.now.region) self.old }
+        ensures later { (moment : ℕ) → IsLater moment self.old → IsLater moment self.new }
+        ensures pools { HasPools part.now self.new }
+        ensures deadlines { HasDeadlines table.new first self.new }
+        ensures beside { SameBeside first table.old table.new }
+        ensures answer { IsAnswer (answered part.now delivery.now (nat_lt (D.device disk.old).failures (D.device disk.new).failures) (option_map open_book self.old)).answer result out.new }
+        ensures book { option_map open_book self.new ≡ (answered part.now delivery.now (nat_lt (D.device disk.old).failures (D.device disk.new).failures) (option_map open_book self.old)).book }
+        ensures fails { D.tells ≡ true → nat_lt (D.device disk.old).failures (D.device disk.new).failures ≡ fails_at (D.device disk.old).fuse (circuit_saves delivery.now (Some part.now) (Some (option_map open_book self.old))) }
+        ensures leases { D.tells ≡ true
+            → leases_of (D.device disk.new).region (record { part = part.now; state = self.new })
+            ≡ after_datagram part.now delivery.now ((D.device disk.old).fuse part.now.region) (leases_of (D.device disk.old).region (record { part = part.now; state = self.old })) }
+        ensures ready { D.tells ≡ true → IsReadyFor ((D.device disk.new).region part.now.region) self.new }
+        ensures writes { WritesAt D.tells (circuit_saves delivery.now (Some part.now) (Some (option_map open_book self.old))) (D.device disk.old) (D.device disk.new) }
+        ensures frame { Touches D.tells part.now.region (D.device disk.old) (D.device disk.new) }
+    {
+        let Some(circuit) = &mut self.state else {
+            return Err(Discard::CircuitClosed);
+        };
+        circuit.tick(delivery.moment);
+        let decision = match circuit.decide(part, relayed) {
+            Ok(decision) => decision,
+            Err(why) => return Err(why),
+        };
+        match circuit.keep(part, &decision, disk) {
+            Ok(()) => {
+                decision.set_deadlines(table, first);
+                decision.reply(part, out)
+            }
+            Err(_) => {
+                self.state = None;
+                self.set_deadlines(table, first);
+                Err(Discard::DiskFault)
+            }
+        }
+    }
+
+    /// Until when a slot of the circuit is held, live or expired, in seconds; `None` where the circuit is closed.
+    fn until(&self, slot: usize) -> Option<u64>
+        requires { slot < 32 }
+        ensures value { result ≡ held_in self.now slot }
+        ensures most { IfSome result (λ until. until ≤ last_until) }
+    {
+        match &self.state {
+            Some(circuit) => circuit.until(slot),
+            None => None,
+        }
+    }
+
+    /// Gives all slots of the circuit their deadlines, where this is the number of the first one.
+    pub fn set_deadlines(&self, table: &mut Deadlines, first: usize)
+        requires room { first + 32 ≤ length table.old.slots }
+        requires most { first ≤ 32736 }
+        ensures own { (s : ℕ) → s < 32 → deadline table.new (first + s) ≡ held_in self.now s }
+        ensures deadlines { HasDeadlines table.new first self.now }
+        ensures beside { SameBeside first table.old table.new }
+    {
+        'slots: for slot in 0..32 {
+            put(table, first + slot, self.until(slot));
+        }
+    }
+
+    /// The circuit is no longer served: it loses its offers, and its slots have the deadlines of what is left, where this is the
+    /// number of the first one.
+    pub fn turn_off(&mut self, table: &mut Deadlines, first: usize)
+        requires room { first + 32 ≤ length table.old.slots }
+        requires most { first ≤ 32736 }
+        ensures state { self.new ≡ state_unoffered self.old }
+        ensures own { (s : ℕ) → s < 32 → deadline table.new (first + s) ≡ held_in self.new s }
+        ensures deadlines { HasDeadlines table.new first self.new }
+        ensures beside { SameBeside first table.old table.new }
+    {
+        self.withdraw_offers();
+        self.set_deadlines(table, first);
+    }
+
+    /// Drops the offers of an open circuit.
+    fn withdraw_offers(&mut self)
+        ensures { self.new ≡ state_unoffered self.old }
+    {
+        if let Some(circuit) = &mut self.state {
+            circuit.withdraw_offers();
+        }
+    }
+
+    /// Moves the clock of an open circuit to this moment, where it is a later one.
+    pub fn tick(&mut self, now: Moment)
+        ensures { self.new ≡ state_at now self.old }
+    {
+        if let Some(circuit) = &mut self.state {
+            circuit.tick(now);
+        }
+    }
+}

@@ -1,0 +1,8 @@
+//! The server of one circuit: what it decides on a message, what it saves, and what it answers.
+#![tactic(auto)]
+
+mod circuit_server;
+mod decision;
+mod open_circuit;
+
+pub use circuit_server::CircuitServer;

@@ -1,0 +1,242 @@
+//! What the server has of an open circuit.
+ghost use Rattle.std.specs.Prelude.{◌≡◌, ◌<◌, ◌≤◌, ◌==◌, ◌&&◌, ◌+◌, ℕ, true, false, not, is_ok, option_map, List, OnOk, OnErr, IfOk, IfErr, IfSome, Some};
+ghost use Rattle.types.specs.Slots.{last_until};
+ghost use Rattle.types.specs.declared.dest.Proto.{Proto};
+ghost use Rattle.slots.specs.Kept.{AreWithin};
+ghost use Rattle.v6_options.specs.Codes.{RELAY_MESSAGE};
+ghost use Rattle.v6_options.specs.Spelling.{look_up};
+ghost use Rattle.config.specs.CircuitPart as parts;
+ghost use Rattle.circuit_server.specs.CircuitDecision.{IsToSave, IsWithin, KeepsItsSlot, is_kept, served_by, with_decision};
+ghost use Rattle.circuit_server.specs.Deadlines.{held_until};
+ghost use Rattle.circuit_server.specs.Leases.{formats_of, found_book, restarts_after, restarts_of};
+ghost use Rattle.requests.specs.RelayedMessage.{IsRelayedMessage};
+ghost use Rattle.requests.specs.Request4.{request4_in};
+ghost use Rattle.circuit_server.specs.Server.{book_at, datagram_served, drop, message6_served, request4_served};
+ghost use Rattle.circuit_server.specs.CircuitServerValue.{HasPools, IsReadyFor, open_book};
+ghost use Rattle.circuit_server.specs.Ticked.{open_at};
+ghost use Rattle.circuit_server.specs.Unoffered.{open_unoffered};
+ghost use Rattle.lease_disk.specs.Device.{Touches, TouchesNothing};
+ghost use Rattle.lease_disk.specs.Layout.{is_format2};
+ghost use Rattle.lease_disk.specs.Region.{IsClean, Region, effective, faults_after};
+ghost use Rattle.lease_disk.specs.Save.{Fits};
+
+use crate::decision::{CircuitDecision, SIX_SLOTS_FROM};
+use bindings_v4::Book4;
+use bindings_v6::Book6;
+use config::CircuitPart;
+use lease_disk::{Content, Disk, Fault, Marks, recover, save};
+use requests::{RelayedMessage, request4_in, request6_in};
+use std::marker::Model;
+use types::{Discard, Moment};
+use v4_message::Message;
+use v6_message::Relay6;
+
+/// An open circuit: its clock, its book of each protocol, and what the next save has to know of its
+/// region.
+#[derive(Drop)]
+pub(crate) struct OpenCircuit {
+    clock: Moment,
+    four: Book4,
+    six: Book6,
+    marks: Marks,
+}
+
+impl Model for OpenCircuit {
+    ghost use Rattle.slots.specs.Kept.{AreOffersWithin, AreWithin};
+    ghost use Rattle.circuit_server.specs.CircuitServerValue.{OpenCircuitValue};
+
+    ghost Value = { OpenCircuitValue };
+
+    ghost view = { λ o. record { clock = o.clock; four = o.four; six = o.six; marks = o.marks } };
+
+    ghost invariant = { λ o. AreWithin o.four.slots × AreWithin o.six.slots × AreOffersWithin o.four.slots × AreOffersWithin o.six.slots };
+}
+
+impl OpenCircuit {
+    /// The circuit with the books that its region means, at the kept clock; `None` where the region
+    /// cannot be read or is damaged.
+    pub(crate) fn recover<D: Disk>(part: &CircuitPart, disk: &mut D) -> Option<OpenCircuit>
+        requires { part.now.region < (D.device disk.old).count }
+        ensures pools { HasPools part.now result }
+        ensures book { D.tells ≡ true → option_map open_book result ≡ found_book part.now ((D.device disk.old).region part.now.region) }
+        ensures ready { D.tells ≡ true → is_format2 ((D.device disk.old).region part.now.region).byte ≡ true → (((D.device disk.old).region part.now.region).readable ≡ true → IsClean ((D.device disk.old).region part.now.region)) → IsReadyFor ((D.device disk.old).region part.now.region) result }
+        ensures frame { TouchesNothing D.tells (D.device disk.old) (D.device disk.new) }
+        ensures reads { (D.device disk.new).reads ≤ (D.device disk.old).reads + 2 }
+    {
+        let Ok((slots, marks)) = recover(part.region(), disk, part.counts()) else {
+            return None;
+        };
+        Some(OpenCircuit {
+            clock: slots.clock,
+            four: Book4::new(part.pool4(), &slots),
+            six: Book6::new(part.pool6(), &slots),
+            marks,
+        })
+    }
+
+    /// Moves the clock to this moment, where it is a later one.
+    pub(crate) fn tick(&mut self, now: Moment)
+        ensures value { self.new ≡ open_at now self.old }
+        ensures pool4 { self.new.four.pool ≡ self.old.four.pool }
+        ensures pool6 { self.new.six.pool ≡ self.old.six.pool }
+        ensures four { self.new.four ≡ self.old.four }
+        ensures six { self.new.six ≡ self.old.six }
+        ensures later { self.old.clock ≤ self.new.clock }
+        ensures marks { self.new.marks ≡ self.old.marks }
+        ensures book { open_book self.new ≡ book_at now (open_book self.old) }
+        ensures ready { (region : Region) → IsReadyFor region (Some self.old) → IsReadyFor region (Some self.new) }
+    {
+        let later = self.clock.later(now);
+        bindings_v4::laws::expires_by_the_clock(&self.four, self.clock, later);
+        bindings_v6::laws::expires_by_the_clock(&self.six, self.clock, later);
+        self.clock = later;
+    }
+
+    /// Drops every offer, live or expired. Bindings, bars and the clock stay.
+    pub(crate) fn withdraw_offers(&mut self)
+        ensures { self.new ≡ open_unoffered self.old }
+    {
+        self.four.withdraw_offers();
+    }
+
+    /// Until when a slot of the circuit is held, live or expired, in seconds.
+    pub(crate) fn until(&self, slot: usize) -> Option<u64>
+        requires { slot < 32 }
+        ensures value { result ≡ held_until self.now slot }
+        ensures most { IfSome result (λ until. until ≤ last_until) }
+    {
+        if slot < SIX_SLOTS_FROM {
+            self.four.until(slot)
+        } else {
+            self.six.until(slot - SIX_SLOTS_FROM)
+        }
+    }
+
+    /// What a client's message calls for, or why it calls for nothing. Nothing is changed.
+    pub(crate) fn decide<'a>(
+        &self,
+        part: &CircuitPart,
+        relayed: RelayedMessage<'a>,
+    ) -> Result<CircuitDecision<'a>, Discard>
+        requires { HasPools part.now (Some self.now) }
+        ensures ok { (proto : Proto) (bytes : List ℕ) → IsRelayedMessage proto bytes relayed.entry → IfOk result (λ decision. datagram_served part.now proto bytes (open_book self.now) ≡ served_by part.now self.now decision) }
+        ensures err { (proto : Proto) (bytes : List ℕ) → IsRelayedMessage proto bytes relayed.entry → IfErr result (λ why. datagram_served part.now proto bytes (open_book self.now) ≡ drop why (open_book self.now)) }
+        ensures within { IfOk result IsWithin }
+        ensures keeps { IfOk result (λ decision. KeepsItsSlot decision self.now) }
+    {
+        match relayed {
+            RelayedMessage::V4(message) => self.decide4(message),
+            RelayedMessage::V6(forward) => self.decide6(part, forward),
+        }
+    }
+
+    /// What a DHCPv4 message calls for.
+    fn decide4<'a>(&self, message: Message<'a>) -> Result<CircuitDecision<'a>, Discard>
+        ensures ok { (part : parts.CircuitPart) → HasPools part (Some self.now) → IfOk result (λ decision. request4_served part message.entry (open_book self.now) (request4_in message.entry) ≡ served_by part self.now decision) }
+        ensures err { IfErr result (λ why. request4_in message.entry ≡ Err why) }
+        ensures within { IfOk result IsWithin }
+        ensures keeps { IfOk result (λ decision. KeepsItsSlot decision self.now) }
+    {
+        let request = match request4_in(&message) {
+            Ok(request) => request,
+            Err(why) => return Err(why),
+        };
+        let decision = self.four.decide(&request, self.clock);
+        Ok(CircuitDecision::V4(message, decision))
+    }
+
+    /// What the message in a Relay-forward calls for.
+    fn decide6<'a>(
+        &self,
+        part: &CircuitPart,
+        forward: Relay6<'a>,
+    ) -> Result<CircuitDecision<'a>, Discard>
+        requires { HasPools part.now (Some self.now) }
+        ensures ok { IfOk result (λ decision. message6_served part.now forward.entry (open_book self.now) (look_up RELAY_MESSAGE forward.entry.options) ≡ served_by part.now self.now decision) }
+        ensures err { IfErr result (λ why. message6_served part.now forward.entry (open_book self.now) (look_up RELAY_MESSAGE forward.entry.options) ≡ drop why (open_book self.now)) }
+        ensures within { IfOk result IsWithin }
+        ensures keeps { IfOk result (λ decision. KeepsItsSlot decision self.now) }
+    {
+        let Some(bytes) = forward.relay_message() else {
+            return Err(Discard::Malformed);
+        };
+        let (message, request) = match request6_in(part, bytes) {
+            Ok(asked) => asked,
+            Err(why) => return Err(why),
+        };
+        let decision = self.six.decide(&request, self.clock);
+        Ok(CircuitDecision::V6(forward, message, request.key, decision))
+    }
+
+    /// Makes a decision's changes, and saves the slot that has to be kept, if there is one. After an error
+    /// the circuit has to be closed: its region holds the old books or the new ones.
+    pub(crate) fn keep<D: Disk>(
+        &mut self,
+        part: &CircuitPart,
+        decision: &CircuitDecision<'_>,
+        disk: &mut D,
+    ) -> Result<(), Fault>
+        requires exists { part.now.region < (D.device disk.old).count }
+        requires pools { HasPools part.now (Some self.old) }
+        requires ready { D.tells ≡ true → IsReadyFor ((D.device disk.old).region part.now.region) (Some self.old) }
+        requires within { IsWithin decision.now }
+        requires keeps { KeepsItsSlot decision.now self.old }
+        ensures pools { HasPools part.now (Some self.new) }
+        ensures book { open_book self.new ≡ open_book (with_decision decision.now self.old) }
+        ensures after { self.new ≡ record (with_decision decision.now self.old) { marks = self.new.marks } }
+        ensures cause { OnErr result (is_kept decision.now ≡ true) }
+        ensures fails { D.tells ≡ true → is_ok result ≡ not (is_kept decision.now && not (effective 6 ((D.device disk.old).fuse part.now.region) == 0)) }
+        ensures kept { D.tells ≡ true → is_kept decision.now ≡ true
+            → restarts_of part.now ((D.device disk.new).region part.now.region) ≡ restarts_after (effective 6 ((D.device disk.old).fuse part.now.region)) (open_book self.new) (restarts_of part.now ((D.device disk.old).region part.now.region)) }
+        ensures stays { is_kept decision.now ≡ false → D.device disk.new ≡ D.device disk.old }
+        ensures formats { D.tells ≡ true → formats_of ((D.device disk.new).region part.now.region) ≡ formats_of ((D.device disk.old).region part.now.region) }
+        ensures ready { D.tells ≡ true → OnOk result (IsReadyFor ((D.device disk.new).region part.now.region) (Some self.new)) }
+        ensures frame { Touches D.tells part.now.region (D.device disk.old) (D.device disk.new) }
+        ensures failures { (D.device disk.new).failures ≡ faults_after result (D.device disk.old).failures }
+    {
+        self.commit(decision);
+        match decision.kept() {
+            Some((slot, content)) => self.save(part, slot, &content, disk),
+            None => Ok(()),
+        }
+    }
+
+    /// Makes a decision's change of its protocol's book.
+    fn commit(&mut self, decision: &CircuitDecision<'_>)
+        requires { IsWithin decision.now }
+        ensures { self.new ≡ with_decision decision.now self.old }
+    {
+        match decision {
+            CircuitDecision::V4(_, change) => self.four.commit(change),
+            CircuitDecision::V6(_, _, _, change) => self.six.commit(change),
+        }
+    }
+
+    /// Saves what a slot of the region is to hold from the circuit's clock on.
+    fn save<D: Disk>(
+        &mut self,
+        part: &CircuitPart,
+        slot: usize,
+        content: &Content,
+        disk: &mut D,
+    ) -> Result<(), Fault>
+        requires exists { part.now.region < (D.device disk.old).count }
+        requires pools { HasPools part.now (Some self.old) }
+        requires fits { Fits slot content.now }
+        requires changed { D.tells ≡ true → IsToSave ((D.device disk.old).region part.now.region) slot content.now self.old }
+        ensures four { self.new.four ≡ self.old.four }
+        ensures six { self.new.six ≡ self.old.six }
+        ensures clock { self.new.clock ≡ self.old.clock }
+        ensures answer { D.tells ≡ true → is_ok result ≡ (effective 6 ((D.device disk.old).fuse part.now.region) == 0) }
+        ensures restarts { D.tells ≡ true → restarts_of part.now ((D.device disk.new).region part.now.region) ≡ restarts_after (effective 6 ((D.device disk.old).fuse part.now.region)) (open_book self.new) (restarts_of part.now ((D.device disk.old).region part.now.region)) }
+        ensures formats { D.tells ≡ true → formats_of ((D.device disk.new).region part.now.region) ≡ formats_of ((D.device disk.old).region part.now.region) }
+        ensures ready { D.tells ≡ true → OnOk result (IsReadyFor ((D.device disk.new).region part.now.region) (Some self.new)) }
+        ensures frame { Touches D.tells part.now.region (D.device disk.old) (D.device disk.new) }
+        ensures failures { (D.device disk.new).failures ≡ faults_after result (D.device disk.old).failures }
+    {
+        bindings_v4::laws::keeps_a_book(&self.four, self.clock);
+        bindings_v6::laws::keeps_a_book(&self.six, self.clock);
+        let region = part.region();
+        save(region, disk, &mut self.marks, self.clock, slot, content)
+    }
+}

@@ -1,0 +1,100 @@
+-- That the table has the deadlines of all circuits.
+use Rattle.std.proofs.Common.{◌≡◌, ℕ, zero, suc, ◌+◌, ◌*◌, ◌<◌, ◌≤◌, ◌==◌, nat_le, nat_lt, Bool, true, false, List, [], ◌∷◌, length, map, set, get_or, refl, sym, ap, subst, ◌∙◌, arith, inl, inr}
+use Rattle.std.specs.Prelude.{Option, Some, None, slice_get, if◌then◌else◌, ◌⊎◌}
+use Rattle.std.proofs.lemmas.List.{length-set}
+use Rattle.timers.specs.Deadlines.{DeadlinesValue, deadline, entry_after_sweep}
+use Rattle.circuit_server.specs.Deadlines.{HasDeadlines, SameBeside}
+use Rattle.circuit_server.proofs.DeadlineLemmas.{after_sweep_at}
+use Rattle.dispatch.specs.ServerValue.{HoldsDeadlines}
+use Rattle.circuit_server.specs.CircuitServerValue.{OpenCircuitValue}
+use Rattle.std.proofs.lemmas.Option.{same_Some, slice_get_within}
+
+get_set_same : {X : Type 0} (xs : List X) (i : ℕ) (y : X) → i < length xs → slice_get (set xs i y) i ≡ Some y
+get_set_same [] i y within = absurd (omega (arith, within))
+get_set_same (x ∷ xs) zero y within = refl
+get_set_same (x ∷ xs) (suc i) y within = get_set_same xs i y (omega (arith, within))
+
+pub get_set_other : {X : Type 0} (xs : List X) (i c : ℕ) (y : X) → (c ≡ i → ⊥) → slice_get (set xs i y) c ≡ slice_get xs c
+get_set_other [] i c y other = refl
+get_set_other (x ∷ xs) zero zero y other = absurd (other refl)
+get_set_other (x ∷ xs) zero (suc c) y other = refl
+get_set_other (x ∷ xs) (suc i) zero y other = refl
+get_set_other (x ∷ xs) (suc i) (suc c) y other = get_set_other xs i c y (λ same. other (ap suc same))
+
+-- another circuit's deadlines stay
+pub still_has : (first other : ℕ) (old new : DeadlinesValue) (state : Option OpenCircuitValue) → SameBeside first old new → (other + 32 ≤ first) ⊎ (first + 32 ≤ other) → HasDeadlines old other state → HasDeadlines new other state
+still_has first other old new None same apart has = λ s below. same.beside (other + s) (aside first other s below apart) ∙ has s below where
+  aside : (first other s : ℕ) → s < 32 → (other + 32 ≤ first) ⊎ (first + 32 ≤ other) → (other + s < first) ⊎ (first + 32 ≤ other + s)
+  aside first other s below (inl h) = inl (omega (arith, below, h))
+  aside first other s below (inr h) = inr (omega (arith, h))
+still_has first other old new (Some o) same apart has = λ s until below held live. same.beside (other + s) (aside first other s below apart) ∙ has s until below held live where
+  aside : (first other s : ℕ) → s < 32 → (other + 32 ≤ first) ⊎ (first + 32 ≤ other) → (other + s < first) ⊎ (first + 32 ≤ other + s)
+  aside first other s below (inl h) = inl (omega (arith, below, h))
+  aside first other s below (inr h) = inr (omega (arith, h))
+
+-- the first circuits have theirs
+pub record HoldsFirst (count : ℕ) (table : DeadlinesValue) (states : List (Option OpenCircuitValue)) : Type 0 where
+  pub each : (c : ℕ) (state : Option OpenCircuitValue) → c < count → slice_get states c ≡ Some state → HasDeadlines table (32 * c) state
+
+pub holds_more : (count : ℕ) (table after : DeadlinesValue) (states : List (Option OpenCircuitValue)) (new : Option OpenCircuitValue) → count < length states → HoldsFirst count table states
+    → HasDeadlines after (32 * count) new → SameBeside (32 * count) table after → HoldsFirst (count + 1) after (set states count new)
+holds_more count table after states new within holds own same = record { each = λ c state below there. by c state below there (c == count) refl } where
+  by : (c : ℕ) (state : Option OpenCircuitValue) → c < count + 1 → slice_get (set states count new) c ≡ Some state → (b : Bool) → (c == count) ≡ b → HasDeadlines after (32 * c) state
+  by c state below there true e =
+      let is : c ≡ count = grind arith in
+      let new_is : new ≡ state = same_Some new state (sym (get_set_same states count new within) ∙ ap (slice_get (set states count new)) (sym is) ∙ there) in
+      subst (λ n. HasDeadlines after (32 * n) state) (sym is) (subst (HasDeadlines after (32 * count)) new_is own)
+  by c state below there false e =
+      let other : c ≡ count → ⊥ = λ is. grind arith in
+      let less : c < count = grind arith in
+      still_has (32 * count) (32 * c) table after state same (inl (omega (arith, less))) (holds.each c state less (sym (get_set_other states count c new other) ∙ there))
+
+pub sides : (c k : ℕ) → (c ≡ k → ⊥) → (32 * c + 32 ≤ 32 * k) ⊎ (32 * k + 32 ≤ 32 * c)
+sides c k other = at (nat_lt c k) refl where
+  at : (b : Bool) → nat_lt c k ≡ b → (32 * c + 32 ≤ 32 * k) ⊎ (32 * k + 32 ≤ 32 * c)
+  at true less = let below : c < k = grind arith in inl (omega (arith, below))
+  at false less = let above : k < c = grind (arith, other) in inr (omega (arith, above))
+
+-- one circuit's are changed, of all that have theirs
+pub one_held : (c : ℕ) (table after : DeadlinesValue) (states : List (Option OpenCircuitValue)) (new : Option OpenCircuitValue) → c < length states → HoldsDeadlines table states
+    → HasDeadlines after (32 * c) new → SameBeside (32 * c) table after → HoldsDeadlines after (set states c new)
+one_held k table after states new within holds own same =
+    record {
+      size = same.size ∙ holds.size ∙ ap (λ n. 32 * n) (sym (length-set states k new));
+      each = λ c state there. by c state there (c == k) refl;
+    } where
+      by : (c : ℕ) (state : Option OpenCircuitValue) → slice_get (set states k new) c ≡ Some state → (b : Bool) → (c == k) ≡ b → HasDeadlines after (32 * c) state
+      by c state there true e =
+          let is : c ≡ k = grind arith in
+          let new_is : new ≡ state = same_Some new state (sym (get_set_same states k new within) ∙ ap (slice_get (set states k new)) (sym is) ∙ there) in
+          subst (λ n. HasDeadlines after (32 * n) state) (sym is) (subst (HasDeadlines after (32 * k)) new_is own)
+      by c state there false e =
+          let other : c ≡ k → ⊥ = λ is. grind arith in
+          still_has (32 * k) (32 * c) table after state same (sides c k other) (holds.each c state (sym (get_set_other states k c new other) ∙ there))
+
+pub all_held : (table : DeadlinesValue) (states : List (Option OpenCircuitValue)) (count : ℕ) → length states ≤ count → length table.slots ≡ 32 * length states → HoldsFirst count table states → HoldsDeadlines table states
+all_held table states count whole size holds = record { size = size; each = λ c state there. holds.each c state (omega (arith, whole, slice_get_within states c state there)) there }
+
+-- the count of looks is no part of it
+has_same : (first : ℕ) (old new : DeadlinesValue) (state : Option OpenCircuitValue) → new.slots ≡ old.slots → HasDeadlines old first state → HasDeadlines new first state
+has_same first old new None same has = λ s below. ap (λ slots. get_or slots (first + s) None) same ∙ has s below
+has_same first old new (Some o) same has = λ s until below held live. ap (λ slots. get_or slots (first + s) None) same ∙ has s until below held live
+
+pub same_slots : (old new : DeadlinesValue) (states : List (Option OpenCircuitValue)) → new.slots ≡ old.slots → HoldsDeadlines old states → HoldsDeadlines new states
+same_slots old new states same holds =
+    record { size = ap (λ (xs : List (Option ℕ)). length xs) same ∙ holds.size; each = λ c state there. has_same (32 * c) old new state same (holds.each c state there) }
+
+-- what a sweep leaves is due later
+left_later : (now until : ℕ) (entry : Option ℕ) → entry_after_sweep now entry ≡ Some until → now < until
+left_later now until None e = absurd cc
+left_later now until (Some u) e = by (nat_le u now) refl e where
+  by : (b : Bool) → nat_le u now ≡ b → (if b then None else Some u) ≡ Some until → now < until
+  by true due e = absurd cc
+  by false later e =
+      let is : u ≡ until = same_Some u until e in
+      let after : now < u = grind arith in
+      omega (arith, is, after)
+
+pub later_left : (now : ℕ) (old new : DeadlinesValue) (n until : ℕ) → new.slots ≡ map (entry_after_sweep now) old.slots → deadline new n ≡ Some until → now < until
+later_left now old new n until same there =
+    left_later now until (get_or old.slots n None) (sym (after_sweep_at now old.slots n) ∙ sym (ap (λ slots. get_or slots n None) same) ∙ there)

@@ -1,5 +1,0 @@
-use Rattle.dispatch.proofs.DeadlineLemmas.{AreSet}
-use Rattle.dispatch.proofs.circuit_server.CircuitServer.set_deadlines.Given as goal
-
-abbrev pub invariant-slots : goal.invariant-slots
-invariant-slots l = AreSet l.first l.slot l.self l.fn.table l.table
