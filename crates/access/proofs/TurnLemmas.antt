@@ -91,13 +91,13 @@ answered_closed : (part : CircuitPart) (d : DeliveryValue) (fails : Bool) (book 
 answered_closed part d fails None found is closed = refl
 answered_closed part d fails (Some b) found is closed = let never : Some (Some b) ≡ Some None = sym is ∙ closed in absurd cc
 
-circuit_closed : (at : ℕ) (d : DeliveryValue) (fails : Bool) (books : List (Option Book)) (part : Option CircuitPart) (book : Option (Option Book)) → slice_get books at ≡ book
+circuit_closed : (at : ℕ) (d : DeliveryValue) (fails : ℕ → Bool) (books : List (Option Book)) (part : Option CircuitPart) (book : Option (Option Book)) → slice_get books at ≡ book
     → (c : ℕ) → slice_get books c ≡ Some None → slice_get (circuit_answered at d fails books part book).books c ≡ Some None
-circuit_closed at d fails books (Some part) (Some book) is c closed = set_closed books c at _ closed (answered_closed part d fails book _ is)
+circuit_closed at d fails books (Some part) (Some book) is c closed = set_closed books c at _ closed (answered_closed part d (fails part.region) book _ is)
 circuit_closed at d fails books (Some part) None is c closed = closed
 circuit_closed at d fails books None book is c closed = closed
 
-addressee_closed : (topology : Topology) (d : DeliveryValue) (fails : Bool) (books : List (Option Book)) (who : Result ℕ Discard)
+addressee_closed : (topology : Topology) (d : DeliveryValue) (fails : ℕ → Bool) (books : List (Option Book)) (who : Result ℕ Discard)
     → (c : ℕ) → slice_get books c ≡ Some None → slice_get (addressee_answered topology d fails books who).books c ≡ Some None
 addressee_closed topology d fails books (Err why) c closed = closed
 addressee_closed topology d fails books (Ok at) c closed = circuit_closed at d fails books (slice_get topology.circuits at) (slice_get books at) refl c closed

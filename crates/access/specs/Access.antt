@@ -1,10 +1,11 @@
 -- What shows of relay and server over sockets, and what a turn does.
-use Rattle.std.specs.Prelude.{◌≡◌, ◌≤◌, ◌<◌, ◌+◌, ◌++◌, ℕ, zero, suc, All, true, List, length, map, Option, Some, None, option_map, slice_get, nat_lt, ⊤}
+use Rattle.std.specs.Prelude.{◌≡◌, ◌≤◌, ◌<◌, ◌+◌, ◌++◌, ℕ, zero, suc, All, true, List, length, map, Option, Some, None, option_map, slice_get, ⊤}
 use Rattle.types.specs.Delivery.{delivery}
 use Rattle.types.specs.declared.addr.Source.{Source}
 use Rattle.types.specs.declared.dest.Proto.{Proto}
 use Rattle.types.specs.declared.dest.Proto.TheVariants.{V4, V6}
-use Rattle.lease_disk.specs.FileDisk.{FileDiskValue}
+use Rattle.lease_disk.specs.FileDisk.{FileDiskValue, device_of}
+use Rattle.lease_disk.specs.Device.{has_failed}
 use Rattle.dispatch.specs.Regions.{HasRegions}
 use Rattle.dispatch.specs.Received.{Received, received}
 use Rattle.circuit_server.specs.Server.{Book, book_at}
@@ -78,7 +79,7 @@ pub record HasKept (old new : AccessValue) : Type 0 where
 -- what the server makes of a datagram that was taken at a moment
 abbrev pub served_at : ℕ → Proto → Source → List ℕ → AccessValue → AccessValue → Received
 served_at now proto from datagram old new =
-    received old.server.topology (delivery proto from now datagram) (nat_lt old.disk.failures new.disk.failures) (books_in old.server)
+    received old.server.topology (delivery proto from now datagram) (has_failed (device_of old.disk) (device_of new.disk)) (books_in old.server)
 
 -- The answer goes from the server's socket to where the datagram came from, and the books are those after it, where the save failed
 -- or not.

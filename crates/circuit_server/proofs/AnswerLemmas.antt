@@ -1,7 +1,7 @@
 -- What a circuit answers to a message, by what its open circuit decides.
-use Rattle.std.proofs.Common.{◌≡◌, ℕ, ◌+◌, ◌==◌, ◌&&◌, nat_lt, Bool, true, false, not, refl, sym, ap, subst, ◌∙◌, Ok, Err, Result, is_ok, arith}
+use Rattle.std.proofs.Common.{◌≡◌, ℕ, ◌+◌, ◌==◌, ◌&&◌, nat_lt, Bool, true, false, not, refl, sym, ap, ap₂, subst, ◌∙◌, Ok, Err, Result, is_ok, arith}
 use Rattle.std.specs.Prelude.{Option, Some, None, IfErr, if◌then◌else◌}
-use Rattle.std.proofs.lemmas.Bool.{lt-ltb, le-ltb}
+use Rattle.std.proofs.lemmas.Bool.{eq-eqb, lt-ltb, le-ltb}
 use Rattle.types.specs.Delivery.{DeliveryValue}
 use Rattle.types.specs.declared.discard.Discard.TheVariants.{DiskFault}
 use Rattle.config.specs.CircuitPart.{CircuitPart}
@@ -33,6 +33,10 @@ and_false : (x : Bool) → (x && false) ≡ false
 and_false false = refl
 and_false true = refl
 
+and_true : (x : Bool) → (x && true) ≡ x
+and_true false = refl
+and_true true = refl
+
 not_not : (x : Bool) → not (not x) ≡ x
 not_not false = refl
 not_not true = refl
@@ -43,10 +47,20 @@ not_more n = le-ltb n n (omega arith)
 one_more : (n : ℕ) → nat_lt n (n + 1) ≡ true
 one_more n = lt-ltb n (n + 1) (omega arith)
 
--- the device counts a failure exactly where a call fails
-pub counted : {T E : Type 0} (result : Result T E) (before after : ℕ) → after ≡ faults_after result before → nat_lt before after ≡ not (is_ok result)
-counted (Ok value) before after is = ap (nat_lt before) is ∙ not_more before
-counted (Err fault) before after is = ap (nat_lt before) is ∙ one_more before
+same_region : (r : ℕ) → (r == r) ≡ true
+same_region r = eq-eqb r r refl
+
+-- the device counts a failure exactly where a call fails, and of that call's region
+counted_here : (r q before : ℕ) → (is_it : Bool) → (q == r) ≡ is_it → nat_lt before (if is_it then before + 1 else before) ≡ is_it
+counted_here r q before true is = one_more before
+counted_here r q before false is = not_more before
+
+counted_each : {T E : Type 0} (result : Result T E) (r q : ℕ) (before after : ℕ → ℕ) → after ≡ faults_after r result before → nat_lt (before q) (after q) ≡ (q == r && not (is_ok result))
+counted_each (Ok value) r q before after is = ap (λ (f : ℕ → ℕ). nat_lt (before q) (f q)) is ∙ (not_more (before q) ∙ sym (and_false (q == r)))
+counted_each (Err fault) r q before after is = ap (λ (f : ℕ → ℕ). nat_lt (before q) (f q)) is ∙ (counted_here r q (before q) (q == r) refl ∙ sym (and_true (q == r)))
+
+pub counted : {T E : Type 0} (result : Result T E) (r : ℕ) (before after : ℕ → ℕ) → after ≡ faults_after r result before → nat_lt (before r) (after r) ≡ not (is_ok result)
+counted result r before after is = counted_each result r r before after is ∙ ap (λ b. b && not (is_ok result)) (same_region r)
 
 pub save_held : (fails : Bool) (done : Served) → fails ≡ false → after_save fails done ≡ record { answer = done.answer; book = Some done.book }
 save_held fails done held = rw held (rw (and_false done.is_kept) refl)
@@ -58,13 +72,27 @@ save_failed fails done failed is = rw failed (rw is refl)
 abbrev pub save_fails : ℕ → Served → Bool
 save_fails fuse done = done.is_kept && not (effective 6 fuse == 0)
 
-fails_where : (fuses : ℕ → ℕ) (region : ℕ) (is_kept : Bool) → (is_kept && not (effective 6 (fuses region) == 0)) ≡ fails_at fuses (if is_kept then Some region else None)
-fails_where fuses region true = refl
-fails_where fuses region false = refl
+fails_where : (fuses : ℕ → ℕ) (region q : ℕ) (is_kept : Bool) → (region == q && (is_kept && not (effective 6 (fuses region) == 0))) ≡ fails_at fuses (if is_kept then Some region else None) q
+fails_where fuses region q true = refl
+fails_where fuses region q false = and_false (region == q)
+
+either_way : (r q : ℕ) → (q == r) ≡ (r == q)
+either_way r q = by (q == r) (r == q) refl refl where
+  by : (a b : Bool) → (q == r) ≡ a → (r == q) ≡ b → (q == r) ≡ (r == q)
+  by true true one other = one ∙ sym other
+  by false false one other = one ∙ sym other
+  by true false one other = grind (arith, one, other)
+  by false true one other = grind (arith, one, other)
 
 -- whether the save fails, by the decision and the device
-pub fails_by : {T E : Type 0} (result : Result T E) (before after : ℕ) (x : Bool) → after ≡ faults_after result before → is_ok result ≡ not x → nat_lt before after ≡ x
-fails_by result before after x is ok = counted result before after is ∙ ap not ok ∙ not_not x
+pub fails_by : {T E : Type 0} (result : Result T E) (r : ℕ) (before after : ℕ → ℕ) (x : Bool) → after ≡ faults_after r result before → is_ok result ≡ not x
+    → (q : ℕ) → nat_lt (before q) (after q) ≡ (r == q && x)
+fails_by result r before after x is ok q =
+    counted_each result r q before after is ∙ ap₂ (λ a b. a && b) (either_way r q) (ap not ok ∙ not_not x)
+
+-- nothing was called
+pub none_fails : (r q n : ℕ) (x : Bool) → x ≡ false → nat_lt n n ≡ (r == q && x)
+none_fails r q n x is = not_more n ∙ (sym (and_false (r == q)) ∙ ap (λ b. r == q && b) (sym is))
 
 -- ---- the leases after it
 
@@ -101,7 +129,7 @@ pub record IsServed (s : CircuitServerValue) (d : DeliveryValue) (part : Circuit
   pub served_so : served part d (open_book o) ≡ done
 
 module _ {s : CircuitServerValue} {d : DeliveryValue} {part : CircuitPart} {o : OpenCircuitValue} {done : Served} (case : IsServed s d part o done) where
-  as_served : (fails : Bool) → answered s.part d fails (book_of s) ≡ after_save fails done
+  pub as_served : (fails : Bool) → answered s.part d fails (book_of s) ≡ after_save fails done
   as_served fails = ap (λ v. answered v.part d fails (book_of v)) case.was ∙ ap (after_save fails) case.served_so
 
   pub held : (fails : Bool) → fails ≡ false → answered s.part d fails (book_of s) ≡ record { answer = done.answer; book = Some done.book }
@@ -111,11 +139,11 @@ module _ {s : CircuitServerValue} {d : DeliveryValue} {part : CircuitPart} {o : 
   failed fails unsaved keeps = as_served fails ∙ save_failed fails done unsaved keeps
 
   -- what is saved, and where
-  saves_so : circuit_saves d (Some s.part) (Some (book_of s)) ≡ saves part done
+  pub saves_so : circuit_saves d (Some s.part) (Some (book_of s)) ≡ saves part done
   saves_so = ap (λ v. circuit_saves d (Some v.part) (Some (book_of v))) case.was ∙ ap (saves part) case.served_so
 
-  pub fails_as : (fuses : ℕ → ℕ) (fails : Bool) → fails ≡ save_fails (fuses part.region) done → fails ≡ fails_at fuses (circuit_saves d (Some s.part) (Some (book_of s)))
-  fails_as fuses fails by_decision = by_decision ∙ fails_where fuses part.region done.is_kept ∙ sym (ap (fails_at fuses) saves_so)
+  pub fails_as : (fuses : ℕ → ℕ) (q : ℕ) (fails : Bool) → fails ≡ (part.region == q && save_fails (fuses part.region) done) → fails ≡ fails_at fuses (circuit_saves d (Some s.part) (Some (book_of s))) q
+  fails_as fuses q fails by_decision = by_decision ∙ fails_where fuses part.region q done.is_kept ∙ sym (ap (λ (saved : Option ℕ). fails_at fuses saved q) saves_so)
 
   pub writes_as : (tells : Bool) (old new : Device) → (done.is_kept ≡ false → new ≡ old) → Touches tells part.region old new
       → WritesAt tells (circuit_saves d (Some s.part) (Some (book_of s))) old new

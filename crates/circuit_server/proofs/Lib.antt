@@ -1,4 +1,6 @@
 pub mod AnswerLemmas
 pub mod ComeBackLemmas
 pub mod DeadlineLemmas
+pub mod PreparedLemmas
 pub mod SaveLemmas
+pub mod SavedLemmas

@@ -33,7 +33,7 @@ use Rattle.circuit_server.specs.Leases.{book_in, counts_of, recovered_book, rest
 use Rattle.circuit_server.specs.Server.{Book, kept_book}
 
 module _ (part : CircuitPart) (b : Book) (before slots : Slots) (old new : Region) (was : recovered (counts_of part) old.byte ≡ Some before) (means : book_in part slots ≡ kept_book b) where
-  after_ok : IsSaved (counts_of part) slots new → restarts_of part new ≡ restarts_after 0 b (restarts_of part old)
+  pub after_ok : IsSaved (counts_of part) slots new → restarts_of part new ≡ restarts_after 0 b (restarts_of part old)
   after_ok saved = λ j. λ byte.
       (ap (recovered_book part) (clean_image new saved.clean byte) ∙ ap (option_map (book_in part)) saved.kept ∙ ap Some means) j
 
@@ -55,7 +55,7 @@ module _ (part : CircuitPart) (b : Book) (before slots : Slots) (old new : Regio
         ap (option_map (book_in part)) (left.crash (image byte new) (crash byte) ∙ ap (λ x. if x then Some slots else Some before) (by_gate byte (nat_le 5 fuse) refl))
         ∙ either byte (nat_le 5 fuse && byte == 165)
 
-    after_err : (few : Bool) → nat_le fuse 6 ≡ few → ((if few then fuse else 0) == 0) ≡ false
+    pub after_err : (few : Bool) → nat_le fuse 6 ≡ few → ((if few then fuse else 0) == 0) ≡ false
         → restarts_of part new ≡ restarts_after (if few then fuse else 0) b (restarts_of part old)
     after_err false is fails = absurd cc
     after_err true is fails = λ j. λ byte.

@@ -33,11 +33,10 @@ abbrev pub circuit_saves : DeliveryValue → Option CircuitPart → Option (Opti
 circuit_saves d (Some part) (Some (Some b)) = saves part (served part d b)
 circuit_saves d part book = None
 
--- Whether a save to this region fails, where `faults` says for each region which of the device's next calls
--- fails.
-abbrev pub fails_at : (ℕ → ℕ) → Option ℕ → Bool
-fails_at faults None = false
-fails_at faults (Some region) = not (effective 6 (faults region) == 0)
+-- Whether the save fails, and is to region r, where `faults` says for each region which of the device's next calls fails.
+abbrev pub fails_at : (ℕ → ℕ) → Option ℕ → ℕ → Bool
+fails_at faults None r = false
+fails_at faults (Some region) r = region == r && not (effective 6 (faults region) == 0)
 
 -- A result with what `out` then holds is this answer.
 abbrev pub IsAnswer : Result (List ℕ) Discard → Result (Unit {0}) Discard → List ℕ → Type 0

@@ -3,6 +3,7 @@ pub mod CircuitDecision
 pub mod CircuitServerValue
 pub mod Deadlines
 pub mod Leases
+pub mod Prepared
 pub mod Server
 pub mod Ticked
 pub mod Unoffered

@@ -1,5 +1,5 @@
 //! The server of one circuit: what it has while it is open, and what it makes of a message.
-ghost use Rattle.std.specs.Prelude.{◌≡◌, ◌<◌, ◌≤◌, ◌+◌, ℕ, length, [], Some, None, IfSome, true, is_some, nat_lt, option_map};
+ghost use Rattle.std.specs.Prelude.{◌≡◌, ◌<◌, ◌≤◌, ◌+◌, ℕ, length, [], Some, None, IfOk, IfErr, IfSome, true, is_some, option_map};
 ghost use Rattle.config.specs.CircuitPart.{IsPart};
 ghost use Rattle.circuit_server.specs.Deadlines.{HasDeadlines, SameBeside, held_in};
 ghost use Rattle.circuit_server.specs.Leases.{IsBroughtUp, after_datagram, counts_of, found_leases};
@@ -7,16 +7,18 @@ ghost use Rattle.timers.specs.Deadlines.{deadline};
 ghost use Rattle.types.specs.Slots.{last_until};
 ghost use Rattle.circuit_server.specs.Answered.{IsAnswer, answered, circuit_saves, fails_at};
 ghost use Rattle.requests.specs.RelayedMessage.{IsRelayedMessage};
+ghost use Rattle.circuit_server.specs.Prepared.{IsDropped, IsPrepared, IsSettled, with_marks};
 ghost use Rattle.circuit_server.specs.CircuitServerValue.{HasPools, IsReadyFor, leases_of, open_book};
 ghost use Rattle.circuit_server.specs.Ticked.{IsLater, state_at};
 ghost use Rattle.circuit_server.specs.Unoffered.{state_unoffered};
-ghost use Rattle.lease_disk.specs.Device.{ChangesOne, Touches, WritesAt};
+ghost use Rattle.lease_disk.specs.Device.{ChangesOne, Touches, WritesAt, has_failed};
 ghost use Rattle.lease_disk.specs.Region.{IsClean};
 
 use crate::decision::put;
 use crate::open_circuit::OpenCircuit;
+use crate::prepared::{Prepared, save_alone};
 use config::CircuitPart;
-use lease_disk::{Disk, migrate};
+use lease_disk::{Disk, Fault, Marks, migrate};
 use requests::RelayedMessage;
 use std::marker::Model;
 use timers::Deadlines;
@@ -79,6 +81,90 @@ impl CircuitServer {
         self.state = OpenCircuit::recover(part, disk);
     }
 
+    /// Decides on a datagram of the circuit, of which this was read, at the moment of its delivery, and makes what it changes
+    /// of the books and the deadlines. Nothing is saved yet, and nothing sent: what is prepared has to be settled once its
+    /// save is done, before any other call. The error is the reason for which the datagram is dropped.
+    pub fn prepare<'a>(
+        &mut self,
+        part: &CircuitPart,
+        delivery: &Delivery<'_>,
+        relayed: RelayedMessage<'a>,
+        table: &mut Deadlines,
+        first: usize,
+    ) -> Result<Prepared<'a>, Discard>
+        requires read { IsRelayedMessage delivery.now.proto delivery.now.bytes relayed }
+        requires room { first + 32 ≤ length table.old.slots }
+        requires most { first ≤ 32736 }
+        requires deadlines { HasDeadlines table.old first self.old }
+        requires pools { HasPools part.now self.old }
+        ensures later { (moment : ℕ) → IsLater moment self.old → IsLater moment self.new }
+        ensures pools { HasPools part.now self.new }
+        ensures deadlines { HasDeadlines table.new first self.new }
+        ensures beside { SameBeside first table.old table.new }
+        ensures prepared { IfOk result (IsPrepared part.now delivery.now self.old self.new) }
+        ensures dropped { IfErr result (IsDropped part.now delivery.now self.old self.new) }
+    {
+        let Some(circuit) = &mut self.state else {
+            return Err(Discard::CircuitClosed);
+        };
+        circuit.tick(delivery.moment);
+        let decision = match circuit.decide(part, relayed) {
+            Ok(decision) => decision,
+            Err(why) => return Err(why),
+        };
+        circuit.commit(&decision);
+        decision.set_deadlines(table, first);
+        let saving = match decision.kept() {
+            Some((slot, content)) => Some(circuit.saving(part, slot, content)),
+            None => None,
+        };
+        Ok(Prepared { decision, saving })
+    }
+
+    /// Answers what was prepared, by its save: the marks of the region after it, or that it failed, which closes the circuit until
+    /// a restart. At `Ok` the reply's datagram is in `out`, which stays empty otherwise.
+    pub fn settle(
+        &mut self,
+        part: &CircuitPart,
+        prepared: &Prepared<'_>,
+        saved: Result<Option<Marks>, Fault>,
+        out: &mut PacketBuf,
+        table: &mut Deadlines,
+        first: usize,
+    ) -> Result<(), Discard>
+        requires empty { out.old ≡ [] }
+        requires room { first + 32 ≤ length table.old.slots }
+        requires most { first ≤ 32736 }
+        requires deadlines { HasDeadlines table.old first self.old }
+        requires pools { HasPools part.now self.old }
+        ensures later { (moment : ℕ) → IsLater moment self.old → IsLater moment self.new }
+        ensures pools { HasPools part.now self.new }
+        ensures deadlines { HasDeadlines table.new first self.new }
+        ensures beside { SameBeside first table.old table.new }
+        ensures settled { IsSettled part.now prepared.now saved self.old self.new result out.new }
+    {
+        match saved {
+            Ok(marks) => {
+                self.set_marks(marks);
+                prepared.decision.reply(part, out)
+            }
+            Err(_) => {
+                self.state = None;
+                self.set_deadlines(table, first);
+                Err(Discard::DiskFault)
+            }
+        }
+    }
+
+    /// The marks of its region after a save, if there was one.
+    fn set_marks(&mut self, marks: Option<Marks>)
+        ensures { self.new ≡ with_marks marks self.old }
+    {
+        if let (Some(circuit), Some(marks)) = (&mut self.state, marks) {
+            circuit.set_marks(marks);
+        }
+    }
+
     /// Answers a datagram of the circuit, of which this was read, at the moment of its delivery. A save that fails closes
     /// the circuit, until a restart. At `Ok` the reply's datagram is in `out`, which stays empty otherwise; the error is
     /// the reason for which the datagram is dropped.
@@ -104,9 +190,9 @@ impl CircuitServer {
         ensures pools { HasPools part.now self.new }
         ensures deadlines { HasDeadlines table.new first self.new }
         ensures beside { SameBeside first table.old table.new }
-        ensures answer { IsAnswer (answered part.now delivery.now (nat_lt (D.device disk.old).failures (D.device disk.new).failures) (option_map open_book self.old)).answer result out.new }
-        ensures book { option_map open_book self.new ≡ (answered part.now delivery.now (nat_lt (D.device disk.old).failures (D.device disk.new).failures) (option_map open_book self.old)).book }
-        ensures fails { D.tells ≡ true → nat_lt (D.device disk.old).failures (D.device disk.new).failures ≡ fails_at (D.device disk.old).fuse (circuit_saves delivery.now (Some part.now) (Some (option_map open_book self.old))) }
+        ensures answer { IsAnswer (answered part.now delivery.now (has_failed (D.device disk.old) (D.device disk.new) part.now.region) (option_map open_book self.old)).answer result out.new }
+        ensures book { option_map open_book self.new ≡ (answered part.now delivery.now (has_failed (D.device disk.old) (D.device disk.new) part.now.region) (option_map open_book self.old)).book }
+        ensures fails { D.tells ≡ true → (r : ℕ) → has_failed (D.device disk.old) (D.device disk.new) r ≡ fails_at (D.device disk.old).fuse (circuit_saves delivery.now (Some part.now) (Some (option_map open_book self.old))) r }
         ensures leases { D.tells ≡ true
             → leases_of (D.device disk.new).region (record { part = part.now; state = self.new })
             ≡ after_datagram part.now delivery.now ((D.device disk.old).fuse part.now.region) (leases_of (D.device disk.old).region (record { part = part.now; state = self.old })) }
@@ -114,25 +200,12 @@ impl CircuitServer {
         ensures writes { WritesAt D.tells (circuit_saves delivery.now (Some part.now) (Some (option_map open_book self.old))) (D.device disk.old) (D.device disk.new) }
         ensures frame { Touches D.tells part.now.region (D.device disk.old) (D.device disk.new) }
     {
-        let Some(circuit) = &mut self.state else {
-            return Err(Discard::CircuitClosed);
-        };
-        circuit.tick(delivery.moment);
-        let decision = match circuit.decide(part, relayed) {
-            Ok(decision) => decision,
+        let prepared = match self.prepare(part, delivery, relayed, table, first) {
+            Ok(prepared) => prepared,
             Err(why) => return Err(why),
         };
-        match circuit.keep(part, &decision, disk) {
-            Ok(()) => {
-                decision.set_deadlines(table, first);
-                decision.reply(part, out)
-            }
-            Err(_) => {
-                self.state = None;
-                self.set_deadlines(table, first);
-                Err(Discard::DiskFault)
-            }
-        }
+        let saved = save_alone(prepared.saving, disk);
+        self.settle(part, &prepared, saved, out, table, first)
     }
 
     /// Until when a slot of the circuit is held, live or expired, in seconds; `None` where the circuit is closed.

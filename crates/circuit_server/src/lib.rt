@@ -4,5 +4,7 @@
 mod circuit_server;
 mod decision;
 mod open_circuit;
+mod prepared;
 
 pub use circuit_server::CircuitServer;
+pub use prepared::Prepared;

@@ -1,30 +1,32 @@
 //! What the server has of an open circuit.
-ghost use Rattle.std.specs.Prelude.{◌≡◌, ◌<◌, ◌≤◌, ◌==◌, ◌&&◌, ◌+◌, ℕ, true, false, not, is_ok, option_map, List, OnOk, OnErr, IfOk, IfErr, IfSome, Some};
+ghost use Rattle.std.specs.Prelude.{◌≡◌, ◌<◌, ◌≤◌, ◌+◌, ℕ, true, option_map, List, IfOk, IfErr, IfSome, Some, Err};
 ghost use Rattle.types.specs.Slots.{last_until};
 ghost use Rattle.types.specs.declared.dest.Proto.{Proto};
 ghost use Rattle.slots.specs.Kept.{AreWithin};
 ghost use Rattle.v6_options.specs.Codes.{RELAY_MESSAGE};
 ghost use Rattle.v6_options.specs.Spelling.{look_up};
 ghost use Rattle.config.specs.CircuitPart as parts;
-ghost use Rattle.circuit_server.specs.CircuitDecision.{IsToSave, IsWithin, KeepsItsSlot, is_kept, served_by, with_decision};
+ghost use Rattle.circuit_server.specs.CircuitDecision.{IsWithin, KeepsItsSlot, served_by, with_decision};
 ghost use Rattle.circuit_server.specs.Deadlines.{held_until};
-ghost use Rattle.circuit_server.specs.Leases.{formats_of, found_book, restarts_after, restarts_of};
+ghost use Rattle.circuit_server.specs.Leases.{book_in, found_book};
+ghost use Rattle.circuit_server.specs.Prepared.{saving_of};
 ghost use Rattle.requests.specs.RelayedMessage.{IsRelayedMessage};
 ghost use Rattle.requests.specs.Request4.{request4_in};
-ghost use Rattle.circuit_server.specs.Server.{book_at, datagram_served, drop, message6_served, request4_served};
-ghost use Rattle.circuit_server.specs.CircuitServerValue.{HasPools, IsReadyFor, open_book};
+ghost use Rattle.circuit_server.specs.Server.{book_at, datagram_served, drop, kept_book, message6_served, request4_served};
+ghost use Rattle.circuit_server.specs.CircuitServerValue.{HasPools, IsReadyFor, counts_in, kept_slots, open_book};
 ghost use Rattle.circuit_server.specs.Ticked.{open_at};
 ghost use Rattle.circuit_server.specs.Unoffered.{open_unoffered};
-ghost use Rattle.lease_disk.specs.Device.{Touches, TouchesNothing};
+ghost use Rattle.lease_disk.specs.Book.{IsBook};
+ghost use Rattle.lease_disk.specs.Device.{TouchesNothing};
 ghost use Rattle.lease_disk.specs.Layout.{is_format2};
-ghost use Rattle.lease_disk.specs.Region.{IsClean, Region, effective, faults_after};
-ghost use Rattle.lease_disk.specs.Save.{Fits};
+ghost use Rattle.lease_disk.specs.Region.{IsClean, Region};
 
 use crate::decision::{CircuitDecision, SIX_SLOTS_FROM};
+use batch_saves::Saving;
 use bindings_v4::Book4;
 use bindings_v6::Book6;
 use config::CircuitPart;
-use lease_disk::{Content, Disk, Fault, Marks, recover, save};
+use lease_disk::{Content, Disk, Marks, recover};
 use requests::{RelayedMessage, request4_in, request6_in};
 use std::marker::Model;
 use types::{Discard, Moment};
@@ -168,41 +170,8 @@ impl OpenCircuit {
         Ok(CircuitDecision::V6(forward, message, request.key, decision))
     }
 
-    /// Makes a decision's changes, and saves the slot that has to be kept, if there is one. After an error
-    /// the circuit has to be closed: its region holds the old books or the new ones.
-    pub(crate) fn keep<D: Disk>(
-        &mut self,
-        part: &CircuitPart,
-        decision: &CircuitDecision<'_>,
-        disk: &mut D,
-    ) -> Result<(), Fault>
-        requires exists { part.now.region < (D.device disk.old).count }
-        requires pools { HasPools part.now (Some self.old) }
-        requires ready { D.tells ≡ true → IsReadyFor ((D.device disk.old).region part.now.region) (Some self.old) }
-        requires within { IsWithin decision.now }
-        requires keeps { KeepsItsSlot decision.now self.old }
-        ensures pools { HasPools part.now (Some self.new) }
-        ensures book { open_book self.new ≡ open_book (with_decision decision.now self.old) }
-        ensures after { self.new ≡ record (with_decision decision.now self.old) { marks = self.new.marks } }
-        ensures cause { OnErr result (is_kept decision.now ≡ true) }
-        ensures fails { D.tells ≡ true → is_ok result ≡ not (is_kept decision.now && not (effective 6 ((D.device disk.old).fuse part.now.region) == 0)) }
-        ensures kept { D.tells ≡ true → is_kept decision.now ≡ true
-            → restarts_of part.now ((D.device disk.new).region part.now.region) ≡ restarts_after (effective 6 ((D.device disk.old).fuse part.now.region)) (open_book self.new) (restarts_of part.now ((D.device disk.old).region part.now.region)) }
-        ensures stays { is_kept decision.now ≡ false → D.device disk.new ≡ D.device disk.old }
-        ensures formats { D.tells ≡ true → formats_of ((D.device disk.new).region part.now.region) ≡ formats_of ((D.device disk.old).region part.now.region) }
-        ensures ready { D.tells ≡ true → OnOk result (IsReadyFor ((D.device disk.new).region part.now.region) (Some self.new)) }
-        ensures frame { Touches D.tells part.now.region (D.device disk.old) (D.device disk.new) }
-        ensures failures { (D.device disk.new).failures ≡ faults_after result (D.device disk.old).failures }
-    {
-        self.commit(decision);
-        match decision.kept() {
-            Some((slot, content)) => self.save(part, slot, &content, disk),
-            None => Ok(()),
-        }
-    }
-
     /// Makes a decision's change of its protocol's book.
-    fn commit(&mut self, decision: &CircuitDecision<'_>)
+    pub(crate) fn commit(&mut self, decision: &CircuitDecision<'_>)
         requires { IsWithin decision.now }
         ensures { self.new ≡ with_decision decision.now self.old }
     {
@@ -212,31 +181,30 @@ impl OpenCircuit {
         }
     }
 
-    /// Saves what a slot of the region is to hold from the circuit's clock on.
-    fn save<D: Disk>(
-        &mut self,
-        part: &CircuitPart,
-        slot: usize,
-        content: &Content,
-        disk: &mut D,
-    ) -> Result<(), Fault>
-        requires exists { part.now.region < (D.device disk.old).count }
-        requires pools { HasPools part.now (Some self.old) }
-        requires fits { Fits slot content.now }
-        requires changed { D.tells ≡ true → IsToSave ((D.device disk.old).region part.now.region) slot content.now self.old }
-        ensures four { self.new.four ≡ self.old.four }
-        ensures six { self.new.six ≡ self.old.six }
-        ensures clock { self.new.clock ≡ self.old.clock }
-        ensures answer { D.tells ≡ true → is_ok result ≡ (effective 6 ((D.device disk.old).fuse part.now.region) == 0) }
-        ensures restarts { D.tells ≡ true → restarts_of part.now ((D.device disk.new).region part.now.region) ≡ restarts_after (effective 6 ((D.device disk.old).fuse part.now.region)) (open_book self.new) (restarts_of part.now ((D.device disk.old).region part.now.region)) }
-        ensures formats { D.tells ≡ true → formats_of ((D.device disk.new).region part.now.region) ≡ formats_of ((D.device disk.old).region part.now.region) }
-        ensures ready { D.tells ≡ true → OnOk result (IsReadyFor ((D.device disk.new).region part.now.region) (Some self.new)) }
-        ensures frame { Touches D.tells part.now.region (D.device disk.old) (D.device disk.new) }
-        ensures failures { (D.device disk.new).failures ≡ faults_after result (D.device disk.old).failures }
+    /// What a save is to be given, where this slot of the region is to hold this from the circuit's clock on. What the region
+    /// then keeps is a book.
+    pub(crate) fn saving(&self, part: &CircuitPart, slot: usize, content: Content) -> Saving
+        requires { HasPools part.now (Some self.now) }
+        ensures value { result ≡ saving_of part.now self.now (slot, content) }
+        ensures book { IsBook (counts_in self.now) (kept_slots self.now) }
+        ensures means { book_in part.now (kept_slots self.now) ≡ kept_book (open_book self.now) }
     {
         bindings_v4::laws::keeps_a_book(&self.four, self.clock);
         bindings_v6::laws::keeps_a_book(&self.six, self.clock);
-        let region = part.region();
-        save(region, disk, &mut self.marks, self.clock, slot, content)
+        Saving {
+            region: part.region(),
+            clock: self.clock,
+            slot,
+            content,
+            marks: self.marks,
+            failed: 0,
+        }
+    }
+
+    /// The marks of its region after a save.
+    pub(crate) fn set_marks(&mut self, marks: Marks)
+        ensures { self.new ≡ record self.old { marks = marks } }
+    {
+        self.marks = marks;
     }
 }

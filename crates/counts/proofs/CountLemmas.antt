@@ -7,7 +7,7 @@ use Rattle.std.proofs.lemmas.List.{get_or-set_same, get_or-set_other, get_or_def
 use Rattle.std.proofs.lemmas.List.Sums.{sum_by-set}
 use Rattle.types.specs.Discard.{number_of}
 use Rattle.types.specs.declared.discard.Discard.{Discard}
-use Rattle.types.specs.declared.discard.Discard.TheVariants.{TooLong, MalformedUp, NotRequest, HasGiaddr, HasOption82, Hops, WrongType, NestedRelay, UnknownSource, Malformed, NotRelayed, UnknownCircuit, WrongLink, NoOverride, ClientKey, OtherServer, NoAddress, NoRecord, CircuitClosed, NotServed, DiskFault, NothingToSay, NotServer, MalformedDown, UnknownCircuitDown, WrongLinkDown}
+use Rattle.types.specs.declared.discard.Discard.TheVariants.{TooLong, MalformedUp, NotRequest, HasGiaddr, HasOption82, Hops, WrongType, NestedRelay, UnknownSource, Malformed, NotRelayed, UnknownCircuit, WrongLink, NoOverride, ClientKey, OtherServer, NoAddress, NoRecord, CircuitClosed, NotServed, DiskFault, NothingToSay, BatchTwice, NotServer, MalformedDown, UnknownCircuitDown, WrongLinkDown}
 use Rattle.counts.specs.Counts.{HasRoom, counted, counted_all, one_more, total}
 use Rattle.counts.specs.declared.counts.Counts.{Counts}
 use Rattle.counts.specs.declared.counts.Outcome.{Outcome}
@@ -37,6 +37,7 @@ within CircuitClosed = omega arith
 within NotServed = omega arith
 within DiskFault = omega arith
 within NothingToSay = omega arith
+within BatchTwice = omega arith
 within NotServer = omega arith
 within MalformedDown = omega arith
 within UnknownCircuitDown = omega arith

@@ -2,7 +2,7 @@
 use Rattle.std.specs.Prelude.{ℕ, zero, suc, ◌+◌, ◌<◌, min, List, [], ◌∷◌, ◌++◌, All, replicate, slice_index, slice_set, codes, decimal}
 use Rattle.std.specs.List.{flat_map, sum}
 use Rattle.types.specs.declared.discard.Discard.{Discard}
-use Rattle.types.specs.declared.discard.Discard.TheVariants.{TooLong, MalformedUp, NotRequest, HasGiaddr, HasOption82, Hops, WrongType, NestedRelay, UnknownSource, Malformed, NotRelayed, UnknownCircuit, WrongLink, NoOverride, ClientKey, OtherServer, NoAddress, NoRecord, CircuitClosed, NotServed, DiskFault, NothingToSay, NotServer, MalformedDown, UnknownCircuitDown, WrongLinkDown}
+use Rattle.types.specs.declared.discard.Discard.TheVariants.{TooLong, MalformedUp, NotRequest, HasGiaddr, HasOption82, Hops, WrongType, NestedRelay, UnknownSource, Malformed, NotRelayed, UnknownCircuit, WrongLink, NoOverride, ClientKey, OtherServer, NoAddress, NoRecord, CircuitClosed, NotServed, DiskFault, NothingToSay, BatchTwice, NotServer, MalformedDown, UnknownCircuitDown, WrongLinkDown}
 use Rattle.types.specs.Discard.{number_of, words_of}
 use Rattle.counts.specs.declared.counts.Counts.{Counts}
 use Rattle.counts.specs.declared.counts.Outcome.{Outcome}
@@ -71,7 +71,7 @@ reasons =
     TooLong ∷ MalformedUp ∷ NotRequest ∷ HasGiaddr ∷ HasOption82 ∷ Hops ∷ WrongType
     ∷ NestedRelay ∷ UnknownSource ∷ Malformed ∷ NotRelayed ∷ UnknownCircuit ∷ WrongLink ∷ NoOverride
     ∷ ClientKey ∷ OtherServer ∷ NoAddress ∷ NoRecord ∷ CircuitClosed ∷ NotServed ∷ DiskFault
-    ∷ NothingToSay ∷ NotServer ∷ MalformedDown ∷ UnknownCircuitDown ∷ WrongLinkDown ∷ []
+    ∷ NothingToSay ∷ BatchTwice ∷ NotServer ∷ MalformedDown ∷ UnknownCircuitDown ∷ WrongLinkDown ∷ []
 
 abbrev pub counts_text : Counts → List ℕ
 counts_text counts = totals_text counts ++ flat_map (dropped_text counts.dropped) reasons

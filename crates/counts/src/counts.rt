@@ -10,7 +10,7 @@ use std::fmt;
 use types::Discard;
 
 /// Every reason, in the order of the numbers.
-const REASONS: [Discard; 26] = [
+const REASONS: [Discard; 27] = [
     Discard::TooLong,
     Discard::MalformedUp,
     Discard::NotRequest,
@@ -33,6 +33,7 @@ const REASONS: [Discard; 26] = [
     Discard::NotServed,
     Discard::DiskFault,
     Discard::NothingToSay,
+    Discard::BatchTwice,
     Discard::NotServer,
     Discard::MalformedDown,
     Discard::UnknownCircuitDown,

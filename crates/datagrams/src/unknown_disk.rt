@@ -40,4 +40,8 @@ impl Disk for UnknownDisk {
     fn sync(&mut self, region: u16) -> Result<(), Fault> {
         self.disk.sync(region)
     }
+
+    fn sync_set(&mut self, regions: &[u16]) -> Result<(), Fault> {
+        self.disk.sync_set(regions)
+    }
 }

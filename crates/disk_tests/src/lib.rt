@@ -2,6 +2,8 @@
 #![tactic(auto)]
 
 #[cfg(test)]
+mod batch_tests;
+#[cfg(test)]
 mod moving_tests;
 #[cfg(test)]
 mod recovery_tests;

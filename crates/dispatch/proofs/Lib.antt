@@ -1,5 +1,6 @@
 pub mod ClosedLemmas
 pub mod HeldDeadlines
+pub mod PartLemmas
 pub mod ReceivedLemmas
 pub mod RegionLemmas
 pub mod RestartLemmas

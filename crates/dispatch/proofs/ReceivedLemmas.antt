@@ -12,8 +12,8 @@ use Rattle.circuit_server.specs.Server.{Book}
 
 module _ (topology : Topology) (d : DeliveryValue) (c : ℕ) (part : CircuitPart)
     (found : addressee topology d ≡ Ok c) (there : slice_get topology.circuits c ≡ Some part) where
-  pub received_at : (fails : Bool) (books : List (Option Book)) (book : Option Book) → slice_get books c ≡ Some book
-      → received topology d fails books ≡ with_answered c books (answered part d fails book)
+  pub received_at : (fails : ℕ → Bool) (books : List (Option Book)) (book : Option Book) → slice_get books c ≡ Some book
+      → received topology d fails books ≡ with_answered c books (answered part d (fails part.region) book)
   received_at fails books book its =
       ap (addressee_answered topology d fails books) found
       ∙ (λ i. circuit_answered c d fails books (there i) (its i))

@@ -1,3 +1,5 @@
+pub mod Batch
+pub mod Parts
 pub mod Received
 pub mod Regions
 pub mod ServerValue

@@ -21,16 +21,17 @@ drop_all why books = record { answer = Err why; books = books }
 abbrev pub with_answered : ℕ → List (Option Book) → Answered → Received
 with_answered c books done = record { answer = done.answer; books = slice_set books c done.book }
 
-abbrev pub circuit_answered : ℕ → DeliveryValue → Bool → List (Option Book) → Option CircuitPart → Option (Option Book) → Received
-circuit_answered c d fails books (Some part) (Some book) = with_answered c books (answered part d fails book)
+abbrev pub circuit_answered : ℕ → DeliveryValue → (ℕ → Bool) → List (Option Book) → Option CircuitPart → Option (Option Book) → Received
+circuit_answered c d fails books (Some part) (Some book) = with_answered c books (answered part d (fails part.region) book)
 circuit_answered c d fails books part book = drop_all UnknownCircuit books
 
 -- What is of no circuit changes nothing.
-abbrev pub addressee_answered : Topology → DeliveryValue → Bool → List (Option Book) → Result ℕ Discard → Received
+abbrev pub addressee_answered : Topology → DeliveryValue → (ℕ → Bool) → List (Option Book) → Result ℕ Discard → Received
 addressee_answered topology d fails books (Err why) = drop_all why books
 addressee_answered topology d fails books (Ok c) = circuit_answered c d fails books (slice_get topology.circuits c) (slice_get books c)
 
-abbrev pub received : Topology → DeliveryValue → Bool → List (Option Book) → Received
+-- `fails` says of which regions a save fails.
+abbrev pub received : Topology → DeliveryValue → (ℕ → Bool) → List (Option Book) → Received
 received topology d fails books = addressee_answered topology d fails books (addressee topology d)
 
 -- ---- what is written

@@ -1,5 +1,5 @@
 //! The servers of all circuits: one tick moves the clocks of all at once.
-ghost use Rattle.std.specs.Prelude.{◌≡◌, ◌<◌, ◌≤◌, ◌+◌, ◌*◌, ℕ, [], List, Some, length, map, replicate, slice_set, All, true, is_some, nat_lt, option_map, IfOk};
+ghost use Rattle.std.specs.Prelude.{◌≡◌, ◌<◌, ◌≤◌, ◌+◌, ◌*◌, ℕ, [], List, Some, length, map, replicate, slice_set, All, true, is_some, option_map, IfOk, IfErr};
 ghost use Rattle.config.specs.CircuitPart as parts;
 ghost use Rattle.config.specs.CircuitPart.{IsPart};
 ghost use Rattle.config.specs.Topology.{RegionsDiffer};
@@ -10,15 +10,16 @@ ghost use Rattle.dispatch.specs.Regions.{AreBroughtUp, AreSynced, HasRegions, Ke
 ghost use Rattle.circuit_server.specs.Answered.{IsAnswer, answered, circuit_saves, fails_at};
 ghost use Rattle.requests.specs.RelayedMessage.{IsRelayedMessage};
 ghost use Rattle.circuit_server.specs.CircuitServerValue.{HasItsPools, HasPools, IsReady, IsReadyFor, leases_of, open_book};
+ghost use Rattle.circuit_server.specs.Prepared.{IsDropped, IsPrepared, IsSettled};
 ghost use Rattle.circuit_server.specs.Ticked.{state_at, state_of};
 ghost use Rattle.circuit_server.specs.Unoffered.{state_unoffered};
 ghost use Rattle.dispatch.specs.Turned.{AreTurned, turns_off};
-ghost use Rattle.lease_disk.specs.Device.{Touches, WritesAt};
+ghost use Rattle.lease_disk.specs.Device.{Touches, WritesAt, has_failed};
 ghost use Rattle.timers.specs.Deadlines.{deadline};
 
-use circuit_server::CircuitServer;
+use circuit_server::{CircuitServer, Prepared};
 use config::{CircuitPart, Circuits};
-use lease_disk::Disk;
+use lease_disk::{Disk, Fault, Marks};
 use requests::RelayedMessage;
 use std::alloc::{AllocError, Global};
 use std::marker::Model;
@@ -98,9 +99,9 @@ impl CircuitServers {
         ensures pools { HasPools part.now (state_of self.new index) }
         ensures deadlines { HasDeadlines table.new (32 * index) (state_of self.new index) }
         ensures beside { SameBeside (32 * index) table.old table.new }
-        ensures answer { IsAnswer (answered part.now delivery.now (nat_lt (D.device disk.old).failures (D.device disk.new).failures) (option_map open_book (state_of self.old index))).answer result out.new }
-        ensures book { option_map open_book (state_of self.new index) ≡ (answered part.now delivery.now (nat_lt (D.device disk.old).failures (D.device disk.new).failures) (option_map open_book (state_of self.old index))).book }
-        ensures fails { D.tells ≡ true → nat_lt (D.device disk.old).failures (D.device disk.new).failures ≡ fails_at (D.device disk.old).fuse (circuit_saves delivery.now (Some part.now) (Some (option_map open_book (state_of self.old index)))) }
+        ensures answer { IsAnswer (answered part.now delivery.now (has_failed (D.device disk.old) (D.device disk.new) part.now.region) (option_map open_book (state_of self.old index))).answer result out.new }
+        ensures book { option_map open_book (state_of self.new index) ≡ (answered part.now delivery.now (has_failed (D.device disk.old) (D.device disk.new) part.now.region) (option_map open_book (state_of self.old index))).book }
+        ensures fails { D.tells ≡ true → (r : ℕ) → has_failed (D.device disk.old) (D.device disk.new) r ≡ fails_at (D.device disk.old).fuse (circuit_saves delivery.now (Some part.now) (Some (option_map open_book (state_of self.old index)))) r }
         ensures leases { D.tells ≡ true
             → leases_of (D.device disk.new).region (record { part = part.now; state = state_of self.new index })
             ≡ after_datagram part.now delivery.now ((D.device disk.old).fuse part.now.region) (leases_of (D.device disk.old).region (record { part = part.now; state = state_of self.old index })) }
@@ -112,6 +113,62 @@ impl CircuitServers {
         let server = &mut self.servers[index];
         server.tick(ticked);
         server.answer(part, delivery, relayed, disk, out, table, SLOTS * index)
+    }
+
+    /// Decides on a datagram of the circuit, of which this was read, and makes what it changes but in the circuit's region.
+    pub(crate) fn prepare<'a>(
+        &mut self,
+        index: usize,
+        part: &CircuitPart,
+        delivery: &Delivery<'_>,
+        relayed: RelayedMessage<'a>,
+        table: &mut Deadlines,
+    ) -> Result<Prepared<'a>, Discard>
+        requires index { index < length self.old }
+        requires few { index < 1024 }
+        requires read { IsRelayedMessage delivery.now.proto delivery.now.bytes relayed }
+        requires room { 32 * index + 32 ≤ length table.old.slots }
+        requires deadlines { HasDeadlines table.old (32 * index) (state_of self.old index) }
+        requires pools { HasPools part.now (state_of self.old index) }
+        ensures others { self.new ≡ slice_set self.old index (state_of self.new index) }
+        ensures pools { HasPools part.now (state_of self.new index) }
+        ensures deadlines { HasDeadlines table.new (32 * index) (state_of self.new index) }
+        ensures beside { SameBeside (32 * index) table.old table.new }
+        ensures prepared { IfOk result (IsPrepared part.now delivery.now (state_of self.old index) (state_of self.new index)) }
+        ensures dropped { IfErr result (IsDropped part.now delivery.now (state_of self.old index) (state_of self.new index)) }
+    {
+        let ticked = self.ticked;
+        let server = &mut self.servers[index];
+        server.tick(ticked);
+        server.prepare(part, delivery, relayed, table, SLOTS * index)
+    }
+
+    /// Answers what was prepared, by its save. One that failed closes the circuit.
+    pub(crate) fn settle(
+        &mut self,
+        index: usize,
+        part: &CircuitPart,
+        prepared: &Prepared<'_>,
+        saved: Result<Option<Marks>, Fault>,
+        out: &mut PacketBuf,
+        table: &mut Deadlines,
+    ) -> Result<(), Discard>
+        requires index { index < length self.old }
+        requires few { index < 1024 }
+        requires empty { out.old ≡ [] }
+        requires room { 32 * index + 32 ≤ length table.old.slots }
+        requires deadlines { HasDeadlines table.old (32 * index) (state_of self.old index) }
+        requires pools { HasPools part.now (state_of self.old index) }
+        ensures others { self.new ≡ slice_set self.old index (state_of self.new index) }
+        ensures pools { HasPools part.now (state_of self.new index) }
+        ensures deadlines { HasDeadlines table.new (32 * index) (state_of self.new index) }
+        ensures beside { SameBeside (32 * index) table.old table.new }
+        ensures settled { IsSettled part.now prepared.now saved (state_of self.old index) (state_of self.new index) result out.new }
+    {
+        let ticked = self.ticked;
+        let server = &mut self.servers[index];
+        server.tick(ticked);
+        server.settle(part, prepared, saved, out, table, SLOTS * index)
     }
 
     /// Moves the clock of every open circuit to this moment, where it is a later one.

@@ -11,10 +11,12 @@ ghost use Rattle.dispatch.specs.Received.{received, received_leases, received_sa
 ghost use Rattle.circuit_server.specs.Answered.{IsAnswer, fails_at};
 ghost use Rattle.circuit_server.specs.CircuitServerValue.{OpenCircuitValue};
 ghost use Rattle.dispatch.specs.declared.server.OpenFault.TheVariants as fault;
-ghost use Rattle.lease_disk.specs.Device.{WritesAt};
+ghost use Rattle.lease_disk.specs.Device.{WritesAt, has_failed};
 ghost use Rattle.types.specs.Delivery.{delivery};
 ghost use Rattle.lease_disk.specs.Region.{Region};
 ghost use Rattle.timers.specs.Deadlines.{deadline, is_due};
+
+mod batch;
 
 use crate::circuit_servers::{CircuitServers, SLOTS, turn_off_all};
 use config::{CircuitPart, Circuits, Config, Plans};
@@ -222,15 +224,15 @@ impl Server {
         requires ready { D.tells ≡ true → AreReady (D.device disk.old).region self.old }
         ensures topology { self.new.topology ≡ self.old.topology }
 
-        // Over every device: the save fails where the device counts a failure.
-        ensures answer { IsAnswer (received self.old.topology (delivery proto source now datagram.now) (nat_lt (D.device disk.old).failures (D.device disk.new).failures) (books_in self.old)).answer result out.new }
-        ensures books { books_in self.new ≡ (received self.old.topology (delivery proto source now datagram.now) (nat_lt (D.device disk.old).failures (D.device disk.new).failures) (books_in self.old)).books }
+        // Over every device: the save fails where the device counts a failure of the circuit's region.
+        ensures answer { IsAnswer (received self.old.topology (delivery proto source now datagram.now) (has_failed (D.device disk.old) (D.device disk.new)) (books_in self.old)).answer result out.new }
+        ensures books { books_in self.new ≡ (received self.old.topology (delivery proto source now datagram.now) (has_failed (D.device disk.old) (D.device disk.new)) (books_in self.old)).books }
 
         // A datagram of no circuit is refused for that reason and changes nothing, not even a clock.
         ensures unchanged { IfErr (who.addressee self.old.topology (delivery proto source now datagram.now)) (λ why. (result ≡ Err why) × (self.new ≡ self.old) × (D.device disk.new ≡ D.device disk.old)) }
 
         // Over a device that tells its bytes: when the save fails, and what restarts then find.
-        ensures fails { D.tells ≡ true → nat_lt (D.device disk.old).failures (D.device disk.new).failures ≡ fails_at (D.device disk.old).fuse (received_saves self.old.topology (delivery proto source now datagram.now) (books_in self.old)) }
+        ensures fails { D.tells ≡ true → (r : ℕ) → has_failed (D.device disk.old) (D.device disk.new) r ≡ fails_at (D.device disk.old).fuse (received_saves self.old.topology (delivery proto source now datagram.now) (books_in self.old)) r }
         ensures leases { D.tells ≡ true → leases_in (D.device disk.new).region self.new ≡ received_leases self.old.topology (delivery proto source now datagram.now) (D.device disk.old).fuse (leases_in (D.device disk.old).region self.old) }
         ensures ready { D.tells ≡ true → AreReady (D.device disk.new).region self.new }
 

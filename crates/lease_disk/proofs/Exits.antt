@@ -1,7 +1,6 @@
 -- The exits of a save, by what its three functions promise.
-use Rattle.std.proofs.Common.{◌≡◌, ℕ, ◌+◌, ◌-◌, ◌<◌, ◌≤◌, Bool, true, false, ◌||◌, List, [], ◌∷◌, length, take, set, get_or, slice_index, Some, Result, OnErr, Ok, Err, refl, sym, ap, ◌∙◌, subst, arith}
+use Rattle.std.proofs.Common.{◌≡◌, ℕ, ◌+◌, ◌-◌, ◌<◌, ◌≤◌, Bool, true, false, List, [], ◌∷◌, length, set, get_or, slice_index, Some, Result, OnErr, Ok, Err, refl, sym, ap, ◌∙◌, subst, arith}
 use Rattle.std.specs.Prelude.{if◌then◌else◌, ◌==◌, drop, suc}
-use Rattle.std.proofs.Math.Seq.{take-length}
 use Rattle.std.proofs.lemmas.List.{get_or-set_same, get_or-set_other}
 use Rattle.types.specs.declared.slots.Slots.{Slots}
 use Rattle.lease_disk.specs.declared.content.Content.{Content}
@@ -13,7 +12,7 @@ use Rattle.lease_disk.specs.HalfBytes.{half_bytes}
 use Rattle.lease_disk.specs.Keys.{HasKey}
 use Rattle.lease_disk.specs.Layout.{gate_open, half_at, half2, is_format2}
 use Rattle.lease_disk.specs.Recovered.{is_counting, is_open, last_clock, next, sequence as sequence_of, recovered}
-use Rattle.lease_disk.specs.Region.{Region, is_within, written, synced, effective, IsClean, IsTorn, SameBeside}
+use Rattle.lease_disk.specs.Region.{Region, is_within, written, synced, effective, IsClean, IsTorn}
 use Rattle.lease_disk.specs.Save.{AreMarks, Fits, IsChange, IsMark, IsSaved, IsLeft, mark_at, other, saved_byte, with_slot}
 use Rattle.lease_disk.proofs.Halves.{SameBut, as_format2, recovered2, same_elsewhere, counting_sequence, is_inside}
 use Rattle.lease_disk.proofs.Steps.{IsShut, IsFilled, IsNew, early, middle, late, shut, fills, first_byte, fourth_byte, index_behind, left_closing, left_writing, left_opening, saved_book, saved_mark}
@@ -41,13 +40,6 @@ suc_injective e = omega arith
 size_behind : (xs : List ℕ) → length xs ≡ 256 → length (drop 1 xs) ≡ 255
 size_behind [] size = absurd (none_is_some size)
 size_behind (x ∷ xs) size = suc_injective size
-
--- the slice behind the gate
-behind : (xs : List ℕ) → length xs ≡ 256 → take 255 (drop 1 xs) ≡ drop 1 xs
-behind xs size = let n : length (drop 1 xs) ≡ 255 = size_behind xs size in rw (← n) (take-length (drop 1 xs))
-
-pub slice_behind : (xs ys : List ℕ) → xs ≡ ys → length ys ≡ 256 → take (length xs - 1) (drop 1 xs) ≡ drop 1 ys
-slice_behind xs ys e size = rw (e, size) (behind ys size)
 
 -- what a save is given and has found
 pub record IsSave (s : ℕ) (mark : Mark) (at n clock : ℕ) (content : Content) (whole bytes : List ℕ) (r0 : Region) : Type 0 where
@@ -122,14 +114,6 @@ module _ (s : ℕ) (mark : Mark) (at n clock : ℕ) (content : Content) (whole b
       beside2 : (i : ℕ) → is_within at 256 i ≡ false → r2.byte i ≡ r0.byte i
       beside2 i h = is_filled.same.each i (rw given.at_is at h)
 
-      pub exit_beside : (r : Region) → IsTorn at 1 r2 r → SameBeside (half_at s (other mark.half)) 256 r0 r
-      exit_beside r torn = subst (λ a. SameBeside a 256 r0 r) given.at_is (record {
-        byte = λ i h. torn.byte i (narrow_gate i h) ∙ beside2 i h;
-        unsynced = λ i h. torn.unsynced i ∙ ap (λ b. b || r2.unsynced i) (narrow_gate i h) ∙ clean2.each i ∙ sym (given.clean.each i);
-      }) where
-        narrow_gate : (i : ℕ) → is_within at 256 i ≡ false → is_within at 1 i ≡ false
-        narrow_gate i h = grind (arith, h)
-
       module _ (r3 : Region) (over : r3 ≡ synced (written at (gate_open ∷ []) r2)) where
         over_is : r3 ≡ synced (written (half_at s (other mark.half)) (gate_open ∷ []) r2)
         over_is = rw given.at_is at over
@@ -149,12 +133,6 @@ module _ (s : ℕ) (mark : Mark) (at n clock : ℕ) (content : Content) (whole b
         beside3 i h = ap (λ (r : Region). r.byte i) over ∙ ap (λ b. if b then slice_index (gate_open ∷ []) (i - at) else r2.byte i) (narrow_gate i h) ∙ beside2 i h where
           narrow_gate : (i : ℕ) → is_within at 256 i ≡ false → is_within at 1 i ≡ false
           narrow_gate i h = grind (arith, h)
-
-        pub saved_beside : SameBeside (half_at s (other mark.half)) 256 r0 r3
-        saved_beside = subst (λ a. SameBeside a 256 r0 r3) given.at_is (record {
-          byte = beside3;
-          unsynced = λ i h. (is_clean (written at (gate_open ∷ []) r2) r3 over).each i ∙ sym (given.clean.each i);
-        })
 
         mark_elsewhere : (t : ℕ) (m : Mark) → (t ≡ s → ⊥) → IsMark r0.byte t m → IsMark r3.byte t m
         mark_elsewhere t m ne was =

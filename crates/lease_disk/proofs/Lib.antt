@@ -7,9 +7,12 @@ pub mod ReadBack
 pub mod Changes
 pub mod Steps
 pub mod Exits
+pub mod SaveExits
 pub mod Reading
 pub mod Books
 pub mod Marking
 pub mod FormatLemmas
 pub mod Moved
 pub mod Moves
+pub mod Listed
+pub mod SyncedLemmas

@@ -1,5 +1,5 @@
 -- A region that was moved from format 1.
-use Rattle.std.proofs.Common.{◌≡◌, ◌⊎◌, inl, inr, ℕ, ◌+◌, ◌-◌, ◌*◌, ◌<◌, ◌≤◌, Bool, true, false, suc, zero, List, [], ◌∷◌, length, map, get_or, slice_index, zero-add, Option, Some, None, refl, sym, ap, subst, ◌∙◌, arith}
+use Rattle.std.proofs.Common.{◌≡◌, ◌⊎◌, inl, inr, ℕ, ◌+◌, ◌-◌, ◌*◌, ◌<◌, ◌≤◌, Bool, true, false, suc, zero, List, [], ◌∷◌, length, get_or, slice_index, zero-add, Option, Some, None, refl, sym, ap, subst, ◌∙◌, arith}
 use Rattle.std.specs.Prelude.{◌/◌, ◌%◌, ◌==◌, ◌&&◌, ◌||◌, nat_le, nat_lt, not, max, slice_index_or, if◌then◌else◌}
 use Rattle.std.proofs.lemmas.List.{ext_get_or, get_or_past, length-map}
 use Rattle.types.specs.declared.slot4.Slot4.{Slot4}
@@ -8,7 +8,6 @@ use Rattle.types.specs.declared.slots.Slot6.{Slot6}
 use Rattle.types.specs.declared.slots.Slot6.TheVariants as S6
 use Rattle.types.specs.declared.slots.Slots.{Slots}
 use Rattle.types.specs.Slots.{live4, live6}
-use Rattle.lease_disk.specs.declared.content.Content.{Content}
 use Rattle.lease_disk.specs.declared.content.Content.TheVariants.{Four, Six}
 use Rattle.lease_disk.specs.declared.entry.Entry.{Entry}
 use Rattle.lease_disk.specs.declared.half.Half.TheVariants.{First, Second}

@@ -1,5 +1,5 @@
 -- What a crash leaves after each call of a move.
-use Rattle.std.proofs.Common.{◌≡◌, ℕ, ◌+◌, ◌-◌, ◌*◌, ◌<◌, ◌≤◌, Bool, true, false, List, [], ◌∷◌, length, slice_index, Option, Some, Err, refl, sym, ap, subst, ◌∙◌, arith}
+use Rattle.std.proofs.Common.{◌≡◌, ℕ, ◌+◌, ◌-◌, ◌<◌, ◌≤◌, Bool, true, false, List, [], ◌∷◌, length, slice_index, Some, Err, refl, sym, ap, ◌∙◌, arith}
 use Rattle.std.specs.Prelude.{◌==◌, ◌&&◌, ◌||◌, not, is_some, None, nat_le, nat_lt, if◌then◌else◌}
 use Rattle.types.specs.declared.slots.Slots.{Slots}
 use Rattle.lease_disk.specs.declared.recovering.RecoverFault.{RecoverFault}
@@ -11,7 +11,7 @@ use Rattle.lease_disk.specs.Keys.{HasKey}
 use Rattle.lease_disk.specs.Layout.{is_format2}
 use Rattle.lease_disk.specs.Moving.{HasAddress, InDoubt, IsHalfMoved, IsMigrated, content_at, migrated, moved_half, moved_of, moves}
 use Rattle.lease_disk.specs.Recovered.{last_clock, recovered}
-use Rattle.lease_disk.specs.Region.{Region, effective, is_within, written, synced, IsClean, IsCrash, IsTorn}
+use Rattle.lease_disk.specs.Region.{Region, effective, is_within, written, synced, IsClean, IsCrash}
 use Rattle.lease_disk.proofs.Halves.{is_inside}
 use Rattle.lease_disk.proofs.Moved.{moved_book}
 use Rattle.lease_disk.proofs.Reading.{same_banks}

@@ -13,7 +13,7 @@ use Rattle.lease_disk.specs.declared.marks.Mark.{Mark}
 use Rattle.lease_disk.specs.HalfBytes.{half_bytes}
 use Rattle.lease_disk.specs.Keys.{HasKey}
 use Rattle.lease_disk.specs.Layout.{gate_open, half_at, half2, is_format2}
-use Rattle.lease_disk.specs.Recovered.{is_open, sequence, next, is_counting, last_clock, slot4_of, slot6_of, held, book_in, recovered}
+use Rattle.lease_disk.specs.Recovered.{is_open, sequence, next, is_counting, last_clock, slot4_of, slot6_of, held, recovered}
 use Rattle.lease_disk.specs.Region.{Region, is_within, written, synced, effective, IsCrash, IsClean, IsTorn}
 use Rattle.lease_disk.specs.Save.{Fits, IsChange, IsLeft, IsMark, other, with_slot}
 use Rattle.lease_disk.proofs.Changes.{book_alike, changed4, changed6, here4, here6}

@@ -2,7 +2,7 @@
 use Rattle.std.proofs.Common.{◌≡◌, ℕ, ◌+◌, ◌-◌, Bool, true, false, not, List, length, Result, Ok, Err, OnOk, OnErr, refl, sym, ap, ◌∙◌, subst, arith}
 use Rattle.std.specs.Prelude.{◌==◌, is_ok, IsErr}
 use Rattle.lease_disk.specs.Device.{Device, Touches, IsWritten}
-use Rattle.lease_disk.specs.Region.{Region, written, synced, IsTorn, effective, faults_after}
+use Rattle.lease_disk.specs.Region.{Region, written, synced, IsTorn, effective, faults_after, one_more_at}
 use Rattle.lease_disk.proofs.Frames.{touches_then}
 
 first_fails : (fuse : ℕ) → false ≡ not (fuse == 1) → false ≡ (effective 2 fuse == 0)
@@ -43,7 +43,7 @@ pub record IsSync {T E : Type 0} (tells : Bool) (r : ℕ) (result : Result T E) 
   pub fuse : tells ≡ true → new.fuse r ≡ old.fuse r - 1
   pub frame : Touches tells r old new
   pub writes : new.writes ≡ old.writes + 1
-  pub failures : new.failures ≡ faults_after result old.failures
+  pub failures : new.failures ≡ faults_after r result old.failures
 
 pub then_synced : {T E : Type 0} → (tells : Bool) (r at : ℕ) (bytes : List ℕ) (result : Result T E) (old middle new : Device)
     → IsWrite tells r at bytes old middle → IsSync tells r result middle new → IsWritten tells r at bytes result old new
@@ -67,12 +67,12 @@ then_synced tells r at bytes (Err x) old middle new w s = record {
   writes = tt;
   most = omega (arith, w.writes, s.writes);
   last = λ t. let fuse : old.fuse r ≡ 2 = is_second (old.fuse r) (rw (w.fuse t) at s.answer t) in omega (arith, w.writes, s.writes, fuse);
-  failures = s.failures ∙ ap (λ n. n + 1) w.failures;
+  failures = s.failures ∙ ap (one_more_at r) w.failures;
 }
 
 pub not_written : {T E : Type 0} → (tells : Bool) (r at : ℕ) (bytes : List ℕ) (result : Result T E) (old new : Device) → IsErr result
     → (tells ≡ true → IsTorn at (length bytes) (old.region r) (new.region r)) → (tells ≡ true → false ≡ not (old.fuse r == 1))
-    → Touches tells r old new → new.writes ≡ old.writes + 1 → new.failures ≡ old.failures + 1
+    → Touches tells r old new → new.writes ≡ old.writes + 1 → new.failures ≡ one_more_at r old.failures
     → IsWritten tells r at bytes result old new
 not_written tells r at bytes (Ok x) old new is torn answer frame writes failures = absurd cc
 not_written tells r at bytes (Err e) old new is torn answer frame writes failures = record {

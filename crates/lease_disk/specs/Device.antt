@@ -1,6 +1,7 @@
 -- A device of regions as contracts see it, and what a call leaves as it was. What is said of regions
 -- and fuses is said of a device that tells; of one that does not, the counts alone are.
-use Rattle.std.specs.Prelude.{◌≡◌, ◌≢◌, ℕ, ◌+◌, ◌-◌, ◌==◌, ◌≤◌, Bool, true, List, length, Option, Some, None, Result, is_ok, OnOk, OnErr}
+use Rattle.std.specs.Prelude.{◌≡◌, ◌≢◌, ℕ, ◌+◌, ◌-◌, ◌==◌, ◌≤◌, Bool, true, false, List, length, nat_lt, Option, Some, None, Result, is_ok, OnOk, OnErr, if◌then◌else◌}
+use Rattle.std.specs.List.{list_any}
 use Rattle.lease_disk.specs.Region.{Region, written, synced, IsTorn, effective, faults_after}
 
 pub record Device : Type 0 where
@@ -13,8 +14,12 @@ pub record Device : Type 0 where
   pub reads : ℕ
   -- how many writes and syncs there were
   pub writes : ℕ
-  -- how many of these calls returned a fault
-  pub failures : ℕ
+  -- how many calls of each region returned a fault
+  pub failures : ℕ → ℕ
+
+-- whether a call of a region failed between two moments
+abbrev pub has_failed : Device → Device → ℕ → Bool
+has_failed old new r = nat_lt (old.failures r) (new.failures r)
 
 -- nothing but the counts of reads and of failures
 pub record TouchesNothing (tells : Bool) (old new : Device) : Type 0 where
@@ -36,6 +41,21 @@ pub record ChangesOne (tells : Bool) (r : ℕ) (old new : Device) : Type 0 where
   pub region : tells ≡ true → (q : ℕ) → q ≢ r → new.region q ≡ old.region q
   pub fuse : tells ≡ true → (q : ℕ) → q ≢ r → new.fuse q ≡ old.fuse q
 
+-- one of these regions
+abbrev pub is_in : List ℕ → ℕ → Bool
+is_in regions r = list_any (λ q. q == r) regions
+
+-- nothing but these regions, and the counts of writes and of failures
+pub record TouchesAll (tells : Bool) (regions : List ℕ) (old new : Device) : Type 0 where
+  pub count : new.count ≡ old.count
+  pub reads : new.reads ≡ old.reads
+  pub region : tells ≡ true → (q : ℕ) → is_in regions q ≡ false → new.region q ≡ old.region q
+  pub fuse : tells ≡ true → (q : ℕ) → is_in regions q ≡ false → new.fuse q ≡ old.fuse q
+
+-- a fault of a call that names these regions raises the count of each by one, and nothing else does
+abbrev pub set_faults : {T E : Type 0} → List ℕ → Result T E → (ℕ → ℕ) → ℕ → ℕ
+set_faults regions result failures = if is_ok result then failures else (λ q. if is_in regions q then failures q + 1 else failures q)
+
 -- writes one region, or nothing at all
 abbrev pub WritesAt : Bool → Option ℕ → Device → Device → Type 0
 WritesAt tells None old new = new ≡ old
@@ -52,4 +72,4 @@ pub record IsWritten {T E : Type 0} (tells : Bool) (r at : ℕ) (bytes : List �
   pub writes : OnOk result (new.writes ≡ old.writes + 2)
   pub most : new.writes ≤ old.writes + 2
   pub last : tells ≡ true → OnErr result (new.writes ≡ old.writes + old.fuse r)
-  pub failures : new.failures ≡ faults_after result old.failures
+  pub failures : new.failures ≡ faults_after r result old.failures

@@ -1,6 +1,7 @@
 pub mod Book
 pub mod Crash
 pub mod Device
+pub mod Failures
 pub mod FileDisk
 pub mod HalfBytes
 pub mod Halves
@@ -13,3 +14,4 @@ pub mod Recover
 pub mod Recovered
 pub mod Region
 pub mod Save
+pub mod SaveSteps

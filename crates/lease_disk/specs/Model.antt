@@ -2,6 +2,7 @@
 use Rattle.std.specs.Prelude.{◌≡◌, ◌≢◌, ℕ, ◌||◌, false, List, [], length, slice_index, slice_index_or}
 use Rattle.lease_disk.specs.declared.model_disk.Stored.{Stored}
 use Rattle.lease_disk.specs.Device.{Device}
+use Rattle.lease_disk.specs.Failures.{count_in}
 use Rattle.lease_disk.specs.Region.{Region, is_within}
 
 pub record ModelDiskValue : Type 0 where
@@ -9,7 +10,10 @@ pub record ModelDiskValue : Type 0 where
   pub fuses : List ℕ
   pub reads : ℕ
   pub writes : ℕ
-  pub failures : ℕ
+  -- the regions whose calls returned a fault, the last one first
+  pub failures : List ℕ
+  -- how many syncs there were, of one region or several, up to the greatest 32-bit number
+  pub syncs : ℕ
 
 abbrev pub region_of : Stored → Region
 region_of stored = record { byte = slice_index stored.bytes; unsynced = λ i. slice_index_or stored.unsynced i false; readable = stored.readable }
@@ -30,7 +34,7 @@ fuse_of disk region = slice_index disk.fuses region
 
 -- the device as the contracts of every device see it
 abbrev pub device_of : ModelDiskValue → Device
-device_of disk = record { count = length disk.regions; region = state_of disk; fuse = fuse_of disk; reads = disk.reads; writes = disk.writes; failures = disk.failures }
+device_of disk = record { count = length disk.regions; region = state_of disk; fuse = fuse_of disk; reads = disk.reads; writes = disk.writes; failures = count_in disk.failures }
 
 -- a region after a write of n bytes that failed
 abbrev pub spoilt : ℕ → ℕ → Region → Region
@@ -44,3 +48,4 @@ pub record SameBut (region : ℕ) (old new : ModelDiskValue) : Type 0 where
   pub reads : new.reads ≡ old.reads
   pub writes : new.writes ≡ old.writes
   pub failures : new.failures ≡ old.failures
+  pub syncs : new.syncs ≡ old.syncs

@@ -1,5 +1,5 @@
 -- Moving a region from format 1 to format 2.
-use Rattle.std.specs.Prelude.{◌≡◌, ◌<◌, ◌≤◌, ◌⊎◌, ℕ, ◌+◌, ◌-◌, ◌/◌, ◌%◌, ◌==◌, Bool, true, false, not, ◌&&◌, ◌||◌, nat_le, nat_lt, is_some, if◌then◌else◌, List, slice_index, slice_index_or, Option, Some, None, Result, Ok, Err}
+use Rattle.std.specs.Prelude.{◌≡◌, ◌<◌, ◌≤◌, ◌⊎◌, ℕ, ◌-◌, ◌/◌, ◌%◌, ◌==◌, Bool, true, false, not, ◌&&◌, ◌||◌, nat_le, nat_lt, is_some, if◌then◌else◌, List, slice_index, slice_index_or, Option, Some, None, Result, Ok, Err}
 use Rattle.types.specs.declared.slot4.Slot4.TheVariants as S4
 use Rattle.types.specs.declared.slots.Slot6.TheVariants as S6
 use Rattle.types.specs.declared.slots.Slots.{Slots}
@@ -10,7 +10,7 @@ use Rattle.lease_disk.specs.declared.recovering.RecoverFault.TheVariants.{DiskFa
 use Rattle.lease_disk.specs.HalfBytes.{half_bytes}
 use Rattle.lease_disk.specs.Layout.{is_format2}
 use Rattle.lease_disk.specs.Recovered.{recovered}
-use Rattle.lease_disk.specs.Region.{Region, effective, synced, written, IsClean, IsCrash, IsTorn}
+use Rattle.lease_disk.specs.Region.{Region, effective, one_more_at, synced, written, IsClean, IsCrash, IsTorn}
 
 -- What is written
 
@@ -39,11 +39,11 @@ succeeds counts k r = r.readable && is_some (recovered counts r.byte) && (is_for
 abbrev pub refusal : List ℕ → Region → RecoverFault
 refusal counts r = if r.readable && not (is_some (recovered counts r.byte)) then Damaged else DiskFault
 
--- the count of failures: a fault of the device raises it by one, and nothing else does
-abbrev pub move_faults : {T : Type 0} → Result T RecoverFault → ℕ → ℕ
-move_faults (Ok done) failures = failures
-move_faults (Err Damaged) failures = failures
-move_faults (Err DiskFault) failures = failures + 1
+-- the counts of failures: a fault of the device raises this region's by one, and nothing else does
+abbrev pub move_faults : {T : Type 0} → ℕ → Result T RecoverFault → (ℕ → ℕ) → ℕ → ℕ
+move_faults r (Ok done) failures = failures
+move_faults r (Err Damaged) failures = failures
+move_faults r (Err DiskFault) failures = one_more_at r failures
 
 -- What is left
 

@@ -1,5 +1,5 @@
 -- What recovering a region answers.
-use Rattle.std.specs.Prelude.{◌≡◌, ℕ, ◌+◌, Bool, ◌||◌, true, false, List, Some, None, Result, Ok, Err}
+use Rattle.std.specs.Prelude.{◌≡◌, ℕ, Bool, ◌||◌, true, false, List, Some, None, Result, Ok, Err}
 use Rattle.types.specs.declared.slots.Slots.{Slots}
 use Rattle.lease_disk.specs.declared.marks.Marks.{Marks}
 use Rattle.lease_disk.specs.declared.half.Half.TheVariants.{First, Second}
@@ -7,7 +7,7 @@ use Rattle.lease_disk.specs.declared.recovering.RecoverFault.{RecoverFault}
 use Rattle.lease_disk.specs.declared.recovering.RecoverFault.TheVariants.{DiskFault, Damaged}
 use Rattle.lease_disk.specs.Layout.{half2, is_format2}
 use Rattle.lease_disk.specs.Recovered.{is_counting, recovered}
-use Rattle.lease_disk.specs.Region.{Region}
+use Rattle.lease_disk.specs.Region.{Region, one_more_at}
 use Rattle.lease_disk.specs.Save.{AreMarks}
 
 -- whether one of a slot's halves counts, in format 2
@@ -21,8 +21,8 @@ Answers counts r (Ok found) = (r.readable ≡ true) × (recovered counts r.byte 
 Answers counts r (Err Damaged) = (r.readable ≡ true) × (recovered counts r.byte ≡ None)
 Answers counts r (Err DiskFault) = r.readable ≡ false
 
--- the count of failures: a fault of the device raises it by one, and nothing else does
-abbrev pub recover_faults : Result (Slots × Marks) RecoverFault → ℕ → ℕ
-recover_faults (Ok found) failures = failures
-recover_faults (Err Damaged) failures = failures
-recover_faults (Err DiskFault) failures = failures + 1
+-- the counts of failures: a fault of the device raises this region's by one, and nothing else does
+abbrev pub recover_faults : ℕ → Result (Slots × Marks) RecoverFault → (ℕ → ℕ) → ℕ → ℕ
+recover_faults r (Ok found) failures = failures
+recover_faults r (Err Damaged) failures = failures
+recover_faults r (Err DiskFault) failures = one_more_at r failures

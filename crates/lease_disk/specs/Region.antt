@@ -1,6 +1,6 @@
 -- A region of a device, without its layout: its bytes, which of them a crash may still change, and
 -- whether it can be read.
-use Rattle.std.specs.Prelude.{◌≡◌, ℕ, ◌+◌, ◌-◌, ◌<◌, Bool, false, ◌&&◌, ◌||◌, nat_le, nat_lt, if◌then◌else◌, List, length, slice_index, Result, is_ok}
+use Rattle.std.specs.Prelude.{◌≡◌, ℕ, ◌+◌, ◌-◌, ◌<◌, ◌==◌, Bool, false, ◌&&◌, ◌||◌, nat_le, nat_lt, if◌then◌else◌, List, length, slice_index, Result, is_ok}
 
 pub record Region : Type 0 where
   -- what a read gives at an offset
@@ -41,9 +41,13 @@ pub record IsClean (r : Region) : Type 0 where
 abbrev pub IsRead : Region → ℕ → List ℕ → Type 0
 IsRead r at bytes = (i : ℕ) → i < length bytes → slice_index bytes i ≡ r.byte (at + i)
 
--- a fault raises the count of failures by one, and nothing else does
-abbrev pub faults_after : {T E : Type 0} → Result T E → ℕ → ℕ
-faults_after result failures = if is_ok result then failures else failures + 1
+-- the counts of failures, one for each region: one more of this region
+abbrev pub one_more_at : ℕ → (ℕ → ℕ) → ℕ → ℕ
+one_more_at r failures q = if q == r then failures q + 1 else failures q
+
+-- a fault raises the count of the region that the call names by one, and nothing else does
+abbrev pub faults_after : {T E : Type 0} → ℕ → Result T E → (ℕ → ℕ) → ℕ → ℕ
+faults_after r result failures = if is_ok result then failures else one_more_at r failures
 
 -- a region after a write of n bytes failed, or the sync behind it: the range is in doubt
 pub record IsTorn (at n : ℕ) (old new : Region) : Type 0 where

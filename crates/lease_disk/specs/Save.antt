@@ -1,5 +1,5 @@
 -- What a save is given, and what it leaves.
-use Rattle.std.specs.Prelude.{◌≡◌, ℕ, ◌-◌, ◌==◌, ◌<◌, ◌≤◌, Bool, true, false, ◌&&◌, nat_le, nat_lt, if◌then◌else◌, List, map, slice_index, slice_index_or, slice_set, Option, Some}
+use Rattle.std.specs.Prelude.{◌≡◌, ◌≢◌, ℕ, ◌-◌, ◌==◌, ◌<◌, ◌≤◌, Bool, true, false, ◌&&◌, nat_le, nat_lt, if◌then◌else◌, List, map, slice_index, slice_index_or, slice_set, Option, Some}
 use Rattle.types.specs.declared.slots.Slots.{Slots}
 use Rattle.types.specs.Slots.{live4, live6}
 use Rattle.lease_disk.specs.declared.content.Content.{Content}
@@ -10,9 +10,9 @@ use Rattle.lease_disk.specs.declared.marks.Mark.{Mark}
 use Rattle.lease_disk.specs.declared.marks.Marks.{Marks}
 use Rattle.lease_disk.specs.Book.{IsBook}
 use Rattle.lease_disk.specs.HalfBytes.{half_bytes}
-use Rattle.lease_disk.specs.Layout.{gate_open, half_at, half2}
+use Rattle.lease_disk.specs.Layout.{gate_open, half_at, half2, is_format2}
 use Rattle.lease_disk.specs.Recovered.{is_open, sequence, next, is_counting, recovered}
-use Rattle.lease_disk.specs.Region.{Region, is_within, IsCrash, IsClean}
+use Rattle.lease_disk.specs.Region.{Region, SameBeside, is_within, IsCrash, IsClean}
 
 abbrev pub other : Half → Half
 other First = Second
@@ -71,3 +71,16 @@ saved_byte s mark clock content region i =
 pub record IsLeft (k gate : ℕ) (before after : Option Slots) (counts : List ℕ) (r : Region) : Type 0 where
   pub crash : (f : ℕ → ℕ) → IsCrash r f → recovered counts f ≡ (if nat_le 5 k && f gate == gate_open then after else before)
   pub doubt : 5 ≤ k → r.unsynced gate ≡ true
+
+-- What a save of a slot makes of its region and of its marks, where its k-th call failed, and none where k is 0.
+pub record IsSaveOf (k clock s : ℕ) (content : Content) (known left : Marks) (old new : Region) : Type 0 where
+  pub saved : k ≡ 0 → (counts : List ℕ) (slots : Slots) → recovered counts old.byte ≡ Some slots → IsChange counts clock s content slots
+      → IsSaved counts (with_slot clock s content slots) new
+  pub bytes : k ≡ 0 → (i : ℕ) → new.byte i ≡ saved_byte s (mark_at known s) clock content old.byte i
+  pub clean : k ≡ 0 → IsClean new
+  pub marks : k ≡ 0 → (counts : List ℕ) → AreMarks counts old.byte known → AreMarks counts new.byte left
+  pub kept : k ≢ 0 → left ≡ known
+  pub failed : k ≢ 0 → (counts : List ℕ) (slots : Slots) → recovered counts old.byte ≡ Some slots → IsChange counts clock s content slots
+      → IsLeft k (gate_at s (mark_at known s)) (Some slots) (Some (with_slot clock s content slots)) counts new
+  pub format : is_format2 new.byte ≡ true
+  pub beside : SameBeside (gate_at s (mark_at known s)) 256 old new

@@ -1,6 +1,7 @@
 //! Devices that keep regions.
-ghost use Rattle.std.specs.Prelude.{◌≡◌, Bool, true, not, ◌+◌, ◌-◌, ◌==◌, ◌<◌, ◌≤◌, length, is_ok, OnOk, OnErr};
-ghost use Rattle.lease_disk.specs.Device.{Device, Touches, TouchesNothing};
+ghost use Rattle.std.specs.List.{list_any};
+ghost use Rattle.std.specs.Prelude.{◌≡◌, ℕ, Bool, true, not, ◌+◌, ◌-◌, ◌==◌, ◌<◌, ◌≤◌, length, is_ok, OnOk, OnErr};
+ghost use Rattle.lease_disk.specs.Device.{Device, Touches, TouchesAll, TouchesNothing, is_in, set_faults};
 ghost use Rattle.lease_disk.specs.Region.{IsRead, IsTorn, written, synced, faults_after};
 
 use thiserror::Error;
@@ -37,7 +38,7 @@ pub trait Disk {
         ensures answer { tells ≡ true → is_ok result ≡ ((device self.old).region region).readable }
         ensures frame { TouchesNothing tells (device self.old) (device self.new) }
         ensures reads { (device self.new).reads ≡ (device self.old).reads + 1 }
-        ensures failures { (device self.new).failures ≡ faults_after result (device self.old).failures };
+        ensures failures { (device self.new).failures ≡ faults_after region result (device self.old).failures };
 
     /// Writes bytes to a region from an offset on. After a fault a read of this range may give any
     /// bytes, and so may a crash.
@@ -50,7 +51,7 @@ pub trait Disk {
         ensures fuse { tells ≡ true → (device self.new).fuse region ≡ (device self.old).fuse region - 1 }
         ensures frame { Touches tells region (device self.old) (device self.new) }
         ensures writes { (device self.new).writes ≡ (device self.old).writes + 1 }
-        ensures failures { (device self.new).failures ≡ faults_after result (device self.old).failures };
+        ensures failures { (device self.new).failures ≡ faults_after region result (device self.old).failures };
 
     /// Makes what was written to a region outlive a crash.
     fn sync(&mut self, region: u16) -> Result<(), Fault>
@@ -61,5 +62,16 @@ pub trait Disk {
         ensures fuse { tells ≡ true → (device self.new).fuse region ≡ (device self.old).fuse region - 1 }
         ensures frame { Touches tells region (device self.old) (device self.new) }
         ensures writes { (device self.new).writes ≡ (device self.old).writes + 1 }
-        ensures failures { (device self.new).failures ≡ faults_after result (device self.old).failures };
+        ensures failures { (device self.new).failures ≡ faults_after region result (device self.old).failures };
+
+    /// Makes what was written to each of these regions outlive a crash, by one call. For each of them it is a sync.
+    fn sync_set(&mut self, regions: &[u16]) -> Result<(), Fault>
+        requires exist { (r : ℕ) → is_in regions.now r ≡ true → r < (device self.old).count }
+        ensures ok { tells ≡ true → OnOk result ((r : ℕ) → is_in regions.now r ≡ true → (device self.new).region r ≡ synced ((device self.old).region r)) }
+        ensures err { tells ≡ true → OnErr result ((r : ℕ) → is_in regions.now r ≡ true → (device self.new).region r ≡ (device self.old).region r) }
+        ensures answer { tells ≡ true → is_ok result ≡ not (list_any (λ r. (device self.old).fuse r == 1) regions.now) }
+        ensures fuse { tells ≡ true → (r : ℕ) → is_in regions.now r ≡ true → (device self.new).fuse r ≡ (device self.old).fuse r - 1 }
+        ensures frame { TouchesAll tells regions.now (device self.old) (device self.new) }
+        ensures writes { (device self.new).writes ≡ (device self.old).writes + 1 }
+        ensures failures { (device self.new).failures ≡ set_faults regions.now result (device self.old).failures };
 }

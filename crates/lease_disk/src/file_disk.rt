@@ -2,9 +2,12 @@
 ghost use Rattle.std.specs.Path.{path_parent};
 ghost use Rattle.std.specs.Prelude.{◌≡◌, ◌≢◌, ℕ, List, [], Some, codes, ◌≤◌, ◌+◌, ◌*◌, ◌/◌, ◌↔◌, min, is_ok};
 ghost use Rattle.std.specs.IoError.{error_kind};
+ghost use Rattle.lease_disk.specs.Device.{set_faults};
+ghost use Rattle.lease_disk.specs.Failures.{count_in};
 ghost use Rattle.lease_disk.specs.Region.{faults_after};
 
 use crate::device::{Disk, Fault, REGION};
+use crate::failures::Failures;
 use std::fs::{File, OpenOptions};
 use std::io;
 use std::io::ErrorKind;
@@ -50,7 +53,7 @@ pub struct FileDisk {
     regions: u16,
     reads: Count,
     writes: Count,
-    failures: Count,
+    failures: Failures,
 }
 
 impl Model for FileDisk {
@@ -58,7 +61,7 @@ impl Model for FileDisk {
 
     ghost Value = { FileDiskValue };
 
-    ghost view = { λ d. record { regions = d.regions; reads = d.reads.count; writes = d.writes.count; failures = d.failures.count } };
+    ghost view = { λ d. record { regions = d.regions; reads = d.reads.count; writes = d.writes.count; failures = d.failures.regions } };
 }
 
 /// How many whole regions a file of so many bytes has, and at most 1024.
@@ -95,15 +98,33 @@ fn lengthen<R: Files<File = File>>(rt: &R, path: &str, file: &File, length: u64)
     File::open(rt, folder_of(path))?.sync_all()
 }
 
-/// The answer to a call of the system, and one failure more where it is an error.
-fn counted(answer: io::Result<()>, failures: &mut Count) -> Result<(), Fault>
+/// The answer to a call of the system, and one failure of this region more where it is an error.
+fn counted(region: u16, answer: io::Result<()>, failures: &mut Failures) -> Result<(), Fault>
     ensures answer { is_ok result ≡ is_ok answer }
-    ensures failures { failures.new.count ≡ faults_after result failures.old.count }
+    ensures failures { count_in failures.new.regions ≡ faults_after region result (count_in failures.old.regions) }
 {
     match answer {
         Ok(()) => Ok(()),
         Err(_) => {
-            failures.tick();
+            failures.note(region);
+            Err(Fault)
+        }
+    }
+}
+
+/// The same for a call that names these regions.
+fn counted_all(
+    regions: &[u16],
+    answer: io::Result<()>,
+    failures: &mut Failures,
+) -> Result<(), Fault>
+    ensures answer { is_ok result ≡ is_ok answer }
+    ensures failures { count_in failures.new.regions ≡ set_faults regions.now result (count_in failures.old.regions) }
+{
+    match answer {
+        Ok(()) => Ok(()),
+        Err(_) => {
+            failures.note_all(regions);
             Err(Fault)
         }
     }
@@ -163,7 +184,7 @@ impl FileDisk {
             regions: whole_regions(length.max(bytes)),
             reads: Count::new(),
             writes: Count::new(),
-            failures: Count::new(),
+            failures: Failures::new(),
         })
     }
 }
@@ -183,17 +204,24 @@ impl Disk for FileDisk {
     fn read(&mut self, region: u16, at: usize, out: &mut [u8]) -> Result<(), Fault> {
         self.reads.tick();
         let answer = self.file.read_exact_at(out, position(region, at));
-        counted(answer, &mut self.failures)
+        counted(region, answer, &mut self.failures)
     }
 
     fn write_at(&mut self, region: u16, at: usize, bytes: &[u8]) -> Result<(), Fault> {
         self.writes.tick();
         let answer = self.file.write_all_at(bytes, position(region, at));
-        counted(answer, &mut self.failures)
+        counted(region, answer, &mut self.failures)
     }
 
-    fn sync(&mut self, _region: u16) -> Result<(), Fault> {
+    fn sync(&mut self, region: u16) -> Result<(), Fault> {
         self.writes.tick();
-        counted(self.file.sync_data(), &mut self.failures)
+        let answer = self.file.sync_data();
+        counted(region, answer, &mut self.failures)
+    }
+
+    fn sync_set(&mut self, regions: &[u16]) -> Result<(), Fault> {
+        self.writes.tick();
+        let answer = self.file.sync_data();
+        counted_all(regions, answer, &mut self.failures)
     }
 }

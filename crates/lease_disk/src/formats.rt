@@ -22,7 +22,7 @@ pub fn read_format<D: Disk>(region: u16, disk: &mut D) -> Result<u8, Fault>
     ensures answer { D.tells ≡ true → is_ok result ≡ ((D.device disk.old).region region).readable }
     ensures frame { TouchesNothing D.tells (D.device disk.old) (D.device disk.new) }
     ensures reads { (D.device disk.new).reads ≡ (D.device disk.old).reads + 1 }
-    ensures failures { (D.device disk.new).failures ≡ faults_after result (D.device disk.old).failures }
+    ensures failures { (D.device disk.new).failures ≡ faults_after region result (D.device disk.old).failures }
 {
     let mut bytes = [0; 1];
     disk.read(region, FORMAT_AT, &mut bytes)?;
@@ -36,7 +36,7 @@ pub(crate) fn has_format2<D: Disk>(region: u16, disk: &mut D) -> Result<bool, Fa
     ensures answer { D.tells ≡ true → is_ok result ≡ ((D.device disk.old).region region).readable }
     ensures frame { TouchesNothing D.tells (D.device disk.old) (D.device disk.new) }
     ensures reads { (D.device disk.new).reads ≡ (D.device disk.old).reads + 1 }
-    ensures failures { (D.device disk.new).failures ≡ faults_after result (D.device disk.old).failures }
+    ensures failures { (D.device disk.new).failures ≡ faults_after region result (D.device disk.old).failures }
 {
     let format = read_format(region, disk)?;
     Ok(format == FORMAT)

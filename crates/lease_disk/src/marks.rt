@@ -1,11 +1,12 @@
 //! What saves have to know of a region's slots.
-ghost use Rattle.std.specs.Prelude.{◌≡◌, ◌<◌, ℕ, true, length, slice_index};
+ghost use Rattle.std.specs.Prelude.{◌≡◌, ◌<◌, ◌≤◌, ℕ, true, length, slice_index};
 ghost use Rattle.lease_disk.specs.Layout.{with_halves};
 ghost use Rattle.lease_disk.specs.Recover.{is_counted};
 ghost use Rattle.lease_disk.specs.Recovered.{is_open, sequence};
 ghost use Rattle.lease_disk.specs.Save.{IsMark, mark_at};
+ghost use Rattle.lease_disk.specs.SaveSteps.{marks_after};
 
-use crate::half::{GATE_OPEN, Half, SEQUENCE_AT};
+use crate::half::{GATE_OPEN, Half, SEQUENCE_AT, sequence_after};
 use crate::read_half::{counts_before, half_of};
 
 /// What a save has to know of a slot, so that it reads nothing.
@@ -19,11 +20,27 @@ pub struct Mark {
     pub(crate) other_open: bool,
 }
 
-/// What saves have to know of a region's slots. `recover` makes the marks of a region, and only `save`
+/// What saves have to know of a region's slots. `recover` makes the marks of a region, and only a save
 /// changes them.
 #[derive(Clone, Copy, Debug, PartialEq, Eq)]
 pub struct Marks {
     pub(crate) slots: [Mark; 32],
+}
+
+impl Marks {
+    /// After a save of this slot: the half that was written counts from now on.
+    pub fn turn(&mut self, slot: usize)
+        requires { slot < 32 }
+        ensures after { (mark_at self.old slot).sequence ≤ 2 → self.new ≡ marks_after self.old slot }
+        ensures all { length self.old.slots ≡ 32 }
+    {
+        let mark = self.slots[slot];
+        self.slots[slot] = Mark {
+            half: mark.half.other(),
+            sequence: sequence_after(mark.sequence),
+            other_open: true,
+        };
+    }
 }
 
 /// The mark of a slot of which this half counts, by the bytes of both.

@@ -57,7 +57,7 @@ fn write_moved<D: Disk>(region: u16, disk: &mut D, halves: &[u8]) -> Result<(), 
     ensures writes { OnOk result ((D.device disk.new).writes ≡ (D.device disk.old).writes + 4) }
     ensures most { (D.device disk.new).writes ≤ (D.device disk.old).writes + 4 }
     ensures last { D.tells ≡ true → OnErr result ((D.device disk.new).writes ≡ (D.device disk.old).writes + (D.device disk.old).fuse region) }
-    ensures failures { (D.device disk.new).failures ≡ faults_after result (D.device disk.old).failures }
+    ensures failures { (D.device disk.new).failures ≡ faults_after region result (D.device disk.old).failures }
 {
     write_synced(region, disk, HALVES_AT, halves)?;
     write_synced(region, disk, FORMAT_AT, &[FORMAT])
@@ -86,7 +86,7 @@ pub fn migrate<D: Disk>(
     ensures writes { D.tells ≡ true → OnOk result ((D.device disk.new).writes ≡ (D.device disk.old).writes + (if moves counts ((D.device disk.old).region region) then 4 else 0)) }
     ensures most { (D.device disk.new).writes ≤ (D.device disk.old).writes + 4 }
     ensures last { D.tells ≡ true → moves counts ((D.device disk.old).region region) ≡ true → OnErr result ((D.device disk.new).writes ≡ (D.device disk.old).writes + (D.device disk.old).fuse region) }
-    ensures failures { (D.device disk.new).failures ≡ move_faults result (D.device disk.old).failures }
+    ensures failures { (D.device disk.new).failures ≡ move_faults region result (D.device disk.old).failures }
 {
     let Ok(two) = has_format2(region, disk) else {
         return Err(RecoverFault::DiskFault);

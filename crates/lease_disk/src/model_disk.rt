@@ -1,10 +1,14 @@
 //! A device in memory.
-ghost use Rattle.std.specs.Prelude.{◌≡◌, ◌-◌, ◌==◌};
+ghost use Rattle.std.specs.List.{list_any};
+ghost use Rattle.std.specs.Prelude.{ℕ, ◌≡◌, ◌<◌, ◌-◌, ◌==◌, true, false, length, slice_index, if◌then◌else◌};
+ghost use Rattle.lease_disk.specs.Device.{is_in};
 ghost use Rattle.lease_disk.specs.Crash.{formatted_region};
-ghost use Rattle.lease_disk.specs.Model.{region_of};
+ghost use Rattle.lease_disk.specs.Model.{region_of, stored_at};
+ghost use Rattle.lease_disk.specs.Region.{synced};
 
 use crate::bytes::{overwrite, put};
 use crate::device::{Disk, Fault, REGION};
+use crate::failures::Failures;
 use crate::format2::format_bytes;
 use crate::image::Image;
 use crate::unsynced::Unsynced;
@@ -29,7 +33,8 @@ pub struct ModelDisk {
     fuses: Vec<u8>,
     reads: Count,
     writes: Count,
-    failures: Count,
+    failures: Failures,
+    syncs: u32,
 }
 
 impl Model for ModelDisk {
@@ -38,7 +43,7 @@ impl Model for ModelDisk {
 
     ghost Value = { ModelDiskValue };
 
-    ghost view = { λ d. record { regions = d.regions.items; fuses = d.fuses.items; reads = d.reads.count; writes = d.writes.count; failures = d.failures.count } };
+    ghost view = { λ d. record { regions = d.regions.items; fuses = d.fuses.items; reads = d.reads.count; writes = d.writes.count; failures = d.failures.regions; syncs = d.syncs } };
 
     ghost invariant = { λ d. (length d.regions.items < 65536) × (length d.fuses.items ≡ length d.regions.items) };
 }
@@ -66,8 +71,37 @@ fn burn(fuse: &mut u8) -> bool
     fails
 }
 
+/// Counts one call of each of these regions, and tells whether it is the one that fails of any.
+fn burn_all(fuses: &mut [u8], regions: &[u16]) -> bool
+    requires { (r : ℕ) → is_in regions.now r ≡ true → r < length fuses.old }
+    ensures fails { result ≡ list_any (λ r. slice_index fuses.old r == 1) regions.now }
+    ensures fuses { (r : ℕ) → slice_index fuses.new r ≡ (if is_in regions.now r then slice_index fuses.old r - 1 else slice_index fuses.old r) }
+    ensures size { length fuses.new ≡ length fuses.old }
+{
+    let mut fails = false;
+    'regions: for index in 0..regions.len() {
+        let region = regions[index];
+        // a region that stands twice is called once
+        if !regions[..index].contains(&region) {
+            fails |= burn(&mut fuses[usize::from(region)]);
+        }
+    }
+    fails
+}
+
+/// Syncs each of these regions.
+fn clear_all(stored: &mut [Stored], regions: &[u16])
+    requires { (r : ℕ) → is_in regions.now r ≡ true → r < length stored.old }
+    ensures synced { (r : ℕ) → region_of (stored_at stored.new r) ≡ (if is_in regions.now r then synced (region_of (stored_at stored.old r)) else region_of (stored_at stored.old r)) }
+    ensures size { length stored.new ≡ length stored.old }
+{
+    'regions: for index in 0..regions.len() {
+        stored[usize::from(regions[index])].unsynced.clear();
+    }
+}
+
 impl ModelDisk {
-    ghost use Rattle.std.specs.Prelude.{ℕ, ◌≡◌, ◌+◌, ◌<◌, ◌≤◌, length, IfOk};
+    ghost use Rattle.std.specs.Prelude.{ℕ, ◌≡◌, ◌+◌, ◌<◌, ◌≤◌, [], length, IfOk};
     ghost use Rattle.lease_disk.specs.Crash.{crashed, filled, formatted_region, loaded};
     ghost use Rattle.lease_disk.specs.Model.{state_of, fuse_of, SameBut};
     ghost use Rattle.lease_disk.specs.Region.{IsClean, IsRead};
@@ -81,7 +115,8 @@ impl ModelDisk {
         ensures fuses { IfOk result (λ disk. (q : ℕ) → q < regions → fuse_of disk q ≡ 0) }
         ensures reads { IfOk result (λ disk. disk.reads ≡ 0) }
         ensures writes { IfOk result (λ disk. disk.writes ≡ 0) }
-        ensures failures { IfOk result (λ disk. disk.failures ≡ 0) }
+        ensures failures { IfOk result (λ disk. disk.failures ≡ []) }
+        ensures syncs { IfOk result (λ disk. disk.syncs ≡ 0) }
     {
         let mut stored = Vec::with_capacity(alloc, usize::from(regions))?;
         'regions: for _ in 0..regions {
@@ -93,7 +128,8 @@ impl ModelDisk {
             fuses,
             reads: Count::new(),
             writes: Count::new(),
-            failures: Count::new(),
+            failures: Failures::new(),
+            syncs: 0,
         })
     }
 
@@ -155,6 +191,13 @@ impl ModelDisk {
         self.fuses[usize::from(region)]
     }
 
+    /// How many syncs there were, of one region or of several by one call; it stays at its greatest value.
+    pub fn syncs(&self) -> u32
+        ensures { result ≡ self.now.syncs }
+    {
+        self.syncs
+    }
+
     /// The bytes of a region as a read gives them, though none is made.
     pub fn bytes(&self, region: u16) -> &[u8]
         requires { region < length self.now.regions }
@@ -183,7 +226,7 @@ impl Disk for ModelDisk {
         self.reads.tick();
         let stored = &self.regions[usize::from(region)];
         if !stored.readable {
-            self.failures.tick();
+            self.failures.note(region);
             return Err(Fault);
         }
         out.copy_from_slice(&stored.bytes[at..at + out.len()]);
@@ -199,7 +242,7 @@ impl Disk for ModelDisk {
         ensures fuse { true ≡ true → (device_of self.new).fuse region ≡ (device_of self.old).fuse region - 1 }
         ensures frame { Touches true region (device_of self.old) (device_of self.new) }
         ensures writes { (device_of self.new).writes ≡ (device_of self.old).writes + 1 }
-        ensures failures { (device_of self.new).failures ≡ faults_after result (device_of self.old).failures }
+        ensures failures { (device_of self.new).failures ≡ faults_after region result (device_of self.old).failures }
         // and the bytes stay after a fault
         ensures spoilt { OnErr result (state_of self.new region ≡ spoilt at (length bytes.now) (state_of self.old region)) }
     {
@@ -208,7 +251,7 @@ impl Disk for ModelDisk {
         let stored = &mut self.regions[usize::from(region)];
         stored.unsynced.mark(at, bytes.len());
         if fails {
-            self.failures.tick();
+            self.failures.note(region);
             return Err(Fault);
         }
         put(&mut stored.bytes, at, bytes);
@@ -217,11 +260,23 @@ impl Disk for ModelDisk {
 
     fn sync(&mut self, region: u16) -> Result<(), Fault> {
         self.writes.tick();
+        self.syncs = self.syncs.saturating_add(1);
         if burn(&mut self.fuses[usize::from(region)]) {
-            self.failures.tick();
+            self.failures.note(region);
             return Err(Fault);
         }
         self.regions[usize::from(region)].unsynced.clear();
+        Ok(())
+    }
+
+    fn sync_set(&mut self, regions: &[u16]) -> Result<(), Fault> {
+        self.writes.tick();
+        self.syncs = self.syncs.saturating_add(1);
+        if burn_all(&mut self.fuses, regions) {
+            self.failures.note_all(regions);
+            return Err(Fault);
+        }
+        clear_all(&mut self.regions, regions);
         Ok(())
     }
 }

@@ -55,7 +55,7 @@ fn read_all_halves<D: Disk>(
     ensures answer { D.tells ≡ true → is_ok result ≡ ((D.device disk.old).region region).readable }
     ensures frame { TouchesNothing D.tells (D.device disk.old) (D.device disk.new) }
     ensures reads { (D.device disk.new).reads ≡ (D.device disk.old).reads + 1 }
-    ensures failures { (D.device disk.new).failures ≡ faults_after result (D.device disk.old).failures }
+    ensures failures { (D.device disk.new).failures ≡ faults_after region result (D.device disk.old).failures }
 {
     if is_format2 {
         read_halves(region, disk)
@@ -77,7 +77,7 @@ fn read_region<D: Disk>(
     ensures answer { D.tells ≡ true → is_ok result ≡ ((D.device disk.old).region region).readable }
     ensures frame { TouchesNothing D.tells (D.device disk.old) (D.device disk.new) }
     ensures reads { (D.device disk.new).reads ≤ (D.device disk.old).reads + 2 }
-    ensures failures { (D.device disk.new).failures ≡ faults_after result (D.device disk.old).failures }
+    ensures failures { (D.device disk.new).failures ≡ faults_after region result (D.device disk.old).failures }
 {
     let is_format2 = has_format2(region, disk)?;
     let halves = read_all_halves(region, disk, is_format2)?;
@@ -100,7 +100,7 @@ pub fn recover<D: Disk>(
     ensures book { IfOk result (λ found. IsBook counts found.0) }
     ensures frame { TouchesNothing D.tells (D.device disk.old) (D.device disk.new) }
     ensures reads { (D.device disk.new).reads ≤ (D.device disk.old).reads + 2 }
-    ensures failures { (D.device disk.new).failures ≡ recover_faults result (D.device disk.old).failures }
+    ensures failures { (D.device disk.new).failures ≡ recover_faults region result (D.device disk.old).failures }
 {
     match read_region(region, disk, counts) {
         Ok(Some(found)) => Ok(found),

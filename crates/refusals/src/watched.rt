@@ -46,4 +46,9 @@ impl Disk for Watched {
         self.count();
         self.disk.sync(region)
     }
+
+    fn sync_set(&mut self, regions: &[u16]) -> Result<(), Fault> {
+        self.count();
+        self.disk.sync_set(regions)
+    }
 }

@@ -1,7 +1,7 @@
 -- The table of reasons: the number of each, and its words.
 use Rattle.std.specs.Prelude.{ℕ, List, codes}
 use Rattle.types.specs.declared.discard.Discard.{Discard}
-use Rattle.types.specs.declared.discard.Discard.TheVariants.{TooLong, MalformedUp, NotRequest, HasGiaddr, HasOption82, Hops, WrongType, NestedRelay, UnknownSource, Malformed, NotRelayed, UnknownCircuit, WrongLink, NoOverride, ClientKey, OtherServer, NoAddress, NoRecord, CircuitClosed, NotServed, DiskFault, NothingToSay, NotServer, MalformedDown, UnknownCircuitDown, WrongLinkDown}
+use Rattle.types.specs.declared.discard.Discard.TheVariants.{TooLong, MalformedUp, NotRequest, HasGiaddr, HasOption82, Hops, WrongType, NestedRelay, UnknownSource, Malformed, NotRelayed, UnknownCircuit, WrongLink, NoOverride, ClientKey, OtherServer, NoAddress, NoRecord, CircuitClosed, NotServed, DiskFault, NothingToSay, BatchTwice, NotServer, MalformedDown, UnknownCircuitDown, WrongLinkDown}
 
 abbrev pub number_of : Discard → ℕ
 number_of TooLong = 1
@@ -26,6 +26,7 @@ number_of CircuitClosed = 21
 number_of NotServed = 22
 number_of DiskFault = 23
 number_of NothingToSay = 24
+number_of BatchTwice = 25
 number_of NotServer = 31
 number_of MalformedDown = 32
 number_of UnknownCircuitDown = 33
@@ -55,6 +56,7 @@ words_of CircuitClosed = codes "the circuit is closed"
 words_of NotServed = codes "the message type is not served"
 words_of DiskFault = codes "the circuit's region could not be written"
 words_of NothingToSay = codes "no reply is due"
+words_of BatchTwice = codes "an earlier datagram of the batch is of the same circuit"
 words_of NotServer = codes "the reply is not from the server"
 words_of MalformedDown = codes "the reply is malformed"
 words_of UnknownCircuitDown = codes "the reply's circuit is unknown"

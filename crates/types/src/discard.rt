@@ -57,6 +57,8 @@ pub enum Discard {
     DiskFault,
     /// The message was heard and has no reply.
     NothingToSay,
+    /// An earlier datagram of the batch is of the same circuit.
+    BatchTwice,
     /// The datagram towards the relay is not from the server.
     NotServer,
     /// The relay can't read the reply.
@@ -95,6 +97,7 @@ impl Discard {
             Discard::NotServed => 22,
             Discard::DiskFault => 23,
             Discard::NothingToSay => 24,
+            Discard::BatchTwice => 25,
             Discard::NotServer => 31,
             Discard::MalformedDown => 32,
             Discard::UnknownCircuitDown => 33,
@@ -131,6 +134,7 @@ impl Discard {
             Discard::NotServed => "the message type is not served",
             Discard::DiskFault => "the circuit's region could not be written",
             Discard::NothingToSay => "no reply is due",
+            Discard::BatchTwice => "an earlier datagram of the batch is of the same circuit",
             Discard::NotServer => "the reply is not from the server",
             Discard::MalformedDown => "the reply is malformed",
             Discard::UnknownCircuitDown => "the reply's circuit is unknown",

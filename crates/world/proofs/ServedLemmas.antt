@@ -2,7 +2,7 @@
 use Rattle.std.proofs.Common.{◌≡◌, ◌≢◌, ℕ, ◌+◌, ◌<◌, Bool, true, false, eqb, List, length, set, refl, sym, ap, subst, ◌∙◌, arith}
 use Rattle.std.specs.Prelude.{All, ◌&&◌, ◌==◌, not, if◌then◌else◌, Option, Some, None, Result, Ok, slice_get}
 use Rattle.std.proofs.lemmas.Option.{slice_get_within, get_or_from_slice_get, same_Some}
-use Rattle.std.proofs.lemmas.Bool.{eqb-true, eqb-false}
+use Rattle.std.proofs.lemmas.Bool.{eq-eqb, eqb-true, eqb-false}
 use Rattle.std.proofs.lemmas.List.{length-set}
 use Rattle.types.specs.Delivery.{DeliveryValue, delivery}
 use Rattle.types.specs.declared.addr.Source.{Source}
@@ -54,22 +54,22 @@ abbrev pub OneOf : ℕ → Option ℕ → Type 0
 OneOf r None = Unit {0}
 OneOf r (Some n) = n ≡ r
 
-fails_here : (faults : ℕ → ℕ) (region : ℕ) (is_kept : Bool) → fails_at faults (if is_kept then Some region else None) ≡ (is_kept && not (effective 6 (faults region) == 0))
-fails_here faults region true = refl
+fails_here : (faults : ℕ → ℕ) (region : ℕ) (is_kept : Bool) → fails_at faults (if is_kept then Some region else None) region ≡ (is_kept && not (effective 6 (faults region) == 0))
+fails_here faults region true = ap (λ b. b && not (effective 6 (faults region) == 0)) (eq-eqb region region refl)
 fails_here faults region false = refl
 
 circuit_fails_is : (part : CircuitPart) (e : DeliveryValue) (faults : ℕ → ℕ) (book : Option Book)
-    → fails_at faults (circuit_saves e (Some part) (Some book)) ≡ its_fails part e (faults part.region) book
+    → fails_at faults (circuit_saves e (Some part) (Some book)) part.region ≡ its_fails part e (faults part.region) book
 circuit_fails_is part e faults None = refl
 circuit_fails_is part e faults (Some b) = fails_here faults part.region (served part e b).is_kept
 
 -- the parts, the books and the leases at circuit k
 module _ (topology : Topology) (p : CircuitPart) (e : DeliveryValue) (books : List (Option Book)) (all : List Leases) (faults : ℕ → ℕ) (k : ℕ) (l : Leases)
     (found : addressee topology e ≡ Ok k) (there : slice_get topology.circuits k ≡ Some p) (book : slice_get books k ≡ Some l.book) (its : slice_get all k ≡ Some l) where
-  fails_is_its : fails_at faults (received_saves topology e books) ≡ its_fails p e (faults p.region) l.book
-  fails_is_its = ap (λ r. fails_at faults (addressee_saves topology e books r)) found ∙ (λ i. fails_at faults (circuit_saves e (there i) (book i))) ∙ circuit_fails_is p e faults l.book
+  fails_is_its : fails_at faults (received_saves topology e books) p.region ≡ its_fails p e (faults p.region) l.book
+  fails_is_its = ap (λ r. fails_at faults (addressee_saves topology e books r) p.region) found ∙ (λ i. fails_at faults (circuit_saves e (there i) (book i)) p.region) ∙ circuit_fails_is p e faults l.book
 
-  received_is : (fails : Bool) → received topology e fails books ≡ with_answered k books (answered p e fails l.book)
+  received_is : (fails : ℕ → Bool) → received topology e fails books ≡ with_answered k books (answered p e (fails p.region) l.book)
   received_is fails = ap (addressee_answered topology e fails books) found ∙ λ i. circuit_answered k e fails books (there i) (book i)
 
   leases_are : received_leases topology e faults all ≡ set all k (after_datagram p e (faults p.region) l)
@@ -93,8 +93,8 @@ pub record IsServed (w : WorldValue) (k : ℕ) (part : CircuitPart) (l : Leases)
 pub is_served : (w : WorldValue) → IsWorld w → (k : ℕ) (the : TheCircuit w k) → serves w.relays.topology k ≡ true → (j : ℕ) (d : Datagram) (now fault : ℕ) (source : Source) (given : CircuitPart)
     → slice_get (datagrams w.net k dir.Up) j ≡ Some d → slice_get w.server.topology.circuits k ≡ Some given → source ≡ given.relay
     → (regions : ℕ → Region) (faults : ℕ → ℕ) → regions ≡ disk.state_of w.disk → faults given.region ≡ fault
-    → (result : Result (Unit {0}) Discard) (reply : List ℕ) (fails : Bool) (after : List Leases)
-    → fails ≡ fails_at faults (received_saves w.server.topology (delivery d.proto source now d.bytes) (books_in w.server))
+    → (result : Result (Unit {0}) Discard) (reply : List ℕ) (fails : ℕ → Bool) (after : List Leases)
+    → ((r : ℕ) → fails r ≡ fails_at faults (received_saves w.server.topology (delivery d.proto source now d.bytes) (books_in w.server)) r)
     → IsAnswer (received w.server.topology (delivery d.proto source now d.bytes) fails (books_in w.server)).answer result reply
     → after ≡ received_leases w.server.topology (delivery d.proto source now d.bytes) faults (leases_in regions w.server)
     → IsServed w k the.part the.leases now fault d result reply after
@@ -107,8 +107,8 @@ is_served w is k the on j d now fault source given kept at from regions faults s
     let topology = w.server.topology in
     let books = books_in w.server in
     let all = leases_now w in
-    let its_fault : fails ≡ its_fails the.part (delivery_of the.part now d) fault the.leases.book =
-    failing ∙ ap (λ s. fails_at faults (received_saves topology (delivery d.proto s now d.bytes) books)) comes
+    let its_fault : fails the.part.region ≡ its_fails the.part (delivery_of the.part now d) fault the.leases.book =
+    failing the.part.region ∙ ap (λ s. fails_at faults (received_saves topology (delivery d.proto s now d.bytes) books) the.part.region) comes
     ∙ fails_is_its topology the.part (delivery_of the.part now d) books all faults k the.leases here the.served the.book the.its
     ∙ ap (λ f. its_fails the.part (delivery_of the.part now d) f the.leases.book) at_region in
     let answers = ap (λ s. received topology (delivery d.proto s now d.bytes) fails books) comes

@@ -26,7 +26,7 @@ either_false true b h = absurd cc
 either_false false b h = (refl, h)
 
 -- the server drops what no relay sent, and every book stays
-pub stray_received : (topology : Topology) (e : DeliveryValue) (fails : Bool) (books : List (Option Book))
+pub stray_received : (topology : Topology) (e : DeliveryValue) (fails : ℕ → Bool) (books : List (Option Book))
     → is_relay topology e.source ≡ false → received topology e fails books ≡ drop_all UnknownSource books
 unfolding addressee
 stray_received topology e fails books h = rw h refl

@@ -28,7 +28,7 @@ pub fn read_banks<D: Disk>(region: u16, disk: &mut D) -> Result<[u8; HALVES_SIZE
     ensures answer { D.tells ≡ true → is_ok result ≡ ((D.device disk.old).region region).readable }
     ensures frame { TouchesNothing D.tells (D.device disk.old) (D.device disk.new) }
     ensures reads { (D.device disk.new).reads ≡ (D.device disk.old).reads + 1 }
-    ensures failures { (D.device disk.new).failures ≡ faults_after result (D.device disk.old).failures }
+    ensures failures { (D.device disk.new).failures ≡ faults_after region result (D.device disk.old).failures }
 {
     let mut banks = [0; BANKS_SIZE];
     disk.read(region, 0, &mut banks)?;

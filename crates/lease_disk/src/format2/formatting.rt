@@ -45,7 +45,7 @@ pub fn format<D: Disk>(region: u16, disk: &mut D) -> Result<(), Fault>
     ensures writes { OnOk result ((D.device disk.new).writes ≡ (D.device disk.old).writes + 4) }
     ensures most { (D.device disk.new).writes ≤ (D.device disk.old).writes + 4 }
     ensures last { D.tells ≡ true → OnErr result ((D.device disk.new).writes ≡ (D.device disk.old).writes + (D.device disk.old).fuse region) }
-    ensures failures { (D.device disk.new).failures ≡ faults_after result (D.device disk.old).failures }
+    ensures failures { (D.device disk.new).failures ≡ faults_after region result (D.device disk.old).failures }
 {
     let mut bytes = [0; REGION];
     open_first_halves(&mut bytes);

@@ -24,7 +24,7 @@ pub fn read_halves<D: Disk>(region: u16, disk: &mut D) -> Result<[u8; HALVES_SIZ
     ensures answer { D.tells ≡ true → is_ok result ≡ ((D.device disk.old).region region).readable }
     ensures frame { TouchesNothing D.tells (D.device disk.old) (D.device disk.new) }
     ensures reads { (D.device disk.new).reads ≡ (D.device disk.old).reads + 1 }
-    ensures failures { (D.device disk.new).failures ≡ faults_after result (D.device disk.old).failures }
+    ensures failures { (D.device disk.new).failures ≡ faults_after region result (D.device disk.old).failures }
 {
     let mut bytes = [0; HALVES_SIZE];
     disk.read(region, HALVES_AT, &mut bytes)?;

@@ -2,6 +2,7 @@ use Rattle.std.proofs.Common.{◌≡◌, ◌<◌, ◌≤◌, ℕ, true, [], ◌�
 use Rattle.lease_disk.specs.declared.content.Content.{Content}
 use Rattle.lease_disk.specs.declared.content.Content.TheVariants.{Four, Six}
 use Rattle.lease_disk.specs.Save.{Fits, is_read}
+use Rattle.lease_disk.proofs.SaveExits.{when_saved}
 use Rattle.disk_tests.proofs.save_tests.keep.Goals as goal
 
 below4 : (s : ℕ) → s < 16 → is_read (16 ∷ 16 ∷ []) s ≡ true
@@ -19,4 +20,4 @@ pub save-requires-clause-mark : goal.save-requires-clause-mark
 save-requires-clause-mark c = λ tells. c.requires.marks c.args.change.now.slot (below c.args.change.now.slot c.args.change.now.content c.requires.fits)
 
 pub returns-clause-marks : goal.returns-clause-marks
-returns-clause-marks c = c.save.ensures.marks refl (16 ∷ 16 ∷ []) c.requires.marks
+returns-clause-marks c = when_saved c.save.result _ (c.save.ensures.answer refl) (λ none. (c.save.ensures.saved refl).marks none (16 ∷ 16 ∷ []) c.requires.marks)

@@ -1,4 +1,4 @@
-use Rattle.std.proofs.Common.{◌≡◌, ℕ, List, sym, subst, ◌∙◌, rules}
+use Rattle.std.proofs.Common.{◌≡◌, ℕ, List, sym, subst, ◌∙◌}
 use Rattle.lease_disk.specs.Halves.{AreHalves}
 use Rattle.lease_disk.specs.Layout.{with_halves}
 use Rattle.lease_disk.specs.Region.{Region}

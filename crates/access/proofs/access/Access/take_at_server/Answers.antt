@@ -1,9 +1,10 @@
 use Rattle.std.proofs.Common.{arith, false, [], ◌∷◌, ◌++◌, inr, ◌≡◌, ◌∙◌, take, refl, ap, subst, append_assoc}
-use Rattle.std.specs.Prelude.{◌⊎◌, nat_lt}
+use Rattle.std.specs.Prelude.{◌⊎◌}
 use Rattle.types.specs.Delivery.{delivery}
 use Rattle.dispatch.specs.Received.{received}
 use Rattle.dispatch.specs.ServerValue.{books_in}
 use Rattle.lease_disk.proofs.Frames.{writes_count}
+use Rattle.lease_disk.specs.Device.{has_failed}
 use Rattle.lease_disk.specs.FileDisk.{device_of}
 use Rattle.udp.specs.History.{Failed, Took, with_entry}
 use Rattle.udp.specs.declared.history.Role.TheVariants as role
@@ -36,7 +37,7 @@ returns-clause-served c =
     let datagram = take c.in-Some.len c.take.new.buffer in
     let taken = c.take.new.history.entries in
     let took = subst (λ r. taken ≡ with_entry (Took r from datagram) inside.history.entries) its c.in-Some.ensures.some in
-    let done = received inside.server.topology (delivery proto from now datagram) (nat_lt inside.disk.failures c.receive-made.new.disk.failures) (books_in inside.server) in
+    let done = received inside.server.topology (delivery proto from now datagram) (has_failed (device_of inside.disk) (device_of c.receive-made.new.disk)) (books_in inside.server) in
     let w = went _ (role.Server proto) _ from outcome.Answered done.answer c.receive-made.result _ c.receive-made.new.out taken c.send_on-outcome.new.history.entries c.send_on-outcome.result
     sender refl c.as_slice-out.ensures.value c.receive-made.ensures.answer c.send_on-outcome.ensures.sent in
     let after : AccessValue = record (the_view inside) { server = c.receive-made.new.self; disk = c.receive-made.new.disk; counts = c.count.new.self; history = c.send_on-outcome.new.history.entries } in

@@ -1,6 +1,7 @@
-use Rattle.std.proofs.Common.{◌≡◌, ◌<◌, ◌*◌, nat_lt, List, map, set, length, sym, ap, subst, ◌∙◌}
+use Rattle.std.proofs.Common.{◌≡◌, ◌<◌, ◌*◌, List, map, set, length, sym, ap, subst, ◌∙◌}
 use Rattle.std.specs.Prelude.{Option, option_map}
 use Rattle.std.proofs.lemmas.List.{length-map}
+use Rattle.lease_disk.specs.Device.{has_failed}
 use Rattle.circuit_server.specs.Deadlines.{HasDeadlines}
 use Rattle.circuit_server.specs.Leases.{after_datagram}
 use Rattle.circuit_server.specs.Answered.{answered}
@@ -46,7 +47,7 @@ returns-clause-deadlines g c = subst (HasDeadlines c.answer.new.table (32 * c.ar
 
 pub returns-clause-book : goal.returns-clause-book
 returns-clause-book g c =
-    let fails = nat_lt (g.D.Disk.device c.args.disk.now).failures (g.D.Disk.device c.answer.new.disk).failures in
+    let fails = has_failed (g.D.Disk.device c.args.disk.now) (g.D.Disk.device c.answer.new.disk) c.args.part.now.region in
     ap (λ (state : Option OpenCircuitValue). option_map open_book state) (left g c) ∙ c.answer.ensures.book
     ∙ ap (λ state. (answered c.args.part.now c.args.delivery.now fails (option_map open_book state)).book) (sym (shown g c))
 

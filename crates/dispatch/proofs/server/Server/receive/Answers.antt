@@ -1,4 +1,4 @@
-use Rattle.std.proofs.Common.{◌≡◌, ◌<◌, ℕ, nat_lt, List, map, set, length, sym, ap, subst, ◌∙◌, arith, Err, refl}
+use Rattle.std.proofs.Common.{◌≡◌, ◌<◌, ℕ, List, map, set, length, sym, ap, subst, ◌∙◌, arith, Err, refl}
 use Rattle.std.specs.Prelude.{Option, Some, Ok, slice_get, option_map, All}
 use Rattle.std.proofs.lemmas.List.{length-set, map-set}
 use Rattle.std.proofs.lemmas.List.Elements.{All-set}
@@ -6,7 +6,7 @@ use Rattle.std.proofs.lemmas.Option.{slice_get-map, slice_get_within}
 use Rattle.types.specs.Delivery.{DeliveryValue, delivery}
 use Rattle.config.specs.CircuitPart.{CircuitPart}
 use Rattle.config.specs.Topology.{Topology}
-use Rattle.lease_disk.specs.Device.{WritesAt}
+use Rattle.lease_disk.specs.Device.{WritesAt, has_failed}
 use Rattle.requests.specs.Addressee.{addressee}
 use Rattle.circuit_server.specs.Leases.{formats_of, restarts_of}
 use Rattle.dispatch.specs.Received.{Received, addressee_answered, addressee_leases, addressee_saves, received, received_leases, received_saves}
@@ -34,20 +34,20 @@ none_of g c = ap (λ (s : ServerValue). addressee s.topology (refused g c)) (sym
 pub returns-in-Err-clause-answer : goal.returns-in-Err-clause-answer
 returns-in-Err-clause-answer g c =
     let s = c.args.self.now in
-    let failures = (g.D.Disk.device c.args.disk.now).failures in
-    subst (λ r. IsAnswer (addressee_answered s.topology (refused g c) (nat_lt failures failures) (books_in s) r).answer (Err c.in-Err.why) c.clear.new.self)
+    let device = g.D.Disk.device c.args.disk.now in
+    subst (λ r. IsAnswer (addressee_answered s.topology (refused g c) (has_failed device device) (books_in s) r).answer (Err c.in-Err.why) c.clear.new.self)
     (sym (none_of g c)) (refl, c.clear.ensures)
 
 pub returns-in-Err-clause-books : goal.returns-in-Err-clause-books
 returns-in-Err-clause-books g c =
     let s = c.args.self.now in
-    let failures = (g.D.Disk.device c.args.disk.now).failures in
-    ap (λ r. (addressee_answered s.topology (refused g c) (nat_lt failures failures) (books_in s) r).books) (sym (none_of g c))
+    let device = g.D.Disk.device c.args.disk.now in
+    ap (λ r. (addressee_answered s.topology (refused g c) (has_failed device device) (books_in s) r).books) (sym (none_of g c))
 
 pub returns-in-Err-clause-fails : goal.returns-in-Err-clause-fails
-returns-in-Err-clause-fails g c tells =
+returns-in-Err-clause-fails g c tells = λ q.
     let s = c.args.self.now in
-    not_more _ ∙ ap (λ r. fails_at (g.D.Disk.device c.args.disk.now).fuse (addressee_saves s.topology (refused g c) (books_in s) r)) (sym (none_of g c))
+    not_more _ ∙ ap (λ r. fails_at (g.D.Disk.device c.args.disk.now).fuse (addressee_saves s.topology (refused g c) (books_in s) r) q) (sym (none_of g c))
 
 pub returns-in-Err-clause-leases : goal.returns-in-Err-clause-leases
 returns-in-Err-clause-leases g c tells =
@@ -158,7 +158,7 @@ returns-clause-topology g c = ap (λ (s : ServerValue). s.topology) c.self.view_
 
 pub returns-clause-answer : goal.returns-clause-answer
 returns-clause-answer g c =
-    let fails = nat_lt (g.D.Disk.device c.args.disk.now).failures (g.D.Disk.device c.answer.new.disk).failures in
+    let fails = has_failed (g.D.Disk.device c.args.disk.now) (g.D.Disk.device c.answer.new.disk) in
     let x = asked g c in
     let P : ServerValue → Type 0 = λ s. IsAnswer (received s.topology (asks g c) fails (books_in s)).answer c.answer.result c.answer.new.out in
     let Q : Received → Type 0 = λ r. IsAnswer r.answer c.answer.result c.answer.new.out in
@@ -171,7 +171,7 @@ returns-clause-unchanged g c = because_ok _ _ _ (found_in g c)
 
 pub returns-clause-books : goal.returns-clause-books
 returns-clause-books g c =
-    let fails = nat_lt (g.D.Disk.device c.args.disk.now).failures (g.D.Disk.device c.answer.new.disk).failures in
+    let fails = has_failed (g.D.Disk.device c.args.disk.now) (g.D.Disk.device c.answer.new.disk) in
     let x = asked g c in
     let items = before g c in
     let k = c.index-index.result in
@@ -184,15 +184,15 @@ returns-clause-books g c =
     ∙ ap (λ r. r.books) (sym (received_at (topology g c) (asks g c) k x.part (found g c) (there_in g c) fails (map book_of items) (book_of x) (its book_of g c))))
 
 pub returns-clause-fails : goal.returns-clause-fails
-returns-clause-fails g c tells =
-    let fails = nat_lt (g.D.Disk.device c.args.disk.now).failures (g.D.Disk.device c.answer.new.disk).failures in
+returns-clause-fails g c tells = λ q.
+    let fails = has_failed (g.D.Disk.device c.args.disk.now) (g.D.Disk.device c.answer.new.disk) q in
     let faults = (g.D.Disk.device c.args.disk.now).fuse in
     let x = asked g c in
     let items = before g c in
-    let P : ServerValue → Type 0 = λ s. fails ≡ fails_at faults (received_saves s.topology (asks g c) (books_in s)) in
+    let P : ServerValue → Type 0 = λ s. fails ≡ fails_at faults (received_saves s.topology (asks g c) (books_in s)) q in
     subst P c.self.view_is
-    (c.answer.ensures.fails tells
-    ∙ sym (ap (fails_at faults) (saves_at (topology g c) (asks g c) c.index-index.result x.part (found g c) (there_in g c) (map book_of items) (book_of x) (its book_of g c))))
+    (c.answer.ensures.fails tells q
+    ∙ sym (ap (λ (saved : Option ℕ). fails_at faults saved q) (saves_at (topology g c) (asks g c) c.index-index.result x.part (found g c) (there_in g c) (map book_of items) (book_of x) (its book_of g c))))
 
 pub returns-clause-frame : goal.returns-clause-frame
 returns-clause-frame g c =

@@ -1,4 +1,4 @@
-use Rattle.std.proofs.Common.{ℕ, slice_index, ap, ◌∙◌, arith, rules}
+use Rattle.std.proofs.Common.{slice_index, ap, arith, rules}
 use Rattle.lease_disk.specs.Halves.{place}
 use Rattle.lease_disk.proofs.Reading.{one_more}
 use Rattle.lease_disk.proofs.format1.reading.halves_of_banks.Goals as goal

@@ -1,6 +1,4 @@
-use Rattle.std.proofs.Common.{◌≡◌, ℕ, ◌<◌, ◌∙◌, arith, rules, slice_index, length}
-use Rattle.lease_disk.specs.Halves.{place}
-use Rattle.lease_disk.specs.Region.{Region, IsRead}
+use Rattle.std.proofs.Common.{rules}
 use Rattle.lease_disk.proofs.Reading.{are_halves1, read_places}
 use Rattle.lease_disk.proofs.format1.reading.read_banks.Goals as goal
 

@@ -1,171 +1,96 @@
-use Rattle.std.proofs.Common.{rules, refl, ap, ◌∙◌}
-use Rattle.std.specs.Prelude.{drop, ◌==◌}
-use Rattle.lease_disk.specs.Layout.{half_at}
-use Rattle.lease_disk.specs.Save.{mark_at, other}
-use Rattle.lease_disk.proofs.Exits.{on_err, slice_behind, exit_closing, exit_writing, exit_opening, exit_saved, exit_marks, exit_bytes, exit_beside, saved_beside}
-use Rattle.lease_disk.proofs.Halves.{format_apart}
+use Rattle.std.proofs.Common.{rules, refl, sym, ap, subst, ◌∙◌, ◌≡◌, ◌≤◌, ℕ, List, true, length}
+use Rattle.std.specs.Prelude.{drop}
+use Rattle.lease_disk.specs.declared.content.Content.{Content}
+use Rattle.lease_disk.specs.declared.marks.Marks.{Marks}
+use Rattle.lease_disk.specs.Keys.{HasKey}
+use Rattle.lease_disk.specs.HalfBytes.{half_bytes}
+use Rattle.lease_disk.specs.Layout.{half2, is_format2}
+use Rattle.lease_disk.specs.Recovered.{next}
+use Rattle.lease_disk.specs.Region.{IsClean, Region}
+use Rattle.lease_disk.specs.Save.{Fits, IsMark, IsSaveOf, gate_at, mark_at, other}
+use Rattle.lease_disk.proofs.Exits.{IsSave}
+use Rattle.lease_disk.proofs.Halves.{counting_sequence}
+use Rattle.lease_disk.proofs.SaveExits.{is_early, is_late, is_middle, is_none, is_some_early, is_some_late, is_some_middle, save_closing, save_done, save_opening, save_writing}
 use Rattle.lease_disk.proofs.format2.saving.save.Goals as goal
 
-pub returns-in_err-close-clause-err : goal.returns-in_err-close-clause-err
-returns-in_err-close-clause-err g c = λ tells counts slots was change.
-    on_err _ (exit_closing c.args.slot (mark_at c.args.marks.now c.args.slot) c.half_at-at.result c.sequence_after-sequence.result c.args.clock c.args.content.now c.write_half-bytes.result.items (drop 1 c.write_half-bytes.result.items) ((g.D.Disk.device c.args.disk.now).region c.args.region)
-    (record {
-      at_is = c.half_at-at.ensures.place ∙ ap (half_at c.args.slot) c.other-half.ensures;
-      two = c.requires.format tells;
-      mark_is = c.requires.mark tells;
-      clean = c.requires.clean tells;
-      whole_is = c.write_half-bytes.ensures.bytes;
-      size = c.write_half-bytes.ensures.size;
-      bytes_are = refl;
-      n_is = c.sequence_after-sequence.ensures;
-      fits = c.requires.fits;
-      key = c.write_half-bytes.ensures.key;
-      small = c.write_half-bytes.ensures.clock;
-    })
-    _ counts slots was change ((g.D.Disk.device c.close.new.disk).region c.args.region) (c.in_err-close.ensures.err tells) (c.in_err-close.ensures.answer tells))
+-- a mark's sequence is at most 2
+few : (r : Region) (s : ℕ) (marks : Marks) → IsMark r.byte s (mark_at marks s) → (mark_at marks s).sequence ≤ 2
+few r s marks mark = subst (λ n. n ≤ 2) (sym mark.sequence) (counting_sequence (half2 r.byte s (mark_at marks s).half) (half2 r.byte s (other (mark_at marks s).half)) mark.counting)
 
-pub returns-in_err-write_body-clause-err : goal.returns-in_err-write_body-clause-err
-returns-in_err-write_body-clause-err g c = λ tells counts slots was change.
-    on_err _ (exit_writing c.args.slot (mark_at c.args.marks.now c.args.slot) c.half_at-at.result c.sequence_after-sequence.result c.args.clock c.args.content.now c.write_half-bytes.result.items _ ((g.D.Disk.device c.args.disk.now).region c.args.region)
-    (record {
-      at_is = c.half_at-at.ensures.place ∙ ap (half_at c.args.slot) c.other-half.ensures;
-      two = c.requires.format tells;
-      mark_is = c.requires.mark tells;
-      clean = c.requires.clean tells;
-      whole_is = c.write_half-bytes.ensures.bytes;
-      size = c.write_half-bytes.ensures.size;
-      bytes_are = slice_behind _ _ c.as_slice.ensures.value c.write_half-bytes.ensures.size;
-      n_is = c.sequence_after-sequence.ensures;
-      fits = c.requires.fits;
-      key = c.write_half-bytes.ensures.key;
-      small = c.write_half-bytes.ensures.clock;
-    })
-    ((g.D.Disk.device c.close.new.disk).region c.args.region) (c.in_ok-close.ensures.ok tells)
-    _ _ counts slots was change ((g.D.Disk.device c.write_body.new.disk).region c.args.region) (c.in_ok-close.ensures.fuse tells) (c.in_err-write_body.ensures.err tells) (c.in_err-write_body.ensures.answer tells))
+-- what the save is given
+is_save : (r : Region) (s n clock : ℕ) (marks : Marks) (content : Content) (half : List ℕ) → is_format2 r.byte ≡ true → IsMark r.byte s (mark_at marks s) → IsClean r → half ≡ half_bytes n clock content → length half ≡ 256
+    → ((mark_at marks s).sequence ≤ 2 → n ≡ next (mark_at marks s).sequence) → Fits s content → HasKey content → clock ≤ 1099511627775
+    → IsSave s (mark_at marks s) (gate_at s (mark_at marks s)) n clock content half (drop 1 half) r
+is_save r s n clock marks content half two mark clean whole size after fits key small = record {
+  at_is = refl;
+  two = two;
+  mark_is = mark;
+  clean = clean;
+  whole_is = whole;
+  size = size;
+  bytes_are = refl;
+  n_is = after;
+  fits = fits;
+  key = key;
+  small = small;
+}
 
-pub returns-in_err-open_gate-clause-err : goal.returns-in_err-open_gate-clause-err
-returns-in_err-open_gate-clause-err g c = λ tells counts slots was change.
-    on_err _ (exit_opening c.args.slot (mark_at c.args.marks.now c.args.slot) c.half_at-at.result c.sequence_after-sequence.result c.args.clock c.args.content.now c.write_half-bytes.result.items _ ((g.D.Disk.device c.args.disk.now).region c.args.region)
-    (record {
-      at_is = c.half_at-at.ensures.place ∙ ap (half_at c.args.slot) c.other-half.ensures;
-      two = c.requires.format tells;
-      mark_is = c.requires.mark tells;
-      clean = c.requires.clean tells;
-      whole_is = c.write_half-bytes.ensures.bytes;
-      size = c.write_half-bytes.ensures.size;
-      bytes_are = slice_behind _ _ c.as_slice.ensures.value c.write_half-bytes.ensures.size;
-      n_is = c.sequence_after-sequence.ensures;
-      fits = c.requires.fits;
-      key = c.write_half-bytes.ensures.key;
-      small = c.write_half-bytes.ensures.clock;
-    })
-    ((g.D.Disk.device c.close.new.disk).region c.args.region) (c.in_ok-close.ensures.ok tells)
-    ((g.D.Disk.device c.write_body.new.disk).region c.args.region) (c.in_ok-write_body.ensures.ok tells)
-    _ _ _ counts slots was change ((g.D.Disk.device c.open_gate.new.disk).region c.args.region) (c.in_ok-close.ensures.fuse tells) (c.in_ok-write_body.ensures.fuse tells) (c.in_err-open_gate.ensures.err tells) (c.in_err-open_gate.ensures.answer tells))
+pub returns-in_err-save_step-clause-saved : goal.returns-in_err-save_step-clause-saved
+returns-in_err-save_step-clause-saved g c = λ tells.
+    let r0 = (g.D.Disk.device c.args.disk.now).region c.args.region in
+    let fuse = (g.D.Disk.device c.args.disk.now).fuse c.args.region in
+    let left = (g.D.Disk.device c.save_step.new.disk).region c.args.region in
+    let half = c.write_half-half.result.items in
+    let answer = c.in_err-save_step.ensures.answer tells in
+    subst (λ k. IsSaveOf k c.args.clock c.args.slot c.args.content.now c.args.marks.now c.args.marks.now r0 left) (sym (is_early _ answer))
+    (save_closing c.args.slot c.args.marks.now (gate_at c.args.slot (mark_at c.args.marks.now c.args.slot)) c.sequence_after.result c.args.clock c.args.content.now half (drop 1 half) r0
+    (is_save r0 c.args.slot c.sequence_after.result c.args.clock c.args.marks.now c.args.content.now half (c.requires.format tells) (c.requires.mark tells) (c.requires.clean tells)
+    c.write_half-half.ensures.bytes c.write_half-half.ensures.size c.sequence_after.ensures c.requires.fits c.write_half-half.ensures.key c.write_half-half.ensures.clock)
+    fuse left (is_some_early _ answer) answer (c.in_err-save_step.ensures.err tells))
 
-pub returns-in_err-open_gate-clause-beside : goal.returns-in_err-open_gate-clause-beside
-returns-in_err-open_gate-clause-beside g c = λ tells.
-    exit_beside c.args.slot (mark_at c.args.marks.now c.args.slot) c.half_at-at.result c.sequence_after-sequence.result c.args.clock c.args.content.now c.write_half-bytes.result.items _ ((g.D.Disk.device c.args.disk.now).region c.args.region)
-    (record {
-      at_is = c.half_at-at.ensures.place ∙ ap (half_at c.args.slot) c.other-half.ensures;
-      two = c.requires.format tells;
-      mark_is = c.requires.mark tells;
-      clean = c.requires.clean tells;
-      whole_is = c.write_half-bytes.ensures.bytes;
-      size = c.write_half-bytes.ensures.size;
-      bytes_are = slice_behind _ _ c.as_slice.ensures.value c.write_half-bytes.ensures.size;
-      n_is = c.sequence_after-sequence.ensures;
-      fits = c.requires.fits;
-      key = c.write_half-bytes.ensures.key;
-      small = c.write_half-bytes.ensures.clock;
-    })
-    ((g.D.Disk.device c.close.new.disk).region c.args.region) (c.in_ok-close.ensures.ok tells)
-    ((g.D.Disk.device c.write_body.new.disk).region c.args.region) (c.in_ok-write_body.ensures.ok tells)
-    ((g.D.Disk.device c.open_gate.new.disk).region c.args.region) (c.in_err-open_gate.ensures.err tells)
+pub returns-in_err-save_step-2-clause-saved : goal.returns-in_err-save_step-2-clause-saved
+returns-in_err-save_step-2-clause-saved g c = λ tells.
+    let r0 = (g.D.Disk.device c.args.disk.now).region c.args.region in
+    let fuse = (g.D.Disk.device c.args.disk.now).fuse c.args.region in
+    let left = (g.D.Disk.device c.save_step-2.new.disk).region c.args.region in
+    let half = c.write_half-half.result.items in
+    let answer = c.in_err-save_step-2.ensures.answer tells in
+    let later = c.in_ok-save_step.ensures.fuse tells in
+    subst (λ k. IsSaveOf k c.args.clock c.args.slot c.args.content.now c.args.marks.now c.args.marks.now r0 left) (sym (is_middle fuse _ later answer))
+    (save_writing c.args.slot c.args.marks.now (gate_at c.args.slot (mark_at c.args.marks.now c.args.slot)) c.sequence_after.result c.args.clock c.args.content.now half (drop 1 half) r0
+    (is_save r0 c.args.slot c.sequence_after.result c.args.clock c.args.marks.now c.args.content.now half (c.requires.format tells) (c.requires.mark tells) (c.requires.clean tells)
+    c.write_half-half.ensures.bytes c.write_half-half.ensures.size c.sequence_after.ensures c.requires.fits c.write_half-half.ensures.key c.write_half-half.ensures.clock)
+    ((g.D.Disk.device c.save_step.new.disk).region c.args.region) (c.in_ok-save_step.ensures.ok tells) fuse _ left (is_some_middle fuse _ later answer) later answer (c.in_err-save_step-2.ensures.err tells))
 
-pub returns-clause-ok : goal.returns-clause-ok
-returns-clause-ok g c = λ tells counts slots was change.
-    exit_saved c.args.slot (mark_at c.args.marks.now c.args.slot) c.half_at-at.result c.sequence_after-sequence.result c.args.clock c.args.content.now c.write_half-bytes.result.items _ ((g.D.Disk.device c.args.disk.now).region c.args.region)
-    (record {
-      at_is = c.half_at-at.ensures.place ∙ ap (half_at c.args.slot) c.other-half.ensures;
-      two = c.requires.format tells;
-      mark_is = c.requires.mark tells;
-      clean = c.requires.clean tells;
-      whole_is = c.write_half-bytes.ensures.bytes;
-      size = c.write_half-bytes.ensures.size;
-      bytes_are = slice_behind _ _ c.as_slice.ensures.value c.write_half-bytes.ensures.size;
-      n_is = c.sequence_after-sequence.ensures;
-      fits = c.requires.fits;
-      key = c.write_half-bytes.ensures.key;
-      small = c.write_half-bytes.ensures.clock;
-    })
-    ((g.D.Disk.device c.close.new.disk).region c.args.region) (c.in_ok-close.ensures.ok tells)
-    ((g.D.Disk.device c.write_body.new.disk).region c.args.region) (c.in_ok-write_body.ensures.ok tells)
-    ((g.D.Disk.device c.open_gate.new.disk).region c.args.region) (c.in_ok-open_gate.ensures.ok tells)
-    counts slots was change
+pub returns-in_err-save_step-3-clause-saved : goal.returns-in_err-save_step-3-clause-saved
+returns-in_err-save_step-3-clause-saved g c = λ tells.
+    let r0 = (g.D.Disk.device c.args.disk.now).region c.args.region in
+    let fuse = (g.D.Disk.device c.args.disk.now).fuse c.args.region in
+    let left = (g.D.Disk.device c.save_step-3.new.disk).region c.args.region in
+    let half = c.write_half-half.result.items in
+    let answer = c.in_err-save_step-3.ensures.answer tells in
+    let later = c.in_ok-save_step.ensures.fuse tells in
+    let last = c.in_ok-save_step-2.ensures.fuse tells in
+    subst (λ k. IsSaveOf k c.args.clock c.args.slot c.args.content.now c.args.marks.now c.args.marks.now r0 left) (sym (is_late fuse _ _ later last answer))
+    (save_opening c.args.slot c.args.marks.now (gate_at c.args.slot (mark_at c.args.marks.now c.args.slot)) c.sequence_after.result c.args.clock c.args.content.now half (drop 1 half) r0
+    (is_save r0 c.args.slot c.sequence_after.result c.args.clock c.args.marks.now c.args.content.now half (c.requires.format tells) (c.requires.mark tells) (c.requires.clean tells)
+    c.write_half-half.ensures.bytes c.write_half-half.ensures.size c.sequence_after.ensures c.requires.fits c.write_half-half.ensures.key c.write_half-half.ensures.clock)
+    ((g.D.Disk.device c.save_step.new.disk).region c.args.region) (c.in_ok-save_step.ensures.ok tells) ((g.D.Disk.device c.save_step-2.new.disk).region c.args.region) (c.in_ok-save_step-2.ensures.ok tells)
+    fuse _ _ left (is_some_late fuse _ _ later last answer) later last answer (c.in_err-save_step-3.ensures.err tells))
 
-pub returns-clause-bytes : goal.returns-clause-bytes
-returns-clause-bytes g c = λ tells.
-    exit_bytes c.args.slot (mark_at c.args.marks.now c.args.slot) c.half_at-at.result c.sequence_after-sequence.result c.args.clock c.args.content.now c.write_half-bytes.result.items _ ((g.D.Disk.device c.args.disk.now).region c.args.region)
-    (record {
-      at_is = c.half_at-at.ensures.place ∙ ap (half_at c.args.slot) c.other-half.ensures;
-      two = c.requires.format tells;
-      mark_is = c.requires.mark tells;
-      clean = c.requires.clean tells;
-      whole_is = c.write_half-bytes.ensures.bytes;
-      size = c.write_half-bytes.ensures.size;
-      bytes_are = slice_behind _ _ c.as_slice.ensures.value c.write_half-bytes.ensures.size;
-      n_is = c.sequence_after-sequence.ensures;
-      fits = c.requires.fits;
-      key = c.write_half-bytes.ensures.key;
-      small = c.write_half-bytes.ensures.clock;
-    })
-    ((g.D.Disk.device c.close.new.disk).region c.args.region) (c.in_ok-close.ensures.ok tells)
-    ((g.D.Disk.device c.write_body.new.disk).region c.args.region) (c.in_ok-write_body.ensures.ok tells)
-    ((g.D.Disk.device c.open_gate.new.disk).region c.args.region) (c.in_ok-open_gate.ensures.ok tells)
-
-pub returns-clause-marks : goal.returns-clause-marks
-returns-clause-marks g c = λ tells counts are.
-    exit_marks c.args.slot (mark_at c.args.marks.now c.args.slot) c.half_at-at.result c.sequence_after-sequence.result c.args.clock c.args.content.now c.write_half-bytes.result.items _ ((g.D.Disk.device c.args.disk.now).region c.args.region)
-    (record {
-      at_is = c.half_at-at.ensures.place ∙ ap (half_at c.args.slot) c.other-half.ensures;
-      two = c.requires.format tells;
-      mark_is = c.requires.mark tells;
-      clean = c.requires.clean tells;
-      whole_is = c.write_half-bytes.ensures.bytes;
-      size = c.write_half-bytes.ensures.size;
-      bytes_are = slice_behind _ _ c.as_slice.ensures.value c.write_half-bytes.ensures.size;
-      n_is = c.sequence_after-sequence.ensures;
-      fits = c.requires.fits;
-      key = c.write_half-bytes.ensures.key;
-      small = c.write_half-bytes.ensures.clock;
-    })
-    ((g.D.Disk.device c.close.new.disk).region c.args.region) (c.in_ok-close.ensures.ok tells)
-    ((g.D.Disk.device c.write_body.new.disk).region c.args.region) (c.in_ok-write_body.ensures.ok tells)
-    ((g.D.Disk.device c.open_gate.new.disk).region c.args.region) (c.in_ok-open_gate.ensures.ok tells)
-    counts c.args.marks.now c.other-half.result c.other-half.ensures (search rules) are
-
-pub returns-clause-beside : goal.returns-clause-beside
-returns-clause-beside g c = λ tells.
-    saved_beside c.args.slot (mark_at c.args.marks.now c.args.slot) c.half_at-at.result c.sequence_after-sequence.result c.args.clock c.args.content.now c.write_half-bytes.result.items _ ((g.D.Disk.device c.args.disk.now).region c.args.region)
-    (record {
-      at_is = c.half_at-at.ensures.place ∙ ap (half_at c.args.slot) c.other-half.ensures;
-      two = c.requires.format tells;
-      mark_is = c.requires.mark tells;
-      clean = c.requires.clean tells;
-      whole_is = c.write_half-bytes.ensures.bytes;
-      size = c.write_half-bytes.ensures.size;
-      bytes_are = slice_behind _ _ c.as_slice.ensures.value c.write_half-bytes.ensures.size;
-      n_is = c.sequence_after-sequence.ensures;
-      fits = c.requires.fits;
-      key = c.write_half-bytes.ensures.key;
-      small = c.write_half-bytes.ensures.clock;
-    })
-    ((g.D.Disk.device c.close.new.disk).region c.args.region) (c.in_ok-close.ensures.ok tells)
-    ((g.D.Disk.device c.write_body.new.disk).region c.args.region) (c.in_ok-write_body.ensures.ok tells)
-    ((g.D.Disk.device c.open_gate.new.disk).region c.args.region) (c.in_ok-open_gate.ensures.ok tells)
-
-pub returns-clause-format : goal.returns-clause-format
-returns-clause-format g c = λ tells.
-    let same = (returns-clause-beside g c tells).byte 8192 (format_apart c.args.slot (other (mark_at c.args.marks.now c.args.slot).half)) in
-    (λ j. same j == 2) ∙ c.requires.format tells
+pub returns-clause-saved : goal.returns-clause-saved
+returns-clause-saved g c = λ tells.
+    let r0 = (g.D.Disk.device c.args.disk.now).region c.args.region in
+    let fuse = (g.D.Disk.device c.args.disk.now).fuse c.args.region in
+    let saved = (g.D.Disk.device c.save_step-3.new.disk).region c.args.region in
+    let half = c.write_half-half.result.items in
+    let small = few r0 c.args.slot c.args.marks.now (c.requires.mark tells) in
+    let n = next (mark_at c.args.marks.now c.args.slot).sequence in
+    subst (λ k. IsSaveOf k c.args.clock c.args.slot c.args.content.now c.args.marks.now c.turn.new.self r0 saved)
+    (sym (is_none fuse _ _ (c.in_ok-save_step.ensures.fuse tells) (c.in_ok-save_step-2.ensures.fuse tells) (c.in_ok-save_step.ensures.answer tells) (c.in_ok-save_step-2.ensures.answer tells) (c.in_ok-save_step-3.ensures.answer tells)))
+    (subst (λ (left : Marks). IsSaveOf 0 c.args.clock c.args.slot c.args.content.now c.args.marks.now left r0 saved) (sym (c.turn.ensures.after small))
+    (save_done c.args.slot c.args.marks.now (gate_at c.args.slot (mark_at c.args.marks.now c.args.slot)) n c.args.clock c.args.content.now half (drop 1 half) r0
+    (is_save r0 c.args.slot n c.args.clock c.args.marks.now c.args.content.now half (c.requires.format tells) (c.requires.mark tells) (c.requires.clean tells)
+    (c.write_half-half.ensures.bytes ∙ ap (λ m. half_bytes m c.args.clock c.args.content.now) (c.sequence_after.ensures small)) c.write_half-half.ensures.size (λ s. refl) c.requires.fits c.write_half-half.ensures.key c.write_half-half.ensures.clock)
+    ((g.D.Disk.device c.save_step.new.disk).region c.args.region) (c.in_ok-save_step.ensures.ok tells) ((g.D.Disk.device c.save_step-2.new.disk).region c.args.region) (c.in_ok-save_step-2.ensures.ok tells)
+    saved (c.in_ok-save_step-3.ensures.ok tells) (other (mark_at c.args.marks.now c.args.slot).half) refl (search rules)))

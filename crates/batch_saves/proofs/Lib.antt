@@ -1,0 +1,8 @@
+pub mod Counting
+pub mod Ending
+pub mod Going
+pub mod Parts
+pub mod Passing
+pub mod Sharing
+pub mod Stepping
+pub mod Syncing

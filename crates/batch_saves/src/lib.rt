@@ -1,0 +1,12 @@
+//! Slots of several regions that are saved together, by shared syncs.
+#![tactic(auto)]
+
+mod batch;
+pub mod laws;
+mod saving;
+mod steps;
+mod syncs;
+mod writes;
+
+pub use batch::save_many;
+pub use saving::Saving;

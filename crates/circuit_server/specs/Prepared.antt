@@ -1,0 +1,73 @@
+-- What is made of a datagram of an open circuit before it is saved, and what comes of it then. Only proofs need this.
+use Rattle.std.specs.Prelude.{◌≡◌, ◌==◌, ℕ, Bool, true, List, [], Option, Some, None, option_map, Result, Ok, Err, IfOk, is_ok, is_some}
+use Rattle.types.specs.Delivery.{DeliveryValue}
+use Rattle.types.specs.declared.discard.Discard.{Discard}
+use Rattle.types.specs.declared.discard.Discard.TheVariants.{DiskFault}
+use Rattle.config.specs.CircuitPart.{CircuitPart}
+use Rattle.lease_disk.specs.declared.content.Content.{Content}
+use Rattle.lease_disk.specs.declared.device.Fault.{Fault}
+use Rattle.lease_disk.specs.declared.marks.Marks.{Marks}
+use Rattle.lease_disk.specs.Book.{IsBook}
+use Rattle.lease_disk.specs.Device.{Device, Touches}
+use Rattle.lease_disk.specs.Region.{Region, effective, faults_after}
+use Rattle.lease_disk.specs.Save.{IsSaveOf}
+use Rattle.batch_saves.specs.declared.saving.Saving.{Saving}
+use Rattle.circuit_server.specs.Answered.{IsAnswer, answered, circuit_saves}
+use Rattle.circuit_server.specs.CircuitDecision.{IsWithin, KeepsItsSlot, answer_of, kept_in, served_by, with_decision}
+use Rattle.circuit_server.specs.CircuitServerValue.{HasPools, IsReadyFor, OpenCircuitValue, counts_in, kept_slots, leases_of, open_book}
+use Rattle.circuit_server.specs.Leases.{after_datagram, book_in}
+use Rattle.circuit_server.specs.Server.{kept_book, served}
+use Rattle.circuit_server.specs.Ticked.{open_at}
+use Rattle.circuit_server.specs.declared.prepared.Prepared.{Prepared}
+
+-- the save of a slot that is to hold this
+abbrev pub saving_of : CircuitPart → OpenCircuitValue → ℕ × Content → Saving
+saving_of part o kept = record { region = part.region; clock = o.clock; slot = kept.0; content = kept.1; marks = o.marks; failed = 0 }
+
+-- An open circuit decided on a datagram: its books have the decision's changes, and this is to be saved.
+pub record IsPrepared (part : CircuitPart) (d : DeliveryValue) (old new : Option OpenCircuitValue) (prepared : Prepared) : Type 0 where
+  pub before : OpenCircuitValue
+  pub after : OpenCircuitValue
+  pub was : old ≡ Some before
+  pub is : new ≡ Some after
+  pub decided : after ≡ with_decision prepared.decision (open_at d.moment before)
+  pub serves : served part d (open_book before) ≡ served_by part (open_at d.moment before) prepared.decision
+  pub saving : prepared.saving ≡ option_map (saving_of part after) (kept_in prepared.decision)
+  pub keeps : KeepsItsSlot prepared.decision (open_at d.moment before)
+  pub within : IsWithin prepared.decision
+  pub pools : HasPools part new
+  -- its region is as ready at the datagram's moment as it was before
+  pub ready : (region : Region) → IsReadyFor region old → IsReadyFor region (Some (open_at d.moment before))
+  -- what is saved is a book, its own
+  pub book : (kept : ℕ × Content) → kept_in prepared.decision ≡ Some kept → IsBook (counts_in after) (kept_slots after)
+  pub means : (kept : ℕ × Content) → kept_in prepared.decision ≡ Some kept → book_in part (kept_slots after) ≡ kept_book (open_book after)
+
+-- A closed circuit, or one that decided on nothing: it drops the datagram, whatever the device does, and nothing is saved.
+pub record IsDropped (part : CircuitPart) (d : DeliveryValue) (old new : Option OpenCircuitValue) (why : Discard) : Type 0 where
+  pub answers : (fails : Bool) → answered part d fails (option_map open_book old) ≡ record { answer = Err why; book = option_map open_book new }
+  pub saves : circuit_saves d (Some part) (Some (option_map open_book old)) ≡ None
+  pub leases : (region : Region) (fault : ℕ) → leases_of (λ r. region) (record { part = part; state = new }) ≡ after_datagram part d fault (leases_of (λ r. region) (record { part = part; state = old }))
+  pub ready : (region : Region) → IsReadyFor region old → IsReadyFor region new
+
+-- the marks after a save, by what it returned
+abbrev pub marks_by : Result (Option Marks) Fault → Marks → Marks
+marks_by (Ok (Some marks)) known = marks
+marks_by result known = known
+
+-- A slot was saved alone: its k-th call failed, or none.
+pub record IsSavedAlone (tells : Bool) (result : Result (Option Marks) Fault) (old new : Device) (s : Saving) : Type 0 where
+  pub saved : tells ≡ true → IsSaveOf (effective 6 (old.fuse s.region)) s.clock s.slot s.content s.marks (marks_by result s.marks) (old.region s.region) (new.region s.region)
+  pub answer : tells ≡ true → is_ok result ≡ (effective 6 (old.fuse s.region) == 0)
+  pub marks : IfOk result (λ marks. is_some marks ≡ true)
+  pub frame : Touches tells s.region old new
+  pub failures : new.failures ≡ faults_after s.region result old.failures
+
+-- an open circuit with these marks
+abbrev pub with_marks : Option Marks → Option OpenCircuitValue → Option OpenCircuitValue
+with_marks None state = state
+with_marks (Some marks) state = option_map (λ (o : OpenCircuitValue). record o { marks = marks }) state
+
+-- After the save, done or not: the reply, or the circuit is closed.
+abbrev pub IsSettled : CircuitPart → Prepared → Result (Option Marks) Fault → Option OpenCircuitValue → Option OpenCircuitValue → Result (Unit {0}) Discard → List ℕ → Type 0
+IsSettled part prepared (Ok marks) old new result out = (new ≡ with_marks marks old) × IsAnswer (answer_of part prepared.decision) result out
+IsSettled part prepared (Err fault) old new result out = (new ≡ None) × (result ≡ Err DiskFault) × (out ≡ [])

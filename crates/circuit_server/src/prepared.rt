@@ -1,0 +1,34 @@
+//! What a circuit's server makes of a datagram before anything is saved.
+ghost use Rattle.std.specs.Prelude.{◌≡◌, true, Ok, None, IfSome};
+ghost use Rattle.batch_saves.specs.Batch.{IsReady};
+ghost use Rattle.circuit_server.specs.Prepared.{IsSavedAlone};
+
+use crate::decision::CircuitDecision;
+use batch_saves::Saving;
+use lease_disk::{Disk, Fault, Marks, save};
+
+/// A decision whose changes of the circuit's books are made, and the save that has to be done before its reply leaves.
+#[derive(Debug, Drop)]
+pub struct Prepared<'a> {
+    pub(crate) decision: CircuitDecision<'a>,
+    /// None where nothing has to be saved.
+    pub saving: Option<Saving>,
+}
+
+/// Saves what has to be saved, if anything, alone. Returns the marks of the region after it.
+pub(crate) fn save_alone<D: Disk>(
+    saving: Option<Saving>,
+    disk: &mut D,
+) -> Result<Option<Marks>, Fault>
+    requires { IfSome saving (IsReady D.tells (D.device disk.old)) }
+    ensures nothing { saving ≡ None → (result ≡ Ok None) × (D.device disk.new ≡ D.device disk.old) }
+    ensures saved { IfSome saving (IsSavedAlone D.tells result (D.device disk.old) (D.device disk.new)) }
+{
+    let Some(saving) = saving else {
+        return Ok(None);
+    };
+    let (region, clock, slot) = (saving.region, saving.clock, saving.slot);
+    let mut marks = saving.marks;
+    save(region, disk, &mut marks, clock, slot, &saving.content)?;
+    Ok(Some(marks))
+}

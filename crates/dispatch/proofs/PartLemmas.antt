@@ -1,0 +1,161 @@
+-- One part of a batch more.
+use Rattle.std.proofs.Common.{inl, inr, ◌≡◌, ◌∙◌, ◌+◌, ◌<◌, ◌≤◌, ◌==◌, ◌||◌, ℕ, zero, suc, Bool, true, false, List, [], ◌∷◌, ◌++◌, length, set, take, refl, sym, ap, ap₂, subst, arith}
+use Rattle.std.specs.Prelude.{◌⊎◌, Option, Some, None, Result, Ok, Err, slice_get, slice_set}
+use Rattle.std.specs.List.{list_any}
+use Rattle.std.proofs.lemmas.List.{get_or-set_other, length-set}
+use Rattle.std.proofs.lemmas.Option.{same_Some}
+use Rattle.types.specs.Delivery.{DeliveryValue}
+use Rattle.types.specs.declared.discard.Discard.{Discard}
+use Rattle.config.specs.CircuitPart.{CircuitPart}
+use Rattle.config.specs.Topology.{Topology}
+use Rattle.requests.specs.Addressee.{addressee}
+use Rattle.circuit_server.specs.CircuitServerValue.{OpenCircuitValue}
+use Rattle.circuit_server.specs.Prepared.{IsDropped, IsPrepared}
+use Rattle.circuit_server.specs.Ticked.{state_of}
+use Rattle.circuit_server.specs.declared.prepared.Prepared.{Prepared}
+use Rattle.dispatch.specs.Batch.{is_circuit, is_named}
+use Rattle.dispatch.specs.Parts.{AreMade, IsMade, IsOf, IsPart, has_named}
+
+or_false : (x : Bool) → (x || false) ≡ x
+or_false true = refl
+or_false false = refl
+
+or_true : (x : Bool) → (x || true) ≡ true
+or_true true = refl
+or_true false = refl
+
+or_again : (x y z : Bool) → (x || (y || z)) ≡ ((x || y) || z)
+or_again true y z = refl
+or_again false y z = refl
+
+-- one place more of a list
+module _ {A : Type 0} (f : A → Bool) where
+  any_next : (xs : List A) (i : ℕ) (x : A) → slice_get xs i ≡ Some x → list_any f (take (suc i) xs) ≡ (list_any f (take i xs) || f x)
+  any_next [] i x is = absurd cc
+  any_next (y ∷ xs) zero x is = or_false (f y) ∙ ap f (same_Some y x is)
+  any_next (y ∷ xs) (suc i) x is = ap (λ b. f y || b) (any_next xs i x is) ∙ or_again (f y) (list_any f (take i xs)) (f x)
+
+  pub any_more : (xs : List A) (i : ℕ) (x : A) → slice_get xs i ≡ Some x → list_any f (take (i + 1) xs) ≡ (list_any f (take i xs) || f x)
+  any_more xs i x is = let more : suc i ≡ i + 1 = omega arith in subst (λ n. list_any f (take n xs) ≡ (list_any f (take i xs) || f x)) more (any_next xs i x is)
+
+  -- one that is among the first is found there
+  pub any_there : (xs : List A) (i j : ℕ) (x : A) → j < i → slice_get xs j ≡ Some x → f x ≡ true → list_any f (take i xs) ≡ true
+  any_there [] i j x less is holds = absurd cc
+  any_there (y ∷ xs) zero j x less is holds = absurd (omega (arith, less))
+  any_there (y ∷ xs) (suc i) zero x less is holds = ap (λ b. b || list_any f (take i xs)) (ap f (same_Some y x is) ∙ holds)
+  any_there (y ∷ xs) (suc i) (suc j) x less is holds = ap (λ b. f y || b) (any_there xs i j x (omega (arith, less)) is holds) ∙ or_true (f y)
+
+get_before : {A : Type 0} (xs zs : List A) (j : ℕ) (y : A) → slice_get xs j ≡ Some y → slice_get (xs ++ zs) j ≡ Some y
+get_before [] zs j y is = absurd cc
+get_before (x ∷ xs) zs zero y is = is
+get_before (x ∷ xs) zs (suc j) y is = get_before xs zs j y is
+
+get_last : {A : Type 0} (xs : List A) (y : A) → slice_get (xs ++ y ∷ []) (length xs) ≡ Some y
+get_last [] y = refl
+get_last (x ∷ xs) y = get_last xs y
+
+size_more : {A : Type 0} (xs : List A) (y : A) → length (xs ++ y ∷ []) ≡ length xs + 1
+size_more [] y = refl
+size_more (x ∷ xs) y = let inside : length (xs ++ y ∷ []) ≡ length xs + 1 = size_more xs y in omega (arith, inside)
+
+left_false : (x y : Bool) → (x || y) ≡ false → x ≡ false
+left_false false y e = refl
+left_false true y e = absurd cc
+
+right_false : (x y : Bool) → (x || y) ≡ false → y ≡ false
+right_false false y e = e
+right_false true y e = absurd cc
+
+not_both : {b : Bool} → b ≡ true → b ≡ false → ⊥
+not_both is is_not = let never : true ≡ false = sym is ∙ is_not in absurd cc
+
+same_number : (n : ℕ) → (n == n) ≡ true
+same_number n = grind arith
+
+abbrev Part : Type 0
+Part = Result (ℕ × Prepared) Discard
+
+abbrev States : Type 0
+States = List (Option OpenCircuitValue)
+
+-- the circuit that a part is of is another one
+apart : (topology : Topology) (ds : List DeliveryValue) (i c k : ℕ) (d : DeliveryValue) → addressee topology d ≡ Ok c → is_named topology (take i ds) c ≡ false
+    → (is_named topology (take i ds) k ≡ true) ⊎ (is_circuit k (addressee topology d) ≡ false) → k ≡ c → ⊥
+apart topology ds i c k d found first (inl named) same = not_both (sym (ap (is_named topology (take i ds)) same) ∙ named) first
+apart topology ds i c k d found first (inr other) same =
+    let is : is_circuit k (addressee topology d) ≡ true = ap (is_circuit k) found ∙ (ap (λ n. c == n) same ∙ same_number c) in
+    not_both is other
+
+module _ (topology : Topology) (ds : List DeliveryValue) (i : ℕ) (d : DeliveryValue) (named : List ℕ) (old now new : States) (parts : List (Option Part)) (part : Part)
+    (here : slice_get ds i ≡ Some d) (made : AreMade topology ds i named old now parts) (is : IsPart topology named d now new part) where
+  first : (c : ℕ) → has_named named c ≡ false → is_named topology (take i ds) c ≡ false
+  first c fresh = sym (made.names c) ∙ fresh
+
+  of_keeps : (c : ℕ) → IsOf topology named d c now new → (k : ℕ) → (is_named topology (take i ds) k ≡ true) ⊎ (is_circuit k (addressee topology d) ≡ false) → state_of new k ≡ state_of now k
+  of_keeps c its k which =
+      ap (λ (s : States). state_of s k) its.others ∙ get_or-set_other now c k (state_of new c) None (apart topology ds i c k d its.found (first c its.fresh) which)
+
+  -- every circuit but that of the part keeps its state
+  keeps : (part : Part) → IsPart topology named d now new part → (k : ℕ) → (is_named topology (take i ds) k ≡ true) ⊎ (is_circuit k (addressee topology d) ≡ false) → state_of new k ≡ state_of now k
+  keeps (Err why) (inl none) k which = ap (λ (s : States). state_of s k) none.0
+  keeps (Err why) (inr (inl again)) k which = ap (λ (s : States). state_of s k) again.0
+  keeps (Err why) (inr (inr dropped)) k which = of_keeps dropped.0 dropped.2 k which
+  keeps (Ok (c, prepared)) prepared_is k which = of_keeps c prepared_is.1 k which
+
+  sizes : (part : Part) → IsPart topology named d now new part → length new ≡ length now
+  sizes (Err why) (inl none) = ap (λ (s : States). length s) none.0
+  sizes (Err why) (inr (inl again)) = ap (λ (s : States). length s) again.0
+  sizes (Err why) (inr (inr dropped)) = ap (λ (s : States). length s) dropped.2.others ∙ length-set now dropped.0 (state_of new dropped.0)
+  sizes (Ok (c, prepared)) prepared_is = ap (λ (s : States). length s) prepared_is.1.others ∙ length-set now c (state_of new c)
+
+  -- the part itself
+  own : (part : Part) → IsPart topology named d now new part → IsMade topology (take i ds) d old new part
+  own (Err why) (inl none) = inl none.1
+  own (Err why) (inr (inl again)) = inr (inl (again.1, (again.2.0, again.2.1, sym (made.names again.2.0) ∙ again.2.2)))
+  own (Err why) (inr (inr dropped)) =
+      let c = dropped.0 in
+      let fresh = first c dropped.2.fresh in
+      inr (inr (c, dropped.1, record { found = dropped.2.found; first = fresh }, dropped.3, subst (λ before. IsDropped dropped.1 d before (state_of new c) why) (made.others c fresh) dropped.4))
+  own (Ok (c, prepared)) prepared_is =
+      let fresh = first c prepared_is.1.fresh in
+      (prepared_is.0, record { found = prepared_is.1.found; first = fresh }, prepared_is.2, subst (λ before. IsPrepared prepared_is.0 d before (state_of new c) prepared) (made.others c fresh) prepared_is.3)
+
+  -- and those before it
+  earlier : (j : ℕ) (other : DeliveryValue) → j < i → slice_get ds j ≡ Some other → (before : Part) → IsMade topology (take j ds) other old now before → IsMade topology (take j ds) other old new before
+  earlier j other less there (Err why) (inl none) = inl none
+  earlier j other less there (Err why) (inr (inl again)) = inr (inl again)
+  earlier j other less there (Err why) (inr (inr dropped)) =
+      let c = dropped.0 in
+      let named_there = any_there (λ x. is_circuit c (addressee topology x)) ds i j other less there (ap (is_circuit c) dropped.2.found ∙ same_number c) in
+      inr (inr (c, dropped.1, dropped.2, dropped.3, subst (λ after. IsDropped dropped.1 other (state_of old c) after why) (sym (keeps part is c (inl named_there))) dropped.4))
+  earlier j other less there (Ok (c, prepared)) prepared_is =
+      let named_there = any_there (λ x. is_circuit c (addressee topology x)) ds i j other less there (ap (is_circuit c) prepared_is.1.found ∙ same_number c) in
+      (prepared_is.0, prepared_is.1, prepared_is.2, subst (λ after. IsPrepared prepared_is.0 other (state_of old c) after prepared) (sym (keeps part is c (inl named_there))) prepared_is.3)
+
+  each : (j : ℕ) (other : DeliveryValue) → j < i + 1 → slice_get ds j ≡ Some other → (b : Bool) → (j == i) ≡ b
+      → (p : Part) × (slice_get (parts ++ Some part ∷ []) j ≡ Some (Some p)) × IsMade topology (take j ds) other old new p
+  each j other less there false e =
+      let before : j < i = grind (arith, less, e) in
+      let was = made.each j other before there in
+      (was.0, get_before parts (Some part ∷ []) j (Some was.0) was.1, earlier j other before there was.0 was.2)
+  each j other less there true e =
+      let last : j ≡ i = grind (arith, e) in
+      let same : d ≡ other = same_Some d other (sym here ∙ (ap (slice_get ds) (sym last) ∙ there)) in
+      let at : slice_get (parts ++ Some part ∷ []) j ≡ Some (Some part) = ap (slice_get (parts ++ Some part ∷ [])) (last ∙ sym made.count) ∙ get_last parts (Some part) in
+      (part, at, subst (λ n. IsMade topology (take n ds) other old new part) (sym last) (subst (λ x. IsMade topology (take i ds) x old new part) same (own part is)))
+
+  pub made_more : (names : List ℕ) → length names ≤ length named + 1 → ((c : ℕ) → has_named names c ≡ (has_named named c || is_circuit c (addressee topology d))) → AreMade topology ds (i + 1) names old new (parts ++ Some part ∷ [])
+  made_more names short are = record {
+    size = sizes part is ∙ made.size;
+    count = size_more parts (Some part) ∙ ap (λ n. n + 1) made.count;
+    few = let was = made.few in omega (arith, short, was);
+    names = λ c. are c ∙ (ap (λ b. b || is_circuit c (addressee topology d)) (made.names c) ∙ sym (any_more (λ x. is_circuit c (addressee topology x)) ds i d here));
+    each = λ j other less there. each j other less there (j == i) refl;
+    others = λ c none.
+        let so = sym (any_more (λ x. is_circuit c (addressee topology x)) ds i d here) ∙ none in
+        keeps part is c (inr (right_false (is_named topology (take i ds) c) (is_circuit c (addressee topology d)) so)) ∙ made.others c (left_false (is_named topology (take i ds) c) (is_circuit c (addressee topology d)) so);
+  }
+
+-- before the first part
+pub made_none : (topology : Topology) (ds : List DeliveryValue) (states : States) → AreMade topology ds 0 [] states states []
+made_none topology ds states = record { size = refl; count = refl; few = omega arith; names = λ c. refl; each = λ j d less there. absurd (omega (arith, less)); others = λ c none. refl }

@@ -1,0 +1,243 @@
+//! Several datagrams at one moment, whose saves share their syncs.
+ghost use Rattle.std.specs.Prelude.{◌≡◌, ◌<◌, ◌≤◌, ◌==◌, ◌&&◌, ◌||◌, ◌+◌, ◌++◌, not, ℕ, List, Result, true, length, map, slice_get, slice_set, IfOk, IfErr, Some};
+ghost use Rattle.types.specs.Delivery.{delivery};
+ghost use Rattle.types.specs.declared.discard.Discard as discard;
+ghost use Rattle.lease_disk.specs.Device.{has_failed, is_in};
+ghost use Rattle.dispatch.specs.Batch.{IsBatch, IsBatchOfLeases, IsWrittenTogether, batch_fault, batch_saves, is_circuit};
+ghost use Rattle.requests.specs.Addressee as who;
+ghost use Rattle.dispatch.specs.Parts.{AreMade, IsPart, has_named};
+ghost use Rattle.dispatch.specs.Regions.{HasRegions};
+ghost use Rattle.dispatch.specs.ServerValue.{AreReady, books_in, leases_in};
+ghost use Rattle.config.specs.CircuitPart as parts;
+ghost use Rattle.requests.specs.RelayedMessage.{IsRelayedMessage};
+ghost use Rattle.circuit_server.specs.Prepared.{IsDropped, IsPrepared, IsSettled};
+ghost use Rattle.circuit_server.specs.Ticked.{state_of};
+
+use super::Server;
+use crate::answers::Answers;
+use arrayvec::ArrayVec;
+use batch_saves::{Saving, save_many};
+use circuit_server::Prepared;
+use lease_disk::{Disk, Fault, Marks};
+use requests::{RelayedMessage, addressee};
+use types::{Circuit, Delivery, Discard, Moment, Proto, Source};
+use wire::PacketBuf;
+
+/// The most parts of a batch.
+pub const MAX_BATCH: usize = 16;
+
+/// A part of a batch before anything is saved: what is to be settled, and of which circuit, or why it is dropped.
+type Part<'a> = Result<(Circuit, Prepared<'a>), Discard>;
+
+/// What was made of the parts of a batch before anything is saved.
+#[derive(Drop)]
+struct Batch<'a> {
+    /// Of each part what was made of it.
+    parts: ArrayVec<Option<Part<'a>>, MAX_BATCH>,
+    /// The indices of the parts' circuits so far.
+    named: ArrayVec<usize, MAX_BATCH>,
+}
+
+impl Server {
+    /// Decides on a datagram of the circuit, of which this was read, and makes what it changes but in the circuit's region.
+    fn prepare<'a>(
+        &mut self,
+        circuit: Circuit,
+        delivery: &Delivery<'_>,
+        relayed: RelayedMessage<'a>,
+    ) -> Result<Prepared<'a>, Discard>
+        requires circuit { circuit < length self.old.topology.circuits }
+        requires read { IsRelayedMessage delivery.now.proto delivery.now.bytes relayed }
+        ensures topology { self.new.topology ≡ self.old.topology }
+        ensures others { self.new.states ≡ slice_set self.old.states circuit (state_of self.new.states circuit) }
+        ensures prepared { (part : parts.CircuitPart) → slice_get self.old.topology.circuits circuit ≡ Some part → IfOk result (IsPrepared part delivery.now (state_of self.old.states circuit) (state_of self.new.states circuit)) }
+        ensures dropped { (part : parts.CircuitPart) → slice_get self.old.topology.circuits circuit ≡ Some part → IfErr result (IsDropped part delivery.now (state_of self.old.states circuit) (state_of self.new.states circuit)) }
+    {
+        let part = self.circuits.part(circuit);
+        let table = &mut self.deadlines;
+        let index = circuit.index();
+        self.servers.prepare(index, part, delivery, relayed, table)
+    }
+
+    /// Answers what was prepared, by its save. One that failed closes the circuit.
+    fn settle(
+        &mut self,
+        circuit: Circuit,
+        prepared: &Prepared<'_>,
+        saved: Result<Option<Marks>, Fault>,
+        out: &mut PacketBuf,
+    ) -> Result<(), Discard>
+        requires circuit { circuit < length self.old.topology.circuits }
+        ensures topology { self.new.topology ≡ self.old.topology }
+        ensures others { self.new.states ≡ slice_set self.old.states circuit (state_of self.new.states circuit) }
+        ensures settled { (part : parts.CircuitPart) → slice_get self.old.topology.circuits circuit ≡ Some part → IsSettled part prepared.now saved (state_of self.old.states circuit) (state_of self.new.states circuit) result out.new }
+    {
+        out.clear();
+        let part = self.circuits.part(circuit);
+        let table = &mut self.deadlines;
+        let index = circuit.index();
+        self.servers
+            .settle(index, part, prepared, saved, out, table)
+    }
+
+    /// Decides on the next part of a batch.
+    fn prepare_part<'a>(
+        &mut self,
+        delivery: &Delivery<'a>,
+        named: &mut ArrayVec<usize, MAX_BATCH>,
+    ) -> Part<'a>
+        requires room { length named.old.items < 16 }
+        ensures topology { self.new.topology ≡ self.old.topology }
+        ensures part { IsPart self.old.topology named.old.items delivery.now self.old.states self.new.states result }
+        ensures named { (c : ℕ) → has_named named.new.items c ≡ (has_named named.old.items c || is_circuit c (who.addressee self.old.topology delivery.now)) }
+        ensures few { length named.new.items ≤ length named.old.items + 1 }
+    {
+        let (circuit, relayed) = match addressee(&self.circuits, delivery) {
+            Ok(found) => found,
+            Err(why) => return Err(why),
+        };
+        let index = circuit.index();
+        if named.contains(&index) {
+            return Err(Discard::BatchTwice);
+        }
+        named.push(index);
+        match self.prepare(circuit, delivery, relayed) {
+            Ok(prepared) => Ok((circuit, prepared)),
+            Err(why) => Err(why),
+        }
+    }
+
+    /// Decides on each part of a batch, in order.
+    fn prepare_all<'a>(&mut self, parts: &[(Proto, Source, &'a [u8])], now: Moment) -> Batch<'a>
+        requires most { length parts.now ≤ 16 }
+        ensures topology { self.new.topology ≡ self.old.topology }
+        ensures made { AreMade self.old.topology (map (λ part. delivery part.0 part.1 now part.2.now) parts.now) (length parts.now) result.named.items self.old.states self.new.states result.parts.items }
+    {
+        let mut batch = Batch {
+            parts: ArrayVec::new(),
+            named: ArrayVec::new(),
+        };
+        'parts: for index in 0..parts.len() {
+            let Some(part) = parts.get(index) else {
+                unreachable!()
+            };
+            let delivery = Delivery {
+                proto: part.0,
+                source: part.1,
+                moment: now,
+                bytes: part.2,
+            };
+            let made = self.prepare_part(&delivery, &mut batch.named);
+            batch.parts.push(Some(made));
+        }
+        batch
+    }
+
+    /// Takes several datagrams of this moment, each with its protocol and its source, 1 to 16 of them, as `receive` takes one, but
+    /// that their saves share three syncs. All are decided first, then saved together, then answered in order. A part whose circuit
+    /// an earlier part is of is refused and changes nothing. A save that fails closes its circuit, alone; a shared sync that
+    /// fails is a fault of each save that was not done by then.
+    pub fn receive_batch<D: Disk, A: Answers>(
+        &mut self,
+        parts: &[(Proto, Source, &[u8])],
+        now: Moment,
+        disk: &mut D,
+        answers: &mut A,
+    )
+        requires some { 1 ≤ length parts.now }
+        requires most { length parts.now ≤ 16 }
+        requires regions { HasRegions self.old.topology.circuits (D.device disk.old).count }
+        requires ready { D.tells ≡ true → AreReady (D.device disk.old).region self.old }
+        ensures topology { self.new.topology ≡ self.old.topology }
+
+        // Over every device: a save fails where the device counts a failure of the circuit's region.
+        ensures answers { (given : List (Result (List ℕ) discard.Discard)) × (A.taken answers.new ≡ A.taken answers.old ++ given)
+            × IsBatch self.old.topology (map (λ part. delivery part.0 part.1 now part.2.now) parts.now) (has_failed (D.device disk.old) (D.device disk.new)) (books_in self.old) (books_in self.new) given }
+
+        // Over a device that tells its bytes: which saves fail, and what restarts then find.
+        ensures fails { D.tells ≡ true → (r : ℕ) → has_failed (D.device disk.old) (D.device disk.new) r
+            ≡ (is_in (batch_saves self.old.topology (map (λ part. delivery part.0 part.1 now part.2.now) parts.now) (books_in self.old)) r
+            && not (batch_fault (D.device disk.old).fuse (batch_saves self.old.topology (map (λ part. delivery part.0 part.1 now part.2.now) parts.now) (books_in self.old)) r == 0)) }
+        ensures leases { D.tells ≡ true → IsBatchOfLeases self.old.topology (map (λ part. delivery part.0 part.1 now part.2.now) parts.now)
+            (batch_fault (D.device disk.old).fuse (batch_saves self.old.topology (map (λ part. delivery part.0 part.1 now part.2.now) parts.now) (books_in self.old)))
+            (leases_in (D.device disk.old).region self.old) (leases_in (D.device disk.new).region self.new) }
+        ensures ready { D.tells ≡ true → AreReady (D.device disk.new).region self.new }
+        ensures frame { IsWrittenTogether D.tells (batch_saves self.old.topology (map (λ part. delivery part.0 part.1 now part.2.now) parts.now) (books_in self.old)) (D.device disk.old) (D.device disk.new) }
+    {
+        let mut batch = self.prepare_all(parts, now);
+        save_parts(&mut batch.parts, disk);
+        self.settle_all(&batch, answers);
+    }
+
+    /// Answers each part of a batch, in order, whose saves are done or have failed.
+    fn settle_all<A: Answers>(&mut self, batch: &Batch<'_>, answers: &mut A) {
+        let mut out = PacketBuf::new();
+        'parts: for part in batch.parts.iter() {
+            let (circuit, prepared) = match part {
+                Some(Ok((circuit, prepared))) => (*circuit, prepared),
+                Some(Err(why)) => {
+                    answers.discard(*why);
+                    continue;
+                }
+                None => unreachable!(),
+            };
+            let saved = saved_of(prepared);
+            match self.settle(circuit, prepared, saved, &mut out) {
+                Ok(()) => answers.reply(out.as_slice()),
+                Err(why) => answers.discard(why),
+            }
+        }
+    }
+}
+
+/// What came of the save of a part: the marks of its region, or that it failed, or nothing where there was none.
+fn saved_of(prepared: &Prepared<'_>) -> Result<Option<Marks>, Fault> {
+    match prepared.saving {
+        None => Ok(None),
+        Some(saving) if saving.failed == 0 => Ok(Some(saving.marks)),
+        Some(_) => Err(Fault),
+    }
+}
+
+/// What a part has to save, if anything.
+fn saving_of(part: &Option<Part<'_>>) -> Option<Saving> {
+    match part {
+        Some(Ok((_, prepared))) => prepared.saving,
+        _ => None,
+    }
+}
+
+/// The first of what the parts have to save, if anything.
+fn first_saving(parts: &ArrayVec<Option<Part<'_>>, MAX_BATCH>) -> Option<Saving> {
+    for part in parts.iter() {
+        let saving = saving_of(part);
+        if saving.is_some() {
+            return saving;
+        }
+    }
+    None
+}
+
+/// Saves what the parts have to save, together.
+fn save_parts<D: Disk>(parts: &mut ArrayVec<Option<Part<'_>>, MAX_BATCH>, disk: &mut D) {
+    let Some(first) = first_saving(parts) else {
+        return;
+    };
+    let (mut savings, mut count) = ([first; MAX_BATCH], 0);
+    for part in parts.iter() {
+        if let Some(saving) = saving_of(part) {
+            savings[count] = saving;
+            count += 1;
+        }
+    }
+    save_many(&mut savings[..count], disk);
+    let mut next = 0;
+    for part in parts.iter_mut() {
+        if let Some(Ok((_, prepared))) = part {
+            if prepared.saving.is_some() {
+                prepared.saving = Some(savings[next]);
+                next += 1;
+            }
+        }
+    }
+}

@@ -1,0 +1,59 @@
+use Rattle.std.proofs.Common.{◌≡◌, ◌<◌, ◌-◌, ◌==◌, ◌||◌, ◌+◌, ℕ, Bool, List, false, length, set, take, slice_index, slice_index_or, if◌then◌else◌, refl, sym, ap, ap₂, subst, ◌∙◌}
+use Rattle.std.specs.List.{list_any}
+use Rattle.std.proofs.lemmas.List.{take_all}
+use Rattle.lease_disk.proofs.Listed.{AreChanged, any_more, any_same, changed_all, changed_before, changed_none, changed_now, is_there, set_change}
+use Rattle.lease_disk.specs.Device.{is_in}
+use Rattle.lease_disk.proofs.model_disk.burn_all.Goals as goal
+use Rattle.lease_disk.proofs.model_disk.burn_all.Goals.{then-not-contains, else-not-contains}
+
+pub regions-init : goal.regions-init
+regions-init c = record { fuses = changed_none (λ n. n - 1) c.args.regions.now (slice_index c.args.fuses.now); fails = refl }
+
+pub bounds-fuses-from : goal.bounds-fuses-from
+bounds-fuses-from c =
+    subst (λ n. c.from.result < n) (sym c.regions.auto.fuses)
+    (subst (λ r. r < length c.args.fuses.now) (sym c.from.ensures) (c.requires (slice_index_or c.args.regions.now c.regions.index 0) (is_there c.args.regions.now c.regions.index c.regions-test.true)))
+
+bound : (c : goal.Joined-not-contains) → slice_index_or c.args.regions.now c.regions.index 0 < length c.regions.fuses
+bound c =
+    subst (λ n. slice_index_or c.args.regions.now c.regions.index 0 < n) (sym c.regions.auto.fuses)
+    (c.requires (slice_index_or c.args.regions.now c.regions.index 0) (is_there c.args.regions.now c.regions.index c.regions-test.true))
+
+pub regions-preserved : goal.regions-preserved
+regions-preserved c =
+    let xs = c.args.regions.now in
+    let here = slice_index_or xs c.regions.index 0 in
+    let old = slice_index c.args.fuses.now in
+    let change : ℕ → ℕ = λ n. n - 1 in
+    let is_last : ℕ → Bool = λ r. old r == 1 in
+    let was = c.regions.invariant in
+    let more = any_more is_last xs c.regions.index c.regions-test.true in
+    record {
+      fuses = elim c.if-not-contains.branch [
+        | then-not-contains w ↦
+            let first : is_in (take c.regions.index xs) here ≡ false = sym c.contains.ensures.value ∙ w.if-not-contains.true in
+            let within : here < length c.regions.fuses = bound c in
+            let put : set c.regions.fuses w.from.result w.burn-fails.new.fuse ≡ set c.regions.fuses here (slice_index c.regions.fuses here - 1) =
+            ap (set c.regions.fuses w.from.result) w.burn-fails.ensures.fuse ∙ ap (λ r. set c.regions.fuses r (slice_index c.regions.fuses r - 1)) w.from.ensures in
+            subst (λ (f : List ℕ). AreChanged change (take (c.regions.index + 1) xs) old (slice_index f)) (sym (w.fuses-is ∙ put))
+            (changed_now change xs c.regions.index c.regions-test.true old (slice_index c.regions.fuses) was.fuses first (slice_index (set c.regions.fuses here (slice_index c.regions.fuses here - 1)))
+            (λ q. set_change change c.regions.fuses here q within))
+        | else-not-contains w ↦
+            subst (λ (f : List ℕ). AreChanged change (take (c.regions.index + 1) xs) old (slice_index f)) (sym w.fuses-is)
+            (changed_before change xs c.regions.index c.regions-test.true old (slice_index c.regions.fuses) was.fuses (sym c.contains.ensures.value ∙ w.if-not-contains.false))
+      ];
+      fails = elim c.if-not-contains.branch [
+        | then-not-contains w ↦
+            let first : is_in (take c.regions.index xs) here ≡ false = sym c.contains.ensures.value ∙ w.if-not-contains.true in
+            let same : slice_index c.regions.fuses here ≡ old here = was.fuses here ∙ ap (λ b. if b then change (old here) else old here) first in
+            w.fails-is ∙ ap₂ (λ a b. a || b) was.fails (w.burn-fails.ensures.fails ∙ ap (λ r. slice_index c.regions.fuses r == 1) w.from.ensures ∙ ap (λ n. n == 1) same) ∙ sym more
+        | else-not-contains w ↦
+            w.fails-is ∙ was.fails ∙ sym (more ∙ any_same is_last (take c.regions.index xs) here (sym c.contains.ensures.value ∙ w.if-not-contains.false))
+      ];
+    }
+
+pub returns-clause-fails : goal.returns-clause-fails
+returns-clause-fails c = c.regions.invariant.fails ∙ ap (list_any (λ r. slice_index c.args.fuses.now r == 1)) (take_all c.regions.index c.args.regions.now c.regions-test.false)
+
+pub returns-clause-fuses : goal.returns-clause-fuses
+returns-clause-fuses c = changed_all (λ n. n - 1) c.args.regions.now c.regions.index _ _ c.regions-test.false c.regions.invariant.fuses
