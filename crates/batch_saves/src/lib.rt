@@ -8,5 +8,5 @@ mod steps;
 mod syncs;
 mod writes;
 
-pub use batch::save_many;
+pub use batch::{MAX_BATCH, save_many};
 pub use saving::Saving;

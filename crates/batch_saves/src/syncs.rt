@@ -4,13 +4,14 @@ ghost use Rattle.std.specs.List.{list_any};
 ghost use Rattle.batch_saves.specs.Batch.{AreApart, part_at};
 ghost use Rattle.batch_saves.specs.Steps.{AreSaving, AreSynced, KeepsOthers, is_saving};
 
+use crate::batch::MAX_BATCH;
 use crate::saving::Saving;
 use crate::writes::call_of;
 use arrayvec::ArrayVec;
 use lease_disk::{Disk, SaveStep};
 
 /// The regions of the parts that are still saving.
-fn saving_regions(parts: &[Saving]) -> ArrayVec<u16, 16>
+fn saving_regions(parts: &[Saving]) -> ArrayVec<u16, MAX_BATCH>
     requires { length parts.now ≤ 16 }
     ensures { AreSaving parts.now result.items }
 {

@@ -1,9 +1,11 @@
 -- What one circuit sees of the events of a whole run.
-use Rattle.std.specs.Prelude.{ℕ, Bool, true, false, not, ◌&&◌, ◌||◌, List, [], ◌∷◌, Option, Some, None, ◌==◌, if◌then◌else◌, slice_get, slice_index_or}
+use Rattle.std.specs.Prelude.{ℕ, Bool, true, false, not, ◌&&◌, ◌||◌, List, [], ◌∷◌, Option, Some, None, option_map, ◌==◌, if◌then◌else◌, slice_get, slice_index_or}
 use Rattle.std.specs.List.{cons_option}
 use Rattle.std.specs.Option.{unwrap_or}
 use Rattle.types.specs.declared.dest.Proto.{Proto}
 use Rattle.lease_disk.specs.declared.image.Image.TheVariants.{Byte}
+use Rattle.events.specs.Batch.{is_batch, part_fault, part_of}
+use Rattle.events.specs.declared.batch.BatchPart.{BatchPart}
 use Rattle.events.specs.declared.comeback.Comeback.{Comeback}
 use Rattle.events.specs.declared.event.Event.{Event}
 use Rattle.events.specs.declared.event.Event.TheVariants as event
@@ -34,11 +36,16 @@ turn_to true false = Some (Turn false)
 turn_to false true = Some (Turn true)
 turn_to on next = None
 
+-- a circuit's part of a batch is a delivery at the server
+abbrev pub seen_part : ℕ → ℕ → Option BatchPart → Option Seen
+seen_part now sync part = option_map (λ (p : BatchPart). Up p.number now (part_fault sync p.fault)) part
+
 -- What circuit c, which is on or not, and which these plans have, sees of an event: what names it, every tick, how its own
 -- region comes back at every restart, and what turns it, but no stray.
 abbrev pub seen_of : List Bool → ℕ → Bool → Event → Option Seen
 seen_of plans c on (event.Frame circuit proto bytes) = if circuit == c then Some (Frame proto bytes.now) else None
 seen_of plans c on (event.Up circuit j now fault) = if circuit == c then Some (Up j now fault) else None
+seen_of plans c on (event.Batch now sync parts) = if is_batch parts.now then seen_part now sync (part_of c parts.now) else None
 seen_of plans c on (event.Down circuit j) = if circuit == c then Some (Down j) else None
 seen_of plans c on (event.Tick now) = Some (Tick now)
 seen_of plans c on (event.Restart comebacks) = Some (Restart (comeback_at c comebacks.now))

@@ -1,4 +1,5 @@
 //! What happens to relay, network and server.
+use crate::batch::BatchPart;
 use crate::comeback::Comeback;
 use types::{Circuit, Moment, Proto, RelayNo, Source};
 
@@ -11,6 +12,9 @@ pub enum Event<'a> {
     /// at this moment. The last number says which call of the disk fails in this step's save, 1 the
     /// first and 6 the last, any other number none; without a save it has no effect.
     Up(Circuit, u16, Moment, u8),
+    /// A datagram of each of these circuits, 1 to 16 of them, is delivered to the server at this moment. Their saves share
+    /// three syncs. The second number says which of these fails, 2, 4 or 6 as calls of a save count; any other number none.
+    Batch(Moment, u8, &'a [BatchPart]),
     /// The datagram towards the relay with this number, 0 the newest of the circuit, is delivered.
     Down(Circuit, u16),
     /// The moment passes for all circuits.

@@ -1,4 +1,6 @@
 //! What comes of an event.
+use crate::batch::PartOutcome;
+use batch_saves::MAX_BATCH;
 use types::{Circuit, Dest, Discard};
 
 /// What came of an event.
@@ -15,6 +17,10 @@ pub enum Outcome {
     /// A frame leaves the relay towards this circuit; its bytes are in the output buffer.
     Framed(Circuit, Dest),
     Done,
+    /// What came of each part of a batch, in order; `None` past the last part.
+    Batched([Option<PartOutcome>; MAX_BATCH]),
+    /// A batch has 1 to 16 parts, each of another circuit. Nothing happened.
+    NotABatch,
     /// The source of a stray is one of the configuration, so it is none. Nothing happened.
     NotAStray,
     /// There is no such plan. Nothing happened.

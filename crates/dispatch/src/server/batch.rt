@@ -16,15 +16,12 @@ ghost use Rattle.circuit_server.specs.Ticked.{state_of};
 use super::Server;
 use crate::answers::Answers;
 use arrayvec::ArrayVec;
-use batch_saves::{Saving, save_many};
+use batch_saves::{MAX_BATCH, Saving, save_many};
 use circuit_server::Prepared;
 use lease_disk::{Disk, Fault, Marks};
 use requests::{RelayedMessage, addressee};
 use types::{Circuit, Delivery, Discard, Moment, Proto, Source};
 use wire::PacketBuf;
-
-/// The most parts of a batch.
-pub const MAX_BATCH: usize = 16;
 
 /// A part of a batch before anything is saved: what is to be settled, and of which circuit, or why it is dropped.
 type Part<'a> = Result<(Circuit, Prepared<'a>), Discard>;
