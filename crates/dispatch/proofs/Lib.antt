@@ -4,6 +4,7 @@ pub mod PartLemmas
 pub mod ReceivedLemmas
 pub mod RegionLemmas
 pub mod RestartLemmas
+pub mod SavingLemmas
 pub mod ServerLemmas
 pub mod TickLemmas
 pub mod TurnedLemmas

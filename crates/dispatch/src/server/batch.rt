@@ -185,12 +185,12 @@ impl Server {
         answers: &mut A,
     ) -> usize
         requires circuit { circuit < length self.old.topology.circuits }
-        requires place { next + length (cons_option prepared.saving []) ≤ length savings.now }
+        requires place { next + length (cons_option prepared.now.saving []) ≤ length savings.now }
         requires most { next ≤ 16 }
         ensures topology { self.new.topology ≡ self.old.topology }
         ensures others { self.new.states ≡ slice_set self.old.states circuit (state_of self.new.states circuit) }
         ensures answered { (answer : Result (List ℕ) discard.Discard) × (A.taken answers.new ≡ A.taken answers.old ++ answer ∷ []) × IsSettledSo self.old.topology prepared.now (saved_by prepared.now.saving (part_at savings.now next)) circuit self.old.states self.new.states answer }
-        ensures next { result ≡ next + length (cons_option prepared.saving []) }
+        ensures next { result ≡ next + length (cons_option prepared.now.saving []) }
     {
         let (saved, after) = match prepared.saving {
             None => (Ok(None), next),
@@ -205,12 +205,12 @@ impl Server {
 
     /// Answers each part of a batch, in order, whose saves are done or have failed.
     fn settle_all<A: Answers>(&mut self, batch: &Batch<'_>, answers: &mut A)
-        requires parts { AreToSettle self.old.topology batch.parts.items }
-        requires most { length batch.parts.items ≤ 16 }
-        requires savings { length batch.savings ≡ length (savings_of batch.parts.items) }
+        requires parts { AreToSettle self.old.topology batch.now.parts.items }
+        requires most { length batch.now.parts.items ≤ 16 }
+        requires savings { length batch.now.savings ≡ length (savings_of batch.now.parts.items) }
         ensures topology { self.new.topology ≡ self.old.topology }
         ensures answered { (given : List (Result (List ℕ) discard.Discard)) × (A.taken answers.new ≡ A.taken answers.old ++ given)
-            × AreAnswered self.old.topology batch.parts.items batch.savings (length batch.parts.items) self.old.states self.new.states given }
+            × AreAnswered self.old.topology batch.now.parts.items batch.now.savings (length batch.now.parts.items) self.old.states self.new.states given }
     {
         let mut out = PacketBuf::new();
         let mut next = 0;

@@ -57,7 +57,7 @@ impl Savings {
         requires { index < length self.now }
         ensures { result ≡ part_at self.now index }
     {
-        match self.places {
+        match &self.places {
             Some(places) => places[index],
             None => unreachable!(),
         }
