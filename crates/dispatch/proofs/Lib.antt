@@ -1,3 +1,4 @@
+pub mod AnsweredLemmas
 pub mod ClosedLemmas
 pub mod HeldDeadlines
 pub mod PartLemmas

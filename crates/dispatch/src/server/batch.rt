@@ -1,11 +1,11 @@
 //! Several datagrams at one moment, whose saves share their syncs.
-ghost use Rattle.std.specs.Prelude.{◌≡◌, ◌<◌, ◌≤◌, ◌==◌, ◌&&◌, ◌||◌, ◌+◌, ◌∷◌, ◌++◌, not, ℕ, List, [], Result, Ok, Err, true, length, map, if◌then◌else◌, slice_get, slice_set, IfOk, IfErr, Some};
+ghost use Rattle.std.specs.Prelude.{◌≡◌, ◌<◌, ◌≤◌, ◌==◌, ◌&&◌, ◌||◌, ◌+◌, ◌∷◌, ◌++◌, not, ℕ, List, [], Result, Ok, Err, true, false, length, map, if◌then◌else◌, slice_get, slice_set, IfOk, IfErr, Some};
 ghost use Rattle.types.specs.Delivery.{delivery};
 ghost use Rattle.types.specs.declared.discard.Discard as discard;
 ghost use Rattle.lease_disk.specs.Device.{has_failed, is_in};
 ghost use Rattle.dispatch.specs.Batch.{IsBatch, IsBatchOfLeases, IsWrittenTogether, batch_fault, batch_saves, is_circuit};
 ghost use Rattle.requests.specs.Addressee as who;
-ghost use Rattle.dispatch.specs.Parts.{AreAnswered, AreMade, AreToSettle, IsPart, IsSettledSo, has_named, saved_by, saving_in, savings_of};
+ghost use Rattle.dispatch.specs.Parts.{AreAnswered, AreMade, AreToSettle, IsAnswered, IsPart, IsSettledSo, is_of, has_named, saved_by, saving_in, savings_of};
 ghost use Rattle.batch_saves.specs.Batch.{part_at};
 ghost use Rattle.std.specs.List.{cons_option};
 ghost use Rattle.dispatch.specs.Regions.{HasRegions};
@@ -171,40 +171,58 @@ impl Server {
     {
         let mut batch = self.prepare_all(parts, now);
         batch.savings.save(disk);
-        self.settle_all(&batch, answers);
+        self.answer_all(&batch, answers);
     }
 
-    /// Settles a part of a batch, where this is the place of its save among those of the batch, and returns the place of the next.
+    /// Settles a part of a batch, where this is the place of its save among those of the batch.
     fn settle_part<A: Answers>(
         &mut self,
         circuit: Circuit,
         prepared: &Prepared<'_>,
         savings: &Savings,
-        next: usize,
+        place: usize,
         out: &mut PacketBuf,
         answers: &mut A,
-    ) -> usize
+    )
         requires circuit { circuit < length self.old.topology.circuits }
-        requires place { next + length (cons_option prepared.now.saving []) ≤ length savings.now }
-        requires most { next ≤ 16 }
+        requires place { place + length (cons_option prepared.now.saving []) ≤ length savings.now }
         ensures topology { self.new.topology ≡ self.old.topology }
         ensures others { self.new.states ≡ slice_set self.old.states circuit (state_of self.new.states circuit) }
-        ensures answered { (answer : Result (List ℕ) discard.Discard) × (A.taken answers.new ≡ A.taken answers.old ++ answer ∷ []) × IsSettledSo self.old.topology prepared.now (saved_by prepared.now.saving (part_at savings.now next)) circuit self.old.states self.new.states answer }
-        ensures next { result ≡ next + length (cons_option prepared.now.saving []) }
+        ensures answered { (answer : Result (List ℕ) discard.Discard) × (A.taken answers.new ≡ A.taken answers.old ++ answer ∷ []) × IsSettledSo self.old.topology prepared.now (saved_by prepared.now.saving (part_at savings.now place)) circuit self.old.states self.new.states answer }
     {
-        let (saved, after) = match prepared.saving {
-            None => (Ok(None), next),
-            Some(_) => (outcome_of(savings.get(next)), next + 1),
-        };
+        let saved = savings.outcome(prepared.saving, place);
         match self.settle(circuit, prepared, saved, out) {
             Ok(()) => answers.reply(out.as_slice()),
             Err(why) => answers.discard(why),
         }
-        after
+    }
+
+    /// Answers a part of a batch, where this is the place of its save among those of the batch.
+    fn answer_part<A: Answers>(
+        &mut self,
+        part: &Part<'_>,
+        savings: &Savings,
+        place: usize,
+        out: &mut PacketBuf,
+        answers: &mut A,
+    )
+        requires exists { IfOk part.now (λ one. one.0 < length self.old.topology.circuits) }
+        requires place { place + length (cons_option (saving_in (Some part.now)) []) ≤ length savings.now }
+        ensures topology { self.new.topology ≡ self.old.topology }
+        ensures size { length self.new.states ≡ length self.old.states }
+        ensures keeps { (k : ℕ) → is_of k (Some part.now) ≡ false → state_of self.new.states k ≡ state_of self.old.states k }
+        ensures answered { (answer : Result (List ℕ) discard.Discard) × (A.taken answers.new ≡ A.taken answers.old ++ answer ∷ []) × IsAnswered self.old.topology (part_at savings.now place) self.old.states self.new.states answer part.now }
+    {
+        match part {
+            Ok((circuit, prepared)) => {
+                self.settle_part(*circuit, prepared, savings, place, out, answers);
+            }
+            Err(why) => answers.discard(*why),
+        }
     }
 
     /// Answers each part of a batch, in order, whose saves are done or have failed.
-    fn settle_all<A: Answers>(&mut self, batch: &Batch<'_>, answers: &mut A)
+    fn answer_all<A: Answers>(&mut self, batch: &Batch<'_>, answers: &mut A)
         requires parts { AreToSettle self.old.topology batch.now.parts.items }
         requires most { length batch.now.parts.items ≤ 16 }
         requires savings { length batch.now.savings ≡ length (savings_of batch.now.parts.items) }
@@ -213,26 +231,13 @@ impl Server {
             × AreAnswered self.old.topology batch.now.parts.items batch.now.savings (length batch.now.parts.items) self.old.states self.new.states given }
     {
         let mut out = PacketBuf::new();
-        let mut next = 0;
+        let mut place = 0;
         'parts: for part in batch.parts.iter() {
-            match part {
-                Some(Ok((circuit, prepared))) => {
-                    let (savings, out) = (&batch.savings, &mut out);
-                    next = self.settle_part(*circuit, prepared, savings, next, out, answers);
-                }
-                Some(Err(why)) => answers.discard(*why),
-                None => unreachable!(),
-            }
+            let Some(part) = part else { unreachable!() };
+            self.answer_part(part, &batch.savings, place, &mut out, answers);
+            place = place_after(place, part);
         }
     }
-}
-
-/// What came of a save: the marks of its region, or that it failed.
-fn outcome_of(saving: Saving) -> Result<Option<Marks>, Fault>
-    ensures { result ≡ (if saving.failed == 0 then Ok (Some saving.marks) else Err (record {})) }
-{
-    saving.outcome()?;
-    Ok(Some(saving.marks))
 }
 
 /// What a part has to save, if anything.
@@ -242,5 +247,16 @@ fn saving_of(part: &Part<'_>) -> Option<Saving>
     match part {
         Ok((_, prepared)) => prepared.saving,
         Err(_) => None,
+    }
+}
+
+/// The place of the next save of a batch after a part whose own place this is.
+fn place_after(place: usize, part: &Part<'_>) -> usize
+    requires { place ≤ 16 }
+    ensures { result ≡ place + length (cons_option (saving_in (Some part.now)) []) }
+{
+    match saving_of(part) {
+        None => place,
+        Some(_) => place + 1,
     }
 }

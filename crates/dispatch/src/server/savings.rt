@@ -1,11 +1,11 @@
 //! What the parts of a batch save.
-ghost use Rattle.std.specs.Prelude.{◌≡◌, ◌<◌, ◌++◌, [], length};
+ghost use Rattle.std.specs.Prelude.{◌≡◌, ◌<◌, ◌≤◌, ◌+◌, ◌++◌, [], length};
 ghost use Rattle.std.specs.List.{cons_option};
 ghost use Rattle.batch_saves.specs.Batch.{AreApart, AreReady, part_at};
-ghost use Rattle.dispatch.specs.Parts.{AreSavedTogether};
+ghost use Rattle.dispatch.specs.Parts.{AreSavedTogether, saved_by};
 
 use batch_saves::{MAX_BATCH, Saving, save_many};
-use lease_disk::Disk;
+use lease_disk::{Disk, Fault, Marks};
 use std::marker::Model;
 
 /// The saves of the parts of a batch, in order.
@@ -53,7 +53,7 @@ impl Savings {
         self.count += 1;
     }
 
-    pub(super) fn get(&self, index: usize) -> Saving
+    fn get(&self, index: usize) -> Saving
         requires { index < length self.now }
         ensures { result ≡ part_at self.now index }
     {
@@ -61,6 +61,24 @@ impl Savings {
             Some(places) => places[index],
             None => unreachable!(),
         }
+    }
+
+    /// What came of a part's save, where this is its place: the marks of its region, or that it failed; no marks where the part
+    /// saves nothing.
+    pub(super) fn outcome(
+        &self,
+        saving: Option<Saving>,
+        place: usize,
+    ) -> Result<Option<Marks>, Fault>
+        requires { place + length (cons_option saving []) ≤ length self.now }
+        ensures { result ≡ saved_by saving (part_at self.now place) }
+    {
+        if saving.is_none() {
+            return Ok(None);
+        }
+        let saving = self.get(place);
+        saving.outcome()?;
+        Ok(Some(saving.marks))
     }
 
     /// Saves them all together.
