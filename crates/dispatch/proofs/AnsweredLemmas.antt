@@ -1,5 +1,5 @@
 -- One part of a batch more is answered.
-use Rattle.std.proofs.Common.{◌≡◌, ◌∙◌, ◌+◌, ◌<◌, ◌≤◌, ◌==◌, ◌||◌, ℕ, Bool, true, false, List, [], ◌∷◌, ◌++◌, length, take, set, refl, sym, ap, subst, arith}
+use Rattle.std.proofs.Common.{◌≡◌, ◌∙◌, ◌+◌, ◌<◌, ◌==◌, ℕ, Bool, true, false, List, [], ◌∷◌, ◌++◌, length, take, refl, sym, ap, subst, arith}
 use Rattle.std.specs.Prelude.{Option, Some, None, Result, Ok, Err, slice_get, slice_set}
 use Rattle.std.specs.List.{list_any}
 use Rattle.std.proofs.lemmas.Bool.{eqb-true}
@@ -15,7 +15,7 @@ use Rattle.circuit_server.specs.CircuitServerValue.{OpenCircuitValue}
 use Rattle.circuit_server.specs.Prepared.{IsSettled}
 use Rattle.circuit_server.specs.Ticked.{state_of}
 use Rattle.circuit_server.specs.declared.prepared.Prepared.{Prepared}
-use Rattle.dispatch.specs.Parts.{AreAnswered, AreToSettle, IsAnswered, IsSettledSo, is_of, place_of, saved_by}
+use Rattle.dispatch.specs.Parts.{AreAnswered, AreToSettle, IsAnswered, IsSettledSo, is_of, place_of}
 use Rattle.dispatch.proofs.PartLemmas.{any_more, any_there, get_before, get_last, left_false, not_both, right_false, same_number, size_more}
 
 abbrev Part : Type 0
@@ -27,14 +27,22 @@ States = List (Option OpenCircuitValue)
 from_now : {topology : Topology} {prepared : Prepared} {saved : Result (Option Marks) Fault} {c : ℕ} {old now new : States} {answer : Result (List ℕ) Discard} → state_of now c ≡ state_of old c
     → IsSettledSo topology prepared saved c now new answer → IsSettledSo topology prepared saved c old new answer
 from_now {prepared = prepared} {saved = saved} {c = c} {new = new} same its = record {
-  part = its.part; there = its.there; result = its.result; out = its.out; given = its.given;
+  part = its.part;
+  there = its.there;
+  result = its.result;
+  out = its.out;
+  given = its.given;
   settled = subst (λ state. IsSettled its.part prepared saved state (state_of new c) its.result its.out) same its.settled;
 }
 
 to_new : {topology : Topology} {prepared : Prepared} {saved : Result (Option Marks) Fault} {c : ℕ} {old now new : States} {answer : Result (List ℕ) Discard} → state_of new c ≡ state_of now c
     → IsSettledSo topology prepared saved c old now answer → IsSettledSo topology prepared saved c old new answer
 to_new {prepared = prepared} {saved = saved} {c = c} {old = old} same its = record {
-  part = its.part; there = its.there; result = its.result; out = its.out; given = its.given;
+  part = its.part;
+  there = its.there;
+  result = its.result;
+  out = its.out;
+  given = its.given;
   settled = subst (λ state. IsSettled its.part prepared saved (state_of old c) state its.result its.out) (sym same) its.settled;
 }
 
@@ -69,9 +77,12 @@ module _ (topology : Topology) (parts : List (Option Part)) (savings : List Savi
   each j p less there its true e =
       let last : j ≡ i = grind (arith, e) in
       let same : Some part ≡ Some p = same_Some (Some part) (Some p) (sym here ∙ (ap (slice_get parts) (sym last) ∙ there)) in
-      let at = ap (slice_get (given ++ answer ∷ [])) (last ∙ sym was.count) ∙ get_last given answer in
-      (answer, at, subst (λ n. IsAnswered topology (part_at savings (place_of parts n)) old new answer p) (sym last)
-        (subst (λ x. IsAnswered topology (part_at savings (place_of parts i)) old new answer x) (same_Some part p same) (own part here its)))
+      let at = ap (slice_get (given ++ answer ∷ [])) (last ∙ sym was.count) ∙ get_last given answer in (
+        answer,
+        at,
+        subst (λ n. IsAnswered topology (part_at savings (place_of parts n)) old new answer p) (sym last)
+            (subst (λ x. IsAnswered topology (part_at savings (place_of parts i)) old new answer x) (same_Some part p same) (own part here its)),
+      )
 
   pub answered_more : IsAnswered topology (part_at savings (place_of parts i)) now new answer part → AreAnswered topology parts savings (i + 1) old new (given ++ answer ∷ [])
   answered_more its = record {

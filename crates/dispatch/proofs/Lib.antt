@@ -1,10 +1,13 @@
 pub mod AnsweredLemmas
+pub mod BatchClauses
+pub mod BatchLemmas
 pub mod ClosedLemmas
 pub mod HeldDeadlines
 pub mod PartLemmas
 pub mod ReceivedLemmas
 pub mod RegionLemmas
 pub mod RestartLemmas
+pub mod SaverLemmas
 pub mod SavingLemmas
 pub mod ServerLemmas
 pub mod TickLemmas

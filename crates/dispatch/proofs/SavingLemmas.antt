@@ -45,6 +45,39 @@ module _ {A B : Type 0} (f : A → Option B) where
   filter_few [] = omega arith
   filter_few (x ∷ xs) = let few = option_few (f x) (filter_map f xs) (length xs) (filter_few xs) in omega (arith, few)
 
+-- What a list gives at a place: the element that gives it.
+pub record Gives {A B : Type 0} (f : A → Option B) (xs : List A) (n : ℕ) : Type 0 where
+  pub index : ℕ
+  pub x : A
+  pub y : B
+  pub there : slice_get xs index ≡ Some x
+  pub gives : f x ≡ Some y
+  pub place : length (filter_map f (take index xs)) ≡ n
+
+placed_one : {B : Type 0} (o : Option B) (rest part : List B) (y : B) → slice_get rest (length part) ≡ Some y → slice_get (cons_option o rest) (length (cons_option o part)) ≡ Some y
+placed_one None rest part y there = there
+placed_one (Some b) rest part y there = there
+
+module _ {A B : Type 0} (f : A → Option B) where
+  gives_by : (x : A) (xs : List A) → ((n : ℕ) → n < length (filter_map f xs) → Gives f xs n) → (o : Option B) → f x ≡ o → (n : ℕ) → n < length (cons_option o (filter_map f xs)) → Gives f (x ∷ xs) n
+  gives_by x xs later None e n less =
+      let r = later n less in
+      record { index = suc r.index; x = r.x; y = r.y; there = r.there; gives = r.gives; place = ap (λ o. length (cons_option o (filter_map f (take r.index xs)))) e ∙ r.place }
+  gives_by x xs later (Some b) e zero less = record { index = 0; x = x; y = b; there = refl; gives = e; place = refl }
+  gives_by x xs later (Some b) e (suc m) less =
+      let r = later m (omega (arith, less)) in
+      record { index = suc r.index; x = r.x; y = r.y; there = r.there; gives = r.gives; place = ap (λ o. length (cons_option o (filter_map f (take r.index xs)))) e ∙ ap suc r.place }
+
+  pub gives_at : (xs : List A) (n : ℕ) → n < length (filter_map f xs) → Gives f xs n
+  gives_at [] n less = absurd (omega (arith, less))
+  gives_at (x ∷ xs) n less = gives_by x xs (gives_at xs) (f x) refl n less
+
+  -- and at the place of an element is what it gives
+  pub placed : (xs : List A) (j : ℕ) (x : A) (y : B) → slice_get xs j ≡ Some x → f x ≡ Some y → slice_get (filter_map f xs) (length (filter_map f (take j xs))) ≡ Some y
+  placed [] j x y there gives = absurd cc
+  placed (z ∷ xs) zero x y there gives = ap (λ o. slice_get (cons_option o (filter_map f xs)) 0) (ap f (same_Some z x there) ∙ gives)
+  placed (z ∷ xs) (suc j) x y there gives = placed_one (f z) (filter_map f xs) (filter_map f (take j xs)) y (placed xs j x y there gives)
+
 -- the place of the next part's save
 pub place_more : (parts : List (Option (Result (ℕ × Prepared) Discard))) (i : ℕ) (x : Option (Result (ℕ × Prepared) Discard)) → slice_get parts i ≡ Some x → place_of parts (i + 1) ≡ place_of parts i + length (cons_option (saving_in x) [])
 place_more parts i x here =

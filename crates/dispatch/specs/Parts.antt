@@ -1,5 +1,5 @@
 -- What is made of the parts of a batch before anything is saved. Only proofs need this.
-use Rattle.std.specs.Prelude.{◌≡◌, ◌≢◌, ◌⊎◌, ℕ, ◌==◌, ◌<◌, ◌≤◌, Bool, true, false, if◌then◌else◌, List, [], length, take, None, Some, slice_get, slice_set, Option, Result, Ok, Err}
+use Rattle.std.specs.Prelude.{◌≡◌, ◌⊎◌, ℕ, ◌==◌, ◌<◌, ◌≤◌, Bool, true, false, if◌then◌else◌, List, [], length, take, None, Some, slice_get, slice_set, Option, Result, Ok, Err}
 use Rattle.std.specs.List.{filter_map, list_any}
 use Rattle.types.specs.Delivery.{DeliveryValue}
 use Rattle.types.specs.declared.discard.Discard.{Discard}

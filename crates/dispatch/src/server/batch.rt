@@ -169,6 +169,7 @@ impl Server {
         ensures ready { D.tells ≡ true → AreReady (D.device disk.new).region self.new }
         ensures frame { IsWrittenTogether D.tells (batch_saves self.old.topology (map (λ part. delivery part.0 part.1 now part.2.now) parts.now) (books_in self.old)) (D.device disk.old) (D.device disk.new) }
     {
+        let _ = &self.circuits;
         let mut batch = self.prepare_all(parts, now);
         batch.savings.save(disk);
         self.answer_all(&batch, answers);

@@ -1,13 +1,12 @@
-use Rattle.std.proofs.Common.{◌≡◌, ◌∙◌, ◌+◌, ◌<◌, ◌≤◌, ◌++◌, ◌∷◌, ℕ, List, [], length, sym, ap, subst, refl, arith, append_assoc}
+use Rattle.std.proofs.Common.{◌≡◌, ◌∙◌, ◌+◌, ◌<◌, ◌++◌, ◌∷◌, ℕ, List, [], length, sym, ap, subst, arith, append_assoc}
 use Rattle.std.specs.Prelude.{Option, Some, None, Result, Ok, Err, IfOk, slice_get, slice_index_or}
 use Rattle.std.specs.List.{cons_option}
 use Rattle.std.proofs.lemmas.Option.{same_Some, slice_get-get_or}
 use Rattle.types.specs.declared.discard.Discard.{Discard}
 use Rattle.batch_saves.specs.Batch.{part_at}
-use Rattle.batch_saves.specs.declared.saving.Saving.{Saving}
 use Rattle.config.specs.Topology.{Topology}
 use Rattle.circuit_server.specs.declared.prepared.Prepared.{Prepared}
-use Rattle.dispatch.specs.Parts.{AreAnswered, AreToSettle, IsAnswered, place_of, saving_in, savings_of}
+use Rattle.dispatch.specs.Parts.{AreToSettle, IsAnswered, place_of, saving_in}
 use Rattle.dispatch.proofs.AnsweredLemmas.{answered_more}
 use Rattle.dispatch.proofs.SavingLemmas.{filter_few, place_more, place_within}
 use Rattle.dispatch.proofs.server.Server.answer_all.Goals as goal
@@ -78,7 +77,7 @@ parts-preserved g c =
         before.0 ++ next.answered.0 ∷ [],
         next.answered.1 ∙ ap (λ (xs : List (Result (List ℕ) Discard)). xs ++ next.answered.0 ∷ []) before.1 ∙ append_assoc _ before.0 (next.answered.0 ∷ []),
         answered_more c.args.self.now.topology parts c.args.batch.now.savings i c.args.self.now.states c.parts.self.states c.answer_part.new.self.states before.0 c.in-Some.part there was.settles before.2 next.size next.keeps next.answered.0
-          (subst (λ (t : Topology). IsAnswered t (part_at c.args.batch.now.savings (place_of parts i)) c.parts.self.states c.answer_part.new.self.states next.answered.0 c.in-Some.part) was.topology
+            (subst (λ (t : Topology). IsAnswered t (part_at c.args.batch.now.savings (place_of parts i)) c.parts.self.states c.answer_part.new.self.states next.answered.0 c.in-Some.part) was.topology
             (subst (λ n. IsAnswered c.parts.self.topology (part_at c.args.batch.now.savings n) c.parts.self.states c.answer_part.new.self.states next.answered.0 c.in-Some.part) was.place next.answered.2)),
       );
     }
