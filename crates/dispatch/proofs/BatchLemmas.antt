@@ -80,11 +80,11 @@ effective_is f most = by (nat_le f 6) refl where
   by true e = ap (λ b. if b then f else 0) e
   by false e = absurd (grind (arith, e, most))
 
-circuit_is : (c : ℕ) (r : Result ℕ Discard) → is_circuit c r ≡ true → r ≡ Ok c
+pub circuit_is : (c : ℕ) (r : Result ℕ Discard) → is_circuit c r ≡ true → r ≡ Ok c
 circuit_is c (Ok k) is = ap Ok (eqb-true k c is)
 circuit_is c (Err why) is = absurd cc
 
-get_set : {A : Type 0} (xs : List A) (c : ℕ) (x y : A) → slice_get xs c ≡ Some x → slice_get (slice_set xs c y) c ≡ Some y
+pub get_set : {A : Type 0} (xs : List A) (c : ℕ) (x y : A) → slice_get xs c ≡ Some x → slice_get (slice_set xs c y) c ≡ Some y
 get_set [] c x y there = absurd cc
 get_set (z ∷ xs) zero x y there = refl
 get_set (z ∷ xs) (suc c) x y there = get_set xs c x y there
@@ -95,7 +95,7 @@ first_from f x xs later true e any = (0, x, refl, e, refl)
 first_from f x xs later false e any = let one = later any in (suc one.0, one.1, one.2, one.3, ap (λ b. b || list_any f (take one.0 xs)) e ∙ one.4)
 
 -- the first of a list for which it holds
-first_there : {A : Type 0} (f : A → Bool) (xs : List A) → list_any f xs ≡ true → (j : ℕ) × (y : A) × (slice_get xs j ≡ Some y) × (f y ≡ true) × (list_any f (take j xs) ≡ false)
+pub first_there : {A : Type 0} (f : A → Bool) (xs : List A) → list_any f xs ≡ true → (j : ℕ) × (y : A) × (slice_get xs j ≡ Some y) × (f y ≡ true) × (list_any f (take j xs) ≡ false)
 first_there f [] any = absurd cc
 first_there f (x ∷ xs) any = first_from f x xs (first_there f xs) (f x) refl any
 

@@ -3,6 +3,7 @@ pub mod BatchClauses
 pub mod BatchLemmas
 pub mod ClosedLemmas
 pub mod HeldDeadlines
+pub mod OneByOne
 pub mod PartLemmas
 pub mod ReceivedLemmas
 pub mod RegionLemmas
