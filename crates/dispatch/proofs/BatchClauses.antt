@@ -49,6 +49,14 @@ module _ {B : Type 0} (f : CircuitServerValue → B) (s : ServerValue) where
         let all = size_with s.topology.circuits s.states in
         slice_get_past (map f (circuits_in s)) c (grind (arith, e, size, all))
 
+-- What the clauses of a batch say.
+pub record IsReceivedBatch (tells : Bool) (ds : List DeliveryValue) (given : List (Result (List ℕ) Discard)) (s later_s : ServerValue) (was later : Device) : Type 0 where
+  pub answers : IsBatch s.topology ds (has_failed was later) (books_in s) (books_in later_s) given
+  pub frame : IsWrittenTogether tells (batch_saves s.topology ds (books_in s)) was later
+  pub fails : tells ≡ true → (r : ℕ) → has_failed was later r ≡ (is_in (batch_saves s.topology ds (books_in s)) r && not (batch_fault was.fuse (batch_saves s.topology ds (books_in s)) r == 0))
+  pub leases : tells ≡ true → IsBatchOfLeases s.topology ds (batch_fault was.fuse (batch_saves s.topology ds (books_in s))) (leases_in was.region s) (leases_in later.region later_s)
+  pub ready : tells ≡ true → AreReady later.region later_s
+
 -- ---- before anything is saved
 
 exist : (s : ServerValue) (device : Device) → HasRegions s.topology.circuits device.count → (c : ℕ) (part : CircuitPart) → slice_get s.topology.circuits c ≡ Some part → part.region < device.count
@@ -90,34 +98,27 @@ module _ (s : ServerValue) (ds : List DeliveryValue) (i : ℕ) (named : List ℕ
     faults_are : (r : ℕ) → batch_fault was.fuse (batch_saves s.topology ds (books_in s)) r ≡ first_of (effective 6 (was.fuse r)) (shared_fault (fuses_of was (savings_of parts)))
     faults_are r = ap (λ regions. batch_fault was.fuse regions r) regions_are ∙ ap (λ fuses. first_of (effective 6 (was.fuse r)) (shared_fault fuses)) (map_twice was.fuse (savings_of parts))
 
-    pub clause_answers : IsBatch s.topology ds (has_failed was later) (books_in s) (books_in later_s) given
-    clause_answers =
-        batch_answered s.topology ds i named s.states middle later_s.states parts whole made sound savings tells was later saved given ended (ready_in tells s was size ready)
-        (books_in s) (books_in later_s) (shown_in book_of s size) (λ c part there. shown_in book_of later_s later_size c part (there_later c part there)) (both_past book_of book_of)
-
-    pub clause_frame : IsWrittenTogether tells (batch_saves s.topology ds (books_in s)) was later
-    clause_frame =
-        subst (λ regions. IsWrittenTogether tells regions was later) (sym regions_are)
-        (batch_written s.topology ds i named s.states middle later_s.states parts whole made sound savings tells was later saved given ended (ready_in tells s was size ready))
-
-    module _ (told : tells ≡ true) where
-      pub clause_fails : (r : ℕ) → has_failed was later r ≡ (is_in (batch_saves s.topology ds (books_in s)) r && not (batch_fault was.fuse (batch_saves s.topology ds (books_in s)) r == 0))
-      clause_fails r =
+    pub received_batch : IsReceivedBatch tells ds given s later_s was later
+    received_batch = record {
+      answers =
+          batch_answered s.topology ds i named s.states middle later_s.states parts whole made sound savings tells was later saved given ended (ready_in tells s was size ready)
+          (books_in s) (books_in later_s) (shown_in book_of s size) (λ c part there. shown_in book_of later_s later_size c part (there_later c part there)) (both_past book_of book_of);
+      frame =
+          subst (λ regions. IsWrittenTogether tells regions was later) (sym regions_are)
+          (batch_written s.topology ds i named s.states middle later_s.states parts whole made sound savings tells was later saved given ended (ready_in tells s was size ready));
+      fails = λ told r.
           batch_failed s.topology ds i named s.states middle later_s.states parts whole made sound savings tells was later saved given ended (ready_in tells s was size ready) told
           (batch_fault was.fuse (batch_saves s.topology ds (books_in s))) faults_are r
-          ∙ ap (λ regions. is_in regions r && not (batch_fault was.fuse (batch_saves s.topology ds (books_in s)) r == 0)) (sym regions_are)
-
-      pub clause_leases : IsBatchOfLeases s.topology ds (batch_fault was.fuse (batch_saves s.topology ds (books_in s))) (leases_in was.region s) (leases_in later.region later_s)
-      clause_leases =
+          ∙ ap (λ regions. is_in regions r && not (batch_fault was.fuse (batch_saves s.topology ds (books_in s)) r == 0)) (sym regions_are);
+      leases = λ told.
           batch_leased s.topology ds i named s.states middle later_s.states parts whole made sound savings tells was later saved given ended (ready_in tells s was size ready) told
           (batch_fault was.fuse (batch_saves s.topology ds (books_in s))) faults_are (leases_in was.region s) (leases_in later.region later_s)
-          (shown_in (leases_of was.region) s size) (λ c part there. shown_in (leases_of later.region) later_s later_size c part (there_later c part there)) (both_past (leases_of was.region) (leases_of later.region))
-
-      pub clause_ready : AreReady later.region later_s
-      clause_ready = λ k d inside.
+          (shown_in (leases_of was.region) s size) (λ c part there. shown_in (leases_of later.region) later_s later_size c part (there_later c part there)) (both_past (leases_of was.region) (leases_of later.region));
+      ready = λ told k d inside.
           let count = size_with later_s.topology.circuits later_s.states in
           let one = there_is later_s.topology.circuits k (omega (arith, inside, count)) in
           let there = sym (ap (λ t. slice_get t.circuits k) same) ∙ one.1 in
           subst (IsReady later.region) (sym (get_or_from_slice_get (circuits_in later_s) k (server one.0 (state_of later_s.states k)) d (there_in later_s later_size k one.0 one.1)))
           (batch_ready s.topology ds i named s.states middle later_s.states parts whole made sound savings tells was later saved given ended (ready_in tells s was size ready) told
-          (batch_fault was.fuse (batch_saves s.topology ds (books_in s))) faults_are k one.0 there)
+          (batch_fault was.fuse (batch_saves s.topology ds (books_in s))) faults_are k one.0 there);
+    }

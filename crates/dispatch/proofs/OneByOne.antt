@@ -1,9 +1,7 @@
 -- A batch of parts of different circuits is its parts one after the other.
-use Rattle.std.proofs.Common.{◌≡◌, ◌∙◌, ◌+◌, ◌<◌, ◌≤◌, ◌==◌, ◌||◌, nat_lt, ℕ, zero, suc, Bool, true, false, List, [], ◌∷◌, length, set, take, refl, sym, ap, subst, arith}
+use Rattle.std.proofs.Common.{◌≡◌, ◌∙◌, ◌≤◌, ◌==◌, ℕ, zero, suc, Bool, true, false, List, [], ◌∷◌, length, take, refl, sym, ap, arith}
 use Rattle.std.specs.Prelude.{Option, Some, None, Result, Ok, Err, slice_get, slice_set, if◌then◌else◌}
-use Rattle.std.specs.List.{list_any}
-use Rattle.std.proofs.lemmas.Bool.{eqb-true}
-use Rattle.std.proofs.lemmas.Option.{none-some, same_Some, slice_get_past, slice_get_within}
+use Rattle.std.proofs.lemmas.Option.{same_Some, slice_get_past}
 use Rattle.types.specs.Delivery.{DeliveryValue}
 use Rattle.types.specs.declared.discard.Discard.{Discard}
 use Rattle.types.specs.declared.discard.Discard.TheVariants.{BatchTwice}
@@ -12,9 +10,9 @@ use Rattle.config.specs.Topology.{Topology}
 use Rattle.requests.specs.Addressee.{addressee}
 use Rattle.circuit_server.specs.Server.{Book}
 use Rattle.circuit_server.specs.Answered.{answered}
-use Rattle.dispatch.specs.Batch.{IsBatch, comes_again, is_circuit, is_named, part_received}
+use Rattle.dispatch.specs.Batch.{IsBatch, comes_again, is_circuit, is_named}
 use Rattle.dispatch.specs.OneByOne.{AreOfOthers, answers_to, books_after}
-use Rattle.dispatch.specs.Received.{Received, addressee_answered, circuit_answered, drop_all, received}
+use Rattle.dispatch.specs.Received.{addressee_answered, circuit_answered, drop_all, received}
 use Rattle.dispatch.proofs.BatchLemmas.{circuit_is, first_there, get_set}
 use Rattle.dispatch.proofs.PartLemmas.{left_false, not_both, right_false, same_number}
 
@@ -90,7 +88,7 @@ module _ (topology : Topology) (fails : ℕ → Bool) where
   answer_at (e ∷ ds) books apart (suc j) d there =
       answer_at ds (received topology e fails books).books (later_apart e ds apart) j d there
       ∙ ap Some (own_answer d (received topology e fails books).books books (addressee topology d)
-        (λ c found. elsewhere e books c (addressee topology e) (left_false (is_circuit c (addressee topology e)) (is_named topology (take j ds) c) (apart (suc j) c d there found))))
+      (λ c found. elsewhere e books c (addressee topology e) (left_false (is_circuit c (addressee topology e)) (is_named topology (take j ds) c) (apart (suc j) c d there found))))
 
   answers_past : (ds : List DeliveryValue) (books : List (Option Book)) → length (answers_to topology fails ds books) ≡ length ds
   answers_past [] books = refl
@@ -120,7 +118,7 @@ module _ (topology : Topology) (fails : ℕ → Bool) where
   book_at (e ∷ ds) books apart (suc j) c d there found =
       book_at ds (received topology e fails books).books (later_apart e ds apart) j c d there found
       ∙ own_book d (received topology e fails books).books books c found
-        (elsewhere e books c (addressee topology e) (left_false (is_circuit c (addressee topology e)) (is_named topology (take j ds) c) (apart (suc j) c d there found)))
+      (elsewhere e books c (addressee topology e) (left_false (is_circuit c (addressee topology e)) (is_named topology (take j ds) c) (apart (suc j) c d there found)))
 
   -- ---- a batch
 
