@@ -23,7 +23,8 @@ use Rattle.config.specs.CircuitPart.{CircuitPart, pool4_of, pool6_of}
 use Rattle.bindings_v4.specs.Book4.{Book4, book4_at}
 use Rattle.bindings_v4.specs.Kept4 as kept4
 use Rattle.bindings_v4.specs.IsBook4.{IsBook4}
-use Rattle.bindings_v4.specs.Table4.{Decision, answer4}
+use Rattle.slots.specs.Row.{Decision}
+use Rattle.bindings_v4.specs.Table4.{answer4}
 use Rattle.bindings_v6.specs.Book6.{Book6, book6_at}
 use Rattle.bindings_v6.specs.IsBook6.{IsBook6}
 use Rattle.bindings_v6.specs.Table6.{answer6}

@@ -25,7 +25,8 @@ use Rattle.v6_options.specs.Codes.{RELAY_MESSAGE}
 use Rattle.v6_options.specs.Spelling.{look_up}
 use Rattle.config.specs.CircuitPart.{CircuitPart, pool4_of, pool6_of}
 use Rattle.config.specs.Topology.{has_id}
-use Rattle.bindings_v4.specs.Table4.{Decision, answer4}
+use Rattle.slots.specs.Row.{Decision}
+use Rattle.bindings_v4.specs.Table4.{answer4}
 use Rattle.bindings_v6.specs.Table6 as table6
 use Rattle.wire.specs.Padding.{padded_to}
 use Rattle.replies.specs.Reply4.{reply4_bytes, reply_options, reply_header}
