@@ -25,7 +25,7 @@ use Rattle.slots.specs.Row.{Decision, is_kept}
 use Rattle.bindings_v4.specs.Table4.{answer4, discover_row as row, selecting_row, where_is, with_change}
 use Rattle.config.specs.CircuitPart.{pool4_of}
 use Rattle.requests.specs.Request4.{request4_in}
-use Rattle.circuit_server.specs.Server.{Book, Served, book_at, served, drop, decision4_served, message4_served, request4_served}
+use Rattle.circuit_server.specs.Server.{Book, Served, book_at, served, drop, decision_served, message4_served, request4_served}
 use Rattle.relay.specs.SentFrame.{SentFrame}
 use Rattle.relay.specs.Up4.{relayed_up4}
 use Rattle.relay.specs.Down4.{reply_of, relayed_down4}
@@ -110,10 +110,10 @@ module _ (setup : Setup) (now fault : ℕ) (bytes : List ℕ) (clock : ℕ) (off
   decided_by : (request : Request4) (d : Decision Reply4 Book4) {m : MessageValue} → message_of bytes ≡ Ok m → request4_in m ≡ Ok request
       → book_at now (offers_at clock offers) ≡ b → answer4 (pool4_of setup.part) b.clock b.four request ≡ d
       → alone_step setup (Up 0 now fault) (with_up bytes clock offers)
-      ≡ served_step setup fault (with_up bytes clock offers) V4 (decision4_served setup.part m b d)
+      ≡ served_step setup fault (with_up bytes clock offers) V4 (decision_served (reply4_bytes setup.part m) (λ four. record b { four = four }) d)
   decided_by request d {m} read is_request at is =
-      served_by (decision4_served setup.part m b d) read at
-      (ap (request4_served setup.part m b) is_request ∙ ap (decision4_served setup.part m b) is)
+      let done : Decision Reply4 Book4 → Served = decision_served (reply4_bytes setup.part m) (λ four. record b { four = four }) in
+      served_by (done d) read at (ap (request4_served setup.part m b) is_request ∙ ap done is)
 
 -- at a moment the book of no offers has the later clock
 none_at : (now clock : ℕ) → book_at now (offers_at clock no_offers) ≡ offers_at (max clock now) no_offers
