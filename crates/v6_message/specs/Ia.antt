@@ -42,11 +42,6 @@ ia_at value options = record {
 abbrev pub ia_of : List ℕ → Option IaValue
 ia_of value = if is_ia value then Some (ia_at value (listed (drop IA_OPTIONS value))) else None
 
--- The same where there is a value at all.
-abbrev pub ia_in : Option (List ℕ) → Option IaValue
-ia_in None = None
-ia_in (Some value) = ia_of value
-
 -- What is known of an IA_NA that was read, by its option's value and its options.
 pub record IsReadIa (value : List ℕ) (options : List (ℕ × List ℕ)) : Type 0 where
   pub long : IA_OPTIONS ≤ length value
