@@ -8,7 +8,7 @@ use Rattle.std.proofs.lemmas.Slice.Eq.{bytes_eq-Decides}
 use Rattle.v4_options.specs.Codes.{REQUESTED_ADDRESS, OPTION_OVERLOAD, MESSAGE_TYPE, SERVER_IDENTIFIER}
 use Rattle.v4_options.specs.Spelling.{look_up}
 use Rattle.v4_message.specs.Layout.{MAGIC_COOKIE}
-use Rattle.v4_message.specs.Header.{part}
+use Rattle.wire.specs.Part.{part}
 use Rattle.v4_message.specs.Spelling.{IsOp, HasKind, AreAllowed, HasCookie, IsEthernet}
 use Rattle.v4_message.specs.Reading.{has_cookie, is_ethernet, may_be_addr, are_allowed, kind_in}
 

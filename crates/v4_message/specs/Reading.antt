@@ -9,7 +9,8 @@ use Rattle.v4_options.specs.Reading.{options_of}
 use Rattle.v4_message.specs.Layout.{MAGIC_COOKIE}
 use Rattle.v4_message.specs.declared.fault.MessageFault.{MessageFault}
 use Rattle.v4_message.specs.declared.fault.MessageFault.TheVariants.{Short, Cookie, Hardware, Options, Kind}
-use Rattle.v4_message.specs.Header.{header_at, part}
+use Rattle.wire.specs.Part.{part}
+use Rattle.v4_message.specs.Header.{header_at}
 use Rattle.v4_message.specs.Spelling.{MessageValue}
 
 -- The cookie stands behind the 236 bytes of the header, and the options from 240 on.

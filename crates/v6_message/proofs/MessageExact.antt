@@ -13,7 +13,8 @@ use Rattle.v6_message.specs.declared.fault.MessageFault.TheVariants.{Short, Cut,
 use Rattle.v6_message.specs.declared.scan.Sender.TheVariants.{Client}
 use Rattle.v6_message.specs.declared.scan.ListFault.{ListFault}
 use Rattle.v6_message.specs.declared.scan.ListFault.TheVariants as list_faults
-use Rattle.v6_message.specs.Layout.{IA_OPTIONS, part}
+use Rattle.wire.specs.Part.{part}
+use Rattle.v6_message.specs.Layout.{IA_OPTIONS}
 use Rattle.v6_message.specs.Lists.{count, first_code, second_code, IsIa, AreFormed}
 use Rattle.v6_message.specs.Reading.{is_formed, is_again, is_ia, fault_of, first_fault}
 use Rattle.v6_options.proofs.Exact.{one_list}

@@ -4,7 +4,8 @@ use Rattle.std.specs.Int.{w16, w32, from_be_bytes, to_be_bytes}
 use Rattle.v6_options.specs.Codes.{IA_ADDRESS, STATUS_CODE}
 use Rattle.v6_options.specs.Reading.{listed}
 use Rattle.v6_options.specs.Spelling.{spelling, look_up, AreOptions}
-use Rattle.v6_message.specs.Layout.{IA_OPTIONS, part}
+use Rattle.wire.specs.Part.{part}
+use Rattle.v6_message.specs.Layout.{IA_OPTIONS}
 use Rattle.v6_message.specs.Lists.{AreLong}
 use Rattle.v6_message.specs.Reading.{are_long, is_ia}
 

@@ -9,7 +9,8 @@ use Rattle.v6_message.specs.declared.fault.MessageFault.TheVariants.{Short, Cut,
 use Rattle.v6_message.specs.declared.scan.Sender.TheVariants.{Client}
 use Rattle.v6_message.specs.declared.scan.ListFault.{ListFault}
 use Rattle.v6_message.specs.declared.scan.ListFault.TheVariants as list
-use Rattle.v6_message.specs.Layout.{MESSAGE_OPTIONS, IA_OPTIONS, part}
+use Rattle.wire.specs.Part.{part}
+use Rattle.v6_message.specs.Layout.{MESSAGE_OPTIONS, IA_OPTIONS}
 use Rattle.v6_message.specs.Lists.{count}
 use Rattle.v6_message.specs.Reading.{first_fault}
 use Rattle.v6_message.specs.Message.{MessageValue, SpellsMessage, IsReadable}
