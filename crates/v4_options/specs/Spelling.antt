@@ -12,7 +12,7 @@ option code value = code ∷ length value ∷ value
 
 -- The bytes of a list are those of its options, concatenated.
 abbrev pub spelling : List (ℕ × List ℕ) → List ℕ
-spelling options = flat_map (λ o. option o.0 o.1) options
+spelling list = flat_map (λ o. option o.0 o.1) list
 
 -- A list without the options of this code.
 abbrev pub without : ℕ → List (ℕ × List ℕ) → List (ℕ × List ℕ)

@@ -12,7 +12,7 @@ option code value = to_be_bytes w16 code ++ (to_be_bytes w16 (length value) ++ v
 
 -- The bytes of a list are those of its options, concatenated.
 abbrev pub spelling : List (ℕ × List ℕ) → List ℕ
-spelling options = flat_map (λ o. option o.0 o.1) options
+spelling list = flat_map (λ o. option o.0 o.1) list
 
 -- Code and length are numbers of two bytes. A code may appear twice.
 abbrev pub AreOptions : List (ℕ × List ℕ) → Type 0
