@@ -5,12 +5,13 @@ use Rattle.std.specs.List.{find, range_with_len, position}
 use Rattle.std.specs.FinMap.{get}
 use Rattle.std.specs.Str.{bytes_eq}
 use Rattle.std.proofs.Math.ListN.{get_or-map}
+use Rattle.std.specs.Option.{option_or}
 use Rattle.slots.specs.declared.holder.Holder.{Holder}
 use Rattle.slots.specs.declared.holder.Holder.TheVariants.{Bound, Offered, Barred}
 use Rattle.slots.specs.Key.{key4_cmp}
 use Rattle.slots.specs.KeyLaws.{key4_is_key}
 use Rattle.slots.specs.Lookup.{until_of, live, is_vacant, is_bound_to, is_offered_to, slot_in, where_vacant, picked_slot}
-use Rattle.slots.specs.Maps.{is_live, names, in_range, address_of, or_else}
+use Rattle.slots.specs.Maps.{is_live, names, in_range, address_of}
 use Rattle.slots.specs.Slots.{bound_to, offered_to, barred_until, leases, bars_of}
 use Rattle.slots.proofs.FreeLemmas.{from, from_or, or_either, inside, IsFreeBySlots, lowest_is, vacant_is, binding_is, offer_is, names_at}
 use Rattle.slots.proofs.ShownLemmas.{live_slots, distinct_live, bound_sort, offered_sort, bars_at}
@@ -23,7 +24,7 @@ use Rattle.bindings_v4.proofs.ShownLemmas.{shown}
 -- the slot for a client
 abbrev pub picked : ℕ → PoolValue → Holders4 → List ℕ → Option ℕ → Option ℕ
 picked t pool ss k wanted =
-    picked_slot t ss (or_else (position (is_bound_to bytes_eq t k) ss) (position (is_offered_to bytes_eq t k) ss)) (slot_in (number4 pool.first) pool.count wanted)
+    picked_slot t ss (option_or (position (is_bound_to bytes_eq t k) ss) (position (is_offered_to bytes_eq t k) ss)) (slot_in (number4 pool.first) pool.count wanted)
 
 -- ---- free addresses
 
@@ -84,15 +85,15 @@ module _ (pool : PoolValue) (t : ℕ) (ss : Holders4) (are : AreSlots pool ss) w
       let offered = position (is_offered_to bytes_eq t k) ss in
       let wish = where_vacant t ss (slot_in a (length ss) wanted) in
       let vacant = position (is_vacant t) ss in
-      ap (λ o. or_else o (or_else (address_of (get b.offers k)) (or_else (where_free pool b wanted) (lowest_free pool b)))) (binding_is key4_is_key t k a ss)
-      ∙ ap (λ o. or_else (from a bound) (or_else o (or_else (where_free pool b wanted) (lowest_free pool b)))) (offer_is key4_is_key t k a ss)
-      ∙ ap (λ o. or_else (from a bound) (or_else (from a offered) (or_else o (lowest_free pool b)))) (wanted_is wanted)
-      ∙ ap (λ o. or_else (from a bound) (or_else (from a offered) (or_else (from a wish) o))) lowest
-      ∙ ap (λ o. or_else (from a bound) (or_else (from a offered) o)) (sym (from_or a wish vacant))
-      ∙ ap (or_else (from a bound)) (sym (from_or a offered (or_else wish vacant)))
-      ∙ sym (from_or a bound (or_else offered (or_else wish vacant)))
-      ∙ ap (from a) (sym (or_either bound offered (or_else wish vacant)))
-      ∙ ap (λ n. from a (picked_slot t ss (or_else bound offered) (slot_in a n wanted))) are.size
+      ap (λ o. option_or o (option_or (address_of (get b.offers k)) (option_or (where_free pool b wanted) (lowest_free pool b)))) (binding_is key4_is_key t k a ss)
+      ∙ ap (λ o. option_or (from a bound) (option_or o (option_or (where_free pool b wanted) (lowest_free pool b)))) (offer_is key4_is_key t k a ss)
+      ∙ ap (λ o. option_or (from a bound) (option_or (from a offered) (option_or o (lowest_free pool b)))) (wanted_is wanted)
+      ∙ ap (λ o. option_or (from a bound) (option_or (from a offered) (option_or (from a wish) o))) lowest
+      ∙ ap (λ o. option_or (from a bound) (option_or (from a offered) o)) (sym (from_or a wish vacant))
+      ∙ ap (option_or (from a bound)) (sym (from_or a offered (option_or wish vacant)))
+      ∙ sym (from_or a bound (option_or offered (option_or wish vacant)))
+      ∙ ap (from a) (sym (or_either bound offered (option_or wish vacant)))
+      ∙ ap (λ n. from a (picked_slot t ss (option_or bound offered) (slot_in a n wanted))) are.size
 
 -- ---- of a book at a clock
 

@@ -4,9 +4,10 @@ use borrow.Author.Tests.{ltb-true}
 use Rattle.std.specs.Prelude.{Option, Some, None, IfSome, is_some}
 use Rattle.std.specs.Ordering.{nat_cmp}
 use Rattle.std.specs.FinMap.{get, get-empty}
+use Rattle.std.specs.Option.{option_map_or}
 use Rattle.slots.specs.Key.{key4_cmp}
 use Rattle.slots.specs.KeyLaws.{key4_is_key}
-use Rattle.slots.specs.Maps.{Lease, is_live, passes, address_of, live_clients}
+use Rattle.slots.specs.Maps.{Lease, is_live, address_of, live_clients}
 use Rattle.slots.proofs.ShownLemmas.{not_true, keep, get-live_clients, get-live_bars}
 use Rattle.bindings_v4.specs.Book4.{Book4, empty_book, book4_at}
 use Rattle.bindings_v4.specs.IsBook4.{Entry, TheBinding, TheOffer, TheBar, Names, IsBook4}
@@ -47,7 +48,7 @@ bar_left : (t until : ℕ) (live : Bool) → is_live t until ≡ live → IfSome
 bar_left t until true is = ltb-true t until is
 bar_left t until false is = tt
 
-pub bar_is_live : (t : ℕ) (o : Option ℕ) → IfSome (cond (passes (is_live t) o) o None) (λ left. t < left)
+pub bar_is_live : (t : ℕ) (o : Option ℕ) → IfSome (cond (option_map_or (is_live t) o false) o None) (λ left. t < left)
 bar_is_live t None = tt
 bar_is_live t (Some until) = bar_left t until (is_live t until) refl
 

@@ -8,9 +8,10 @@ use Rattle.std.specs.FinMap.{get, insert, remove, contains_key, entries, get-ent
 use Rattle.std.specs.FinMap.Entries as entry
 use Rattle.std.specs.Str.{bytes_eq}
 use Rattle.std.proofs.lemmas.Bool.Decides.{nat_tests}
+use Rattle.std.specs.Option.{option_or}
 use Rattle.slots.specs.Key.{key4_cmp}
 use Rattle.slots.specs.KeyLaws.{key4_is_key}
-use Rattle.slots.specs.Maps.{Lease, Clients, names, address_of, or_else}
+use Rattle.slots.specs.Maps.{Lease, Clients, names, address_of}
 use Rattle.slots.proofs.ShownLemmas.{not_true, at, same_is, itself}
 use Rattle.types.specs.Addr.{number4, addr4}
 use Rattle.types.specs.declared.addr.Addr4.{Addr4}
@@ -21,11 +22,13 @@ use Rattle.types.specs.declared.kind4.Kind4.TheVariants.{Discover, Offer, Reques
 use Rattle.types.specs.Pool4.{IsPool4, PoolValue}
 use Rattle.types.specs.declared.request4.Reply4.TheVariants as reply
 use Rattle.types.specs.declared.request4.Request4.{Request4}
+use Rattle.types.specs.declared.request4.Reply4.{Reply4}
 use Rattle.bindings_v4.specs.declared.server4.Server4.{Server4}
 use Rattle.bindings_v4.specs.declared.server4.Server4.TheVariants.{Anybody, This, Another}
 use Rattle.bindings_v4.specs.Book4.{Book4, in_pool, is_free, lowest_free, where_free, pick}
 use Rattle.bindings_v4.specs.IsBook4.{Entry, TheBinding, TheOffer, TheBar, Names, IsBook4, LeavesABook, KeepsOthers, ChangesOffersAlone, GrantsItsOwn, RenewsInTime}
-use Rattle.bindings_v4.specs.Table4.{Change, Unchanged, Offers, Withdraws, Binds, Bars, Frees, with_change, is_kept, Row, replies, drops, grants, discover_row, other_server_row, selecting_row, known_address_row, no_server_row, decline_row, release_row, inform_row, where_is, where_specified, server_of, Lookup, lookup_in, row_of, answer4}
+use Rattle.slots.specs.Row.{Change, Unchanged, Offers, Withdraws, Binds, Bars, Frees, is_kept, Row, replies, drops}
+use Rattle.bindings_v4.specs.Table4.{with_change, grants, discover_row, other_server_row, selecting_row, known_address_row, no_server_row, decline_row, release_row, inform_row, where_is, where_specified, server_of, Lookup, lookup_in, row_of, answer4}
 
 -- ---- maps with one client changed
 
@@ -90,7 +93,7 @@ pub renewed : (pool : PoolValue) (t : ℕ) (m : Request4) → RenewsInTime pool 
 unfolding answer4
 renewed pool t m b address kind server wanted ciaddr inside bound =
     let e = renewed_row pool t (lookup_in pool b m) m address kind server wanted ciaddr inside bound in
-    (ap (λ (r : Row). r.answer) e, ap (λ (r : Row). get (with_change m.key r.change b).bindings m.key) e ∙ bound_after m.key address (t + pool.lease) b)
+    (ap (λ (r : Row Reply4). r.answer) e, ap (λ (r : Row Reply4). get (with_change m.key r.change b).bindings m.key) e ∙ bound_after m.key address (t + pool.lease) b)
 
 -- ---- a book in which a client has one new entry, or none
 
@@ -368,7 +371,8 @@ wanted_free pool b (Some w) a e = by (is_free pool b w) refl e where
   by false is e = absurd cc
 
 where_some : (held asked : Option ℕ) (a : ℕ) → where_is held asked ≡ Some a → held ≡ Some a
-where_some None asked a e = absurd cc
+where_some None None a e = absurd cc
+where_some None (Some n) a e = absurd cc
 where_some (Some h) None a e = absurd cc
 where_some (Some h) (Some n) a e = by (h == n) e where
   by : (r : Bool) → cond r (Some h) None ≡ Some a → Some h ≡ Some a
@@ -388,20 +392,20 @@ module _ (pool : PoolValue) (limits : IsPool4 pool.first pool.count pool.lease) 
   end = t + pool.lease
 
   pick_own : (wanted : Option ℕ) (a : ℕ) → bound ≡ None → pick pool b k wanted ≡ Some a → IsOwn k b a
-  pick_own wanted a none e = by_offer offered refl (ap (λ o. or_else o rest) (sym none) ∙ e) where
+  pick_own wanted a none e = by_offer offered refl (ap (λ o. option_or o rest) (sym none) ∙ e) where
     rest : Option ℕ
-    rest = or_else offered (or_else (where_free pool b wanted) (lowest_free pool b))
+    rest = option_or offered (option_or (where_free pool b wanted) (lowest_free pool b))
 
-    by_wanted : (o : Option ℕ) → where_free pool b wanted ≡ o → or_else o (lowest_free pool b) ≡ Some a → IsOwn k b a
+    by_wanted : (o : Option ℕ) → where_free pool b wanted ≡ o → option_or o (lowest_free pool b) ≡ Some a → IsOwn k b a
     by_wanted None is e x n = absurd (free_nobody pool b a (find_test (is_free pool b) (range_with_len (number4 pool.first) pool.count) a e) x n)
     by_wanted (Some w) is e x n = absurd (free_nobody pool b a (wanted_free pool b wanted a (is ∙ e)) x n)
 
-    by_offer : (o : Option ℕ) → offered ≡ o → or_else o (or_else (where_free pool b wanted) (lowest_free pool b)) ≡ Some a → IsOwn k b a
+    by_offer : (o : Option ℕ) → offered ≡ o → option_or o (option_or (where_free pool b wanted) (lowest_free pool b)) ≡ Some a → IsOwn k b a
     by_offer None is e = by_wanted (where_free pool b wanted) refl e
     by_offer (Some n) is e = own_offered t b book k a (is ∙ e)
 
   -- its change suits the book, and it grants nothing but what is the client's own
-  abbrev RowFits : Row → Type 0
+  abbrev RowFits : Row Reply4 → Type 0
   RowFits row = FitsChange t b book k row.change × ((x : Addr4) → row.answer ≡ Ok (reply.Ack x) → (n : ℕ) × (row ≡ grants n end) × IsOwn k b n)
 
   dropped : (why : Discard) (c : Change) → FitsChange t b book k c → RowFits (drops why c)
@@ -428,9 +432,9 @@ module _ (pool : PoolValue) (limits : IsPool4 pool.first pool.count pool.lease) 
   selected (Some wanted) None own = refused
   selected (Some wanted) (Some a) own = granted a (own a refl)
 
-  held_own : (wanted : Option ℕ) (a : ℕ) → or_else (where_is bound wanted) (where_is offered wanted) ≡ Some a → IsOwn k b a
+  held_own : (wanted : Option ℕ) (a : ℕ) → option_or (where_is bound wanted) (where_is offered wanted) ≡ Some a → IsOwn k b a
   held_own wanted a e = by (where_is bound wanted) refl e where
-    by : (o : Option ℕ) → where_is bound wanted ≡ o → or_else o (where_is offered wanted) ≡ Some a → IsOwn k b a
+    by : (o : Option ℕ) → where_is bound wanted ≡ o → option_or o (where_is offered wanted) ≡ Some a → IsOwn k b a
     by None is e = own_offered t b book k a (where_some offered wanted a e)
     by (Some n) is e = own_bound t b book k a (where_some bound wanted a (is ∙ e))
 
@@ -487,6 +491,6 @@ pub own_granted : (pool : PoolValue) → IsPool4 pool.first pool.count pool.leas
 unfolding answer4
 own_granted pool limits t m b book address e =
     let p = (row_fits pool limits t m b book m.kind (server_of pool m.server)).1 address e in
-    let both : Ok (reply.Ack address) ≡ Ok (reply.Ack (addr4 p.0)) = sym e ∙ ap (λ (r : Row). r.answer) p.1 in
+    let both : Ok (reply.Ack address) ≡ Ok (reply.Ack (addr4 p.0)) = sym e ∙ ap (λ (r : Row Reply4). r.answer) p.1 in
     let same : address ≡ addr4 p.0 = cc in
-    (p.0, same, ap (λ (r : Row). get (with_change m.key r.change b).bindings m.key) p.1 ∙ bound_after m.key p.0 (t + pool.lease) b, p.2)
+    (p.0, same, ap (λ (r : Row Reply4). get (with_change m.key r.change b).bindings m.key) p.1 ∙ bound_after m.key p.0 (t + pool.lease) b, p.2)

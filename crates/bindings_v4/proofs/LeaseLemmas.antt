@@ -4,8 +4,9 @@ use Rattle.std.specs.Prelude.{Option, Some, None, IfSome, ◌==◌, option_map}
 use Rattle.std.specs.FinMap.{get}
 use Rattle.std.specs.Str.{bytes_eq}
 use Rattle.std.proofs.lemmas.Bool.Decides.{nat_tests}
+use Rattle.std.specs.Option.{option_or}
 use Rattle.slots.specs.KeyLaws.{key4_is_key}
-use Rattle.slots.specs.Maps.{Lease, is_live, address_of, or_else}
+use Rattle.slots.specs.Maps.{Lease, is_live, address_of}
 use Rattle.slots.proofs.ShownLemmas.{at, same_is, keep, get-live_clients}
 use Rattle.types.specs.Addr.{number4}
 use Rattle.types.specs.Pool4.{PoolValue}
@@ -17,7 +18,8 @@ use Rattle.bindings_v4.specs.declared.server4.Server4.{Server4}
 use Rattle.bindings_v4.specs.declared.server4.Server4.TheVariants.{Anybody, This, Another}
 use Rattle.bindings_v4.specs.Book4.{Book4, in_pool, book4_at}
 use Rattle.bindings_v4.specs.IsBook4.{IsBook4, KeepsItsLease}
-use Rattle.bindings_v4.specs.Table4.{Change, Unchanged, Offers, Withdraws, Binds, Bars, Frees, with_change, is_kept, replies, grants, discover_row, other_server_row, selecting_row, known_address_row, no_server_row, decline_row, release_row, inform_row, where_is, where_specified, server_of, Lookup, lookup_in, row_of, answer4}
+use Rattle.slots.specs.Row.{Change, Unchanged, Offers, Withdraws, Binds, Bars, Frees, is_kept, replies}
+use Rattle.bindings_v4.specs.Table4.{with_change, grants, discover_row, other_server_row, selecting_row, known_address_row, no_server_row, decline_row, release_row, inform_row, where_is, where_specified, server_of, Lookup, lookup_in, row_of, answer4}
 use Rattle.bindings_v4.proofs.LawLemmas.{kept_apart, bound_after}
 
 -- the address that was named is the one that was found
@@ -91,12 +93,16 @@ module _ (pool : PoolValue) (t : ℕ) (m : Request4) (address : ℕ) where
   informed None = tt
   informed (Some ciaddr) = tt
 
-  held_own : (binding offered wanted : Option ℕ) → binding ≡ Some address → offered ≡ None → (n : ℕ) → or_else (where_is binding wanted) (where_is offered wanted) ≡ Some n → n ≡ address
+  held_own : (binding offered wanted : Option ℕ) → binding ≡ Some address → offered ≡ None → (n : ℕ) → option_or (where_is binding wanted) (where_is offered wanted) ≡ Some n → n ≡ address
   held_own binding offered wanted e none n is = by (where_is binding wanted) refl (is_none ∙ is) where
-    is_none : or_else (where_is binding wanted) None ≡ or_else (where_is binding wanted) (where_is offered wanted)
-    is_none = ap (λ o. or_else (where_is binding wanted) (where_is o wanted)) (sym none)
+    nowhere : (named : Option ℕ) → where_is None named ≡ None
+    nowhere None = refl
+    nowhere (Some n) = refl
 
-    by : (o : Option ℕ) → where_is binding wanted ≡ o → or_else o None ≡ Some n → n ≡ address
+    is_none : option_or (where_is binding wanted) None ≡ option_or (where_is binding wanted) (where_is offered wanted)
+    is_none = ap (option_or (where_is binding wanted)) (sym (ap (λ o. where_is o wanted) none ∙ nowhere wanted))
+
+    by : (o : Option ℕ) → where_is binding wanted ≡ o → option_or o None ≡ Some n → n ≡ address
     by None found is = absurd cc
     by (Some x) found is = (named_own address binding wanted e n (found ∙ is)).same
 

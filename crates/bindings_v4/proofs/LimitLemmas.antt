@@ -17,7 +17,7 @@ use Rattle.bindings_v4.specs.declared.decision4.OfferChange.TheVariants as offer
 use Rattle.bindings_v4.specs.Kept4.{EndsBy}
 use Rattle.bindings_v4.specs.Decision4.{IsOffer, offer_of, keep_of, decision_of}
 use Rattle.bindings_v4.specs.Slots4.{Holders4, PoolSlots, AreSlots, IsOfferWithin, with_offer, with_kept, holder_of}
-use Rattle.bindings_v4.specs.Table4.{Change}
+use Rattle.slots.specs.Row.{Change}
 use Rattle.bindings_v4.proofs.KeptLemmas.{holder_within, never_offered}
 use Rattle.bindings_v4.proofs.RowLemmas.{OfChanges, found, row, of_row}
 

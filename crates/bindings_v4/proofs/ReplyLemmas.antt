@@ -1,7 +1,8 @@
 -- The addresses of replies are numbers as four bytes.
 use Rattle.std.proofs.Common.{◌≡◌, ℕ, ◌+◌, Bool, true, false, cond, eqb, length, refl, subst}
 use Rattle.std.specs.Prelude.{Option, Some, None, Result, Ok, Err, option_map}
-use Rattle.slots.specs.Maps.{or_else}
+use Rattle.std.specs.Option.{option_or}
+
 use Rattle.types.specs.Addr.{number4}
 use Rattle.types.specs.declared.discard.Discard.{Discard}
 use Rattle.types.specs.declared.kind4.Kind4.{Kind4}
@@ -13,7 +14,8 @@ use Rattle.types.specs.declared.request4.Request4.{Request4}
 use Rattle.bindings_v4.specs.declared.server4.Server4.{Server4}
 use Rattle.bindings_v4.specs.declared.server4.Server4.TheVariants.{Anybody, This, Another}
 use Rattle.bindings_v4.specs.Book4.{Book4, in_pool}
-use Rattle.bindings_v4.specs.Table4.{Unchanged, Row, replies, grants, discover_row, other_server_row, selecting_row, known_address_row, no_server_row, decline_row, release_row, inform_row, where_is, where_specified, server_of, Lookup, lookup_in, row_of, answer4}
+use Rattle.slots.specs.Row.{Unchanged, Row, replies}
+use Rattle.bindings_v4.specs.Table4.{grants, discover_row, other_server_row, selecting_row, known_address_row, no_server_row, decline_row, release_row, inform_row, where_is, where_specified, server_of, Lookup, lookup_in, row_of, answer4}
 
 abbrev pub IsWhole : Result Reply4 Discard → Type 0
 IsWhole (Err why) = Unit {0}
@@ -36,7 +38,7 @@ whole_selecting end None held = tt
 whole_selecting end (Some wanted) (Some address) = refl
 whole_selecting end (Some wanted) None = tt
 
-whole_if : (b : Bool) (met other : Row) → IsWhole met.answer → IsWhole other.answer → IsWhole (cond b met other).answer
+whole_if : (b : Bool) (met other : Row Reply4) → IsWhole met.answer → IsWhole other.answer → IsWhole (cond b met other).answer
 whole_if true met other h k = h
 whole_if false met other h k = k
 
@@ -67,7 +69,7 @@ whole_row : (pool : PoolValue) (t : ℕ) (found : Lookup) (m : Request4) (kind :
 whole_row pool t found m Discover server = whole_discover t found.pick found.binding
 whole_row pool t found m Request Another = whole_other found.offer
 whole_row pool t found m Request This =
-    whole_selecting (t + pool.lease) (option_map number4 m.wanted) (or_else (where_is found.binding (option_map number4 m.wanted)) (where_is found.offer (option_map number4 m.wanted)))
+    whole_selecting (t + pool.lease) (option_map number4 m.wanted) (option_or (where_is found.binding (option_map number4 m.wanted)) (where_is found.offer (option_map number4 m.wanted)))
 whole_row pool t found m Request Anybody = whole_no_server pool (t + pool.lease) found.binding (option_map number4 m.wanted) (where_specified m.ciaddr)
 whole_row pool t found m Decline Another = tt
 whole_row pool t found m Decline This = whole_decline t (where_is found.binding (option_map number4 m.wanted))

@@ -4,11 +4,12 @@ use Rattle.std.specs.Prelude.{Option, Some, None, IfSome, ◌==◌, is_some, opt
 use Rattle.std.specs.List.{position}
 use Rattle.std.specs.Str.{bytes_eq}
 use Rattle.std.proofs.lemmas.Bool.Decides.{nat_tests}
+use Rattle.std.specs.Option.{option_or}
 use Rattle.slots.specs.declared.holder.Holder.{Holder}
 use Rattle.slots.specs.declared.holder.Holder.TheVariants.{Bound, Offered, Barred}
 use Rattle.slots.specs.KeyLaws.{key4_is_key}
 use Rattle.slots.specs.Lookup.{live, is_bound_to, is_offered_to, slot_in, picked_slot}
-use Rattle.slots.specs.Maps.{Lease, is_live, address_of, or_else}
+use Rattle.slots.specs.Maps.{Lease, is_live, address_of}
 use Rattle.slots.specs.Slots.{bound_to, offered_to, barred_until, with_slot}
 use Rattle.slots.proofs.FitLemmas.{Fit, bound_own, bound_clients, offered_own, offered_clients, fit_bound, fit_offered, fit_picked}
 use Rattle.slots.proofs.FormLemmas.{form_set, form_given}
@@ -24,6 +25,7 @@ use Rattle.types.specs.declared.request4.Reply4.TheVariants as reply
 use Rattle.types.specs.declared.request4.Request4.{Request4}
 use Rattle.types.specs.declared.slot4.Slot4.{Slot4}
 use Rattle.types.specs.declared.slot4.Slot4.TheVariants as slot4
+use Rattle.types.specs.declared.request4.Reply4.{Reply4}
 use Rattle.bindings_v4.specs.declared.decision4.Decision4.{Decision4}
 use Rattle.bindings_v4.specs.declared.decision4.KeptSlot.{KeptSlot}
 use Rattle.bindings_v4.specs.declared.decision4.OfferChange.{OfferChange}
@@ -34,7 +36,8 @@ use Rattle.bindings_v4.specs.Kept4.{keep_in, slot_of, kept_slots}
 use Rattle.bindings_v4.specs.Slots4.{Holders4, PoolSlots, book_of_slots, book_of, AreSlots, with_offer, holder_of, with_kept, with_decision}
 use Rattle.bindings_v4.specs.declared.server4.Server4.{Server4}
 use Rattle.bindings_v4.specs.declared.server4.Server4.TheVariants.{Anybody, This, Another}
-use Rattle.bindings_v4.specs.Table4.{Change, Unchanged, Offers, Withdraws, Binds, Bars, Frees, with_change, is_kept, Row, replies, grants, discover_row, other_server_row, selecting_row, known_address_row, no_server_row, decline_row, release_row, inform_row, where_is, where_specified, server_of, Lookup, lookup_in, row_of, answer4}
+use Rattle.slots.specs.Row.{Change, Unchanged, Offers, Withdraws, Binds, Bars, Frees, is_kept, Row, replies}
+use Rattle.bindings_v4.specs.Table4.{with_change, grants, discover_row, other_server_row, selecting_row, known_address_row, no_server_row, decline_row, release_row, inform_row, where_is, where_specified, server_of, Lookup, lookup_in, row_of, answer4}
 use Rattle.bindings_v4.proofs.FreeLemmas.{picked, pick_is, bound_is, offered_is}
 use Rattle.bindings_v4.proofs.KeptLemmas.{form4}
 use Rattle.bindings_v4.proofs.ShownLemmas.{shown}
@@ -176,7 +179,8 @@ abbrev IsOf : ℕ → Option ℕ → Option ℕ → Type 0
 IsOf a found o = (address : ℕ) → o ≡ Some address → (i : ℕ) × (address ≡ a + i) × (found ≡ Some i)
 
 named_is : (a : ℕ) (found named : Option ℕ) → IsOf a found (where_is (from a found) named)
-named_is a None named address e = absurd cc
+named_is a None None address e = absurd cc
+named_is a None (Some n) address e = absurd cc
 named_is a (Some i) None address e = absurd cc
 named_is a (Some i) (Some n) address e = by (a + i == n) e where
   by : (b : Bool) → cond b (Some (a + i)) None ≡ Some address → (j : ℕ) × (address ≡ a + j) × (Some i ≡ Some j)
@@ -203,14 +207,14 @@ module _ (v : PoolSlots) (t : ℕ) (k : List ℕ) (are : AreSlots v.pool v.slots
     pub frees : (i : ℕ) → bound ≡ Some i → P (Frees (a + i))
 
   -- whom the client's slot is
-  held_fits : (i : ℕ) → or_else bound offered ≡ Some i → Fit key4_is_key t k v.slots i
+  held_fits : (i : ℕ) → option_or bound offered ≡ Some i → Fit key4_is_key t k v.slots i
   held_fits i e = by bound refl e where
-    by : (o : Option ℕ) → bound ≡ o → or_else o offered ≡ Some i → Fit key4_is_key t k v.slots i
+    by : (o : Option ℕ) → bound ≡ o → option_or o offered ≡ Some i → Fit key4_is_key t k v.slots i
     by None is e = fit_offered key4_is_key t k v.slots i e
     by (Some j) is e = fit_bound key4_is_key t k v.slots i (is ∙ e)
 
   fit_pick : (wanted : Option ℕ) (i : ℕ) → picked t v.pool v.slots k wanted ≡ Some i → Fit key4_is_key t k v.slots i
-  fit_pick wanted i e = fit_picked key4_is_key t a k v.slots (or_else bound offered) wanted i held_fits (ap (λ n. picked_slot t v.slots (or_else bound offered) (slot_in a n wanted)) are.size ∙ e)
+  fit_pick wanted i e = fit_picked key4_is_key t a k v.slots (option_or bound offered) wanted i held_fits (ap (λ n. picked_slot t v.slots (option_or bound offered) (slot_in a n wanted)) are.size ∙ e)
 
   -- what is looked up, by slots
   abbrev by_slots : Option ℕ → Lookup
@@ -238,9 +242,9 @@ module _ (v : PoolSlots) (t : ℕ) (k : List ℕ) (are : AreSlots v.pool v.slots
     selected (Some wanted) None is = of.unchanged
     selected (Some wanted) (Some address) is = is address refl
 
-    held_is : (wanted : Option ℕ) (address : ℕ) → or_else (where_is (from a bound) wanted) (where_is (from a offered) wanted) ≡ Some address → P (Binds address (t + v.pool.lease))
+    held_is : (wanted : Option ℕ) (address : ℕ) → option_or (where_is (from a bound) wanted) (where_is (from a offered) wanted) ≡ Some address → P (Binds address (t + v.pool.lease))
     held_is wanted address e = by (where_is (from a bound) wanted) refl e where
-      by : (o : Option ℕ) → where_is (from a bound) wanted ≡ o → or_else o (where_is (from a offered) wanted) ≡ Some address → P (Binds address (t + v.pool.lease))
+      by : (o : Option ℕ) → where_is (from a bound) wanted ≡ o → option_or o (where_is (from a offered) wanted) ≡ Some address → P (Binds address (t + v.pool.lease))
       by None is e = let p = named_is a offered wanted address e in subst (λ x. P (Binds x (t + v.pool.lease))) (sym p.1) (offered_granted p.0 p.2)
       by (Some x) is e = let p = named_is a bound wanted address (is ∙ e) in subst (λ x. P (Binds x (t + v.pool.lease))) (sym p.1) (bound_granted p.0 p.2)
 
@@ -365,7 +369,7 @@ module _ (v : PoolSlots) (t : ℕ) (m : Request4) (are : AreSlots v.pool v.slots
       let wanted = option_map number4 m.wanted in
       λ i. record { binding = bound_is v t m.key are i; offer = offered_is v t m.key are i; pick = pick_is v t m.key wanted are i }
 
-  abbrev pub row : PoolValue → Lookup → Row
+  abbrev pub row : PoolValue → Lookup → Row Reply4
   row pool f = row_of pool t f m m.kind (server_of pool m.server)
 
   -- it holds of the change that the message calls for

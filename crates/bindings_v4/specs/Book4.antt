@@ -1,10 +1,11 @@
 -- The book of one circuit's DHCPv4 leases (RFC 2131, section 3.1): who has which address, and until when.
 -- Moments are in seconds.
-use Rattle.std.specs.Prelude.{ℕ, Bool, not, ◌&&◌, ◌||◌, List, Option, Some, None, if◌then◌else◌}
+use Rattle.std.specs.Prelude.{ℕ, Bool, not, ◌&&◌, ◌||◌, List, Option, None, if◌then◌else◌, false}
 use Rattle.std.specs.List.{find, range_with_len}
 use Rattle.std.specs.FinMap.{empty, get, contains_key}
+use Rattle.std.specs.Option.{option_or, option_map_or}
 use Rattle.slots.specs.Key.{key4_cmp}
-use Rattle.slots.specs.Maps.{Clients, Bars, live_clients, live_bars, names, in_range, address_of, or_else}
+use Rattle.slots.specs.Maps.{Clients, Bars, live_clients, live_bars, names, in_range, address_of}
 use Rattle.types.specs.Addr.{number4}
 use Rattle.types.specs.Pool4.{PoolValue}
 
@@ -36,11 +37,10 @@ abbrev pub lowest_free : PoolValue → Book4 → Option ℕ
 lowest_free pool b = find (is_free pool b) (range_with_len (number4 pool.first) pool.count)
 
 abbrev pub where_free : PoolValue → Book4 → Option ℕ → Option ℕ
-where_free pool b None = None
-where_free pool b (Some address) = if is_free pool b address then Some address else None
+where_free pool b wanted = if option_map_or (is_free pool b) wanted false then wanted else None
 
 -- The address for a client: its binding, its offer, the one that it asks for where that is free, the
 -- lowest free one (RFC 2131, section 4.3.1).
 abbrev pub pick : PoolValue → Book4 → List ℕ → Option ℕ → Option ℕ
 pick pool b client wanted =
-    or_else (address_of (get b.bindings client)) (or_else (address_of (get b.offers client)) (or_else (where_free pool b wanted) (lowest_free pool b)))
+    option_or (address_of (get b.bindings client)) (option_or (address_of (get b.offers client)) (option_or (where_free pool b wanted) (lowest_free pool b)))

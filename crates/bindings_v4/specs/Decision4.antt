@@ -2,11 +2,12 @@
 -- the disk. Slot i is the pool's address i; `first` is the address of slot 0.
 use Rattle.std.specs.Prelude.{ℕ, ◌+◌, ◌-◌, ◌<◌, ◌≤◌, List, Option, Some, None}
 use Rattle.types.specs.declared.slot4.Slot4.TheVariants as content
+use Rattle.types.specs.declared.request4.Reply4.{Reply4}
 use Rattle.bindings_v4.specs.declared.decision4.Decision4.{Decision4}
 use Rattle.bindings_v4.specs.declared.decision4.KeptSlot.{KeptSlot}
 use Rattle.bindings_v4.specs.declared.decision4.OfferChange.{OfferChange}
 use Rattle.bindings_v4.specs.declared.decision4.OfferChange.TheVariants as offer
-use Rattle.bindings_v4.specs.Table4.{Change, Unchanged, Offers, Withdraws, Binds, Bars, Frees, Row}
+use Rattle.slots.specs.Row.{Change, Unchanged, Offers, Withdraws, Binds, Bars, Frees, Row}
 
 abbrev pub offer_of : ℕ → List ℕ → Change → Option OfferChange
 offer_of first client Unchanged = None
@@ -24,7 +25,7 @@ keep_of first client (Binds address until) = Some (record { slot = address - fir
 keep_of first client (Bars address until) = Some (record { slot = address - first; content = content.Barred until })
 keep_of first client (Frees address) = Some (record { slot = address - first; content = content.Free })
 
-abbrev pub decision_of : ℕ → ℕ → List ℕ → Row → Decision4
+abbrev pub decision_of : ℕ → ℕ → List ℕ → Row Reply4 → Decision4
 decision_of first clock client row =
     record { clock = clock; answer = row.answer; offer = offer_of first client row.change; keep = keep_of first client row.change }
 

@@ -2,15 +2,17 @@
 use Rattle.std.specs.Prelude.{◌≡◌, ℕ, ◌+◌, Option, option_map, IfSome}
 use Rattle.types.specs.Addr.{number4, addr4}
 use Rattle.types.specs.Pool4.{PoolValue}
+use Rattle.types.specs.declared.request4.Reply4.{Reply4}
 use Rattle.bindings_v4.specs.declared.decision4.Decision4.{Decision4}
 use Rattle.bindings_v4.specs.declared.case4.Case4.{Case4}
 use Rattle.bindings_v4.specs.declared.table4.Lookup4.{Lookup4}
 use Rattle.bindings_v4.specs.declared.case4.SlotAddress.{SlotAddress}
 use Rattle.bindings_v4.specs.Decision4.{decision_of}
-use Rattle.bindings_v4.specs.Table4.{Row, Lookup}
+use Rattle.slots.specs.Row.{Row}
+use Rattle.bindings_v4.specs.Table4.{Lookup}
 
 -- a row as a decision, for the client of a case
-abbrev pub decision_in : Case4 → Row → Decision4
+abbrev pub decision_in : Case4 → Row Reply4 → Decision4
 decision_in case row = decision_of (number4 case.pool.first) case.clock case.client row
 
 -- a slot with its address

@@ -1,11 +1,12 @@
 -- What a DHCPv4 client is answered, and what the answer changes in its circuit's book: a table, one row
 -- a line, over what was looked up. The first row that fits decides. All times are in seconds.
-use Rattle.std.specs.Prelude.{ℕ, ◌+◌, Bool, true, false, ◌==◌, List, Option, Some, None, Result, Ok, Err, option_map, if◌then◌else◌}
+use Rattle.std.specs.Prelude.{ℕ, ◌+◌, Bool, true, false, ◌==◌, List, Option, Some, None, option_map, if◌then◌else◌}
 use Rattle.std.specs.FinMap.{get, insert, remove}
-use Rattle.slots.specs.Maps.{address_of, or_else}
+use Rattle.std.specs.Option.{option_eq, option_or}
+use Rattle.slots.specs.Row.{Change, Unchanged, Offers, Withdraws, Binds, Bars, Frees, is_kept, Row, replies, drops, Decision}
+use Rattle.slots.specs.Maps.{address_of}
 use Rattle.types.specs.Addr.{number4, addr4, is_unspecified}
 use Rattle.types.specs.declared.addr.Addr4.{Addr4}
-use Rattle.types.specs.declared.discard.Discard.{Discard}
 use Rattle.types.specs.declared.discard.Discard.TheVariants as reason
 use Rattle.types.specs.declared.kind4.Kind4.{Kind4}
 use Rattle.types.specs.declared.kind4.Kind4.TheVariants.{Discover, Offer, Request, Decline, Ack, Nak, Release, Inform}
@@ -16,20 +17,6 @@ use Rattle.types.specs.declared.request4.Request4.{Request4}
 use Rattle.bindings_v4.specs.declared.server4.Server4.{Server4}
 use Rattle.bindings_v4.specs.declared.server4.Server4.TheVariants.{Anybody, This, Another}
 use Rattle.bindings_v4.specs.Book4.{Book4, in_pool, pick}
-
--- What a row changes of the client's.
-pub data Change : Type 0 where
-  Unchanged : Change
-  -- its one offer is this address, until this moment
-  Offers : ℕ → ℕ → Change
-  -- its offer, which is this address, is gone
-  Withdraws : ℕ → Change
-  -- this address is bound to it until this moment, and no offer is left
-  Binds : ℕ → ℕ → Change
-  -- its binding, which is this address, is gone, and the address is given to nobody until this moment
-  Bars : ℕ → ℕ → Change
-  -- its binding, which is this address, is gone
-  Frees : ℕ → Change
 
 abbrev pub with_change : List ℕ → Change → Book4 → Book4
 with_change client Unchanged b = b
@@ -45,62 +32,42 @@ with_change client (Bars address until) b =
     record b { bindings = remove b.bindings client; bars = insert b.bars address until }
 with_change client (Frees address) b = record b { bindings = remove b.bindings client }
 
--- Offers are in memory only; all else is kept on the disk.
-abbrev pub is_kept : Change → Bool
-is_kept (Binds address until) = true
-is_kept (Bars address until) = true
-is_kept (Frees address) = true
-is_kept change = false
-
-pub record Row : Type 0 where
-  -- a reply, or why there is none
-  pub answer : Result Reply4 Discard
-  pub change : Change
-
-abbrev pub replies : Reply4 → Change → Row
-replies answer change = record { answer = Ok answer; change = change }
-
-abbrev pub drops : Discard → Change → Row
-drops why change = record { answer = Err why; change = change }
-
 -- a DHCPACK of this address, which is leased until then
-abbrev pub grants : ℕ → ℕ → Row
+abbrev pub grants : ℕ → ℕ → Row Reply4
 grants address until = replies (reply.Ack (addr4 address)) (Binds address until)
 
 -- the address that a client has, where it is the one that it names
 abbrev pub where_is : Option ℕ → Option ℕ → Option ℕ
-where_is None named = None
-where_is (Some held) None = None
-where_is (Some held) (Some named) = if held == named then Some held else None
+where_is held named = if option_eq (λ a b. a == b) held named then held else None
 
 -- DHCPDISCOVER (RFC 2131, section 4.3.1), by clock, pick and binding. An offer is held for 60 seconds.
-abbrev pub discover_row : ℕ → Option ℕ → Option ℕ → Row
+abbrev pub discover_row : ℕ → Option ℕ → Option ℕ → Row Reply4
 discover_row t None binding = drops reason.NoAddress Unchanged
 discover_row t (Some address) (Some bound) = replies (reply.Offer (addr4 address)) Unchanged
 discover_row t (Some address) None = replies (reply.Offer (addr4 address)) (Offers address (t + 60))
 
 -- DHCPREQUEST to another server, which the client chose (RFC 2131, section 3.1, step 3), by offer
-abbrev pub other_server_row : Option ℕ → Row
+abbrev pub other_server_row : Option ℕ → Row Reply4
 other_server_row None = drops reason.OtherServer Unchanged
 other_server_row (Some address) = drops reason.OtherServer (Withdraws address)
 
 -- DHCPREQUEST to this server, SELECTING (RFC 2131, section 4.3.2), by the lease's end, option 50, and
 -- the binding or offer that option 50 names
-abbrev pub selecting_row : ℕ → Option ℕ → Option ℕ → Row
+abbrev pub selecting_row : ℕ → Option ℕ → Option ℕ → Row Reply4
 selecting_row end None held = drops reason.NothingToSay Unchanged
 selecting_row end (Some wanted) (Some address) = grants address end
 selecting_row end (Some wanted) None = replies reply.Nak Unchanged
 
 -- a client that names the address that it has, by the lease's end, whether the pool has it, and the
 -- binding
-abbrev pub known_address_row : ℕ → Bool → Option ℕ → ℕ → Row
+abbrev pub known_address_row : ℕ → Bool → Option ℕ → ℕ → Row Reply4
 known_address_row end false binding address = replies reply.Nak Unchanged
 known_address_row end true (Some bound) address = if bound == address then grants bound end else replies reply.Nak Unchanged
 known_address_row end true None address = drops reason.NoRecord Unchanged
 
 -- DHCPREQUEST without option 54 (RFC 2131, section 4.3.2), by option 50 and ciaddr. RENEWING and
 -- REBINDING are judged like INIT-REBOOT.
-abbrev pub no_server_row : PoolValue → ℕ → Option ℕ → Option ℕ → Option ℕ → Row
+abbrev pub no_server_row : PoolValue → ℕ → Option ℕ → Option ℕ → Option ℕ → Row Reply4
 no_server_row pool end binding (Some wanted) (Some ciaddr) = drops reason.NothingToSay Unchanged
 no_server_row pool end binding None None = drops reason.NothingToSay Unchanged
 -- INIT-REBOOT
@@ -110,17 +77,17 @@ no_server_row pool end binding None (Some ciaddr) = known_address_row end (in_po
 
 -- DHCPDECLINE (RFC 2131, section 4.3.3), by clock and the binding that option 50 names. Nobody is given
 -- the address for 3600 seconds.
-abbrev pub decline_row : ℕ → Option ℕ → Row
+abbrev pub decline_row : ℕ → Option ℕ → Row Reply4
 decline_row t (Some bound) = drops reason.NothingToSay (Bars bound (t + 3600))
 decline_row t None = drops reason.NothingToSay Unchanged
 
 -- DHCPRELEASE (RFC 2131, section 4.3.4), by the binding that ciaddr names
-abbrev pub release_row : Option ℕ → Row
+abbrev pub release_row : Option ℕ → Row Reply4
 release_row (Some bound) = drops reason.NothingToSay (Frees bound)
 release_row None = drops reason.NothingToSay Unchanged
 
 -- DHCPINFORM (RFC 2131, section 4.3.5), by ciaddr
-abbrev pub inform_row : Option ℕ → Row
+abbrev pub inform_row : Option ℕ → Row Reply4
 inform_row None = drops reason.NothingToSay Unchanged
 inform_row (Some ciaddr) = replies reply.Inform Unchanged
 
@@ -148,12 +115,12 @@ server_of pool None = Anybody
 server_of pool (Some server) = if number4 server == number4 pool.gateway then This else Another
 
 -- The rows of each message type, by type and server.
-abbrev pub row_of : PoolValue → ℕ → Lookup → Request4 → Kind4 → Server4 → Row
+abbrev pub row_of : PoolValue → ℕ → Lookup → Request4 → Kind4 → Server4 → Row Reply4
 row_of pool t found m Discover server = discover_row t found.pick found.binding
 row_of pool t found m Request Another = other_server_row found.offer
 row_of pool t found m Request This =
     let wanted = option_map number4 m.wanted in
-    selecting_row (t + pool.lease) wanted (or_else (where_is found.binding wanted) (where_is found.offer wanted))
+    selecting_row (t + pool.lease) wanted (option_or (where_is found.binding wanted) (where_is found.offer wanted))
 row_of pool t found m Request Anybody =
     no_server_row pool (t + pool.lease) found.binding (option_map number4 m.wanted) (where_specified m.ciaddr)
 row_of pool t found m Decline Another = drops reason.OtherServer Unchanged
@@ -168,19 +135,11 @@ row_of pool t found m Ack server = drops reason.NotServed Unchanged
 row_of pool t found m Nak server = drops reason.NotServed Unchanged
 
 -- The row of a client's message, by pool, clock and the book at that clock.
-abbrev pub row4 : PoolValue → ℕ → Book4 → Request4 → Row
+abbrev pub row4 : PoolValue → ℕ → Book4 → Request4 → Row Reply4
 row4 pool t b m = row_of pool t (lookup_in pool b m) m m.kind (server_of pool m.server)
 
-pub record Decision : Type 0 where
-  -- a reply, or why there is none
-  pub answer : Result Reply4 Discard
-  -- the book after it
-  pub book : Book4
-  -- whether a slot has to be kept on the disk
-  pub is_kept : Bool
-
 -- The decision on a client's message, by pool, clock and the book at that clock.
-unfoldable pub answer4 : PoolValue → ℕ → Book4 → Request4 → Decision
+unfoldable pub answer4 : PoolValue → ℕ → Book4 → Request4 → Decision Reply4 Book4
 answer4 pool t b m =
     let row = row4 pool t b m in
     record { answer = row.answer; book = with_change m.key row.change b; is_kept = is_kept row.change }

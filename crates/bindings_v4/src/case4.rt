@@ -4,7 +4,8 @@ ghost use Rattle.types.specs.Addr.{number4, addr4};
 ghost use Rattle.types.specs.declared.discard.Discard.TheVariants.{NothingToSay, OtherServer};
 ghost use Rattle.types.specs.declared.request4.Reply4.TheVariants.{Offer};
 ghost use Rattle.bindings_v4.specs.Lookup4.{IsAt, decision_in};
-ghost use Rattle.bindings_v4.specs.Table4.{Unchanged, Offers, Withdraws, Bars, Frees, drops, replies, grants};
+ghost use Rattle.slots.specs.Row.{Unchanged, Offers, Withdraws, Bars, Frees, drops, replies};
+ghost use Rattle.bindings_v4.specs.Table4.{grants};
 
 use crate::decision4::{Decision4, KeptSlot, OfferChange};
 use types::{Addr4, Discard, Key4, Moment, Pool4, Reply4, Slot4};

@@ -4,12 +4,13 @@ use Rattle.std.specs.Prelude.{Option, Some, None, is_some}
 use Rattle.std.specs.List.{find, range_with_len, position}
 use Rattle.std.specs.FinMap.{get}
 use Rattle.std.proofs.Math.ListN.{get_or-map}
+use Rattle.std.specs.Option.{option_or}
 use Rattle.slots.specs.declared.holder.Holder.{Holder}
 use Rattle.slots.specs.declared.holder.Holder.TheVariants.{Bound, Offered, Barred}
 use Rattle.slots.specs.Key.{key6_cmp}
 use Rattle.slots.specs.KeyLaws.{key6_is_key}
 use Rattle.slots.specs.Lookup.{live, is_vacant, is_bound_to, slot_in, where_vacant, picked_slot}
-use Rattle.slots.specs.Maps.{is_live, names, in_range, address_of, or_else}
+use Rattle.slots.specs.Maps.{is_live, names, in_range, address_of}
 use Rattle.slots.specs.Slots.{bound_to, offered_to, barred_until, leases, bars_of}
 use Rattle.slots.proofs.FreeLemmas.{from, from_or, inside, IsFreeBySlots, lowest_is, vacant_is, binding_is, names_at}
 use Rattle.slots.proofs.ShownLemmas.{live_slots, distinct_live, bound_sort, bars_at}
@@ -80,11 +81,11 @@ module _ (pool : Pool6Value) (t : ℕ) (ss : Holders6) (are : AreSlots pool ss) 
       let bound = position (is_bound_to same_key6 t k) ss in
       let wish = where_vacant t ss (slot_in a (length ss) wanted) in
       let vacant = position (is_vacant t) ss in
-      ap (λ o. or_else o (or_else (where_free pool b wanted) (lowest_free pool b))) (binding_is key6_is_key t k a ss)
-      ∙ ap (λ o. or_else (from a bound) (or_else o (lowest_free pool b))) (wanted_is wanted)
-      ∙ ap (λ o. or_else (from a bound) (or_else (from a wish) o)) lowest
-      ∙ ap (or_else (from a bound)) (sym (from_or a wish vacant))
-      ∙ sym (from_or a bound (or_else wish vacant))
+      ap (λ o. option_or o (option_or (where_free pool b wanted) (lowest_free pool b))) (binding_is key6_is_key t k a ss)
+      ∙ ap (λ o. option_or (from a bound) (option_or o (lowest_free pool b))) (wanted_is wanted)
+      ∙ ap (λ o. option_or (from a bound) (option_or (from a wish) o)) lowest
+      ∙ ap (option_or (from a bound)) (sym (from_or a wish vacant))
+      ∙ sym (from_or a bound (option_or wish vacant))
       ∙ ap (λ n. from a (picked_slot t ss bound (slot_in a n wanted))) are.size
 
 -- ---- of a book at a clock

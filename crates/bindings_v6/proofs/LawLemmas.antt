@@ -7,9 +7,10 @@ use Rattle.std.specs.Cmp.{nat_cmp_total}
 use Rattle.std.specs.FinMap.{get, insert, remove, contains_key, entries, get-entries, get-insert, get-remove}
 use Rattle.std.specs.FinMap.Entries as entry
 use Rattle.std.proofs.lemmas.Bool.Decides.{nat_tests}
+use Rattle.std.specs.Option.{option_or}
 use Rattle.slots.specs.Key.{key6_cmp}
 use Rattle.slots.specs.KeyLaws.{key6_is_key}
-use Rattle.slots.specs.Maps.{Lease, Clients, names, address_of, or_else}
+use Rattle.slots.specs.Maps.{Lease, Clients, names, address_of}
 use Rattle.slots.proofs.ShownLemmas.{not_true, at, same_is, itself}
 use Rattle.types.specs.Addr.{number6, addr6}
 use Rattle.types.specs.Key6.{Key6Value, same_key6}
@@ -29,7 +30,8 @@ use Rattle.types.specs.declared.request6.Status6.{Status6}
 use Rattle.types.specs.declared.request6.Status6.TheVariants.{Success, NoAddrsAvail, NoBinding, NotOnLink}
 use Rattle.bindings_v6.specs.Book6.{Book6, in_pool, is_free, lowest_free, where_free, pick}
 use Rattle.bindings_v6.specs.IsBook6.{Entry, TheBinding, TheBar, Names, IsBook6, LeavesABook, KeepsOthers, ChangesNothing, GrantsItsOwn, RenewsInTime}
-use Rattle.bindings_v6.specs.Table6.{Change, Unchanged, Binds, Bars, Frees, with_change, is_kept, Row, replies, drops, refusal, assignment, message_status, grants, others, no_binding, solicit_row, request_row, renew_row, confirm_row, release_row, decline_row, is_off_link, where_listed, first_listed, lookup_in, row_of, is_for_us, row6, answer6}
+use Rattle.slots.specs.Row.{Change, Unchanged, Offers, Withdraws, Binds, Bars, Frees, is_kept, Row, replies, drops}
+use Rattle.bindings_v6.specs.Table6.{with_change, refusal, assignment, message_status, grants, others, no_binding, solicit_row, request_row, renew_row, confirm_row, release_row, decline_row, is_off_link, where_listed, first_listed, lookup_in, row_of, is_for_us, row6, answer6}
 
 -- ---- maps with one client changed
 
@@ -49,6 +51,8 @@ apart_is q k other = by (same_key6 q k) refl where
 
 pub kept_apart : (k q : Key6Value) → same_key6 q k ≡ false → (c : Change) (b : Book6) → get (with_change k c b).bindings q ≡ get b.bindings q
 kept_apart k q apart Unchanged b = refl
+kept_apart k q apart (Offers a u) b = refl
+kept_apart k q apart (Withdraws a) b = refl
 kept_apart k q apart (Binds a u) b = get_insert b.bindings k (at a u) q ∙ ap (λ r. cond r (Some (at a u)) (get b.bindings q)) apart
 kept_apart k q apart (Bars a u) b = get_remove b.bindings k q ∙ ap (λ r. cond r None (get b.bindings q)) apart
 kept_apart k q apart (Frees a) b = get_remove b.bindings k q ∙ ap (λ r. cond r None (get b.bindings q)) apart
@@ -61,6 +65,8 @@ others_stay pool t m b q other = kept_apart m.key q (apart_is q m.key other) (ro
 
 nothing_changed : (k : Key6Value) (c : Change) (b : Book6) → is_kept c ≡ false → with_change k c b ≡ b
 nothing_changed k Unchanged b e = refl
+nothing_changed k (Offers a u) b e = refl
+nothing_changed k (Withdraws a) b e = refl
 nothing_changed k (Binds a u) b e = absurd (not_true (sym e))
 nothing_changed k (Bars a u) b e = absurd (not_true (sym e))
 nothing_changed k (Frees a) b e = absurd (not_true (sym e))
@@ -74,7 +80,7 @@ same_unless_kept pool t m b e = nothing_changed m.key (row6 pool t b m).change b
 pub bound_after : (k : Key6Value) (a u : ℕ) (b : Book6) → get (with_change k (Binds a u) b).bindings k ≡ Some (at a u)
 bound_after k a u b = get_insert b.bindings k (at a u) k ∙ ap (λ r. cond r (Some (at a u)) (get b.bindings k)) (itself key6_is_key k)
 
-abbrev pub OfRow : Pool6Value → ℕ → Book6 → Request6 → Kind6 → Row
+abbrev pub OfRow : Pool6Value → ℕ → Book6 → Request6 → Kind6 → Row Reply6
 OfRow pool t b m kind = row_of pool t (lookup_in pool b m) m.listed.items kind
 
 renewed_kind : (pool : Pool6Value) (t : ℕ) (b : Book6) (m : Request6) (address : ℕ) → (m.kind ≡ Renew) ⊎ (m.kind ≡ Rebind)
@@ -88,7 +94,7 @@ renewed pool t m b address kind ours bound =
     let row : row6 pool t b m ≡ grants (others address m.listed.items) address (t + pool.lease) =
     ap (λ r. cond r (OfRow pool t b m m.kind) (drops reason.OtherServer Unchanged)) ours
     ∙ renewed_kind pool t b m address kind ∙ ap (renew_row (t + pool.lease) m.listed.items) bound in
-    (ap (λ (r : Row). r.answer) row, ap (λ (r : Row). get (with_change m.key r.change b).bindings m.key) row ∙ bound_after m.key address (t + pool.lease) b)
+    (ap (λ (r : Row Reply6). r.answer) row, ap (λ (r : Row Reply6). get (with_change m.key r.change b).bindings m.key) row ∙ bound_after m.key address (t + pool.lease) b)
 
 -- ---- a book in which a client has one new entry, or none
 
@@ -209,12 +215,16 @@ module _ (t : ℕ) (b : Book6) (book : IsBook6 t b) (k : Key6Value) where
 
   abbrev FitsChange : Change → Type 0
   FitsChange Unchanged = Unit {0}
+  FitsChange (Offers a u) = Unit {0}
+  FitsChange (Withdraws a) = Unit {0}
   FitsChange (Binds a u) = IsOwn k b a × (t < u)
   FitsChange (Bars a u) = (address_of (get b.bindings k) ≡ Some a) × (t < u)
   FitsChange (Frees a) = address_of (get b.bindings k) ≡ Some a
 
   change_book : (c : Change) → FitsChange c → IsBook6 t (with_change k c b)
   change_book Unchanged fits = book
+  change_book (Offers a u) fits = book
+  change_book (Withdraws a) fits = book
   change_book (Binds a u) fits =
       with_new t k (NewBinding a u) b (with_change k (Binds a u) b) book (record { bindings = get_insert b.bindings k (at a u); bars = λ x. refl }) fits
   change_book (Bars a u) fits =
@@ -309,16 +319,16 @@ module _ (pool : Pool6Value) (limits : IsPool6 pool.first pool.count pool.lease)
 
   pick_own : (wanted : Option ℕ) (a : ℕ) → pick pool b k wanted ≡ Some a → IsOwn k b a
   pick_own wanted a e = by_bound bound refl e where
-    by_wanted : (o : Option ℕ) → where_free pool b wanted ≡ o → or_else o (lowest_free pool b) ≡ Some a → IsOwn k b a
+    by_wanted : (o : Option ℕ) → where_free pool b wanted ≡ o → option_or o (lowest_free pool b) ≡ Some a → IsOwn k b a
     by_wanted None is e x n = absurd (free_nobody pool b a (find_test (is_free pool b) (range_with_len (number6 pool.first) pool.count) a e) x n)
     by_wanted (Some w) is e x n = absurd (free_nobody pool b a (wanted_free pool b wanted a (is ∙ e)) x n)
 
-    by_bound : (o : Option ℕ) → bound ≡ o → or_else o (or_else (where_free pool b wanted) (lowest_free pool b)) ≡ Some a → IsOwn k b a
+    by_bound : (o : Option ℕ) → bound ≡ o → option_or o (option_or (where_free pool b wanted) (lowest_free pool b)) ≡ Some a → IsOwn k b a
     by_bound None is e = by_wanted (where_free pool b wanted) refl e
     by_bound (Some n) is e = own_bound t b book k a (is ∙ e)
 
   -- its change suits the book, and it grants nothing but what is the client's own
-  abbrev RowFits : Row → Type 0
+  abbrev RowFits : Row Reply6 → Type 0
   RowFits row =
       FitsChange t b book k row.change
       × ((zeroed : List Addr6) (x : ℕ) → row.answer ≡ Ok (assignment Reply zeroed x) → (n : ℕ) × (others : List Addr6) × (row ≡ grants others n end) × IsOwn k b n)
@@ -390,5 +400,5 @@ pub own_granted : (pool : Pool6Value) → IsPool6 pool.first pool.count pool.lea
 unfolding answer6
 own_granted pool limits t m b book zeroed n e =
     let p = (row_fits pool limits t m b book).1 zeroed n e in
-    let same : addr6 n ≡ addr6 p.0 = ap leased (sym e ∙ ap (λ (r : Row). r.answer) p.2) in
-    (p.0, same, ap (λ (r : Row). get (with_change m.key r.change b).bindings m.key) p.2 ∙ bound_after m.key p.0 (t + pool.lease) b, p.3)
+    let same : addr6 n ≡ addr6 p.0 = ap leased (sym e ∙ ap (λ (r : Row Reply6). r.answer) p.2) in
+    (p.0, same, ap (λ (r : Row Reply6). get (with_change m.key r.change b).bindings m.key) p.2 ∙ bound_after m.key p.0 (t + pool.lease) b, p.3)

@@ -15,7 +15,8 @@ use Rattle.types.specs.declared.kind6.Kind6.TheVariants.{Solicit, Request, Confi
 use Rattle.types.specs.declared.request6.Request6.{Request6}
 use Rattle.bindings_v6.specs.Book6.{Book6, pick, book6_at}
 use Rattle.bindings_v6.specs.IsBook6.{KeepsItsLease}
-use Rattle.bindings_v6.specs.Table6.{Change, Unchanged, Binds, Bars, Frees, with_change, is_kept, drops, is_listed, is_off_link, where_listed, first_listed, solicit_row, request_row, renew_row, confirm_row, release_row, decline_row, Lookup, lookup_in, row_of, is_for_us, row6, answer6}
+use Rattle.slots.specs.Row.{Change, Unchanged, Offers, Withdraws, Binds, Bars, Frees, is_kept, drops}
+use Rattle.bindings_v6.specs.Table6.{with_change, is_listed, is_off_link, where_listed, first_listed, solicit_row, request_row, renew_row, confirm_row, release_row, decline_row, Lookup, lookup_in, row_of, is_for_us, row6, answer6}
 use Rattle.bindings_v6.proofs.LawLemmas.{kept_apart, bound_after, OfRow}
 
 module _ (pool : Pool6Value) (t : ℕ) (m : Request6) (address : ℕ) where
@@ -26,6 +27,8 @@ module _ (pool : Pool6Value) (t : ℕ) (m : Request6) (address : ℕ) where
   -- what a change makes of the client's lease of the address
   abbrev Spares : Kind6 → Change → Type 0
   Spares kind Unchanged = Unit {0}
+  Spares kind (Offers a u) = Unit {0}
+  Spares kind (Withdraws a) = Unit {0}
   Spares kind (Binds n until) = (n ≡ address) × (until ≡ t + pool.lease)
   Spares kind (Bars n until) = GivesUp kind
   Spares kind (Frees n) = GivesUp kind
@@ -83,6 +86,8 @@ module _ (pool : Pool6Value) (t : ℕ) (m : Request6) (b : Book6) (client : Key6
 
   own_stays : client ≡ m.key → (c : Change) → Spares pool t m lease.address m.kind c → Stays pool t m client lease b c
   own_stays same Unchanged s = inl (lease.until, inl refl, e)
+  own_stays same (Offers a u) s = inl (lease.until, inl refl, e)
+  own_stays same (Withdraws a) s = inl (lease.until, inl refl, e)
   own_stays same (Binds n until) s =
       inl (until, inr s.1, ap (get (with_change m.key (Binds n until) b).bindings) same ∙ bound_after m.key n until b ∙ ap (λ a. Some (at a until)) s.0)
   own_stays same (Bars n until) s = inr (sym same, refl, s.0, s.1)

@@ -12,7 +12,7 @@ use Rattle.bindings_v6.specs.declared.decision6.KeptSlot.{KeptSlot}
 use Rattle.bindings_v6.specs.Kept6.{EndsBy}
 use Rattle.bindings_v6.specs.Decision6.{keep_of, decision_of}
 use Rattle.bindings_v6.specs.Slots6.{Holders6, PoolSlots, AreSlots, with_kept, holder_of}
-use Rattle.bindings_v6.specs.Table6.{Change}
+use Rattle.slots.specs.Row.{Change}
 use Rattle.bindings_v6.proofs.KeptLemmas.{holder_within, never_offered}
 use Rattle.bindings_v6.proofs.RowLemmas.{OfChanges, found, row, of_row}
 

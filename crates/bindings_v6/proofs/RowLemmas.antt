@@ -25,12 +25,14 @@ use Rattle.types.specs.declared.kind6.Kind6.TheVariants.{Solicit, Request, Confi
 use Rattle.types.specs.declared.request6.Request6.{Request6}
 use Rattle.types.specs.declared.slots.Slot6.{Slot6}
 use Rattle.types.specs.declared.slots.Slot6.TheVariants as slot6
+use Rattle.types.specs.declared.request6.Reply6.{Reply6}
 use Rattle.bindings_v6.specs.declared.decision6.Decision6.{Decision6}
 use Rattle.bindings_v6.specs.Book6.{Book6}
 use Rattle.bindings_v6.specs.Decision6.{keep_of, decision_of}
 use Rattle.bindings_v6.specs.Kept6.{keep_in, slot_of, kept_slots}
 use Rattle.bindings_v6.specs.Slots6.{Holders6, PoolSlots, book_of_slots, book_of, HaveNoOffers, AreSlots, holder_of, with_kept, with_decision}
-use Rattle.bindings_v6.specs.Table6.{Change, Unchanged, Binds, Bars, Frees, with_change, is_kept, Row, drops, solicit_row, request_row, renew_row, confirm_row, release_row, decline_row, first_listed, where_listed, is_off_link, Lookup, lookup_in, row_of, is_for_us, answer6}
+use Rattle.slots.specs.Row.{Change, Unchanged, Offers, Withdraws, Binds, Bars, Frees, is_kept, Row, drops}
+use Rattle.bindings_v6.specs.Table6.{with_change, solicit_row, request_row, renew_row, confirm_row, release_row, decline_row, first_listed, where_listed, is_off_link, Lookup, lookup_in, row_of, is_for_us, answer6}
 use Rattle.bindings_v6.proofs.FreeLemmas.{picked, pick_is, bound_is}
 use Rattle.bindings_v6.proofs.KeptLemmas.{form6}
 use Rattle.bindings_v6.proofs.ShownLemmas.{shown}
@@ -237,11 +239,13 @@ module _ (v : PoolSlots) (t : ℕ) (k : Key6Value) (are : AreSlots v.pool v.slot
 
 kept_is : (first : ℕ) (k : Key6Value) (change : Change) → is_some (keep_of first k change) ≡ is_kept change
 kept_is first k Unchanged = refl
+kept_is first k (Offers a u) = refl
+kept_is first k (Withdraws a) = refl
 kept_is first k (Binds address until) = refl
 kept_is first k (Bars address until) = refl
 kept_is first k (Frees address) = refl
 
-abbrev pub other_server : Row
+abbrev pub other_server : Row Reply6
 other_server = drops reason.OtherServer Unchanged
 
 module _ (v : PoolSlots) (t : ℕ) (m : Request6) (are : AreSlots v.pool v.slots) where
@@ -253,10 +257,10 @@ module _ (v : PoolSlots) (t : ℕ) (m : Request6) (are : AreSlots v.pool v.slots
       let wanted = first_listed m.listed.items in
       λ i. record { binding = bound_is v t m.key are i; pick = pick_is v t m.key wanted are i }
 
-  abbrev pub row : Pool6Value → Lookup → Row
+  abbrev pub row : Pool6Value → Lookup → Row Reply6
   row pool f = cond (is_for_us m.kind m.server) (row_of pool t f m.listed.items m.kind) other_server
 
-  row_if : (P : Change → Type 0) (b : Bool) (met other : Row) → P met.change → P other.change → P (cond b met other).change
+  row_if : (P : Change → Type 0) (b : Bool) (met other : Row Reply6) → P met.change → P other.change → P (cond b met other).change
   row_if P true met other h k = h
   row_if P false met other h k = k
 

@@ -2,15 +2,17 @@
 use Rattle.std.specs.Prelude.{◌≡◌, ℕ, ◌+◌, Option, option_map, IfSome}
 use Rattle.types.specs.Addr.{number6, addr6}
 use Rattle.types.specs.Pool6.{Pool6Value}
+use Rattle.types.specs.declared.request6.Reply6.{Reply6}
 use Rattle.bindings_v6.specs.declared.decision6.Decision6.{Decision6}
 use Rattle.bindings_v6.specs.declared.case6.Case6.{Case6}
 use Rattle.bindings_v6.specs.declared.table6.Lookup6.{Lookup6}
 use Rattle.bindings_v6.specs.declared.case6.SlotAddress.{SlotAddress}
 use Rattle.bindings_v6.specs.Decision6.{decision_of}
-use Rattle.bindings_v6.specs.Table6.{Row, Lookup}
+use Rattle.slots.specs.Row.{Row}
+use Rattle.bindings_v6.specs.Table6.{Lookup}
 
 -- a row as a decision, for the client of a case
-abbrev pub decision_in : Case6 → Row → Decision6
+abbrev pub decision_in : Case6 → Row Reply6 → Decision6
 decision_in case row = decision_of (number6 case.pool.first) case.clock case.client row
 
 -- a slot with its address

@@ -1,14 +1,15 @@
 -- What a DHCPv6 client is answered, and what the answer changes in its circuit's book: a table, one row a
 -- line, over what was looked up. All times are in seconds.
-use Rattle.std.specs.Prelude.{ℕ, ◌+◌, Bool, true, false, not, ◌==◌, List, [], ◌∷◌, Option, Some, None, Result, Ok, Err, if◌then◌else◌}
+use Rattle.std.specs.Prelude.{ℕ, ◌+◌, Bool, true, false, not, ◌==◌, List, [], ◌∷◌, slice_get, Option, option_map, Some, None, if◌then◌else◌}
 use Rattle.std.specs.List.{list_any, filter}
 use Rattle.std.specs.FinMap.{get, insert, remove}
+use Rattle.std.specs.Option.{option_map_or}
+use Rattle.slots.specs.Row.{Change, Unchanged, Binds, Bars, Frees, is_kept, Row, replies, drops, Decision}
 use Rattle.slots.specs.Maps.{address_of}
 use Rattle.types.specs.Addr.{number6, addr6}
 use Rattle.types.specs.Key6.{Key6Value}
 use Rattle.types.specs.Pool6.{Pool6Value}
 use Rattle.types.specs.declared.addr.Addr6.{Addr6}
-use Rattle.types.specs.declared.discard.Discard.{Discard}
 use Rattle.types.specs.declared.discard.Discard.TheVariants as reason
 use Rattle.types.specs.declared.kind6.Kind6.{Kind6}
 use Rattle.types.specs.declared.kind6.Kind6.TheVariants.{Solicit, Request, Confirm, Renew, Rebind, Release, Decline}
@@ -23,41 +24,14 @@ use Rattle.types.specs.declared.request6.Status6.{Status6}
 use Rattle.types.specs.declared.request6.Status6.TheVariants.{Success, NoAddrsAvail, NoBinding, NotOnLink}
 use Rattle.bindings_v6.specs.Book6.{Book6, in_pool, pick}
 
--- What a row changes of the client's.
-pub data Change : Type 0 where
-  Unchanged : Change
-  -- this address is bound to it until this moment
-  Binds : ℕ → ℕ → Change
-  -- its binding, which is this address, is gone, and the address is given to nobody until this moment
-  Bars : ℕ → ℕ → Change
-  -- its binding, which is this address, is gone
-  Frees : ℕ → Change
-
 abbrev pub with_change : Key6Value → Change → Book6 → Book6
-with_change client Unchanged b = b
 with_change client (Binds address until) b =
     record b { bindings = insert b.bindings client (record { address = address; until = until }) }
 with_change client (Bars address until) b =
     record b { bindings = remove b.bindings client; bars = insert b.bars address until }
 with_change client (Frees address) b = record b { bindings = remove b.bindings client }
-
--- Each change is kept on the disk.
-abbrev pub is_kept : Change → Bool
-is_kept Unchanged = false
-is_kept (Binds address until) = true
-is_kept (Bars address until) = true
-is_kept (Frees address) = true
-
-pub record Row : Type 0 where
-  -- a reply, or why there is none
-  pub answer : Result Reply6 Discard
-  pub change : Change
-
-abbrev pub replies : Reply6 → Change → Row
-replies answer change = record { answer = Ok answer; change = change }
-
-abbrev pub drops : Discard → Change → Row
-drops why change = record { answer = Err why; change = change }
+-- DHCPv6 has no offers
+with_change client change b = b
 
 -- an IA_NA without an address, and why
 abbrev pub refusal : ReplyKind6 → Status6 → Reply6
@@ -72,7 +46,7 @@ abbrev pub message_status : Status6 → Reply6
 message_status status = record { kind = Reply; status = Some status; ia = reply_ia.None }
 
 -- a Reply with this address, which is leased until then
-abbrev pub grants : List Addr6 → ℕ → ℕ → Row
+abbrev pub grants : List Addr6 → ℕ → ℕ → Row Reply6
 grants zeroed address until = replies (assignment Reply zeroed address) (Binds address until)
 
 -- the listed addresses but this one, in order
@@ -87,41 +61,41 @@ abbrev pub is_off_link : Pool6Value → List Addr6 → Bool
 is_off_link pool listed = list_any (λ x. not (in_pool pool (number6 x))) listed
 
 -- Solicit (RFC 8415, section 18.3.1), by pick
-abbrev pub solicit_row : Option ℕ → Row
+abbrev pub solicit_row : Option ℕ → Row Reply6
 solicit_row (Some address) = replies (assignment Advertise [] address) Unchanged
 solicit_row None = replies (refusal Advertise NoAddrsAvail) Unchanged
 
 -- Request (RFC 8415, section 18.3.2), by the lease's end, whether a listed address is off the link, and pick
-abbrev pub request_row : ℕ → Bool → Option ℕ → Row
+abbrev pub request_row : ℕ → Bool → Option ℕ → Row Reply6
 request_row end true found = replies (refusal Reply NotOnLink) Unchanged
 request_row end false (Some address) = grants [] address end
 request_row end false None = replies (refusal Reply NoAddrsAvail) Unchanged
 
 -- Renew and Rebind (RFC 8415, sections 18.3.4 and 18.3.5), by the lease's end, the listed addresses, and
 -- the binding
-abbrev pub renew_row : ℕ → List Addr6 → Option ℕ → Row
+abbrev pub renew_row : ℕ → List Addr6 → Option ℕ → Row Reply6
 renew_row end listed (Some bound) = grants (others bound listed) bound end
 renew_row end listed None = replies (refusal Reply NoBinding) Unchanged
 
 -- Confirm (RFC 8415, section 18.3.3), by the listed addresses, and whether one is off the link
-abbrev pub confirm_row : List Addr6 → Bool → Row
+abbrev pub confirm_row : List Addr6 → Bool → Row Reply6
 confirm_row [] off_link = drops reason.NothingToSay Unchanged
 confirm_row (x ∷ xs) true = replies (message_status NotOnLink) Unchanged
 confirm_row (x ∷ xs) false = replies (message_status Success) Unchanged
 
 -- a client without a binding gives one up
-abbrev pub no_binding : Row
+abbrev pub no_binding : Row Reply6
 no_binding = replies (record (message_status Success) { ia = reply_ia.Status NoBinding }) Unchanged
 
 -- Release (RFC 8415, section 18.3.7), by the binding, and whether it is listed
-abbrev pub release_row : Option ℕ → Bool → Row
+abbrev pub release_row : Option ℕ → Bool → Row Reply6
 release_row (Some bound) true = replies (message_status Success) (Frees bound)
 release_row (Some bound) false = replies (message_status Success) Unchanged
 release_row None listed = no_binding
 
 -- Decline (RFC 8415, section 18.3.8), by clock, the binding, and whether it is listed. Nobody is given the
 -- address for 3600 seconds.
-abbrev pub decline_row : ℕ → Option ℕ → Bool → Row
+abbrev pub decline_row : ℕ → Option ℕ → Bool → Row Reply6
 decline_row t (Some bound) true = replies (message_status Success) (Bars bound (t + 3600))
 decline_row t (Some bound) false = replies (message_status Success) Unchanged
 decline_row t None listed = no_binding
@@ -132,8 +106,7 @@ pub record Lookup : Type 0 where
   pub pick : Option ℕ
 
 abbrev pub first_listed : List Addr6 → Option ℕ
-first_listed [] = None
-first_listed (x ∷ xs) = Some (number6 x)
+first_listed listed = option_map number6 (slice_get listed 0)
 
 abbrev pub lookup_in : Pool6Value → Book6 → Request6 → Lookup
 lookup_in pool b m =
@@ -143,11 +116,10 @@ lookup_in pool b m =
     }
 
 abbrev pub where_listed : List Addr6 → Option ℕ → Bool
-where_listed listed None = false
-where_listed listed (Some address) = is_listed listed address
+where_listed listed found = option_map_or (is_listed listed) found false
 
 -- The rows of each message type.
-abbrev pub row_of : Pool6Value → ℕ → Lookup → List Addr6 → Kind6 → Row
+abbrev pub row_of : Pool6Value → ℕ → Lookup → List Addr6 → Kind6 → Row Reply6
 row_of pool t found listed Solicit = solicit_row found.pick
 row_of pool t found listed Request = request_row (t + pool.lease) (is_off_link pool listed) found.pick
 row_of pool t found listed Renew = renew_row (t + pool.lease) listed found.binding
@@ -169,21 +141,13 @@ is_for_us Decline server_id.Ours = true
 is_for_us _ _ = false
 
 -- The row of a client's message, by pool, clock and the book at that clock.
-abbrev pub row6 : Pool6Value → ℕ → Book6 → Request6 → Row
+abbrev pub row6 : Pool6Value → ℕ → Book6 → Request6 → Row Reply6
 row6 pool t b m =
     if is_for_us m.kind m.server then row_of pool t (lookup_in pool b m) m.listed.items m.kind
     else drops reason.OtherServer Unchanged
 
-pub record Decision : Type 0 where
-  -- a reply, or why there is none
-  pub answer : Result Reply6 Discard
-  -- the book after it
-  pub book : Book6
-  -- whether a slot has to be kept on the disk
-  pub is_kept : Bool
-
 -- The decision on a client's message, by pool, clock and the book at that clock.
-unfoldable pub answer6 : Pool6Value → ℕ → Book6 → Request6 → Decision
+unfoldable pub answer6 : Pool6Value → ℕ → Book6 → Request6 → Decision Reply6 Book6
 answer6 pool t b m =
     let row = row6 pool t b m in
     record { answer = row.answer; book = with_change m.key row.change b; is_kept = is_kept row.change }

@@ -3,7 +3,8 @@ ghost use Rattle.std.specs.Prelude.{◌≡◌, ◌+◌, Some, None};
 ghost use Rattle.types.specs.Addr.{number6, addr6};
 ghost use Rattle.types.specs.declared.request6.Status6.TheVariants.{Success};
 ghost use Rattle.bindings_v6.specs.Lookup6.{IsAt, decision_in};
-ghost use Rattle.bindings_v6.specs.Table6.{Unchanged, Bars, Frees, drops, replies, grants, refusal, assignment, message_status};
+ghost use Rattle.slots.specs.Row.{Unchanged, Bars, Frees, drops, replies};
+ghost use Rattle.bindings_v6.specs.Table6.{grants, refusal, assignment, message_status};
 
 use crate::decision6::{Decision6, KeptSlot};
 use arrayvec::ArrayVec;

@@ -1,5 +1,6 @@
 -- What a circuit's decision makes of it. Only proofs need this.
 use Rattle.std.specs.Prelude.{◌≡◌, ℕ, ◌+◌, ◌<◌, ◌≤◌, true, Bool, is_some, List, Option, option_map, Some, IfSome, Result}
+use Rattle.std.specs.Result.{result_map_both}
 use Rattle.types.specs.Slots.{IsWithin4, IsWithin6}
 use Rattle.types.specs.declared.discard.Discard.{Discard}
 use Rattle.config.specs.CircuitPart.{CircuitPart}
@@ -15,15 +16,17 @@ use Rattle.bindings_v4.specs.Decision4.{IsOffer}
 use Rattle.bindings_v4.specs.Slots4 as slots4
 use Rattle.bindings_v6.specs.Kept6 as kept6
 use Rattle.bindings_v6.specs.Slots6 as slots6
+use Rattle.replies.specs.Reply4.{reply4_bytes}
+use Rattle.replies.specs.Reply6.{reply6_bytes}
 use Rattle.circuit_server.specs.declared.decision.CircuitDecision.{CircuitDecision}
 use Rattle.circuit_server.specs.declared.decision.CircuitDecision.TheVariants.{V4, V6}
-use Rattle.circuit_server.specs.Server.{Served, reply4_to, reply6_to}
+use Rattle.circuit_server.specs.Server.{Served}
 use Rattle.circuit_server.specs.CircuitServerValue.{OpenCircuitValue, counts_in, kept_slots, open_book}
 
 -- the reply's datagram, or why there is none
 abbrev pub answer_of : CircuitPart → CircuitDecision → Result (List ℕ) Discard
-answer_of part (V4 m decision) = reply4_to part m decision.answer
-answer_of part (V6 forward m client decision) = reply6_to part forward m client decision.answer
+answer_of part (V4 m decision) = result_map_both (reply4_bytes part m) (λ why. why) decision.answer
+answer_of part (V6 forward m client decision) = result_map_both (reply6_bytes part forward m client) (λ why. why) decision.answer
 
 -- one protocol's slots change
 abbrev pub with_decision : CircuitDecision → OpenCircuitValue → OpenCircuitValue

@@ -1,14 +1,12 @@
 -- One circuit's server: its book, and what it makes of a datagram of the circuit.
-use Rattle.std.specs.Prelude.{ℕ, Bool, false, max, List, Option, Some, None, Result, Ok, Err}
-use Rattle.types.specs.Key6.{Key6Value}
+use Rattle.std.specs.Prelude.{ℕ, false, max, List, Option, Some, None, Result, Ok, Err}
+use Rattle.std.specs.Result.{result_map_both}
 use Rattle.types.specs.Delivery.{DeliveryValue}
 use Rattle.types.specs.declared.dest.Proto.{Proto}
 use Rattle.types.specs.declared.dest.Proto.TheVariants.{V4, V6}
 use Rattle.types.specs.declared.discard.Discard.{Discard}
 use Rattle.types.specs.declared.discard.Discard.TheVariants as reason
 use Rattle.types.specs.declared.request4.Request4.{Request4}
-use Rattle.types.specs.declared.request4.Reply4.{Reply4}
-use Rattle.types.specs.declared.request6.Reply6.{Reply6}
 use Rattle.types.specs.declared.request6.Request6.{Request6}
 use Rattle.v4_message.specs.declared.fault.MessageFault.{MessageFault}
 use Rattle.v4_message.specs.Reading.{message_of}
@@ -23,11 +21,11 @@ use Rattle.config.specs.CircuitPart.{CircuitPart, pool4_of, pool6_of}
 use Rattle.bindings_v4.specs.Book4.{Book4, book4_at}
 use Rattle.bindings_v4.specs.Kept4 as kept4
 use Rattle.bindings_v4.specs.IsBook4.{IsBook4}
-use Rattle.bindings_v4.specs.Table4.{Decision, answer4}
+use Rattle.slots.specs.Row.{Decision}
+use Rattle.bindings_v4.specs.Table4.{answer4}
 use Rattle.bindings_v6.specs.Book6.{Book6, book6_at}
 use Rattle.bindings_v6.specs.IsBook6.{IsBook6}
 use Rattle.bindings_v6.specs.Table6.{answer6}
-use Rattle.bindings_v6.specs.Table6 as table6
 use Rattle.replies.specs.Reply4.{reply4_bytes}
 use Rattle.replies.specs.Reply6.{reply6_bytes}
 use Rattle.requests.specs.Request4.{request4_in}
@@ -55,28 +53,23 @@ kept_book b = record b { four = kept4.kept_book b.four }
 
 -- The reply's datagram, or why there is none; the book after it; and whether it has to be saved before
 -- the reply leaves.
-pub record Served : Type 0 where
-  pub answer : Result (List ℕ) Discard
-  pub book : Book
-  pub is_kept : Bool
+abbrev pub Served : Type 0
+Served = Decision (List ℕ) Book
 
 abbrev pub drop : Discard → Book → Served
 drop why b = record { answer = Err why; book = b; is_kept = false }
 
+-- One protocol's decision, by how its reply is spelled and how its book stands in the circuit's.
+abbrev pub decision_served : {Reply Own : Type 0} → (Reply → List ℕ) → (Own → Book) → Decision Reply Own → Served
+decision_served spelled within decision =
+    record { answer = result_map_both spelled (λ why. why) decision.answer; book = within decision.book; is_kept = decision.is_kept }
+
 -- ---- DHCPv4
 
-abbrev pub reply4_to : CircuitPart → MessageValue → Result Reply4 Discard → Result (List ℕ) Discard
-reply4_to part m (Err why) = Err why
-reply4_to part m (Ok reply) = Ok (reply4_bytes part m reply)
-
 -- DHCPv6's leases stay.
-abbrev pub decision4_served : CircuitPart → MessageValue → Book → Decision → Served
-decision4_served part m b decision =
-    record { answer = reply4_to part m decision.answer; book = record b { four = decision.book }; is_kept = decision.is_kept }
-
 abbrev pub request4_served : CircuitPart → MessageValue → Book → Result Request4 Discard → Served
 request4_served part m b (Err why) = drop why b
-request4_served part m b (Ok request) = decision4_served part m b (answer4 (pool4_of part) b.clock b.four request)
+request4_served part m b (Ok request) = decision_served (reply4_bytes part m) (λ four. record b { four = four }) (answer4 (pool4_of part) b.clock b.four request)
 
 abbrev pub message4_served : CircuitPart → Book → Result MessageValue MessageFault → Served
 message4_served part b (Err fault) = drop reason.Malformed b
@@ -84,20 +77,11 @@ message4_served part b (Ok m) = request4_served part m b (request4_in m)
 
 -- ---- DHCPv6
 
-abbrev pub reply6_to : CircuitPart → RelayValue → v6.MessageValue → Key6Value → Result Reply6 Discard → Result (List ℕ) Discard
-reply6_to part forward m client (Err why) = Err why
-reply6_to part forward m client (Ok reply) = Ok (reply6_bytes part forward m client reply)
-
--- DHCPv4's leases and offers stay.
-abbrev pub decision6_served : CircuitPart → RelayValue → v6.MessageValue → Key6Value → Book → table6.Decision → Served
-decision6_served part forward m client b decision =
-    record { answer = reply6_to part forward m client decision.answer; book = record b { six = decision.book }; is_kept = decision.is_kept }
-
--- a message inside a Relay-forward, and what it asks
+-- a message inside a Relay-forward, and what it asks. DHCPv4's leases and offers stay.
 abbrev pub request6_served : CircuitPart → RelayValue → Book → Result (v6.MessageValue × Request6) Discard → Served
 request6_served part forward b (Err why) = drop why b
 request6_served part forward b (Ok asked) =
-    decision6_served part forward asked.0 asked.1.key b (answer6 (pool6_of part) b.clock b.six asked.1)
+    decision_served (reply6_bytes part forward asked.0 asked.1.key) (λ six. record b { six = six }) (answer6 (pool6_of part) b.clock b.six asked.1)
 
 -- by the relay message, which each Relay-forward of a circuit has
 abbrev pub message6_served : CircuitPart → RelayValue → Book → Option (List ℕ) → Served

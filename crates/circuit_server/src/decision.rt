@@ -1,5 +1,6 @@
 //! What a circuit's server decides on a client's message, in either protocol.
 ghost use Rattle.std.specs.Prelude.{◌≡◌, ◌<◌, ◌≤◌, ◌+◌, IfSome, [], length, option_map};
+ghost use Rattle.std.specs.Result.{result_map_both};
 ghost use Rattle.types.specs.Slots.{IsWithin4, IsWithin6, last_until};
 ghost use Rattle.slots.specs.Lookup.{until_of};
 ghost use Rattle.bindings_v4.specs.Slots4 as slots4;
@@ -7,7 +8,8 @@ ghost use Rattle.bindings_v6.specs.Slots6 as slots6;
 ghost use Rattle.circuit_server.specs.CircuitDecision.{IsWithin, answer_of, kept_in};
 ghost use Rattle.circuit_server.specs.Deadlines.{HasItsSlots, IsOfferIn, with_deadlines, with_kept4, with_kept6, with_offered, with_until};
 ghost use Rattle.circuit_server.specs.Answered.{IsAnswer};
-ghost use Rattle.circuit_server.specs.Server.{reply4_to, reply6_to};
+ghost use Rattle.replies.specs.Reply4.{reply4_bytes};
+ghost use Rattle.replies.specs.Reply6.{reply6_bytes};
 
 use bindings_v4::{Decision4, KeptSlot as KeptSlot4, OfferChange};
 use bindings_v6::{Decision6, KeptSlot as KeptSlot6};
@@ -166,7 +168,7 @@ fn reply4(
     out: &mut PacketBuf,
 ) -> Result<(), Discard>
     requires { out.old ≡ [] }
-    ensures { IsAnswer (reply4_to part.now message.now answer) result out.new }
+    ensures { IsAnswer (result_map_both (reply4_bytes part.now message.now) (λ why. why) answer) result out.new }
 {
     match answer {
         Ok(reply) => {
@@ -186,7 +188,7 @@ fn reply6(
     out: &mut PacketBuf,
 ) -> Result<(), Discard>
     requires { out.old ≡ [] }
-    ensures { IsAnswer (reply6_to part.now forward.now message.now client.now answer.now) result out.new }
+    ensures { IsAnswer (result_map_both (reply6_bytes part.now forward.now message.now client.now) (λ why. why) answer.now) result out.new }
 {
     match answer {
         Ok(reply) => {

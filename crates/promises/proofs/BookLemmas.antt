@@ -8,9 +8,10 @@ use Rattle.std.specs.Cmp.Lexicographic.{slice_cmp, nat_list_cmp_total}
 use Rattle.std.specs.FinMap.{get, empty, entries, values, put, IsAntisymmetric, nat_cmp-IsAntisymmetric, slice_cmp-IsAntisymmetric, same_map, get-empty, get-insert, entries-insert, len-entries, len-empty}
 use Rattle.types.specs.Pool4.{PoolValue}
 use Rattle.std.specs.declared.cmp.Ordering.{Ordering}
+use Rattle.std.specs.Option.{option_map_or}
 use Rattle.slots.specs.Key.{IsKey, key4_cmp}
 use Rattle.slots.specs.KeyLaws.{key4_is_key, key6_is_key}
-use Rattle.slots.specs.Maps.{Lease, Clients, is_live, passes, live_clients, live_bars}
+use Rattle.slots.specs.Maps.{Lease, Clients, is_live, live_clients, live_bars}
 use Rattle.slots.proofs.ShownLemmas.{keep, get-live_clients, get-live_bars}
 use Rattle.bindings_v6.specs.Book6.{book6_at, empty_book}
 use Rattle.bindings_v4.specs.Book4.{in_pool, is_free, book4_at}
@@ -27,7 +28,7 @@ live_none {cmpk = cmpk} lawk clock =
 no_bars : (clock : ℕ) → live_bars clock empty ≡ empty
 no_bars clock =
     same_map nat_cmp_total nat_cmp-IsAntisymmetric _ _ (λ q.
-    get-live_bars clock empty q ∙ ap (λ o. cond (passes (is_live clock) o) o None) (get-empty nat_cmp q) ∙ sym (get-empty nat_cmp q))
+    get-live_bars clock empty q ∙ ap (λ o. cond (option_map_or (is_live clock) o false) o None) (get-empty nat_cmp q) ∙ sym (get-empty nat_cmp q))
 
 -- DHCPv6's empty book stays empty
 later_empty : (clock : ℕ) → book6_at clock empty_book ≡ empty_book
@@ -53,7 +54,7 @@ one_value client lease =
     ap (λ es. map (λ (e : List ℕ × Lease). e.1) es) (entries-insert nat_list_cmp_total empty client lease ∙ ap (put (slice_cmp nat_cmp) client lease) no_entries)
 
 kept_one : (test : Lease → Bool) (lease : Lease) (here live : Bool) → test lease ≡ live
-    → cond (passes test (cond here (Some lease) None)) (cond here (Some lease) None) None ≡ cond live (cond here (Some lease) None) None
+    → cond (option_map_or test (cond here (Some lease) None) false) (cond here (Some lease) None) None ≡ cond live (cond here (Some lease) None) None
 kept_one test lease true true e = ap (λ b. cond b (Some lease) None) e
 kept_one test lease true false e = ap (λ b. cond b (Some lease) None) e
 kept_one test lease false true e = refl

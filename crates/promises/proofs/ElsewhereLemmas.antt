@@ -1,6 +1,7 @@
 -- What a circuit is sent does not depend on the addresses of its relay and of the server.
 use Rattle.std.proofs.Common.{◌≡◌, ◌∙◌, ℕ, List, [], ◌∷◌, ◌++◌, refl, ap}
 use Rattle.std.specs.Prelude.{not, nat_lt, nat_le, length, take, drop, slice_get, slice_index, Option, Some, None, Result, Ok, Err, if◌then◌else◌}
+use Rattle.std.specs.Result.{result_map_both}
 use Rattle.types.specs.Key6.{Key6Value}
 use Rattle.types.specs.declared.addr.Source.{Source}
 use Rattle.types.specs.declared.dest.Proto.{Proto}
@@ -25,20 +26,23 @@ use Rattle.v6_options.specs.Codes.{RELAY_MESSAGE}
 use Rattle.v6_options.specs.Spelling.{look_up}
 use Rattle.config.specs.CircuitPart.{CircuitPart, pool4_of, pool6_of}
 use Rattle.config.specs.Topology.{has_id}
-use Rattle.bindings_v4.specs.Table4.{Decision, answer4}
+use Rattle.slots.specs.Row.{Decision}
+use Rattle.bindings_v4.specs.Table4.{answer4}
+use Rattle.bindings_v4.specs.Book4.{Book4}
 use Rattle.bindings_v6.specs.Table6 as table6
+use Rattle.bindings_v6.specs.Book6.{Book6}
 use Rattle.wire.specs.Padding.{padded_to}
 use Rattle.replies.specs.Reply4.{reply4_bytes, reply_options, reply_header}
 use Rattle.replies.specs.Reply6.{reply6_bytes}
 use Rattle.relay.specs.Relays.{relayed_up, relayed_down}
 use Rattle.relay.specs.Up4.{relayed_up4, message_relayed_up}
-use Rattle.relay.specs.Up6.{relayed_up6, message_relayed_up6, forward_if_read, is_relay_kind, is_client_kind}
+use Rattle.relay.specs.Up6.{relayed_up6, message_relayed_up6}
 use Rattle.relay.specs.Down.{◌>>=◌, AddressedFrame, frame_for, frame_on_link}
 use Rattle.relay.specs.Down4.{addressed_frame4, relayed_down4}
 use Rattle.relay.specs.Down6.{addressed_frame6, relayed_down6}
 use Rattle.requests.specs.Request4.{request4_in}
 use Rattle.requests.specs.Request6.{request6_in}
-use Rattle.circuit_server.specs.Server.{Book, Served, book_at, kept_book, served, datagram_served, decision4_served, decision6_served, forward_served, message4_served, message6_served, reply4_to, reply6_to, request4_served, request6_served}
+use Rattle.circuit_server.specs.Server.{Book, Served, book_at, kept_book, served, datagram_served, decision_served, forward_served, message4_served, message6_served, request4_served, request6_served}
 use Rattle.lossy_net.specs.Net.{Datagram}
 use Rattle.events.specs.Seen.{Seen, Frame, Up, Down, Tick, Restart, Turn}
 use Rattle.world.specs.Alone.{Alone, Setup, Dropped, alone_step, answer_step, book_step, delivery_of, down_step, frame_step, frames, if_on, is_fault, reply_step, sent_frame, served_step, up_step}
@@ -57,14 +61,8 @@ module _ (relay listen4 listen6 : Source) where
   message_up part (Err fault) = refl
   message_up part (Ok m) = refl
 
-  forward_up : (part : CircuitPart) (peer message : List ℕ) (read : Result v6.MessageValue MessageFault6) → forward_if_read (part_there part) peer message read ≡ forward_if_read part peer message read
-  forward_up part peer message (Err fault) = refl
-  forward_up part peer message (Ok m) = refl
-
   message_up6 : (part : CircuitPart) (peer message : List ℕ) → message_relayed_up6 (part_there part) peer message ≡ message_relayed_up6 part peer message
-  message_up6 part peer message =
-      ap (λ sent. if is_relay_kind (slice_index message 0) then Err reason.NestedRelay else if not (is_client_kind (slice_index message 0)) then Err reason.WrongType else sent)
-      (forward_up part peer message (reading6.message_of message))
+  message_up6 part peer message = refl
 
   up4 : (part : CircuitPart) (frame : List ℕ) → relayed_up4 (part_there part) frame ≡ relayed_up4 part frame
   unfolding relayed_up4
@@ -113,11 +111,18 @@ module _ (relay listen4 listen6 : Source) where
   unfolding reply4_bytes
   bytes4 part m reply = ap (λ options. padded_to 300 (message_bytes (record { header = reply_header m reply; options = options }))) (options4 part m reply)
 
-  to4 : (part : CircuitPart) (m : MessageValue) (answer : Result Reply4 Discard) → reply4_to (part_there part) m answer ≡ reply4_to part m answer
+  abbrev to : {Reply : Type 0} → (Reply → List ℕ) → Result Reply Discard → Result (List ℕ) Discard
+  to spelled answer = result_map_both spelled (λ why. why) answer
+
+  to4 : (part : CircuitPart) (m : MessageValue) (answer : Result Reply4 Discard) → to (reply4_bytes (part_there part) m) answer ≡ to (reply4_bytes part m) answer
   to4 part m (Err why) = refl
   to4 part m (Ok reply) = ap Ok (bytes4 part m reply)
 
-  decision4 : (part : CircuitPart) (m : MessageValue) (b : Book) (decision : Decision) → decision4_served (part_there part) m b decision ≡ decision4_served part m b decision
+  abbrev with4 : Book → Book4 → Book
+  with4 b four = record b { four = four }
+
+  decision4 : (part : CircuitPart) (m : MessageValue) (b : Book) (decision : Decision Reply4 Book4)
+      → decision_served (reply4_bytes (part_there part) m) (with4 b) decision ≡ decision_served (reply4_bytes part m) (with4 b) decision
   decision4 part m b decision = λ i. record { answer = to4 part m decision.answer i; book = record b { four = decision.book }; is_kept = decision.is_kept }
 
   request4 : (part : CircuitPart) (m : MessageValue) (b : Book) (asked : Result Request4 Discard) → request4_served (part_there part) m b asked ≡ request4_served part m b asked
@@ -130,13 +135,17 @@ module _ (relay listen4 listen6 : Source) where
 
   -- ---- at the server, DHCPv6
 
-  to6 : (part : CircuitPart) (forward : RelayValue) (m : v6.MessageValue) (client : Key6Value) (answer : Result Reply6 Discard) → reply6_to (part_there part) forward m client answer ≡ reply6_to part forward m client answer
+  to6 : (part : CircuitPart) (forward : RelayValue) (m : v6.MessageValue) (client : Key6Value) (answer : Result Reply6 Discard)
+      → to (reply6_bytes (part_there part) forward m client) answer ≡ to (reply6_bytes part forward m client) answer
   unfolding reply6_bytes
   to6 part forward m client (Err why) = refl
   to6 part forward m client (Ok reply) = refl
 
-  decision6 : (part : CircuitPart) (forward : RelayValue) (m : v6.MessageValue) (client : Key6Value) (b : Book) (decision : table6.Decision)
-      → decision6_served (part_there part) forward m client b decision ≡ decision6_served part forward m client b decision
+  abbrev with6 : Book → Book6 → Book
+  with6 b six = record b { six = six }
+
+  decision6 : (part : CircuitPart) (forward : RelayValue) (m : v6.MessageValue) (client : Key6Value) (b : Book) (decision : Decision Reply6 Book6)
+      → decision_served (reply6_bytes (part_there part) forward m client) (with6 b) decision ≡ decision_served (reply6_bytes part forward m client) (with6 b) decision
   decision6 part forward m client b decision = λ i. record { answer = to6 part forward m client decision.answer i; book = record b { six = decision.book }; is_kept = decision.is_kept }
 
   request6 : (part : CircuitPart) (forward : RelayValue) (b : Book) (asked : Result (v6.MessageValue × Request6) Discard) → request6_served (part_there part) forward b asked ≡ request6_served part forward b asked

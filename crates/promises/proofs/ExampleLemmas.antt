@@ -5,6 +5,7 @@ use Rattle.std.specs.List.{find, range_with_len}
 use Rattle.std.specs.FinMap.{get, empty, get-empty}
 use Rattle.std.specs.Ordering.{nat_cmp, eq_by_cmp}
 use Rattle.std.specs.Cmp.Lexicographic.{slice_cmp}
+use Rattle.std.specs.Option.{option_or}
 use Rattle.types.specs.Addr.{number4, addr4}
 use Rattle.types.specs.Pool4.{PoolValue}
 use Rattle.types.specs.declared.dest.Proto.TheVariants.{V4}
@@ -12,17 +13,19 @@ use Rattle.types.specs.declared.discard.Discard.TheVariants as reason
 use Rattle.types.specs.declared.kind4.Kind4.TheVariants.{Discover, Request}
 use Rattle.types.specs.declared.request4.Request4.{Request4}
 use Rattle.types.specs.declared.request4.Reply4.TheVariants as reply
+use Rattle.types.specs.declared.request4.Reply4.{Reply4}
 use Rattle.v4_options.specs.Reading.{listed_from, fault_from}
 use Rattle.v4_message.specs.Reading.{message_of}
 use Rattle.v4_message.specs.Spelling.{MessageValue}
 use Rattle.slots.specs.Key.{key4_cmp}
 use Rattle.slots.specs.KeyLaws.{key4_is_key}
-use Rattle.slots.specs.Maps.{Lease, Clients, or_else, address_of, is_live}
+use Rattle.slots.specs.Maps.{Lease, Clients, address_of, is_live}
 use Rattle.bindings_v4.specs.Book4.{Book4, in_pool, lowest_free}
-use Rattle.bindings_v4.specs.Table4.{Decision, answer4, discover_row as row, selecting_row, where_is, with_change, is_kept}
+use Rattle.slots.specs.Row.{Decision, is_kept}
+use Rattle.bindings_v4.specs.Table4.{answer4, discover_row as row, selecting_row, where_is, with_change}
 use Rattle.config.specs.CircuitPart.{pool4_of}
 use Rattle.requests.specs.Request4.{request4_in}
-use Rattle.circuit_server.specs.Server.{Book, Served, book_at, served, drop, decision4_served, message4_served, request4_served}
+use Rattle.circuit_server.specs.Server.{Book, Served, book_at, served, drop, decision_served, message4_served, request4_served}
 use Rattle.relay.specs.SentFrame.{SentFrame}
 use Rattle.relay.specs.Up4.{relayed_up4}
 use Rattle.relay.specs.Down4.{reply_of, relayed_down4}
@@ -45,7 +48,7 @@ same_client = eq_by_cmp (slice_cmp nat_cmp)
 abbrev asks : List ℕ → Request4
 asks k = record { kind = Discover; key = k; server = None; wanted = None; ciaddr = ipv4 0 0 0 0 }
 
-abbrev decided : ℕ → List ℕ → Book4 → Option ℕ → Option ℕ → Decision
+abbrev decided : ℕ → List ℕ → Book4 → Option ℕ → Option ℕ → Decision Reply4 Book4
 decided clock k b pick binding = record { answer = (row clock pick binding).answer; book = with_change k (row clock pick binding).change b; is_kept = is_kept (row clock pick binding).change }
 
 abbrev offers_in : Clients key4_cmp → Book4
@@ -59,7 +62,7 @@ fresh : (pool : PoolValue) (clock : ℕ) (k : List ℕ) (a : ℕ)
 unfolding answer4
 fresh pool clock k a lowest =
     let b = offers_in no_offers in
-    ap (λ o. decided clock k b (or_else (address_of o) (or_else (address_of o) (lowest_free pool b))) (address_of o)) (get-empty (slice_cmp nat_cmp) k)
+    ap (λ o. decided clock k b (option_or (address_of o) (option_or (address_of o) (lowest_free pool b))) (address_of o)) (get-empty (slice_cmp nat_cmp) k)
     ∙ ap (λ (free : ℕ → Bool). decided clock k b (find free (range_with_len (number4 pool.first) pool.count)) None) (λ i x. free-none pool clock x i)
     ∙ ap (λ p. decided clock k b p None) lowest
 
@@ -70,8 +73,8 @@ taken : (pool : PoolValue) (clock : ℕ) (k other : List ℕ) (lease : Lease) �
 unfolding answer4
 taken pool clock k other lease another none =
     let b = offers_in (one_offer other lease) in
-    ap (λ o. decided clock k b (or_else (address_of o) (or_else (address_of (get (one_offer other lease) k)) (lowest_free pool b))) (address_of o)) (get-empty (slice_cmp nat_cmp) k)
-    ∙ ap (λ o. decided clock k b (or_else (address_of o) (lowest_free pool b)) None) (get-one other lease k ∙ ap (λ t. cond t (Some lease) None) another)
+    ap (λ o. decided clock k b (option_or (address_of o) (option_or (address_of (get (one_offer other lease) k)) (lowest_free pool b))) (address_of o)) (get-empty (slice_cmp nat_cmp) k)
+    ∙ ap (λ o. decided clock k b (option_or (address_of o) (lowest_free pool b)) None) (get-one other lease k ∙ ap (λ t. cond t (Some lease) None) another)
     ∙ ap (λ (free : ℕ → Bool). decided clock k b (find free (range_with_len (number4 pool.first) pool.count)) None) (λ i x. free-one pool clock x other lease i)
     ∙ ap (λ p. decided clock k b p None) none
 
@@ -79,9 +82,9 @@ taken pool clock k other lease another none =
 abbrev selects : Request4
 selects = record { kind = Request; key = client 1; server = Some (ipv4 10 0 0 1); wanted = Some (ipv4 10 0 0 10); ciaddr = ipv4 0 0 0 0 }
 
-abbrev selected : Option ℕ → Option ℕ → Decision
+abbrev selected : Option ℕ → Option ℕ → Decision Reply4 Book4
 selected binding offer =
-    let r = selecting_row 710 (Some 167772170) (or_else (where_is binding (Some 167772170)) (where_is offer (Some 167772170))) in
+    let r = selecting_row 710 (Some 167772170) (option_or (where_is binding (Some 167772170)) (where_is offer (Some 167772170))) in
     record { answer = r.answer; book = with_change (client 1) r.change (offers_in (one_offer (client 1) (lease_until 160))); is_kept = is_kept r.change }
 
 granted : answer4 (pool4_of part_a) 110 (offers_in (one_offer (client 1) (lease_until 160))) selects ≡ selected None (Some 167772170)
@@ -104,13 +107,13 @@ module _ (setup : Setup) (now fault : ℕ) (bytes : List ℕ) (clock : ℕ) (off
       ∙ ap step is
 
   -- a client's message, as this request
-  decided_by : (request : Request4) (d : Decision) {m : MessageValue} → message_of bytes ≡ Ok m → request4_in m ≡ Ok request
+  decided_by : (request : Request4) (d : Decision Reply4 Book4) {m : MessageValue} → message_of bytes ≡ Ok m → request4_in m ≡ Ok request
       → book_at now (offers_at clock offers) ≡ b → answer4 (pool4_of setup.part) b.clock b.four request ≡ d
       → alone_step setup (Up 0 now fault) (with_up bytes clock offers)
-      ≡ served_step setup fault (with_up bytes clock offers) V4 (decision4_served setup.part m b d)
+      ≡ served_step setup fault (with_up bytes clock offers) V4 (decision_served (reply4_bytes setup.part m) (λ four. record b { four = four }) d)
   decided_by request d {m} read is_request at is =
-      served_by (decision4_served setup.part m b d) read at
-      (ap (request4_served setup.part m b) is_request ∙ ap (decision4_served setup.part m b) is)
+      let done : Decision Reply4 Book4 → Served = decision_served (reply4_bytes setup.part m) (λ four. record b { four = four }) in
+      served_by (done d) read at (ap (request4_served setup.part m b) is_request ∙ ap done is)
 
 -- at a moment the book of no offers has the later clock
 none_at : (now clock : ℕ) → book_at now (offers_at clock no_offers) ≡ offers_at (max clock now) no_offers

@@ -19,7 +19,8 @@ use Rattle.bindings_v4.specs.Book4.{Book4}
 use Rattle.bindings_v4.specs.IsBook4.{TheBinding, TheOffer, EndsLease}
 use Rattle.bindings_v4.specs.declared.server4.Server4.{Server4}
 use Rattle.bindings_v4.specs.declared.server4.Server4.TheVariants.{Anybody, This, Another}
-use Rattle.bindings_v4.specs.Table4.{Unchanged, Lookup, Row, is_kept, replies, grants, discover_row, other_server_row, selecting_row, known_address_row, no_server_row, decline_row, release_row, inform_row, server_of, lookup_in, row_of, answer4}
+use Rattle.slots.specs.Row.{Unchanged, Row, is_kept, replies}
+use Rattle.bindings_v4.specs.Table4.{Lookup, grants, discover_row, other_server_row, selecting_row, known_address_row, no_server_row, decline_row, release_row, inform_row, server_of, lookup_in, row_of, answer4}
 use Rattle.bindings_v4.proofs.LawLemmas.{own_granted}
 use Rattle.bindings_v4.proofs.LeaseLemmas.{lease_kept}
 use Rattle.config.specs.CircuitPart.{CircuitPart, pool4_of}
@@ -34,7 +35,7 @@ use Rattle.promises.proofs.PoolLemmas4.{number_of_pool4, bound_in_pool4}
 
 -- ---- what a DHCPACK grants is kept
 
-abbrev AckIsKept : Row → Type 0
+abbrev AckIsKept : Row Reply4 → Type 0
 AckIsKept row = (x : Addr4) → row.answer ≡ Ok (reply.Ack x) → is_kept row.change ≡ true
 
 ack_refused : (end n : ℕ) (b : Bool) → AckIsKept (cond b (grants n end) (replies reply.Nak Unchanged))

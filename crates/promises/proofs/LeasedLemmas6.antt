@@ -17,7 +17,8 @@ use Rattle.types.specs.declared.request6.ReplyKind6.TheVariants.{Advertise, Repl
 use Rattle.types.specs.declared.request6.Request6.{Request6}
 use Rattle.bindings_v6.specs.Book6.{Book6}
 use Rattle.bindings_v6.specs.IsBook6.{Entry, TheBinding, Names, IsBook6}
-use Rattle.bindings_v6.specs.Table6.{Unchanged, is_kept, Row, drops, grants, others, solicit_row, request_row, renew_row, confirm_row, release_row, decline_row, is_off_link, where_listed, Lookup, lookup_in, row_of, is_for_us, row6, answer6}
+use Rattle.slots.specs.Row.{Unchanged, is_kept, Row, drops}
+use Rattle.bindings_v6.specs.Table6.{grants, others, solicit_row, request_row, renew_row, confirm_row, release_row, decline_row, is_off_link, where_listed, Lookup, lookup_in, row_of, is_for_us, row6, answer6}
 use Rattle.bindings_v6.proofs.LawLemmas.{own_granted}
 
 -- ---- which answers lease an address
@@ -38,14 +39,14 @@ leased (Err why) = None
 
 -- ---- a row that leases an address binds it
 
-record Granted (x : Addr6) (row : Row) : Type 0 where
+record Granted (x : Addr6) (row : Row Reply6) : Type 0 where
   zeroed : List Addr6
   address : ℕ
   until : ℕ
   is : row ≡ grants zeroed address until
   same : x ≡ addr6 address
 
-abbrev LeasesByGrant : Row → Type 0
+abbrev LeasesByGrant : Row Reply6 → Type 0
 LeasesByGrant row = (x : Addr6) → leased row.answer ≡ Some x → Granted x row
 
 by_grant : (zeroed : List Addr6) (a until : ℕ) → LeasesByGrant (grants zeroed a until)
@@ -104,7 +105,7 @@ pub reply_kept : (pool : Pool6Value) (t : ℕ) (b : Book6) (m : Request6) (r : R
     → (answer6 pool t b m).is_kept ≡ true
 unfolding answer6
 reply_kept pool t b m r zeroed x e kind ia =
-    ap (λ (row : Row). is_kept row.change) (row_leases pool t b m x (leases _ r zeroed x e kind ia)).is
+    ap (λ (row : Row Reply6). is_kept row.change) (row_leases pool t b m x (leases _ r zeroed x e kind ia)).is
 
 -- it leases what nobody but the client had
 pub own_granted6 : (pool : Pool6Value) → IsPool6 pool.first pool.count pool.lease → (t : ℕ) (m : Request6) (b : Book6) → IsBook6 t b
@@ -115,5 +116,5 @@ pub own_granted6 : (pool : Pool6Value) → IsPool6 pool.first pool.count pool.le
 unfolding answer6
 own_granted6 pool limits t m b book r zeroed x e kind ia =
     let i = row_leases pool t b m x (leases _ r zeroed x e kind ia) in
-    let own = own_granted pool limits t m b book i.zeroed i.address (ap (λ (row : Row). row.answer) i.is) in
+    let own = own_granted pool limits t m b book i.zeroed i.address (ap (λ (row : Row Reply6). row.answer) i.is) in
     (own.0, i.same ∙ own.1, own.2, own.3)

@@ -18,6 +18,7 @@ use Rattle.types.specs.declared.request4.Request4.{Request4}
 use Rattle.types.specs.declared.slot4.Slot4.{Slot4}
 use Rattle.types.specs.declared.slot4.Slot4.TheVariants as slot4
 use Rattle.types.specs.declared.slots.Slots.{Slots}
+use Rattle.types.specs.declared.request4.Reply4.{Reply4}
 use Rattle.slots.specs.declared.holder.Holder.{Holder}
 use Rattle.slots.specs.KeyLaws.{key4_is_key}
 use Rattle.slots.specs.Maps.{Lease, address_of}
@@ -28,7 +29,8 @@ use Rattle.bindings_v4.specs.declared.server4.Server4.TheVariants.{Anybody, This
 use Rattle.bindings_v4.specs.Book4.{Book4, is_free, where_free, pick, book4_at}
 use Rattle.bindings_v4.specs.Kept4.{book4_in, kept_book}
 use Rattle.bindings_v4.specs.Slots4.{holder_of, book_of_slots}
-use Rattle.bindings_v4.specs.Table4.{Change, Unchanged, Offers, Withdraws, Binds, Bars, Frees, with_change, grants, discover_row, other_server_row, selecting_row, known_address_row, no_server_row, decline_row, release_row, inform_row, where_is, where_specified, server_of, lookup_in, row_of, Row, replies, answer4}
+use Rattle.slots.specs.Row.{Change, Unchanged, Offers, Withdraws, Binds, Bars, Frees, Row, replies}
+use Rattle.bindings_v4.specs.Table4.{with_change, grants, discover_row, other_server_row, selecting_row, known_address_row, no_server_row, decline_row, release_row, inform_row, where_is, where_specified, server_of, lookup_in, row_of, answer4}
 use Rattle.config.specs.CircuitPart.{CircuitPart, pool4_of}
 use Rattle.promises.specs.Books.{IsInPool}
 use Rattle.promises.proofs.PooledMaps.{Every, Between, between, and_left, of_address, of_either, of_test, of_find, every_insert, every_remove, every_live, leases_inside}
@@ -77,7 +79,8 @@ module _ (part : CircuitPart) where
   in_between a p = record { from = p.0; below = p.1 }
 
   of_where : (held named : Option ℕ) → InPool held → InPool (where_is held named)
-  of_where None named p = tt
+  of_where None None p = tt
+  of_where None (Some n) p = tt
   of_where (Some a) None p = tt
   of_where (Some a) (Some n) p = of_test (IsInPool part V4) a (a == n) (λ same. p)
 
@@ -104,7 +107,7 @@ module _ (part : CircuitPart) where
 
   -- ---- the rows
 
-  abbrev RowFits : Row → Type 0
+  abbrev RowFits : Row Reply4 → Type 0
   RowFits row = Fits row.change
 
   discovered : (t : ℕ) (picked bound : Option ℕ) → InPool picked → RowFits (discover_row t picked bound)

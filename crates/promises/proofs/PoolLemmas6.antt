@@ -18,6 +18,7 @@ use Rattle.types.specs.declared.slots.Slot6.{Slot6}
 use Rattle.types.specs.declared.slots.Slot6.TheVariants as slot6
 use Rattle.types.specs.declared.slots.Slots.{Slots}
 use Rattle.types.proofs.NumberLemmas.{from_be_bytes-to_be_bytes_16}
+use Rattle.types.specs.declared.request6.Reply6.{Reply6}
 use Rattle.slots.specs.declared.holder.Holder.{Holder}
 use Rattle.slots.specs.KeyLaws.{key6_is_key}
 use Rattle.slots.specs.Maps.{Lease, address_of}
@@ -26,7 +27,8 @@ use Rattle.slots.proofs.ShownLemmas.{at}
 use Rattle.bindings_v6.specs.Book6.{Book6, is_free, where_free, pick, book6_at}
 use Rattle.bindings_v6.specs.Kept6.{book6_in}
 use Rattle.bindings_v6.specs.Slots6.{holder_of, book_of_slots}
-use Rattle.bindings_v6.specs.Table6.{Change, Unchanged, Binds, Bars, Frees, with_change, Row, drops, solicit_row, request_row, renew_row, confirm_row, release_row, decline_row, is_off_link, where_listed, first_listed, lookup_in, row_of, is_for_us, row6, answer6}
+use Rattle.slots.specs.Row.{Change, Unchanged, Offers, Withdraws, Binds, Bars, Frees, Row, drops}
+use Rattle.bindings_v6.specs.Table6.{with_change, solicit_row, request_row, renew_row, confirm_row, release_row, decline_row, is_off_link, where_listed, first_listed, lookup_in, row_of, is_for_us, row6, answer6}
 use Rattle.config.specs.CircuitPart.{CircuitPart, pool6_of}
 use Rattle.promises.specs.Books.{IsInPool}
 use Rattle.promises.proofs.PooledMaps.{Every, Between, between, and_left, of_address, of_either, of_test, of_find, every_insert, every_remove, every_live, leases_inside}
@@ -54,12 +56,16 @@ module _ (part : CircuitPart) where
 
   abbrev Fits : Change → Type 0
   Fits Unchanged = Unit {0}
+  Fits (Offers a u) = Unit {0}
+  Fits (Withdraws a) = Unit {0}
   Fits (Binds address until) = IsInPool part V6 address
   Fits (Bars address until) = Unit {0}
   Fits (Frees address) = Unit {0}
 
   changed : (k : Key6Value) (c : Change) (b : Book6) → Fits c → IsPooled6 part b → IsPooled6 part (with_change k c b)
   changed k Unchanged b fits p = p
+  changed k (Offers a u) b fits p = p
+  changed k (Withdraws a) b fits p = p
   changed k (Binds a u) b fits p = record { bindings = every_insert key6_is_key Inside b.bindings k (at a u) p.bindings fits }
   changed k (Bars a u) b fits p = record { bindings = every_remove key6_is_key Inside b.bindings k p.bindings }
   changed k (Frees a) b fits p = record { bindings = every_remove key6_is_key Inside b.bindings k p.bindings }
@@ -88,7 +94,7 @@ module _ (part : CircuitPart) where
 
   -- ---- the rows
 
-  abbrev RowFits : Row → Type 0
+  abbrev RowFits : Row Reply6 → Type 0
   RowFits row = Fits row.change
 
   solicited : (found : Option ℕ) → RowFits (solicit_row found)

@@ -6,9 +6,10 @@ use Rattle.std.specs.declared.cmp.Ordering.{Ordering}
 use Rattle.std.specs.List.{find}
 use Rattle.std.specs.FinMap.{get, insert, remove, get-insert, get-remove}
 use Rattle.std.proofs.lemmas.Bool.Decides.{nat_tests}
+use Rattle.std.specs.Option.{option_or}
 use Rattle.slots.specs.declared.holder.Holder.{Holder}
 use Rattle.slots.specs.Key.{IsKey}
-use Rattle.slots.specs.Maps.{Lease, Clients, live_clients, in_range, address_of, or_else}
+use Rattle.slots.specs.Maps.{Lease, Clients, live_clients, in_range, address_of}
 use Rattle.slots.specs.Slots.{leases}
 use Rattle.slots.proofs.ShownLemmas.{Slots, Lessee, not_true, at, hit, got, get-leases, keep, get-live_clients}
 
@@ -35,7 +36,7 @@ module _ (P : ℕ → Type 0) where
   of_address None p = tt
   of_address (Some lease) p = p
 
-  pub of_either : (o other : Option ℕ) → IfSome o P → IfSome other P → IfSome (or_else o other) P
+  pub of_either : (o other : Option ℕ) → IfSome o P → IfSome other P → IfSome (option_or o other) P
   of_either None other first second = second
   of_either (Some a) other first second = first
 

@@ -30,10 +30,11 @@ use Rattle.v6_message.specs.Message as v6
 use Rattle.v6_message.specs.Relay.{RelayValue}
 use Rattle.v6_message.specs.RelayReading.{relay_of}
 use Rattle.slots.specs.Maps.{Lease}
-use Rattle.bindings_v4.specs.Table4 as table4
+use Rattle.slots.specs.Row.{Decision}
 use Rattle.bindings_v4.specs.Table4.{answer4}
-use Rattle.bindings_v6.specs.Table6 as table6
+use Rattle.bindings_v4.specs.Book4.{Book4}
 use Rattle.bindings_v6.specs.Table6.{answer6}
+use Rattle.bindings_v6.specs.Book6.{Book6}
 use Rattle.config.specs.CircuitPart.{CircuitPart, pool4_of, pool6_of}
 use Rattle.requests.specs.Request4.{request4_in}
 use Rattle.requests.specs.Request6.{request6_in}
@@ -113,7 +114,7 @@ ended4 kind4.Ack client lease = []
 ended4 kind4.Nak client lease = []
 ended4 kind4.Inform client lease = []
 
-abbrev pub decision4_lines : CircuitPart → Effect → Book → Request4 → table4.Decision → List Line
+abbrev pub decision4_lines : CircuitPart → Effect → Book → Request4 → Decision Reply4 Book4 → List Line
 decision4_lines part effect b m d =
     (if is_sent effect then granted4 part m.key b.clock d.answer else [])
     ++ (if d.is_kept then ended4 m.kind m.key (get b.four.bindings m.key) else [])
@@ -154,7 +155,7 @@ ended6 kind6.Confirm client lease = []
 ended6 kind6.Renew client lease = []
 ended6 kind6.Rebind client lease = []
 
-abbrev pub decision6_lines : CircuitPart → Effect → Book → Request6 → table6.Decision → List Line
+abbrev pub decision6_lines : CircuitPart → Effect → Book → Request6 → Decision Reply6 Book6 → List Line
 decision6_lines part effect b m d =
     (if is_sent effect then granted6 part m.key b.clock d.answer else [])
     ++ (if d.is_kept then ended6 m.kind m.key (get b.six.bindings m.key) else [])

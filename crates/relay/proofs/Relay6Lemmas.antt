@@ -1,17 +1,17 @@
 -- One circuit, up and down, in DHCPv6: what is too long or too short, and that what is written has room.
-use Rattle.std.proofs.Common.{◌≡◌, ℕ, ◌+◌, ◌<◌, ◌≤◌, Bool, true, false, cond, List, [], ◌∷◌, length, take, drop, Some, Result, Ok, Err, refl, sym, ap, arith}
-use Rattle.std.specs.Prelude.{not, nat_lt, ◌==◌, slice_index}
+use Rattle.std.proofs.Common.{◌≡◌, ℕ, ◌+◌, ◌<◌, ◌≤◌, Bool, true, false, cond, List, [], ◌∷◌, length, take, drop, Some, Ok, Err, refl, sym, ap, arith}
+use Rattle.std.specs.Prelude.{nat_lt, ◌==◌, ◌||◌, slice_index, is_none}
+use Rattle.std.specs.Result.{is_err}
 use Rattle.std.proofs.lemmas.Bool.{lt-ltb, le-ltb, ltb-false}
 use Rattle.std.proofs.lemmas.List.{length-append}
+use Rattle.types.specs.Kind6.{kind6_of_code}
 use Rattle.types.specs.declared.discard.Discard.TheVariants as reason
 use Rattle.v6_options.specs.Spelling.{look_up, option, spelling}
-use Rattle.v6_message.specs.declared.fault.MessageFault.{MessageFault}
-use Rattle.v6_message.specs.Message.{MessageValue}
 use Rattle.v6_message.specs.MessageReading.{message_of}
 use Rattle.v6_message.specs.Relay.{RelayValue, relay_bytes, relay_header}
 use Rattle.v6_message.specs.RelayReading.{relay_of}
 use Rattle.config.specs.CircuitPart.{CircuitPart}
-use Rattle.relay.specs.Up6.{relay_forward, is_client_kind, is_relay_kind, forward_if_read, message_relayed_up6, relayed_up6}
+use Rattle.relay.specs.Up6.{relay_forward, message_relayed_up6, relayed_up6}
 use Rattle.relay.specs.Down6.{reply_of6, relay_in_reply}
 
 pub up6_too_long : (part : CircuitPart) (frame : List ℕ) → 1024 < length frame → relayed_up6 part frame ≡ Err reason.TooLong
@@ -43,22 +43,28 @@ up6_sent part frame datagram came = by_long (nat_lt 1024 (length frame)) refl ca
     result : List ℕ
     result = relay_bytes (relay_forward part peer message)
 
-    by_reading : (r : Result MessageValue MessageFault) → forward_if_read part peer message r ≡ Ok datagram → datagram ≡ result
-    by_reading (Err fault) h = absurd cc
-    by_reading (Ok m) h = let same : result ≡ datagram = cc in sym same
+    by_reading : (refused : Bool) → cond refused (Err reason.MalformedUp) (Ok result) ≡ Ok datagram → datagram ≡ result
+    by_reading true h = absurd cc
+    by_reading false h = let same : result ≡ datagram = cc in sym same
 
-    by_client : (b : Bool) → cond (not b) (Err reason.WrongType) (forward_if_read part peer message (message_of message)) ≡ Ok datagram → datagram ≡ result
-    by_client true h = by_reading (message_of message) h
-    by_client false h = absurd cc
+    read : Bool
+    read = is_err (message_of message)
 
-    by_relay : (b : Bool) → cond b (Err reason.NestedRelay) (cond (not (is_client_kind (slice_index message 0))) (Err reason.WrongType) (forward_if_read part peer message (message_of message))) ≡ Ok datagram
+    of_relay : Bool
+    of_relay = slice_index message 0 == 12 || slice_index message 0 == 13
+
+    by_client : (other : Bool) → cond other (Err reason.WrongType) (cond read (Err reason.MalformedUp) (Ok result)) ≡ Ok datagram → datagram ≡ result
+    by_client true h = absurd cc
+    by_client false h = by_reading read h
+
+    by_relay : (b : Bool) → cond b (Err reason.NestedRelay) (cond (is_none (kind6_of_code (slice_index message 0))) (Err reason.WrongType) (cond read (Err reason.MalformedUp) (Ok result))) ≡ Ok datagram
         → datagram ≡ result
     by_relay true h = absurd cc
-    by_relay false h = by_client (is_client_kind (slice_index message 0)) h
+    by_relay false h = by_client (is_none (kind6_of_code (slice_index message 0))) h
 
     by_short : (b : Bool) → nat_lt (length frame) 20 ≡ b → cond b (Err reason.MalformedUp) (message_relayed_up6 part peer message) ≡ Ok datagram → (20 ≤ length frame) × (datagram ≡ result)
     by_short true is h = absurd cc
-    by_short false is h = (ltb-false (length frame) 20 is, by_relay (is_relay_kind (slice_index message 0)) h)
+    by_short false is h = (ltb-false (length frame) 20 is, by_relay of_relay h)
 
     by_long : (b : Bool) → nat_lt 1024 (length frame) ≡ b
         → cond b (Err reason.TooLong) (cond (nat_lt (length frame) 20) (Err reason.MalformedUp) (message_relayed_up6 part peer message)) ≡ Ok datagram

@@ -1,5 +1,6 @@
 -- What a relay makes of a client's DHCPv4 frame, by its circuit's part of the configuration alone.
-use Rattle.std.specs.Prelude.{ℕ, ◌+◌, Bool, false, not, ◌||◌, ◌==◌, nat_lt, nat_le, List, [], ◌∷◌, ◌++◌, length, Option, Some, None, is_some, Result, Ok, Err, if◌then◌else◌}
+use Rattle.std.specs.Prelude.{ℕ, ◌+◌, Bool, false, not, ◌||◌, ◌==◌, nat_lt, nat_le, List, [], ◌∷◌, ◌++◌, length, Option, is_some, Result, Ok, Err, if◌then◌else◌}
+use Rattle.std.specs.Option.{option_map_or}
 use Rattle.types.specs.Addr.{is_unspecified}
 use Rattle.types.specs.declared.discard.Discard.{Discard}
 use Rattle.types.specs.declared.discard.Discard.TheVariants as reason
@@ -25,8 +26,7 @@ with_agent_information part m = record {
 
 -- what only a server sends: DHCPOFFER (2), DHCPACK (5) and DHCPNAK (6)
 abbrev pub is_from_server : Option ℕ → Bool
-is_from_server None = false
-is_from_server (Some kind) = kind == 2 || kind == 5 || kind == 6
+is_from_server found = option_map_or (λ kind. kind == 2 || kind == 5 || kind == 6) found false
 
 -- A client's message: the first line that fits.
 abbrev pub message_relayed_up : CircuitPart → Result MessageValue MessageFault → Result (List ℕ) Discard

@@ -1,8 +1,8 @@
 //! DHCPv6 on the way up: what a relay makes of a client's frame, for one circuit.
-ghost use Rattle.std.specs.Prelude.{◌≡◌, ◌≤◌, ℕ, List, [], length, Ok, Err, IsOk, IfErr, OnOk, OnErr, IfSome, IfNone};
+ghost use Rattle.std.specs.Prelude.{◌≡◌, ◌≤◌, ◌||◌, ◌==◌, ℕ, List, [], length, Ok, Err, IsOk, IfErr, OnOk, OnErr, IfSome, IfNone};
 ghost use Rattle.v6_message.specs.Relay.{relay_bytes};
 ghost use Rattle.config.specs.CircuitPart as parts;
-ghost use Rattle.relay.specs.Up6.{is_relay_kind, message_relayed_up6, relay_forward, relayed_up6};
+ghost use Rattle.relay.specs.Up6.{message_relayed_up6, relay_forward, relayed_up6};
 
 use config::CircuitPart;
 use types::{Addr6, Discard, Kind6, MAX_FRAME};
@@ -63,7 +63,7 @@ fn refusal(message: &[u8]) -> Option<Discard>
 
 /// Whether only a relay sends this type.
 fn is_from_relay(kind: u8) -> bool
-    ensures { result ≡ is_relay_kind kind }
+    ensures { result ≡ (kind == 12 || kind == 13) }
 {
     kind == RELAY_FORWARD || kind == RELAY_REPLY
 }

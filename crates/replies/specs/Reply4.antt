@@ -30,18 +30,16 @@ yiaddr_in (Offer address) = address.0
 yiaddr_in (Ack address) = address.0
 yiaddr_in reply = replicate 4 0
 
+-- xid, giaddr and chaddr stay the client's (RFC 2131, table 3)
 abbrev pub reply_header : MessageValue → Reply4 → HeaderValue
-reply_header request reply = record {
+reply_header request reply = record request.header {
   op = 2;
   hops = 0;
-  xid = request.header.xid;
   secs = replicate 2 0;
   flags = flags_in request reply;
   ciaddr = ciaddr_in request reply;
   yiaddr = yiaddr_in reply;
   siaddr = replicate 4 0;
-  giaddr = request.header.giaddr;
-  chaddr = request.header.chaddr;
   sname = replicate 64 0;
   file = replicate 128 0;
 }

@@ -1,6 +1,7 @@
 -- The bytes of the server's DHCPv6 replies (RFC 8415, sections 18.3 and 19.3).
 use Rattle.std.specs.Prelude.{ℕ, ◌*◌, ◌/◌, List, [], ◌∷◌, ◌++◌, map, Option, Some, None}
 use Rattle.std.specs.Int.{w16, to_be_bytes}
+use Rattle.std.specs.Option.{option_map_or}
 use Rattle.types.specs.Key6.{Key6Value}
 use Rattle.types.specs.Reply6.{code_of_reply6, code_of_status6}
 use Rattle.types.specs.declared.addr.Addr6.{Addr6}
@@ -22,8 +23,7 @@ status_option status = (STATUS_CODE, to_be_bytes w16 (code_of_status6 status))
 
 -- the status of the whole message, left out where there is none
 abbrev pub status_options : Option Status6 → List (ℕ × List ℕ)
-status_options None = []
-status_options (Some status) = status_option status ∷ []
+status_options status = option_map_or (λ told. status_option told ∷ []) status []
 
 -- an address, both of whose lifetimes are so many seconds (section 21.6)
 abbrev pub address_option : ℕ → Addr6 → ℕ × List ℕ
@@ -62,11 +62,8 @@ reply_message part message client reply = record {
 -- the Relay-reply (13) around it: the fields of the Relay-forward, the circuit id that it bears, and the
 -- reply (section 19.3)
 abbrev pub relay_reply : CircuitPart → RelayValue → MessageValue → Key6Value → Reply6 → RelayValue
-relay_reply part request message client reply = record {
+relay_reply part request message client reply = record request {
   kind = 13;
-  hop_count = request.hop_count;
-  link_address = request.link_address;
-  peer_address = request.peer_address;
   options = (INTERFACE_ID, part.id) ∷ (RELAY_MESSAGE, message_bytes (reply_message part message client reply)) ∷ [];
 }
 

@@ -1,6 +1,8 @@
 -- A client's DHCPv6 message as the book is asked: type, client, server and addresses.
 use Rattle.std.specs.Prelude.{ℕ, Bool, ◌&&◌, nat_le, nat_lt, List, length, map, slice_index, Option, Some, None, Result, Ok, Err, if◌then◌else◌}
 use Rattle.std.specs.Str.{bytes_eq}
+use Rattle.std.specs.Result.{result_map_both}
+use Rattle.std.specs.Option.{option_and_then}
 use Rattle.types.specs.Kind6.{kind6_of_code}
 use Rattle.types.specs.declared.discard.Discard.{Discard}
 use Rattle.types.specs.declared.discard.Discard.TheVariants as reason
@@ -11,7 +13,7 @@ use Rattle.types.specs.declared.request6.ServerId.TheVariants as server
 use Rattle.v6_options.specs.Codes.{CLIENT_ID, SERVER_ID, IA_NA}
 use Rattle.v6_options.specs.Spelling.{look_up}
 use Rattle.v6_message.specs.declared.fault.MessageFault.{MessageFault}
-use Rattle.v6_message.specs.Ia.{IaValue, addresses_in, ia_in}
+use Rattle.v6_message.specs.Ia.{IaValue, addresses_in, ia_of}
 use Rattle.v6_message.specs.Message.{MessageValue}
 use Rattle.v6_message.specs.MessageReading.{message_of}
 
@@ -37,13 +39,10 @@ abbrev pub client_request : List ℕ → Kind6 → MessageValue → Option (List
 client_request duid kind m (Some client) (Some ia) = if is_duid client then Ok (request6_of duid kind m client ia) else Err reason.ClientKey
 client_request duid kind m client ia = Err reason.ClientKey
 
-abbrev pub with_message : MessageValue → Result Request6 Discard → Result (MessageValue × Request6) Discard
-with_message m (Err why) = Err why
-with_message m (Ok request) = Ok (m, request)
-
 abbrev pub read_request : List ℕ → Kind6 → Result MessageValue MessageFault → Result (MessageValue × Request6) Discard
 read_request duid kind (Err fault) = Err reason.Malformed
-read_request duid kind (Ok m) = with_message m (client_request duid kind m (look_up CLIENT_ID m.options) (ia_in (look_up IA_NA m.options)))
+read_request duid kind (Ok m) =
+    result_map_both (λ request. (m, request)) (λ why. why) (client_request duid kind m (look_up CLIENT_ID m.options) (option_and_then ia_of (look_up IA_NA m.options)))
 
 abbrev pub kind_request : List ℕ → List ℕ → Option Kind6 → Result (MessageValue × Request6) Discard
 kind_request duid message None = Err reason.NotServed

@@ -1,7 +1,5 @@
 //! What a client's message asks of the book.
 ghost use Rattle.std.specs.Prelude.{◌≡◌, true, false, IfSome, IfNone};
-ghost use Rattle.v4_options.specs.Spelling.{look_up};
-ghost use Rattle.v4_options.specs.Codes.{CLIENT_IDENTIFIER};
 ghost use Rattle.requests.specs.Request4.{is_from_server, is_key, key_of, request4_in};
 
 use types::{Discard, Key4, Kind4, Request4};
@@ -47,9 +45,9 @@ fn is_from_server(kind: Kind4) -> bool
 /// The client's key: option 61, else the hardware type and address (RFC 2131, section 4.2); `None`
 /// outside 2 to 64 bytes.
 fn client_key(message: &Message<'_>) -> Option<Key4>
-    ensures key { IfSome result (λ key. key ≡ key_of message.now (look_up CLIENT_IDENTIFIER message.now.options)) }
+    ensures key { IfSome result (λ key. key ≡ key_of message.now) }
     ensures served { IfSome result (λ key. is_key key ≡ true) }
-    ensures none { IfNone result (is_key (key_of message.now (look_up CLIENT_IDENTIFIER message.now.options)) ≡ false) }
+    ensures none { IfNone result (is_key (key_of message.now) ≡ false) }
 {
     match message.client_identifier() {
         Some(identifier) => Key4::new(identifier),

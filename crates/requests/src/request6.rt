@@ -1,8 +1,9 @@
 //! What a client's DHCPv6 message asks of the book.
 ghost use Rattle.std.specs.Prelude.{◌≡◌, ◌≤◌, Ok, Err, Some, map, option_map};
+ghost use Rattle.std.specs.Option.{option_and_then};
 ghost use Rattle.v6_options.specs.Codes.{CLIENT_ID, IA_ADDRESS, IA_NA};
 ghost use Rattle.v6_options.specs.Spelling.{look_up};
-ghost use Rattle.v6_message.specs.Ia.{addresses_in, ia_in};
+ghost use Rattle.v6_message.specs.Ia.{addresses_in, ia_of};
 ghost use Rattle.v6_message.specs.Lists.{count};
 ghost use Rattle.requests.specs.Request6.{client_request, request6_in, server_in};
 ghost use Rattle.types.specs.declared.discard.Discard.TheVariants as reason;
@@ -44,7 +45,7 @@ fn client_request(
     kind: Kind6,
     message: &Message6<'_>,
 ) -> Result<Request6, Discard>
-    ensures { result ≡ client_request part.now.duid kind message.now (look_up CLIENT_ID message.now.options) (ia_in (look_up IA_NA message.now.options)) }
+    ensures { result ≡ client_request part.now.duid kind message.now (look_up CLIENT_ID message.now.options) (option_and_then ia_of (look_up IA_NA message.now.options)) }
 {
     let ia = message.ia();
     let Some(client) = message.client_id() else {

@@ -4,10 +4,11 @@ use Rattle.std.specs.Prelude.{Option, Some, None}
 use Rattle.std.specs.declared.cmp.Ordering.{Ordering}
 use Rattle.std.specs.List.{position}
 use Rattle.std.proofs.lemmas.List.Quantifiers.{position-Some}
+use Rattle.std.specs.Option.{option_or}
 use Rattle.slots.specs.declared.holder.Holder.{Holder}
 use Rattle.slots.specs.Key.{IsKey}
 use Rattle.slots.specs.Lookup.{until_of, live, is_vacant, is_bound_to, is_offered_to, slot_in, where_vacant, picked_slot}
-use Rattle.slots.specs.Maps.{is_live, in_range, or_else}
+use Rattle.slots.specs.Maps.{is_live, in_range}
 use Rattle.slots.specs.Slots.{barred_until, is_clients}
 use Rattle.slots.proofs.FreeLemmas.{bound_test, offered_test, within}
 use Rattle.slots.proofs.ShownLemmas.{Slots, bound_sort, offered_sort}
@@ -79,6 +80,6 @@ module _ {K : Type 0} {eqk : K → K → Bool} {cmpk : K → K → Ordering} (la
       → picked_slot t ss held (slot_in a (length ss) wanted) ≡ Some i → Fit t k ss i
   fit_picked t a k ss (Some j) wanted i own e = own i e
   fit_picked t a k ss None wanted i own e = by (where_vacant t ss (slot_in a (length ss) wanted)) refl e where
-    by : (w : Option ℕ) → where_vacant t ss (slot_in a (length ss) wanted) ≡ w → or_else w (position (is_vacant t) ss) ≡ Some i → Fit t k ss i
+    by : (w : Option ℕ) → where_vacant t ss (slot_in a (length ss) wanted) ≡ w → option_or w (position (is_vacant t) ss) ≡ Some i → Fit t k ss i
     by None is e = fit_first t k ss i e
     by (Some j) is e = fit_wanted t a k ss wanted i (is ∙ e)

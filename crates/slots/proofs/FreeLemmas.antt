@@ -15,7 +15,7 @@ use Rattle.slots.specs.declared.holder.Holder.{Holder}
 use Rattle.slots.specs.declared.holder.Holder.TheVariants.{Bound, Offered, Barred}
 use Rattle.slots.specs.Key.{IsKey}
 use Rattle.slots.specs.Lookup.{live, is_vacant, is_bound_to, is_offered_to, slot_in, where_vacant}
-use Rattle.slots.specs.Maps.{Lease, Clients, is_live, names, in_range, address_of, or_else}
+use Rattle.slots.specs.Maps.{Lease, Clients, is_live, names, in_range, address_of}
 use Rattle.slots.specs.Slots.{bound_to, offered_to, with_lease, leases, AreDistinct}
 use Rattle.slots.proofs.ShownLemmas.{Slots, Lessee, at, both_same, of_cond, itself, live_slots, hits, IsSort, hit, got, get-leases, got_none}
 
@@ -28,16 +28,11 @@ from_cond : (b : Bool) (a j x : ℕ) (o : Option ℕ) → x ≡ a + j → cond b
 from_cond true a j x o e = ap Some e
 from_cond false a j x o e = refl
 
-pub from_or : (a : ℕ) (x y : Option ℕ) → from a (or_else x y) ≡ or_else (from a x) (from a y)
+pub from_or : (a : ℕ) (x y : Option ℕ) → from a (option_or x y) ≡ option_or (from a x) (from a y)
 from_or a None y = refl
 from_or a (Some i) y = refl
 
--- `Option::or` is it
-pub or_is : (x y : Option ℕ) → option_or x y ≡ or_else x y
-or_is None y = refl
-or_is (Some i) y = refl
-
-pub or_either : (x y z : Option ℕ) → or_else (or_else x y) z ≡ or_else x (or_else y z)
+pub or_either : (x y z : Option ℕ) → option_or (option_or x y) z ≡ option_or x (option_or y z)
 or_either None y z = refl
 or_either (Some i) y z = refl
 

@@ -9,11 +9,12 @@ use Rattle.std.specs.Cmp.{nat_cmp_total}
 use Rattle.std.specs.FinMap.{get, nat_cmp-IsAntisymmetric, same_map, get-empty, get-insert, get-retain_keys}
 use Rattle.std.proofs.lemmas.Bool.Decides.{nat_tests}
 use Rattle.std.proofs.Math.ListN.{get_or-map}
+use Rattle.std.specs.Option.{option_map_or}
 use Rattle.slots.specs.declared.holder.Holder.{Holder}
 use Rattle.slots.specs.declared.holder.Holder.TheVariants.{Bound, Offered, Barred}
 use Rattle.slots.specs.Key.{IsKey}
 use Rattle.slots.specs.Lookup.{until_of, live}
-use Rattle.slots.specs.Maps.{Lease, Clients, Bars, is_live, passes, live_clients, live_bars}
+use Rattle.slots.specs.Maps.{Lease, Clients, Bars, is_live, live_clients, live_bars}
 use Rattle.slots.specs.Slots.{bound_to, offered_to, barred_until, with_lease, leases, with_bar, bars_of, is_clients, IsWithout, AreDistinct}
 
 abbrev pub at : ℕ → ℕ → Lease
@@ -34,7 +35,7 @@ of_cond f false x y = refl
 
 -- what of it is live
 abbrev pub keep : ℕ → Option Lease → Option Lease
-keep t o = cond (passes (λ (lease : Lease). is_live t lease.until) o) o None
+keep t o = cond (option_map_or (λ (lease : Lease). is_live t lease.until) o false) o None
 
 keep_live : (t : ℕ) (x : Lease) (live : Bool) → is_live t x.until ≡ live → keep t (Some x) ≡ cond live (Some x) None
 keep_live t x live is = ap (λ b. cond b (Some x) None) is
@@ -69,9 +70,9 @@ same_bars a m n below above = same_map nat_cmp_total nat_cmp-IsAntisymmetric m n
   by x true is = below x (ltb-true x a is)
   by x false is = ap (get m) (split a x is) ∙ above (x - a) ∙ ap (get n) (sym (split a x is))
 
-pub get-live_bars : (t : ℕ) (m : Bars) (q : ℕ) → get (live_bars t m) q ≡ cond (passes (is_live t) (get m q)) (get m q) None
+pub get-live_bars : (t : ℕ) (m : Bars) (q : ℕ) → get (live_bars t m) q ≡ cond (option_map_or (is_live t) (get m q) false) (get m q) None
 get-live_bars t m q =
-    let test : ℕ → Bool = λ key. passes (is_live t) (get m key) in
+    let test : ℕ → Bool = λ key. option_map_or (is_live t) (get m key) false in
     get-retain_keys m test q (λ x e. ap test (sym (nat_cmp-IsAntisymmetric q x e)))
 
 -- ---- a later clock
@@ -80,7 +81,7 @@ pub lasts : (t later u : ℕ) → t ≤ later → is_live later u ≡ true → i
 lasts t later u h is = grind (arith, nat_tests)
 
 keep_later : (t later u : ℕ) → t ≤ later → (now then : Bool) → is_live t u ≡ now → is_live later u ≡ then
-    → {X : Type 0} (x : X) (test : X → Bool) → test x ≡ then → cond (passes test (cond now (Some x) None)) (cond now (Some x) None) None ≡ cond then (Some x) None
+    → {X : Type 0} (x : X) (test : X → Bool) → test x ≡ then → cond (option_map_or test (cond now (Some x) None) false) (cond now (Some x) None) None ≡ cond then (Some x) None
 keep_later t later u h true then is is_then x test e = ap (λ b. cond b (Some x) None) e
 keep_later t later u h false true is is_then x test e = absurd (not_true (sym is ∙ lasts t later u h is_then))
 keep_later t later u h false false is is_then x test e = refl
@@ -90,14 +91,14 @@ later_lease t later h None = refl
 later_lease t later h (Some x) = keep_later t later x.until h (is_live t x.until) (is_live later x.until) refl refl x (λ lease. is_live later lease.until) refl
 
 later_bar : (t later : ℕ) → t ≤ later → (o : Option ℕ)
-    → cond (passes (is_live later) (cond (passes (is_live t) o) o None)) (cond (passes (is_live t) o) o None) None ≡ cond (passes (is_live later) o) o None
+    → cond (option_map_or (is_live later) (cond (option_map_or (is_live t) o false) o None) false) (cond (option_map_or (is_live t) o false) o None) None ≡ cond (option_map_or (is_live later) o false) o None
 later_bar t later h None = refl
 later_bar t later h (Some u) = keep_later t later u h (is_live t u) (is_live later u) refl refl u (is_live later) refl
 
 pub later_bars : (t later : ℕ) → t ≤ later → (m : Bars) → live_bars later (live_bars t m) ≡ live_bars later m
 later_bars t later h m =
     same_map nat_cmp_total nat_cmp-IsAntisymmetric _ _ (λ q.
-    get-live_bars later (live_bars t m) q ∙ ap (λ o. cond (passes (is_live later) o) o None) (get-live_bars t m q) ∙ later_bar t later h (get m q) ∙ sym (get-live_bars later m q))
+    get-live_bars later (live_bars t m) q ∙ ap (λ o. cond (option_map_or (is_live later) o false) o None) (get-live_bars t m q) ∙ later_bar t later h (get m q) ∙ sym (get-live_bars later m q))
 
 -- ---- slots and whom they are for
 
@@ -128,7 +129,7 @@ module _ {K : Type 0} where
   offered_live t (Some (Offered k u)) = of_cond offered_to (is_live t u) (Some (Offered k u)) None
   offered_live t (Some (Barred u)) = of_cond offered_to (is_live t u) (Some (Barred u)) None ∙ both_same (is_live t u) None
 
-  pub barred_live : (t : ℕ) (s : Option (Holder K)) → barred_until (live t s) ≡ cond (passes (is_live t) (barred_until s)) (barred_until s) None
+  pub barred_live : (t : ℕ) (s : Option (Holder K)) → barred_until (live t s) ≡ cond (option_map_or (is_live t) (barred_until s) false) (barred_until s) None
   barred_live t None = refl
   barred_live t (Some (Bound k u)) = of_cond barred_until (is_live t u) (Some (Bound k u)) None ∙ both_same (is_live t u) None
   barred_live t (Some (Offered k u)) = of_cond barred_until (is_live t u) (Some (Offered k u)) None ∙ both_same (is_live t u) None
@@ -150,9 +151,9 @@ module _ {K : Type 0} where
   pub live_bars_of : (a t : ℕ) (ss : Slots K) → live_bars t (bars_of a ss) ≡ bars_of a (live_slots t ss)
   live_bars_of a t ss =
       same_bars a _ _
-      (λ x h. get-live_bars t (bars_of a ss) x ∙ ap (λ o. cond (passes (is_live t) o) o None) (bars_below x a ss h) ∙ sym (bars_below x a (live_slots t ss) h))
+      (λ x h. get-live_bars t (bars_of a ss) x ∙ ap (λ o. cond (option_map_or (is_live t) o false) o None) (bars_below x a ss h) ∙ sym (bars_below x a (live_slots t ss) h))
       (λ i.
-      get-live_bars t (bars_of a ss) (a + i) ∙ ap (λ o. cond (passes (is_live t) o) o None) (bars_at a i ss)
+      get-live_bars t (bars_of a ss) (a + i) ∙ ap (λ o. cond (option_map_or (is_live t) o false) o None) (bars_at a i ss)
       ∙ sym (barred_live t (get_or ss i None)) ∙ ap barred_until (sym (get_or-map (live t) ss i None)) ∙ sym (bars_at a i (live_slots t ss)))
 
 module _ {K : Type 0} (eqk : K → K → Bool) where
@@ -280,7 +281,7 @@ module _ {K : Type 0} {eqk : K → K → Bool} {cmpk : K → K → Ordering} (la
   -- what a client has of the entries that are live
   pub get-live_clients : (t : ℕ) (m : Clients cmpk) (q : K) → get (live_clients t m) q ≡ keep t (get m q)
   get-live_clients t m q =
-      let test : K → Bool = λ key. passes (λ (lease : Lease). is_live t lease.until) (get m key) in
+      let test : K → Bool = λ key. option_map_or (λ (lease : Lease). is_live t lease.until) (get m key) false in
       get-retain_keys m test q (λ x e. ap test (sym (lawk.exact q x e)))
 
   pub live_leases : (f : Option (Holder K) → Lessee K) → IsSort eqk f → (a t : ℕ) (ss : Slots K) → AreDistinct eqk ss → live_clients t (leases cmpk f a ss) ≡ leases cmpk f a (live_slots t ss)

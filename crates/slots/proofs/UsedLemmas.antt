@@ -1,12 +1,13 @@
 -- Slots of which only so many may be held: no other has to be looked at.
-use Rattle.std.proofs.Common.{◌≡◌, ◌⊎◌, inl, inr, ℕ, zero, suc, ◌+◌, ◌-◌, ◌==◌, ◌<◌, ◌≤◌, Bool, true, false, cond, [], ◌∷◌, length, take, set, get_or, refl, sym, ap, subst, ◌∙◌, arith, nat_lt, nat_le, ◌&&◌}
+use Rattle.std.proofs.Common.{◌≡◌, ◌⊎◌, inl, inr, ℕ, zero, suc, ◌+◌, ◌==◌, ◌<◌, ◌≤◌, Bool, true, false, cond, [], ◌∷◌, length, take, set, get_or, refl, sym, ap, subst, ◌∙◌, arith, nat_lt, nat_le, ◌&&◌}
 use Rattle.std.specs.Prelude.{Option, Some, None, is_some}
 use Rattle.std.specs.List.{position, position_from}
 use Rattle.std.proofs.lemmas.Iterator.Adapters.{position_from-zero}
 use Rattle.std.proofs.lemmas.List.{length-set, get_or-set_other, get_or_past}
+use Rattle.std.specs.Option.{option_or}
 use Rattle.slots.specs.declared.holder.Holder.{Holder}
 use Rattle.slots.specs.Lookup.{is_vacant}
-use Rattle.slots.specs.Maps.{or_else}
+
 use Rattle.slots.specs.Slots.{is_clients, with_vacancy, without_lessee, with_slot, client_of}
 use Rattle.slots.specs.Used.{IsUsed, used_after}
 use Rattle.slots.proofs.ShownLemmas.{Slots}
@@ -20,11 +21,11 @@ less_more n m = by (nat_lt n m) refl where
 some_behind : (m : ℕ) → nat_lt 0 (suc m) ≡ true
 some_behind m = let more : 0 < suc m = omega arith in grind (arith, more)
 
-pub from_first : (first next : Option ℕ) → is_some first ≡ true → or_else first next ≡ first
+pub from_first : (first next : Option ℕ) → is_some first ≡ true → option_or first next ≡ first
 from_first None next some = absurd cc
 from_first (Some i) next some = refl
 
-pub from_next : (first next : Option ℕ) → is_some first ≡ false → or_else first next ≡ next
+pub from_next : (first next : Option ℕ) → is_some first ≡ false → option_or first next ≡ next
 from_next None next none = refl
 from_next (Some i) next none = absurd cc
 
@@ -66,7 +67,7 @@ module _ {K : Type 0} where
     index : (j + 1) + n ≡ j + suc n
     index = omega arith
 
-  vacant_from : (t j n : ℕ) (ss : Slots K) → n ≤ length ss → AreFree n ss → position_from (is_vacant t) j ss ≡ or_else (position_from (is_vacant t) j (take n ss)) (next j n ss)
+  vacant_from : (t j n : ℕ) (ss : Slots K) → n ≤ length ss → AreFree n ss → position_from (is_vacant t) j ss ≡ option_or (position_from (is_vacant t) j (take n ss)) (next j n ss)
   vacant_from t j zero [] within free = refl
   vacant_from t j zero (s ∷ ss) within free =
       let this : is_vacant t s ≡ true = ap (is_vacant t) (free 0 (omega arith)) in
@@ -75,14 +76,14 @@ module _ {K : Type 0} where
   vacant_from t j (suc n) [] within free = absurd (omega (arith, within))
   vacant_from t j (suc n) (s ∷ ss) within free =
       by (is_vacant t s) (vacant_from t (j + 1) n ss (omega (arith, within)) (free_behind n s ss free)) where
-        by : (b : Bool) → position_from (is_vacant t) (j + 1) ss ≡ or_else (position_from (is_vacant t) (j + 1) (take n ss)) (next (j + 1) n ss)
-            → cond b (Some j) (position_from (is_vacant t) (j + 1) ss) ≡ or_else (cond b (Some j) (position_from (is_vacant t) (j + 1) (take n ss))) (next j (suc n) (s ∷ ss))
+        by : (b : Bool) → position_from (is_vacant t) (j + 1) ss ≡ option_or (position_from (is_vacant t) (j + 1) (take n ss)) (next (j + 1) n ss)
+            → cond b (Some j) (position_from (is_vacant t) (j + 1) ss) ≡ option_or (cond b (Some j) (position_from (is_vacant t) (j + 1) (take n ss))) (next j (suc n) (s ∷ ss))
         by true rest = refl
-        by false rest = rest ∙ ap (or_else (position_from (is_vacant t) (j + 1) (take n ss))) (more_behind j n s ss)
+        by false rest = rest ∙ ap (option_or (position_from (is_vacant t) (j + 1) (take n ss))) (more_behind j n s ss)
 
-  pub vacant_used : (t n : ℕ) (ss : Slots K) → IsUsed n ss → position (is_vacant t) ss ≡ or_else (position (is_vacant t) (take n ss)) (next 0 n ss)
+  pub vacant_used : (t n : ℕ) (ss : Slots K) → IsUsed n ss → position (is_vacant t) ss ≡ option_or (position (is_vacant t) (take n ss)) (next 0 n ss)
   vacant_used t n ss used =
-      position_from-zero (is_vacant t) ss ∙ vacant_from t 0 n ss used.within used.free ∙ ap (λ first. or_else first (next 0 n ss)) (sym (position_from-zero (is_vacant t) (take n ss)))
+      position_from-zero (is_vacant t) ss ∙ vacant_from t 0 n ss used.within used.free ∙ ap (λ first. option_or first (next 0 n ss)) (sym (position_from-zero (is_vacant t) (take n ss)))
 
   -- ---- a slot is written
 

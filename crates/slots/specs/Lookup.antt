@@ -1,9 +1,10 @@
 -- How slots are looked up at a clock.
 use Rattle.std.specs.Prelude.{ℕ, ◌-◌, slice_index_or, not, Bool, true, false, List, Option, Some, None, if◌then◌else◌}
 use Rattle.std.specs.List.{position}
+use Rattle.std.specs.Option.{option_or}
 use Rattle.slots.specs.declared.holder.Holder.{Holder}
 use Rattle.slots.specs.declared.holder.Holder.TheVariants.{Bound, Offered, Barred}
-use Rattle.slots.specs.Maps.{is_live, in_range, or_else}
+use Rattle.slots.specs.Maps.{is_live, in_range}
 
 -- the slot of an address of a pool; the first slot has the address `first`
 abbrev pub slot_in : ℕ → ℕ → Option ℕ → Option ℕ
@@ -44,4 +45,4 @@ module _ {K : Type 0} where
 
   -- the slot for a client: the one that it has, the one that it asks for, the first vacant one
   abbrev pub picked_slot : ℕ → List (Option (Holder K)) → Option ℕ → Option ℕ → Option ℕ
-  picked_slot clock slots own requested = or_else own (or_else (where_vacant clock slots requested) (position (is_vacant clock) slots))
+  picked_slot clock slots own requested = option_or own (option_or (where_vacant clock slots requested) (position (is_vacant clock) slots))

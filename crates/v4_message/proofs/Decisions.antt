@@ -1,6 +1,6 @@
 -- The tests of reading, and the facts that they decide.
 use Rattle.std.proofs.Common.{◌≡◌, ℕ, ◌≤◌, Bool, true, false, cond, ◌&&◌, leb, List, [], ◌∷◌, length, get_or, Option, Some, None, refl, arith}
-use Rattle.std.specs.Prelude.{IfSome, is_some, is_none}
+use Rattle.std.specs.Prelude.{IfSome, is_some, is_none, ◌==◌, ◌||◌}
 use Rattle.std.specs.Bool.{Decides}
 use Rattle.std.proofs.lemmas.Bool.{leb-true, le-leb}
 use Rattle.std.proofs.lemmas.Bool.Decides.{Decides-eqb, Decides-and, Decides-or, Decides-like}
@@ -8,9 +8,9 @@ use Rattle.std.proofs.lemmas.Slice.Eq.{bytes_eq-Decides}
 use Rattle.v4_options.specs.Codes.{REQUESTED_ADDRESS, OPTION_OVERLOAD, MESSAGE_TYPE, SERVER_IDENTIFIER}
 use Rattle.v4_options.specs.Spelling.{look_up}
 use Rattle.v4_message.specs.Layout.{MAGIC_COOKIE}
-use Rattle.v4_message.specs.Header.{part}
+use Rattle.wire.specs.Part.{part}
 use Rattle.v4_message.specs.Spelling.{IsOp, HasKind, AreAllowed, HasCookie, IsEthernet}
-use Rattle.v4_message.specs.Reading.{has_cookie, is_ethernet, may_be_addr, are_allowed, is_op, kind_in, has_kind}
+use Rattle.v4_message.specs.Reading.{has_cookie, is_ethernet, may_be_addr, are_allowed, kind_in}
 
 pub refused : {P : Type 0} (test : Bool) → Decides test P → (P → ⊥) → test ≡ false
 refused true d denied = absurd (denied (d.0 refl))
@@ -40,7 +40,7 @@ allowed list =
     (λ a. (a.overload, (a.requested, a.server)))
     (Decides-and _ _ (absent (look_up OPTION_OVERLOAD list)) (Decides-and _ _ (addr (look_up REQUESTED_ADDRESS list)) (addr (look_up SERVER_IDENTIFIER list))))
 
-pub op : (n : ℕ) → Decides (is_op n) (IsOp n)
+pub op : (n : ℕ) → Decides (n == 1 || n == 2) (IsOp n)
 op n = Decides-or _ _ (Decides-eqb n 1) (Decides-eqb n 2)
 
 abbrev KindIs : Option (List ℕ) → Type 0
@@ -61,7 +61,7 @@ kind_is (Some []) = (λ e. absurd cc, λ h. absurd (cc h.1))
 kind_is (Some (code ∷ [])) = one_byte code (leb 1 code && leb code 8) (Decides-and _ _ (Decides-leb 1 code) (Decides-leb code 8))
 kind_is (Some (code ∷ other ∷ more)) = (λ e. absurd cc, λ h. absurd (cc h.1))
 
-pub kind : (list : List (ℕ × List ℕ)) → Decides (has_kind list) (HasKind list)
+pub kind : (list : List (ℕ × List ℕ)) → Decides (is_some (kind_in (look_up MESSAGE_TYPE list))) (HasKind list)
 kind list = kind_is (look_up MESSAGE_TYPE list)
 
 byte_found : (c code : ℕ) (b : Bool) → Decides b ((1 ≤ c) × (c ≤ 8)) → cond b (Some c) None ≡ Some code → KindIs (Some (c ∷ [])) × (c ≡ code)

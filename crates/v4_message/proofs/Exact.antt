@@ -1,13 +1,13 @@
 -- Reading returns a message exactly where the bytes spell it, and a fault exactly where they have it.
 use Rattle.std.proofs.Common.{◌≡◌, ℕ, ◌≤◌, Bool, true, false, cond, ◌&&◌, leb, List, ◌∷◌, ◌++◌, length, drop, get_or, Result, Ok, Err, refl, ap, ◌∙◌, append_assoc}
-use Rattle.std.specs.Prelude.{◌↔◌}
+use Rattle.std.specs.Prelude.{◌↔◌, ◌==◌, ◌||◌, is_some}
 use Rattle.std.specs.Bool.{Decides}
 use Rattle.std.proofs.lemmas.Bool.{le-leb, lt-leb, leb-true, leb-false}
 use Rattle.std.proofs.lemmas.Bool.Decides.{Decides-and}
 use Rattle.wire.specs.Bytes.{AreBytes}
-use Rattle.v4_options.specs.Codes.{END}
+use Rattle.v4_options.specs.Codes.{END, MESSAGE_TYPE}
 use Rattle.v4_options.specs.declared.fault.OptFault.{OptFault}
-use Rattle.v4_options.specs.Spelling.{spelling, AreOptions}
+use Rattle.v4_options.specs.Spelling.{look_up, spelling, AreOptions}
 use Rattle.v4_options.specs.Spelling as lists
 use Rattle.v4_options.specs.Reading.{options_of}
 use Rattle.v4_options.proofs.Exact as lists_exact
@@ -16,7 +16,7 @@ use Rattle.v4_message.specs.declared.fault.MessageFault.{MessageFault}
 use Rattle.v4_message.specs.declared.fault.MessageFault.TheVariants.{Short, Cookie, Hardware, Options, Kind}
 use Rattle.v4_message.specs.Header.{IsSized, header_at}
 use Rattle.v4_message.specs.Spelling.{MessageValue, IsValid, IsOp, HasKind, AreAllowed, HasCookie, IsEthernet, HasOptions, Spells, Fails, message_bytes}
-use Rattle.v4_message.specs.Reading.{has_cookie, is_ethernet, are_allowed, is_op, has_kind, with_options, message_of}
+use Rattle.v4_message.specs.Reading.{has_cookie, is_ethernet, are_allowed, kind_in, with_options, message_of}
 use Rattle.v4_message.proofs.Headers.{begins, sized_at, whole}
 use Rattle.v4_message.proofs.Decisions.{refused, cookie, ethernet, allowed, op, kind}
 
@@ -25,6 +25,12 @@ use Rattle.v4_message.proofs.Decisions.{refused, cookie, ethernet, allowed, op, 
 abbrev Is : List ℕ → Result MessageValue MessageFault → Type 0
 Is bytes (Ok m) = Spells bytes m
 Is bytes (Err fault) = Fails fault bytes
+
+abbrev is_known : List ℕ → Bool
+is_known bytes = get_or bytes 0 0 == 1 || get_or bytes 0 0 == 2
+
+abbrev has_kind : List (ℕ × List ℕ) → Bool
+has_kind list = is_some (kind_in (look_up MESSAGE_TYPE list))
 
 abbrev message_at : List ℕ → List (ℕ × List ℕ) → MessageValue
 message_at bytes list = record { header = header_at bytes; options = list }
@@ -47,9 +53,9 @@ by_kind bytes list true h o d = record {
 by_kind bytes list false h o d = (h.long, h.cookie, h.ethernet, (list, o, λ p. absurd (cc (d.1 p))))
 
 by_allowed : (bytes : List ℕ) (list : List (ℕ × List ℕ)) (b : Bool) → Head bytes → lists.Spells (drop 240 bytes) list → Decides b (AreAllowed list)
-    → Is bytes (cond b (cond (is_op (get_or bytes 0 0) && has_kind list) (Ok (message_at bytes list)) (Err Kind)) (Err Options))
+    → Is bytes (cond b (cond (is_known bytes && has_kind list) (Ok (message_at bytes list)) (Err Kind)) (Err Options))
 by_allowed bytes list true h s d =
-    by_kind bytes list (is_op (get_or bytes 0 0) && has_kind list) h (record { spelled = s; allowed = d.0 refl }) (Decides-and _ _ (op (get_or bytes 0 0)) (kind list))
+    by_kind bytes list (is_known bytes && has_kind list) h (record { spelled = s; allowed = d.0 refl }) (Decides-and _ _ (op (get_or bytes 0 0)) (kind list))
 by_allowed bytes list false h s d = (
   h.long,
   h.cookie,
@@ -87,8 +93,8 @@ pub read_spells : (bytes : List ℕ) (m : MessageValue) → Spells bytes m → m
 read_spells bytes m s =
     let b = begins bytes m.header s.tail s.sized s.whole in
     let options : options_of (drop 240 bytes) ≡ Ok m.options = ap options_of b.behind ∙ lists_exact.read_spells s.tail m.options s.options in
-    let is_known : is_op (get_or bytes 0 0) ≡ true = (op (get_or bytes 0 0)).1 (rw (ap (λ h. h.op) b.header) s.valid.op) in
-    rw (le-leb 240 (length bytes) b.long, (cookie bytes).1 b.cookie, (ethernet bytes).1 b.ethernet, options, (allowed m.options).1 s.valid.allowed, is_known, (kind m.options).1 s.valid.kind, b.header) refl
+    let known : is_known bytes ≡ true = (op (get_or bytes 0 0)).1 (rw (ap (λ h. h.op) b.header) s.valid.op) in
+    rw (le-leb 240 (length bytes) b.long, (cookie bytes).1 b.cookie, (ethernet bytes).1 b.ethernet, options, (allowed m.options).1 s.valid.allowed, known, (kind m.options).1 s.valid.kind, b.header) refl
 
 pub read_fails : (bytes : List ℕ) (fault : MessageFault) → Fails fault bytes → message_of bytes ≡ Err fault
 read_fails bytes Short f = rw (lt-leb 240 (length bytes) f) refl
@@ -105,7 +111,7 @@ read_fails bytes Kind f =
     let list = f.3.0 in
     let o = f.3.1 in
     let options : options_of (drop 240 bytes) ≡ Ok list = lists_exact.read_spells (drop 240 bytes) list o.spelled in
-    let neither : (is_op (get_or bytes 0 0) && has_kind list) ≡ false = refused _ (Decides-and _ _ (op (get_or bytes 0 0)) (kind list)) f.3.2 in
+    let neither : (is_known bytes && has_kind list) ≡ false = refused _ (Decides-and _ _ (op (get_or bytes 0 0)) (kind list)) f.3.2 in
     rw (le-leb 240 (length bytes) f.0, (cookie bytes).1 f.1, (ethernet bytes).1 f.2, options, (allowed list).1 o.allowed, neither) refl
 
 -- ---- both ways

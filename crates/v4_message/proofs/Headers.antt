@@ -5,9 +5,11 @@ use Rattle.std.proofs.lemmas.Bool.{cases_lt}
 use Rattle.std.proofs.lemmas.List.{append-nil, take_at, drop_at, take-append-drop, drop-drop, length-append, length-take, length-take-le, length-drop, get_or-drop, get_or-take, get_or_past}
 use Rattle.std.proofs.lemmas.Nat.{be_bytes_2, from_be_bytes-to_be_bytes_2}
 use Rattle.std.specs.Int.{w16, from_be_bytes, to_be_bytes}
+use Rattle.std.specs.List.{concat}
 use Rattle.wire.specs.Bytes.{AreBytes}
 use Rattle.v4_message.specs.Layout.{MAGIC_COOKIE}
-use Rattle.v4_message.specs.Header.{HeaderValue, IsSized, joined, fields_of, header_bytes, part, header_at}
+use Rattle.wire.specs.Part.{part}
+use Rattle.v4_message.specs.Header.{HeaderValue, IsSized, fields_of, header_bytes, header_at}
 use Rattle.v4_message.specs.Spelling.{HasCookie, IsEthernet}
 
 -- Appending the fields in turn concatenates them.
@@ -34,32 +36,32 @@ AreSized (n ∷ ns) [] = ⊥
 AreSized (n ∷ ns) (f ∷ fs) = (length f ≡ n) × AreSized ns fs
 
 -- Concatenated fields are cut into the same fields.
-cut-joined : (at : ℕ) (ns : List ℕ) (front : List ℕ) (fields : List (List ℕ)) (rest : List ℕ) → length front ≡ at → AreSized ns fields → cut at ns (front ++ (joined fields ++ rest)) ≡ fields
+cut-joined : (at : ℕ) (ns : List ℕ) (front : List ℕ) (fields : List (List ℕ)) (rest : List ℕ) → length front ≡ at → AreSized ns fields → cut at ns (front ++ (concat fields ++ rest)) ≡ fields
 cut-joined at [] front [] rest e h = refl
 cut-joined at [] front (f ∷ fs) rest e h = absurd h
 cut-joined at (n ∷ ns) front [] rest e h = absurd h
 cut-joined at (n ∷ ns) front (f ∷ fs) rest e h =
-    let regroup : front ++ ((f ++ joined fs) ++ rest) ≡ (front ++ f) ++ (joined fs ++ rest) = simp append_assoc in
+    let regroup : front ++ ((f ++ concat fs) ++ rest) ≡ (front ++ f) ++ (concat fs ++ rest) = simp append_assoc in
     let len : length (front ++ f) ≡ at + n = omega (arith, length-append front f, e, h.0) in
-    let first : part (front ++ ((f ++ joined fs) ++ rest)) at n ≡ f =
-    ap (take n) (drop_at front ((f ++ joined fs) ++ rest) at e)
-    ∙ ap (take n) (append_assoc f (joined fs) rest)
-    ∙ take_at f (joined fs ++ rest) n h.0 in
-    let others : cut (at + n) ns (front ++ ((f ++ joined fs) ++ rest)) ≡ fs =
+    let first : part (front ++ ((f ++ concat fs) ++ rest)) at n ≡ f =
+    ap (take n) (drop_at front ((f ++ concat fs) ++ rest) at e)
+    ∙ ap (take n) (append_assoc f (concat fs) rest)
+    ∙ take_at f (concat fs ++ rest) n h.0 in
+    let others : cut (at + n) ns (front ++ ((f ++ concat fs) ++ rest)) ≡ fs =
     ap (cut (at + n) ns) regroup ∙ cut-joined (at + n) ns (front ++ f) fs rest len h.1 in
     λ i. first i ∷ others i
 
-length-joined : (at : ℕ) (ns : List ℕ) (fields : List (List ℕ)) → AreSized ns fields → at + length (joined fields) ≡ end at ns
+length-joined : (at : ℕ) (ns : List ℕ) (fields : List (List ℕ)) → AreSized ns fields → at + length (concat fields) ≡ end at ns
 length-joined at [] [] h = omega arith
 length-joined at [] (f ∷ fs) h = absurd h
 length-joined at (n ∷ ns) [] h = absurd h
-length-joined at (n ∷ ns) (f ∷ fs) h = omega (arith, length-append f (joined fs), h.0, length-joined (at + n) ns fs h.1)
+length-joined at (n ∷ ns) (f ∷ fs) h = omega (arith, length-append f (concat fs), h.0, length-joined (at + n) ns fs h.1)
 
 -- Parts that were cut concatenate to the same bytes.
-joined-cut : (at : ℕ) (ns : List ℕ) (bytes : List ℕ) → joined (cut at ns bytes) ++ drop (end at ns) bytes ≡ drop at bytes
+joined-cut : (at : ℕ) (ns : List ℕ) (bytes : List ℕ) → concat (cut at ns bytes) ++ drop (end at ns) bytes ≡ drop at bytes
 joined-cut at [] bytes = refl
 joined-cut at (n ∷ ns) bytes =
-    append_assoc (part bytes at n) (joined (cut (at + n) ns bytes)) (drop (end (at + n) ns) bytes)
+    append_assoc (part bytes at n) (concat (cut (at + n) ns bytes)) (drop (end (at + n) ns) bytes)
     ∙ ap (λ (t : List ℕ). part bytes at n ++ t) (joined-cut (at + n) ns bytes ∙ sym (drop-drop n at bytes))
     ∙ take-append-drop n (drop at bytes)
 
@@ -173,5 +175,5 @@ whole bytes fits long cookie ethernet =
     ∙ ap (λ (t : List ℕ). t ++ drop 4 (drop 236 bytes)) cookie
     ∙ ap (λ (t : List ℕ). MAGIC_COOKIE ++ t) (drop-drop 4 236 bytes) in
     sym (joined-cut 0 sizes bytes)
-    ∙ ap (λ (fields : List (List ℕ)). joined fields ++ drop 236 bytes) parts
+    ∙ ap (λ (fields : List (List ℕ)). concat fields ++ drop 236 bytes) parts
     ∙ ap (λ (t : List ℕ). header_bytes (header_at bytes) ++ t) tail

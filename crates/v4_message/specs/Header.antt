@@ -1,6 +1,8 @@
 -- A message's header: its fields as values, and their bytes in order (RFC 2131, section 2).
-use Rattle.std.specs.Prelude.{◌≡◌, ℕ, ◌<◌, ◌^◌, List, [], ◌∷◌, ◌++◌, length, take, drop, slice_index}
+use Rattle.std.specs.Prelude.{◌≡◌, ℕ, ◌<◌, ◌^◌, List, [], ◌∷◌, length, slice_index}
 use Rattle.std.specs.Int.{w16, to_be_bytes, from_be_bytes}
+use Rattle.std.specs.List.{concat}
+use Rattle.wire.specs.Part.{part}
 
 -- op, hops and flags are numbers; every other field is a list of bytes.
 pub record HeaderValue : Type 0 where
@@ -31,10 +33,6 @@ pub record IsSized (h : HeaderValue) : Type 0 where
   pub file : length h.file ≡ 128
 
 -- The bytes of some fields, concatenated.
-abbrev pub joined : List (List ℕ) → List ℕ
-joined [] = []
-joined (field ∷ fields) = field ++ joined fields
-
 -- The fields as bytes, in order. The hardware is Ethernet: htype 1, hlen 6 (RFC 1700, "Hardware Type").
 abbrev pub fields_of : HeaderValue → List (List ℕ)
 fields_of h =
@@ -44,11 +42,7 @@ fields_of h =
     ∷ h.chaddr ∷ h.sname ∷ h.file ∷ []
 
 abbrev pub header_bytes : HeaderValue → List ℕ
-header_bytes h = joined (fields_of h)
-
--- `len` bytes from offset `at`.
-abbrev pub part : List ℕ → ℕ → ℕ → List ℕ
-part bytes at len = take len (drop at bytes)
+header_bytes h = concat (fields_of h)
 
 -- The fields at their offsets in a message's bytes (RFC 2131, section 2, figure 1).
 abbrev pub header_at : List ℕ → HeaderValue

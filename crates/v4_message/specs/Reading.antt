@@ -1,6 +1,7 @@
 -- Reading a message: the tests in their order, and the message.
 use Rattle.std.specs.Prelude.{ℕ, Bool, true, ◌&&◌, ◌||◌, ◌==◌, nat_le, List, [], ◌∷◌, length, drop, slice_index, Option, Some, None, Result, Ok, Err, is_some, is_none, if◌then◌else◌}
 use Rattle.std.specs.Str.{bytes_eq}
+use Rattle.std.specs.Option.{option_map_or}
 use Rattle.v4_options.specs.Codes.{REQUESTED_ADDRESS, OPTION_OVERLOAD, MESSAGE_TYPE, SERVER_IDENTIFIER}
 use Rattle.v4_options.specs.declared.fault.OptFault.{OptFault}
 use Rattle.v4_options.specs.Spelling.{look_up}
@@ -8,7 +9,8 @@ use Rattle.v4_options.specs.Reading.{options_of}
 use Rattle.v4_message.specs.Layout.{MAGIC_COOKIE}
 use Rattle.v4_message.specs.declared.fault.MessageFault.{MessageFault}
 use Rattle.v4_message.specs.declared.fault.MessageFault.TheVariants.{Short, Cookie, Hardware, Options, Kind}
-use Rattle.v4_message.specs.Header.{header_at, part}
+use Rattle.wire.specs.Part.{part}
+use Rattle.v4_message.specs.Header.{header_at}
 use Rattle.v4_message.specs.Spelling.{MessageValue}
 
 -- The cookie stands behind the 236 bytes of the header, and the options from 240 on.
@@ -21,30 +23,21 @@ is_ethernet bytes = slice_index bytes 1 == 1 && slice_index bytes 2 == 6
 
 -- An address, or absent.
 abbrev pub may_be_addr : Option (List ℕ) → Bool
-may_be_addr None = true
-may_be_addr (Some value) = length value == 4
+may_be_addr found = option_map_or (λ value. length value == 4) found true
 
 abbrev pub are_allowed : List (ℕ × List ℕ) → Bool
 are_allowed list = is_none (look_up OPTION_OVERLOAD list) && (may_be_addr (look_up REQUESTED_ADDRESS list) && may_be_addr (look_up SERVER_IDENTIFIER list))
 
--- a request or a reply
-abbrev pub is_op : ℕ → Bool
-is_op op = op == 1 || op == 2
-
 -- The message type in option 53.
 abbrev pub kind_in : Option (List ℕ) → Option ℕ
-kind_in None = None
-kind_in (Some []) = None
 kind_in (Some (code ∷ [])) = if nat_le 1 code && nat_le code 8 then Some code else None
-kind_in (Some (code ∷ other ∷ more)) = None
+kind_in _ = None
 
-abbrev pub has_kind : List (ℕ × List ℕ) → Bool
-has_kind list = is_some (kind_in (look_up MESSAGE_TYPE list))
-
+-- Its op is a request's (1) or a reply's (2).
 abbrev pub judged : List ℕ → List (ℕ × List ℕ) → Result MessageValue MessageFault
 judged bytes list =
     if are_allowed list then
-    (if is_op (slice_index bytes 0) && has_kind list then Ok (record { header = header_at bytes; options = list }) else Err Kind)
+    (if (slice_index bytes 0 == 1 || slice_index bytes 0 == 2) && is_some (kind_in (look_up MESSAGE_TYPE list)) then Ok (record { header = header_at bytes; options = list }) else Err Kind)
     else Err Options
 
 abbrev pub with_options : List ℕ → Result (List (ℕ × List ℕ)) OptFault → Result MessageValue MessageFault

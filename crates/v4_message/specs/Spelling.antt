@@ -6,7 +6,8 @@ use Rattle.v4_options.specs.Spelling as lists
 use Rattle.v4_message.specs.Layout.{MAGIC_COOKIE}
 use Rattle.v4_message.specs.declared.fault.MessageFault.{MessageFault}
 use Rattle.v4_message.specs.declared.fault.MessageFault.TheVariants.{Short, Cookie, Hardware, Options, Kind}
-use Rattle.v4_message.specs.Header.{HeaderValue, IsSized, header_bytes, part}
+use Rattle.wire.specs.Part.{part}
+use Rattle.v4_message.specs.Header.{HeaderValue, IsSized, header_bytes}
 
 -- A header and a list of options, codes and values.
 pub record MessageValue : Type 0 where

@@ -1,10 +1,10 @@
 //! Whole messages (RFC 2131, section 2).
-ghost use Rattle.std.specs.Prelude.{◌≡◌, ◌≤◌, ◌<◌, ◌+◌, ◌↔◌, [], ◌∷◌, ◌++◌, length, Some, Ok, Err, IsOk, OnOk, OnErr, IfSome, option_map};
+ghost use Rattle.std.specs.Prelude.{◌≡◌, ◌≤◌, ◌<◌, ◌+◌, ◌↔◌, [], ◌∷◌, ◌++◌, ◌==◌, ◌||◌, length, Some, Ok, Err, IsOk, OnOk, OnErr, IfSome, option_map};
 ghost use Rattle.types.specs.Kind4.{code_of_kind};
 ghost use Rattle.v4_options.specs.Codes.{REQUESTED_ADDRESS, MESSAGE_TYPE, SERVER_IDENTIFIER, CLIENT_IDENTIFIER, RELAY_AGENT_INFORMATION};
 ghost use Rattle.v4_options.specs.Spelling.{look_up};
 ghost use Rattle.v4_message.specs.Header.{IsSized};
-ghost use Rattle.v4_message.specs.Reading.{are_allowed, has_cookie, is_ethernet, is_op, kind_in, may_be_addr, message_of};
+ghost use Rattle.v4_message.specs.Reading.{are_allowed, has_cookie, is_ethernet, kind_in, may_be_addr, message_of};
 ghost use Rattle.v4_message.specs.Spelling.{MessageValue, IsValid, Spells, Fails, message_bytes};
 ghost use Rattle.v4_message.specs.Written.{header_value};
 
@@ -257,7 +257,7 @@ fn is_ethernet(bytes: &[u8]) -> bool
 }
 
 fn is_op(op: u8) -> bool
-    ensures { result ≡ is_op op }
+    ensures { result ≡ (op == 1 || op == 2) }
 {
     op == OP_REQUEST || op == OP_REPLY
 }

@@ -1,7 +1,7 @@
 //! Parts of a message whose length is known.
 ghost use Rattle.std.specs.Prelude.{◌≡◌, ◌+◌, ◌≤◌, length};
 ghost use Rattle.types.specs.declared.addr.Addr4.{Addr4};
-ghost use Rattle.v4_message.specs.Header.{part};
+ghost use Rattle.wire.specs.Part.{part};
 
 use types::Addr4;
 

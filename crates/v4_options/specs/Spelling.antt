@@ -1,5 +1,7 @@
 -- Which lists of options bytes spell (RFC 2132, section 2), and why others spell none.
-use Rattle.std.specs.Prelude.{◌≡◌, ◌≢◌, ℕ, ◌<◌, ◌==◌, List, [], ◌∷◌, ◌++◌, length, Option, Some, None, IsSome, if◌then◌else◌}
+use Rattle.std.specs.Prelude.{◌≡◌, ◌≢◌, ℕ, ◌<◌, ◌==◌, List, [], ◌∷◌, ◌++◌, length, None, IsSome, if◌then◌else◌}
+use Rattle.std.specs.List.{flat_map}
+pub use Rattle.wire.specs.Options.{look_up}
 use Rattle.v4_options.specs.Codes.{PAD, END}
 use Rattle.v4_options.specs.declared.fault.OptFault.{OptFault}
 use Rattle.v4_options.specs.declared.fault.OptFault.TheVariants.{NoEnd, Cut, Twice}
@@ -10,13 +12,7 @@ option code value = code ∷ length value ∷ value
 
 -- The bytes of a list are those of its options, concatenated.
 abbrev pub spelling : List (ℕ × List ℕ) → List ℕ
-spelling [] = []
-spelling (o ∷ os) = option o.0 o.1 ++ spelling os
-
--- The value of the first option with this code.
-abbrev pub look_up : ℕ → List (ℕ × List ℕ) → Option (List ℕ)
-look_up code [] = None
-look_up code (o ∷ os) = if o.0 == code then Some o.1 else look_up code os
+spelling list = flat_map (λ o. option o.0 o.1) list
 
 -- A list without the options of this code.
 abbrev pub without : ℕ → List (ℕ × List ℕ) → List (ℕ × List ℕ)

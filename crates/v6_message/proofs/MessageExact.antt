@@ -3,6 +3,7 @@ use Rattle.std.proofs.Common.{◌≡◌, ℕ, ◌≤◌, Bool, true, false, ◌|
 use Rattle.std.specs.Prelude.{◌↔◌}
 use Rattle.std.proofs.lemmas.Bool.{le-leb, lt-leb, leb-true, leb-false, eqb-true}
 use Rattle.std.proofs.lemmas.List.{take_at, drop_at, take-append-drop, length-append, length-take-le, length-drop}
+use Rattle.std.specs.Option.{option_and_then}
 use Rattle.v6_options.specs.Codes.{IA_NA, IA_ADDRESS}
 use Rattle.v6_options.specs.Spelling.{spelling, look_up, Spells}
 use Rattle.v6_options.specs.Reading.{listed, cut_from, options_of}
@@ -12,12 +13,13 @@ use Rattle.v6_message.specs.declared.fault.MessageFault.TheVariants.{Short, Cut,
 use Rattle.v6_message.specs.declared.scan.Sender.TheVariants.{Client}
 use Rattle.v6_message.specs.declared.scan.ListFault.{ListFault}
 use Rattle.v6_message.specs.declared.scan.ListFault.TheVariants as list_faults
-use Rattle.v6_message.specs.Layout.{IA_OPTIONS, part}
+use Rattle.wire.specs.Part.{part}
+use Rattle.v6_message.specs.Layout.{IA_OPTIONS}
 use Rattle.v6_message.specs.Lists.{count, first_code, second_code, IsIa, AreFormed}
 use Rattle.v6_message.specs.Reading.{is_formed, is_again, is_ia, fault_of, first_fault}
 use Rattle.v6_options.proofs.Exact.{one_list}
 use Rattle.v6_message.specs.Message.{MessageValue, HasIa, HasAtMost, HasOptions, SpellsMessage, IsReadable, FailsMessage, message_bytes}
-use Rattle.v6_message.specs.Ia.{IaValue, ia_at, ia_of as read_ia, ia_in}
+use Rattle.v6_message.specs.Ia.{IaValue, ia_at, ia_of as read_ia}
 use Rattle.v6_message.specs.MessageReading.{IsRead, message_at, with_ia, counted, message_or, message_of}
 use Rattle.v6_message.proofs.Counts.{none_found, some_found}
 use Rattle.v6_message.proofs.Decided.{all_decided, all_true, small_drop}
@@ -220,7 +222,7 @@ known_at bytes options value ia small long h e one found few i = record {
   long = long;
   spelled = is.0;
   limits = is.1;
-  found = ap ia_in found ∙ sym i;
+  found = ap (option_and_then read_ia) found ∙ sym i;
   few = rw inside (leb-true (count IA_ADDRESS (listed (drop IA_OPTIONS value))) 4 few);
 }
   where

@@ -12,7 +12,7 @@ use Rattle.v6_message.specs.declared.fault.RelayFault.TheVariants.{Short, Cut, T
 use Rattle.v6_message.specs.declared.scan.Sender.TheVariants.{Relay}
 use Rattle.v6_message.specs.declared.scan.ListFault.{ListFault}
 use Rattle.v6_message.specs.declared.scan.ListFault.TheVariants as list_faults
-use Rattle.v6_message.specs.Layout.{part}
+use Rattle.wire.specs.Part.{part}
 use Rattle.v6_message.specs.Reading.{first_fault}
 use Rattle.v6_message.specs.Relay.{RelayValue, SpellsRelay, FailsRelay, relay_header, relay_bytes}
 use Rattle.v6_message.specs.RelayReading.{IsRead, relay_at, relay_or, relay_of}

@@ -4,7 +4,8 @@ use Rattle.std.specs.Int.{w16, w32, from_be_bytes, to_be_bytes}
 use Rattle.v6_options.specs.Codes.{IA_ADDRESS, STATUS_CODE}
 use Rattle.v6_options.specs.Reading.{listed}
 use Rattle.v6_options.specs.Spelling.{spelling, look_up, AreOptions}
-use Rattle.v6_message.specs.Layout.{IA_OPTIONS, part}
+use Rattle.wire.specs.Part.{part}
+use Rattle.v6_message.specs.Layout.{IA_OPTIONS}
 use Rattle.v6_message.specs.Lists.{AreLong}
 use Rattle.v6_message.specs.Reading.{are_long, is_ia}
 
@@ -41,11 +42,6 @@ ia_at value options = record {
 -- The result of reading a value.
 abbrev pub ia_of : List ℕ → Option IaValue
 ia_of value = if is_ia value then Some (ia_at value (listed (drop IA_OPTIONS value))) else None
-
--- The same where there is a value at all.
-abbrev pub ia_in : Option (List ℕ) → Option IaValue
-ia_in None = None
-ia_in (Some value) = ia_of value
 
 -- What is known of an IA_NA that was read, by its option's value and its options.
 pub record IsReadIa (value : List ℕ) (options : List (ℕ × List ℕ)) : Type 0 where

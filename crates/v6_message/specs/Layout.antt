@@ -1,9 +1,5 @@
 -- Where the parts of a message stand (RFC 8415, sections 8 and 9).
-use Rattle.std.specs.Prelude.{ℕ, List, take, drop}
-
--- `len` bytes from offset `at`.
-abbrev pub part : List ℕ → ℕ → ℕ → List ℕ
-part bytes at len = take len (drop at bytes)
+use Rattle.std.specs.Prelude.{ℕ}
 
 -- A client's or server's message: type and transaction id, 1 and 3 bytes, then options.
 abbrev pub MESSAGE_OPTIONS : ℕ

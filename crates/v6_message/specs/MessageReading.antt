@@ -1,5 +1,6 @@
 -- Reading a client's or server's message.
 use Rattle.std.specs.Prelude.{◌≡◌, ℕ, ◌≤◌, nat_le, List, length, drop, slice_index, Option, Some, None, Result, Ok, Err, if◌then◌else◌}
+use Rattle.std.specs.Option.{option_and_then}
 use Rattle.v6_options.specs.Codes.{IA_NA, IA_ADDRESS}
 use Rattle.v6_options.specs.Spelling.{look_up}
 use Rattle.v6_options.specs.Reading.{listed}
@@ -8,11 +9,12 @@ use Rattle.v6_message.specs.declared.fault.MessageFault.TheVariants.{Short, Cut,
 use Rattle.v6_message.specs.declared.scan.Sender.TheVariants.{Client}
 use Rattle.v6_message.specs.declared.scan.ListFault.{ListFault}
 use Rattle.v6_message.specs.declared.scan.ListFault.TheVariants as list
-use Rattle.v6_message.specs.Layout.{MESSAGE_OPTIONS, IA_OPTIONS, part}
+use Rattle.wire.specs.Part.{part}
+use Rattle.v6_message.specs.Layout.{MESSAGE_OPTIONS, IA_OPTIONS}
 use Rattle.v6_message.specs.Lists.{count}
 use Rattle.v6_message.specs.Reading.{first_fault}
 use Rattle.v6_message.specs.Message.{MessageValue, SpellsMessage, IsReadable}
-use Rattle.v6_message.specs.Ia.{IaValue, ia_in}
+use Rattle.v6_message.specs.Ia.{IaValue, ia_of}
 
 -- The fields at their offsets.
 abbrev pub message_at : List ℕ → List (ℕ × List ℕ) → MessageValue
@@ -39,5 +41,5 @@ pub record IsRead (bytes : List ℕ) (options : List (ℕ × List ℕ)) (ia : Ia
   pub long : MESSAGE_OPTIONS ≤ length bytes
   pub spelled : SpellsMessage bytes (message_at bytes options)
   pub limits : IsReadable (message_at bytes options)
-  pub found : ia_in (look_up IA_NA options) ≡ Some ia
+  pub found : option_and_then ia_of (look_up IA_NA options) ≡ Some ia
   pub few : count IA_ADDRESS ia.options ≤ 4

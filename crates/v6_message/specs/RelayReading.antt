@@ -6,7 +6,8 @@ use Rattle.v6_message.specs.declared.fault.RelayFault.TheVariants.{Short, Cut, T
 use Rattle.v6_message.specs.declared.scan.Sender.TheVariants.{Relay}
 use Rattle.v6_message.specs.declared.scan.ListFault.{ListFault}
 use Rattle.v6_message.specs.declared.scan.ListFault.TheVariants as list
-use Rattle.v6_message.specs.Layout.{RELAY_OPTIONS, part}
+use Rattle.wire.specs.Part.{part}
+use Rattle.v6_message.specs.Layout.{RELAY_OPTIONS}
 use Rattle.v6_message.specs.Reading.{first_fault}
 use Rattle.v6_message.specs.Relay.{RelayValue, SpellsRelay}
 

@@ -1,8 +1,9 @@
 //! Messages of clients and servers (RFC 8415, section 8).
 ghost use Rattle.std.specs.Prelude.{◌≡◌, ◌≤◌, ◌<◌, ◌+◌, ◌^◌, ◌↔◌, [], ◌∷◌, ◌++◌, length, Some, Ok, Err, IsOk, OnOk, OnErr, IfSome, option_map};
+ghost use Rattle.std.specs.Option.{option_and_then};
 ghost use Rattle.v6_options.specs.Codes.{CLIENT_ID, SERVER_ID, IA_NA, IA_ADDRESS};
 ghost use Rattle.v6_options.specs.Spelling.{look_up, spelling};
-ghost use Rattle.v6_message.specs.Ia.{ia_in, status_in};
+ghost use Rattle.v6_message.specs.Ia.{ia_of, status_in};
 ghost use Rattle.v6_message.specs.Lists.{count};
 ghost use Rattle.v6_message.specs.Message.{MessageValue, SpellsMessage, IsReadable, FailsMessage, message_bytes};
 ghost use Rattle.v6_message.specs.MessageReading.{message_of};
@@ -88,7 +89,7 @@ impl<'a> Message6<'a> {
 
     /// Option 3, the IA_NA.
     pub fn ia(&self) -> &Ia6<'a>
-        ensures value { ia_in (look_up IA_NA self.now.options) ≡ Some result.now }
+        ensures value { option_and_then ia_of (look_up IA_NA self.now.options) ≡ Some result.now }
         ensures one { count IA_NA self.now.options ≡ 1 }
         ensures few { count IA_ADDRESS result.now.options ≤ 4 }
     {

@@ -1,6 +1,6 @@
 //! Parts of a message whose length is known.
 ghost use Rattle.std.specs.Prelude.{◌≡◌, ◌+◌, ◌≤◌, length};
-ghost use Rattle.v6_message.specs.Layout.{part};
+ghost use Rattle.wire.specs.Part.{part};
 
 /// The `N` bytes from offset `at`.
 pub(crate) fn array_at<const N: usize>(bytes: &[u8], at: usize) -> &[u8; N]

@@ -1,6 +1,8 @@
 -- Which lists of DHCPv6 options bytes spell (RFC 8415, section 21.1), and why others spell none.
-use Rattle.std.specs.Prelude.{◌≡◌, ℕ, ◌+◌, ◌^◌, ◌<◌, ◌≤◌, ◌==◌, ◌⊎◌, List, [], ◌∷◌, ◌++◌, length, drop, Option, Some, None, if◌then◌else◌}
+use Rattle.std.specs.Prelude.{◌≡◌, ℕ, ◌+◌, ◌^◌, ◌<◌, ◌≤◌, ◌⊎◌, List, [], ◌∷◌, ◌++◌, length, drop}
 use Rattle.std.specs.Int.{w16, to_be_bytes, from_be_bytes}
+use Rattle.std.specs.List.{flat_map}
+pub use Rattle.wire.specs.Options.{look_up}
 use Rattle.v6_options.specs.declared.fault.OptFault.{OptFault}
 use Rattle.v6_options.specs.declared.fault.OptFault.TheVariants.{Cut}
 
@@ -10,8 +12,7 @@ option code value = to_be_bytes w16 code ++ (to_be_bytes w16 (length value) ++ v
 
 -- The bytes of a list are those of its options, concatenated.
 abbrev pub spelling : List (ℕ × List ℕ) → List ℕ
-spelling [] = []
-spelling (o ∷ os) = option o.0 o.1 ++ spelling os
+spelling list = flat_map (λ o. option o.0 o.1) list
 
 -- Code and length are numbers of two bytes. A code may appear twice.
 abbrev pub AreOptions : List (ℕ × List ℕ) → Type 0
@@ -38,8 +39,3 @@ pub record Fails (fault : OptFault) (bytes : List ℕ) : Type 0 where
   pub whole : bytes ≡ spelling front ++ rest
   pub options : AreOptions front
   pub stops : Stops fault rest
-
--- The value of the first option with this code.
-abbrev pub look_up : ℕ → List (ℕ × List ℕ) → Option (List ℕ)
-look_up code [] = None
-look_up code (o ∷ os) = if o.0 == code then Some o.1 else look_up code os

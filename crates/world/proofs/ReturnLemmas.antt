@@ -2,6 +2,7 @@
 use Rattle.std.proofs.Common.{◌≡◌, ℕ, Bool, true, false, cond, List, [], ◌∷◌, ◌++◌, length, refl, sym, ap, subst, ◌∙◌}
 use Rattle.std.specs.Prelude.{Option, Some, None, Result, Ok, Err, option_map, slice_get, not, nat_lt, ◌==◌}
 use Rattle.std.specs.List.{position}
+use Rattle.std.specs.Result.{result_map_both}
 use Rattle.types.specs.Delivery.{DeliveryValue, delivery}
 use Rattle.types.specs.Addr.{is_unspecified}
 use Rattle.types.specs.declared.addr.Addr4.{Addr4}
@@ -26,7 +27,7 @@ use Rattle.requests.specs.Addressee.{addressee}
 use Rattle.requests.specs.Addressee4.{agent_check, link_fault4, message_check}
 use Rattle.requests.specs.NamedCircuit.{circuit_check, link_check}
 use Rattle.requests.specs.Request4.{request4_in}
-use Rattle.circuit_server.specs.Server.{Book, book_at, datagram_served, reply4_to, request4_served, message4_served, served}
+use Rattle.circuit_server.specs.Server.{Book, book_at, datagram_served, request4_served, message4_served, served}
 use Rattle.relay.specs.Down4.{is_named}
 use Rattle.relay.proofs.AllLemmas.{by_index}
 use Rattle.replies.specs.Reply4.{name_servers, echo, reply_options, reply4_bytes}
@@ -113,7 +114,7 @@ pub record IsReply (part : CircuitPart) (m : MessageValue) (b : Book) (bytes : L
   pub written : bytes ≡ reply4_bytes part m reply
 
 by_answer : (part : CircuitPart) (m : MessageValue) (b : Book) (bytes : List ℕ) (request : Request4) (answer : Result Reply4 Discard)
-    → (answer4 (pool4_of part) b.clock b.four request).answer ≡ answer → reply4_to part m answer ≡ Ok bytes → IsReply part m b bytes
+    → (answer4 (pool4_of part) b.clock b.four request).answer ≡ answer → result_map_both (reply4_bytes part m) (λ why. why) answer ≡ Ok bytes → IsReply part m b bytes
 by_answer part m b bytes request (Err why) is e = absurd cc
 by_answer part m b bytes request (Ok reply) is e =
     let same : reply4_bytes part m reply ≡ bytes = same_bytes (reply4_bytes part m reply) bytes e in

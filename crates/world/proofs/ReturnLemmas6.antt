@@ -1,6 +1,7 @@
 -- What the server answers to a DHCPv6 datagram.
 use Rattle.std.proofs.Common.{◌≡◌, ℕ, List, refl, sym, subst}
 use Rattle.std.specs.Prelude.{Option, Some, None, Result, Ok, Err}
+use Rattle.std.specs.Result.{result_map_both}
 use Rattle.types.specs.Delivery.{DeliveryValue}
 use Rattle.types.specs.Key6.{Key6Value}
 use Rattle.types.specs.declared.dest.Proto.{Proto}
@@ -17,7 +18,7 @@ use Rattle.v6_message.specs.RelayReading.{relay_of}
 use Rattle.config.specs.CircuitPart.{CircuitPart, pool6_of}
 use Rattle.bindings_v6.specs.Table6.{answer6}
 use Rattle.requests.specs.Request6.{request6_in}
-use Rattle.circuit_server.specs.Server.{Book, book_at, datagram_served, reply6_to, request6_served, message6_served, forward_served, served}
+use Rattle.circuit_server.specs.Server.{Book, book_at, datagram_served, request6_served, message6_served, forward_served, served}
 use Rattle.replies.specs.Reply6.{reply6_bytes}
 
 -- These bytes are a reply to a Relay-forward's message.
@@ -40,7 +41,7 @@ same_bytes : (x y : List ℕ) → ok x ≡ ok y → x ≡ y
 same_bytes x y e = cc
 
 module _ (part : CircuitPart) (b : Book) (bytes : List ℕ) where
-  by_answer : (forward : RelayValue) (m : MessageValue) (client : Key6Value) (answer : Result Reply6 Discard) → reply6_to part forward m client answer ≡ Ok bytes → IsReply6 part forward bytes
+  by_answer : (forward : RelayValue) (m : MessageValue) (client : Key6Value) (answer : Result Reply6 Discard) → result_map_both (reply6_bytes part forward m client) (λ why. why) answer ≡ Ok bytes → IsReply6 part forward bytes
   by_answer forward m client (Err why) e = absurd cc
   by_answer forward m client (Ok reply) e = record { message = m; client = client; reply = reply; written = sym (same_bytes (reply6_bytes part forward m client reply) bytes e) }
 

@@ -2,9 +2,9 @@ use Rattle.std.proofs.Common.{◌∙◌, ap, subst}
 use Rattle.std.specs.Prelude.{option_map}
 use Rattle.std.specs.List.{position}
 use Rattle.std.specs.Str.{bytes_eq}
+use Rattle.std.specs.Option.{option_or}
 use Rattle.slots.specs.Lookup.{is_bound_to, is_offered_to, picked_slot}
-use Rattle.slots.specs.Maps.{or_else}
-use Rattle.slots.proofs.FreeLemmas.{or_is}
+
 use Rattle.types.specs.Addr.{number4}
 use Rattle.bindings_v4.specs.Slots4.{AreSlots, PoolSlots}
 use Rattle.bindings_v4.proofs.FreeLemmas.{bound_found, offered_found, pick_found}
@@ -25,8 +25,8 @@ returns-clause-found c =
     let offer = c.located-2.ensures.address ∙ offered_found v c.args.clock m.key are ss now.result offered.result shown now.ensures.value offered.ensures.slot in
     let bound_is = position (is_bound_to bytes_eq now.result m.key) ss in
     let offered_is = position (is_offered_to bytes_eq now.result m.key) ss in
-    let held = c.or.ensures ∙ or_is bound.result offered.result ∙ ap (λ o. or_else o offered.result) bound.ensures.slot ∙ ap (or_else bound_is) offered.ensures.slot in
+    let held = c.or.ensures ∙ ap (λ o. option_or o offered.result) bound.ensures.slot ∙ ap (option_or bound_is) offered.ensures.slot in
     let picked =
-    c.picked_slot-picked.ensures.slot ∙ ap (λ o. picked_slot now.result ss o wanted.result) held ∙ ap (picked_slot now.result ss (or_else bound_is offered_is)) wanted.ensures.slot in
+    c.picked_slot-picked.ensures.slot ∙ ap (λ o. picked_slot now.result ss o wanted.result) held ∙ ap (picked_slot now.result ss (option_or bound_is offered_is)) wanted.ensures.slot in
     let pick = c.located-3.ensures.address ∙ pick_found v c.args.clock m.key (option_map number4 m.wanted) are ss now.result c.picked_slot-picked.result shown now.ensures.value picked in
     λ i. record { binding = binding i; offer = offer i; pick = pick i }

@@ -1,6 +1,7 @@
 use Rattle.std.proofs.Common.{ap, arith, subst, ◌<◌, ◌^◌}
 use Rattle.std.specs.Int.{w16, from_be_bytes}
-use Rattle.v4_message.specs.Header.{IsSized, part}
+use Rattle.wire.specs.Part.{part}
+use Rattle.v4_message.specs.Header.{IsSized}
 use Rattle.v4_message.specs.Spelling.{MessageValue}
 use Rattle.v4_message.proofs.Headers.{sized_from_flags}
 use Rattle.v4_message.proofs.message.Message.header.Goals as goal
