@@ -7,6 +7,7 @@ use Rattle.events.specs.Seen.{Frame, Up, Down}
 use Rattle.lab_text.specs.declared.parse_line.ParsedLine.{ParsedLine}
 use Rattle.lab_text.specs.declared.parse_line.ParsedLine.TheVariants as parsed
 use Rattle.events.specs.Seen.{comeback_at}
+use Rattle.events.specs.Batch.{is_batch}
 use Rattle.events.specs.declared.batch.BatchPart.{BatchPart}
 use Rattle.events.specs.declared.comeback.Comeback.{Comeback}
 use Rattle.lab_text.specs.declared.parse_line.Parsed.{Parsed}
@@ -73,6 +74,11 @@ batch_or_bad (Some start) parts = line.Batch start.0 start.1 parts
 abbrev pub AreKnown : Settings → List BatchPart → Type 0
 AreKnown settings parts = (i : ℕ) (p : BatchPart) → slice_get parts i ≡ Some p → p.circuit < length settings.circuits
 
+-- These are the parts of a batch.
+pub record IsBatchWithin (settings : Settings) (parts : List BatchPart) : Type 0 where
+  pub batch : is_batch parts ≡ true
+  pub known : AreKnown settings parts
+
 -- A line that was parsed is this one. What a restart says is in a buffer, and so are the parts of a batch.
 abbrev pub Means : Parsed → List ℕ → List Comeback → List BatchPart → Line → Type 0
 Means (Event parsed) bytes comebacks parts given = line_of parsed bytes ≡ given
@@ -82,4 +88,4 @@ Means (Batch now sync) bytes comebacks parts given = line.Batch now sync parts �
 abbrev pub ParsedWithin : Settings → ℕ → List BatchPart → Parsed → Type 0
 ParsedWithin settings plans parts (Event parsed) = IsWithin settings plans parsed
 ParsedWithin settings plans parts Restart = ⊤
-ParsedWithin settings plans parts (Batch now sync) = AreKnown settings parts
+ParsedWithin settings plans parts (Batch now sync) = IsBatchWithin settings parts

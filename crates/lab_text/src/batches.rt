@@ -1,9 +1,10 @@
 //! Batches: several datagrams that reach the server at one moment.
 ghost use Rattle.std.specs.Prelude.{◌≡◌, ◌<◌, ◌≤◌, ◌↔◌, ◌++◌, ◌∷◌, [], true, false, length, option_map, IfSome, if◌then◌else◌, Some, None};
+ghost use Rattle.events.specs.Batch.{is_batch};
 ghost use Rattle.lab_text.specs.Fields.{batch_part, parts_of, sync_fault_of, write_fault_of};
 ghost use Rattle.lab_text.specs.FieldsAfter.{fields_after};
 ghost use Rattle.lab_text.specs.Line.{batch_line};
-ghost use Rattle.lab_text.specs.ParsedLine.{AreKnown, batch_or_bad};
+ghost use Rattle.lab_text.specs.ParsedLine.{AreKnown, IsBatchWithin, batch_or_bad};
 
 use crate::circuits::circuit_named;
 use crate::digits::{datagram_number, fault_number, moment};
@@ -119,6 +120,7 @@ fn batch_part(config: &Config, field: &[u8]) -> Option<BatchPart>
 fn parse_parts(config: &Config, rest: Option<&[u8]>, parts: &mut Parts) -> bool
     ensures value { (if result then Some parts.new else None) ≡ parts_of config.now (fields_after (option_map (λ line. line.now) rest.entry)) }
     ensures known { AreKnown config.now parts.new }
+    ensures batch { result ≡ true → is_batch parts.new ≡ true }
 {
     parts.clear();
     let mut rest = rest;
@@ -141,7 +143,7 @@ pub(crate) fn parse_batch(
     parts: &mut Parts,
 ) -> Option<(Moment, u8)>
     ensures value { batch_or_bad result parts.new ≡ batch_line config.now (fields_after (option_map (λ line. line.now) rest.entry)) }
-    ensures known { IfSome result (λ _. AreKnown config.now parts.new) }
+    ensures within { IfSome result (λ _. IsBatchWithin config.now parts.new) }
 {
     let (now, rest) = next_field(rest)?;
     let (sync, rest) = next_field(rest)?;
