@@ -1,6 +1,6 @@
 -- Batches: several datagrams that reach the server at one moment.
-use Rattle.std.specs.Prelude.{ℕ, ◌==◌, ◌&&◌, Bool, true, not, nat_le, if◌then◌else◌, List, [], ◌∷◌, length, Option, Some, None, slice_index_or}
-use Rattle.std.specs.List.{list_any, position}
+use Rattle.std.specs.Prelude.{ℕ, ◌==◌, ◌&&◌, Bool, true, not, nat_le, if◌then◌else◌, List, [], ◌∷◌, length, Option, Some, None}
+use Rattle.std.specs.List.{list_any}
 use Rattle.batch_saves.specs.Batch.{first_of, is_sync_fault, is_write_fault}
 use Rattle.events.specs.declared.batch.BatchPart.{BatchPart}
 use Rattle.events.specs.declared.batch.PartOutcome.{PartOutcome}

@@ -1,6 +1,6 @@
 //! Batches: several datagrams that reach the server at one moment.
 ghost use Rattle.std.specs.Prelude.{◌≡◌};
-ghost use Rattle.events.specs.Batch.{is_batch, is_named, part_fault};
+ghost use Rattle.events.specs.Batch.{are_apart, is_batch, is_named, part_fault};
 
 use batch_saves::MAX_BATCH;
 use types::{Circuit, Discard};
@@ -33,19 +33,25 @@ fn is_named(parts: &[BatchPart], circuit: Circuit) -> bool
     parts.iter().any(|part| part.circuit == circuit)
 }
 
+/// Whether each of these parts is of another circuit.
+fn are_apart(parts: &[BatchPart]) -> bool
+    ensures { result ≡ are_apart parts.now }
+{
+    let mut rest = parts;
+    'parts: while let Some((part, after)) = rest.split_first() {
+        if is_named(after, part.circuit) {
+            return false;
+        }
+        rest = after;
+    }
+    true
+}
+
 /// Whether these are the parts of a batch: 1 to 16, each of another circuit.
 pub fn is_batch(parts: &[BatchPart]) -> bool
     ensures { result ≡ is_batch parts.now }
 {
-    if parts.is_empty() || parts.len() > MAX_BATCH {
-        return false;
-    }
-    'parts: for index in 0..parts.len() {
-        if is_named(&parts[index + 1..], parts[index].circuit) {
-            return false;
-        }
-    }
-    true
+    !parts.is_empty() && parts.len() <= MAX_BATCH && are_apart(parts)
 }
 
 /// Which call of a part's save fails, where this shared sync fails, 2, 4 or 6, and this write, 1, 3 or 5: whichever comes
