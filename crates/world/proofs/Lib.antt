@@ -1,5 +1,7 @@
 pub mod AddressedLemmas
 pub mod AddressedLemmas6
+pub mod BatchLoops
+pub mod BatchServing
 pub mod Runs
 pub mod SetupLemmas
 pub mod StartLemmas

@@ -1,6 +1,6 @@
 //! Several datagrams at the server at one moment, whose saves share their syncs.
-ghost use Rattle.std.specs.Prelude.{◌≡◌, ℕ, ◌<◌, ◌≤◌, ◌==◌, if◌then◌else◌, length, map, take, All, Some, IfSome, option_map, slice_get};
-ghost use Rattle.std.specs.List.{filter_map};
+ghost use Rattle.std.specs.Prelude.{◌≡◌, ℕ, ◌<◌, ◌≤◌, ◌==◌, ◌++◌, [], if◌then◌else◌, length, map, take, All, Some, IfSome, option_map, slice_get};
+ghost use Rattle.std.specs.List.{cons_option, filter_map};
 ghost use Rattle.types.specs.Delivery.{delivery};
 ghost use Rattle.dispatch.specs.Regions.{HasRegions, KeepsOthers};
 ghost use Rattle.dispatch.specs.ServerValue.{AreReady};
@@ -91,6 +91,16 @@ fn waiting_of(
     })
 }
 
+/// Adds what waits of a part, if anything.
+fn add_waiting(waiting: &mut ArrayVec<Waiting, MAX_BATCH>, part: Option<Waiting>)
+    requires room { length waiting.old.items < 16 }
+    ensures { waiting.new.items ≡ waiting.old.items ++ cons_option part [] }
+{
+    if let Some(part) = part {
+        waiting.push(part);
+    }
+}
+
 /// What waits of each part, in order.
 fn all_waiting(
     relays: &Relays,
@@ -108,12 +118,17 @@ fn all_waiting(
 {
     let mut waiting = ArrayVec::new();
     'parts: for index in 0..parts.len() {
-        match waiting_of(relays, net, server, sync, parts[index]) {
-            Some(part) => waiting.push(part),
-            None => {}
-        }
+        let part = waiting_of(relays, net, server, sync, parts[index]);
+        add_waiting(&mut waiting, part);
     }
     waiting
+}
+
+/// Which call of a part's save fails, or none.
+fn fault_of(part: Waiting, fails: bool) -> u8
+    ensures { result ≡ (if fails then part.fault else 0) }
+{
+    if fails { part.fault } else { 0 }
 }
 
 /// Sets which call of the disk fails for the region of each of these parts, or that none does.
@@ -125,15 +140,13 @@ fn set_faults(disk: &mut ModelDisk, waiting: &[Waiting], fails: bool)
 {
     'parts: for index in 0..waiting.len() {
         let part = waiting[index];
-        disk.fail_at(part.region, if fails { part.fault } else { 0 });
+        let (region, fault) = (part.region, fault_of(part, fails));
+        disk.fail_at(region, fault);
     }
 }
 
 /// The datagrams of these parts, as the server takes them.
-fn datagrams_of<'a>(
-    net: &'a Net,
-    waiting: &[Waiting],
-) -> [(Proto, Source, &'a [u8]); MAX_BATCH]
+fn datagrams_of<'a>(net: &'a Net, waiting: &[Waiting]) -> [(Proto, Source, &'a [u8]); MAX_BATCH]
     requires few { length waiting.now ≤ 16 }
     ensures { (now : ℕ) → map (λ d. delivery d.0 d.1 now d.2.now) (take (length waiting.now) result) ≡ map (delivered net.now now) waiting.now }
 {
