@@ -12,6 +12,7 @@ use Rattle.dispatch.specs.Batch.{IsBatch, IsBatchOfLeases, IsWrittenTogether, ba
 use Rattle.dispatch.specs.ServerValue.{AreReady, ServerValue, books_in, leases_in}
 use Rattle.world.specs.Batch.{AreServed, all_delivered, faults_after, regions_of}
 use Rattle.world.specs.declared.world.batch.Waiting.{Waiting}
+use Rattle.world.proofs.BatchParts.{neither}
 
 pub none_served : (now : ℕ) (ws : List Waiting) (net : NetValue) (server : ServerValue) (disk : ModelDiskValue) → AreReady (state_of disk) server → ws ≡ [] → AreServed now ws net server server disk disk []
 none_served now [] net server disk ready none = record {
@@ -28,10 +29,6 @@ none_served now [] net server disk ready none = record {
 none_served now (w ∷ ws) net server disk ready none = absurd cc
 
 -- ---- which call of each region fails
-
-neither : (a b : Bool) → (a || b) ≡ false → (a ≡ false) × (b ≡ false)
-neither false b h = (refl, h)
-neither true b h = absurd cc
 
 pub faults_beside : (fails : Bool) (ws : List Waiting) (faults : ℕ → ℕ) (r : ℕ) → is_in (regions_of ws) r ≡ false → faults_after fails ws faults r ≡ faults r
 faults_beside fails [] faults r beside = refl

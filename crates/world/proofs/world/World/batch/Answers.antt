@@ -13,6 +13,7 @@ use Rattle.world.specs.Answers.{answer_of}
 use Rattle.world.specs.Batch.{AreServed, answer_outcome, bytes_of, delivered, downs_after, faults_after, outcome_for, waiting_of, with_answer}
 use Rattle.world.specs.Headline.{Steps}
 use Rattle.world.specs.World.{states}
+use Rattle.world.proofs.BatchSteps.{have_regions}
 use Rattle.world.proofs.world.World.batch.Goals as goal
 
 -- src/world/batch.rt:280:9
