@@ -64,7 +64,10 @@ seen_alike t net sync now p x h = ap (λ (y : Waiting). Up y.number now y.fault)
 
 pub no_circuit : (t : Topology) (net : NetValue) (sync : ℕ) (p : BatchPart) → slice_get t.circuits p.circuit ≡ None → waiting_of t net sync p ≡ None
 no_circuit t net sync p none = (λ i. if serves t p.circuit then waiting_at sync p (none i) (slice_get (datagrams net p.circuit dir.Up) p.number) else None) ∙ by (serves t p.circuit) where
-  by : (b : Bool) → (if b then None else None) ≡ None
+  nothing : Option Waiting
+  nothing = None
+
+  by : (b : Bool) → (if b then nothing else nothing) ≡ nothing
   by true = refl
   by false = refl
 

@@ -38,6 +38,13 @@ each_added P [] (Some y) all one (suc j) x at = absurd cc
 each_added P (y ∷ xs) more all one zero x at = all zero x at
 each_added P (y ∷ xs) more all one (suc j) x at = each_added P xs more (λ j x at. all (suc j) x at) one j x at
 
+pub one_more : {X : Type 0} (P : X → Type 0) (xs : List X) (n : ℕ) (d : X) → P (get_or xs n d) → ((i : ℕ) (x : X) → slice_get xs i ≡ Some x → i < n → P x)
+    → (i : ℕ) (x : X) → slice_get xs i ≡ Some x → i < n + 1 → P x
+one_more P xs n d own before i x there less = by (eqb n i) refl where
+  by : (b : Bool) → eqb n i ≡ b → P x
+  by true same = subst P (ap (λ k. get_or xs k d) (eqb-true n i same) ∙ get_or_from_slice_get xs i x d there) own
+  by false other = before i x there (not_last n i less (eqb-false n i other))
+
 pub done_set : {X Y : Type 0} (f : X → Y) (xs : List X) (ys : List Y) (n : ℕ) (d : X) → n < length ys
     → ((i : ℕ) (x : X) → slice_get xs i ≡ Some x → i < n → slice_get ys i ≡ Some (f x))
     → (i : ℕ) (x : X) → slice_get xs i ≡ Some x → i < n + 1 → slice_get (set ys n (f (get_or xs n d))) i ≡ Some (f x)
@@ -70,8 +77,8 @@ suc_is i = omega arith
 
 module _ (quota c : ℕ) (d : Waiting) where
   -- the list towards the relay, with what one part adds
-  abbrev one_more : List Waiting → List Answer → ℕ → List Datagram → List Datagram
-  one_more ws answers i downs = if (get_or ws i d).circuit == c then with_answer quota (get_or ws i d).proto (option_map answer_of (slice_get answers i)) downs else downs
+  abbrev with_one : List Waiting → List Answer → ℕ → List Datagram → List Datagram
+  with_one ws answers i downs = if (get_or ws i d).circuit == c then with_answer quota (get_or ws i d).proto (option_map answer_of (slice_get answers i)) downs else downs
 
   abbrev rest : List Waiting → List Answer → ℕ → List Datagram → List Datagram
   rest ws answers i downs = downs_after quota (drop i ws) (map answer_of (drop i answers)) c downs
@@ -79,9 +86,9 @@ module _ (quota c : ℕ) (d : Waiting) where
   unanswered : (ws : List Waiting) (i : ℕ) (downs : List Datagram) → rest ws [] i downs ≡ downs
   unanswered ws i downs = ap (λ answers. downs_after quota (drop i ws) (map answer_of answers) c downs) (drop-nil i) ∙ no_answers quota (drop i ws) c downs
 
-  further : (ws : List Waiting) (answers : List Answer) (i : ℕ) (downs : List Datagram) → i < length ws → rest ws answers i downs ≡ rest ws answers (suc i) (one_more ws answers i downs)
+  further : (ws : List Waiting) (answers : List Answer) (i : ℕ) (downs : List Datagram) → i < length ws → rest ws answers i downs ≡ rest ws answers (suc i) (with_one ws answers i downs)
   further [] answers i downs within = absurd (omega (arith, within))
-  further (w ∷ ws) [] i downs within = unanswered (w ∷ ws) i downs ∙ same_either ((get_or (w ∷ ws) i d).circuit == c) downs ∙ sym (unanswered (w ∷ ws) (suc i) (one_more (w ∷ ws) [] i downs))
+  further (w ∷ ws) [] i downs within = unanswered (w ∷ ws) i downs ∙ same_either ((get_or (w ∷ ws) i d).circuit == c) downs ∙ sym (unanswered (w ∷ ws) (suc i) (with_one (w ∷ ws) [] i downs))
   further (w ∷ ws) (a ∷ answers) zero downs within = refl
   further (w ∷ ws) (a ∷ answers) (suc i) downs within = further ws answers i downs (omega (arith, within))
 
@@ -89,7 +96,7 @@ module _ (quota c : ℕ) (d : Waiting) where
       → downs_after quota (drop i ws) (map answer_of (drop i answers)) c downs
       ≡ downs_after quota (drop (i + 1) ws) (map answer_of (drop (i + 1) answers)) c
       (if (get_or ws i d).circuit == c then with_answer quota (get_or ws i d).proto (option_map answer_of (slice_get answers i)) downs else downs)
-  downs_step ws answers i downs within = further ws answers i downs within ∙ ap (λ n. rest ws answers n (one_more ws answers i downs)) (suc_is i)
+  downs_step ws answers i downs within = further ws answers i downs within ∙ ap (λ n. rest ws answers n (with_one ws answers i downs)) (suc_is i)
 
 module _ (c : ℕ) (d : Waiting) where
   abbrev rest_of : List Waiting → List Answer → ℕ → PartOutcome
