@@ -5,12 +5,14 @@ use Rattle.std.specs.Option.{unwrap_or}
 use Rattle.std.proofs.lemmas.Bool.{eqb-true, ltb-false}
 use Rattle.std.proofs.lemmas.Option.{same_Some, slice_get_within}
 use Rattle.world.specs.Alone.{Setup, Alone, writes}
-use Rattle.events.specs.Seen.{Seen, Frame, Up, Down, Tick, Turn, is_on_after, is_restart, named_by, reload_of, seen_of, turn_to}
-use Rattle.world.specs.Headline.{CircuitState, Shows, Represents, frames_to, frame_of, IsOutcome, IsReloaded, Answers, after_seen, is_on_at, plans_at, region_at, seen_at, Steps, topology_after}
+use Rattle.events.specs.Seen.{Seen, Frame, Up, Down, Tick, Turn, is_on_after, is_restart, named_by, reload_of, seen_of, seen_part, turn_to}
+use Rattle.world.specs.Headline.{IsBatched, batch_of, outcome_at, CircuitState, Shows, Represents, frames_to, frame_of, IsOutcome, IsReloaded, Answers, after_seen, is_on_at, plans_at, region_at, seen_at, Steps, topology_after}
 use Rattle.world.specs.StepsAs.{StepsAs, AllMove, AllTurn, MovesBy, on_by}
 use Rattle.config.specs.Topology.{Topology}
 use Rattle.events.specs.Stray.{is_stray}
-use Rattle.world.proofs.Runs.{away_from}
+use Rattle.world.proofs.Runs.{away_from, same_frames}
+use Rattle.events.specs.Batch.{is_batch, part_of}
+use Rattle.events.specs.declared.batch.BatchPart.{BatchPart}
 use Rattle.world.proofs.StateLemmas.{is_on_in, past_end, plans_in}
 use Rattle.events.specs.declared.event.Event.{Event}
 use Rattle.events.specs.declared.event.Event.TheVariants as event
@@ -46,9 +48,19 @@ module _ (on : Bool) (s : Seen) (keeps : on_by s on ≡ on) where
   named_turns true t sees = ap (λ u. on_by u on) (sym (same_Some s t sees)) ∙ keeps
   named_turns false t sees = absurd cc
 
+-- nor does a batch turn one
+part_turns : (on : Bool) (now sync : ℕ) (part : Option BatchPart) (t : Seen) → seen_part now sync part ≡ Some t → on_by t on ≡ on
+part_turns on now sync None t sees = absurd cc
+part_turns on now sync (Some p) t sees = ap (λ u. on_by u on) (sym (same_Some _ t sees))
+
+batch_turns : (on : Bool) (now sync : ℕ) (part : Option BatchPart) (is : Bool) (t : Seen) → cond is (seen_part now sync part) None ≡ Some t → on_by t on ≡ on
+batch_turns on now sync part true t sees = part_turns on now sync part t sees
+batch_turns on now sync part false t sees = absurd cc
+
 sees_turn : (plans : List Bool) (c : ℕ) (on : Bool) (e : Event) (s : Seen) → seen_of plans c on e ≡ Some s → on_by s on ≡ is_on_after plans on e
 sees_turn plans c on (event.Frame circuit proto bytes) s sees = named_turns on (Frame proto bytes.now) refl (eqb circuit c) s sees
 sees_turn plans c on (event.Up circuit j now fault) s sees = named_turns on (Up j now fault) refl (eqb circuit c) s sees
+sees_turn plans c on (event.Batch now sync parts) s sees = batch_turns on now sync (part_of c parts.now) (is_batch parts.now) s sees
 sees_turn plans c on (event.Down circuit j) s sees = named_turns on (Down j) refl (eqb circuit c) s sees
 sees_turn plans c on (event.Tick now) s sees = ap (λ t. on_by t on) (sym (same_Some (Tick now) s sees))
 sees_turn plans c on (event.Restart comebacks) s sees = ap (λ t. on_by t on) (sym (same_Some _ s sees))
@@ -59,6 +71,7 @@ sees_turn plans c on (event.StrayDown relay source bytes) s sees = absurd cc
 sees_none : (plans : List Bool) (c : ℕ) (on : Bool) (e : Event) → seen_of plans c on e ≡ None → is_on_after plans on e ≡ on
 sees_none plans c on (event.Frame circuit proto bytes) sees = refl
 sees_none plans c on (event.Up circuit j now fault) sees = refl
+sees_none plans c on (event.Batch now sync parts) sees = refl
 sees_none plans c on (event.Down circuit j) sees = refl
 sees_none plans c on (event.Tick now) sees = refl
 sees_none plans c on (event.Restart comebacks) sees = refl
@@ -70,6 +83,7 @@ sees_none plans c on (event.StrayDown relay source bytes) sees = refl
 not_there : (e : Event) → is_on_after [] false e ≡ false
 not_there (event.Frame circuit proto bytes) = refl
 not_there (event.Up circuit j now fault) = refl
+not_there (event.Batch now sync parts) = refl
 not_there (event.Down circuit j) = refl
 not_there (event.Tick now) = refl
 not_there (event.Restart comebacks) = refl
@@ -113,6 +127,41 @@ module _ (c : ℕ) (before : CircuitState) (new : List CircuitState) (o : Outcom
   moved_turns e None m sees = ap is_on_in m.is ∙ ap (λ (s : CircuitState). s.on) m.by ∙ sym (sees_none before.plans c before.on e sees)
   moved_turns e (Some s) m sees = ap is_on_in m.is ∙ m.by.turns ∙ sees_turn before.plans c before.on e s sees
 
+-- ---- what is no batch
+
+pub plain : (e : Event) → batch_of e ≡ None → (c : ℕ) (o : Outcome) → outcome_at c e o ≡ o
+plain (event.Frame circuit proto bytes) none c o = refl
+plain (event.Up circuit j now fault) none c o = refl
+plain (event.Batch now sync parts) none c o = absurd cc
+plain (event.Down circuit j) none c o = refl
+plain (event.Tick now) none c o = refl
+plain (event.Restart comebacks) none c o = refl
+plain (event.Reload plan) none c o = refl
+plain (event.StrayUp proto source bytes now) none c o = refl
+plain (event.StrayDown relay source bytes) none c o = refl
+
+named_plain : (e : Event) (k : ℕ) → named_by e ≡ Some k → batch_of e ≡ None
+named_plain (event.Frame circuit proto bytes) k named = refl
+named_plain (event.Up circuit j now fault) k named = refl
+named_plain (event.Batch now sync parts) k named = absurd cc
+named_plain (event.Down circuit j) k named = refl
+named_plain (event.Tick now) k named = refl
+named_plain (event.Restart comebacks) k named = refl
+named_plain (event.Reload plan) k named = refl
+named_plain (event.StrayUp proto source bytes now) k named = refl
+named_plain (event.StrayDown relay source bytes) k named = refl
+
+stray_plain : (e : Event) → is_stray e ≡ true → batch_of e ≡ None
+stray_plain (event.Frame circuit proto bytes) stray = refl
+stray_plain (event.Up circuit j now fault) stray = refl
+stray_plain (event.Batch now sync parts) stray = absurd cc
+stray_plain (event.Down circuit j) stray = refl
+stray_plain (event.Tick now) stray = refl
+stray_plain (event.Restart comebacks) stray = refl
+stray_plain (event.Reload plan) stray = refl
+stray_plain (event.StrayUp proto source bytes now) stray = refl
+stray_plain (event.StrayDown relay source bytes) stray = refl
+
 -- ---- a step, by how each circuit's state moves
 
 -- what is to be known of an event and its outcome besides
@@ -125,35 +174,36 @@ pub record Rest (e : Event) (old new : List CircuitState) (o : Outcome) (out : L
   pub stray : is_stray e ≡ true → (frame_of o out ≡ []) × (out ≡ []) × (new ≡ old)
 
 module _ (e : Event) (old new : List CircuitState) (o : Outcome) (out : List ℕ) (count : length new ≡ length old)
-    (moves : (c : ℕ) (before : CircuitState) → slice_get old c ≡ Some before → Moved c (seen_of before.plans c before.on e) before new o out) (rest : Rest e old new o out) where
+    (moves : (c : ℕ) (before : CircuitState) → slice_get old c ≡ Some before → Moved c (seen_of before.plans c before.on e) before new (outcome_at c e o) out) (rest : Rest e old new o out)
+    (batched : (parts : List BatchPart) → batch_of e ≡ Some parts → IsBatched e parts old new o out) where
   -- what a circuit sees is what its state says
   sees : (c : ℕ) (before : CircuitState) → slice_get old c ≡ Some before → seen_of before.plans c before.on e ≡ seen_at c old e
   sees c before there = λ i. seen_of (plans_in (sym there i)) c (is_on_in (sym there i)) e
 
-  moved : (c : ℕ) (before : CircuitState) → slice_get old c ≡ Some before → Moved c (seen_at c old e) before new o out
-  moved c before there = subst (λ v. Moved c v before new o out) (sees c before there) (moves c before there)
+  moved : (c : ℕ) (before : CircuitState) → slice_get old c ≡ Some before → Moved c (seen_at c old e) before new (outcome_at c e o) out
+  moved c before there = subst (λ v. Moved c v before new (outcome_at c e o) out) (sees c before there) (moves c before there)
 
   plans : (c : ℕ) (slot : Option CircuitState) → slice_get old c ≡ slot → plans_at c new ≡ plans_in slot
   plans c None none = ap plans_in (past_end new c (subst (λ n. n ≤ c) (sym count) (none_past old c none)))
-  plans c (Some before) there = moved_plans c before new o out _ (moves c before there)
+  plans c (Some before) there = moved_plans c before new (outcome_at c e o) out _ (moves c before there)
 
   turns : (c : ℕ) (slot : Option CircuitState) → slice_get old c ≡ slot → is_on_at c new ≡ is_on_after (plans_in slot) (is_on_in slot) e
   turns c None none = ap is_on_in (past_end new c (subst (λ n. n ≤ c) (sym count) (none_past old c none))) ∙ sym (not_there e)
-  turns c (Some before) there = moved_turns c before new o out e _ (moves c before there) refl
+  turns c (Some before) there = moved_turns c before new (outcome_at c e o) out e _ (moves c before there) refl
 
   others : (c : ℕ) (slot : Option CircuitState) → slice_get old c ≡ slot → seen_at c old e ≡ None → slice_get new c ≡ slot
   others c None none blind = past_end new c (subst (λ n. n ≤ c) (sym count) (none_past old c none))
-  others c (Some before) there blind = moved_stays c before new o out (seen_at c old e) (moved c before there) blind
+  others c (Some before) there blind = moved_stays c before new (outcome_at c e o) out (seen_at c old e) (moved c before there) blind
 
   pub steps_of : Steps e old new o out
   steps_of = record {
     count = count;
     plans = λ c. plans c (slice_get old c) refl;
     turns = λ c. turns c (slice_get old c) refl;
-    each = λ c setup a here. moved_each c here.state new o out (seen_at c old e) (moved c here.state here.there) setup a here.shows;
-    answers = λ c setup a here. moved_answers c here.state new o out (seen_at c old e) (moved c here.state here.there) (rest.away c) setup a here.shows;
+    each = λ c setup a here. moved_each c here.state new (outcome_at c e o) out (seen_at c old e) (moved c here.state here.there) setup a here.shows;
+    answers = λ c setup a here. moved_answers c here.state new (outcome_at c e o) out (seen_at c old e) (moved c here.state here.there) (λ blind. ap (frames_to c) (same_frames c e o out) ∙ rest.away c blind) setup a here.shows;
     quiet = λ c setup a s here seen nothing.
-        moved_quiet c here.state new o out (seen_at c old e) (moved c here.state here.there) setup a s here.shows seen nothing
+        moved_quiet c here.state new (outcome_at c e o) out (seen_at c old e) (moved c here.state here.there) setup a s here.shows seen nothing
         ∙ sym (ap (option_map (λ (state : CircuitState). state.region)) here.there);
     others = λ c blind. others c (slice_get old c) refl blind;
     away = rest.away;
@@ -161,8 +211,17 @@ module _ (e : Event) (old new : List CircuitState) (o : Outcome) (out : List ℕ
     ticked = rest.ticked;
     restarted = rest.restarted;
     reloaded = rest.reloaded;
+    batched = batched;
     stray = rest.stray;
   }
+
+module _ (e : Event) (old new : List CircuitState) (o : Outcome) (out : List ℕ) (count : length new ≡ length old) (none : batch_of e ≡ None)
+    (moves : (c : ℕ) (before : CircuitState) → slice_get old c ≡ Some before → Moved c (seen_of before.plans c before.on e) before new o out) (rest : Rest e old new o out) where
+  plain_steps : Steps e old new o out
+  plain_steps =
+      steps_of e old new o out count
+      (λ c before there. let P : Outcome → Type 0 = λ v. Moved c (seen_of before.plans c before.on e) before new v out in subst P (sym (plain e none c o)) (moves c before there)) rest
+      (λ parts is. let h : None ≡ Some parts = sym none ∙ is in absurd cc)
 
 -- a state that stays, where nothing is seen
 stays : (c : ℕ) (v : Option Seen) (before : CircuitState) (old new : List CircuitState) (o : Outcome) (out : List ℕ) → v ≡ None → slice_get new c ≡ slice_get old c
@@ -174,6 +233,7 @@ stays c v before old new o out none same there = subst (λ v. Moved c v before n
 stray_unseen : (e : Event) → is_stray e ≡ true → (plans : List Bool) (c : ℕ) (on : Bool) → seen_of plans c on e ≡ None
 stray_unseen (event.Frame circuit proto bytes) stray plans c on = absurd cc
 stray_unseen (event.Up circuit j now fault) stray plans c on = absurd cc
+stray_unseen (event.Batch now sync parts) stray plans c on = absurd cc
 stray_unseen (event.Down circuit j) stray plans c on = absurd cc
 stray_unseen (event.Tick now) stray plans c on = absurd cc
 stray_unseen (event.Restart images) stray plans c on = absurd cc
@@ -184,6 +244,7 @@ stray_unseen (event.StrayDown relay source bytes) stray plans c on = refl
 stray_unnamed : (e : Event) → is_stray e ≡ true → named_by e ≡ None
 stray_unnamed (event.Frame circuit proto bytes) stray = absurd cc
 stray_unnamed (event.Up circuit j now fault) stray = absurd cc
+stray_unnamed (event.Batch now sync parts) stray = absurd cc
 stray_unnamed (event.Down circuit j) stray = absurd cc
 stray_unnamed (event.Tick now) stray = absurd cc
 stray_unnamed (event.Restart images) stray = absurd cc
@@ -194,6 +255,7 @@ stray_unnamed (event.StrayDown relay source bytes) stray = refl
 stray_reloads_none : (e : Event) → is_stray e ≡ true → reload_of e ≡ None
 stray_reloads_none (event.Frame circuit proto bytes) stray = refl
 stray_reloads_none (event.Up circuit j now fault) stray = refl
+stray_reloads_none (event.Batch now sync parts) stray = refl
 stray_reloads_none (event.Down circuit j) stray = refl
 stray_reloads_none (event.Tick now) stray = refl
 stray_reloads_none (event.Restart images) stray = refl
@@ -204,6 +266,7 @@ stray_reloads_none (event.StrayDown relay source bytes) stray = refl
 restart_unnamed : (e : Event) → is_restart e ≡ true → named_by e ≡ None
 restart_unnamed (event.Frame circuit proto bytes) restart = absurd cc
 restart_unnamed (event.Up circuit j now fault) restart = absurd cc
+restart_unnamed (event.Batch now sync parts) restart = absurd cc
 restart_unnamed (event.Down circuit j) restart = absurd cc
 restart_unnamed (event.Tick now) restart = absurd cc
 restart_unnamed (event.Restart images) restart = refl
@@ -214,6 +277,7 @@ restart_unnamed (event.StrayDown relay source bytes) restart = absurd cc
 reload_unnamed : (e : Event) (k : ℕ) → reload_of e ≡ Some k → named_by e ≡ None
 reload_unnamed (event.Frame circuit proto bytes) k reload = absurd cc
 reload_unnamed (event.Up circuit j now fault) k reload = absurd cc
+reload_unnamed (event.Batch now sync parts) k reload = absurd cc
 reload_unnamed (event.Down circuit j) k reload = absurd cc
 reload_unnamed (event.Tick now) k reload = refl
 reload_unnamed (event.Restart images) k reload = refl
@@ -224,6 +288,7 @@ reload_unnamed (event.StrayDown relay source bytes) k reload = refl
 no_restart : (e : Event) → is_stray e ≡ true → is_restart e ≡ true → ⊥
 no_restart (event.Frame circuit proto bytes) stray restart = absurd cc
 no_restart (event.Up circuit j now fault) stray restart = absurd cc
+no_restart (event.Batch now sync parts) stray restart = absurd cc
 no_restart (event.Down circuit j) stray restart = absurd cc
 no_restart (event.Tick now) stray restart = absurd cc
 no_restart (event.Restart images) stray restart = absurd cc
@@ -234,7 +299,7 @@ no_restart (event.StrayDown relay source bytes) stray restart = absurd cc
 -- a stray changes nothing, and nothing leaves with it
 pub stray_steps : (e : Event) (old new : List CircuitState) (o : Outcome) (out : List ℕ) → is_stray e ≡ true → frame_of o out ≡ [] → out ≡ [] → new ≡ old → Steps e old new o out
 stray_steps e old new o out stray nothing empty same =
-    steps_of e old new o out (ap length same)
+    plain_steps e old new o out (ap length same) (stray_plain e stray)
     (λ c before there. stays c _ before old new o out (stray_unseen e stray before.plans c before.on) (ap (λ states. slice_get states c) same) there)
     (record {
       away = λ c blind. ap (frames_to c) nothing;
@@ -283,7 +348,7 @@ module _ (e : Event) (k : ℕ) (s : Seen) (sees : IsSeenBy e k s) (named : named
     -- the circuit exists, and its state moves by its machine's step
     pub named_steps : (p q : CircuitState) → slice_get old k ≡ Some p → slice_get new k ≡ Some q → StepsAs k s p q o out → Steps e old new o out
     named_steps p q was is steps =
-        steps_of e old new o out count (λ c before there. move c before (eqb k c) refl there) (record {
+        plain_steps e old new o out count (named_plain e k named) (λ c before there. move c before (eqb k c) refl there) (record {
           away = λ c blind. away_from k c steps.effect o out steps.outcome (sees_not old c blind (eqb k c) refl);
           gone = λ c name far. absurd (too_far c (names_it c name) far);
           ticked = λ now tick. absurd (no_tick now tick);
@@ -307,7 +372,7 @@ module _ (e : Event) (k : ℕ) (s : Seen) (sees : IsSeenBy e k s) (named : named
   -- the circuit doesn't exist, and nothing changes
   pub gone_steps : (states : List CircuitState) (o : Outcome) (out : List ℕ) → length states ≤ k → o ≡ outcome.Gone → out ≡ [] → Steps e states states o out
   gone_steps states o out past gone empty =
-      steps_of e states states o out refl (λ c before there. stays c _ before states states o out (unseen before.plans c before.on (apart c before there)) refl there) (record {
+      plain_steps e states states o out refl (named_plain e k named) (λ c before there. stays c _ before states states o out (unseen before.plans c before.on (apart c before there)) refl there) (record {
         away = λ c blind. ap (λ v. frames_to c (frame_of v out)) gone;
         gone = λ c name far. (gone, empty, refl);
         ticked = λ now tick. absurd (no_tick now tick);
@@ -322,9 +387,9 @@ module _ (e : Event) (k : ℕ) (s : Seen) (sees : IsSeenBy e k s) (named : named
 -- ---- an event that every circuit sees, and that moves every state
 
 pub all_steps : (e : Event) (s : ℕ → Seen) (old new : List CircuitState) (o : Outcome) (out : List ℕ) → ((plans : List Bool) (c : ℕ) (on : Bool) → seen_of plans c on e ≡ Some (s c))
-    → named_by e ≡ None → reload_of e ≡ None → AllMove s old new o out → o ≡ outcome.Done → out ≡ [] → Steps e old new o out
-all_steps e s old new o out sees unnamed unloaded moves done empty =
-    steps_of e old new o out moves.count
+    → named_by e ≡ None → reload_of e ≡ None → batch_of e ≡ None → AllMove s old new o out → o ≡ outcome.Done → out ≡ [] → Steps e old new o out
+all_steps e s old new o out sees unnamed unloaded plain moves done empty =
+    plain_steps e old new o out moves.count plain
     (λ c before there.
     let m = moves.each c before there in
     subst (λ v. Moved c v before new o out) (sym (sees before.plans c before.on)) (record { after = m.0; is = m.1; by = m.2 }))
@@ -344,7 +409,7 @@ pub reload_steps : (e : Event) (k : ℕ) (next : ℕ → Bool) (old new : List C
     → ((c : ℕ) (before : CircuitState) → slice_get old c ≡ Some before → slice_get before.plans k ≡ Some (next c))
     → AllTurn next old new o out → o ≡ outcome.Done → out ≡ [] → Steps e old new o out
 reload_steps e k next old new o out is has moves done empty =
-    steps_of e old new o out moves.count
+    plain_steps e old new o out moves.count (ap batch_of is)
     (λ c before there.
     let m = moves.each c before there in
     let sees : seen_of before.plans c before.on e ≡ turn_to before.on (next c) = ap (seen_of before.plans c before.on) is ∙ ap (λ p. turn_to before.on (unwrap_or p before.on)) (has c before there) in
@@ -379,7 +444,7 @@ pub no_plan_steps : (e : Event) (k : ℕ) (states : List CircuitState) (o : Outc
     → ((c : ℕ) (before : CircuitState) → slice_get states c ≡ Some before → slice_get before.plans k ≡ None)
     → o ≡ outcome.NoPlan → out ≡ [] → Steps e states states o out
 no_plan_steps e k states o out is none no_plan empty =
-    steps_of e states states o out refl (λ c before there. stays c _ before states states o out (unseen c before there) refl there) (record {
+    plain_steps e states states o out refl (ap batch_of is) (λ c before there. stays c _ before states states o out (unseen c before there) refl there) (record {
       away = λ c blind. ap (frames_to c) silent;
       gone = λ c name far. let h : None ≡ Some c = sym (ap named_by is) ∙ name in absurd cc;
       ticked = λ moment tick. let h : event.Reload k ≡ event.Tick moment = sym is ∙ tick in absurd cc;
@@ -416,6 +481,7 @@ no_plan_steps e k states o out is none no_plan empty =
 pub circuits_after : (e : Event) (t : Topology) → (topology_after e t).circuits ≡ t.circuits
 circuits_after (event.Frame circuit proto bytes) t = refl
 circuits_after (event.Up circuit j now fault) t = refl
+circuits_after (event.Batch now sync parts) t = refl
 circuits_after (event.Down circuit j) t = refl
 circuits_after (event.Tick now) t = refl
 circuits_after (event.Restart images) t = refl

@@ -1,5 +1,11 @@
 pub mod AddressedLemmas
 pub mod AddressedLemmas6
+pub mod BatchLemmas
+pub mod BatchLoops
+pub mod BatchParts
+pub mod BatchSaves
+pub mod BatchServing
+pub mod BatchSteps
 pub mod Runs
 pub mod SetupLemmas
 pub mod StartLemmas

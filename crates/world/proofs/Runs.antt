@@ -12,12 +12,15 @@ use Rattle.relay.specs.SentFrame.{SentFrame}
 use Rattle.relay.specs.Relays.{CircuitFrame}
 use Rattle.world.specs.Alone.{Setup, Alone, Effect, Dropped, Gone, SentUp, SentDown, Framed, Done, alone_step, sent_frame, after_all, frames}
 use Rattle.events.specs.Seen.{Seen, Frame, Up, Down, is_on_after, seen_of, seen_by, named_by, is_restart, reload_of}
-use Rattle.world.specs.Headline.{CircuitState, Represents, frames_to, frame_of, IsOutcome, Answers, after_seen, is_on_at, plans_at, seen_at, seen_from, Steps, Reaches, AreFrames, Emits, EmitsAt}
+use Rattle.world.specs.Headline.{batch_of, of_part, outcome_at, CircuitState, Represents, frames_to, frame_of, IsOutcome, Answers, after_seen, is_on_at, plans_at, seen_at, seen_from, Steps, Reaches, AreFrames, Emits, EmitsAt}
 use Rattle.events.specs.Stray.{is_stray}
 use Rattle.events.specs.declared.event.Event.{Event}
 use Rattle.events.specs.declared.event.Event.TheVariants as event
 use Rattle.events.specs.declared.outcome.Outcome.{Outcome}
 use Rattle.events.specs.declared.outcome.Outcome.TheVariants as outcome
+use Rattle.events.specs.declared.batch.PartOutcome.{PartOutcome}
+use Rattle.events.specs.declared.batch.PartOutcome.TheVariants as part
+use Rattle.events.specs.Batch.{outcome_of}
 
 -- whether a circuit is on after all events
 abbrev pub is_on_after_all : List Bool → Bool → List Event → Bool
@@ -101,6 +104,36 @@ by_effect c (Framed frame) o out h =
     ap (λ v. frames_to c (frame_of v out)) h.0 ∙ ap (λ bytes. frames_to c (frame_of (outcome.Framed c frame.dest) bytes)) h.1 ∙ frame_towards c frame
 by_effect c Done o out h = ap (λ v. frames_to c (frame_of v out)) h.0
 
+-- no frame leaves with a batch
+no_frame_with : (part : Option PartOutcome) (out : List ℕ) → frame_of (of_part part) out ≡ []
+no_frame_with None out = refl
+no_frame_with (Some part.Gone) out = refl
+no_frame_with (Some (part.Dropped reason)) out = refl
+no_frame_with (Some (part.SentDown len)) out = refl
+
+batch_frames : (c now sync : ℕ) (parts : _) (o : Outcome) (out : List ℕ) → frame_of (outcome_at c (event.Batch now sync parts) o) out ≡ frame_of o out
+batch_frames c now sync parts (outcome.Dropped reason) out = refl
+batch_frames c now sync parts outcome.Gone out = refl
+batch_frames c now sync parts (outcome.SentUp len) out = refl
+batch_frames c now sync parts (outcome.SentDown len) out = refl
+batch_frames c now sync parts (outcome.Framed circuit dest) out = refl
+batch_frames c now sync parts outcome.Done out = refl
+batch_frames c now sync parts (outcome.Batched outcomes) out = no_frame_with (outcome_of c parts.now outcomes) out
+batch_frames c now sync parts outcome.NotABatch out = refl
+batch_frames c now sync parts outcome.NotAStray out = refl
+batch_frames c now sync parts outcome.NoPlan out = refl
+
+pub same_frames : (c : ℕ) (e : Event) (o : Outcome) (out : List ℕ) → frame_of (outcome_at c e o) out ≡ frame_of o out
+same_frames c (event.Frame circuit proto bytes) o out = refl
+same_frames c (event.Up circuit j now fault) o out = refl
+same_frames c (event.Batch now sync parts) o out = batch_frames c now sync parts o out
+same_frames c (event.Down circuit j) o out = refl
+same_frames c (event.Tick now) o out = refl
+same_frames c (event.Restart images) o out = refl
+same_frames c (event.Reload plan) o out = refl
+same_frames c (event.StrayUp proto source bytes now) o out = refl
+same_frames c (event.StrayDown relay source bytes) o out = refl
+
 -- what leaves towards c with one event is what its machine lets leave
 sent_with_one : (setup : Setup) (c : ℕ) (s : Option Seen) (b : Alone) (o : Outcome) (out : List ℕ) → Answers c setup s b o out → frames_to c (frame_of o out) ≡ frames setup (option_to_list s) b
 unfolding frames
@@ -124,7 +157,8 @@ frames_more : (es : List Event) (e : Event) (start now new : List CircuitState) 
 frames_more es e start now new o out reaches steps c setup a here =
     ap (λ seen. frames setup seen a) (seen_next es e start now reaches c)
     ∙ frames-append setup (seen_from c start es) (option_to_list (seen_at c now e)) a
-    ∙ ap (λ fs. frames setup (seen_from c start es) a ++ fs) (sym (sent_with_one setup c (seen_at c now e) _ o out (steps.answers c setup _ (reaches.each c setup a here))))
+    ∙ ap (λ fs. frames setup (seen_from c start es) a ++ fs)
+    (sym (sent_with_one setup c (seen_at c now e) _ (outcome_at c e o) out (steps.answers c setup _ (reaches.each c setup a here))) ∙ ap (frames_to c) (same_frames c e o out))
 
 same_name : {k m : ℕ} → Some m ≡ Some k → eqb m k ≡ true
 same_name {k} {m} h = eq-eqb m k cc
@@ -134,10 +168,11 @@ seen_answer : (k m : ℕ) (s : Seen) (setup : Setup) (b : Alone) (o : Outcome) (
 seen_answer k m s setup b o out is h = ((alone_step setup s b).effect, rw is at h)
 
 -- a circuit sees the event that names it, so the outcome is its machine's
-its_answer : (k : ℕ) (old : List CircuitState) (e : Event) (setup : Setup) (b : Alone) (o : Outcome) (out : List ℕ) → named_by e ≡ Some k → Answers k setup (seen_at k old e) b o out → (f : Effect) × IsOutcome k f o out
+its_answer : (k : ℕ) (old : List CircuitState) (e : Event) (setup : Setup) (b : Alone) (o : Outcome) (out : List ℕ) → named_by e ≡ Some k → Answers k setup (seen_at k old e) b (outcome_at k e o) out → (f : Effect) × IsOutcome k f o out
 its_answer k old (event.Frame circuit proto bytes) setup b o out named h = seen_answer k circuit (Frame proto bytes.now) setup b o out (same_name named) h
 its_answer k old (event.Up circuit j now fault) setup b o out named h = seen_answer k circuit (Up j now fault) setup b o out (same_name named) h
 its_answer k old (event.Down circuit j) setup b o out named h = seen_answer k circuit (Down j) setup b o out (same_name named) h
+its_answer k old (event.Batch now sync parts) setup b o out named h = absurd cc
 its_answer k old (event.Tick now) setup b o out named h = absurd cc
 its_answer k old (event.Restart images) setup b o out named h = absurd cc
 its_answer k old (event.Reload plan) setup b o out named h = absurd cc
@@ -170,6 +205,7 @@ past_step e old new o out steps c past = by_name e refl where
   by_name (event.Frame circuit proto bytes) is = at_name circuit (ap named_by is) (eqb circuit c) refl (λ other. ap (seen_at c old) is ∙ rw other refl)
   by_name (event.Up circuit j now fault) is = at_name circuit (ap named_by is) (eqb circuit c) refl (λ other. ap (seen_at c old) is ∙ rw other refl)
   by_name (event.Down circuit j) is = at_name circuit (ap named_by is) (eqb circuit c) refl (λ other. ap (seen_at c old) is ∙ rw other refl)
+  by_name (event.Batch now sync parts) is = ap (frames_to c) (steps.batched parts.now (ap batch_of is)).silent.0
   by_name (event.Tick now) is = silent outcome.Done (steps.ticked now is).0 refl
   by_name (event.Restart images) is = silent outcome.Done (steps.restarted (ap is_restart is)).0 refl
   by_name (event.Reload plan) is = ap (frames_to c) (steps.reloaded plan (ap reload_of is)).silent.0
@@ -295,6 +331,7 @@ module _ (events : List Event) (n : ℕ) (e : Event) (there : n < length events)
     by_event (event.Frame circuit proto bytes) is = counted start now new o out reaches steps circuit (ap named_by is) one (ltb circuit (length start)) refl
     by_event (event.Up circuit j moment fault) is = counted start now new o out reaches steps circuit (ap named_by is) one (ltb circuit (length start)) refl
     by_event (event.Down circuit j) is = counted start now new o out reaches steps circuit (ap named_by is) one (ltb circuit (length start)) refl
+    by_event (event.Batch moment sync parts) is = absurd (none_is_one (ap length (steps.batched parts.now (ap batch_of is)).silent.0) one)
     by_event (event.Tick moment) is = absurd (none_is_one (ap (λ v. length (frame_of v out)) (steps.ticked moment is).0) one)
     by_event (event.Restart images) is = absurd (none_is_one (ap (λ v. length (frame_of v out)) (steps.restarted (ap is_restart is)).0) one)
     by_event (event.Reload plan) is = absurd (none_is_one (ap length (steps.reloaded plan (ap reload_of is)).silent.0) one)

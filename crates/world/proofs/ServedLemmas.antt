@@ -69,14 +69,14 @@ module _ (topology : Topology) (p : CircuitPart) (e : DeliveryValue) (books : Li
   fails_is_its : fails_at faults (received_saves topology e books) p.region ≡ its_fails p e (faults p.region) l.book
   fails_is_its = ap (λ r. fails_at faults (addressee_saves topology e books r) p.region) found ∙ (λ i. fails_at faults (circuit_saves e (there i) (book i)) p.region) ∙ circuit_fails_is p e faults l.book
 
-  received_is : (fails : ℕ → Bool) → received topology e fails books ≡ with_answered k books (answered p e (fails p.region) l.book)
+  pub received_is : (fails : ℕ → Bool) → received topology e fails books ≡ with_answered k books (answered p e (fails p.region) l.book)
   received_is fails = ap (addressee_answered topology e fails books) found ∙ λ i. circuit_answered k e fails books (there i) (book i)
 
-  leases_are : received_leases topology e faults all ≡ set all k (after_datagram p e (faults p.region) l)
+  pub leases_are : received_leases topology e faults all ≡ set all k (after_datagram p e (faults p.region) l)
   leases_are = ap (addressee_leases topology e faults all) found ∙ λ i. leases_with k e faults all (there i) (its i)
 
 -- the region that a datagram of circuit k is saved to, if any is
-saves_own : (part : CircuitPart) (e : DeliveryValue) (book : Option Book) → OneOf part.region (circuit_saves e (Some part) (Some book))
+pub saves_own : (part : CircuitPart) (e : DeliveryValue) (book : Option Book) → OneOf part.region (circuit_saves e (Some part) (Some book))
 saves_own part e None = tt
 saves_own part e (Some b) = either part.region (served part e b).is_kept where
   either : (r : ℕ) (is_kept : Bool) → OneOf r (if is_kept then Some r else None)
@@ -183,7 +183,7 @@ pub same_device : (x : Option ℕ) (old new : Device) → x ≡ None → WritesA
 same_device None old new none same = same
 same_device (Some r) old new none writes = absurd cc
 
-none_saved : (setup : Setup) (now : ℕ) (d : Datagram) (book : Option Book) → book_writes setup now d book ≡ false → circuit_saves (delivery_of setup.part now d) (Some setup.part) (Some book) ≡ None
+pub none_saved : (setup : Setup) (now : ℕ) (d : Datagram) (book : Option Book) → book_writes setup now d book ≡ false → circuit_saves (delivery_of setup.part now d) (Some setup.part) (Some book) ≡ None
 none_saved setup now d None nothing = refl
 none_saved setup now d (Some b) nothing = ap (λ (is_kept : Bool). if is_kept then Some setup.part.region else None) nothing
 

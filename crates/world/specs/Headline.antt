@@ -17,6 +17,10 @@ use Rattle.events.specs.declared.outcome.Outcome.TheVariants as outcome
 use Rattle.world.specs.Alone.{Setup, Alone, Effect, Dropped, Gone, SentUp, SentDown, Framed, Done, alone_step, after_all, found, frames, is_new, writes}
 use Rattle.events.specs.Seen.{Seen, seen_of, seen_by, named_by, is_on_after, is_restart, reload_of}
 use Rattle.events.specs.Stray.{is_stray}
+use Rattle.events.specs.Batch.{is_batch, is_named, outcome_of}
+use Rattle.events.specs.declared.batch.BatchPart.{BatchPart}
+use Rattle.events.specs.declared.batch.PartOutcome.{PartOutcome}
+use Rattle.events.specs.declared.batch.PartOutcome.TheVariants as part
 
 -- All that the world has of one circuit: its part of the configuration and the quota, what the network
 -- keeps of it, how many of its frames the relay discarded, what its server and its region hold, and which
@@ -72,13 +76,19 @@ frames_to c sent = filter_map (λ (one : CircuitFrame). if one.circuit == c then
 -- the frame of a step's outcome, whose bytes are in `out`
 abbrev pub frame_of : Outcome → List ℕ → List CircuitFrame
 frame_of (outcome.Framed circuit dest) out = record { circuit = circuit; frame = record { dest = dest; bytes = out } } ∷ []
-frame_of (outcome.Dropped reason) out = []
-frame_of outcome.Gone out = []
-frame_of (outcome.SentUp len) out = []
-frame_of (outcome.SentDown len) out = []
-frame_of outcome.Done out = []
-frame_of outcome.NotAStray out = []
-frame_of outcome.NoPlan out = []
+frame_of o out = []
+
+-- what came of a part of a batch, as if it had come alone
+abbrev pub of_part : Option PartOutcome → Outcome
+of_part (Some part.Gone) = outcome.Gone
+of_part (Some (part.Dropped reason)) = outcome.Dropped reason
+of_part (Some (part.SentDown len)) = outcome.SentDown len
+of_part None = outcome.NotABatch
+
+-- what came of an event for circuit c: of a batch what came of its part
+abbrev pub outcome_at : ℕ → Event → Outcome → Outcome
+outcome_at c (event.Batch now sync parts) (outcome.Batched outcomes) = of_part (outcome_of c parts.now outcomes)
+outcome_at c e o = o
 
 -- An effect of circuit c's machine as an outcome, with what `out` then holds.
 abbrev pub IsOutcome : ℕ → Effect → Outcome → List ℕ → Type 0
@@ -107,6 +117,16 @@ pub record IsReloaded (k : ℕ) (old new : List CircuitState) (o : Outcome) (out
   pub no_plan : (c : ℕ) → c < length old → slice_get (plans_at c old) k ≡ None → (o ≡ outcome.NoPlan) × (new ≡ old)
   pub silent : (frame_of o out ≡ []) × (out ≡ [])
 
+abbrev pub batch_of : Event → Option (List BatchPart)
+batch_of (event.Batch now sync parts) = Some parts.now
+batch_of e = None
+
+-- What comes of a batch, where these parts are one and where they are none.
+pub record IsBatched (e : Event) (parts : List BatchPart) (old new : List CircuitState) (o : Outcome) (out : List ℕ) : Type 0 where
+  pub gone : (c : ℕ) → is_batch parts ≡ true → is_named c parts ≡ true → length old ≤ c → outcome_at c e o ≡ outcome.Gone
+  pub no_batch : is_batch parts ≡ false → (o ≡ outcome.NotABatch) × (new ≡ old)
+  pub silent : (frame_of o out ≡ []) × (out ≡ [])
+
 -- One event, taken whole.
 pub record Steps (e : Event) (old new : List CircuitState) (o : Outcome) (out : List ℕ) : Type 0 where
   pub count : length new ≡ length old
@@ -116,7 +136,7 @@ pub record Steps (e : Event) (old new : List CircuitState) (o : Outcome) (out : 
   -- a state that represents a machine represents it after what its circuit saw
   pub each : (c : ℕ) (setup : Setup) (a : Alone) → Represents c old setup a → Represents c new setup (after_seen setup (seen_at c old e) a)
   -- and the outcome is the machine's
-  pub answers : (c : ℕ) (setup : Setup) (a : Alone) → Represents c old setup a → Answers c setup (seen_at c old e) a o out
+  pub answers : (c : ℕ) (setup : Setup) (a : Alone) → Represents c old setup a → Answers c setup (seen_at c old e) a (outcome_at c e o) out
   -- a circuit that sees an event that saves nothing keeps its region byte for byte
   pub quiet : (c : ℕ) (setup : Setup) (a : Alone) (s : Seen) → Represents c old setup a → seen_at c old e ≡ Some s → writes setup s a ≡ false → region_at c new ≡ region_at c old
   -- what a circuit doesn't see leaves its state as it was
@@ -131,6 +151,8 @@ pub record Steps (e : Event) (old new : List CircuitState) (o : Outcome) (out : 
   pub restarted : is_restart e ≡ true → (o ≡ outcome.Done) × (out ≡ [])
   -- and a reload, where there is such a plan; else nothing changes
   pub reloaded : (k : ℕ) → reload_of e ≡ Some k → IsReloaded k old new o out
+  -- and of a batch its parts of circuits that don't exist are gone; what is none changes nothing
+  pub batched : (parts : List BatchPart) → batch_of e ≡ Some parts → IsBatched e parts old new o out
   -- a stray changes nothing, and nothing leaves with it
   pub stray : is_stray e ≡ true → (frame_of o out ≡ []) × (out ≡ []) × (new ≡ old)
 

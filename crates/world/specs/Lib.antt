@@ -1,4 +1,6 @@
 pub mod Alone
+pub mod Answers
+pub mod Batch
 pub mod Headline
 pub mod Start
 pub mod StepsAs

@@ -3,13 +3,14 @@
 #![tactic(auto)]
 
 mod addressed;
+mod batch_answers;
 mod machine;
 mod sink;
 mod world;
 
 pub use addressed::{comes_to_its_circuit, reply_comes_to_its_circuit};
 pub use dispatch::OpenFault;
-pub use events::{Event, Outcome};
+pub use events::{BatchPart, Event, Outcome, PartOutcome};
 pub use machine::{Machine, run};
 pub use sink::Sink;
 pub use world::World;

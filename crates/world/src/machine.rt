@@ -44,6 +44,8 @@ fn deliver<S: Sink>(outcome: Outcome, out: &PacketBuf, sink: &mut S) -> bool
         Outcome::SentUp(_) => true,
         Outcome::SentDown(_) => true,
         Outcome::Done => true,
+        Outcome::Batched(_) => true,
+        Outcome::NotABatch => true,
         Outcome::NotAStray => true,
         Outcome::NoPlan => true,
     }

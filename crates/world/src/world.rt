@@ -20,7 +20,10 @@ ghost use Rattle.world.specs.StepsAs.{AllMove, IsWorld, Moves, turns_off};
 ghost use Rattle.world.specs.World.{states};
 ghost use Rattle.wire.specs.Bytes.{AreBytes};
 
+mod batch;
+
 use crate::addressed::{comes_to_its_circuit, reply_comes_to_its_circuit};
+use crate::batch_answers::BatchAnswers;
 use crate::machine::{Machine, run};
 use crate::sink::Sink;
 use config::{Config, Plans};
@@ -41,6 +44,8 @@ pub struct World {
     net: Net,
     server: Server,
     disk: ModelDisk,
+    // room for the answers to a batch
+    answers: BatchAnswers,
 }
 
 impl Model for World {
@@ -204,6 +209,7 @@ impl World {
             net,
             server,
             disk,
+            answers: BatchAnswers::new(),
         }
     }
 
@@ -431,6 +437,7 @@ impl World {
                 }
                 self.up(circuit, number, now, fault, out)
             }
+            Event::Batch(now, sync, parts) => self.batch(now, sync, parts, out),
             Event::Down(circuit, number) => {
                 if !self.exists(circuit) {
                     return gone(out);

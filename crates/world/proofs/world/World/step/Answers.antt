@@ -1,6 +1,7 @@
 use Rattle.std.proofs.Common.{length, refl, ap}
 use Rattle.events.specs.Seen.{Frame, Up, Down, Tick, Restart, comeback_at, reload_of, seen_of, named_by}
 use Rattle.events.specs.Stray.{is_stray}
+use Rattle.world.specs.Headline.{batch_of}
 use Rattle.world.specs.World.{states}
 use Rattle.world.proofs.CircuitSteps.{named_steps, missing, gone_steps, all_steps, stray_steps}
 use Rattle.lease_disk.specs.Model as disk
@@ -47,13 +48,13 @@ returns-else-not-exists-3-clause-steps c =
 
 pub returns-in-Tick-clause-steps : goal.returns-in-Tick-clause-steps
 returns-in-Tick-clause-steps c =
-    all_steps c.args.event.now (λ n. Tick c.in-Tick.now) (states c.args.self.now) (states c.tick.new.self) c.tick.result c.tick.new.out (λ plans n on. ap (seen_of plans n on) c.in-Tick.is) (ap named_by c.in-Tick.is) (ap reload_of c.in-Tick.is)
+    all_steps c.args.event.now (λ n. Tick c.in-Tick.now) (states c.args.self.now) (states c.tick.new.self) c.tick.result c.tick.new.out (λ plans n on. ap (seen_of plans n on) c.in-Tick.is) (ap named_by c.in-Tick.is) (ap reload_of c.in-Tick.is) (ap batch_of c.in-Tick.is)
     c.tick.ensures.moves c.tick.ensures.done c.tick.ensures.empty
 
 pub returns-in-Restart-clause-steps : goal.returns-in-Restart-clause-steps
 returns-in-Restart-clause-steps c =
     all_steps c.args.event.now (λ n. Restart (comeback_at n c.in-Restart.comebacks.now)) (states c.args.self.now) (states c.restart.new.self) c.restart.result c.restart.new.out
-    (λ plans n on. ap (seen_of plans n on) c.in-Restart.is) (ap named_by c.in-Restart.is) (ap reload_of c.in-Restart.is) c.restart.ensures.moves c.restart.ensures.done c.restart.ensures.empty
+    (λ plans n on. ap (seen_of plans n on) c.in-Restart.is) (ap named_by c.in-Restart.is) (ap reload_of c.in-Restart.is) (ap batch_of c.in-Restart.is) c.restart.ensures.moves c.restart.ensures.done c.restart.ensures.empty
 
 pub returns-in-StrayUp-clause-steps : goal.returns-in-StrayUp-clause-steps
 returns-in-StrayUp-clause-steps c =
@@ -94,3 +95,6 @@ returns-in-Reload-clause-steps c = c.reload.ensures.steps c.args.event.now c.in-
 
 pub returns-in-Reload-clause-spares : goal.returns-in-Reload-clause-spares
 returns-in-Reload-clause-spares c = spares_stay c.args.self.now.relays.topology.circuits (disk.device_of c.args.self.now.disk) (disk.device_of c.reload.new.self.disk) (ap (λ d. disk.device_of d) c.reload.ensures.disk)
+
+pub returns-in-Batch-clause-steps : goal.returns-in-Batch-clause-steps
+returns-in-Batch-clause-steps c = c.batch.ensures.steps c.args.event.now c.in-Batch.is

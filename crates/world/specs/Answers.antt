@@ -1,0 +1,9 @@
+-- The answers to the parts of a batch. Only proofs need this.
+use Rattle.std.specs.Prelude.{ℕ, List, Result, Ok, Err}
+use Rattle.types.specs.declared.discard.Discard.{Discard}
+use Rattle.world.specs.declared.batch_answers.Answer.{Answer}
+use Rattle.world.specs.declared.batch_answers.Answer.TheVariants.{Reply, Dropped}
+
+abbrev pub answer_of : Answer → Result (List ℕ) Discard
+answer_of (Reply datagram) = Ok datagram
+answer_of (Dropped why) = Err why
