@@ -21,7 +21,7 @@ use Rattle.lab_text.specs.Line.{Batch}
 use Rattle.lab_text.specs.ParsedLine.{AreKnown, IsBatchWithin}
 use Rattle.lab_text.specs.Writing.{AppendsPrefix}
 use Rattle.lab.specs.Follows.{AllRepresent, Follows}
-use Rattle.lab.specs.Lab.{batched, effect_of_part, line_result, part_seen}
+use Rattle.lab.specs.Lab.{batched, text_of_part, line_result, part_seen}
 use Rattle.lab.specs.Output.{batch_text, effect_text, joined, outcome_effect, part_text, with_newline}
 use Rattle.lab.proofs.LineResultLemmas.{SetupAt, effect_is, found_at}
 
@@ -118,7 +118,7 @@ found_below (circuit ∷ circuits) (suc i) h = let at = found_below circuits i (
 
 module _ (plans : PlansValue) (quota now sync : ℕ) (parts : Bor (List BatchPart)) (states new : List CircuitState) (out : List ℕ) (machines : ℕ → Alone) (within : IsBatchWithin plans.union parts.now) (represents : AllRepresent plans quota states machines) where
   abbrev text : BatchPart → List ℕ
-  text p = effect_of_part now sync p (machines p.circuit) (setup_in plans quota p.circuit)
+  text p = text_of_part now sync p (machines p.circuit) (setup_in plans quota p.circuit)
 
   sees : (p : BatchPart) → part_of p.circuit parts.now ≡ Some p → seen_at p.circuit states (event.Batch now sync parts) ≡ Some (part_seen now sync p)
   sees p there = ap (λ t. cond t (seen_part now sync (part_of p.circuit parts.now)) None) within.batch ∙ ap (seen_part now sync) there
@@ -131,7 +131,7 @@ module _ (plans : PlansValue) (quota now sync : ℕ) (parts : Bor (List BatchPar
       let at = found_at plans quota c circuit.circuit circuit.there in
       let answers : Answers c at.setup (Some (part_seen now sync p)) (machines c) (of_part (outcome_of c parts.now outcomes)) out =
       subst (λ s. Answers c at.setup s (machines c) (of_part (outcome_of c parts.now outcomes)) out) (sees p there) (steps.answers c at.setup (machines c) (represents.each c at.setup at.is)) in
-      subst (λ s. HasText (effect_of_part now sync p (machines c) s) (outcome_of c parts.now outcomes)) (sym at.is)
+      subst (λ s. HasText (text_of_part now sync p (machines c) s) (outcome_of c parts.now outcomes)) (sym at.is)
       (answered c at.setup.part.id out (alone_step at.setup (part_seen now sync p) (machines c)).effect (outcome_of c parts.now outcomes) answers)
 
   line_is : (o : Outcome) → IsListed o → Steps (event.Batch now sync parts) states new o out → batch_text o (length parts.now) ≡ joined (map text parts.now)

@@ -59,9 +59,9 @@ abbrev pub part_seen : ℕ → ℕ → BatchPart → Seen
 part_seen now sync p = sees.Up p.number now (part_fault sync p.fault)
 
 -- the output of a part, by the machine of its circuit
-abbrev pub effect_of_part : ℕ → ℕ → BatchPart → Alone → Option Setup → List ℕ
-effect_of_part now sync p a None = []
-effect_of_part now sync p a (Some setup) = effect_text setup.part.id (alone_step setup (part_seen now sync p) a).effect
+abbrev pub text_of_part : ℕ → ℕ → BatchPart → Alone → Option Setup → List ℕ
+text_of_part now sync p a None = []
+text_of_part now sync p a (Some setup) = effect_text setup.part.id (alone_step setup (part_seen now sync p) a).effect
 
 -- a circuit's machine after a batch, by its part, if it has one
 abbrev pub batched : ℕ → ℕ → Option BatchPart → Alone → Option Setup → Alone
@@ -84,7 +84,7 @@ line_result plans quota machines (Restart named) =
 line_result plans quota machines (Reload plan) =
     Applied (with_newline (effect_text [] Done)) (λ c. reloaded (members_of plans c) plan (machines c) (setup_in plans quota c))
 line_result plans quota machines (Batch now sync parts) =
-    Applied (with_newline (joined (map (λ (p : BatchPart). effect_of_part now sync p (machines p.circuit) (setup_in plans quota p.circuit)) parts)))
+    Applied (with_newline (joined (map (λ (p : BatchPart). text_of_part now sync p (machines p.circuit) (setup_in plans quota p.circuit)) parts)))
     (λ c. batched now sync (part_of c parts) (machines c) (setup_in plans quota c))
 -- a stray changes no machine
 line_result plans quota machines (Stray why) = Applied (with_newline (effect_text [] (Dropped why))) machines
