@@ -1,9 +1,15 @@
+pub mod AnsweredLemmas
+pub mod BatchClauses
+pub mod BatchLemmas
 pub mod ClosedLemmas
 pub mod HeldDeadlines
+pub mod OneByOne
 pub mod PartLemmas
 pub mod ReceivedLemmas
 pub mod RegionLemmas
 pub mod RestartLemmas
+pub mod SaverLemmas
+pub mod SavingLemmas
 pub mod ServerLemmas
 pub mod TickLemmas
 pub mod TurnedLemmas

@@ -1,12 +1,11 @@
 -- One part of a batch more.
-use Rattle.std.proofs.Common.{inl, inr, ◌≡◌, ◌∙◌, ◌+◌, ◌<◌, ◌≤◌, ◌==◌, ◌||◌, ℕ, zero, suc, Bool, true, false, List, [], ◌∷◌, ◌++◌, length, set, take, refl, sym, ap, ap₂, subst, arith}
-use Rattle.std.specs.Prelude.{◌⊎◌, Option, Some, None, Result, Ok, Err, slice_get, slice_set}
+use Rattle.std.proofs.Common.{inl, inr, ◌≡◌, ◌∙◌, ◌+◌, ◌<◌, ◌≤◌, ◌==◌, ◌||◌, ℕ, zero, suc, Bool, true, false, List, [], ◌∷◌, ◌++◌, length, take, refl, sym, ap, subst, arith}
+use Rattle.std.specs.Prelude.{◌⊎◌, Option, Some, None, Result, Ok, Err, slice_get}
 use Rattle.std.specs.List.{list_any}
 use Rattle.std.proofs.lemmas.List.{get_or-set_other, length-set}
 use Rattle.std.proofs.lemmas.Option.{same_Some}
 use Rattle.types.specs.Delivery.{DeliveryValue}
 use Rattle.types.specs.declared.discard.Discard.{Discard}
-use Rattle.config.specs.CircuitPart.{CircuitPart}
 use Rattle.config.specs.Topology.{Topology}
 use Rattle.requests.specs.Addressee.{addressee}
 use Rattle.circuit_server.specs.CircuitServerValue.{OpenCircuitValue}
@@ -45,31 +44,42 @@ module _ {A : Type 0} (f : A → Bool) where
   any_there (y ∷ xs) (suc i) zero x less is holds = ap (λ b. b || list_any f (take i xs)) (ap f (same_Some y x is) ∙ holds)
   any_there (y ∷ xs) (suc i) (suc j) x less is holds = ap (λ b. f y || b) (any_there xs i j x (omega (arith, less)) is holds) ∙ or_true (f y)
 
-get_before : {A : Type 0} (xs zs : List A) (j : ℕ) (y : A) → slice_get xs j ≡ Some y → slice_get (xs ++ zs) j ≡ Some y
+found_by : {A : Type 0} (f : A → Bool) (xs : List A) (i : ℕ) (y : A) → (list_any f (take i xs) ≡ true → (j : ℕ) × (x : A) × (j < i) × (slice_get xs j ≡ Some x) × (f x ≡ true))
+    → (b : Bool) → f y ≡ b → (b || list_any f (take i xs)) ≡ true → (j : ℕ) × (x : A) × (j < suc i) × (slice_get (y ∷ xs) j ≡ Some x) × (f x ≡ true)
+found_by f xs i y later true e any = (0, y, omega arith, refl, e)
+found_by f xs i y later false e any = let one = later any in (suc one.0, one.1, (let less = one.2 in omega (arith, less)), one.3, one.4)
+
+-- where one of the first is found
+pub any_found : {A : Type 0} (f : A → Bool) (xs : List A) (i : ℕ) → list_any f (take i xs) ≡ true → (j : ℕ) × (x : A) × (j < i) × (slice_get xs j ≡ Some x) × (f x ≡ true)
+any_found f xs zero any = absurd cc
+any_found f [] (suc i) any = absurd cc
+any_found f (y ∷ xs) (suc i) any = found_by f xs i y (any_found f xs i) (f y) refl any
+
+pub get_before : {A : Type 0} (xs zs : List A) (j : ℕ) (y : A) → slice_get xs j ≡ Some y → slice_get (xs ++ zs) j ≡ Some y
 get_before [] zs j y is = absurd cc
 get_before (x ∷ xs) zs zero y is = is
 get_before (x ∷ xs) zs (suc j) y is = get_before xs zs j y is
 
-get_last : {A : Type 0} (xs : List A) (y : A) → slice_get (xs ++ y ∷ []) (length xs) ≡ Some y
+pub get_last : {A : Type 0} (xs : List A) (y : A) → slice_get (xs ++ y ∷ []) (length xs) ≡ Some y
 get_last [] y = refl
 get_last (x ∷ xs) y = get_last xs y
 
-size_more : {A : Type 0} (xs : List A) (y : A) → length (xs ++ y ∷ []) ≡ length xs + 1
+pub size_more : {A : Type 0} (xs : List A) (y : A) → length (xs ++ y ∷ []) ≡ length xs + 1
 size_more [] y = refl
 size_more (x ∷ xs) y = let inside : length (xs ++ y ∷ []) ≡ length xs + 1 = size_more xs y in omega (arith, inside)
 
-left_false : (x y : Bool) → (x || y) ≡ false → x ≡ false
+pub left_false : (x y : Bool) → (x || y) ≡ false → x ≡ false
 left_false false y e = refl
 left_false true y e = absurd cc
 
-right_false : (x y : Bool) → (x || y) ≡ false → y ≡ false
+pub right_false : (x y : Bool) → (x || y) ≡ false → y ≡ false
 right_false false y e = e
 right_false true y e = absurd cc
 
-not_both : {b : Bool} → b ≡ true → b ≡ false → ⊥
+pub not_both : {b : Bool} → b ≡ true → b ≡ false → ⊥
 not_both is is_not = let never : true ≡ false = sym is ∙ is_not in absurd cc
 
-same_number : (n : ℕ) → (n == n) ≡ true
+pub same_number : (n : ℕ) → (n == n) ≡ true
 same_number n = grind arith
 
 abbrev Part : Type 0

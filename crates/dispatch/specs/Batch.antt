@@ -1,11 +1,11 @@
 -- What the server makes of several datagrams at one moment, whose saves share their syncs. The first one of each circuit is
 -- received as if it came alone, any further one of the same circuit is refused.
-use Rattle.std.specs.Prelude.{◌≡◌, ℕ, ◌==◌, ◌&&◌, not, Bool, true, false, List, [], ◌∷◌, ◌++◌, length, map, take, Option, Some, None, slice_get, Result, Ok, Err, if◌then◌else◌}
-use Rattle.std.specs.List.{list_any}
+use Rattle.std.specs.Prelude.{◌≡◌, ℕ, ◌==◌, Bool, false, List, [], ◌∷◌, ◌++◌, length, map, take, Option, Some, None, slice_get, Result, Ok, Err, if◌then◌else◌}
+use Rattle.std.specs.List.{cons_option, list_any}
 use Rattle.types.specs.Delivery.{DeliveryValue}
 use Rattle.types.specs.declared.discard.Discard.{Discard}
 use Rattle.types.specs.declared.discard.Discard.TheVariants.{BatchTwice}
-use Rattle.lease_disk.specs.Device.{Device, TouchesAll, is_in}
+use Rattle.lease_disk.specs.Device.{Device, TouchesAll}
 use Rattle.lease_disk.specs.Region.{effective}
 use Rattle.batch_saves.specs.Batch.{first_of, shared_fault}
 use Rattle.config.specs.Topology.{Topology}
@@ -57,14 +57,10 @@ pub record IsBatchOfLeases (topology : Topology) (parts : List DeliveryValue) (f
 
 -- ---- what is written
 
-abbrev pub with_region : Option ℕ → List ℕ → List ℕ
-with_region None regions = regions
-with_region (Some r) regions = r ∷ regions
-
 -- the regions that are saved, by the parts, after these
 abbrev pub saved_after : Topology → List (Option Book) → List DeliveryValue → List DeliveryValue → List ℕ
 saved_after topology books earlier [] = []
-saved_after topology books earlier (d ∷ parts) = with_region (part_saves topology earlier d books) (saved_after topology books (earlier ++ d ∷ []) parts)
+saved_after topology books earlier (d ∷ parts) = cons_option (part_saves topology earlier d books) (saved_after topology books (earlier ++ d ∷ []) parts)
 
 abbrev pub batch_saves : Topology → List DeliveryValue → List (Option Book) → List ℕ
 batch_saves topology parts books = saved_after topology books [] parts

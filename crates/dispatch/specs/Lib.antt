@@ -1,4 +1,5 @@
 pub mod Batch
+pub mod OneByOne
 pub mod Parts
 pub mod Received
 pub mod Regions

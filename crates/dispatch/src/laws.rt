@@ -1,10 +1,14 @@
 //! What holds of every circuit's server: functions that do nothing, for their contracts.
-ghost use Rattle.std.specs.Prelude.{◌≡◌, ℕ, max};
+ghost use Rattle.std.specs.Prelude.{◌≡◌, ℕ, Bool, List, Option, Result, max};
 ghost use Rattle.types.specs.Delivery.{DeliveryValue};
+ghost use Rattle.types.specs.declared.discard.Discard as discard;
 ghost use Rattle.types.specs.declared.dest.Proto.TheVariants.{V4, V6};
 ghost use Rattle.bindings_v4.specs.Book4 as book4;
 ghost use Rattle.bindings_v6.specs.Book6 as book6;
 ghost use Rattle.config.specs.CircuitPart.{CircuitPart, IsPart};
+ghost use Rattle.config.specs.Topology.{Topology};
+ghost use Rattle.dispatch.specs.Batch.{IsBatch};
+ghost use Rattle.dispatch.specs.OneByOne.{AreOfOthers, answers_to, books_after};
 ghost use Rattle.circuit_server.specs.Server.{Book, IsBook, book_at, kept_book, served};
 
 /// A server begins with a book, and a book it stays, whatever moment passes and whatever datagram is
@@ -27,4 +31,11 @@ pub fn serves_one_protocol()
     ensures clock { (part : CircuitPart) (d : DeliveryValue) (b : Book) → (served part d b).book.clock ≡ max b.clock d.moment }
     ensures four { (part : CircuitPart) (d : DeliveryValue) (b : Book) → d.proto ≡ V4 → (served part d b).book.six ≡ (book_at d.moment b).six }
     ensures six { (part : CircuitPart) (d : DeliveryValue) (b : Book) → d.proto ≡ V6 → (served part d b).book.four ≡ (book_at d.moment b).four }
+{}
+
+/// A batch no two parts of which are of one circuit is its parts one after the other, where a save fails in the regions that `fails`
+/// names.
+pub fn is_one_by_one()
+    ensures { (topology : Topology) (parts : List DeliveryValue) (fails : ℕ → Bool) (old new : List (Option Book)) (answers : List (Result (List ℕ) discard.Discard)) → AreOfOthers topology parts → IsBatch topology parts fails old new answers
+        → (answers ≡ answers_to topology fails parts old) × (new ≡ books_after topology fails parts old) }
 {}

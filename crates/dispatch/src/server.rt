@@ -17,6 +17,7 @@ ghost use Rattle.lease_disk.specs.Region.{Region};
 ghost use Rattle.timers.specs.Deadlines.{deadline, is_due};
 
 mod batch;
+mod savings;
 
 use crate::circuit_servers::{CircuitServers, SLOTS, turn_off_all};
 use config::{CircuitPart, Circuits, Config, Plans};

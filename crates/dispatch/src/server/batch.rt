@@ -1,11 +1,13 @@
 //! Several datagrams at one moment, whose saves share their syncs.
-ghost use Rattle.std.specs.Prelude.{◌≡◌, ◌<◌, ◌≤◌, ◌==◌, ◌&&◌, ◌||◌, ◌+◌, ◌++◌, not, ℕ, List, Result, true, length, map, slice_get, slice_set, IfOk, IfErr, Some};
+ghost use Rattle.std.specs.Prelude.{◌≡◌, ◌<◌, ◌≤◌, ◌==◌, ◌&&◌, ◌||◌, ◌+◌, ◌∷◌, ◌++◌, not, ℕ, List, [], Result, Ok, Err, true, false, length, map, if◌then◌else◌, slice_get, slice_set, IfOk, IfErr, Some};
 ghost use Rattle.types.specs.Delivery.{delivery};
 ghost use Rattle.types.specs.declared.discard.Discard as discard;
 ghost use Rattle.lease_disk.specs.Device.{has_failed, is_in};
 ghost use Rattle.dispatch.specs.Batch.{IsBatch, IsBatchOfLeases, IsWrittenTogether, batch_fault, batch_saves, is_circuit};
 ghost use Rattle.requests.specs.Addressee as who;
-ghost use Rattle.dispatch.specs.Parts.{AreMade, IsPart, has_named};
+ghost use Rattle.dispatch.specs.Parts.{AreAnswered, AreMade, AreToSettle, IsAnswered, IsPart, IsSettledSo, is_of, has_named, saved_by, saving_in, savings_of};
+ghost use Rattle.batch_saves.specs.Batch.{part_at};
+ghost use Rattle.std.specs.List.{cons_option};
 ghost use Rattle.dispatch.specs.Regions.{HasRegions};
 ghost use Rattle.dispatch.specs.ServerValue.{AreReady, books_in, leases_in};
 ghost use Rattle.config.specs.CircuitPart as parts;
@@ -14,9 +16,10 @@ ghost use Rattle.circuit_server.specs.Prepared.{IsDropped, IsPrepared, IsSettled
 ghost use Rattle.circuit_server.specs.Ticked.{state_of};
 
 use super::Server;
+use super::savings::Savings;
 use crate::answers::Answers;
 use arrayvec::ArrayVec;
-use batch_saves::{MAX_BATCH, Saving, save_many};
+use batch_saves::{MAX_BATCH, Saving};
 use circuit_server::Prepared;
 use lease_disk::{Disk, Fault, Marks};
 use requests::{RelayedMessage, addressee};
@@ -33,6 +36,8 @@ struct Batch<'a> {
     parts: ArrayVec<Option<Part<'a>>, MAX_BATCH>,
     /// The indices of the parts' circuits so far.
     named: ArrayVec<usize, MAX_BATCH>,
+    /// What the parts save.
+    savings: Savings,
 }
 
 impl Server {
@@ -109,10 +114,12 @@ impl Server {
         requires most { length parts.now ≤ 16 }
         ensures topology { self.new.topology ≡ self.old.topology }
         ensures made { AreMade self.old.topology (map (λ part. delivery part.0 part.1 now part.2.now) parts.now) (length parts.now) result.named.items self.old.states self.new.states result.parts.items }
+        ensures savings { result.savings ≡ savings_of result.parts.items }
     {
         let mut batch = Batch {
             parts: ArrayVec::new(),
             named: ArrayVec::new(),
+            savings: Savings::new(),
         };
         'parts: for index in 0..parts.len() {
             let Some(part) = parts.get(index) else {
@@ -125,6 +132,7 @@ impl Server {
                 bytes: part.2,
             };
             let made = self.prepare_part(&delivery, &mut batch.named);
+            batch.savings.add(saving_of(&made));
             batch.parts.push(Some(made));
         }
         batch
@@ -161,80 +169,95 @@ impl Server {
         ensures ready { D.tells ≡ true → AreReady (D.device disk.new).region self.new }
         ensures frame { IsWrittenTogether D.tells (batch_saves self.old.topology (map (λ part. delivery part.0 part.1 now part.2.now) parts.now) (books_in self.old)) (D.device disk.old) (D.device disk.new) }
     {
+        let _ = &self.circuits;
         let mut batch = self.prepare_all(parts, now);
-        save_parts(&mut batch.parts, disk);
-        self.settle_all(&batch, answers);
+        batch.savings.save(disk);
+        self.answer_all(&batch, answers);
+    }
+
+    /// Settles a part of a batch, where this is the place of its save among those of the batch.
+    fn settle_part<A: Answers>(
+        &mut self,
+        circuit: Circuit,
+        prepared: &Prepared<'_>,
+        savings: &Savings,
+        place: usize,
+        out: &mut PacketBuf,
+        answers: &mut A,
+    )
+        requires circuit { circuit < length self.old.topology.circuits }
+        requires place { place + length (cons_option prepared.now.saving []) ≤ length savings.now }
+        ensures topology { self.new.topology ≡ self.old.topology }
+        ensures others { self.new.states ≡ slice_set self.old.states circuit (state_of self.new.states circuit) }
+        ensures answered { (answer : Result (List ℕ) discard.Discard) × (A.taken answers.new ≡ A.taken answers.old ++ answer ∷ []) × IsSettledSo self.old.topology prepared.now (saved_by prepared.now.saving (part_at savings.now place)) circuit self.old.states self.new.states answer }
+    {
+        let saved = savings.outcome(prepared.saving, place);
+        match self.settle(circuit, prepared, saved, out) {
+            Ok(()) => answers.reply(out.as_slice()),
+            Err(why) => answers.discard(why),
+        }
+    }
+
+    /// Answers a part of a batch, where this is the place of its save among those of the batch.
+    fn answer_part<A: Answers>(
+        &mut self,
+        part: &Part<'_>,
+        savings: &Savings,
+        place: usize,
+        out: &mut PacketBuf,
+        answers: &mut A,
+    )
+        requires exists { IfOk part.now (λ one. one.0 < length self.old.topology.circuits) }
+        requires place { place + length (cons_option (saving_in (Some part.now)) []) ≤ length savings.now }
+        ensures topology { self.new.topology ≡ self.old.topology }
+        ensures size { length self.new.states ≡ length self.old.states }
+        ensures keeps { (k : ℕ) → is_of k (Some part.now) ≡ false → state_of self.new.states k ≡ state_of self.old.states k }
+        ensures answered { (answer : Result (List ℕ) discard.Discard) × (A.taken answers.new ≡ A.taken answers.old ++ answer ∷ []) × IsAnswered self.old.topology (part_at savings.now place) self.old.states self.new.states answer part.now }
+    {
+        match part {
+            Ok((circuit, prepared)) => {
+                self.settle_part(*circuit, prepared, savings, place, out, answers);
+            }
+            Err(why) => answers.discard(*why),
+        }
     }
 
     /// Answers each part of a batch, in order, whose saves are done or have failed.
-    fn settle_all<A: Answers>(&mut self, batch: &Batch<'_>, answers: &mut A) {
+    fn answer_all<A: Answers>(&mut self, batch: &Batch<'_>, answers: &mut A)
+        requires parts { AreToSettle self.old.topology batch.now.parts.items }
+        requires most { length batch.now.parts.items ≤ 16 }
+        requires savings { length batch.now.savings ≡ length (savings_of batch.now.parts.items) }
+        ensures topology { self.new.topology ≡ self.old.topology }
+        ensures answered { (given : List (Result (List ℕ) discard.Discard)) × (A.taken answers.new ≡ A.taken answers.old ++ given)
+            × AreAnswered self.old.topology batch.now.parts.items batch.now.savings (length batch.now.parts.items) self.old.states self.new.states given }
+    {
         let mut out = PacketBuf::new();
+        let mut place = 0;
         'parts: for part in batch.parts.iter() {
-            let (circuit, prepared) = match part {
-                Some(Ok((circuit, prepared))) => (*circuit, prepared),
-                Some(Err(why)) => {
-                    answers.discard(*why);
-                    continue;
-                }
-                None => unreachable!(),
-            };
-            let saved = saved_of(prepared);
-            match self.settle(circuit, prepared, saved, &mut out) {
-                Ok(()) => answers.reply(out.as_slice()),
-                Err(why) => answers.discard(why),
-            }
+            let Some(part) = part else { unreachable!() };
+            self.answer_part(part, &batch.savings, place, &mut out, answers);
+            place = place_after(place, part);
         }
-    }
-}
-
-/// What came of the save of a part: the marks of its region, or that it failed, or nothing where there was none.
-fn saved_of(prepared: &Prepared<'_>) -> Result<Option<Marks>, Fault> {
-    match prepared.saving {
-        None => Ok(None),
-        Some(saving) if saving.failed == 0 => Ok(Some(saving.marks)),
-        Some(_) => Err(Fault),
     }
 }
 
 /// What a part has to save, if anything.
-fn saving_of(part: &Option<Part<'_>>) -> Option<Saving> {
+fn saving_of(part: &Part<'_>) -> Option<Saving>
+    ensures { result ≡ saving_in (Some part.now) }
+{
     match part {
-        Some(Ok((_, prepared))) => prepared.saving,
-        _ => None,
+        Ok((_, prepared)) => prepared.saving,
+        Err(_) => None,
     }
 }
 
-/// The first of what the parts have to save, if anything.
-fn first_saving(parts: &ArrayVec<Option<Part<'_>>, MAX_BATCH>) -> Option<Saving> {
-    for part in parts.iter() {
-        let saving = saving_of(part);
-        if saving.is_some() {
-            return saving;
-        }
-    }
-    None
-}
-
-/// Saves what the parts have to save, together.
-fn save_parts<D: Disk>(parts: &mut ArrayVec<Option<Part<'_>>, MAX_BATCH>, disk: &mut D) {
-    let Some(first) = first_saving(parts) else {
-        return;
-    };
-    let (mut savings, mut count) = ([first; MAX_BATCH], 0);
-    for part in parts.iter() {
-        if let Some(saving) = saving_of(part) {
-            savings[count] = saving;
-            count += 1;
-        }
-    }
-    save_many(&mut savings[..count], disk);
-    let mut next = 0;
-    for part in parts.iter_mut() {
-        if let Some(Ok((_, prepared))) = part {
-            if prepared.saving.is_some() {
-                prepared.saving = Some(savings[next]);
-                next += 1;
-            }
-        }
+/// The place of the next save of a batch after a part whose own place this is.
+fn place_after(place: usize, part: &Part<'_>) -> usize
+    requires { place ≤ 16 }
+    ensures { result ≡ place + length (cons_option (saving_in (Some part.now)) []) }
+{
+    match saving_of(part) {
+        None => place,
+        Some(_) => place + 1,
     }
 }

@@ -1,11 +1,14 @@
-use Rattle.std.proofs.Common.{◌≡◌, ◌+◌, ◌||◌, ◌∙◌, ℕ, [], length, map, sym, ap, subst, refl, arith}
-use Rattle.std.specs.Prelude.{Some, option_map, slice_get}
+use Rattle.std.proofs.Common.{◌≡◌, ◌+◌, ◌<◌, ◌||◌, ◌∙◌, ◌++◌, ℕ, List, [], length, map, sym, ap, subst, refl, arith}
+use Rattle.std.specs.Prelude.{Option, Some, option_map, slice_get}
+use Rattle.std.specs.List.{cons_option}
 use Rattle.std.proofs.lemmas.Option.{slice_get-get_or, slice_get-map}
 use Rattle.types.specs.Delivery.{delivery}
 use Rattle.requests.specs.Addressee.{addressee}
 use Rattle.dispatch.specs.Batch.{is_circuit}
-use Rattle.dispatch.specs.Parts.{AreMade, IsPart, has_named}
+use Rattle.batch_saves.specs.declared.saving.Saving.{Saving}
+use Rattle.dispatch.specs.Parts.{AreMade, IsPart, has_named, saving_in, savings_of}
 use Rattle.dispatch.proofs.PartLemmas.{made_more, made_none}
+use Rattle.dispatch.proofs.SavingLemmas.{filter_few, filter_more}
 use Rattle.dispatch.proofs.server.Server.prepare_all.Goals as goal
 
 pub parts-init : goal.parts-init
@@ -17,7 +20,14 @@ parts-init c = record {
       subst (λ named. AreMade c.args.self.now.topology (map (λ part. delivery part.0 part.1 c.args.now part.2.now) c.args.parts.now) 0 named c.args.self.now.states c.args.self.now.states c.new.result.items) (sym c.new-2.ensures)
       (subst (λ parts. AreMade c.args.self.now.topology (map (λ part. delivery part.0 part.1 c.args.now part.2.now) c.args.parts.now) 0 [] c.args.self.now.states c.args.self.now.states parts) (sym c.new.ensures)
       (made_none c.args.self.now.topology (map (λ part. delivery part.0 part.1 c.args.now part.2.now) c.args.parts.now) c.args.self.now.states));
+  savings = c.new-3.ensures ∙ sym (ap savings_of c.new.ensures);
 }
+
+pub add-requires : goal.add-requires
+add-requires c =
+    let was = c.parts.invariant in
+    let few = filter_few saving_in c.parts.batch.parts.items in
+    subst (λ (xs : List Saving). length xs < 16) (sym was.savings) (omega (arith, few, was.made.count, was.most, c.parts-test.true))
 
 pub prepare_part-made-requires : goal.prepare_part-made-requires
 prepare_part-made-requires c = let was = c.parts.invariant in record { room = omega (arith, was.made.few, was.most, c.parts-test.true) }
@@ -44,6 +54,12 @@ parts-preserved c =
           (made_more topology (map (λ part. delivery part.0 part.1 c.args.now part.2.now) parts) c.parts.index d c.parts.batch.named.items c.args.self.now.states c.parts.self.states c.prepare_part-made.new.self.states c.parts.batch.parts.items
           c.prepare_part-made.result here was.made (subst (λ t. IsPart t c.parts.batch.named.items d c.parts.self.states c.prepare_part-made.new.self.states c.prepare_part-made.result) was.topology next.part)
           c.prepare_part-made.new.named.items next.few (subst (λ t. (k : ℕ) → has_named c.prepare_part-made.new.named.items k ≡ (has_named c.parts.batch.named.items k || is_circuit k (addressee t d))) was.topology next.named));
+      savings =
+          c.add.ensures
+          ∙ ap (λ (o : Option Saving). c.parts.batch.savings ++ cons_option o []) c.saving_of.ensures
+          ∙ ap (λ (xs : List Saving). xs ++ cons_option (saving_in (Some c.prepare_part-made.result)) []) was.savings
+          ∙ sym (filter_more saving_in c.parts.batch.parts.items (Some c.prepare_part-made.result))
+          ∙ sym (ap savings_of c.push.ensures.items);
     }
 
 pub returns-clause-topology : goal.returns-clause-topology
@@ -54,3 +70,6 @@ returns-clause-made c =
     let was = c.parts.invariant in
     let all : c.parts.index ≡ length c.args.parts.now = omega (arith, was.index, c.parts-test.false) in
     subst (λ n. AreMade c.args.self.now.topology (map (λ part. delivery part.0 part.1 c.args.now part.2.now) c.args.parts.now) n c.parts.batch.named.items c.args.self.now.states c.parts.self.states c.parts.batch.parts.items) all was.made
+
+pub returns-clause-savings : goal.returns-clause-savings
+returns-clause-savings c = c.parts.invariant.savings

@@ -1,0 +1,5 @@
+use Rattle.dispatch.proofs.OneByOne.{batch_answers, batch_books}
+use Rattle.dispatch.proofs.laws.is_one_by_one.Goals as goal
+
+pub returns : goal.returns
+returns c = λ topology parts fails old new answers apart batch. (batch_answers topology fails parts old new answers apart batch, batch_books topology fails parts old new answers apart batch)
