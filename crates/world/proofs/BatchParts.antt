@@ -27,7 +27,7 @@ pub truth : (b : Bool) → b ≡ true → b ≡ false → ⊥
 truth true h k = absurd cc
 truth false h k = absurd cc
 
-apart_back : (a b : ℕ) → (a == b) ≡ false → (b == a) ≡ false
+pub apart_back : (a b : ℕ) → (a == b) ≡ false → (b == a) ≡ false
 apart_back a b h = ne_eqb b a (λ same. eqb-false a b h (sym same))
 
 -- ---- which circuits wait

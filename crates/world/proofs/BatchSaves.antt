@@ -16,10 +16,7 @@ use Rattle.dispatch.specs.Batch.{batch_fault, batch_saves, comes_again, is_circu
 use Rattle.dispatch.specs.Received.{received_saves}
 use Rattle.events.specs.Batch.{part_fault}
 use Rattle.world.specs.declared.world.batch.Waiting.{Waiting}
-use Rattle.world.proofs.BatchParts.{AreApart, is_waiting, neither}
-
-apart_back : (a b : ℕ) → (a == b) ≡ false → (b == a) ≡ false
-apart_back a b h = ne_eqb b a (λ same. eqb-false a b h (sym same))
+use Rattle.world.proofs.BatchParts.{AreApart, apart_back, is_waiting, neither}
 
 or_true : (a b : Bool) → b ≡ true → (a || b) ≡ true
 or_true true b h = refl
