@@ -10,12 +10,29 @@ def preparations(pick, circuits):
             yield f"move c{circuit} {pick.choice([0, 0, 0, 1, 2, 3, 4])}"
 
 
+def batch(pick, clocks):
+    """Frames of some circuits, the delivery of their datagrams as one batch, and of what it answers. Faults are rare."""
+    some = pick.sample(range(len(clocks)), min(len(clocks), pick.choice([1, 2, 2, 3, 5, 16])))
+    for circuit in some:
+        if pick.random() < 0.9:
+            protocol, digits = frame(pick, circuit)
+            yield f"frame c{circuit} {protocol} {digits}"
+    moment = max(clocks[circuit] for circuit in some)
+    for circuit in some:
+        clocks[circuit] = moment
+    sync = pick.choice([2, 4, 6]) if pick.random() < 0.01 else 0
+    parts = [f"c{circuit}={pick.choice([0, 0, 0, 0, 1, 20])}={pick.choice([1, 3, 5]) if pick.random() < 0.005 else 0}" for circuit in some]
+    yield " ".join(["batch", str(moment), str(sync), *parts])
+    for circuit in some:
+        yield f"down c{circuit} 0"
+
+
 def lines(pick, circuits):
     yield from preparations(pick, circuits)
     clocks = [pick.randrange(0, 1_000_000) for _ in range(circuits)]
     while True:
         circuit = pick.randrange(circuits)
-        kind = pick.choices(["exchange", "up", "down", "tick", "restart", "stray"], [90, 4, 3, 2, 0.05, 0.5])[0]
+        kind = pick.choices(["exchange", "batch", "up", "down", "tick", "restart", "stray"], [90, 10, 4, 3, 2, 0.05, 0.5])[0]
         clocks[circuit] += pick.choice([0, 0, 1, 1, 20, 60, 300, 3600])
         moment = max(0, clocks[circuit] - pick.choice([0, 0, 0, 0, 100]))
         number = pick.choice([0, 0, 0, 1, 2, 20])
@@ -25,6 +42,8 @@ def lines(pick, circuits):
             yield f"frame c{circuit} {protocol} {digits}"
             yield f"up c{circuit} 0 {moment} {fault}"
             yield f"down c{circuit} 0"
+        elif kind == "batch":
+            yield from batch(pick, clocks)
         elif kind == "up":
             yield f"up c{circuit} {number} {moment} {fault}"
         elif kind == "down":

@@ -1,3 +1,5 @@
+pub mod BatchLemmas
+pub mod BatchOutputLemmas
 pub mod CauseLemmas
 pub mod LineResultLemmas
 pub mod OpeningLemmas

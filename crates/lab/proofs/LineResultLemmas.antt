@@ -10,11 +10,11 @@ use Rattle.settings.specs.Settings.{Settings}
 use Rattle.settings.specs.declared.settings.CircuitConfig.{CircuitConfig}
 use Rattle.world.specs.Alone.{Alone, Setup, Effect, Dropped, Gone, SentUp, SentDown, Framed, Done, alone_step, setup_of}
 use Rattle.config.specs.CircuitPart.{CircuitPart, part_in, part_of, source_at}
-use Rattle.world.specs.Headline.{CircuitState, Represents, Steps, IsOutcome, Answers, after_seen, is_on_at, plans_at, seen_at, topology_after}
+use Rattle.world.specs.Headline.{CircuitState, Represents, Steps, IsOutcome, Answers, after_seen, is_on_at, outcome_at, plans_at, seen_at, topology_after}
 use Rattle.world.specs.Start.{begins_on, members_of, setup_in}
 use Rattle.world.proofs.SetupLemmas.{setup_at}
 use Rattle.std.specs.Option.{option_map_or, unwrap_or}
-use Rattle.events.specs.Seen.{Seen, turn_to}
+use Rattle.events.specs.Seen.{Seen, named_by, turn_to}
 use Rattle.events.specs.declared.event.Event.{Event}
 use Rattle.events.specs.declared.event.Event.TheVariants as event
 use Rattle.events.specs.declared.outcome.Outcome.{Outcome}
@@ -70,7 +70,7 @@ represents_named : (plans : PlansValue) (quota c : ℕ) (setup : Setup) (seen : 
 represents_named plans quota c setup seen e states new o out machines is names steps represents = record {
   each = λ d other h.
       let before = steps.each d other (machines d) (represents.each d other h) in
-      let after : Represents d new other (after_seen other (cond (eqb c d) (Some seen) None) (machines d)) = subst (λ s. Represents d new other (after_seen other s (machines d))) (names (plans_at d states) d (is_on_at d states)) before in
+      let after : Represents d new other (after_seen other (cond (eqb c d) (Some seen) None) (machines d)) = subst (λ s. Represents d new other (after_seen other s (machines d))) (names.sees (plans_at d states) d (is_on_at d states)) before in
       let same = λ (k : c ≡ d).
       let one : other ≡ setup = same_Some _ _ (sym h ∙ ap (setup_in plans quota) (sym k) ∙ is) in
       ap (λ s. (alone_step s seen (machines d)).next) one ∙ ap (λ x. (alone_step setup seen (machines x)).next) (sym k) in
@@ -78,16 +78,28 @@ represents_named plans quota c setup seen e states new o out machines is names s
   members = λ d. steps.plans d ∙ represents.members d;
 }
 
+-- what came of an event of a circuit is the outcome
+its_outcome : (c d : ℕ) (e : Event) (o : Outcome) → named_by e ≡ Some c → outcome_at d e o ≡ o
+its_outcome c d (event.Frame circuit proto bytes) o h = refl
+its_outcome c d (event.Up circuit j now fault) o h = refl
+its_outcome c d (event.Down circuit j) o h = refl
+its_outcome c d (event.Batch now sync parts) o h = absurd (cc)
+its_outcome c d (event.Tick now) o h = refl
+its_outcome c d (event.Restart comebacks) o h = refl
+its_outcome c d (event.Reload plan) o h = refl
+its_outcome c d (event.StrayUp proto source bytes now) o h = refl
+its_outcome c d (event.StrayDown relay source bytes) o h = refl
+
 -- the text of the effect
 text_is : (c : ℕ) (setup : Setup) (id : List ℕ) (seen : Seen) (e : Event) (states new : List CircuitState) (o : Outcome) (out : List ℕ) (a : Alone)
-    → setup.part.id ≡ id → seen_at c states e ≡ Some seen → Steps e states new o out → Represents c states setup a
+    → setup.part.id ≡ id → named_by e ≡ Some c → seen_at c states e ≡ Some seen → Steps e states new o out → Represents c states setup a
     → with_newline (effect_text id (outcome_effect o out)) ≡ with_newline (effect_text setup.part.id (alone_step setup seen a).effect)
-text_is c setup id seen e states new o out a is sees steps represents =
-    let answers : Answers c setup (Some seen) a o out = subst (λ s. Answers c setup s a o out) sees (steps.answers c setup a represents) in
+text_is c setup id seen e states new o out a is named sees steps represents =
+    let answers : Answers c setup (Some seen) a o out = subst (λ (p : Outcome). Answers c setup (Some seen) a p out) (its_outcome c c e o named) (subst (λ s. Answers c setup s a (outcome_at c e o) out) sees (steps.answers c setup a represents)) in
     ap (λ f. with_newline (effect_text id f)) (effect_is c (alone_step setup seen a).effect o out answers) ∙ ap (λ v. with_newline (effect_text v (alone_step setup seen a).effect)) (sym is)
 
 named_sees : (c : ℕ) (seen : Seen) (e : Event) (states : List CircuitState) → Names c seen e → seen_at c states e ≡ Some seen
-named_sees c seen e states names = names (plans_at c states) c (is_on_at c states) ∙ ap (λ t. cond t (Some seen) None) (eq-eqb c c refl)
+named_sees c seen e states names = names.sees (plans_at c states) c (is_on_at c states) ∙ ap (λ t. cond t (Some seen) None) (eq-eqb c c refl)
 
 -- an event of a circuit whose output was written
 pub event_applied : (plans : PlansValue) (quota number c : ℕ) (id : List ℕ) (seen : Seen) (e : Event) (states new : List CircuitState) (o : Outcome) (out : List ℕ) (machines : ℕ → Alone) (held holds : Option (List ℕ))
@@ -96,7 +108,7 @@ pub event_applied : (plans : PlansValue) (quota number c : ℕ) (id : List ℕ) 
     → Follows plans quota number (named_result c seen machines (setup_in plans quota c)) new held holds None
 event_applied plans quota number c id seen e states new o out machines held holds at names steps represents h =
     subst (λ s. Follows plans quota number (named_result c seen machines s) new held holds None) (sym at.is) (record {
-      appended = subst (Appends held holds) (text_is c at.setup id seen e states new o out (machines c) at.same (named_sees c seen e states names) steps (represents.each c at.setup at.is)) h;
+      appended = subst (Appends held holds) (text_is c at.setup id seen e states new o out (machines c) at.same names.named (named_sees c seen e states names) steps (represents.each c at.setup at.is)) h;
       represents = represents_named plans quota c at.setup seen e states new o out machines at.is names steps represents;
     })
 
@@ -107,7 +119,7 @@ pub event_not_written : (plans : PlansValue) (quota number c : ℕ) (id : List �
     → Follows plans quota number (named_result c seen machines (setup_in plans quota c)) new held holds (Some 6)
 event_not_written plans quota number c id seen e states new o out machines held holds at names steps represents h =
     subst (λ s. Follows plans quota number (named_result c seen machines s) new held holds (Some 6)) (sym at.is)
-    (refl, subst (AppendsPrefix held holds) (text_is c at.setup id seen e states new o out (machines c) at.same (named_sees c seen e states names) steps (represents.each c at.setup at.is)) h)
+    (refl, subst (AppendsPrefix held holds) (text_is c at.setup id seen e states new o out (machines c) at.same names.named (named_sees c seen e states names) steps (represents.each c at.setup at.is)) h)
 
 -- a moment that passes
 pub represents_ticked : (plans : PlansValue) (quota now : ℕ) (states new : List CircuitState) (o : Outcome) (out : List ℕ) (machines : ℕ → Alone)
@@ -168,6 +180,7 @@ pub knows_after : (plans : PlansValue) (e : Event) (t : Topology) → KnowsPlans
 knows_after plans (event.Reload plan) t knows = knows_reloaded plans plan t knows
 knows_after plans (event.Frame c proto bytes) t knows = knows
 knows_after plans (event.Up c j now fault) t knows = knows
+knows_after plans (event.Batch now sync parts) t knows = knows
 knows_after plans (event.Down c j) t knows = knows
 knows_after plans (event.Tick now) t knows = knows
 knows_after plans (event.Restart comebacks) t knows = knows

@@ -3,11 +3,12 @@ use Rattle.std.specs.Prelude.{◌≡◌, ℕ, ◌⊎◌, ◌==◌, if◌then◌e
 use Rattle.std.specs.Io.KnownBytes.{Appends, Consumes}
 use Rattle.config.specs.Plans.{PlansValue}
 use Rattle.config.specs.Topology.{Topology, topology_with}
+use Rattle.events.specs.declared.batch.BatchPart.{BatchPart}
 use Rattle.events.specs.declared.comeback.Comeback.{Comeback}
 use Rattle.world.specs.Alone.{Alone, Setup}
 use Rattle.world.specs.Headline.{CircuitState, Represents, plans_at}
 use Rattle.world.specs.Start.{members_of, setup_in}
-use Rattle.events.specs.Seen.{Seen, seen_of}
+use Rattle.events.specs.Seen.{Seen, named_by, seen_of}
 use Rattle.events.specs.declared.event.Event.{Event}
 use Rattle.lab.specs.Lab.{Output, LineResult, Refused, Applied, lab_from}
 use Rattle.lab_text.specs.Line.{line_of_text}
@@ -27,14 +28,15 @@ pub record KnowsPlans (plans : PlansValue) (topology : Topology) : Type 0 where
   pub plan : ℕ
   pub is : topology ≡ topology_with plans.union (record { count = plans.count; members = plans.members; plan = plan })
 
--- The event is this one, seen by this circuit alone.
-abbrev pub Names : ℕ → Seen → Event → Type 0
-Names circuit seen event = (plans : List Bool) (c : ℕ) (on : Bool) → seen_of plans c on event ≡ (if circuit == c then Some seen else None)
+-- The event names this circuit, which alone sees it, as this.
+pub record Names (circuit : ℕ) (seen : Seen) (event : Event) : Type 0 where
+  pub named : named_by event ≡ Some circuit
+  pub sees : (plans : List Bool) (c : ℕ) (on : Bool) → seen_of plans c on event ≡ (if circuit == c then Some seen else None)
 
--- This line was parsed to this, with its bytes and its comebacks in these buffers.
-pub record Says (plans : PlansValue) (bytes : List ℕ) (comebacks : List Comeback) (line : List ℕ) (parsed : Parsed) : Type 0 where
-  pub means : Means parsed bytes comebacks (line_of_text plans.union plans.count line)
-  pub within : ParsedWithin plans.union plans.count parsed
+-- This line was parsed to this, with its bytes, its comebacks and its parts in these buffers.
+pub record Says (plans : PlansValue) (bytes : List ℕ) (comebacks : List Comeback) (parts : List BatchPart) (line : List ℕ) (parsed : Parsed) : Type 0 where
+  pub means : Means parsed bytes comebacks parts (line_of_text plans.union plans.count line)
+  pub within : ParsedWithin plans.union plans.count parts parsed
 
 -- A line was applied, and its output was written.
 pub record IsApplied (plans : PlansValue) (quota : ℕ) (written : List ℕ) (machines : ℕ → Alone) (states : List CircuitState) (held holds : Option (List ℕ)) : Type 0 where

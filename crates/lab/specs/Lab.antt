@@ -1,5 +1,5 @@
 -- The output for a text of event lines, by one machine for each circuit.
-use Rattle.std.specs.Prelude.{ℕ, ◌+◌, ◌-◌, ◌==◌, if◌then◌else◌, Bool, false, List, [], ◌∷◌, ◌++◌, length, slice_get, slice_index, Option, Some, None}
+use Rattle.std.specs.Prelude.{ℕ, ◌+◌, ◌-◌, ◌==◌, if◌then◌else◌, Bool, false, List, [], ◌∷◌, ◌++◌, length, map, slice_get, slice_index, Option, Some, None}
 use Rattle.config.specs.Plans.{PlansValue}
 use Rattle.events.specs.declared.comeback.Comeback.{Comeback}
 use Rattle.lease_disk.specs.Layout.{formatted, formatted_old}
@@ -8,12 +8,14 @@ use Rattle.world.specs.Alone.{Alone, Setup, Step, Dropped, Done, alone_step, uns
 use Rattle.world.specs.Headline.{after_seen}
 use Rattle.world.specs.Start.{Opening, members_of, opened, setup_in}
 use Rattle.std.specs.Option.{unwrap_or}
-use Rattle.events.specs.Seen.{Seen, turn_to}
+use Rattle.events.specs.Batch.{part_fault, part_of}
+use Rattle.events.specs.declared.batch.BatchPart.{BatchPart}
+use Rattle.events.specs.Seen.{Seen, seen_part, turn_to}
 use Rattle.events.specs.Seen as sees
 use Rattle.lab_text.specs.Fields.{comeback_in}
-use Rattle.lab_text.specs.Line.{Line, Ignored, Bad, Fill, Old, Load, Move, Named, Tick, Restart, Reload, Stray, line_of_text}
+use Rattle.lab_text.specs.Line.{Line, Ignored, Bad, Fill, Old, Load, Move, Named, Tick, Restart, Batch, Reload, Stray, line_of_text}
 use Rattle.lab_text.specs.Lines.{lines_of}
-use Rattle.lab.specs.Output.{effect_text, with_newline, bad_text}
+use Rattle.lab.specs.Output.{effect_text, joined, with_newline, bad_text}
 
 pub record Output : Type 0 where
   pub text : List ℕ
@@ -52,6 +54,20 @@ abbrev pub restarted : Comeback → Alone → Option Setup → Alone
 restarted comeback a None = a
 restarted comeback a (Some setup) = (alone_step setup (sees.Restart comeback) a).next
 
+-- what the circuit of a part sees of a batch
+abbrev pub part_seen : ℕ → ℕ → BatchPart → Seen
+part_seen now sync p = sees.Up p.number now (part_fault sync p.fault)
+
+-- the output of a part, by the machine of its circuit
+abbrev pub effect_of_part : ℕ → ℕ → BatchPart → Alone → Option Setup → List ℕ
+effect_of_part now sync p a None = []
+effect_of_part now sync p a (Some setup) = effect_text setup.part.id (alone_step setup (part_seen now sync p) a).effect
+
+-- a circuit's machine after a batch, by its part, if it has one
+abbrev pub batched : ℕ → ℕ → Option BatchPart → Alone → Option Setup → Alone
+batched now sync part a None = a
+batched now sync part a (Some setup) = after_seen setup (seen_part now sync part) a
+
 abbrev pub line_result : PlansValue → ℕ → (ℕ → Alone) → Line → LineResult
 line_result plans quota machines Ignored = Applied [] machines
 line_result plans quota machines Bad = Refused
@@ -67,6 +83,9 @@ line_result plans quota machines (Restart named) =
     Applied (with_newline (effect_text [] Done)) (λ c. restarted (comeback_in c named) (machines c) (setup_in plans quota c))
 line_result plans quota machines (Reload plan) =
     Applied (with_newline (effect_text [] Done)) (λ c. reloaded (members_of plans c) plan (machines c) (setup_in plans quota c))
+line_result plans quota machines (Batch now sync parts) =
+    Applied (with_newline (joined (map (λ (p : BatchPart). effect_of_part now sync p (machines p.circuit) (setup_in plans quota p.circuit)) parts)))
+    (λ c. batched now sync (part_of c parts) (machines c) (setup_in plans quota c))
 -- a stray changes no machine
 line_result plans quota machines (Stray why) = Applied (with_newline (effect_text [] (Dropped why))) machines
 

@@ -8,16 +8,17 @@ ghost use Rattle.events.specs.Seen.{Seen};
 ghost use Rattle.events.specs.Stray.{is_stray, stray_outcome};
 ghost use Rattle.events.specs.declared.outcome.Outcome.TheVariants as outcome;
 ghost use Rattle.lab.specs.Lab.{named_result, line_result};
-ghost use Rattle.lab_text.specs.Line.{Line, line_of_text, Tick, Reload, Stray};
-ghost use Rattle.lab_text.specs.ParsedLine.{line_of, IsRestart, IsWithin};
+ghost use Rattle.lab_text.specs.Line.{Line, line_of_text, Batch, Tick, Reload, Stray};
+ghost use Rattle.lab_text.specs.ParsedLine.{line_of, IsBatchWithin, IsRestart, IsWithin};
 ghost use Rattle.lab.specs.Follows.{AllRepresent, KnowsPlans, Names, IsRefusal, Says, Follows, FollowsLast};
 ghost use Rattle.lab.specs.Run.{IsEnd, IsStatus};
 
+use crate::batch_output::write_batch;
 use crate::buffers::Buffers;
 use crate::output::{write_bad_line, write_done, write_outcome};
 use crate::status::{BAD_LINE, DONE, FAILED};
 use config::Plans;
-use events::Comeback;
+use events::{BatchPart, Comeback};
 use lab_text::parse_line::{Parsed, ParsedLine};
 use lab_text::{ByteWriter, MAX_LINE};
 use types::{Circuit, Moment};
@@ -125,6 +126,31 @@ fn apply_restart<M: Machine, W: ByteWriter>(
     }
 }
 
+/// Delivers the parts of a batch, whose circuits exist. Returns a status where the run ends with it.
+fn apply_batch<M: Machine, W: ByteWriter>(
+    machine: &mut M,
+    now: Moment,
+    sync: u8,
+    parts: &[BatchPart],
+    out: &mut PacketBuf,
+    writer: &mut W,
+) -> Option<u8>
+    requires some { 1 ≤ length parts.now }
+    requires most { length parts.now ≤ 16 }
+    ensures follows { (plans : PlansValue) (quota number : ℕ) (machines : ℕ → Alone) → IsBatchWithin plans.union parts.now → AllRepresent plans quota (M.states machine.old) machines
+        → Follows plans quota number (line_result plans quota machines (Batch now sync parts.now)) (M.states machine.new) (W.contents writer.old) (W.contents writer.new) result }
+    ensures known { (set : PlansValue) → KnowsPlans set (M.topology machine.old) → KnowsPlans set (M.topology machine.new) }
+    ensures status { IfSome result IsEnd }
+    ensures quiet { ¬ (result ≡ Some 6) → W.failures writer.new ≡ W.failures writer.old }
+    ensures cause { result ≡ Some 6 → W.failures writer.new ≡ W.failures writer.old + 1 }
+{
+    let outcome = machine.step(&Event::Batch(now, sync, parts), out);
+    match write_batch(writer, outcome, parts.len()) {
+        Ok(()) => None,
+        Err(_) => Some(FAILED),
+    }
+}
+
 /// Applies a stray. Returns a status where the run ends with it.
 fn apply_stray<M: Machine, W: ByteWriter>(
     machine: &mut M,
@@ -202,8 +228,8 @@ fn apply<M: Machine, W: ByteWriter>(
 /// What the line says, where it was not parsed before.
 fn parsed_line(plans: &Plans, line: &[u8], known: Option<Parsed>, buffers: &mut Buffers) -> Parsed
     requires short { length line.now ≤ 8192 }
-    requires known { IfSome known (Says plans.now buffers.old.bytes buffers.old.comebacks line.now) }
-    ensures { Says plans.now buffers.new.bytes buffers.new.comebacks line.now result }
+    requires known { IfSome known (Says plans.now buffers.old.bytes buffers.old.comebacks buffers.old.parts line.now) }
+    ensures { Says plans.now buffers.new.bytes buffers.new.comebacks buffers.new.parts line.now result }
 {
     match known {
         Some(parsed) => parsed,
@@ -223,7 +249,7 @@ pub(crate) fn apply_line<M: Machine, W: ByteWriter>(
     writer: &mut W,
 ) -> Option<u8>
     requires short { length line.now ≤ 8192 }
-    requires known { IfSome known (Says plans.now buffers.old.bytes buffers.old.comebacks line.now) }
+    requires known { IfSome known (Says plans.now buffers.old.bytes buffers.old.comebacks buffers.old.parts line.now) }
     ensures follows { (quota : ℕ) (machines : ℕ → Alone) → AllRepresent plans.now quota (M.states machine.old) machines → KnowsPlans plans.now (M.topology machine.old)
         → Follows plans.now quota number (line_result plans.now quota machines (line_of_text plans.now.union plans.now.count line.now)) (M.states machine.new) (W.contents writer.old) (W.contents writer.new) result }
     ensures known { (set : PlansValue) → KnowsPlans set (M.topology machine.old) → KnowsPlans set (M.topology machine.new) }
@@ -234,6 +260,10 @@ pub(crate) fn apply_line<M: Machine, W: ByteWriter>(
     match parsed_line(plans, line, known, buffers) {
         Parsed::Event(parsed) => apply(machine, plans, number, parsed, buffers, writer),
         Parsed::Restart => apply_restart(machine, &buffers.comebacks, &mut buffers.out, writer),
+        Parsed::Batch(now, sync) => {
+            let parts = buffers.parts.as_slice();
+            apply_batch(machine, now, sync, parts, &mut buffers.out, writer)
+        }
     }
 }
 
@@ -249,7 +279,7 @@ pub(crate) fn apply_last_line<M: Machine, W: ByteWriter>(
     writer: &mut W,
 ) -> u8
     requires short { length line.now ≤ 8192 }
-    requires known { IfSome known (Says plans.now buffers.old.bytes buffers.old.comebacks line.now) }
+    requires known { IfSome known (Says plans.now buffers.old.bytes buffers.old.comebacks buffers.old.parts line.now) }
     ensures follows { (quota : ℕ) (machines : ℕ → Alone) → AllRepresent plans.now quota (M.states machine.old) machines → KnowsPlans plans.now (M.topology machine.old)
         → FollowsLast plans.now quota number line.now (line_result plans.now quota machines (line_of_text plans.now.union plans.now.count line.now)) (M.states machine.new) (W.contents writer.old) (W.contents writer.new) result }
     ensures status { IsStatus result }

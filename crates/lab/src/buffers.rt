@@ -5,7 +5,7 @@ ghost use Rattle.lab.specs.Follows.{Says};
 use config::Plans;
 use events::Comeback;
 use lab_text::parse_line::{Parsed, parse_line};
-use lab_text::{MAX_BYTES, ZEROED};
+use lab_text::{MAX_BYTES, Parts, ZEROED};
 use types::MAX_CIRCUITS;
 use wire::PacketBuf;
 
@@ -16,6 +16,8 @@ pub(crate) struct Buffers {
     pub(crate) bytes: [u8; MAX_BYTES],
     /// How the circuits' regions come back at a restart.
     pub(crate) comebacks: [Comeback; MAX_CIRCUITS],
+    /// The parts of a batch.
+    pub(crate) parts: Parts,
     /// What leaves.
     pub(crate) out: PacketBuf,
 }
@@ -25,14 +27,15 @@ impl Buffers {
         Buffers {
             bytes: [0; MAX_BYTES],
             comebacks: [ZEROED; MAX_CIRCUITS],
+            parts: Parts::new(),
             out: PacketBuf::new(),
         }
     }
 
-    /// Parses a line, whose bytes and comebacks are in the buffers until the next one is parsed.
+    /// Parses a line, whose bytes, comebacks and parts are in the buffers until the next one is parsed.
     pub(crate) fn parse(&mut self, plans: &Plans, line: &[u8]) -> Parsed
         requires { length line.now ≤ 8192 }
-        ensures { Says plans.now self.new.bytes self.new.comebacks line.now result }
+        ensures { Says plans.now self.new.bytes self.new.comebacks self.new.parts line.now result }
     {
         parse_line(
             plans.union(),
@@ -40,6 +43,7 @@ impl Buffers {
             line,
             &mut self.bytes,
             &mut self.comebacks,
+            &mut self.parts,
         )
     }
 }

@@ -30,7 +30,7 @@ pub(crate) fn apply_lines<M: Machine, R: ByteReader, W: ByteWriter>(
     requires end { IsLineEnd (held ahead.old) (R.remaining reader.old) next.end }
     requires within { len_of next.end ≤ 8192 }
     requires inside { len_of next.end + feeds_of next.end ≤ length (held ahead.old) }
-    requires parsed { IfSome next.parsed (Says plans.now buffers.old.bytes buffers.old.comebacks (take (len_of next.end) (held ahead.old))) }
+    requires parsed { IfSome next.parsed (Says plans.now buffers.old.bytes buffers.old.comebacks buffers.old.parts (take (len_of next.end) (held ahead.old))) }
     requires lines { next.earlier + length (held ahead.old) ≤ ahead.old.count }
     requires below { ahead.old.count < 18446744073709551615 }
     ensures ends { (quota : ℕ) (output : List ℕ → Output) (given holds : Option (List ℕ))

@@ -2,6 +2,7 @@
 #![tactic(auto)]
 
 mod apply_line;
+mod batch_output;
 mod buffers;
 mod engine;
 mod opening;

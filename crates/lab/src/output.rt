@@ -201,6 +201,8 @@ pub(crate) fn write_outcome<W: ByteWriter>(
         Outcome::SentDown(len) => write_number(writer, b"down ", len as u64),
         Outcome::Framed(_, dest) => write_frame(writer, id, dest, out),
         Outcome::Done => write_done(writer),
+        Outcome::Batched(_) => writer.write_all(b"gone\n"),
+        Outcome::NotABatch => writer.write_all(b"gone\n"),
         Outcome::NotAStray => writer.write_all(b"gone\n"),
         Outcome::NoPlan => writer.write_all(b"gone\n"),
     }

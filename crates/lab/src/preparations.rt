@@ -87,7 +87,7 @@ fn prepare(
     requires regions { AreWithin plans.now.union (length disk.old.regions) }
     requires ready { AreReady (length disk.old.regions) (state_of disk.old) }
     ensures event { IfSome result (λ _. (openings : ℕ → Opening) → prepared (line_of_text plans.now.union plans.now.count line.now) openings ≡ None) }
-    ensures parsed { IfSome result (Says plans.now buffers.new.bytes buffers.new.comebacks line.now) }
+    ensures parsed { IfSome result (Says plans.now buffers.new.bytes buffers.new.comebacks buffers.new.parts line.now) }
     ensures prepared { IfNone result ((quota : ℕ) (openings : ℕ → Opening) → AreOver plans.now quota (device_of disk.old) openings
         → ArePrepared plans.now quota (device_of disk.new) (prepared (line_of_text plans.now.union plans.now.count line.now) openings)) }
     ensures same { IfSome result (λ _. disk.new ≡ disk.old) }
@@ -96,7 +96,7 @@ fn prepare(
 {
     let parsed = match buffers.parse(plans, line) {
         Parsed::Event(parsed) => parsed,
-        Parsed::Restart => return Some(Parsed::Restart),
+        event @ (Parsed::Restart | Parsed::Batch(_, _)) => return Some(event),
     };
     prepare_region(disk, plans, parsed, &buffers.bytes)
 }
@@ -121,7 +121,7 @@ fn prepare_last(
     ensures end { (left : Option (List ℕ)) → HoldsLast (held ahead.old) left len → IsLineEnd (held ahead.new) left result.0 }
     ensures within { len_of result.0 ≤ 8192 }
     ensures inside { len_of result.0 + feeds_of result.0 ≤ length (held ahead.new) }
-    ensures parsed { IfSome result.1 (Says plans.now buffers.new.bytes buffers.new.comebacks (take (len_of result.0) (held ahead.new))) }
+    ensures parsed { IfSome result.1 (Says plans.now buffers.new.bytes buffers.new.comebacks buffers.new.parts (take (len_of result.0) (held ahead.new))) }
     ensures shorter { length (held ahead.new) ≤ length (held ahead.old) }
     ensures count { ahead.new.count ≡ ahead.old.count }
     ensures regions { length disk.new.regions ≡ length disk.old.regions }
@@ -154,7 +154,7 @@ pub(crate) fn prepare_all<R: ByteReader>(
     ensures end { IfOk result (λ next. IsLineEnd (held ahead.new) (R.remaining reader.new) next.end) }
     ensures within { IfOk result (λ next. len_of next.end ≤ 8192) }
     ensures inside { IfOk result (λ next. len_of next.end + feeds_of next.end ≤ length (held ahead.new)) }
-    ensures parsed { IfOk result (λ next. IfSome next.parsed (Says plans.now buffers.new.bytes buffers.new.comebacks (take (len_of next.end) (held ahead.new)))) }
+    ensures parsed { IfOk result (λ next. IfSome next.parsed (Says plans.now buffers.new.bytes buffers.new.comebacks buffers.new.parts (take (len_of next.end) (held ahead.new)))) }
     ensures lines { IfOk result (λ next. next.earlier + length (held ahead.new) ≤ ahead.new.count) }
     ensures below { OnOk result (ahead.new.count < 18446744073709551615) }
     ensures regions { length disk.new.regions ≡ length disk.old.regions }

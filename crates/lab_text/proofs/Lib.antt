@@ -1,4 +1,5 @@
 pub mod AheadLemmas
+pub mod BatchLemmas
 pub mod CircuitLemmas
 pub mod CutLemmas
 pub mod FieldLemmas

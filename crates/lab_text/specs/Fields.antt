@@ -4,7 +4,10 @@ use Rattle.std.specs.Str.{bytes_eq}
 use Rattle.std.specs.Char.{is_ascii_digit}
 use Rattle.hex.specs.Hex.{decode_of}
 use Rattle.hex.specs.declared.error.FromHexError.{FromHexError}
+use Rattle.events.specs.Batch.{is_batch}
+use Rattle.events.specs.declared.batch.BatchPart.{BatchPart}
 use Rattle.events.specs.declared.comeback.Comeback.{Comeback}
+use Rattle.batch_saves.specs.Batch.{is_sync_fault, is_write_fault}
 use Rattle.lease_disk.specs.declared.image.Image.TheVariants.{Byte, Unreadable}
 use Rattle.types.specs.declared.addr.Addr4.{Addr4}
 use Rattle.types.specs.declared.addr.Source.{Source}
@@ -94,7 +97,7 @@ source_of text = do
   port ← at_least 1 (number_to 65535 parts.1)
   Some (record { addr = addr; port = port })
 
--- ---- how a circuit's region comes back
+-- ---- the last of some bytes in a text
 
 -- a byte in front of what stands before the mark
 abbrev pub with_front : ℕ → List ℕ × List ℕ → List ℕ × List ℕ
@@ -108,6 +111,8 @@ or_here here b text None = if here then Some ([], text) else None
 unfoldable pub parted_last : ℕ → List ℕ → Option (List ℕ × List ℕ)
 parted_last byte [] = None
 parted_last byte (b ∷ text) = or_here (b == byte) b text (parted_last byte text)
+
+-- ---- how a circuit's region comes back
 
 abbrev pub single : Option (List ℕ) → Option ℕ
 single (Some (b ∷ [])) = Some b
@@ -156,3 +161,42 @@ is_named c (named ∷ rest) = named.0 == c || is_named c rest
 unfoldable pub comeback_in : ℕ → List (ℕ × Comeback) → Comeback
 comeback_in c [] = synced_at 0 0
 comeback_in c (named ∷ rest) = if named.0 == c then named.1 else comeback_in c rest
+
+-- ---- the parts of a batch
+
+-- where it is one of these numbers
+abbrev pub one_of : (ℕ → Bool) → Option ℕ → Option ℕ
+one_of known None = None
+one_of known (Some n) = if known n then Some n else None
+
+-- the shared sync that fails, 2, 4 or 6 as calls of a save count, or 0 for none
+abbrev pub sync_fault_of : List ℕ → Option ℕ
+sync_fault_of text = one_of is_sync_fault (number_to 6 text)
+
+-- the write of a part's save that fails, 1, 3 or 5, or 0 for none
+abbrev pub write_fault_of : List ℕ → Option ℕ
+write_fault_of text = one_of is_write_fault (number_to 6 text)
+
+-- `CID=J=FAULT`, parted at the last two `=` (61): J is 0 to 65535
+abbrev pub batch_part : Settings → List ℕ → Option BatchPart
+batch_part settings field = do
+  parts ← parted_last 61 field
+  named ← parted_last 61 parts.0
+  c ← circuit_named settings named.0
+  j ← number_to 65535 named.1
+  fault ← write_fault_of parts.1
+  Some (record { circuit = c; number = j; fault = fault })
+
+-- each of the fields is a part
+unfoldable pub each_part : Settings → List (List ℕ) → Option (List BatchPart)
+each_part settings [] = Some []
+each_part settings (field ∷ fields) = do
+  part ← batch_part settings field
+  parts ← each_part settings fields
+  Some (part ∷ parts)
+
+-- 1 to 16 parts, each of another circuit
+abbrev pub parts_of : Settings → List (List ℕ) → Option (List BatchPart)
+parts_of settings fields = do
+  parts ← each_part settings fields
+  if is_batch parts then Some parts else None

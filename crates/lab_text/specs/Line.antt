@@ -2,12 +2,13 @@
 use Rattle.std.specs.Prelude.{ℕ, ◌+◌, nat_le, nat_lt, ◌==◌, Bool, true, if◌then◌else◌, List, [], ◌∷◌, length, codes, Option, Some, None}
 use Rattle.std.specs.Str.{bytes_eq}
 use Rattle.settings.specs.Settings.{Settings}
+use Rattle.events.specs.declared.batch.BatchPart.{BatchPart}
 use Rattle.events.specs.declared.comeback.Comeback.{Comeback}
 use Rattle.types.specs.declared.discard.Discard.{Discard}
 use Rattle.types.specs.declared.discard.Discard.TheVariants.{UnknownSource, NotServer}
 use Rattle.config.specs.Topology.{topology_of, is_relay, is_server}
 use Rattle.events.specs.Seen.{Seen, Frame, Up, Down}
-use Rattle.lab_text.specs.Fields.{number_to, proto_of, bytes_of, byte_of, circuit_named, relay_named, source_of, named_comeback, is_named}
+use Rattle.lab_text.specs.Fields.{number_to, proto_of, bytes_of, byte_of, circuit_named, relay_named, source_of, named_comeback, is_named, parts_of, sync_fault_of}
 use Rattle.lab_text.specs.Lines.{fields_of}
 use Rattle.lab_text.specs.declared.form.Form.{Form}
 use Rattle.lab_text.specs.declared.form.Form.TheVariants as form
@@ -33,6 +34,8 @@ pub data Line : Type 0 where
   Reload : ℕ → Line
   -- the server and the disk start again, and circuits' regions come back like this
   Restart : List (ℕ × Comeback) → Line
+  -- these datagrams, each of another circuit, are delivered at the server at a moment, with a fault of the shared syncs
+  Batch : ℕ → ℕ → List BatchPart → Line
   -- a stray, which is dropped for this reason
   Stray : Discard → Line
 
@@ -42,7 +45,7 @@ abbrev pub ◌>>=◌ : {A : Type 0} → Option A → (A → Line) → Line
 None >>= f = Bad
 Some a >>= f = f a
 
--- What a line is about, by its first field. A restart, which has any number of fields, is none of these.
+-- What a line is about, by its first field. A restart and a batch, which have any number of fields, are none of these.
 abbrev pub form_of : List ℕ → Option Form
 form_of word =
     if bytes_eq word (codes "fill") then Some form.Fill
@@ -129,6 +132,15 @@ restart_line settings named (field ∷ fields) = do
   next ← named_comeback settings field
   if is_named next.0 named then Bad else restart_line settings (next ∷ named) fields
 
+-- `batch NOW SYNC` and 1 to 16 times `CID=J=FAULT`. No circuit may be named twice.
+abbrev pub batch_line : Settings → List (List ℕ) → Line
+batch_line settings (now ∷ sync ∷ fields) = do
+  moment ← number_to 1099511627775 now
+  fault ← sync_fault_of sync
+  parts ← parts_of settings fields
+  Batch moment fault parts
+batch_line settings fields = Bad
+
 abbrev pub line_of_found : Settings → ℕ → Option Form → List (List ℕ) → Line
 line_of_found settings plans None fields = Bad
 line_of_found settings plans (Some known) fields = line_of_form settings plans known fields
@@ -138,6 +150,7 @@ abbrev pub line_for_word : Settings → ℕ → List (List ℕ) → Line
 line_for_word settings plans [] = Bad
 line_for_word settings plans (word ∷ fields) =
     if bytes_eq word (codes "restart") then restart_line settings [] fields
+    else if bytes_eq word (codes "batch") then batch_line settings fields
     else line_of_found settings plans (form_of word) fields
 
 -- An empty line, or one that begins with `#` (35), is ignored.

@@ -1,5 +1,5 @@
 -- What the parser of a line returns, as a line. Only proofs need these.
-use Rattle.std.specs.Prelude.{◌≡◌, ℕ, ◌+◌, ◌<◌, ◌≤◌, Bool, true, false, List, length, take, Option, Some, None, ⊤}
+use Rattle.std.specs.Prelude.{◌≡◌, ℕ, ◌+◌, ◌<◌, ◌≤◌, Bool, true, false, List, length, slice_get, take, Option, Some, None, ⊤}
 use Rattle.settings.specs.Settings.{Settings}
 use Rattle.types.specs.declared.discard.Discard.TheVariants.{UnknownSource, NotServer}
 use Rattle.config.specs.Topology.{topology_of, is_relay, is_server}
@@ -7,9 +7,11 @@ use Rattle.events.specs.Seen.{Frame, Up, Down}
 use Rattle.lab_text.specs.declared.parse_line.ParsedLine.{ParsedLine}
 use Rattle.lab_text.specs.declared.parse_line.ParsedLine.TheVariants as parsed
 use Rattle.events.specs.Seen.{comeback_at}
+use Rattle.events.specs.Batch.{is_batch}
+use Rattle.events.specs.declared.batch.BatchPart.{BatchPart}
 use Rattle.events.specs.declared.comeback.Comeback.{Comeback}
 use Rattle.lab_text.specs.declared.parse_line.Parsed.{Parsed}
-use Rattle.lab_text.specs.declared.parse_line.Parsed.TheVariants.{Event, Restart}
+use Rattle.lab_text.specs.declared.parse_line.Parsed.TheVariants.{Event, Restart, Batch}
 use Rattle.lab_text.specs.Fields.{comeback_in}
 use Rattle.lab_text.specs.Line.{Line, Ignored, Bad, Fill, Old, Load, Move, Named, Tick, Reload, Stray}
 use Rattle.lab_text.specs.Line as line
@@ -63,11 +65,27 @@ abbrev pub IsRestartOrBad : Bool → List Comeback → Line → Type 0
 IsRestartOrBad true comebacks given = IsRestart comebacks given
 IsRestartOrBad false comebacks given = given ≡ Bad
 
--- A line that was parsed is this one. What a restart says is in the buffer.
-abbrev pub Means : Parsed → List ℕ → List Comeback → Line → Type 0
-Means (Event parsed) bytes comebacks given = line_of parsed bytes ≡ given
-Means Restart bytes comebacks given = IsRestart comebacks given
+-- The fields of a batch are good, and its parts are in the buffer, or they are bad.
+abbrev pub batch_or_bad : Option (ℕ × ℕ) → List BatchPart → Line
+batch_or_bad None parts = Bad
+batch_or_bad (Some start) parts = line.Batch start.0 start.1 parts
 
-abbrev pub ParsedWithin : Settings → ℕ → Parsed → Type 0
-ParsedWithin settings plans (Event parsed) = IsWithin settings plans parsed
-ParsedWithin settings plans Restart = ⊤
+-- the circuits of these parts exist
+abbrev pub AreKnown : Settings → List BatchPart → Type 0
+AreKnown settings parts = (i : ℕ) (p : BatchPart) → slice_get parts i ≡ Some p → p.circuit < length settings.circuits
+
+-- These are the parts of a batch.
+pub record IsBatchWithin (settings : Settings) (parts : List BatchPart) : Type 0 where
+  pub batch : is_batch parts ≡ true
+  pub known : AreKnown settings parts
+
+-- A line that was parsed is this one. What a restart says is in a buffer, and so are the parts of a batch.
+abbrev pub Means : Parsed → List ℕ → List Comeback → List BatchPart → Line → Type 0
+Means (Event parsed) bytes comebacks parts given = line_of parsed bytes ≡ given
+Means Restart bytes comebacks parts given = IsRestart comebacks given
+Means (Batch now sync) bytes comebacks parts given = line.Batch now sync parts ≡ given
+
+abbrev pub ParsedWithin : Settings → ℕ → List BatchPart → Parsed → Type 0
+ParsedWithin settings plans parts (Event parsed) = IsWithin settings plans parsed
+ParsedWithin settings plans parts Restart = ⊤
+ParsedWithin settings plans parts (Batch now sync) = IsBatchWithin settings parts

@@ -2,7 +2,7 @@
 ghost use Rattle.std.specs.Prelude.{◌≡◌};
 ghost use Rattle.lab_text.specs.Line.{form_of};
 
-/// What a line is about. A restart, which has any number of fields, is none of these.
+/// What a line is about. A restart and a batch, which have any number of fields, are none of these.
 #[derive(Clone, Copy)]
 pub enum Form {
     Fill,

@@ -2,6 +2,7 @@
 //! answered to.
 #![tactic(auto)]
 
+mod batches;
 mod circuits;
 mod comebacks;
 mod digits;
@@ -17,6 +18,7 @@ mod std_streams;
 mod streams;
 mod writing;
 
+pub use batches::Parts;
 pub use comebacks::ZEROED;
 pub use hexadecimal::MAX_BYTES;
 pub use line::{LineEnd, MAX_LINE, MAX_TEXT, NextLine, flush_and_read_line, read_line};

@@ -5,9 +5,10 @@ ghost use Rattle.lab_text.specs.FieldsAfter.{fields_after, texts};
 ghost use Rattle.lab_text.specs.Line.{form_of, line_of_form, line_of_found, restart_line, short_line};
 ghost use Rattle.lab_text.specs.ParsedLine.{line_or_bad, IsRestartOrBad, IsWithin, Means, ParsedWithin};
 
+use crate::batches::{Parts, parse_batch};
 use crate::circuits::{circuit_named, is_relay, is_server, relay_named};
 use crate::comebacks::{clear_comebacks, clear_names, move_fault, named_comeback};
-use crate::digits::number;
+use crate::digits::{datagram_number, fault_number, moment, number};
 use crate::fields::{Fields, first_field, next_field};
 use crate::form::{Form, form_named};
 use crate::hexadecimal::{MAX_BYTES, byte, bytes_at};
@@ -15,13 +16,7 @@ use crate::sources::source;
 use config::Config;
 use events::Comeback;
 use lease_disk::REGION;
-use types::{Circuit, LAST_MOMENT, MAX_CIRCUITS, Moment, Proto, RelayNo, Source};
-
-/// The greatest number that names a datagram.
-pub const MAX_NUMBER: u64 = 65535;
-
-/// The last call of the disk in a save.
-pub const MAX_FAULT: u64 = 6;
+use types::{Circuit, MAX_CIRCUITS, Moment, Proto, RelayNo, Source};
 
 /// The greatest number that names a plan.
 const MAX_PLAN: u64 = 255;
@@ -61,10 +56,12 @@ pub enum ParsedLine {
 /// A line that was parsed.
 #[derive(Clone, Copy, Debug, PartialEq, Eq)]
 pub enum Parsed {
-    /// Any line but a restart.
+    /// Any line but a restart or a batch.
     Event(ParsedLine),
     /// A restart. How the regions come back is in a buffer of its own.
     Restart,
+    /// A batch, and the shared sync that fails, 0 for none. The parts are in a buffer of their own.
+    Batch(Moment, u8),
 }
 
 /// The protocol, `4` or `6`.
@@ -78,26 +75,6 @@ fn protocol(text: &[u8]) -> Option<Proto>
         return Some(Proto::V6);
     }
     None
-}
-
-/// The number that names a datagram.
-fn datagram_number(text: &[u8]) -> Option<u16>
-    ensures { result ≡ number_to 65535 text.now }
-{
-    match number(text, MAX_NUMBER) {
-        Some(number) => Some(number as u16),
-        None => None,
-    }
-}
-
-/// The number of the call of the disk that fails in a save.
-fn fault_number(text: &[u8]) -> Option<u8>
-    ensures { result ≡ number_to 6 text.now }
-{
-    match number(text, MAX_FAULT) {
-        Some(number) => Some(number as u8),
-        None => None,
-    }
 }
 
 /// An offset in a region, or its length.
@@ -117,16 +94,6 @@ fn plan_number(text: &[u8]) -> Option<u8>
 {
     match number(text, MAX_PLAN) {
         Some(number) => Some(number as u8),
-        None => None,
-    }
-}
-
-/// A moment in seconds.
-fn moment(text: &[u8]) -> Option<Moment>
-    ensures { result ≡ number_to 1099511627775 text.now }
-{
-    match number(text, LAST_MOMENT) {
-        Some(seconds) => Moment::new(seconds),
         None => None,
     }
 }
@@ -235,7 +202,7 @@ fn parse_form(
     }
 }
 
-/// Parses a line that is no restart by its first field and what follows it.
+/// Parses a line that is no restart and no batch by its first field and what follows it.
 fn parse_fields(
     config: &Config,
     plans: usize,
@@ -258,9 +225,10 @@ pub fn parse_line(
     line: &[u8],
     bytes: &mut [u8; MAX_BYTES],
     comebacks: &mut [Comeback; MAX_CIRCUITS],
+    parts: &mut Parts,
 ) -> Parsed
-    ensures value { Means result bytes.new comebacks.new (short_line config.now plans line.now) }
-    ensures within { ParsedWithin config.now plans result }
+    ensures value { Means result bytes.new comebacks.new parts.new (short_line config.now plans line.now) }
+    ensures within { ParsedWithin config.now plans parts.new result }
 {
     if line.is_empty() || line[0] == b'#' {
         return Parsed::Event(ParsedLine::Ignored);
@@ -271,6 +239,12 @@ pub fn parse_line(
             return Parsed::Event(ParsedLine::Bad);
         }
         return Parsed::Restart;
+    }
+    if word == b"batch".as_slice() {
+        return match parse_batch(config, rest, parts) {
+            Some((now, sync)) => Parsed::Batch(now, sync),
+            None => Parsed::Event(ParsedLine::Bad),
+        };
     }
     match parse_fields(config, plans, word, rest, bytes) {
         Some(parsed) => Parsed::Event(parsed),

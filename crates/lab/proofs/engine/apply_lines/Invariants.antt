@@ -14,7 +14,7 @@ invariant-lines g l = record {
   end : IsLineEnd (held l.ahead) (g.R.ByteReader.remaining l.reader) l.end;
   within : len_of l.end ≤ 8192;
   inside : len_of l.end + feeds_of l.end ≤ length (held l.ahead);
-  known : IfSome l.known (Says l.fn.plans l.buffers.bytes l.buffers.comebacks (take (len_of l.end) (held l.ahead)));
+  known : IfSome l.known (Says l.fn.plans l.buffers.bytes l.buffers.comebacks l.buffers.parts (take (len_of l.end) (held l.ahead)));
   lines : l.earlier + length (held l.ahead) ≤ l.ahead.count;
   below : l.ahead.count < 18446744073709551615;
   reader_quiet : g.R.ByteReader.failures l.reader ≡ g.R.ByteReader.failures l.fn.reader;

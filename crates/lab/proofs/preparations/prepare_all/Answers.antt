@@ -84,7 +84,7 @@ returns-in-Some-clause-counted g c = counted_more _ _ _ _ _ _ c.lines.invariant.
 pub returns-in-Some-clause-parsed : goal.returns-in-Some-clause-parsed
 returns-in-Some-clause-parsed g c =
     rw c.new-in-Some.ensures
-    (subst (λ text. Says c.args.plans.now c.prepare.new.buffers.bytes c.prepare.new.buffers.comebacks (take c.in-Newline.len text) c.in-Some.event) c.as_slice.ensures c.in-Some.ensures.parsed)
+    (subst (λ text. Says c.args.plans.now c.prepare.new.buffers.bytes c.prepare.new.buffers.comebacks c.prepare.new.buffers.parts (take c.in-Newline.len text) c.in-Some.event) c.as_slice.ensures c.in-Some.ensures.parsed)
 
 pub lines-preserved : goal.lines-preserved
 lines-preserved g c =

@@ -13,8 +13,8 @@ returns c =
     ap (λ (u : Settings). short_line u c.count.result line) c.union.ensures ∙ ap (λ n. short_line plans.union n line) c.count.ensures.value
     ∙ short_is plans.union plans.count line c.requires in
     record {
-      means = subst (Means c.parse_line.result c.parse_line.new.bytes c.parse_line.new.comebacks) is c.parse_line.ensures.value;
+      means = subst (Means c.parse_line.result c.parse_line.new.bytes c.parse_line.new.comebacks c.parse_line.new.parts) is c.parse_line.ensures.value;
       within =
-          subst (λ (u : Settings). ParsedWithin u plans.count c.parse_line.result) c.union.ensures
-          (subst (λ n. ParsedWithin c.union.result.now n c.parse_line.result) c.count.ensures.value c.parse_line.ensures.within);
+          subst (λ (u : Settings). ParsedWithin u plans.count c.parse_line.new.parts c.parse_line.result) c.union.ensures
+          (subst (λ n. ParsedWithin c.union.result.now n c.parse_line.new.parts c.parse_line.result) c.count.ensures.value c.parse_line.ensures.within);
     }
