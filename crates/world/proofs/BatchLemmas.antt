@@ -1,21 +1,20 @@
 -- What a batch makes of each circuit of a world: of one whose part waits for the server what its datagram makes of it alone,
 -- and of every other one nothing.
-use Rattle.std.proofs.Common.{◌≡◌, ◌≢◌, ℕ, zero, suc, ◌<◌, ◌⊎◌, inl, inr, Bool, true, false, List, [], ◌∷◌, length, map, set, take, refl, sym, ap, subst, ◌∙◌, arith, eq-eqb, ne_eqb}
+use Rattle.std.proofs.Common.{◌≡◌, ◌≢◌, ℕ, zero, suc, ◌⊎◌, inl, inr, Bool, true, false, List, [], ◌∷◌, take, refl, sym, ap, subst, ◌∙◌, arith, eq-eqb, ne_eqb}
 use Rattle.std.specs.Prelude.{◌==◌, ◌&&◌, ◌||◌, if◌then◌else◌, not, Option, Some, None, option_map, Result, Ok, Err, slice_get}
 use Rattle.std.proofs.lemmas.Bool.{eqb-true}
 use Rattle.std.proofs.lemmas.Option.{same_Some, slice_get_within, slice_get-map}
-use Rattle.types.specs.Delivery.{DeliveryValue, delivery}
+use Rattle.types.specs.Delivery.{DeliveryValue}
 use Rattle.types.specs.declared.discard.Discard.{Discard}
 use Rattle.types.specs.declared.discard.Discard.TheVariants.{DiskFault, BatchTwice}
 use Rattle.config.specs.CircuitPart.{CircuitPart}
-use Rattle.config.specs.Membership.{has}
 use Rattle.config.specs.Topology.{Topology, serves}
 use Rattle.requests.specs.Addressee.{addressee}
 use Rattle.circuit_server.specs.Answered.{Answered, answered, circuit_saves}
 use Rattle.circuit_server.specs.Leases.{Leases, after_datagram, after_saving, served_leases}
 use Rattle.circuit_server.specs.Server.{Book, Served, served}
-use Rattle.dispatch.specs.Batch.{batch_fault, comes_again, is_named, part_received}
-use Rattle.dispatch.specs.Received.{Received, addressee_saves, drop_all, received, received_leases, received_saves, with_answered}
+use Rattle.dispatch.specs.Batch.{batch_fault, comes_again, is_named}
+use Rattle.dispatch.specs.Received.{Received, addressee_saves, drop_all, received, received_leases, received_saves}
 use Rattle.dispatch.specs.ServerValue.{books_in}
 use Rattle.lease_disk.specs.Device.{is_in}
 use Rattle.lease_disk.specs.Model.{fuse_of, state_of}

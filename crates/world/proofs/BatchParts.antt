@@ -1,5 +1,5 @@
 -- The parts of a batch, and those of them that wait for the server, by their circuits.
-use Rattle.std.proofs.Common.{◌≡◌, ℕ, zero, suc, ◌<◌, ◌⊎◌, inl, inr, Bool, true, false, eqb, List, [], ◌∷◌, length, map, take, refl, sym, ap, subst, ◌∙◌, arith, eq-eqb, ne_eqb}
+use Rattle.std.proofs.Common.{◌≡◌, ℕ, zero, suc, Bool, true, false, List, [], ◌∷◌, take, refl, sym, ap, subst, ◌∙◌, eq-eqb, ne_eqb}
 use Rattle.std.specs.Prelude.{◌==◌, ◌&&◌, ◌||◌, if◌then◌else◌, not, Option, Some, None, Result, slice_get}
 use Rattle.std.specs.List.{cons_option, filter_map, list_any}
 use Rattle.std.proofs.lemmas.Bool.{eqb-true, eqb-false}
@@ -27,7 +27,7 @@ pub truth : (b : Bool) → b ≡ true → b ≡ false → ⊥
 truth true h k = absurd cc
 truth false h k = absurd cc
 
-apart_back : (a b : ℕ) → (a == b) ≡ false → (b == a) ≡ false
+pub apart_back : (a b : ℕ) → (a == b) ≡ false → (b == a) ≡ false
 apart_back a b h = ne_eqb b a (λ same. eqb-false a b h (sym same))
 
 -- ---- which circuits wait

@@ -1,6 +1,7 @@
 -- Which regions a batch saves to, and which call fails for each.
-use Rattle.std.proofs.Common.{◌≡◌, ℕ, zero, suc, ◌<◌, ◌≤◌, Bool, true, false, leb, List, [], ◌∷◌, ◌++◌, length, map, take, refl, sym, ap, subst, ◌∙◌, arith, eq-eqb, ne_eqb}
-use Rattle.std.specs.Prelude.{◌==◌, ◌&&◌, ◌||◌, if◌then◌else◌, not, min, Option, Some, None, Result, Ok, slice_get, slice_index}
+use Rattle.std.proofs.Common.{◌≡◌, ℕ, zero, suc, ◌<◌, ◌≤◌, Bool, true, false, List, [], ◌∷◌, ◌++◌, length, map, take, refl, sym, ap, subst, ◌∙◌, arith, eq-eqb, ne_eqb}
+use Rattle.std.specs.Prelude.{◌==◌, ◌||◌, if◌then◌else◌, Option, Some, None, Ok, slice_get, slice_index}
+use Rattle.std.specs.List.{cons_option}
 use Rattle.std.proofs.lemmas.Bool.{eqb-true, eqb-false, le-leb}
 use Rattle.std.proofs.lemmas.List.{length-map}
 use Rattle.std.proofs.lemmas.Option.{same_Some}
@@ -11,14 +12,11 @@ use Rattle.circuit_server.specs.Server.{Book}
 use Rattle.lease_disk.specs.Device.{is_in}
 use Rattle.lease_disk.specs.Region.{effective}
 use Rattle.batch_saves.specs.Batch.{first_of, is_sync_fault, is_write_fault, shared_fault}
-use Rattle.dispatch.specs.Batch.{batch_fault, batch_saves, comes_again, is_circuit, is_named, part_saves, saved_after, with_region}
+use Rattle.dispatch.specs.Batch.{batch_fault, batch_saves, comes_again, is_circuit, is_named, part_saves, saved_after}
 use Rattle.dispatch.specs.Received.{received_saves}
 use Rattle.events.specs.Batch.{part_fault}
 use Rattle.world.specs.declared.world.batch.Waiting.{Waiting}
-use Rattle.world.proofs.BatchParts.{AreApart, is_waiting, neither}
-
-apart_back : (a b : ℕ) → (a == b) ≡ false → (b == a) ≡ false
-apart_back a b h = ne_eqb b a (λ same. eqb-false a b h (sym same))
+use Rattle.world.proofs.BatchParts.{AreApart, apart_back, is_waiting, neither}
 
 or_true : (a b : Bool) → b ≡ true → (a || b) ≡ true
 or_true true b h = refl
@@ -50,7 +48,7 @@ module _ (t : Topology) (books : List (Option Book)) (deliver : Waiting → Deli
 
   abbrev pub saves_by : List Waiting → List ℕ
   saves_by [] = []
-  saves_by (x ∷ ws) = with_region (saves_of x) (saves_by ws)
+  saves_by (x ∷ ws) = cons_option (saves_of x) (saves_by ws)
 
   -- none of these is of a circuit of the earlier ones
   abbrev Later : List DeliveryValue → List Waiting → Type 0
@@ -79,7 +77,7 @@ module _ (t : Topology) (books : List (Option Book)) (deliver : Waiting → Deli
       let own : part_saves t earlier (deliver x) books ≡ saves_of x =
       ap (λ r. if comes_again t earlier r then None else saves_of x) its.0 ∙ ap (λ (b : Bool). if b then None else saves_of x) later.0 in
       let rest = saved_is (earlier ++ deliver x ∷ []) ws its.1 apart.1 (after_one earlier x ws its.0 apart.0 later.1) in
-      λ i. with_region (own i) (rest i)
+      λ i. cons_option (own i) (rest i)
 
   pub saves_are : (ws : List Waiting) → AreAddressed ws → AreApart ws → batch_saves t (map deliver ws) books ≡ saves_by ws
   saves_are ws its apart = saved_is [] ws its apart (after_nothing ws)
@@ -87,16 +85,16 @@ module _ (t : Topology) (books : List (Option Book)) (deliver : Waiting → Deli
   pub out_of_saves : (ws : List Waiting) (r : ℕ) → ((j : ℕ) (y : Waiting) → slice_get ws j ≡ Some y → saves_of y ≡ Some r → ⊥) → is_in (saves_by ws) r ≡ false
   out_of_saves [] r none = refl
   out_of_saves (x ∷ ws) r none = by (saves_of x) refl (out_of_saves ws r (λ j y at. none (suc j) y at)) where
-    by : (o : Option ℕ) → saves_of x ≡ o → is_in (saves_by ws) r ≡ false → is_in (with_region o (saves_by ws)) r ≡ false
+    by : (o : Option ℕ) → saves_of x ≡ o → is_in (saves_by ws) r ≡ false → is_in (cons_option o (saves_by ws)) r ≡ false
     by None is rest = rest
     by (Some q) is rest = λ i. ne_eqb q r (λ same. none 0 x refl (is ∙ ap Some same)) i || rest i
 
   pub in_saves : (ws : List Waiting) (j : ℕ) (x : Waiting) (r : ℕ) → slice_get ws j ≡ Some x → saves_of x ≡ Some r → is_in (saves_by ws) r ≡ true
   in_saves [] j x r at is = absurd cc
   in_saves (y ∷ ws) zero x r at is =
-      subst (λ o. is_in (with_region o (saves_by ws)) r ≡ true) (sym (ap saves_of (same_Some y x at) ∙ is)) (λ i. eq-eqb r r refl i || is_in (saves_by ws) r)
+      subst (λ o. is_in (cons_option o (saves_by ws)) r ≡ true) (sym (ap saves_of (same_Some y x at) ∙ is)) (λ i. eq-eqb r r refl i || is_in (saves_by ws) r)
   in_saves (y ∷ ws) (suc j) x r at is = by (saves_of y) (in_saves ws j x r at is) where
-    by : (o : Option ℕ) → is_in (saves_by ws) r ≡ true → is_in (with_region o (saves_by ws)) r ≡ true
+    by : (o : Option ℕ) → is_in (saves_by ws) r ≡ true → is_in (cons_option o (saves_by ws)) r ≡ true
     by None rest = rest
     by (Some q) rest = or_true (q == r) (is_in (saves_by ws) r) rest
 
@@ -145,7 +143,7 @@ module _ (t : Topology) (books : List (Option Book)) (deliver : Waiting → Deli
   has_own : (sync : ℕ) (faults : ℕ → ℕ) (ws : List Waiting) → ((j : ℕ) (x : Waiting) → slice_get ws j ≡ Some x → (r : ℕ) → saves_of t books deliver x ≡ Some r → IsOwn sync (faults r)) → HasOwn sync (map faults (saves_by t books deliver ws))
   has_own sync faults [] each = record { own = []; same = refl; writes = λ i within. absurd (omega (arith, within)) }
   has_own sync faults (x ∷ ws) each = by (saves_of t books deliver x) refl (has_own sync faults ws (λ j x at. each (suc j) x at)) where
-    by : (o : Option ℕ) → saves_of t books deliver x ≡ o → HasOwn sync (map faults (saves_by t books deliver ws)) → HasOwn sync (map faults (with_region o (saves_by t books deliver ws)))
+    by : (o : Option ℕ) → saves_of t books deliver x ≡ o → HasOwn sync (map faults (saves_by t books deliver ws)) → HasOwn sync (map faults (cons_option o (saves_by t books deliver ws)))
     by None is rest = rest
     by (Some r) is rest = one_more sync (faults r) (map faults (saves_by t books deliver ws)) (each 0 x refl r is) rest
 

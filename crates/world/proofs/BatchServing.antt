@@ -1,7 +1,7 @@
 -- What the server makes of the parts of a batch that wait, over the device as their faults were set.
-use Rattle.std.proofs.Common.{◌≡◌, ℕ, zero, suc, Bool, true, false, eqb, List, [], ◌∷◌, length, refl, sym, ap, subst, ◌∙◌, ne_eqb}
-use Rattle.std.specs.Prelude.{◌==◌, ◌&&◌, ◌||◌, if◌then◌else◌, not, Result}
-use Rattle.std.proofs.lemmas.Bool.{eqb-true, eqb-false}
+use Rattle.std.proofs.Common.{◌≡◌, ℕ, Bool, true, false, List, [], ◌∷◌, length, refl, sym, ap, subst, ◌∙◌, ne_eqb}
+use Rattle.std.specs.Prelude.{◌==◌, ◌&&◌, if◌then◌else◌, not, Result}
+use Rattle.std.proofs.lemmas.Bool.{eqb-false}
 use Rattle.types.specs.Delivery.{DeliveryValue}
 use Rattle.types.specs.declared.discard.Discard.{Discard}
 use Rattle.lease_disk.specs.Device.{is_in}
@@ -12,7 +12,7 @@ use Rattle.dispatch.specs.Batch.{IsBatch, IsBatchOfLeases, IsWrittenTogether, ba
 use Rattle.dispatch.specs.ServerValue.{AreReady, ServerValue, books_in, leases_in}
 use Rattle.world.specs.Batch.{AreServed, all_delivered, faults_after, regions_of}
 use Rattle.world.specs.declared.world.batch.Waiting.{Waiting}
-use Rattle.world.proofs.BatchParts.{neither}
+use Rattle.world.proofs.BatchParts.{apart_back, neither}
 
 pub none_served : (now : ℕ) (ws : List Waiting) (net : NetValue) (server : ServerValue) (disk : ModelDiskValue) → AreReady (state_of disk) server → ws ≡ [] → AreServed now ws net server server disk disk []
 none_served now [] net server disk ready none = record {
@@ -34,7 +34,7 @@ pub faults_beside : (fails : Bool) (ws : List Waiting) (faults : ℕ → ℕ) (r
 faults_beside fails [] faults r beside = refl
 faults_beside fails (w ∷ ws) faults r beside =
     let apart = neither (w.region == r) (is_in (regions_of ws) r) beside in
-    let other : (r == w.region) ≡ false = ne_eqb r w.region (λ same. eqb-false w.region r apart.0 (sym same)) in
+    let other = apart_back w.region r apart.0 in
     faults_beside fails ws _ r apart.1 ∙ ap (λ b. if b then (if fails then w.fault else 0) else faults r) other
 
 -- ---- the server's call, with the faults set before and put out after

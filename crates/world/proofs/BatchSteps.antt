@@ -1,6 +1,6 @@
 -- The step of a batch: each circuit's state moves by its part alone, and the world stays one.
 use Rattle.std.proofs.Common.{Bor, ◌≡◌, ◌≢◌, ℕ, ◌<◌, ◌≤◌, ◌⊎◌, inl, inr, Bool, true, false, List, [], ◌∷◌, length, take, refl, sym, ap, subst, ◌∙◌, arith}
-use Rattle.std.specs.Prelude.{All, ◌==◌, ◌&&◌, if◌then◌else◌, nat_le, Option, Some, None, IfOk, Result, Ok, Err, slice_get, slice_index, slice_index_or}
+use Rattle.std.specs.Prelude.{All, ◌&&◌, if◌then◌else◌, nat_le, Option, Some, None, Result, Ok, Err, slice_get, slice_index, slice_index_or}
 use Rattle.std.specs.List.{filter_map}
 use Rattle.std.proofs.lemmas.Option.{same_Some, slice_get_within, slice_get-get_or}
 use Rattle.types.specs.Delivery.{DeliveryValue, delivery}
@@ -9,7 +9,7 @@ use Rattle.types.specs.declared.dest.Proto.TheVariants.{V6}
 use Rattle.types.specs.declared.discard.Discard.{Discard}
 use Rattle.config.specs.CircuitPart.{CircuitPart, IsPart}
 use Rattle.config.specs.Membership.{has}
-use Rattle.config.specs.Topology.{Topology, is_relay, listen, serves}
+use Rattle.config.specs.Topology.{Topology, listen, serves}
 use Rattle.requests.specs.Addressee.{addressee}
 use Rattle.circuit_server.specs.Answered.{IsAnswer}
 use Rattle.circuit_server.specs.Leases.{Leases, after_datagram}
@@ -21,17 +21,14 @@ use Rattle.lossy_net.specs.declared.dir.Dir.TheVariants as dir
 use Rattle.relay.specs.Relays.{for_circuit, relayed_down, relayed_down_in}
 use Rattle.wire.specs.Bytes.{AreBytes}
 use Rattle.events.specs.Batch.{are_apart, is_batch, is_named, outcome_of, part_fault, part_of}
-use Rattle.events.specs.Seen.{Seen, Up, seen_of, seen_part}
+use Rattle.events.specs.Seen.{Up, seen_part}
 use Rattle.events.specs.declared.batch.BatchPart.{BatchPart}
 use Rattle.events.specs.declared.batch.PartOutcome.{PartOutcome}
-use Rattle.events.specs.declared.batch.PartOutcome.TheVariants as part
 use Rattle.events.specs.declared.event.Event.{Event}
 use Rattle.events.specs.declared.event.Event.TheVariants as event
-use Rattle.events.specs.declared.outcome.Outcome.{Outcome}
 use Rattle.events.specs.declared.outcome.Outcome.TheVariants as outcome
-use Rattle.world.specs.Alone.{delivery_of}
-use Rattle.world.specs.Batch.{AreServed, IsShort, answer_outcome, bytes_in, bytes_of, downs_after, outcome_for, waiting_of, with_answer}
-use Rattle.world.specs.Headline.{CircuitState, IsBatched, Steps, batch_of, of_part, outcome_at, seen_at}
+use Rattle.world.specs.Batch.{AreServed, IsShort, answer_outcome, bytes_in, bytes_of, downs_after, outcome_for, waiting_of}
+use Rattle.world.specs.Headline.{CircuitState, Steps, of_part}
 use Rattle.world.specs.StepsAs.{Each, IsDue, IsFor, IsWorld, Returns, StepsAs, under}
 use Rattle.world.specs.World.{WorldValue, each_state, state_of, states}
 use Rattle.world.specs.declared.world.batch.Waiting.{Waiting}
@@ -39,7 +36,6 @@ use Rattle.world.proofs.BatchLemmas.{IsServedPart, IsWaitingAt, as_alone, fuse_s
 use Rattle.world.proofs.BatchParts.{AreApart, from_part, gone_outcome, has_part, is_waiting, its_downs, its_outcome, its_place, no_part, none_waits, of_its_circuit, one_waits, truth, outcome_is, same_downs, unnamed_waits, waits_apart}
 use Rattle.world.proofs.BatchSaves.{MeetsEach}
 use Rattle.world.proofs.CircuitSteps.{Moved, steps_of}
-use Rattle.world.proofs.ServedLemmas.{state_stays}
 use Rattle.world.proofs.ShownLemmas.{its_answer, its_fails, reply_of}
 use Rattle.world.proofs.StateLemmas.{is_state, leases_now, past_end, state_at, state_count}
 use Rattle.world.proofs.WorldLemmas.{all_at, each_at, each_newest, each_same, is_part_at, same_circuit, states_count, still_world, up_dropped, up_gone, up_off, up_sent, whole}

@@ -151,6 +151,7 @@ impl Server {
     )
         requires some { 1 ≤ length parts.now }
         requires most { length parts.now ≤ 16 }
+        requires room { length parts.now ≤ A.room answers.old }
         requires regions { HasRegions self.old.topology.circuits (D.device disk.old).count }
         requires ready { D.tells ≡ true → AreReady (D.device disk.old).region self.old }
         ensures topology { self.new.topology ≡ self.old.topology }
@@ -187,9 +188,11 @@ impl Server {
     )
         requires circuit { circuit < length self.old.topology.circuits }
         requires place { place + length (cons_option prepared.now.saving []) ≤ length savings.now }
+        requires room { 0 < A.room answers.old }
         ensures topology { self.new.topology ≡ self.old.topology }
         ensures others { self.new.states ≡ slice_set self.old.states circuit (state_of self.new.states circuit) }
         ensures answered { (answer : Result (List ℕ) discard.Discard) × (A.taken answers.new ≡ A.taken answers.old ++ answer ∷ []) × IsSettledSo self.old.topology prepared.now (saved_by prepared.now.saving (part_at savings.now place)) circuit self.old.states self.new.states answer }
+        ensures room { A.room answers.old ≤ A.room answers.new + 1 }
     {
         let saved = savings.outcome(prepared.saving, place);
         match self.settle(circuit, prepared, saved, out) {
@@ -209,10 +212,12 @@ impl Server {
     )
         requires exists { IfOk part.now (λ one. one.0 < length self.old.topology.circuits) }
         requires place { place + length (cons_option (saving_in (Some part.now)) []) ≤ length savings.now }
+        requires room { 0 < A.room answers.old }
         ensures topology { self.new.topology ≡ self.old.topology }
         ensures size { length self.new.states ≡ length self.old.states }
         ensures keeps { (k : ℕ) → is_of k (Some part.now) ≡ false → state_of self.new.states k ≡ state_of self.old.states k }
         ensures answered { (answer : Result (List ℕ) discard.Discard) × (A.taken answers.new ≡ A.taken answers.old ++ answer ∷ []) × IsAnswered self.old.topology (part_at savings.now place) self.old.states self.new.states answer part.now }
+        ensures room { A.room answers.old ≤ A.room answers.new + 1 }
     {
         match part {
             Ok((circuit, prepared)) => {
@@ -227,6 +232,7 @@ impl Server {
         requires parts { AreToSettle self.old.topology batch.now.parts.items }
         requires most { length batch.now.parts.items ≤ 16 }
         requires savings { length batch.now.savings ≡ length (savings_of batch.now.parts.items) }
+        requires room { length batch.now.parts.items ≤ A.room answers.old }
         ensures topology { self.new.topology ≡ self.old.topology }
         ensures answered { (given : List (Result (List ℕ) discard.Discard)) × (A.taken answers.new ≡ A.taken answers.old ++ given)
             × AreAnswered self.old.topology batch.now.parts.items batch.now.savings (length batch.now.parts.items) self.old.states self.new.states given }

@@ -48,6 +48,12 @@ answer_part-requires-clause-place g c =
     let within = place_within c.args.batch.now.parts.items c.parts.part-index (Some c.in-Some.part) there in
     omega (arith, within, was.place, was.savings)
 
+pub answer_part-requires-clause-room : goal.answer_part-requires-clause-room
+answer_part-requires-clause-room g c =
+    let was = c.parts.invariant in
+    let within : c.parts.part-index < length c.args.batch.now.parts.items = subst (λ (xs : List (Option Part)). c.parts.part-index < length xs) was.items c.parts-test.true in
+    omega (arith, within, was.room, c.requires.room)
+
 pub place_after-place-requires : goal.place_after-place-requires
 place_after-place-requires g c =
     let was = c.parts.invariant in
@@ -73,6 +79,7 @@ parts-preserved g c =
       most = was.most;
       savings = was.savings;
       place = c.place_after-place.ensures ∙ ap (λ n. n + length (cons_option (saving_in (Some c.in-Some.part)) [])) was.place ∙ sym (place_more parts i (Some c.in-Some.part) there);
+      room = omega (arith, was.room, next.room);
       answered = (
         before.0 ++ next.answered.0 ∷ [],
         next.answered.1 ∙ ap (λ (xs : List (Result (List ℕ) Discard)). xs ++ next.answered.0 ∷ []) before.1 ∙ append_assoc _ before.0 (next.answered.0 ∷ []),

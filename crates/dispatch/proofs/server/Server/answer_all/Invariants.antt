@@ -1,4 +1,4 @@
-use Rattle.std.proofs.Common.{◌≡◌, ◌≤◌, ◌++◌, ℕ, List, length}
+use Rattle.std.proofs.Common.{◌≡◌, ◌+◌, ◌≤◌, ◌++◌, ℕ, List, length}
 use Rattle.std.specs.Prelude.{Result}
 use Rattle.types.specs.declared.discard.Discard.{Discard}
 use Rattle.dispatch.specs.Parts.{AreAnswered, AreToSettle, place_of, savings_of}
@@ -14,5 +14,6 @@ invariant-parts g l = record {
   most : length l.batch.parts.items ≤ 16;
   savings : length l.batch.savings ≡ length (savings_of l.batch.parts.items);
   place : l.place ≡ place_of l.batch.parts.items l.part-index;
+  room : g.A.Answers.room l.fn.answers ≤ g.A.Answers.room l.answers + l.part-index;
   answered : (given : List (Result (List ℕ) Discard)) × (g.A.Answers.taken l.answers ≡ g.A.Answers.taken l.fn.answers ++ given) × AreAnswered l.fn.self.topology l.batch.parts.items l.batch.savings l.part-index l.fn.self.states l.self.states given;
 }

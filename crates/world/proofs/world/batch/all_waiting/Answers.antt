@@ -1,11 +1,10 @@
-use Rattle.std.proofs.Common.{[], ◌∷◌, ◌++◌, ◌<◌, get_or, length, refl, sym, ap, subst, take, ◌∙◌, arith}
-use Rattle.std.specs.Prelude.{Option, IfSome, slice_get}
+use Rattle.std.proofs.Common.{[], ◌∷◌, ◌++◌, get_or, length, sym, ap, take, ◌∙◌, arith}
+use Rattle.std.specs.Prelude.{slice_get}
 use Rattle.std.specs.List.{cons_option, filter_map}
 use Rattle.std.proofs.lemmas.List.{take_more}
 use Rattle.std.proofs.lemmas.List.Elements.{filter_map-append}
 use Rattle.wire.specs.Bytes.{AreBytes}
 use Rattle.world.specs.Batch.{bytes_of, waiting_of}
-use Rattle.world.specs.declared.world.batch.Waiting.{Waiting}
 use Rattle.world.proofs.BatchLoops.{added_length, each_added}
 use Rattle.world.proofs.world.batch.all_waiting.Goals as goal
 

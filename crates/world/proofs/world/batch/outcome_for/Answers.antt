@@ -1,5 +1,5 @@
-use Rattle.std.proofs.Common.{get_or, map, drop, ◌+◌, refl, sym, ap, ◌∙◌}
-use Rattle.std.specs.Prelude.{◌==◌, if◌then◌else◌, option_map, slice_get}
+use Rattle.std.proofs.Common.{map, drop, ◌+◌, sym, ap, ◌∙◌}
+use Rattle.std.specs.Prelude.{if◌then◌else◌, option_map, slice_get}
 use Rattle.world.specs.Answers.{answer_of}
 use Rattle.world.specs.Batch.{answer_outcome, outcome_for}
 use Rattle.world.proofs.BatchLoops.{mapped_twice, outcome_step}

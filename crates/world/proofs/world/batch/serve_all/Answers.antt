@@ -1,15 +1,14 @@
-use Rattle.std.proofs.Common.{[], ◌∷◌, ◌++◌, ◌≡◌, ℕ, List, length, map, zero, refl, sym, ap, subst, ◌∙◌, arith, eqb}
+use Rattle.std.proofs.Common.{[], ◌∷◌, ◌++◌, ◌≡◌, ℕ, List, length, map, refl, sym, ap, subst, ◌∙◌, arith}
 use Rattle.std.specs.Prelude.{Result}
 use Rattle.std.proofs.lemmas.Bool.{eqb-true}
 use Rattle.types.specs.declared.discard.Discard.{Discard}
-use Rattle.lease_disk.specs.Model.{state_of}
 use Rattle.dispatch.specs.ServerValue.{AreReady}
 use Rattle.lease_disk.specs.Device.{has_failed}
 use Rattle.lease_disk.specs.Model.{device_of}
 use Rattle.world.specs.Answers.{answer_of}
 use Rattle.world.specs.Batch.{AreServed}
 use Rattle.world.specs.declared.world.batch.Waiting.{Waiting}
-use Rattle.world.proofs.BatchServing.{IsTaken, are_served, none_served}
+use Rattle.world.proofs.BatchServing.{are_served, none_served}
 use Rattle.world.proofs.world.batch.serve_all.Goals as goal
 
 no_length : (ws : List Waiting) → length ws ≡ 0 → ws ≡ []

@@ -1,4 +1,4 @@
-use Rattle.std.proofs.Common.{◌+◌, drop, if◌then◌else◌, get_or, refl, sym, ap, ◌∙◌}
+use Rattle.std.proofs.Common.{◌+◌, drop, if◌then◌else◌, get_or, sym, ap, ◌∙◌}
 use Rattle.lease_disk.specs.Model.{fuse_of}
 use Rattle.world.specs.Batch.{faults_after}
 use Rattle.world.proofs.BatchLoops.{fault_is_set, faults_step}

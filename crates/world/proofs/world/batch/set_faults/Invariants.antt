@@ -1,4 +1,4 @@
-use Rattle.std.proofs.Common.{◌≡◌, ℕ, drop, length}
+use Rattle.std.proofs.Common.{◌≡◌, drop, length}
 use Rattle.lease_disk.specs.Model.{fuse_of, state_of}
 use Rattle.world.specs.Batch.{faults_after}
 use Rattle.world.proofs.world.batch.set_faults.Given as goal
