@@ -21,7 +21,8 @@ def batch(pick, clocks):
     for circuit in some:
         clocks[circuit] = moment
     sync = pick.choice([2, 4, 6]) if pick.random() < 0.01 else 0
-    parts = [f"c{circuit}={pick.choice([0, 0, 0, 0, 1, 20])}={pick.choice([1, 3, 5]) if pick.random() < 0.005 else 0}" for circuit in some]
+    faults = [pick.choice([1, 3, 5]) if pick.random() < (0.3 if sync else 0.005) else 0 for _ in some]
+    parts = [f"c{circuit}={pick.choice([0, 0, 0, 0, 1, 20])}={fault}" for circuit, fault in zip(some, faults)]
     yield " ".join(["batch", str(moment), str(sync), *parts])
     for circuit in some:
         yield f"down c{circuit} 0"

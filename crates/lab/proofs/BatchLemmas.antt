@@ -1,29 +1,29 @@
 -- A step of a batch as the result of its line.
-use Rattle.std.proofs.Common.{◌≡◌, ℕ, zero, suc, ◌<◌, ◌≤◌, Bool, true, false, cond, eqb, eqb-true, eq-eqb, List, [], ◌∷◌, length, map, take, refl, ap, sym, subst, ◌∙◌, arith}
+use Rattle.std.proofs.Common.{◌≡◌, ℕ, zero, suc, ◌<◌, Bool, true, false, cond, eqb, eqb-true, eq-eqb, List, [], ◌∷◌, length, map, take, refl, ap, sym, subst, ◌∙◌, arith}
 use Rattle.std.specs.Prelude.{Option, Some, None, not, ◌||◌, ◌&&◌, nat_le, slice_get}
 use Rattle.std.specs.Borrow.{Bor}
 use Rattle.std.specs.Io.KnownBytes.{Appends}
 use Rattle.std.proofs.lemmas.Option.{same_Some}
 use Rattle.settings.specs.declared.settings.CircuitConfig.{CircuitConfig}
 use Rattle.config.specs.Plans.{PlansValue}
-use Rattle.events.specs.Batch.{are_apart, is_batch, is_named, outcome_of, part_of}
-use Rattle.events.specs.Seen.{Seen, seen_part}
+use Rattle.events.specs.Batch.{are_apart, is_named, outcome_of, part_of}
+use Rattle.events.specs.Seen.{seen_part}
 use Rattle.events.specs.declared.batch.BatchPart.{BatchPart}
 use Rattle.events.specs.declared.batch.PartOutcome.{PartOutcome}
 use Rattle.events.specs.declared.batch.PartOutcome.TheVariants as part
 use Rattle.events.specs.declared.event.Event.TheVariants as event
 use Rattle.events.specs.declared.outcome.Outcome.{Outcome}
 use Rattle.events.specs.declared.outcome.Outcome.TheVariants as outcome
-use Rattle.world.specs.Alone.{Alone, Setup, Effect, Dropped, Gone, SentUp, SentDown, Framed, Done, alone_step}
-use Rattle.world.specs.Headline.{Answers, CircuitState, IsListed, IsOutcome, Represents, Steps, after_seen, of_part, outcome_at, seen_at}
+use Rattle.world.specs.Alone.{Alone, Effect, Dropped, Gone, SentUp, SentDown, Framed, Done, alone_step}
+use Rattle.world.specs.Headline.{Answers, CircuitState, IsListed, IsOutcome, Represents, Steps, after_seen, of_part, seen_at}
 use Rattle.world.specs.Start.{setup_in}
 use Rattle.lab_text.specs.Line.{Batch}
-use Rattle.lab_text.specs.ParsedLine.{AreKnown, IsBatchWithin}
+use Rattle.lab_text.specs.ParsedLine.{IsBatchWithin}
 use Rattle.lab_text.specs.Writing.{AppendsPrefix}
 use Rattle.lab.specs.Follows.{AllRepresent, Follows}
 use Rattle.lab.specs.Lab.{batched, text_of_part, line_result, part_seen}
 use Rattle.lab.specs.Output.{batch_text, effect_text, joined, outcome_effect, part_text, with_newline}
-use Rattle.lab.proofs.LineResultLemmas.{SetupAt, effect_is, found_at}
+use Rattle.lab.proofs.LineResultLemmas.{effect_is, found_at}
 
 -- ---- what came of a part
 
@@ -103,8 +103,8 @@ texts_are text (p ∷ parts) (o ∷ outcomes) apart each =
     let here : HasText (text p) o = subst (λ t. HasText (text p) (cond t o (outcome_of p.circuit parts outcomes))) (eq-eqb p.circuit p.circuit refl) (each p (own p parts)) in
     ap (λ t. t ∷ map part_text (take (length parts) outcomes)) (text_of (text p) o here)
     ∙ ap (λ texts. text p ∷ texts) (texts_are text parts outcomes (right (not (is_named p.circuit parts)) (are_apart parts) apart) (λ q there.
-      let apart_from = other p q parts fresh there in
-      subst (λ t. HasText (text q) (cond t o (outcome_of q.circuit parts outcomes))) apart_from (each q (ap (λ t. cond t (Some p) (part_of q.circuit parts)) apart_from ∙ there))))
+    let apart_from = other p q parts fresh there in
+    subst (λ t. HasText (text q) (cond t o (outcome_of q.circuit parts outcomes))) apart_from (each q (ap (λ t. cond t (Some p) (part_of q.circuit parts)) apart_from ∙ there))))
 
 -- the element of an index that there is
 pub record Found (circuits : List CircuitConfig) (i : ℕ) : Type 0 where
