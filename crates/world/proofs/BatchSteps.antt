@@ -274,6 +274,7 @@ module _ (w new : WorldValue) (sync now : ℕ) (ps : List BatchPart) (outcomes :
       record {
         gone = λ c batch named past. subst (λ ps. of_part (outcome_of c ps outcomes) ≡ outcome.Gone) parts (is_gone out empty c (ap (is_named c) same ∙ named) past);
         no_batch = λ none. absurd (truth (is_batch given) (ap is_batch (sym same) ∙ b.batch) none);
+        listed = λ batch. tt;
         silent = (refl, empty);
       }))
 

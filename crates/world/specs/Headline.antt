@@ -1,6 +1,6 @@
 -- The words of the headline: when the state of a circuit in the world represents the circuit's machine,
 -- what a step and a run of the world do, and which frames leave towards a circuit.
-use Rattle.std.specs.Prelude.{◌≡◌, ℕ, ◌+◌, ◌<◌, ◌≤◌, List, [], ◌∷◌, ◌++◌, length, take, slice_get, Bool, Option, Some, None, option_map, true, false, ◌==◌, if◌then◌else◌}
+use Rattle.std.specs.Prelude.{⊤, ◌≡◌, ℕ, ◌+◌, ◌<◌, ◌≤◌, List, [], ◌∷◌, ◌++◌, length, take, slice_get, Bool, Option, Some, None, option_map, true, false, ◌==◌, if◌then◌else◌}
 use Rattle.std.specs.List.{filter_map}
 use Rattle.std.specs.Option.{option_map_or}
 use Rattle.config.specs.Topology.{Topology, reloaded}
@@ -121,10 +121,16 @@ abbrev pub batch_of : Event → Option (List BatchPart)
 batch_of (event.Batch now sync parts) = Some parts.now
 batch_of e = None
 
+-- it lists what came of the parts of a batch
+abbrev pub IsListed : Outcome → Type 0
+IsListed (outcome.Batched outcomes) = ⊤
+IsListed o = ⊥
+
 -- What comes of a batch, where these parts are one and where they are none.
 pub record IsBatched (e : Event) (parts : List BatchPart) (old new : List CircuitState) (o : Outcome) (out : List ℕ) : Type 0 where
   pub gone : (c : ℕ) → is_batch parts ≡ true → is_named c parts ≡ true → length old ≤ c → outcome_at c e o ≡ outcome.Gone
   pub no_batch : is_batch parts ≡ false → (o ≡ outcome.NotABatch) × (new ≡ old)
+  pub listed : is_batch parts ≡ true → IsListed o
   pub silent : (frame_of o out ≡ []) × (out ≡ [])
 
 -- One event, taken whole.
