@@ -82,7 +82,7 @@ known : (n c : ℕ) (parts : List BatchPart) (p : BatchPart) → ((i : ℕ) (q :
 known n c [] p each h = absurd (cc)
 known n c (q ∷ parts) p each h = known_at (eqb q.circuit c) n q p (part_of c parts) h (each 0 q refl) (known n c parts p (λ i r there. each (suc i) r there))
 
--- what is found behind a part of another circuit
+-- what is found after a part of another circuit
 other_at : (t : Bool) (c d : ℕ) (again : Bool) → eqb c d ≡ t → (c ≡ d → again ≡ true) → not again ≡ true → t ≡ false
 other_at true c d true e same fresh = absurd (cc)
 other_at true c d false e same fresh = sym (same (eqb-true c d e))

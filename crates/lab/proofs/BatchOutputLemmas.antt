@@ -7,10 +7,10 @@ use Rattle.events.specs.declared.batch.PartOutcome.{PartOutcome}
 use Rattle.events.specs.declared.outcome.Outcome.TheVariants as outcome
 use Rattle.lab_text.specs.Writing.{AppendsPrefix}
 use Rattle.lab_text.proofs.WriteLemmas.{front_behind, front_longer}
-use Rattle.lab.specs.Output.{batch_text, behind, part_text, with_newline}
+use Rattle.lab.specs.Output.{batch_text, with_marks, part_text, with_newline}
 
 abbrev texts : List (Option PartOutcome) → List ℕ
-texts outcomes = behind (map part_text outcomes)
+texts outcomes = with_marks (map part_text outcomes)
 
 texts-append : (xs ys : List (Option PartOutcome)) → texts (xs ++ ys) ≡ texts xs ++ texts ys
 texts-append [] ys = refl

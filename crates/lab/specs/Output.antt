@@ -50,13 +50,13 @@ abbrev pub with_newline : List ℕ → List ℕ
 with_newline line = line ++ 10 ∷ []
 
 -- texts with `; ` before each
-abbrev pub behind : List (List ℕ) → List ℕ
-behind texts = flat_map (λ text. codes "; " ++ text) texts
+abbrev pub with_marks : List (List ℕ) → List ℕ
+with_marks texts = flat_map (λ text. codes "; " ++ text) texts
 
 -- the outputs of the parts of a batch, with `; ` between them
 abbrev pub joined : List (List ℕ) → List ℕ
 joined [] = []
-joined (text ∷ texts) = text ++ behind texts
+joined (text ∷ texts) = text ++ with_marks texts
 
 -- what came of one part of a batch, and of so many
 abbrev pub part_text : Option PartOutcome → List ℕ

@@ -2,7 +2,7 @@
 ghost use Rattle.std.specs.Prelude.{◌≡◌, ◌+◌, ◌≤◌, ◌++◌, codes, decimal, map, OnOk, OnErr};
 ghost use Rattle.std.specs.Io.KnownBytes.{Appends};
 ghost use Rattle.lab_text.specs.Writing.{AppendsPrefix};
-ghost use Rattle.lab.specs.Output.{batch_text, behind, part_text, with_newline};
+ghost use Rattle.lab.specs.Output.{batch_text, with_marks, part_text, with_newline};
 
 use events::PartOutcome;
 use itoa::Buffer;
@@ -49,8 +49,8 @@ fn write_part<W: ByteWriter>(
 
 /// Writes what came of the parts after the first.
 fn write_rest<W: ByteWriter>(writer: &mut W, outcomes: &[Option<PartOutcome>]) -> Result<(), Failed>
-    ensures ok { OnOk result (Appends (W.contents writer.old) (W.contents writer.new) (behind (map part_text outcomes.now))) }
-    ensures err { OnErr result (AppendsPrefix (W.contents writer.old) (W.contents writer.new) (behind (map part_text outcomes.now))) }
+    ensures ok { OnOk result (Appends (W.contents writer.old) (W.contents writer.new) (with_marks (map part_text outcomes.now))) }
+    ensures err { OnErr result (AppendsPrefix (W.contents writer.old) (W.contents writer.new) (with_marks (map part_text outcomes.now))) }
     ensures quiet { OnOk result (W.failures writer.new ≡ W.failures writer.old) }
     ensures cause { OnErr result (W.failures writer.new ≡ W.failures writer.old + 1) }
 {
