@@ -2,8 +2,6 @@
 #![tactic(auto)]
 
 #[cfg(test)]
-mod batch_tests;
-#[cfg(test)]
 mod lab_tests;
 #[cfg(test)]
 mod world_tests;
