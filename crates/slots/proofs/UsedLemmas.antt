@@ -7,7 +7,6 @@ use Rattle.std.proofs.lemmas.List.{length-set, get_or-set_other, get_or_past}
 use Rattle.std.specs.Option.{option_or}
 use Rattle.slots.specs.declared.holder.Holder.{Holder}
 use Rattle.slots.specs.Lookup.{is_vacant}
-
 use Rattle.slots.specs.Slots.{is_clients, with_vacancy, without_lessee, with_slot, client_of}
 use Rattle.slots.specs.Used.{IsUsed, used_after}
 use Rattle.slots.proofs.ShownLemmas.{Slots}

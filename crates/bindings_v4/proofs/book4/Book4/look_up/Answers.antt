@@ -4,7 +4,6 @@ use Rattle.std.specs.List.{position}
 use Rattle.std.specs.Str.{bytes_eq}
 use Rattle.std.specs.Option.{option_or}
 use Rattle.slots.specs.Lookup.{is_bound_to, is_offered_to, picked_slot}
-
 use Rattle.types.specs.Addr.{number4}
 use Rattle.bindings_v4.specs.Slots4.{AreSlots, PoolSlots}
 use Rattle.bindings_v4.proofs.FreeLemmas.{bound_found, offered_found, pick_found}

@@ -3,7 +3,6 @@ use Rattle.std.specs.Prelude.{Some, None}
 use Rattle.std.specs.List.{position}
 use Rattle.std.specs.Option.{option_or}
 use Rattle.slots.specs.Lookup.{is_vacant}
-
 use Rattle.slots.proofs.UsedLemmas.{from_first, from_next, next, vacant_used}
 use Rattle.slots.proofs.table.SlotTable.vacant_slot.Goals as goal
 
