@@ -1,12 +1,12 @@
 //! The server: which circuit a datagram is of, and what that circuit's server answers.
 #![tactic(auto)]
 
-mod answers;
+mod batch_answers;
 mod circuit_servers;
 pub mod laws;
 mod regions;
 mod server;
 
-pub use answers::Answers;
+pub use batch_answers::{Answer, BatchAnswers};
 pub use regions::region_count;
 pub use server::{OpenFault, Server};

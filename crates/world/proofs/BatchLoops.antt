@@ -1,15 +1,14 @@
 -- The loops over the parts of a batch: one part further on.
 use Rattle.std.proofs.Common.{◌≡◌, ℕ, zero, suc, ◌+◌, ◌<◌, ◌≤◌, Bool, true, false, eqb, ltb, List, [], ◌∷◌, ◌++◌, drop, get_or, length, length-append, map, set, refl, sym, ap, subst, ◌∙◌, arith}
 use Rattle.std.proofs.Math.Seq.{drop-nil}
-use Rattle.std.specs.Prelude.{◌==◌, if◌then◌else◌, Option, Some, None, IfSome, option_map, slice_get}
+use Rattle.std.specs.Prelude.{◌==◌, if◌then◌else◌, Option, Some, None, IfSome, Result, slice_get}
 use Rattle.std.specs.List.{cons_option}
 use Rattle.std.proofs.lemmas.Bool.{eqb-true, eqb-false, ltb-false}
 use borrow.Author.Tests.{ltb-true}
 use Rattle.std.proofs.lemmas.Option.{get_or_from_slice_get, same_Some}
+use Rattle.types.specs.declared.discard.Discard.{Discard}
 use Rattle.lossy_net.specs.Net.{Datagram}
 use Rattle.events.specs.declared.batch.PartOutcome.{PartOutcome}
-use Rattle.world.specs.Answers.{answer_of}
-use Rattle.world.specs.declared.batch_answers.Answer.{Answer}
 use Rattle.world.specs.Batch.{answer_outcome, downs_after, faults_after, outcome_for, with_answer}
 use Rattle.world.specs.declared.world.batch.Waiting.{Waiting}
 use Rattle.world.proofs.StateLemmas.{get_set, get_set_other}
@@ -21,10 +20,6 @@ not_last n i less apart = by (ltb i n) refl where
   by : (b : Bool) → ltb i n ≡ b → i < n
   by true is = ltb-true i n is
   by false is = let past = ltb-false i n is in absurd (apart (omega (arith, less, past)))
-
-pub mapped_twice : {X Y Z : Type 0} (f : Y → Z) (g : X → Y) (r : Option X) → option_map (λ x. f (g x)) r ≡ option_map f (option_map g r)
-mapped_twice f g None = refl
-mapped_twice f g (Some x) = refl
 
 pub added_length : {X : Type 0} (xs : List X) (more : Option X) → length (xs ++ cons_option more []) ≤ length xs + 1
 added_length xs None = omega (arith, length-append xs [])
@@ -77,36 +72,36 @@ suc_is i = omega arith
 
 module _ (quota c : ℕ) (d : Waiting) where
   -- the list towards the relay, with what one part adds
-  abbrev with_one : List Waiting → List Answer → ℕ → List Datagram → List Datagram
-  with_one ws answers i downs = if (get_or ws i d).circuit == c then with_answer quota (get_or ws i d).proto (option_map answer_of (slice_get answers i)) downs else downs
+  abbrev with_one : List Waiting → List (Result (List ℕ) Discard) → ℕ → List Datagram → List Datagram
+  with_one ws answers i downs = if (get_or ws i d).circuit == c then with_answer quota (get_or ws i d).proto (slice_get answers i) downs else downs
 
-  abbrev rest : List Waiting → List Answer → ℕ → List Datagram → List Datagram
-  rest ws answers i downs = downs_after quota (drop i ws) (map answer_of (drop i answers)) c downs
+  abbrev rest : List Waiting → List (Result (List ℕ) Discard) → ℕ → List Datagram → List Datagram
+  rest ws answers i downs = downs_after quota (drop i ws) (drop i answers) c downs
 
   unanswered : (ws : List Waiting) (i : ℕ) (downs : List Datagram) → rest ws [] i downs ≡ downs
-  unanswered ws i downs = ap (λ answers. downs_after quota (drop i ws) (map answer_of answers) c downs) (drop-nil i) ∙ no_answers quota (drop i ws) c downs
+  unanswered ws i downs = ap (λ answers. downs_after quota (drop i ws) answers c downs) (drop-nil i) ∙ no_answers quota (drop i ws) c downs
 
-  further : (ws : List Waiting) (answers : List Answer) (i : ℕ) (downs : List Datagram) → i < length ws → rest ws answers i downs ≡ rest ws answers (suc i) (with_one ws answers i downs)
+  further : (ws : List Waiting) (answers : List (Result (List ℕ) Discard)) (i : ℕ) (downs : List Datagram) → i < length ws → rest ws answers i downs ≡ rest ws answers (suc i) (with_one ws answers i downs)
   further [] answers i downs within = absurd (omega (arith, within))
   further (w ∷ ws) [] i downs within = unanswered (w ∷ ws) i downs ∙ same_either ((get_or (w ∷ ws) i d).circuit == c) downs ∙ sym (unanswered (w ∷ ws) (suc i) (with_one (w ∷ ws) [] i downs))
   further (w ∷ ws) (a ∷ answers) zero downs within = refl
   further (w ∷ ws) (a ∷ answers) (suc i) downs within = further ws answers i downs (omega (arith, within))
 
-  pub downs_step : (ws : List Waiting) (answers : List Answer) (i : ℕ) (downs : List Datagram) → i < length ws
-      → downs_after quota (drop i ws) (map answer_of (drop i answers)) c downs
-      ≡ downs_after quota (drop (i + 1) ws) (map answer_of (drop (i + 1) answers)) c
-      (if (get_or ws i d).circuit == c then with_answer quota (get_or ws i d).proto (option_map answer_of (slice_get answers i)) downs else downs)
+  pub downs_step : (ws : List Waiting) (answers : List (Result (List ℕ) Discard)) (i : ℕ) (downs : List Datagram) → i < length ws
+      → downs_after quota (drop i ws) (drop i answers) c downs
+      ≡ downs_after quota (drop (i + 1) ws) (drop (i + 1) answers) c
+      (if (get_or ws i d).circuit == c then with_answer quota (get_or ws i d).proto (slice_get answers i) downs else downs)
   downs_step ws answers i downs within = further ws answers i downs within ∙ ap (λ n. rest ws answers n (with_one ws answers i downs)) (suc_is i)
 
 module _ (c : ℕ) (d : Waiting) where
-  abbrev rest_of : List Waiting → List Answer → ℕ → PartOutcome
-  rest_of ws answers i = outcome_for c (drop i ws) (map answer_of (drop i answers))
+  abbrev rest_of : List Waiting → List (Result (List ℕ) Discard) → ℕ → PartOutcome
+  rest_of ws answers i = outcome_for c (drop i ws) (drop i answers)
 
   not_answered : (ws : List Waiting) (i : ℕ) → rest_of ws [] i ≡ answer_outcome None
-  not_answered ws i = ap (λ answers. outcome_for c (drop i ws) (map answer_of answers)) (drop-nil i) ∙ no_outcomes c (drop i ws)
+  not_answered ws i = ap (λ answers. outcome_for c (drop i ws) answers) (drop-nil i) ∙ no_outcomes c (drop i ws)
 
-  on_from : (ws : List Waiting) (answers : List Answer) (i : ℕ) → i < length ws
-      → rest_of ws answers i ≡ (if (get_or ws i d).circuit == c then answer_outcome (option_map answer_of (slice_get answers i)) else rest_of ws answers (suc i))
+  on_from : (ws : List Waiting) (answers : List (Result (List ℕ) Discard)) (i : ℕ) → i < length ws
+      → rest_of ws answers i ≡ (if (get_or ws i d).circuit == c then answer_outcome (slice_get answers i) else rest_of ws answers (suc i))
   on_from [] answers i within = absurd (omega (arith, within))
   on_from (w ∷ ws) [] i within =
       let b = (get_or (w ∷ ws) i d).circuit == c in
@@ -114,12 +109,12 @@ module _ (c : ℕ) (d : Waiting) where
   on_from (w ∷ ws) (a ∷ answers) zero within = refl
   on_from (w ∷ ws) (a ∷ answers) (suc i) within = on_from ws answers i (omega (arith, within))
 
-  pub outcome_step : (ws : List Waiting) (answers : List Answer) (i : ℕ) → i < length ws
-      → outcome_for c (drop i ws) (map answer_of (drop i answers))
-      ≡ (if (get_or ws i d).circuit == c then answer_outcome (option_map answer_of (slice_get answers i)) else outcome_for c (drop (i + 1) ws) (map answer_of (drop (i + 1) answers)))
+  pub outcome_step : (ws : List Waiting) (answers : List (Result (List ℕ) Discard)) (i : ℕ) → i < length ws
+      → outcome_for c (drop i ws) (drop i answers)
+      ≡ (if (get_or ws i d).circuit == c then answer_outcome (slice_get answers i) else outcome_for c (drop (i + 1) ws) (drop (i + 1) answers))
   outcome_step ws answers i within =
       on_from ws answers i within
-      ∙ ap (λ n. if (get_or ws i d).circuit == c then answer_outcome (option_map answer_of (slice_get answers i)) else rest_of ws answers n) (suc_is i)
+      ∙ ap (λ n. if (get_or ws i d).circuit == c then answer_outcome (slice_get answers i) else rest_of ws answers n) (suc_is i)
 
 -- ---- the faults of the device
 

@@ -1,5 +1,4 @@
 pub mod Alone
-pub mod Answers
 pub mod Batch
 pub mod Headline
 pub mod Start

@@ -3,7 +3,6 @@
 #![tactic(auto)]
 
 mod addressed;
-mod batch_answers;
 mod machine;
 mod sink;
 mod world;

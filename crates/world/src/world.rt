@@ -23,11 +23,10 @@ ghost use Rattle.wire.specs.Bytes.{AreBytes};
 mod batch;
 
 use crate::addressed::{comes_to_its_circuit, reply_comes_to_its_circuit};
-use crate::batch_answers::BatchAnswers;
 use crate::machine::{Machine, run};
 use crate::sink::Sink;
 use config::{Config, Plans};
-use dispatch::{OpenFault, Server};
+use dispatch::{BatchAnswers, OpenFault, Server};
 use events::{Comeback, Event, Outcome};
 use lease_disk::{Image, ModelDisk};
 use lossy_net::{Dir, Net};

@@ -17,7 +17,7 @@ ghost use Rattle.circuit_server.specs.Ticked.{state_of};
 
 use super::Server;
 use super::savings::Savings;
-use crate::answers::Answers;
+use crate::batch_answers::BatchAnswers;
 use arrayvec::ArrayVec;
 use batch_saves::{MAX_BATCH, Saving};
 use circuit_server::Prepared;
@@ -142,23 +142,21 @@ impl Server {
     /// that their saves share three syncs. All are decided first, then saved together, then answered in order. A part whose circuit
     /// an earlier part is of is refused and changes nothing. A save that fails closes its circuit, alone; a shared sync that
     /// fails is a fault of each save that was not done by then.
-    pub fn receive_batch<D: Disk, A: Answers>(
+    pub fn receive_batch<D: Disk>(
         &mut self,
         parts: &[(Proto, Source, &[u8])],
         now: Moment,
         disk: &mut D,
-        answers: &mut A,
+        answers: &mut BatchAnswers,
     )
         requires some { 1 ≤ length parts.now }
         requires most { length parts.now ≤ 16 }
-        requires room { length parts.now ≤ A.room answers.old }
         requires regions { HasRegions self.old.topology.circuits (D.device disk.old).count }
         requires ready { D.tells ≡ true → AreReady (D.device disk.old).region self.old }
         ensures topology { self.new.topology ≡ self.old.topology }
 
         // Over every device: a save fails where the device counts a failure of the circuit's region.
-        ensures answers { (given : List (Result (List ℕ) discard.Discard)) × (A.taken answers.new ≡ A.taken answers.old ++ given)
-            × IsBatch self.old.topology (map (λ part. delivery part.0 part.1 now part.2.now) parts.now) (has_failed (D.device disk.old) (D.device disk.new)) (books_in self.old) (books_in self.new) given }
+        ensures answers { IsBatch self.old.topology (map (λ part. delivery part.0 part.1 now part.2.now) parts.now) (has_failed (D.device disk.old) (D.device disk.new)) (books_in self.old) (books_in self.new) answers.new }
 
         // Over a device that tells its bytes: which saves fail, and what restarts then find.
         ensures fails { D.tells ≡ true → (r : ℕ) → has_failed (D.device disk.old) (D.device disk.new) r
@@ -171,28 +169,28 @@ impl Server {
         ensures frame { IsWrittenTogether D.tells (batch_saves self.old.topology (map (λ part. delivery part.0 part.1 now part.2.now) parts.now) (books_in self.old)) (D.device disk.old) (D.device disk.new) }
     {
         let _ = &self.circuits;
+        answers.clear();
         let mut batch = self.prepare_all(parts, now);
         batch.savings.save(disk);
         self.answer_all(&batch, answers);
     }
 
     /// Settles a part of a batch, where this is the place of its save among those of the batch.
-    fn settle_part<A: Answers>(
+    fn settle_part(
         &mut self,
         circuit: Circuit,
         prepared: &Prepared<'_>,
         savings: &Savings,
         place: usize,
         out: &mut PacketBuf,
-        answers: &mut A,
+        answers: &mut BatchAnswers,
     )
         requires circuit { circuit < length self.old.topology.circuits }
         requires place { place + length (cons_option prepared.now.saving []) ≤ length savings.now }
-        requires room { 0 < A.room answers.old }
+        requires room { length answers.old < 16 }
         ensures topology { self.new.topology ≡ self.old.topology }
         ensures others { self.new.states ≡ slice_set self.old.states circuit (state_of self.new.states circuit) }
-        ensures answered { (answer : Result (List ℕ) discard.Discard) × (A.taken answers.new ≡ A.taken answers.old ++ answer ∷ []) × IsSettledSo self.old.topology prepared.now (saved_by prepared.now.saving (part_at savings.now place)) circuit self.old.states self.new.states answer }
-        ensures room { A.room answers.old ≤ A.room answers.new + 1 }
+        ensures answered { (answer : Result (List ℕ) discard.Discard) × (answers.new ≡ answers.old ++ answer ∷ []) × IsSettledSo self.old.topology prepared.now (saved_by prepared.now.saving (part_at savings.now place)) circuit self.old.states self.new.states answer }
     {
         let saved = savings.outcome(prepared.saving, place);
         match self.settle(circuit, prepared, saved, out) {
@@ -202,22 +200,21 @@ impl Server {
     }
 
     /// Answers a part of a batch, where this is the place of its save among those of the batch.
-    fn answer_part<A: Answers>(
+    fn answer_part(
         &mut self,
         part: &Part<'_>,
         savings: &Savings,
         place: usize,
         out: &mut PacketBuf,
-        answers: &mut A,
+        answers: &mut BatchAnswers,
     )
         requires exists { IfOk part.now (λ one. one.0 < length self.old.topology.circuits) }
         requires place { place + length (cons_option (saving_in (Some part.now)) []) ≤ length savings.now }
-        requires room { 0 < A.room answers.old }
+        requires room { length answers.old < 16 }
         ensures topology { self.new.topology ≡ self.old.topology }
         ensures size { length self.new.states ≡ length self.old.states }
         ensures keeps { (k : ℕ) → is_of k (Some part.now) ≡ false → state_of self.new.states k ≡ state_of self.old.states k }
-        ensures answered { (answer : Result (List ℕ) discard.Discard) × (A.taken answers.new ≡ A.taken answers.old ++ answer ∷ []) × IsAnswered self.old.topology (part_at savings.now place) self.old.states self.new.states answer part.now }
-        ensures room { A.room answers.old ≤ A.room answers.new + 1 }
+        ensures answered { (answer : Result (List ℕ) discard.Discard) × (answers.new ≡ answers.old ++ answer ∷ []) × IsAnswered self.old.topology (part_at savings.now place) self.old.states self.new.states answer part.now }
     {
         match part {
             Ok((circuit, prepared)) => {
@@ -228,14 +225,13 @@ impl Server {
     }
 
     /// Answers each part of a batch, in order, whose saves are done or have failed.
-    fn answer_all<A: Answers>(&mut self, batch: &Batch<'_>, answers: &mut A)
+    fn answer_all(&mut self, batch: &Batch<'_>, answers: &mut BatchAnswers)
         requires parts { AreToSettle self.old.topology batch.now.parts.items }
         requires most { length batch.now.parts.items ≤ 16 }
         requires savings { length batch.now.savings ≡ length (savings_of batch.now.parts.items) }
-        requires room { length batch.now.parts.items ≤ A.room answers.old }
+        requires none { answers.old ≡ [] }
         ensures topology { self.new.topology ≡ self.old.topology }
-        ensures answered { (given : List (Result (List ℕ) discard.Discard)) × (A.taken answers.new ≡ A.taken answers.old ++ given)
-            × AreAnswered self.old.topology batch.now.parts.items batch.now.savings (length batch.now.parts.items) self.old.states self.new.states given }
+        ensures answered { AreAnswered self.old.topology batch.now.parts.items batch.now.savings (length batch.now.parts.items) self.old.states self.new.states answers.new }
     {
         let mut out = PacketBuf::new();
         let mut place = 0;

@@ -10,16 +10,15 @@ ghost use Rattle.lease_disk.specs.Model.{device_of, fuse_of, state_of};
 ghost use Rattle.lossy_net.specs.Net.{datagrams};
 ghost use Rattle.lossy_net.specs.declared.dir.Dir.TheVariants as dir;
 ghost use Rattle.wire.specs.Bytes.{AreBytes};
-ghost use Rattle.world.specs.Answers.{answer_of};
+ghost use Rattle.dispatch.specs.Answers.{answer_of};
 ghost use Rattle.world.specs.Batch.{AreServed, IsShort, answer_outcome, bytes_of, delivered, downs_after, faults_after, outcome_for, waiting_of, with_answer};
 ghost use Rattle.world.specs.Headline.{Steps};
 ghost use Rattle.world.specs.World.{states};
 
 use super::World;
-use crate::batch_answers::{Answer, BatchAnswers};
 use arrayvec::ArrayVec;
 use batch_saves::MAX_BATCH;
-use dispatch::Server;
+use dispatch::{Answer, BatchAnswers, Server};
 use events::{BatchPart, Outcome, PartOutcome, is_batch, part_fault};
 use lease_disk::ModelDisk;
 use lossy_net::{Dir, Net};
@@ -177,7 +176,7 @@ fn serve_all(
     requires regions { HasRegions server.old.topology.circuits (length disk.old.regions) }
     requires ready { AreReady (state_of disk.old) server.old }
     requires exist { All (λ (w : Waiting). w.region < length disk.old.regions) waiting.now }
-    ensures { AreServed now waiting.now net.now server.old server.new disk.old disk.new (map answer_of answers.new) }
+    ensures { AreServed now waiting.now net.now server.old server.new disk.old disk.new answers.new }
 {
     answers.clear();
     if waiting.is_empty() {
@@ -209,7 +208,7 @@ fn send_answer(net: &mut Net, part: Waiting, answer: Option<&Answer>)
 fn send_all(net: &mut Net, waiting: &[Waiting], answers: &BatchAnswers)
     requires exist { All (λ (w : Waiting). w.circuit < length net.old.circuits) waiting.now }
     ensures ups { (c : ℕ) → datagrams net.new c dir.Up ≡ datagrams net.old c dir.Up }
-    ensures downs { (c : ℕ) → datagrams net.new c dir.Down ≡ downs_after net.old.quota waiting.now (map answer_of answers.now) c (datagrams net.old c dir.Down) }
+    ensures downs { (c : ℕ) → datagrams net.new c dir.Down ≡ downs_after net.old.quota waiting.now answers.now c (datagrams net.old c dir.Down) }
     ensures circuits { length net.new.circuits ≡ length net.old.circuits }
     ensures quota { net.new.quota ≡ net.old.quota }
 {
@@ -232,7 +231,7 @@ fn answer_outcome(answer: Option<&Answer>) -> PartOutcome
 
 /// What came of the part of a circuit.
 fn outcome_for(circuit: Circuit, waiting: &[Waiting], answers: &BatchAnswers) -> PartOutcome
-    ensures value { result ≡ outcome_for circuit waiting.now (map answer_of answers.now) }
+    ensures value { result ≡ outcome_for circuit waiting.now answers.now }
     ensures short { IsShort result }
 {
     'parts: for index in 0..waiting.len() {
@@ -250,8 +249,8 @@ fn outcomes_of(
     answers: &BatchAnswers,
 ) -> [Option<PartOutcome>; MAX_BATCH]
     requires few { length parts.now ≤ 16 }
-    ensures short { (i : ℕ) (part : BatchPart) → slice_get parts.now i ≡ Some part → IsShort (outcome_for part.circuit waiting.now (map answer_of answers.now)) }
-    ensures value { (i : ℕ) (part : BatchPart) → slice_get parts.now i ≡ Some part → slice_get result i ≡ Some (Some (outcome_for part.circuit waiting.now (map answer_of answers.now))) }
+    ensures short { (i : ℕ) (part : BatchPart) → slice_get parts.now i ≡ Some part → IsShort (outcome_for part.circuit waiting.now answers.now) }
+    ensures value { (i : ℕ) (part : BatchPart) → slice_get parts.now i ≡ Some part → slice_get result i ≡ Some (Some (outcome_for part.circuit waiting.now answers.now)) }
 {
     let mut outcomes = [None; MAX_BATCH];
     'parts: for index in 0..parts.len() {

@@ -38,7 +38,7 @@ answer_all-requires-clause-parts g c =
     (length-map c.args.parts.now _) made.made)
 
 done : (g : given.Over) (c : goal.After-answer_all g)
-    → IsReceivedBatch g.D.Disk.tells (map (λ part. delivery part.0 part.1 c.args.now part.2.now) c.args.parts.now) c.answer_all.ensures.answered.0 c.args.self.now c.answer_all.new.self (g.D.Disk.device c.args.disk.now) (g.D.Disk.device c.save.new.disk)
+    → IsReceivedBatch g.D.Disk.tells (map (λ part. delivery part.0 part.1 c.args.now part.2.now) c.args.parts.now) c.answer_all.new.answers c.args.self.now c.answer_all.new.self (g.D.Disk.device c.args.disk.now) (g.D.Disk.device c.save.new.disk)
 done g c =
     let made = c.prepare_all-batch.ensures in
     let ended = c.answer_all.ensures.answered in
@@ -48,10 +48,10 @@ done g c =
     received_batch c.args.self.now (map (λ part. delivery part.0 part.1 c.args.now part.2.now) c.args.parts.now) (length c.args.parts.now) c.prepare_all-batch.result.named.items c.prepare_all-batch.new.self.states parts
     (length-map c.args.parts.now _) made.made sound size c.answer_all.new.self (c.answer_all.ensures.topology ∙ made.topology) c.save.new.self g.D.Disk.tells (g.D.Disk.device c.args.disk.now) (g.D.Disk.device c.save.new.disk)
     (subst (λ (ss : List Saving). AreSavedTogether g.D.Disk.tells ss c.save.new.self (g.D.Disk.device c.args.disk.now) (g.D.Disk.device c.save.new.disk)) made.savings c.save.ensures)
-    ended.0 (subst (λ (t : Topology). AreAnswered t parts c.save.new.self (length parts) c.prepare_all-batch.new.self.states c.answer_all.new.self.states ended.0) made.topology ended.2) c.requires.ready
+    c.answer_all.new.answers (subst (λ (t : Topology). AreAnswered t parts c.save.new.self (length parts) c.prepare_all-batch.new.self.states c.answer_all.new.self.states c.answer_all.new.answers) made.topology ended) c.requires.ready
 
 pub returns-clause-answers : goal.returns-clause-answers
-returns-clause-answers g c = (c.answer_all.ensures.answered.0, c.answer_all.ensures.answered.1, (done g c).answers)
+returns-clause-answers g c = (done g c).answers
 
 pub returns-clause-fails : goal.returns-clause-fails
 returns-clause-fails g c = (done g c).fails

@@ -29,17 +29,17 @@ settled_so topology prepared c old new saved by_it result out answer inside is g
     }
 
 pub returns-in-Ok-clause-answered : goal.returns-in-Ok-clause-answered
-returns-in-Ok-clause-answered g c = (
+returns-in-Ok-clause-answered c = (
   Ok c.as_slice.result.now,
-  c.reply.ensures.taken,
+  c.reply.ensures,
   settled_so c.args.self.now.topology c.args.prepared.now c.args.circuit c.args.self.now.states c.settle.new.self.states c.outcome-saved.result _ c.settle.result c.settle.new.out (Ok c.as_slice.result.now) c.requires.circuit c.outcome-saved.ensures
       (ap Ok c.as_slice.ensures.value ∙ sym (ap (λ r. answer_by r c.settle.new.out) c.in-Ok.is)) c.settle.ensures.settled,
 )
 
 pub returns-in-Err-clause-answered : goal.returns-in-Err-clause-answered
-returns-in-Err-clause-answered g c = (
+returns-in-Err-clause-answered c = (
   Err c.in-Err.why,
-  c.discard.ensures.taken,
+  c.discard.ensures,
   settled_so c.args.self.now.topology c.args.prepared.now c.args.circuit c.args.self.now.states c.settle.new.self.states c.outcome-saved.result _ c.settle.result c.settle.new.out (Err c.in-Err.why) c.requires.circuit c.outcome-saved.ensures
       (sym (ap (λ r. answer_by r c.settle.new.out) c.in-Err.is)) c.settle.ensures.settled,
 )

@@ -7,7 +7,6 @@ use Rattle.events.specs.declared.outcome.Outcome.TheVariants as outcome
 use Rattle.lease_disk.specs.Model as disk
 use Rattle.lossy_net.specs.Net.{datagrams}
 use Rattle.lossy_net.specs.declared.dir.Dir.TheVariants as dir
-use Rattle.world.specs.Answers.{answer_of}
 use Rattle.world.specs.Batch.{AreServed, IsShort, downs_after, outcome_for}
 use Rattle.world.specs.Headline.{Steps}
 use Rattle.world.specs.World.{WorldValue, states}
@@ -38,7 +37,7 @@ known : (c : goal.After-outcomes_of) → IsTakenBatch (old_world c) (new_world c
 known c =
     let w = old_world c in
     let new = new_world c in
-    let given = map answer_of c.serve_all.new.answers in
+    let given = c.serve_all.new.answers in
     let items = c.all_waiting-waiting.ensures.value in
     let same : c.as_slice-waiting.result.now ≡ all_parts w c.self.invariant c.args.sync c.args.parts.now = c.as_slice-waiting.ensures.value ∙ items in
     record {

@@ -1,21 +1,20 @@
 use Rattle.std.proofs.Common.{map, drop, ◌+◌, sym, ap, ◌∙◌}
 use Rattle.std.specs.Prelude.{if◌then◌else◌, option_map, slice_get}
-use Rattle.world.specs.Answers.{answer_of}
 use Rattle.world.specs.Batch.{answer_outcome, outcome_for}
-use Rattle.world.proofs.BatchLoops.{mapped_twice, outcome_step}
+use Rattle.world.proofs.BatchLoops.{outcome_step}
 use Rattle.world.proofs.world.batch.outcome_for.Goals as goal
 
 pub returns-then-eq-clause-value : goal.returns-then-eq-clause-value
 returns-then-eq-clause-value c =
     let step = outcome_step c.args.circuit c.index-waiting-index.result c.args.waiting.now c.args.answers.now c.parts.index c.parts-test.true in
-    let answer = answer_outcome (option_map answer_of (slice_get c.args.answers.now c.parts.index)) in
-    let rest = outcome_for c.args.circuit (drop (c.parts.index + 1) c.args.waiting.now) (map answer_of (drop (c.parts.index + 1) c.args.answers.now)) in
-    c.answer_outcome.ensures.value ∙ ap answer_outcome (mapped_twice answer_of _ c.get.result ∙ ap (option_map answer_of) c.get.ensures)
+    let answer = answer_outcome (slice_get c.args.answers.now c.parts.index) in
+    let rest = outcome_for c.args.circuit (drop (c.parts.index + 1) c.args.waiting.now) (drop (c.parts.index + 1) c.args.answers.now) in
+    c.answer_outcome.ensures.value ∙ ap answer_outcome c.get.ensures
     ∙ ap (λ b. if b then answer else rest) (sym (sym c.eq.ensures ∙ c.if-eq.true)) ∙ sym step ∙ c.parts.invariant.rest
 
 pub parts-preserved : goal.parts-preserved
 parts-preserved c =
     let step = outcome_step c.args.circuit c.index-waiting-index.result c.args.waiting.now c.args.answers.now c.parts.index c.parts-test.true in
-    let answer = answer_outcome (option_map answer_of (slice_get c.args.answers.now c.parts.index)) in
-    let rest = outcome_for c.args.circuit (drop (c.parts.index + 1) c.args.waiting.now) (map answer_of (drop (c.parts.index + 1) c.args.answers.now)) in
+    let answer = answer_outcome (slice_get c.args.answers.now c.parts.index) in
+    let rest = outcome_for c.args.circuit (drop (c.parts.index + 1) c.args.waiting.now) (drop (c.parts.index + 1) c.args.answers.now) in
     record { rest = ap (λ b. if b then answer else rest) (sym (sym c.eq.ensures ∙ c.if-eq.false)) ∙ sym step ∙ c.parts.invariant.rest }

@@ -1,10 +1,9 @@
 use Rattle.std.proofs.Common.{◌≡◌, drop, map}
-use Rattle.world.specs.Answers.{answer_of}
 use Rattle.world.specs.Batch.{outcome_for}
 use Rattle.world.proofs.world.batch.outcome_for.Given as goal
 
 -- none of the parts so far is of the circuit
 abbrev pub invariant-parts : goal.invariant-parts
 invariant-parts l = record {
-  rest : outcome_for l.circuit (drop l.index l.waiting) (map answer_of (drop l.index l.answers)) ≡ outcome_for l.circuit l.waiting (map answer_of l.answers);
+  rest : outcome_for l.circuit (drop l.index l.waiting) (drop l.index l.answers) ≡ outcome_for l.circuit l.waiting l.answers;
 }

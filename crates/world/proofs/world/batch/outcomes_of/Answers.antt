@@ -3,21 +3,20 @@ use Rattle.std.specs.Prelude.{Some, Option, slice_get}
 use Rattle.std.proofs.lemmas.Option.{slice_get_within}
 use Rattle.events.specs.declared.batch.PartOutcome.{PartOutcome}
 use Rattle.events.specs.declared.batch.BatchPart.{BatchPart}
-use Rattle.world.specs.Answers.{answer_of}
 use Rattle.world.specs.Batch.{IsShort, outcome_for}
 use Rattle.world.proofs.BatchLoops.{done_set, one_more}
 use Rattle.world.proofs.world.batch.outcomes_of.Goals as goal
 
 pub parts-preserved : goal.parts-preserved
 parts-preserved c =
-    let f : BatchPart → Option PartOutcome = λ part. Some (outcome_for part.circuit c.args.waiting.now (map answer_of c.args.answers.now)) in
+    let f : BatchPart → Option PartOutcome = λ part. Some (outcome_for part.circuit c.args.waiting.now c.args.answers.now) in
     let n = c.parts.index in
     let d = c.index-parts-index.result in
     let loop = c.parts.invariant in
     let within : n < length c.parts.outcomes = omega (arith, c.parts-test.true, c.requires.few, loop.size) in
     let short = subst IsShort c.outcome_for.ensures.value c.outcome_for.ensures.short in
     record {
-      short = one_more (λ (part : BatchPart). IsShort (outcome_for part.circuit c.args.waiting.now (map answer_of c.args.answers.now))) c.args.parts.now n d short loop.short;
+      short = one_more (λ (part : BatchPart). IsShort (outcome_for part.circuit c.args.waiting.now c.args.answers.now)) c.args.parts.now n d short loop.short;
       size = length-set c.parts.outcomes n (Some c.outcome_for.result) ∙ loop.size;
       done = λ i part there less.
           ap (λ o. slice_get (set c.parts.outcomes n (Some o)) i) c.outcome_for.ensures.value

@@ -2,9 +2,8 @@ use Rattle.std.proofs.Common.{◌+◌, drop, map, sym, ap, ◌∙◌}
 use Rattle.std.specs.Prelude.{◌==◌, if◌then◌else◌, option_map}
 use Rattle.lossy_net.specs.Net.{datagrams}
 use Rattle.lossy_net.specs.declared.dir.Dir.TheVariants as dir
-use Rattle.world.specs.Answers.{answer_of}
 use Rattle.world.specs.Batch.{downs_after, with_answer}
-use Rattle.world.proofs.BatchLoops.{downs_step, mapped_twice}
+use Rattle.world.proofs.BatchLoops.{downs_step}
 use Rattle.world.proofs.world.batch.send_all.Goals as goal
 
 pub parts-preserved : goal.parts-preserved
@@ -19,8 +18,8 @@ parts-preserved c =
       ups = λ n. sent.ups n ∙ loop.ups n;
       downs = λ n.
           let before = datagrams c.parts.net n dir.Down in
-          let answer = mapped_twice answer_of _ c.get.result ∙ ap (option_map answer_of) c.get.ensures in
-          ap (downs_after c.args.net.now.quota (drop (c.parts.index + 1) ws) (map answer_of (drop (c.parts.index + 1) c.args.answers.now)) n)
+          let answer = c.get.ensures in
+          ap (downs_after c.args.net.now.quota (drop (c.parts.index + 1) ws) (drop (c.parts.index + 1) c.args.answers.now) n)
           (sent.downs n ∙ (λ i. if (c.index-waiting-index.is i).circuit == n then with_answer (loop.quota i) (c.index-waiting-index.is i).proto (answer i) before else before))
           ∙ sym (downs_step c.args.net.now.quota n d ws c.args.answers.now c.parts.index before c.parts-test.true) ∙ loop.downs n;
     }

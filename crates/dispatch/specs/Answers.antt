@@ -1,8 +1,8 @@
--- The answers to the parts of a batch. Only proofs need this.
+-- The answers to the parts of a batch.
 use Rattle.std.specs.Prelude.{ℕ, List, Result, Ok, Err}
 use Rattle.types.specs.declared.discard.Discard.{Discard}
-use Rattle.world.specs.declared.batch_answers.Answer.{Answer}
-use Rattle.world.specs.declared.batch_answers.Answer.TheVariants.{Reply, Dropped}
+use Rattle.dispatch.specs.declared.batch_answers.Answer.{Answer}
+use Rattle.dispatch.specs.declared.batch_answers.Answer.TheVariants.{Reply, Dropped}
 
 abbrev pub answer_of : Answer → Result (List ℕ) Discard
 answer_of (Reply datagram) = Ok datagram
