@@ -16,7 +16,7 @@ use Rattle.circuit_server.specs.CircuitServerValue.{CircuitServerValue, IsReady,
 use Rattle.circuit_server.specs.Ticked.{state_of}
 use Rattle.circuit_server.specs.declared.prepared.Prepared.{Prepared}
 use Rattle.dispatch.specs.Batch.{IsBatch, IsBatchOfLeases, IsWrittenTogether, batch_fault, batch_saves}
-use Rattle.dispatch.specs.Parts.{AreAnswered, AreMade, AreSavedTogether, savings_of}
+use Rattle.dispatch.specs.Parts.{AreAnswered, AreDecided, AreSavedTogether, savings_of}
 use Rattle.dispatch.specs.Regions.{HasRegions}
 use Rattle.dispatch.specs.ServerValue.{AreReady, ServerValue, books_in, circuits_in, leases_in}
 use Rattle.dispatch.proofs.BatchLemmas.{batch_answered, batch_failed, batch_leased, batch_ready, batch_written}
@@ -66,7 +66,7 @@ ready_in : (tells : Bool) (s : ServerValue) (device : Device) → length s.state
     → IsReadyFor (device.region part.region) (state_of s.states c)
 ready_in tells s device size ready c part there told = at_index (IsReady device.region) (circuits_in s) c (server part (state_of s.states c)) (there_in s size c part there) (ready told)
 
-module _ (s : ServerValue) (ds : List DeliveryValue) (i : ℕ) (named : List ℕ) (middle : List (Option OpenCircuitValue)) (parts : List (Option Part)) (whole : length ds ≡ i) (made : AreMade s.topology ds i named s.states middle parts)
+module _ (s : ServerValue) (ds : List DeliveryValue) (i : ℕ) (named : List ℕ) (middle : List (Option OpenCircuitValue)) (parts : List (Option Part)) (whole : length ds ≡ i) (made : AreDecided s.topology ds i named s.states middle parts)
     (sound : IsTopology s.topology) (size : length s.states ≡ length s.topology.circuits) where
   pub saves_apart : AreApart (savings_of parts)
   saves_apart = apart_savings s.topology ds i named s.states middle parts whole made sound

@@ -31,7 +31,7 @@ use Rattle.circuit_server.proofs.PreparedLemmas.{WasSaved, came, left, not_not, 
 use Rattle.dispatch.specs.Batch.{IsBatch, IsBatchOfLeases, IsWrittenTogether, comes_again, is_circuit, is_named, part_received}
 use Rattle.dispatch.specs.Received.{Received, addressee_answered, drop_all, received}
 use Rattle.dispatch.proofs.ReceivedLemmas.{leases_at, received_at}
-use Rattle.dispatch.specs.Parts.{AreAnswered, AreMade, AreSavedTogether, IsAnswered, IsMade, IsSettledSo, answer_by, is_of, place_of, saved_by, saving_in, savings_of}
+use Rattle.dispatch.specs.Parts.{AreAnswered, AreDecided, AreSavedTogether, IsAnswered, IsDecided, IsSettledSo, answer_by, is_of, place_of, saved_by, saving_in, savings_of}
 use Rattle.dispatch.proofs.PartLemmas.{any_found, any_there, not_both, same_number}
 use Rattle.dispatch.proofs.SaverLemmas.{keeps_as, of_is, one_first, own_region, saver, settles_at}
 use Rattle.dispatch.proofs.SavingLemmas.{placed}
@@ -187,7 +187,7 @@ pub record IsFinished (tells : Bool) (was later : Device) (shared : ℕ) (old ne
   pub there : slice_get given j ≡ Some answer
   pub done : IsDone tells was later (first_of (effective 6 (was.fuse part.region)) shared) part d (state_of old c) (state_of new c) answer
 
-module _ (topology : Topology) (ds : List DeliveryValue) (i : ℕ) (named : List ℕ) (old middle new : States) (parts : List (Option Part)) (whole : length ds ≡ i) (made : AreMade topology ds i named old middle parts)
+module _ (topology : Topology) (ds : List DeliveryValue) (i : ℕ) (named : List ℕ) (old middle new : States) (parts : List (Option Part)) (whole : length ds ≡ i) (made : AreDecided topology ds i named old middle parts)
     (sound : IsTopology topology) (savings : List Saving) (tells : Bool) (was later : Device) (saved : AreSavedTogether tells (savings_of parts) savings was later)
     (given : List (Result (List ℕ) Discard)) (ended : AreAnswered topology parts savings (length parts) middle new given)
     (ready : (c : ℕ) (part : CircuitPart) → slice_get topology.circuits c ≡ Some part → tells ≡ true → IsReadyFor (was.region part.region) (state_of old c)) where
@@ -277,7 +277,7 @@ module _ (topology : Topology) (ds : List DeliveryValue) (i : ℕ) (named : List
           }
 
   -- so is every first part
-  first_by : (j c : ℕ) (d : DeliveryValue) → slice_get ds j ≡ Some d → addressee topology d ≡ Ok c → is_named topology (take j ds) c ≡ false → (p : Part) → slice_get parts j ≡ Some (Some p) → IsMade topology (take j ds) d old middle p
+  first_by : (j c : ℕ) (d : DeliveryValue) → slice_get ds j ≡ Some d → addressee topology d ≡ Ok c → is_named topology (take j ds) c ≡ false → (p : Part) → slice_get parts j ≡ Some (Some p) → IsDecided topology (take j ds) d old middle p
       → (answer : Result (List ℕ) Discard) → slice_get given j ≡ Some answer → IsAnswered topology (part_at savings (place_of parts j)) middle new answer p
       → (part : CircuitPart) × (slice_get topology.circuits c ≡ Some part) × IsFinished tells was later shared old new given j c d part
   first_by j c d here found first (Err why) at (inl none) answer said is = let never : Ok c ≡ Err why = sym found ∙ none in absurd cc
@@ -300,7 +300,7 @@ module _ (topology : Topology) (ds : List DeliveryValue) (i : ℕ) (named : List
   pub record IsPartOf (j : ℕ) (d : DeliveryValue) : Type 0 where
     pub p : Part
     pub at : slice_get parts j ≡ Some (Some p)
-    pub made_so : IsMade topology (take j ds) d old middle p
+    pub made_so : IsDecided topology (take j ds) d old middle p
     pub answer : Result (List ℕ) Discard
     pub said : slice_get given j ≡ Some answer
     pub answered_so : IsAnswered topology (part_at savings (place_of parts j)) middle new answer p
@@ -352,7 +352,7 @@ module _ (topology : Topology) (ds : List DeliveryValue) (i : ℕ) (named : List
         ∙ ap (λ b. if b then drop_all BatchTwice books else received topology d fails books) first
         ∙ received_at topology d c f.0 found f.1 fails books (option_map open_book (state_of old c)) (shown c f.0 f.1)))
 
-    answer_by_part : (j : ℕ) (d : DeliveryValue) → slice_get ds j ≡ Some d → (p : Part) → IsMade topology (take j ds) d old middle p → (answer : Result (List ℕ) Discard) → slice_get given j ≡ Some answer → IsAnswered topology (part_at savings (place_of parts j)) middle new answer p
+    answer_by_part : (j : ℕ) (d : DeliveryValue) → slice_get ds j ≡ Some d → (p : Part) → IsDecided topology (take j ds) d old middle p → (answer : Result (List ℕ) Discard) → slice_get given j ≡ Some answer → IsAnswered topology (part_at savings (place_of parts j)) middle new answer p
         → slice_get given j ≡ Some (part_received topology (take j ds) d fails books).answer
     answer_by_part j d here (Err why) (inl none) answer said is =
         said ∙ ap Some is

@@ -2,6 +2,7 @@
 use Rattle.std.proofs.Common.{inl, inr, ◌≡◌, ◌∙◌, ◌+◌, ◌<◌, ◌≤◌, ◌==◌, ◌||◌, ℕ, zero, suc, Bool, true, false, List, [], ◌∷◌, ◌++◌, length, take, refl, sym, ap, subst, arith}
 use Rattle.std.specs.Prelude.{◌⊎◌, Option, Some, None, Result, Ok, Err, slice_get}
 use Rattle.std.specs.List.{list_any}
+use Rattle.std.proofs.lemmas.Bool.{or_right}
 use Rattle.std.proofs.lemmas.List.{get_or-set_other, length-set}
 use Rattle.std.proofs.lemmas.Option.{same_Some}
 use Rattle.types.specs.Delivery.{DeliveryValue}
@@ -13,15 +14,11 @@ use Rattle.circuit_server.specs.Prepared.{IsDropped, IsPrepared}
 use Rattle.circuit_server.specs.Ticked.{state_of}
 use Rattle.circuit_server.specs.declared.prepared.Prepared.{Prepared}
 use Rattle.dispatch.specs.Batch.{is_circuit, is_named}
-use Rattle.dispatch.specs.Parts.{AreMade, IsMade, IsOf, IsPart, has_named}
+use Rattle.dispatch.specs.Parts.{AreDecided, IsDecided, IsOf, IsPart, has_named}
 
 or_false : (x : Bool) → (x || false) ≡ x
 or_false true = refl
 or_false false = refl
-
-or_true : (x : Bool) → (x || true) ≡ true
-or_true true = refl
-or_true false = refl
 
 or_again : (x y z : Bool) → (x || (y || z)) ≡ ((x || y) || z)
 or_again true y z = refl
@@ -42,7 +39,7 @@ module _ {A : Type 0} (f : A → Bool) where
   any_there [] i j x less is holds = absurd cc
   any_there (y ∷ xs) zero j x less is holds = absurd (omega (arith, less))
   any_there (y ∷ xs) (suc i) zero x less is holds = ap (λ b. b || list_any f (take i xs)) (ap f (same_Some y x is) ∙ holds)
-  any_there (y ∷ xs) (suc i) (suc j) x less is holds = ap (λ b. f y || b) (any_there xs i j x (omega (arith, less)) is holds) ∙ or_true (f y)
+  any_there (y ∷ xs) (suc i) (suc j) x less is holds = ap (λ b. f y || b) (any_there xs i j x (omega (arith, less)) is holds) ∙ or_right (f y) true refl
 
 found_by : {A : Type 0} (f : A → Bool) (xs : List A) (i : ℕ) (y : A) → (list_any f (take i xs) ≡ true → (j : ℕ) × (x : A) × (j < i) × (slice_get xs j ≡ Some x) × (f x ≡ true))
     → (b : Bool) → f y ≡ b → (b || list_any f (take i xs)) ≡ true → (j : ℕ) × (x : A) × (j < suc i) × (slice_get (y ∷ xs) j ≡ Some x) × (f x ≡ true)
@@ -97,7 +94,7 @@ apart topology ds i c k d found first (inr other) same =
     not_both is other
 
 module _ (topology : Topology) (ds : List DeliveryValue) (i : ℕ) (d : DeliveryValue) (named : List ℕ) (old now new : States) (parts : List (Option Part)) (part : Part)
-    (here : slice_get ds i ≡ Some d) (made : AreMade topology ds i named old now parts) (is : IsPart topology named d now new part) where
+    (here : slice_get ds i ≡ Some d) (made : AreDecided topology ds i named old now parts) (is : IsPart topology named d now new part) where
   first : (c : ℕ) → has_named named c ≡ false → is_named topology (take i ds) c ≡ false
   first c fresh = sym (made.names c) ∙ fresh
 
@@ -119,7 +116,7 @@ module _ (topology : Topology) (ds : List DeliveryValue) (i : ℕ) (d : Delivery
   sizes (Ok (c, prepared)) prepared_is = ap (λ (s : States). length s) prepared_is.1.others ∙ length-set now c (state_of new c)
 
   -- the part itself
-  own : (part : Part) → IsPart topology named d now new part → IsMade topology (take i ds) d old new part
+  own : (part : Part) → IsPart topology named d now new part → IsDecided topology (take i ds) d old new part
   own (Err why) (inl none) = inl none.1
   own (Err why) (inr (inl again)) = inr (inl (again.1, (again.2.0, again.2.1, sym (made.names again.2.0) ∙ again.2.2)))
   own (Err why) (inr (inr dropped)) =
@@ -131,7 +128,7 @@ module _ (topology : Topology) (ds : List DeliveryValue) (i : ℕ) (d : Delivery
       (prepared_is.0, record { found = prepared_is.1.found; first = fresh }, prepared_is.2, subst (λ before. IsPrepared prepared_is.0 d before (state_of new c) prepared) (made.others c fresh) prepared_is.3)
 
   -- and those before it
-  earlier : (j : ℕ) (other : DeliveryValue) → j < i → slice_get ds j ≡ Some other → (before : Part) → IsMade topology (take j ds) other old now before → IsMade topology (take j ds) other old new before
+  earlier : (j : ℕ) (other : DeliveryValue) → j < i → slice_get ds j ≡ Some other → (before : Part) → IsDecided topology (take j ds) other old now before → IsDecided topology (take j ds) other old new before
   earlier j other less there (Err why) (inl none) = inl none
   earlier j other less there (Err why) (inr (inl again)) = inr (inl again)
   earlier j other less there (Err why) (inr (inr dropped)) =
@@ -143,7 +140,7 @@ module _ (topology : Topology) (ds : List DeliveryValue) (i : ℕ) (d : Delivery
       (prepared_is.0, prepared_is.1, prepared_is.2, subst (λ after. IsPrepared prepared_is.0 other (state_of old c) after prepared) (sym (keeps part is c (inl named_there))) prepared_is.3)
 
   each : (j : ℕ) (other : DeliveryValue) → j < i + 1 → slice_get ds j ≡ Some other → (b : Bool) → (j == i) ≡ b
-      → (p : Part) × (slice_get (parts ++ Some part ∷ []) j ≡ Some (Some p)) × IsMade topology (take j ds) other old new p
+      → (p : Part) × (slice_get (parts ++ Some part ∷ []) j ≡ Some (Some p)) × IsDecided topology (take j ds) other old new p
   each j other less there false e =
       let before : j < i = grind (arith, less, e) in
       let was = made.each j other before there in
@@ -152,9 +149,9 @@ module _ (topology : Topology) (ds : List DeliveryValue) (i : ℕ) (d : Delivery
       let last : j ≡ i = grind (arith, e) in
       let same : d ≡ other = same_Some d other (sym here ∙ (ap (slice_get ds) (sym last) ∙ there)) in
       let at : slice_get (parts ++ Some part ∷ []) j ≡ Some (Some part) = ap (slice_get (parts ++ Some part ∷ [])) (last ∙ sym made.count) ∙ get_last parts (Some part) in
-      (part, at, subst (λ n. IsMade topology (take n ds) other old new part) (sym last) (subst (λ x. IsMade topology (take i ds) x old new part) same (own part is)))
+      (part, at, subst (λ n. IsDecided topology (take n ds) other old new part) (sym last) (subst (λ x. IsDecided topology (take i ds) x old new part) same (own part is)))
 
-  pub made_more : (names : List ℕ) → length names ≤ length named + 1 → ((c : ℕ) → has_named names c ≡ (has_named named c || is_circuit c (addressee topology d))) → AreMade topology ds (i + 1) names old new (parts ++ Some part ∷ [])
+  pub made_more : (names : List ℕ) → length names ≤ length named + 1 → ((c : ℕ) → has_named names c ≡ (has_named named c || is_circuit c (addressee topology d))) → AreDecided topology ds (i + 1) names old new (parts ++ Some part ∷ [])
   made_more names short are = record {
     size = sizes part is ∙ made.size;
     count = size_more parts (Some part) ∙ ap (λ n. n + 1) made.count;
@@ -167,5 +164,5 @@ module _ (topology : Topology) (ds : List DeliveryValue) (i : ℕ) (d : Delivery
   }
 
 -- before the first part
-pub made_none : (topology : Topology) (ds : List DeliveryValue) (states : States) → AreMade topology ds 0 [] states states []
+pub made_none : (topology : Topology) (ds : List DeliveryValue) (states : States) → AreDecided topology ds 0 [] states states []
 made_none topology ds states = record { size = refl; count = refl; few = omega arith; names = λ c. refl; each = λ j d less there. absurd (omega (arith, less)); others = λ c none. refl }

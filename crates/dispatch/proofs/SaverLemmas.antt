@@ -23,7 +23,7 @@ use Rattle.circuit_server.specs.declared.prepared.Prepared.{Prepared}
 use Rattle.circuit_server.proofs.AnswerLemmas.{saves_so}
 use Rattle.circuit_server.proofs.PreparedLemmas.{case, keeps_none, keeps_some, prepared_ready}
 use Rattle.dispatch.specs.Batch.{batch_saves, comes_again, is_circuit, is_named, part_saves, saved_after}
-use Rattle.dispatch.specs.Parts.{AreMade, AreToSettle, IsMade, is_of, place_of, saving_in, savings_of}
+use Rattle.dispatch.specs.Parts.{AreDecided, AreToSettle, IsDecided, is_of, place_of, saving_in, savings_of}
 use Rattle.dispatch.specs.Received.{addressee_saves, received_saves}
 use Rattle.dispatch.proofs.PartLemmas.{any_found, any_there, not_both, same_number}
 use Rattle.dispatch.proofs.ReceivedLemmas.{saves_at}
@@ -96,7 +96,7 @@ pub record Saves (topology : Topology) (ds : List DeliveryValue) (old new : Stat
   pub is : part_at (savings_of parts) n ≡ s
   pub region : s.region ≡ settles.part.region
 
-module _ (topology : Topology) (ds : List DeliveryValue) (i : ℕ) (named : List ℕ) (old new : States) (parts : List (Option Part)) (whole : length ds ≡ i) (made : AreMade topology ds i named old new parts) where
+module _ (topology : Topology) (ds : List DeliveryValue) (i : ℕ) (named : List ℕ) (old new : States) (parts : List (Option Part)) (whole : length ds ≡ i) (made : AreDecided topology ds i named old new parts) where
   pub settles_at : (j c : ℕ) (prepared : Prepared) → slice_get parts j ≡ Some (Some (Ok (c, prepared))) → Settles topology ds old new j c prepared
   settles_at j c prepared there =
       let inside = slice_get_within parts j (Some (Ok (c, prepared))) there in
@@ -104,7 +104,7 @@ module _ (topology : Topology) (ds : List DeliveryValue) (i : ℕ) (named : List
       let d = there_is ds j (omega (arith, within, whole)) in
       let one = made.each j d.0 within d.1 in
       let same : Some one.0 ≡ Some (Ok (c, prepared)) = same_Some (Some one.0) (Some (Ok (c, prepared))) (sym one.1 ∙ there) in
-      let m : IsMade topology (take j ds) d.0 old new (Ok (c, prepared)) = subst (IsMade topology (take j ds) d.0 old new) (same_Some one.0 (Ok (c, prepared)) same) one.2 in
+      let m : IsDecided topology (take j ds) d.0 old new (Ok (c, prepared)) = subst (IsDecided topology (take j ds) d.0 old new) (same_Some one.0 (Ok (c, prepared)) same) one.2 in
       record { d = d.0; given = d.1; part = m.0; found = m.1.found; first = m.1.first; there = m.2; prepared_so = m.3 }
 
   before_first : (j k c : ℕ) (d : DeliveryValue) → j < k → slice_get ds j ≡ Some d → addressee topology d ≡ Ok c → is_named topology (take k ds) c ≡ false → ⊥
@@ -188,7 +188,7 @@ module _ (topology : Topology) (ds : List DeliveryValue) (i : ℕ) (named : List
 
 -- ---- and where they save
 
-part_saved : (topology : Topology) (earlier : List DeliveryValue) (d : DeliveryValue) (old new : States) (books : List (Option Book)) (p : Part) → IsMade topology earlier d old new p
+part_saved : (topology : Topology) (earlier : List DeliveryValue) (d : DeliveryValue) (old new : States) (books : List (Option Book)) (p : Part) → IsDecided topology earlier d old new p
     → ((c : ℕ) (part : CircuitPart) → slice_get topology.circuits c ≡ Some part → slice_get books c ≡ Some (option_map open_book (state_of old c)))
     → part_saves topology earlier d books ≡ option_map (λ (s : Saving). s.region) (saving_in (Some p))
 part_saved topology earlier d old new books (Err why) (inl none) shown =
@@ -231,7 +231,7 @@ saved_from topology books earlier (d ∷ ds) (x ∷ parts) size each =
     ∙ sym (map_option (saving_in x) (savings_of parts))
 
 -- the regions that a batch saves to
-pub saves_are : (topology : Topology) (ds : List DeliveryValue) (i : ℕ) (named : List ℕ) (old new : States) (parts : List (Option Part)) (books : List (Option Book)) → length ds ≡ i → AreMade topology ds i named old new parts
+pub saves_are : (topology : Topology) (ds : List DeliveryValue) (i : ℕ) (named : List ℕ) (old new : States) (parts : List (Option Part)) (books : List (Option Book)) → length ds ≡ i → AreDecided topology ds i named old new parts
     → ((c : ℕ) (part : CircuitPart) → slice_get topology.circuits c ≡ Some part → slice_get books c ≡ Some (option_map open_book (state_of old c)))
     → batch_saves topology ds books ≡ regions_of (savings_of parts)
 saves_are topology ds i named old new parts books whole made shown =

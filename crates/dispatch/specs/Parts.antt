@@ -47,22 +47,22 @@ pub record IsFirst (topology : Topology) (earlier : List DeliveryValue) (d : Del
   pub found : addressee topology d ≡ Ok c
   pub first : is_named topology earlier c ≡ false
 
--- What was made of a part after these, by the states before the batch and now.
-abbrev pub IsMade : Topology → List DeliveryValue → DeliveryValue → List (Option OpenCircuitValue) → List (Option OpenCircuitValue) → Result (ℕ × Prepared) Discard → Type 0
-IsMade topology earlier d old new (Err why) =
+-- What was decided on a part after these, by the states before the batch and now.
+abbrev pub IsDecided : Topology → List DeliveryValue → DeliveryValue → List (Option OpenCircuitValue) → List (Option OpenCircuitValue) → Result (ℕ × Prepared) Discard → Type 0
+IsDecided topology earlier d old new (Err why) =
     (addressee topology d ≡ Err why)
     ⊎ ((why ≡ BatchTwice) × ((c : ℕ) × (addressee topology d ≡ Ok c) × (is_named topology earlier c ≡ true)))
     ⊎ ((c : ℕ) × (part : CircuitPart) × IsFirst topology earlier d c × (slice_get topology.circuits c ≡ Some part) × IsDropped part d (state_of old c) (state_of new c) why)
-IsMade topology earlier d old new (Ok (c, prepared)) =
+IsDecided topology earlier d old new (Ok (c, prepared)) =
     (part : CircuitPart) × IsFirst topology earlier d c × (slice_get topology.circuits c ≡ Some part) × IsPrepared part d (state_of old c) (state_of new c) prepared
 
--- Of the first parts of a batch, so many: the circuits that they are of, and what was made of each. Every other circuit's state stays.
-pub record AreMade (topology : Topology) (ds : List DeliveryValue) (i : ℕ) (named : List ℕ) (old new : List (Option OpenCircuitValue)) (parts : List (Option (Result (ℕ × Prepared) Discard))) : Type 0 where
+-- Of the first parts of a batch, so many: the circuits that they are of, and what was decided on each. Every other circuit's state stays.
+pub record AreDecided (topology : Topology) (ds : List DeliveryValue) (i : ℕ) (named : List ℕ) (old new : List (Option OpenCircuitValue)) (parts : List (Option (Result (ℕ × Prepared) Discard))) : Type 0 where
   pub size : length new ≡ length old
   pub count : length parts ≡ i
   pub few : length named ≤ i
   pub names : (c : ℕ) → has_named named c ≡ is_named topology (take i ds) c
-  pub each : (j : ℕ) (d : DeliveryValue) → j < i → slice_get ds j ≡ Some d → (part : Result (ℕ × Prepared) Discard) × (slice_get parts j ≡ Some (Some part)) × IsMade topology (take j ds) d old new part
+  pub each : (j : ℕ) (d : DeliveryValue) → j < i → slice_get ds j ≡ Some d → (part : Result (ℕ × Prepared) Discard) × (slice_get parts j ≡ Some (Some part)) × IsDecided topology (take j ds) d old new part
   pub others : (c : ℕ) → is_named topology (take i ds) c ≡ false → state_of new c ≡ state_of old c
 
 -- ---- what they save

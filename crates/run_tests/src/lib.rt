@@ -1,6 +1,8 @@
-//! What no line of text brings about: sinks, readers and writers that fail, and what does not exist.
+//! What no line of text shows: sinks, readers and writers that fail, what does not exist, and how many syncs a batch costs.
 #![tactic(auto)]
 
+#[cfg(test)]
+mod batch_tests;
 #[cfg(test)]
 mod lab_tests;
 #[cfg(test)]

@@ -5,7 +5,7 @@ ghost use Rattle.types.specs.declared.discard.Discard as discard;
 ghost use Rattle.lease_disk.specs.Device.{has_failed, is_in};
 ghost use Rattle.dispatch.specs.Batch.{IsBatch, IsBatchOfLeases, IsWrittenTogether, batch_fault, batch_saves, is_circuit};
 ghost use Rattle.requests.specs.Addressee as who;
-ghost use Rattle.dispatch.specs.Parts.{AreAnswered, AreMade, AreToSettle, IsAnswered, IsPart, IsSettledSo, is_of, has_named, saved_by, saving_in, savings_of};
+ghost use Rattle.dispatch.specs.Parts.{AreAnswered, AreDecided, AreToSettle, IsAnswered, IsPart, IsSettledSo, is_of, has_named, saved_by, saving_in, savings_of};
 ghost use Rattle.batch_saves.specs.Batch.{part_at};
 ghost use Rattle.std.specs.List.{cons_option};
 ghost use Rattle.dispatch.specs.Regions.{HasRegions};
@@ -113,7 +113,7 @@ impl Server {
     fn prepare_all<'a>(&mut self, parts: &[(Proto, Source, &'a [u8])], now: Moment) -> Batch<'a>
         requires most { length parts.now ≤ 16 }
         ensures topology { self.new.topology ≡ self.old.topology }
-        ensures made { AreMade self.old.topology (map (λ part. delivery part.0 part.1 now part.2.now) parts.now) (length parts.now) result.named.items self.old.states self.new.states result.parts.items }
+        ensures made { AreDecided self.old.topology (map (λ part. delivery part.0 part.1 now part.2.now) parts.now) (length parts.now) result.named.items self.old.states self.new.states result.parts.items }
         ensures savings { result.savings ≡ savings_of result.parts.items }
     {
         let mut batch = Batch {

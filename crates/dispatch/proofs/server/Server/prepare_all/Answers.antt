@@ -6,7 +6,7 @@ use Rattle.types.specs.Delivery.{delivery}
 use Rattle.requests.specs.Addressee.{addressee}
 use Rattle.dispatch.specs.Batch.{is_circuit}
 use Rattle.batch_saves.specs.declared.saving.Saving.{Saving}
-use Rattle.dispatch.specs.Parts.{AreMade, IsPart, has_named, saving_in, savings_of}
+use Rattle.dispatch.specs.Parts.{AreDecided, IsPart, has_named, saving_in, savings_of}
 use Rattle.dispatch.proofs.PartLemmas.{made_more, made_none}
 use Rattle.dispatch.proofs.SavingLemmas.{filter_few, filter_more}
 use Rattle.dispatch.proofs.server.Server.prepare_all.Goals as goal
@@ -17,8 +17,8 @@ parts-init c = record {
   most = c.requires.most;
   topology = refl;
   made =
-      subst (λ named. AreMade c.args.self.now.topology (map (λ part. delivery part.0 part.1 c.args.now part.2.now) c.args.parts.now) 0 named c.args.self.now.states c.args.self.now.states c.new.result.items) (sym c.new-2.ensures)
-      (subst (λ parts. AreMade c.args.self.now.topology (map (λ part. delivery part.0 part.1 c.args.now part.2.now) c.args.parts.now) 0 [] c.args.self.now.states c.args.self.now.states parts) (sym c.new.ensures)
+      subst (λ named. AreDecided c.args.self.now.topology (map (λ part. delivery part.0 part.1 c.args.now part.2.now) c.args.parts.now) 0 named c.args.self.now.states c.args.self.now.states c.new.result.items) (sym c.new-2.ensures)
+      (subst (λ parts. AreDecided c.args.self.now.topology (map (λ part. delivery part.0 part.1 c.args.now part.2.now) c.args.parts.now) 0 [] c.args.self.now.states c.args.self.now.states parts) (sym c.new.ensures)
       (made_none c.args.self.now.topology (map (λ part. delivery part.0 part.1 c.args.now part.2.now) c.args.parts.now) c.args.self.now.states));
   savings = c.new-3.ensures ∙ sym (ap savings_of c.new.ensures);
 }
@@ -50,7 +50,7 @@ parts-preserved c =
           let d = delivery one.0 one.1 c.args.now one.2.now in
           let there : slice_get parts c.parts.index ≡ Some one = slice_get-get_or parts c.parts.index one c.parts-test.true ∙ ap Some (sym c.in-Some.ensures.lookup.1) in
           let here = slice_get-map (λ part. delivery part.0 part.1 c.args.now part.2.now) parts c.parts.index ∙ ap (option_map (λ part. delivery part.0 part.1 c.args.now part.2.now)) there in
-          subst (λ made. AreMade topology (map (λ part. delivery part.0 part.1 c.args.now part.2.now) parts) (c.parts.index + 1) c.prepare_part-made.new.named.items c.args.self.now.states c.prepare_part-made.new.self.states made) (sym c.push.ensures.items)
+          subst (λ made. AreDecided topology (map (λ part. delivery part.0 part.1 c.args.now part.2.now) parts) (c.parts.index + 1) c.prepare_part-made.new.named.items c.args.self.now.states c.prepare_part-made.new.self.states made) (sym c.push.ensures.items)
           (made_more topology (map (λ part. delivery part.0 part.1 c.args.now part.2.now) parts) c.parts.index d c.parts.batch.named.items c.args.self.now.states c.parts.self.states c.prepare_part-made.new.self.states c.parts.batch.parts.items
           c.prepare_part-made.result here was.made (subst (λ t. IsPart t c.parts.batch.named.items d c.parts.self.states c.prepare_part-made.new.self.states c.prepare_part-made.result) was.topology next.part)
           c.prepare_part-made.new.named.items next.few (subst (λ t. (k : ℕ) → has_named c.prepare_part-made.new.named.items k ≡ (has_named c.parts.batch.named.items k || is_circuit k (addressee t d))) was.topology next.named));
@@ -69,7 +69,7 @@ pub returns-clause-made : goal.returns-clause-made
 returns-clause-made c =
     let was = c.parts.invariant in
     let all : c.parts.index ≡ length c.args.parts.now = omega (arith, was.index, c.parts-test.false) in
-    subst (λ n. AreMade c.args.self.now.topology (map (λ part. delivery part.0 part.1 c.args.now part.2.now) c.args.parts.now) n c.parts.batch.named.items c.args.self.now.states c.parts.self.states c.parts.batch.parts.items) all was.made
+    subst (λ n. AreDecided c.args.self.now.topology (map (λ part. delivery part.0 part.1 c.args.now part.2.now) c.args.parts.now) n c.parts.batch.named.items c.args.self.now.states c.parts.self.states c.parts.batch.parts.items) all was.made
 
 pub returns-clause-savings : goal.returns-clause-savings
 returns-clause-savings c = c.parts.invariant.savings
