@@ -11,6 +11,8 @@ pub data Entry : Type 0 where
   Took : Role → Source → List ℕ → Entry
   -- a receive from this socket failed
   Failed : Role → Entry
+  -- nothing waited at this socket
+  Empty : Role → Entry
   -- the system was asked to send these bytes from this socket to there, and accepted them or did not
   Sent : Role → Source → List ℕ → Bool → Entry
   -- the moment at which a turn ended
@@ -23,6 +25,7 @@ pub data Entry : Type 0 where
 abbrev pub entry_of : Happened → Entry
 entry_of (happened.Took socket from bytes) = Took socket from bytes.now
 entry_of (happened.Failed socket) = Failed socket
+entry_of (happened.Empty socket) = Empty socket
 entry_of (happened.Sent socket to bytes accepted) = Sent socket to bytes.now accepted
 entry_of (happened.Ticked now) = Ticked now
 entry_of (happened.Refused socket at) = Refused socket at

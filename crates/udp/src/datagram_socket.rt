@@ -3,7 +3,7 @@
 ghost use Rattle.std.specs.Prelude.{◌≡◌, ◌≤◌, ◌⊎◌, take, Err, IfOk, IfSome, IfNone};
 ghost use Rattle.types.specs.declared.addr.Source.{Source};
 ghost use Rattle.udp.specs.Address.{IsSystemForm};
-ghost use Rattle.udp.specs.History.{Failed, Refused, Sent, Took, with_entry};
+ghost use Rattle.udp.specs.History.{Empty, Failed, Refused, Sent, Took, with_entry};
 ghost use Rattle.udp.specs.declared.datagram_socket.BindFault.TheVariants as fault;
 
 use crate::history::{Happened, History, Role};
@@ -106,7 +106,7 @@ impl DatagramSocket {
         ensures same { history.new.id ≡ history.old.id }
         ensures len { IfSome result (λ received. received.0 ≤ 1281) }
         ensures some { IfSome result (λ received. history.new.entries ≡ with_entry (Took self.now.role received.1 (take received.0 buffer.new)) history.old.entries) }
-        ensures none { IfNone result ((history.new.entries ≡ history.old.entries) ⊎ (history.new.entries ≡ with_entry (Failed self.now.role) history.old.entries)) }
+        ensures none { IfNone result ((history.new.entries ≡ with_entry (Empty self.now.role) history.old.entries) ⊎ (history.new.entries ≡ with_entry (Failed self.now.role) history.old.entries)) }
     {
         match self.socket.recv_from(buffer) {
             Ok((len, from)) => {
@@ -117,7 +117,10 @@ impl DatagramSocket {
                 history.add(&Happened::Took(self.role, from, &buffer[..len]));
                 Some((len, from))
             }
-            Err(error) if error.kind() == ErrorKind::WouldBlock => None,
+            Err(error) if error.kind() == ErrorKind::WouldBlock => {
+                history.add(&Happened::Empty(self.role));
+                None
+            }
             Err(_) => {
                 history.add(&Happened::Failed(self.role));
                 None
