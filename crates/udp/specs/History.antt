@@ -1,7 +1,9 @@
 -- What happened at the sockets and the clock, in order.
-use Rattle.std.specs.Prelude.{ℕ, Bool, List, [], ◌∷◌, ◌++◌, Option, option_map}
+use Rattle.std.specs.Prelude.{ℕ, ◌≤◌, ⊤, Bool, List, [], ◌∷◌, ◌++◌, take, Option, option_map}
 use Rattle.std.specs.Duration.{as_nanos}
 use Rattle.types.specs.declared.addr.Source.{Source}
+use Rattle.udp.specs.declared.datagram_socket.Attempt.{Attempt}
+use Rattle.udp.specs.declared.datagram_socket.Attempt.TheVariants as attempt
 use Rattle.udp.specs.declared.history.Happened.{Happened}
 use Rattle.udp.specs.declared.history.Happened.TheVariants as happened
 use Rattle.udp.specs.declared.history.Role.{Role}
@@ -38,3 +40,15 @@ pub record HistoryValue : Type 0 where
   pub entries : List Entry
   -- which history it is: no contract gives a new one its number
   pub id : ℕ
+
+-- what an attempt to take a datagram adds, by the buffer after it
+abbrev pub attempt_entry : Role → List ℕ → Attempt → Entry
+attempt_entry socket buffer (attempt.Took len from) = Took socket from (take len buffer)
+attempt_entry socket buffer attempt.Empty = Empty socket
+attempt_entry socket buffer attempt.Failed = Failed socket
+
+-- A datagram that was taken has at most so many bytes.
+abbrev pub IsWithin : ℕ → Attempt → Type 0
+IsWithin most (attempt.Took len from) = len ≤ most
+IsWithin most attempt.Empty = ⊤
+IsWithin most attempt.Failed = ⊤
