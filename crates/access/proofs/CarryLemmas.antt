@@ -2,7 +2,9 @@
 use Rattle.std.proofs.Common.{inl, inr, ◌≡◌, ◌∙◌, ◌+◌, ℕ, suc, refl, sym, ap, ap₂, List, [], ◌∷◌, ◌++◌, length, arith, append_assoc, append-nil, subst}
 use Rattle.std.specs.Prelude.{◌⊎◌}
 use Rattle.types.specs.declared.addr.Source.{Source}
-use Rattle.udp.specs.History.{Empty, Entry, Failed, Took, with_entry}
+use Rattle.udp.specs.History.{Empty, Entry, Failed, Took, attempt_entry, with_entry}
+use Rattle.udp.specs.declared.datagram_socket.Attempt.{Attempt}
+use Rattle.udp.specs.declared.datagram_socket.Attempt.TheVariants as attempt
 use Rattle.udp.specs.declared.history.Role.{Role}
 use Rattle.access.specs.Access.{AccessValue, HasCarried}
 use Rattle.counts.specs.Counts.{counted, counted_all}
@@ -49,6 +51,13 @@ carried_again Try n m k a b c first second =
     let both = carried_then (InOrder Try n) (Try n) m k a b c first second in
     let more : suc n ≡ n + 1 = omega arith in
     subst (λ (i : ℕ). HasCarried (InOrder Try i) (m + k) a c) more (record { entries = both.entries; outcomes = both.outcomes; tried = both.tried; many = both.many; after = both.after })
+
+-- what an attempt adds that took nothing
+pub idle_attempt : (socket : Role) (buffer : List ℕ) (old new : List Entry) (made : Attempt) → ((len : ℕ) (from : Source) → made ≡ attempt.Took len from → ⊥) → new ≡ with_entry (attempt_entry socket buffer made) old
+    → (new ≡ with_entry (Empty socket) old) ⊎ (new ≡ with_entry (Failed socket) old)
+idle_attempt socket buffer old new (attempt.Took len from) none added = absurd (none len from refl)
+idle_attempt socket buffer old new attempt.Empty none added = inl added
+idle_attempt socket buffer old new attempt.Failed none added = inr added
 
 -- a socket from which nothing was taken
 pub carried_idle : (role : Role) (Made : Source → List ℕ → List Entry → Outcome → Type 0) (old : AccessValue) (history : List Entry)

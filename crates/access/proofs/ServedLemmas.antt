@@ -35,17 +35,17 @@ counted_then m n a b c first then = record {
   after = then.after ∙ (ap (counted_all then.outcomes) first.after ∙ sym (counted_append first.outcomes then.outcomes a));
 }
 
-one_if : Bool → ℕ
+abbrev one_if : Bool → ℕ
 one_if true = 1
 one_if false = 0
 
-one_repeated : Option (Result (List ℕ) Discard) → ℕ
+abbrev one_repeated : Option (Result (List ℕ) Discard) → ℕ
 one_repeated (Some answer) = one_if (is_repeated answer)
 one_repeated None = 0
 
 module _ (taken : List DeliveryValue) (answers : List (Result (List ℕ) Discard)) where
   -- how many of the first n answers are of repeated datagrams
-  repeated : ℕ → ℕ
+  abbrev repeated : ℕ → ℕ
   repeated zero = 0
   repeated (suc n) = repeated n + one_repeated (slice_get answers n)
 
@@ -166,7 +166,7 @@ stays_then a b c one other = record { topology = other.topology ∙ one.topology
 stays_same : (a b : Serving) → b ≡ a → StaysServing a b
 stays_same a b same = record { topology = ap (λ (s : Serving). s.server.topology) same; regions = ap (λ (s : Serving). s.disk.regions) same }
 
-received_stays : (taken : List DeliveryValue) (answers : List (Result (List ℕ) Discard)) (old new : Serving) → AreReceived taken answers old new → StaysServing old new
+pub received_stays : (taken : List DeliveryValue) (answers : List (Result (List ℕ) Discard)) (old new : Serving) → AreReceived taken answers old new → StaysServing old new
 received_stays [] answers old new same = stays_same old new same
 received_stays (d ∷ taken) answers old new received = received.stays
 
@@ -179,11 +179,11 @@ again_stays taken answers zero old new same = stays_same old new same
 again_stays taken answers (suc n) old new (middle, before, last) =
     stays_then old middle new (again_stays taken answers n old middle before) (one_stays (is_repeated last.its_answer) last.its_datagram middle new last.received)
 
-pub all_stays : (taken : List DeliveryValue) (answers : List (Result (List ℕ) Discard)) (n : ℕ) (old saved new : Serving) (counts : Counts) (history : List Entry) → AreReceived taken answers old saved
-    → AreReceivedAgain taken answers n (serving saved.server saved.disk counts history) new → StaysServing old new
-all_stays taken answers n old saved new counts history received again =
+pub all_stays : (taken later : List DeliveryValue) (answers : List (Result (List ℕ) Discard)) (n : ℕ) (old saved new : Serving) (counts : Counts) (history : List Entry) → AreReceived taken answers old saved
+    → AreReceivedAgain later answers n (serving saved.server saved.disk counts history) new → StaysServing old new
+all_stays taken later answers n old saved new counts history received again =
     let one = received_stays taken answers old saved received in
-    let other = again_stays taken answers n (serving saved.server saved.disk counts history) new again in
+    let other = again_stays later answers n (serving saved.server saved.disk counts history) new again in
     record { topology = other.topology ∙ one.topology; regions = other.regions ∙ one.regions }
 
 -- what an `Access` keeps

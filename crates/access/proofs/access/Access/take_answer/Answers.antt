@@ -1,7 +1,7 @@
 use Rattle.std.proofs.Common.{ℕ, [], ◌≡◌, ◌<◌, ◌∙◌, length, take, refl, sym, ap, subst, append-nil}
-use Rattle.std.specs.Prelude.{◌⊎◌, Ok, Err, slice_index_or}
+use Rattle.std.specs.Prelude.{Ok, Err, slice_index_or}
 use Rattle.relay.specs.Relays.{relayed_down_in}
-use Rattle.udp.specs.History.{Failed, Took, with_entry}
+use Rattle.udp.specs.History.{Took, attempt_entry, with_entry}
 use Rattle.udp.specs.declared.history.Role.TheVariants as role
 use Rattle.access.specs.Access.{AccessValue, HasCarried, IsAccess}
 use Rattle.counts.specs.Counts.{counted}
@@ -13,7 +13,7 @@ use Rattle.counts.specs.declared.counts.Counts.{Counts}
 use Rattle.counts.specs.declared.counts.Outcome.{Outcome}
 use Rattle.counts.specs.declared.counts.Outcome.TheVariants as outcome
 use Rattle.access.proofs.AnswerLemmas.{went}
-use Rattle.access.proofs.CarryLemmas.{carried_idle, carried_taken}
+use Rattle.access.proofs.CarryLemmas.{carried_idle, carried_taken, idle_attempt}
 use Rattle.access.proofs.UpLemmas.{circuits_own, relays_own}
 use Rattle.access.proofs.access.Access.take_answer.Goals.{in-Ok, in-Err}
 use Rattle.access.proofs.access.Access.take_answer.Goals as goal
@@ -50,7 +50,8 @@ returns-in_default-clause-carried c =
     let its = (relays_own topology inside.port inside.history.id inside.sockets c.self.invariant.6 index within there c.index-socket.result.now c.index-socket.ensures).1.role in
     subst (λ (old : AccessValue). HasCarried (RelaySocket old.topology old.port index) 0 old (record before { history = c.take.new.history.entries })) c.self.view_is
     (carried_idle (role.Relay index) (λ from datagram. IsSentDown inside.port (relayed_down_in topology index from datagram)) before c.take.new.history.entries
-    (subst (λ r. (c.take.new.history.entries ≡ inside.history.entries) ⊎ (c.take.new.history.entries ≡ with_entry (Failed r) inside.history.entries)) its c.in_default.ensures.none))
+    (idle_attempt (role.Relay index) c.take.new.buffer inside.history.entries c.take.new.history.entries c.take.result c.in_default.not-Took
+    (subst (λ r. c.take.new.history.entries ≡ with_entry (attempt_entry r c.take.new.buffer c.take.result) inside.history.entries) its c.take.ensures.entries)))
 
 pub invariant_of-self-2 : goal.invariant_of-self-2
 invariant_of-self-2 c =
@@ -76,7 +77,7 @@ returns-clause-carried c =
     let its = (relays_own topology port inside.history.id inside.sockets c.self.invariant.6 index within there c.index-socket.result.now c.index-socket.ensures).1.role in
     let datagram = take c.in-Took.len c.take.new.buffer in
     let taken = c.take.new.history.entries in
-    let took = subst (λ r. taken ≡ with_entry (Took r c.in-Took.from datagram) inside.history.entries) its c.in-Took.ensures.some in
+    let took = subst (λ r. taken ≡ with_entry (Took r c.in-Took.from datagram) inside.history.entries) its c.in-Took.ensures.entries in
     let Q : Inside → Outcome → Type 0 = λ (i : Inside) (o : Outcome). (counts : Counts) → counts ≡ counted o i.counts → HasCarried (RelaySocket topology port index) 1 before (the_view (record i { counts = counts })) in
     let by : Q c.match-down.self-inside c.match-down.outcome = elim c.match-down.branch [
       | in-Ok w ↦
