@@ -1,5 +1,5 @@
 -- What the server receives: all datagrams of a turn at once, and those that are repeated alone.
-use Rattle.std.proofs.Common.{◌≡◌, ◌+◌, ◌<◌, ◌≤◌, ℕ, suc, Bool, true, false, List, [], ◌∷◌, length, refl, sym, subst, arith}
+use Rattle.std.proofs.Common.{◌≡◌, ◌+◌, ◌<◌, ◌≤◌, ℕ, suc, true, false, List, [], ◌∷◌, length, refl, sym, subst, arith}
 use Rattle.std.specs.Prelude.{Some, Result, slice_get}
 use Rattle.std.proofs.lemmas.List.{length-map}
 use Rattle.types.specs.Delivery.{DeliveryValue}

@@ -1,13 +1,12 @@
 -- The answers to the datagrams of a turn, one after the other.
-use Rattle.std.proofs.Common.{◌≡◌, ◌∙◌, ◌+◌, ◌<◌, ◌≤◌, ℕ, zero, suc, Bool, true, false, Bor, List, [], ◌∷◌, ◌++◌, length, map, refl, sym, ap, subst, arith, append_assoc, append-nil}
-use Rattle.std.specs.Prelude.{Option, Some, None, option_map, Result, slice_get, slice_index_or}
+use Rattle.std.proofs.Common.{◌≡◌, ◌∙◌, ◌+◌, ◌<◌, ℕ, zero, suc, Bool, true, false, Bor, List, [], ◌∷◌, ◌++◌, length, map, refl, sym, ap, subst, arith, append_assoc, append-nil}
+use Rattle.std.specs.Prelude.{Option, Some, option_map, Result, slice_get, slice_index_or}
 use Rattle.std.proofs.lemmas.Option.{slice_get-get_or}
 use Rattle.types.specs.Delivery.{DeliveryValue}
 use Rattle.types.specs.declared.dest.Proto.{Proto}
 use Rattle.types.specs.declared.dest.Proto.TheVariants.{V4, V6}
 use Rattle.udp.specs.Socket.{SocketValue}
 use Rattle.types.specs.declared.discard.Discard.{Discard}
-use Rattle.types.specs.declared.addr.Source.{Source}
 use Rattle.dispatch.specs.Answers.{answer_of}
 use Rattle.dispatch.specs.declared.batch_answers.Answer.{Answer}
 use Rattle.udp.specs.History.{Entry}
@@ -18,7 +17,7 @@ use Rattle.counts.specs.declared.counts.Counts.{Counts}
 use Rattle.counts.specs.declared.counts.Outcome.{Outcome}
 use Rattle.counts.specs.declared.counts.Outcome.TheVariants as outcome
 use Rattle.access.specs.Batch.{HasTried, IsReplied, IsRepliedAt, all_delivered, delivered, is_repeated}
-use Rattle.access.specs.Turn.{Both, GoesOn, HasSentOn, InOrder, Tries}
+use Rattle.access.specs.Turn.{GoesOn, HasSentOn, InOrder, Tries}
 use Rattle.access.specs.declared.batch.Datagram.{Datagram}
 use Rattle.access.proofs.CarryLemmas.{counted_append}
 

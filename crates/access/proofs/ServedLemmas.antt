@@ -1,7 +1,6 @@
 -- What follows from what the server makes of the datagrams of a turn.
 use Rattle.std.proofs.Common.{◌≡◌, ◌∙◌, ◌+◌, ◌≤◌, ℕ, zero, suc, Bool, true, false, List, [], ◌∷◌, ◌++◌, length, refl, sym, ap, ap₂, subst, arith}
 use Rattle.std.specs.Prelude.{Option, Some, None, Result, Ok, Err, slice_get, slice_set}
-use Rattle.std.proofs.lemmas.Option.{same_Some}
 use Rattle.types.specs.Delivery.{DeliveryValue}
 use Rattle.types.specs.declared.discard.Discard.{Discard}
 use Rattle.config.specs.CircuitPart.{CircuitPart}
@@ -22,7 +21,7 @@ use Rattle.sockets.specs.declared.sockets.Sockets.{Sockets}
 use Rattle.types.specs.declared.addr.Source.{Source}
 use Rattle.dispatch.specs.Regions.{HasRegions}
 use Rattle.access.specs.Access.{AccessValue, HasCounted, HasServed, IsAccess, StayClosed, serving_in}
-use Rattle.access.specs.Batch.{AreReceived, AreReceivedAgain, AreReplied, HasTried, IsAnswered, IsReceived, IsReceivedAgain, IsReceivedAgainAt, IsReplied, IsRepliedAt, Serving, StaysServing, is_repeated, serving}
+use Rattle.access.specs.Batch.{AreReceived, AreReceivedAgain, AreReplied, HasTried, IsReceivedAgain, IsReplied, Serving, StaysServing, is_repeated, serving}
 use Rattle.access.specs.Polling.{deliveries_in}
 use Rattle.access.proofs.CarryLemmas.{counted_append, length_append}
 

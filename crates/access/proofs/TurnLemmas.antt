@@ -1,5 +1,5 @@
 -- What follows from the steps of a turn.
-use Rattle.std.proofs.Common.{◌≡◌, ◌∙◌, ◌+◌, ◌≤◌, ℕ, suc, List, [], ◌∷◌, ◌++◌, length, refl, sym, ap, subst, arith}
+use Rattle.std.proofs.Common.{◌≡◌, ◌∙◌, ◌+◌, ◌≤◌, ℕ, suc, List, [], ◌∷◌, length, refl, sym, ap, subst, arith}
 use Rattle.std.specs.Prelude.{None, Some, slice_get}
 use Rattle.dispatch.specs.ServerValue.{ServerValue, books_in}
 use Rattle.udp.specs.History.{Entry}

@@ -1,4 +1,4 @@
-use Rattle.std.proofs.Common.{◌≡◌, ℕ, ◌≤◌, ◌+◌, length}
+use Rattle.std.proofs.Common.{◌≡◌, ◌≤◌, ◌+◌, length}
 use Rattle.access.specs.Batch.{HasPolled}
 use Rattle.access.proofs.PollingLemmas.{tries_left}
 use Rattle.access.proofs.batch.Batch.poll.Given as goal

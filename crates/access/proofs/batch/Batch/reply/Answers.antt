@@ -1,4 +1,4 @@
-use Rattle.std.proofs.Common.{◌≡◌, ◌∙◌, ◌<◌, ℕ, length, ap, subst, rules}
+use Rattle.std.proofs.Common.{◌≡◌, ◌∙◌, ◌<◌, length, ap, subst, rules}
 use Rattle.std.specs.Prelude.{slice_index_or}
 use Rattle.dispatch.specs.Answers.{answer_of}
 use Rattle.access.specs.Batch.{AreReplied, HasTried, IsRepliedAt, all_delivered, delivered}
