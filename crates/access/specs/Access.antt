@@ -1,28 +1,25 @@
 -- What shows of relay and server over sockets, and what a turn does.
-use Rattle.std.specs.Prelude.{◌≡◌, ◌≤◌, ◌<◌, ◌+◌, ◌++◌, ℕ, zero, suc, All, true, List, length, map, Option, Some, None, option_map, slice_get, ⊤}
-use Rattle.types.specs.Delivery.{delivery}
+use Rattle.std.specs.Prelude.{◌≡◌, ◌≤◌, ◌<◌, ◌+◌, ◌++◌, ℕ, zero, suc, All, true, List, length, map, Option, Some, None, option_map, slice_get, Result, ⊤}
 use Rattle.types.specs.declared.addr.Source.{Source}
 use Rattle.types.specs.declared.dest.Proto.{Proto}
-use Rattle.types.specs.declared.dest.Proto.TheVariants.{V4, V6}
-use Rattle.lease_disk.specs.FileDisk.{FileDiskValue, device_of}
-use Rattle.lease_disk.specs.Device.{has_failed}
+use Rattle.types.specs.declared.discard.Discard.{Discard}
+use Rattle.lease_disk.specs.FileDisk.{FileDiskValue}
 use Rattle.dispatch.specs.Regions.{HasRegions}
-use Rattle.dispatch.specs.Received.{Received, received}
 use Rattle.circuit_server.specs.Server.{Book, book_at}
 use Rattle.dispatch.specs.ServerValue.{ServerValue, books_in}
 use Rattle.config.specs.Topology.{Topology, serves}
 use Rattle.udp.specs.History.{Entry, Ticked, with_entry}
-use Rattle.udp.specs.declared.history.Role.TheVariants as role
 use Rattle.counts.specs.Counts.{counted_all}
+use Rattle.access.specs.Batch.{AreReceived, AreReceivedAgain, AreReplied, HasTried, Serving, serving}
 use Rattle.access.specs.Moments.{HasRead}
+use Rattle.access.specs.Polling.{IsPolled, deliveries_in}
 use Rattle.access.specs.declared.access.AccessFault.{AccessFault}
 use Rattle.access.specs.declared.access.AccessFault.TheVariants as fault
 use Rattle.sockets.specs.Sockets.{AreBound}
 use Rattle.sockets.specs.declared.sockets.Sockets.{Sockets}
 use Rattle.counts.specs.declared.counts.Counts.{Counts}
 use Rattle.counts.specs.declared.counts.Outcome.{Outcome}
-use Rattle.counts.specs.declared.counts.Outcome.TheVariants as outcome
-use Rattle.access.specs.Turn.{CircuitsSockets, GoesOn, IsTried, RelaysSockets, Tries}
+use Rattle.access.specs.Turn.{CircuitsSockets, RelaysSockets, Tries}
 
 pub record AccessValue : Type 0 where
   -- what the relays know of the configuration
@@ -33,6 +30,9 @@ pub record AccessValue : Type 0 where
   pub formats : List (Option ℕ)
   -- the first of the circuits' ports
   pub port : ℕ
+  -- how many datagrams the server takes at most in a turn, and which of its sockets the next turn tries first
+  pub batch : ℕ
+  pub first : Proto
   -- what became of the datagrams that were taken
   pub counts : Counts
   -- what happened at the sockets, and how many turns were made
@@ -44,11 +44,11 @@ abbrev pub ServesEach : Topology → Type 0
 ServesEach topology = (c : ℕ) → c < length topology.circuits → serves topology c ≡ true
 
 -- Each circuit and each relay has its sockets, which have their roles, their addresses and this history, each circuit has a region, and each is served.
-abbrev pub IsAccess : Topology → Sockets → ServerValue → ℕ → ℕ → ℕ → Source → Source → Type 0
-IsAccess topology sockets server regions port history listen4 listen6 =
+abbrev pub IsAccess : Topology → Sockets → ServerValue → ℕ → ℕ → ℕ → ℕ → Source → Source → Type 0
+IsAccess topology sockets server regions port batch history listen4 listen6 =
     (length sockets.circuits.items ≡ length topology.circuits) × (length sockets.circuits.items ≤ 16) × All (λ circuit. circuit.relay < length sockets.relays.items) sockets.circuits.items
     × (length sockets.relays.items ≡ length topology.relays) × (length sockets.relays.items ≤ 8) × HasRegions server.topology.circuits regions × AreBound topology port history sockets × ServesEach topology
-    × (listen4 ≡ topology.listen4) × (listen6 ≡ topology.listen6) × (port ≤ 65472)
+    × (listen4 ≡ topology.listen4) × (listen6 ≡ topology.listen6) × (port ≤ 65472) × (batch ≤ 16)
 
 -- Where an address is refused, it is one of these.
 abbrev pub RefusesSocket : (Source → Type 0) → AccessFault → Type 0
@@ -57,7 +57,7 @@ RefusesSocket Bound fault.Disk = ⊤
 RefusesSocket Bound (fault.Socket at) = Bound at
 RefusesSocket Bound fault.TooManyCircuits = ⊤
 
--- ---- one datagram
+-- ---- sockets
 
 -- Some sockets were tried, and nothing else changed than the counts and the history.
 pub record HasCarried (Try : Tries) (count : ℕ) (old new : AccessValue) : Type 0 where
@@ -74,30 +74,28 @@ pub record HasKept (old new : AccessValue) : Type 0 where
   pub regions : new.disk.regions ≡ old.disk.regions
   pub formats : new.formats ≡ old.formats
   pub port : new.port ≡ old.port
+  pub batch : new.batch ≡ old.batch
   pub turns : new.turns ≡ old.turns
 
--- what the server makes of a datagram that was taken at a moment
-abbrev pub served_at : ℕ → Proto → Source → List ℕ → AccessValue → AccessValue → Received
-served_at now proto from datagram old new =
-    received old.server.topology (delivery proto from now datagram) (has_failed (device_of old.disk) (device_of new.disk)) (books_in old.server)
+-- what serving changes of it
+abbrev pub serving_in : AccessValue → Serving
+serving_in a = serving a.server a.disk a.counts a.history
 
--- The answer goes from the server's socket to where the datagram came from, and the books are those after it, where the save failed
--- or not.
-pub record HasAnswered (now : ℕ) (proto : Proto) (old new : AccessValue) (from : Source) (datagram : List ℕ) (rest : List Entry) (became : Outcome) : Type 0 where
-  pub books : books_in new.server ≡ (served_at now proto from datagram old new).books
-  pub goes_on : GoesOn (role.Server proto) from outcome.Answered (served_at now proto from datagram old new).answer rest became
-
--- One of the server's sockets was tried.
-pub record HasServed (now : ℕ) (proto : Proto) (count : ℕ) (old new : AccessValue) : Type 0 where
+-- The server's two sockets were tried. Each datagram that was taken is answered once: together with the others, or alone after that
+-- where an earlier one is of the same circuit.
+pub record HasServed (now count : ℕ) (old new : AccessValue) : Type 0 where
+  -- the tries, the answers to the batch, and what is so when it is saved and when its replies are sent
   pub entries : List Entry
-  pub outcomes : List Outcome
-  pub tried : IsTried (role.Server proto) (HasAnswered now proto old new) entries outcomes
-  pub many : length outcomes ≡ count
+  pub answers : List (Result (List ℕ) Discard)
+  pub saved : Serving
+  pub counts : Counts
+  pub history : List Entry
+  pub polled : IsPolled old.batch old.first new.first entries
+  pub many : count ≡ length (deliveries_in now entries)
+  pub received : AreReceived (deliveries_in now entries) answers (serving old.server old.disk old.counts (old.history ++ entries)) saved
+  pub replied : HasTried (AreReplied (deliveries_in now entries) answers count) saved.counts counts saved.history history
+  pub again : AreReceivedAgain (deliveries_in now entries) answers count (serving saved.server saved.disk counts history) (serving_in new)
   pub kept : HasKept old new
-  pub counts : new.counts ≡ counted_all outcomes old.counts
-  pub history : new.history ≡ old.history ++ entries
-  -- where no datagram was taken nothing else changed
-  pub idle : count ≡ 0 → new ≡ record old { history = old.history ++ entries }
 
 -- ---- a turn
 
@@ -105,24 +103,21 @@ pub record HasServed (now : ℕ) (proto : Proto) (count : ℕ) (old new : Access
 abbrev pub books_at : ℕ → List (Option Book) → List (Option Book)
 books_at now books = map (option_map (book_at now)) books
 
--- Circuits' sockets, the server's two, relays' sockets, and then a tick: what stands after each.
+-- Circuits' sockets, the server's two, relays' sockets, and then a tick: what is so after each.
 pub record HasTurned (now count : ℕ) (old new : AccessValue) : Type 0 where
   pub relayed : AccessValue
-  pub served4 : AccessValue
-  pub served6 : AccessValue
+  pub served : AccessValue
   pub delivered : AccessValue
   pub frames : ℕ
-  pub datagrams4 : ℕ
-  pub datagrams6 : ℕ
+  pub datagrams : ℕ
   pub answers : ℕ
   pub from_circuits : HasCarried (CircuitsSockets old.topology) frames old relayed
-  pub at_server4 : HasServed now V4 datagrams4 relayed served4
-  pub at_server6 : HasServed now V6 datagrams6 served4 served6
-  pub from_relays : HasCarried (RelaysSockets old.topology old.port) answers served6 delivered
+  pub at_server : HasServed now datagrams relayed served
+  pub from_relays : HasCarried (RelaysSockets old.topology old.port) answers served delivered
   pub ticked : books_in new.server ≡ books_at now (books_in delivered.server)
   pub history : new.history ≡ with_entry (Ticked now) delivered.history
   pub counts : new.counts ≡ delivered.counts
-  pub many : count ≡ frames + datagrams4 + datagrams6 + answers
+  pub many : count ≡ frames + datagrams + answers
 
 -- ---- turns
 

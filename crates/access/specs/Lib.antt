@@ -1,3 +1,5 @@
 pub mod Access
+pub mod Batch
 pub mod Moments
+pub mod Polling
 pub mod Turn

@@ -7,7 +7,7 @@ use Rattle.types.specs.declared.discard.Discard.{Discard}
 use Rattle.config.specs.CircuitPart.{CircuitPart}
 use Rattle.config.specs.Topology.{Topology, listen}
 use Rattle.relay.specs.Relays.{CircuitFrame, relayed_down_in, relayed_up}
-use Rattle.udp.specs.History.{Entry, Failed, Sent, Took}
+use Rattle.udp.specs.History.{Entry, Empty, Failed, Sent, Took}
 use Rattle.udp.specs.declared.history.Role.{Role}
 use Rattle.udp.specs.declared.history.Role.TheVariants as role
 use Rattle.sockets.specs.Sockets.{client_port, framed, proto_of}
@@ -36,7 +36,7 @@ InOrder Try (suc n) entries outcomes = Both (InOrder Try n) (Try n) entries outc
 
 -- A socket is tried once: nothing waited, or the receive failed.
 abbrev pub IsIdle : Role → Tries
-IsIdle socket entries outcomes = ((entries ≡ []) ⊎ (entries ≡ Failed socket ∷ [])) × (outcomes ≡ [])
+IsIdle socket entries outcomes = ((entries ≡ Empty socket ∷ []) ⊎ (entries ≡ Failed socket ∷ [])) × (outcomes ≡ [])
 
 -- or a datagram was taken, and something is made of its source and its bytes
 pub record IsTaken (socket : Role) (Made : Source → List ℕ → List Entry → Outcome → Type 0) (entries : List Entry) (outcomes : List Outcome) : Type 0 where

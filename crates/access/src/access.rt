@@ -11,6 +11,7 @@ ghost use Rattle.dispatch.specs.Regions.{HasRegions};
 ghost use Rattle.dispatch.specs.ServerValue.{books_in};
 ghost use Rattle.config.specs.Topology.{listen, topology_of};
 
+use crate::batch::Batch;
 use crate::clock::moment;
 use crate::sending::send_on;
 use config::Config;
@@ -27,7 +28,7 @@ use std::net::Net;
 use std::rt::Clock;
 use thiserror::Error;
 use types::{Circuit, Count, Moment, Proto, RelayNo, Source};
-use udp::{BUFFER_LEN, History, Waiter};
+use udp::{Attempt, BUFFER_LEN, History, Waiter};
 use wire::PacketBuf;
 
 /// Why relay and server were not opened.
@@ -63,6 +64,8 @@ pub struct Access {
     buffer: [u8; BUFFER_LEN],
     out: PacketBuf,
     frame: Framed,
+    /// The datagrams that the server takes in a turn.
+    batch: Batch,
     /// The first of the circuits' ports.
     port: u16,
     counts: Counts,
@@ -77,17 +80,18 @@ impl Model for Access {
 
     ghost Value = { AccessValue };
 
-    ghost view = { λ a. record { topology = a.relays.topology; server = a.server; disk = a.disk; formats = a.formats.items; port = a.port; counts = a.counts; history = a.history.entries; turns = a.turns.count } };
+    ghost view = { λ a. record { topology = a.relays.topology; server = a.server; disk = a.disk; formats = a.formats.items; port = a.port; batch = a.batch.most; first = a.batch.first; counts = a.counts; history = a.history.entries; turns = a.turns.count } };
 
     // each circuit and each relay has its sockets, which have their roles, addresses and history, each circuit a region, and each is served
-    ghost invariant = { λ a. IsAccess a.relays.topology a.sockets a.server a.disk.regions a.port a.history.id a.listen4 a.listen6 };
+    ghost invariant = { λ a. IsAccess a.relays.topology a.sockets a.server a.disk.regions a.port a.batch.most a.history.id a.listen4 a.listen6 };
 }
 
 impl Access {
     /// Opens relay and server of a configuration over a device, whatever that holds. A region of format 1 is
     /// moved to format 2; a circuit whose region can't be read, is damaged or can't be moved is closed, alone.
     /// The first circuit listens on 127.0.0.1 at `port` for DHCPv4 frames and at the port after it for DHCPv6 frames, and frames
-    /// towards it go to the two ports after these; the ports of each other circuit come 4 later.
+    /// towards it go to the two ports after these; the ports of each other circuit come 4 later. The server takes at most `batch`
+    /// datagrams in a turn, and saves what they change together.
     ///
     /// More than 16 circuits are refused first, then a device without the region of a circuit, then
     /// an address that the system refuses to bind a socket to, which `opening` then has. What was opened goes on with that
@@ -98,9 +102,12 @@ impl Access {
         config: &Config,
         mut disk: FileDisk,
         port: u16,
+        batch: u8,
         opening: &mut History,
     ) -> Result<Access, AccessFault>
         requires most { port ≤ 65472 }
+        requires some { 1 ≤ batch }
+        requires few { batch ≤ 16 }
         ensures topology { IfOk result (λ access. access.topology ≡ topology_of config.now) }
         ensures served { IfOk result (λ access. access.server.topology ≡ topology_of config.now) }
         ensures large { IfOk result (λ access. HasRegions (parts_of config.now) access.disk.regions) }
@@ -109,6 +116,8 @@ impl Access {
         ensures writes { IfOk result (λ access. access.disk.writes ≤ disk.writes + 4 * length config.now.circuits) }
         ensures counts { IfOk result (λ access. access.counts ≡ none) }
         ensures port { IfOk result (λ access. access.port ≡ port) }
+        ensures batch { IfOk result (λ access. access.batch ≡ batch) }
+        ensures first { IfOk result (λ access. access.first ≡ Proto.V4) }
         ensures silent { IfOk result (λ access. access.history ≡ opening.old.entries) }
         ensures turns { IfOk result (λ access. access.turns ≡ 0) }
         ensures circuits { result ≡ Err fault.TooManyCircuits ↔ (16 < length config.now.circuits) }
@@ -146,6 +155,7 @@ impl Access {
             buffer: [0; BUFFER_LEN],
             out: PacketBuf::new(),
             frame: Framed::new(),
+            batch: Batch::new(usize::from(batch)),
             port,
             counts: Counts::new(),
             // the sockets were bound with it
@@ -165,6 +175,7 @@ impl Access {
         ensures regions { self.new.disk.regions ≡ self.old.disk.regions }
         ensures formats { self.new.formats ≡ self.old.formats }
         ensures port { self.new.port ≡ self.old.port }
+        ensures batch { self.new.batch ≡ self.old.batch }
         ensures closed { StayClosed self.old.server self.new.server }
     {
         let mut now = Moment::first();
@@ -177,13 +188,14 @@ impl Access {
         }
     }
 
-    /// Tries each socket once without waiting: those of the circuits in order, the server's, those of
-    /// the relays. What comes in is carried on at once; a datagram that can't be received or sent is
-    /// lost. Then moves all clocks to this moment. Returns how many datagrams were taken.
+    /// Tries sockets without waiting: those of the circuits once each, in order; the server's two by turns, until enough
+    /// datagrams were taken for a batch or none waits; those of the relays once each. What comes in is carried on at once; a datagram that can't be
+    /// received or sent is lost. Then moves all clocks to this moment. Returns how many datagrams were taken.
     pub fn turn(&mut self, now: Moment) -> u32
-        ensures most { result ≤ 42 }
+        ensures most { result ≤ 40 + self.old.batch }
         ensures turned { HasTurned now result self.old self.new }
         ensures port { self.new.port ≡ self.old.port }
+        ensures batch { self.new.batch ≡ self.old.batch }
         ensures turns { self.new.turns ≡ self.old.turns + 1 }
         ensures counts { HasCounted result self.old.counts self.new.counts }
         ensures received { self.new.counts.received ≡ more_by result self.old.counts.received }
@@ -196,13 +208,12 @@ impl Access {
         ensures formats { self.new.formats ≡ self.old.formats }
     {
         let frames = self.take_from_circuits();
-        let datagrams4 = self.take_at_server(Proto::V4, now);
-        let datagrams6 = self.take_at_server(Proto::V6, now);
+        let datagrams = self.take_at_server(now);
         let answers = self.take_from_relays();
         self.server.tick(now);
         self.history.tick(now);
         self.turns.tick();
-        frames + datagrams4 + datagrams6 + answers
+        frames + datagrams + answers
     }
 
     /// Whether there is a circuit of this index that is open: its region was read and is not damaged, and
@@ -280,7 +291,7 @@ impl Access {
         let to = self.listen(proto);
         let sockets = &self.sockets.circuits[index];
         let socket = sockets.socket(proto);
-        let Some((len, _)) = socket.take(&mut self.buffer, &mut self.history) else {
+        let Attempt::Took(len, _) = socket.take(&mut self.buffer, &mut self.history) else {
             return 0;
         };
         let frame = &self.buffer[..len];
@@ -294,25 +305,19 @@ impl Access {
         1
     }
 
-    /// Takes a datagram from the server's socket of a protocol, and answers it.
-    fn take_at_server(&mut self, proto: Proto, now: Moment) -> u32
-        ensures most { result ≤ 1 }
-        ensures served { HasServed now proto result self.old self.new }
+    /// Takes datagrams from the server's two sockets by turns, at most a batch of them, and answers each.
+    fn take_at_server(&mut self, now: Moment) -> u32
+        ensures most { result ≤ self.old.batch }
+        ensures served { HasServed now result self.old self.new }
     {
-        let socket = self.sockets.server(proto);
-        let Some((len, from)) = socket.take(&mut self.buffer, &mut self.history) else {
-            return 0;
-        };
-        let datagram = &self.buffer[..len];
-        let made = self
-            .server
-            .receive(proto, from, datagram, now, &mut self.disk, &mut self.out);
-        // an answer goes to where the datagram came from
-        let (to, out) = (from, self.out.as_slice());
-        let own = self.sockets.server(proto);
-        let outcome = send_on(made, own, to, out, Outcome::Answered, &mut self.history);
-        self.counts.count(outcome);
-        1
+        let (sockets, counts, history) = (&self.sockets, &mut self.counts, &mut self.history);
+        let (server, disk) = (&mut self.server, &mut self.disk);
+        self.batch.poll(sockets, &mut self.buffer, history);
+        self.batch.receive(now, server, disk);
+        self.batch.reply(sockets, counts, history);
+        self.batch
+            .receive_again(now, sockets, server, disk, counts, history);
+        self.batch.len() as u32
     }
 
     /// Takes a datagram from each relay's socket to the circuit that it is for.
@@ -334,7 +339,7 @@ impl Access {
         ensures carried { HasCarried (RelaySocket self.old.topology self.old.port index) result self.old self.new }
     {
         let socket = &self.sockets.relays[index];
-        let Some((len, from)) = socket.take(&mut self.buffer, &mut self.history) else {
+        let Attempt::Took(len, from) = socket.take(&mut self.buffer, &mut self.history) else {
             return 0;
         };
         let datagram = &self.buffer[..len];

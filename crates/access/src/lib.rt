@@ -2,7 +2,9 @@
 #![tactic(auto)]
 
 mod access;
+mod batch;
 mod clock;
+mod polling;
 mod sending;
 
 pub use access::{Access, AccessFault};

@@ -6,7 +6,7 @@ use Rattle.types.specs.declared.addr.Source.{Source}
 use Rattle.types.specs.declared.dest.Proto.TheVariants.{V4, V6}
 use Rattle.udp.specs.declared.history.Role.{Role}
 use Rattle.udp.specs.declared.history.Role.TheVariants.{Circuit, Server, Relay}
-use Rattle.udp.specs.History.{Entry, Took, Failed, Sent, Ticked, Refused, Read}
+use Rattle.udp.specs.History.{Entry, Took, Failed, Empty, Sent, Ticked, Refused, Read}
 
 -- a socket, as two numbers
 abbrev role_parts : Role → ℕ × ℕ
@@ -39,7 +39,7 @@ none = source_of ([], 0)
 abbrev reading_of : Bool → ℕ → Option ℕ
 reading_of is_read time = cond is_read (Some time) None
 
--- which of the six it is, its socket, the other end, the bytes, and whether they were accepted
+-- which of the seven it is, its socket, the other end, the bytes, and whether they were accepted
 abbrev Parts : Type 0
 Parts = ℕ × ((ℕ × ℕ) × ((List ℕ × ℕ) × (List ℕ × Bool)))
 
@@ -51,6 +51,7 @@ entry_parts (Ticked now) = (3, ((0, now), (source_parts none, ([], false))))
 entry_parts (Refused socket at) = (4, (role_parts socket, (source_parts at, ([], false))))
 entry_parts (Read None) = (5, ((0, 0), (source_parts none, ([], false))))
 entry_parts (Read (Some time)) = (5, ((0, time), (source_parts none, ([], true))))
+entry_parts (Empty socket) = (6, (role_parts socket, (source_parts none, ([], false))))
 
 abbrev entry_of : Parts → Entry
 entry_of p =
@@ -59,7 +60,8 @@ entry_of p =
     (cond (p.0 == 2) (Sent (role_of p.1.0) (source_of p.1.1.0) p.1.1.1.0 p.1.1.1.1)
     (cond (p.0 == 3) (Ticked p.1.0.1)
     (cond (p.0 == 4) (Refused (role_of p.1.0) (source_of p.1.1.0))
-    (Read (reading_of p.1.1.1.1 p.1.0.1))))))
+    (cond (p.0 == 5) (Read (reading_of p.1.1.1.1 p.1.0.1))
+    (Empty (role_of p.1.0)))))))
 
 pub entry_back : (e : Entry) → entry_of (entry_parts e) ≡ e
 entry_back (Took socket from bytes) = ap (λ role. Took role from bytes) (role_back socket)
@@ -69,6 +71,7 @@ entry_back (Ticked now) = refl
 entry_back (Refused socket at) = ap (λ role. Refused role at) (role_back socket)
 entry_back (Read None) = refl
 entry_back (Read (Some time)) = refl
+entry_back (Empty socket) = ap Empty (role_back socket)
 
 abbrev parts_code : Coded Parts
 parts_code = coded× coded_ℕ (coded× (coded× coded_ℕ coded_ℕ) (coded× (coded× (coded_list coded_ℕ) coded_ℕ) (coded× (coded_list coded_ℕ) coded_bool)))

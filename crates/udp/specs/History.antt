@@ -1,7 +1,9 @@
 -- What happened at the sockets and the clock, in order.
-use Rattle.std.specs.Prelude.{ℕ, Bool, List, [], ◌∷◌, ◌++◌, Option, option_map}
+use Rattle.std.specs.Prelude.{ℕ, ◌≤◌, ⊤, Bool, List, [], ◌∷◌, ◌++◌, take, Option, option_map}
 use Rattle.std.specs.Duration.{as_nanos}
 use Rattle.types.specs.declared.addr.Source.{Source}
+use Rattle.udp.specs.declared.datagram_socket.Attempt.{Attempt}
+use Rattle.udp.specs.declared.datagram_socket.Attempt.TheVariants as attempt
 use Rattle.udp.specs.declared.history.Happened.{Happened}
 use Rattle.udp.specs.declared.history.Happened.TheVariants as happened
 use Rattle.udp.specs.declared.history.Role.{Role}
@@ -11,6 +13,8 @@ pub data Entry : Type 0 where
   Took : Role → Source → List ℕ → Entry
   -- a receive from this socket failed
   Failed : Role → Entry
+  -- nothing waited at this socket
+  Empty : Role → Entry
   -- the system was asked to send these bytes from this socket to there, and accepted them or did not
   Sent : Role → Source → List ℕ → Bool → Entry
   -- the moment at which a turn ended
@@ -23,6 +27,7 @@ pub data Entry : Type 0 where
 abbrev pub entry_of : Happened → Entry
 entry_of (happened.Took socket from bytes) = Took socket from bytes.now
 entry_of (happened.Failed socket) = Failed socket
+entry_of (happened.Empty socket) = Empty socket
 entry_of (happened.Sent socket to bytes accepted) = Sent socket to bytes.now accepted
 entry_of (happened.Ticked now) = Ticked now
 entry_of (happened.Refused socket at) = Refused socket at
@@ -35,3 +40,15 @@ pub record HistoryValue : Type 0 where
   pub entries : List Entry
   -- which history it is: no contract gives a new one its number
   pub id : ℕ
+
+-- what an attempt to take a datagram adds, by the buffer after it
+abbrev pub attempt_entry : Role → List ℕ → Attempt → Entry
+attempt_entry socket buffer (attempt.Took len from) = Took socket from (take len buffer)
+attempt_entry socket buffer attempt.Empty = Empty socket
+attempt_entry socket buffer attempt.Failed = Failed socket
+
+-- A datagram that was taken has at most so many bytes.
+abbrev pub IsWithin : ℕ → Attempt → Type 0
+IsWithin most (attempt.Took len from) = len ≤ most
+IsWithin most attempt.Empty = ⊤
+IsWithin most attempt.Failed = ⊤

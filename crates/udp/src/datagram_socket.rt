@@ -1,9 +1,9 @@
 //! A UDP socket that never waits. What the system does with it is in three functions, and each says in the history
 //! what it did.
-ghost use Rattle.std.specs.Prelude.{◌≡◌, ◌≤◌, ◌⊎◌, take, Err, IfOk, IfSome, IfNone};
+ghost use Rattle.std.specs.Prelude.{◌≡◌, ◌≤◌, Err, IfOk, IfSome, IfNone};
 ghost use Rattle.types.specs.declared.addr.Source.{Source};
 ghost use Rattle.udp.specs.Address.{IsSystemForm};
-ghost use Rattle.udp.specs.History.{Failed, Refused, Sent, Took, with_entry};
+ghost use Rattle.udp.specs.History.{IsWithin, Refused, Sent, attempt_entry, with_entry};
 ghost use Rattle.udp.specs.declared.datagram_socket.BindFault.TheVariants as fault;
 
 use crate::history::{Happened, History, Role};
@@ -24,6 +24,17 @@ pub enum BindFault {
     Memory,
     /// The system refused the address.
     Refused,
+}
+
+/// What came of an attempt to take a datagram.
+#[derive(Clone, Copy, Debug, PartialEq, Eq)]
+pub enum Attempt {
+    /// One was taken: how many bytes of it are in the buffer, and where it came from.
+    Took(usize, Source),
+    /// None waited.
+    Empty,
+    /// The receive failed. Its datagram, if there was one, is lost.
+    Failed,
 }
 
 /// A bound UDP socket that never waits, which is for one thing.
@@ -95,32 +106,29 @@ impl DatagramSocket {
         }
     }
 
-    /// Takes a datagram that waits, if there is one: how many bytes of it are in `buffer`, and where it
-    /// came from. One whose receive fails is lost.
-    pub fn take(
-        &self,
-        buffer: &mut [u8; BUFFER_LEN],
-        history: &mut History,
-    ) -> Option<(usize, Source)>
+    /// Takes a datagram that waits into `buffer`, if there is one.
+    pub fn take(&self, buffer: &mut [u8; BUFFER_LEN], history: &mut History) -> Attempt
         requires { history.old.id ≡ self.now.history }
         ensures same { history.new.id ≡ history.old.id }
-        ensures len { IfSome result (λ received. received.0 ≤ 1281) }
-        ensures some { IfSome result (λ received. history.new.entries ≡ with_entry (Took self.now.role received.1 (take received.0 buffer.new)) history.old.entries) }
-        ensures none { IfNone result ((history.new.entries ≡ history.old.entries) ⊎ (history.new.entries ≡ with_entry (Failed self.now.role) history.old.entries)) }
+        ensures len { IsWithin 1281 result }
+        ensures entries { history.new.entries ≡ with_entry (attempt_entry self.now.role buffer.new result) history.old.entries }
     {
         match self.socket.recv_from(buffer) {
             Ok((len, from)) => {
                 let Some(from) = source_of(from) else {
                     history.add(&Happened::Failed(self.role));
-                    return None;
+                    return Attempt::Failed;
                 };
                 history.add(&Happened::Took(self.role, from, &buffer[..len]));
-                Some((len, from))
+                Attempt::Took(len, from)
             }
-            Err(error) if error.kind() == ErrorKind::WouldBlock => None,
+            Err(error) if error.kind() == ErrorKind::WouldBlock => {
+                history.add(&Happened::Empty(self.role));
+                Attempt::Empty
+            }
             Err(_) => {
                 history.add(&Happened::Failed(self.role));
-                None
+                Attempt::Failed
             }
         }
     }

@@ -26,6 +26,8 @@ pub enum Happened<'a> {
     Took(Role, Source, &'a [u8]),
     /// A receive from this socket failed.
     Failed(Role),
+    /// Nothing waited at this socket.
+    Empty(Role),
     /// The system was asked to send a datagram from this socket to there, and accepted it or did not.
     Sent(Role, Source, &'a [u8], bool),
     /// The clocks were moved to this moment, with which a turn ends.

@@ -7,6 +7,6 @@ mod history;
 mod waiting;
 
 pub use clock::read_clock;
-pub use datagram_socket::{BUFFER_LEN, BindFault, DatagramSocket};
+pub use datagram_socket::{Attempt, BUFFER_LEN, BindFault, DatagramSocket};
 pub use history::{Happened, History, Role};
 pub use waiting::Waiter;

@@ -1,0 +1,151 @@
+-- What the server makes of the datagrams that a turn takes from its sockets.
+use Rattle.std.specs.Prelude.{◌≡◌, ℕ, zero, suc, Bool, true, false, List, [], ◌∷◌, ◌++◌, map, Some, slice_get, Result, Err}
+use Rattle.types.specs.Delivery.{DeliveryValue, delivery}
+use Rattle.types.specs.declared.dest.Proto.{Proto}
+use Rattle.types.specs.declared.discard.Discard.{Discard}
+use Rattle.types.specs.declared.discard.Discard.TheVariants.{BatchTwice}
+use Rattle.lease_disk.specs.FileDisk.{FileDiskValue, device_of}
+use Rattle.lease_disk.specs.Device.{has_failed}
+use Rattle.dispatch.specs.Batch.{IsBatch}
+use Rattle.dispatch.specs.Received.{Received, received}
+use Rattle.dispatch.specs.ServerValue.{ServerValue, books_in}
+use Rattle.udp.specs.History.{Entry}
+use Rattle.udp.specs.declared.history.Role.TheVariants as role
+use Rattle.counts.specs.Counts.{counted, counted_all}
+use Rattle.counts.specs.declared.counts.Counts.{Counts}
+use Rattle.counts.specs.declared.counts.Outcome.{Outcome}
+use Rattle.counts.specs.declared.counts.Outcome.TheVariants as outcome
+use Rattle.access.specs.Polling.{IsPolled, IsNext, AreTries, after_try, after_tries, begun, deliveries_in}
+use Rattle.access.specs.Turn.{GoesOn, InOrder, Tries}
+use Rattle.access.specs.declared.batch.Datagram.{Datagram}
+use Rattle.access.specs.declared.polling.Polling.{Polling}
+
+-- what serving changes: the server, its device, the counts and the history
+pub record Serving : Type 0 where
+  pub server : ServerValue
+  pub disk : FileDiskValue
+  pub counts : Counts
+  pub history : List Entry
+
+abbrev pub serving : ServerValue → FileDiskValue → Counts → List Entry → Serving
+serving server disk counts history = record { server = server; disk = disk; counts = counts; history = history }
+
+-- of which regions a save failed
+abbrev pub failed_in : Serving → Serving → ℕ → Bool
+failed_in old new = has_failed (device_of old.disk) (device_of new.disk)
+
+-- ---- all at once
+
+-- What the configuration says stays, and the number of regions.
+pub record StaysServing (old new : Serving) : Type 0 where
+  pub topology : new.server.topology ≡ old.server.topology
+  pub regions : new.disk.regions ≡ old.disk.regions
+
+-- The server receives all that were taken as one batch, and answers nothing yet.
+pub record IsReceived (taken : List DeliveryValue) (answers : List (Result (List ℕ) Discard)) (old new : Serving) : Type 0 where
+  pub batch : IsBatch old.server.topology taken (failed_in old new) (books_in old.server) (books_in new.server) answers
+  pub rest : new ≡ record old { server = new.server; disk = new.disk }
+  pub stays : StaysServing old new
+
+-- Where none was taken, nothing is called.
+abbrev pub AreReceived : List DeliveryValue → List (Result (List ℕ) Discard) → Serving → Serving → Type 0
+AreReceived [] answers old new = new ≡ old
+AreReceived (d ∷ taken) answers old new = IsReceived (d ∷ taken) answers old new
+
+-- ---- the answers
+
+-- a datagram that is refused because an earlier one of the batch is of the same circuit
+abbrev pub is_repeated : Result (List ℕ) Discard → Bool
+is_repeated (Err BatchTwice) = true
+is_repeated answer = false
+
+-- The answer goes from the server's socket of its protocol to where the datagram came from. To one that is repeated nothing goes,
+-- and it isn't counted yet.
+abbrev pub IsReplied : Bool → DeliveryValue → Result (List ℕ) Discard → Tries
+IsReplied true d answer entries outcomes = (entries ≡ []) × (outcomes ≡ [])
+IsReplied false d answer entries outcomes = (became : Outcome) × (outcomes ≡ became ∷ []) × GoesOn (role.Server d.proto) d.source outcome.Answered answer entries became
+
+-- the same of the datagram of an index
+pub record IsRepliedAt (taken : List DeliveryValue) (answers : List (Result (List ℕ) Discard)) (j : ℕ) (entries : List Entry) (outcomes : List Outcome) : Type 0 where
+  pub its_datagram : DeliveryValue
+  pub its_answer : Result (List ℕ) Discard
+  pub taken_at : slice_get taken j ≡ Some its_datagram
+  pub answered_at : slice_get answers j ≡ Some its_answer
+  pub replied : IsReplied (is_repeated its_answer) its_datagram its_answer entries outcomes
+
+-- one after the other, so many of them
+abbrev pub AreReplied : List DeliveryValue → List (Result (List ℕ) Discard) → ℕ → Tries
+AreReplied taken answers = InOrder (IsRepliedAt taken answers)
+
+-- Some sockets were tried, by the counts and the history before and after.
+pub record HasTried (Try : Tries) (before after : Counts) (old new : List Entry) : Type 0 where
+  pub entries : List Entry
+  pub outcomes : List Outcome
+  pub tried : Try entries outcomes
+  pub counts : after ≡ counted_all outcomes before
+  pub history : new ≡ old ++ entries
+
+-- ---- those that are repeated
+
+-- what the server makes of a datagram alone
+abbrev pub made_of : DeliveryValue → Serving → Serving → Received
+made_of d old new = received old.server.topology d (failed_in old new) (books_in old.server)
+
+-- The answer goes from the server's socket to where the datagram came from, and the books are those after it, where the save failed
+-- or not.
+pub record IsAnswered (d : DeliveryValue) (old new : Serving) : Type 0 where
+  pub rest : List Entry
+  pub became : Outcome
+  pub books : books_in new.server ≡ (made_of d old new).books
+  pub goes_on : GoesOn (role.Server d.proto) d.source outcome.Answered (made_of d old new).answer rest became
+  pub counts : new.counts ≡ counted became old.counts
+  pub history : new.history ≡ old.history ++ rest
+  pub stays : StaysServing old new
+
+-- A datagram that is repeated is received again, alone.
+abbrev pub IsReceivedAgain : Bool → DeliveryValue → Serving → Serving → Type 0
+IsReceivedAgain true d old new = IsAnswered d old new
+IsReceivedAgain false d old new = new ≡ old
+
+pub record IsReceivedAgainAt (taken : List DeliveryValue) (answers : List (Result (List ℕ) Discard)) (j : ℕ) (old new : Serving) : Type 0 where
+  pub its_datagram : DeliveryValue
+  pub its_answer : Result (List ℕ) Discard
+  pub taken_at : slice_get taken j ≡ Some its_datagram
+  pub answered_at : slice_get answers j ≡ Some its_answer
+  pub received : IsReceivedAgain (is_repeated its_answer) its_datagram old new
+
+abbrev pub AreReceivedAgain : List DeliveryValue → List (Result (List ℕ) Discard) → ℕ → Serving → Serving → Type 0
+AreReceivedAgain taken answers zero old new = new ≡ old
+AreReceivedAgain taken answers (suc n) old new = (middle : Serving) × AreReceivedAgain taken answers n old middle × IsReceivedAgainAt taken answers n middle new
+
+-- ---- in the code
+
+-- a datagram in its buffer, as taken at a moment
+abbrev pub delivered : ℕ → Datagram → DeliveryValue
+delivered now d = delivery d.proto d.source now d.bytes.items
+
+abbrev pub all_delivered : ℕ → List Datagram → List DeliveryValue
+all_delivered now = map (delivered now)
+
+-- One of the server's sockets was tried.
+pub record HasTriedNext (proto : Proto) (before after : Polling) (taken more : List Datagram) (old new : List Entry) : Type 0 where
+  pub entry : Entry
+  pub next : IsNext before entry
+  pub state : after ≡ after_try entry before
+  pub history : new ≡ old ++ entry ∷ []
+  pub datagrams : (now : ℕ) → all_delivered now more ≡ all_delivered now taken ++ deliveries_in now (entry ∷ [])
+
+-- Sockets were tried from the beginning of a turn on.
+pub record HasPolled (most : ℕ) (first : Proto) (state : Polling) (taken : List Datagram) (old new : List Entry) : Type 0 where
+  pub entries : List Entry
+  pub tries : AreTries (begun most first) entries
+  pub state_is : state ≡ after_tries entries (begun most first)
+  pub history : new ≡ old ++ entries
+  pub datagrams : (now : ℕ) → all_delivered now taken ≡ deliveries_in now entries
+
+-- A turn has taken these datagrams.
+pub record HasTaken (most : ℕ) (first next : Proto) (taken : List Datagram) (old new : List Entry) : Type 0 where
+  pub entries : List Entry
+  pub polled : IsPolled most first next entries
+  pub history : new ≡ old ++ entries
+  pub datagrams : (now : ℕ) → all_delivered now taken ≡ deliveries_in now entries
