@@ -1,0 +1,5 @@
+mod ExchangeLemmas
+mod EntryKinds
+mod NeverTwice
+mod Serves
+mod StepLemmas

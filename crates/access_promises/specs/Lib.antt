@@ -1,0 +1,4 @@
+pub mod Alone
+pub mod Exchanges
+pub mod Own
+pub mod Turns

@@ -1,0 +1,7 @@
+//! Laws about the histories of relay and server over sockets: what happens at the sockets for one circuit is what its part of the
+//! configuration alone makes of what is taken for it. Each function is called for its contract alone.
+#![tactic(auto)]
+
+mod answers;
+
+pub use answers::serves_each_circuit_alone;
