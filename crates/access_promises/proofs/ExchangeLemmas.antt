@@ -87,7 +87,6 @@ module _ (topology : Topology) (c : ℕ) (part : CircuitPart) (there : slice_get
 
   pub one_exchange : (b : Option Book) → slice_get books c ≡ Some b → IsOneOf b
   one_exchange b at = by (is_own topology c d) refl where
-
     by : (own : Bool) → is_own topology c d ≡ own → IsOneOf b
     by true own = record {
       after = (answered part d (fails part.region) b).book;

@@ -1,5 +1,10 @@
-mod ExchangeLemmas
+mod BatchOrder
 mod EntryKinds
+mod ExchangeLemmas
 mod NeverTwice
+mod OneTurn
+mod RunLemmas
 mod Serves
+mod ServingLemmas
 mod StepLemmas
+mod TurnEntries
