@@ -2,11 +2,11 @@
 use Rattle.std.proofs.Common.{inl, inr, ◌≡◌, ◌∙◌, ◌+◌, ℕ, suc, refl, sym, ap, ap₂, List, [], ◌∷◌, ◌++◌, length, arith, append_assoc, append-nil, subst}
 use Rattle.std.specs.Prelude.{◌⊎◌}
 use Rattle.types.specs.declared.addr.Source.{Source}
-use Rattle.udp.specs.History.{Entry, Failed, Took, with_entry}
+use Rattle.udp.specs.History.{Empty, Entry, Failed, Took, attempt_entry, with_entry}
+use Rattle.udp.specs.declared.datagram_socket.Attempt.{Attempt}
+use Rattle.udp.specs.declared.datagram_socket.Attempt.TheVariants as attempt
 use Rattle.udp.specs.declared.history.Role.{Role}
-use Rattle.types.specs.declared.dest.Proto.{Proto}
-use Rattle.udp.specs.declared.history.Role.TheVariants as role
-use Rattle.access.specs.Access.{AccessValue, HasCarried, HasServed}
+use Rattle.access.specs.Access.{AccessValue, HasCarried}
 use Rattle.counts.specs.Counts.{counted, counted_all}
 use Rattle.access.specs.Turn.{Both, InOrder, IsTried, Tries}
 use Rattle.counts.specs.declared.counts.Counts.{Counts}
@@ -26,6 +26,9 @@ carried_topology Try n a b carried = ap (λ (s : AccessValue). s.topology) carri
 
 pub carried_port : (Try : Tries) (n : ℕ) (a b : AccessValue) → HasCarried Try n a b → b.port ≡ a.port
 carried_port Try n a b carried = ap (λ (s : AccessValue). s.port) carried.after
+
+pub carried_batch : (Try : Tries) (n : ℕ) (a b : AccessValue) → HasCarried Try n a b → b.batch ≡ a.batch
+carried_batch Try n a b carried = ap (λ (s : AccessValue). s.batch) carried.after
 
 pub carried_then : (First Second : Tries) (m n : ℕ) (a b c : AccessValue) → HasCarried First m a b → HasCarried Second n b c → HasCarried (Both First Second) (m + n) a c
 carried_then First Second m n a b c first second = record {
@@ -49,17 +52,18 @@ carried_again Try n m k a b c first second =
     let more : suc n ≡ n + 1 = omega arith in
     subst (λ (i : ℕ). HasCarried (InOrder Try i) (m + k) a c) more (record { entries = both.entries; outcomes = both.outcomes; tried = both.tried; many = both.many; after = both.after })
 
--- what a failed receive adds
-idle_entries : (role : Role) (old new : List Entry) → (new ≡ old) ⊎ (new ≡ with_entry (Failed role) old) → (entries : List Entry) × ((entries ≡ []) ⊎ (entries ≡ Failed role ∷ [])) × (new ≡ old ++ entries)
-idle_entries role old new (inl same) = ([], inl refl, same ∙ sym (append-nil old))
-idle_entries role old new (inr failed) = (Failed role ∷ [], inr refl, failed)
+-- what an attempt adds that took nothing
+pub idle_attempt : (socket : Role) (buffer : List ℕ) (old new : List Entry) (made : Attempt) → ((len : ℕ) (from : Source) → made ≡ attempt.Took len from → ⊥) → new ≡ with_entry (attempt_entry socket buffer made) old
+    → (new ≡ with_entry (Empty socket) old) ⊎ (new ≡ with_entry (Failed socket) old)
+idle_attempt socket buffer old new (attempt.Took len from) none added = absurd (none len from refl)
+idle_attempt socket buffer old new attempt.Empty none added = inl added
+idle_attempt socket buffer old new attempt.Failed none added = inr added
 
 -- a socket from which nothing was taken
 pub carried_idle : (role : Role) (Made : Source → List ℕ → List Entry → Outcome → Type 0) (old : AccessValue) (history : List Entry)
-    → (history ≡ old.history) ⊎ (history ≡ with_entry (Failed role) old.history) → HasCarried (IsTried role Made) 0 old (record old { history = history })
-carried_idle role Made old history idle =
-    let e = idle_entries role old.history history idle in
-    record { entries = e.0; outcomes = []; tried = inl (e.1, refl); many = refl; after = ap (λ (h : List Entry). record old { history = h }) e.2 }
+    → (history ≡ with_entry (Empty role) old.history) ⊎ (history ≡ with_entry (Failed role) old.history) → HasCarried (IsTried role Made) 0 old (record old { history = history })
+carried_idle role Made old history (inl empty) = record { entries = Empty role ∷ []; outcomes = []; tried = inl (inl refl, refl); many = refl; after = ap (λ (h : List Entry). record old { history = h }) empty }
+carried_idle role Made old history (inr failed) = record { entries = Failed role ∷ []; outcomes = []; tried = inl (inr refl, refl); many = refl; after = ap (λ (h : List Entry). record old { history = h }) failed }
 
 -- a socket from which a datagram was taken, something was made of it, and that was counted
 pub carried_taken : (role : Role) (Made : Source → List ℕ → List Entry → Outcome → Type 0) (old : AccessValue) (taken history rest : List Entry) (counts : Counts) (from : Source) (bytes : List ℕ) (became : Outcome)
@@ -72,19 +76,3 @@ carried_taken role Made old taken history rest counts from bytes became took add
   many = refl;
   after = ap₂ (λ (c : Counts) (h : List Entry). record old { counts = c; history = h }) count (added ∙ ap (λ h. h ++ rest) took ∙ append_assoc old.history (Took role from bytes ∷ []) rest);
 }
-
--- the server's socket from which nothing was taken
-pub served_idle : (now : ℕ) (proto : Proto) (old : AccessValue) (history : List Entry) → (history ≡ old.history) ⊎ (history ≡ with_entry (Failed (role.Server proto)) old.history)
-    → HasServed now proto 0 old (record old { history = history })
-served_idle now proto old history idle =
-    let e = idle_entries (role.Server proto) old.history history idle in
-    record {
-      entries = e.0;
-      outcomes = [];
-      tried = inl (e.1, refl);
-      many = refl;
-      kept = record { topology = refl; served = refl; regions = refl; formats = refl; port = refl; turns = refl };
-      counts = refl;
-      history = e.2;
-      idle = λ none. ap (λ (h : List Entry). record old { history = h }) e.2;
-    }

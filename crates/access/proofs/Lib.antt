@@ -1,6 +1,10 @@
+pub mod AgainLemmas
 pub mod AnswerLemmas
 pub mod CarryLemmas
 pub mod ClockLemmas
+pub mod PollingLemmas
+pub mod ReplyLemmas
+pub mod ServedLemmas
 pub mod TopologyLemmas
 pub mod TurnLemmas
 pub mod UpLemmas

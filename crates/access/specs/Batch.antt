@@ -1,5 +1,5 @@
 -- What the server makes of the datagrams that a turn takes from its sockets.
-use Rattle.std.specs.Prelude.{◌≡◌, ◌≤◌, ℕ, zero, suc, Bool, true, false, List, [], ◌∷◌, ◌++◌, length, map, Some, slice_get, Result, Ok, Err}
+use Rattle.std.specs.Prelude.{◌≡◌, ℕ, zero, suc, Bool, true, false, List, [], ◌∷◌, ◌++◌, map, Some, slice_get, Result, Err}
 use Rattle.types.specs.Delivery.{DeliveryValue, delivery}
 use Rattle.types.specs.declared.dest.Proto.{Proto}
 use Rattle.types.specs.declared.discard.Discard.{Discard}
@@ -78,12 +78,12 @@ abbrev pub AreReplied : List DeliveryValue → List (Result (List ℕ) Discard) 
 AreReplied taken answers = InOrder (IsRepliedAt taken answers)
 
 -- Some sockets were tried, by the counts and the history before and after.
-pub record HasTried (Try : Tries) (counts counts_after : Counts) (history history_after : List Entry) : Type 0 where
+pub record HasTried (Try : Tries) (before after : Counts) (old new : List Entry) : Type 0 where
   pub entries : List Entry
   pub outcomes : List Outcome
   pub tried : Try entries outcomes
-  pub counts : counts_after ≡ counted_all outcomes counts
-  pub history : history_after ≡ history ++ entries
+  pub counts : after ≡ counted_all outcomes before
+  pub history : new ≡ old ++ entries
 
 -- ---- those that are repeated
 
@@ -133,7 +133,7 @@ pub record HasTriedNext (proto : Proto) (before after : Polling) (taken more : L
   pub next : IsNext before entry
   pub state : after ≡ after_try entry before
   pub history : new ≡ old ++ entry ∷ []
-  pub taken : (now : ℕ) → all_delivered now more ≡ all_delivered now taken ++ deliveries_in now (entry ∷ [])
+  pub datagrams : (now : ℕ) → all_delivered now more ≡ all_delivered now taken ++ deliveries_in now (entry ∷ [])
 
 -- Sockets were tried from the beginning of a turn on.
 pub record HasPolled (most : ℕ) (first : Proto) (state : Polling) (taken : List Datagram) (old new : List Entry) : Type 0 where
@@ -141,11 +141,11 @@ pub record HasPolled (most : ℕ) (first : Proto) (state : Polling) (taken : Lis
   pub tries : AreTries (begun most first) entries
   pub state_is : state ≡ after_tries entries (begun most first)
   pub history : new ≡ old ++ entries
-  pub taken : (now : ℕ) → all_delivered now taken ≡ deliveries_in now entries
+  pub datagrams : (now : ℕ) → all_delivered now taken ≡ deliveries_in now entries
 
 -- A turn has taken these datagrams.
 pub record HasTaken (most : ℕ) (first next : Proto) (taken : List Datagram) (old new : List Entry) : Type 0 where
   pub entries : List Entry
   pub polled : IsPolled most first next entries
   pub history : new ≡ old ++ entries
-  pub taken : (now : ℕ) → all_delivered now taken ≡ deliveries_in now entries
+  pub datagrams : (now : ℕ) → all_delivered now taken ≡ deliveries_in now entries

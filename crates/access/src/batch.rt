@@ -1,5 +1,5 @@
 //! The datagrams that the server takes in a turn: received together, and answered one after the other.
-ghost use Rattle.std.specs.Prelude.{◌≡◌, ◌≤◌, ◌<◌, ◌+◌, ℕ, [], length, map, take, Some, slice_get};
+ghost use Rattle.std.specs.Prelude.{◌≡◌, ◌≤◌, ◌+◌, ℕ, List, length, map, take, Some};
 ghost use Rattle.access.specs.Batch.{AreReceived, AreReceivedAgain, AreReplied, HasTaken, HasTried, HasTriedNext, IsAnswered, IsReplied, all_delivered, delivered, is_repeated, serving};
 ghost use Rattle.access.specs.Polling.{next_of};
 ghost use Rattle.access.specs.Turn.{HasSentOn};
@@ -131,6 +131,7 @@ impl Batch {
 
     /// The server receives all of them at once.
     pub(crate) fn receive(&mut self, now: Moment, server: &mut Server, disk: &mut FileDisk)
+        requires few { length self.old.taken.items ≤ 16 }
         requires regions { HasRegions server.old.topology.circuits disk.old.regions }
         ensures most { self.new.most ≡ self.old.most }
         ensures first { self.new.first ≡ self.old.first }
@@ -186,7 +187,8 @@ impl Batch {
             let Some(answer) = self.answers.get(index) else {
                 unreachable!()
             };
-            if is_repeated(answer) {
+            let again = is_repeated(answer);
+            if again {
                 let datagram = &self.taken[index];
                 let socket = sockets.server(datagram.proto);
                 receive_alone(datagram, now, socket, server, disk, counts, history);

@@ -156,6 +156,8 @@ fn text_of(id: &[u8]) -> &str {
 /// Opens relay and server, takes the turns, and returns the status.
 fn run(rt: &HostRuntime, values: AccessWords<'_>) -> u8
     requires most { values.port ≤ 65472 }
+    requires some { 1 ≤ values.batch }
+    requires few { values.batch ≤ 16 }
     ensures { IsExitStatus result }
 {
     let config = match read_configuration(rt, values.config) {
@@ -167,7 +169,9 @@ fn run(rt: &HostRuntime, values: AccessWords<'_>) -> u8
         Err(status) => return status,
     };
     let mut opening = History::new();
-    let mut access = match Access::open(rt, rt.alloc(), &config, disk, values.port, &mut opening) {
+    let (port, batch) = (values.port, values.batch);
+    let opened = Access::open(rt, rt.alloc(), &config, disk, port, batch, &mut opening);
+    let mut access = match opened {
         Ok(access) => access,
         Err(fault) => return refuse(rt, &config, values.disk, fault),
     };

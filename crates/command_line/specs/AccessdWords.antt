@@ -26,28 +26,33 @@ port_rule = record (new_rule (codes "port")) { long = Some (codes "port"); value
 abbrev pub pause_rule : Rule
 pause_rule = record (new_rule (codes "pause")) { long = Some (codes "pause"); value_names = 1; action = Some Set; parser = Some (parser.Signed (pos 0) (pos 1000)); defaults = codes "0" ∷ [] }
 
+-- `--batch B`, 1 to 16, 1 by default
+abbrev pub batch_rule : Rule
+batch_rule = record (new_rule (codes "batch")) { long = Some (codes "batch"); value_names = 1; action = Some Set; parser = Some (parser.Signed (pos 1) (pos 16)); defaults = codes "1" ∷ [] }
+
 -- the command without its arguments; the program's name is not one of its words
 abbrev pub bare_app : App
 bare_app = on_top (λ s. record s { no_binary_name = true; has_version = true }) (new_app (codes "accessd"))
 
 abbrev pub access_app : App
-access_app = with_rule (with_rule (with_rule (with_rule (with_rule (with_rule bare_app config_rule) disk_rule) turns_rule) format_rule) port_rule) pause_rule
+access_app = with_rule (with_rule (with_rule (with_rule (with_rule (with_rule (with_rule bare_app config_rule) disk_rule) turns_rule) format_rule) port_rule) pause_rule) batch_rule
 
 -- What the words give the arguments is these values.
-pub record HasValues (given : List Row) (config disk : List ℕ) (turns : ℕ) (format : Bool) (port pause : ℕ) : Type 0 where
+pub record HasValues (given : List Row) (config disk : List ℕ) (turns : ℕ) (format : Bool) (port pause batch : ℕ) : Type 0 where
   pub config_is : first_of (codes "CONFIG") given ≡ Some config
   pub disk_is : first_of (codes "disk") given ≡ Some disk
   pub turns_are : IsNumber (first_of (codes "turns") given) 1 1000000 turns
   pub format_is : (format ≡ true) ↔ (first_of (codes "format") given ≡ Some (codes "true"))
   pub port_is : IsNumber (first_of (codes "port") given) 1024 65472 port
   pub pause_is : IsNumber (first_of (codes "pause") given) 0 1000 pause
+  pub batch_is : IsNumber (first_of (codes "batch") given) 1 16 batch
 
 -- The words spell these values.
-pub record Spells (words : List Text) (config disk : List ℕ) (turns : ℕ) (format : Bool) (port pause : ℕ) : Type 0 where
+pub record Spells (words : List Text) (config disk : List ℕ) (turns : ℕ) (format : Bool) (port pause batch : ℕ) : Type 0 where
   -- clap finds no fault in them
   pub right : fault_of access_app words ≡ []
-  pub values : HasValues (matches_of access_app words) config disk turns format port pause
+  pub values : HasValues (matches_of access_app words) config disk turns format port pause batch
 
 -- The words spell values.
 abbrev pub SpellsSomething : List Text → Type 0
-SpellsSomething words = (config : List ℕ) × (disk : List ℕ) × (turns : ℕ) × (format : Bool) × (port : ℕ) × (pause : ℕ) × Spells words config disk turns format port pause
+SpellsSomething words = (config : List ℕ) × (disk : List ℕ) × (turns : ℕ) × (format : Bool) × (port : ℕ) × (pause : ℕ) × (batch : ℕ) × Spells words config disk turns format port pause batch

@@ -3,7 +3,7 @@ ghost use Rattle.std.specs.Prelude.{◌≡◌, ℕ, Bool, List, Some, false, tru
 ghost use Rattle.std.specs.Prelude.{string_bytes, IfOk, IfErr, IfSome, IsNone};
 ghost use Rattle.clap.specs.Words.{app_of, rule_of, found_of, rows_of};
 ghost use Rattle.command_line.specs.CommandLine.{IsRefused};
-ghost use Rattle.command_line.specs.AccessdWords.{disk_rule, format_rule, pause_rule, port_rule, turns_rule};
+ghost use Rattle.command_line.specs.AccessdWords.{batch_rule, disk_rule, format_rule, pause_rule, port_rule, turns_rule};
 ghost use Rattle.command_line.specs.AccessdWords.{bare_app, access_app, HasValues, Spells, SpellsSomething};
 
 use crate::arguments::{config_arg, is_set, number};
@@ -18,6 +18,8 @@ const MIN_PORT: u32 = 1024;
 const MAX_PORT: u32 = 65472;
 
 const MAX_PAUSE: u32 = 1000;
+
+const MAX_BATCH: u32 = 16;
 
 /// The values of the words after the program's name.
 #[derive(Clone, Copy, Debug, PartialEq, Eq)]
@@ -34,6 +36,8 @@ pub struct AccessWords<'a> {
     pub port: u16,
     /// How long the program sleeps after a turn that took no datagram, in milliseconds, 0 to 1000.
     pub pause: u16,
+    /// How many datagrams the server takes at most in a turn, 1 to 16.
+    pub batch: u8,
 }
 
 fn disk_arg<'a>(alloc: Global) -> Arg<'a>
@@ -58,7 +62,7 @@ fn turns_arg<'a>(alloc: Global) -> Arg<'a>
         .action(ArgAction::Set)
         .required(true)
         .value_parser(clap::value_parser!(u32).range(1..=i64::from(MAX_TURNS)))
-        .help("How many turns to make, 1 to 1000000; a turn tries each socket once")
+        .help("How many turns to make, 1 to 1000000; a turn tries each socket")
 }
 
 fn format_arg<'a>(alloc: Global) -> Arg<'a>
@@ -97,6 +101,19 @@ fn pause_arg<'a>(alloc: Global) -> Arg<'a>
         .help("How many milliseconds to sleep after a turn that took nothing, 0 to 1000")
 }
 
+fn batch_arg<'a>(alloc: Global) -> Arg<'a>
+    ensures rule { rule_of result ≡ batch_rule }
+    ensures local { result.global ≡ false }
+{
+    Arg::new(alloc, "batch")
+        .long("batch")
+        .value_name("B")
+        .action(ArgAction::Set)
+        .value_parser(clap::value_parser!(u8).range(1..=i64::from(MAX_BATCH)))
+        .default_value("1")
+        .help("How many datagrams the server takes at most in a turn and saves together, 1 to 16")
+}
+
 fn named<'a>(alloc: Global) -> Command<'a>
     ensures { app_of result ≡ bare_app }
 {
@@ -118,18 +135,20 @@ fn command<'a>(alloc: Global) -> Result<Command<'a>, AllocError>
     let format = format_arg(alloc);
     let port = port_arg(alloc);
     let pause = pause_arg(alloc);
+    let batch = batch_arg(alloc);
     let with_config = named(alloc).arg(config)?;
     let with_disk = with_config.arg(disk)?;
     let with_turns = with_disk.arg(turns)?;
     let with_format = with_turns.arg(format)?;
     let with_port = with_format.arg(port)?;
-    with_port.arg(pause)
+    let with_pause = with_port.arg(pause)?;
+    with_pause.arg(batch)
 }
 
 /// The values that clap has read, where all are there and within their limits.
 fn values<'a>(matches: ArgMatches<'a>) -> Option<AccessWords<'a>>
-    ensures some { IfSome result (λ values. HasValues (rows_of (found_of matches.entry)) values.config.now values.disk.now values.turns values.format values.port values.pause) }
-    ensures none { IsNone result → (config disk : List ℕ) (turns : ℕ) (format : Bool) (port pause : ℕ) → ¬ HasValues (rows_of (found_of matches.entry)) config disk turns format port pause }
+    ensures some { IfSome result (λ values. HasValues (rows_of (found_of matches.entry)) values.config.now values.disk.now values.turns values.format values.port values.pause values.batch) }
+    ensures none { IsNone result → (config disk : List ℕ) (turns : ℕ) (format : Bool) (port pause batch : ℕ) → ¬ HasValues (rows_of (found_of matches.entry)) config disk turns format port pause batch }
 {
     let config = matches.get_str("CONFIG")?;
     let disk = matches.get_str("disk")?;
@@ -139,6 +158,8 @@ fn values<'a>(matches: ArgMatches<'a>) -> Option<AccessWords<'a>>
     let port = u16::try_from(port).ok()?;
     let pause = number(&matches, "pause", 0, MAX_PAUSE)?;
     let pause = u16::try_from(pause).ok()?;
+    let batch = number(&matches, "batch", 1, MAX_BATCH)?;
+    let batch = u8::try_from(batch).ok()?;
     Some(AccessWords {
         config,
         disk,
@@ -146,12 +167,13 @@ fn values<'a>(matches: ArgMatches<'a>) -> Option<AccessWords<'a>>
         format,
         port,
         pause,
+        batch,
     })
 }
 
 /// The values of the words after the program's name.
 pub fn words<'a>(alloc: Global, words: &'a [String]) -> Result<AccessWords<'a>, Refusal>
-    ensures values { IfOk result (λ values. Spells (map string_bytes words.entry.now) values.config.now values.disk.now values.turns values.format values.port values.pause) }
+    ensures values { IfOk result (λ values. Spells (map string_bytes words.entry.now) values.config.now values.disk.now values.turns values.format values.port values.pause values.batch) }
     ensures refused { IfErr result (IsRefused access_app SpellsSomething (map string_bytes words.entry.now)) }
 {
     let Ok(command) = command(alloc) else {

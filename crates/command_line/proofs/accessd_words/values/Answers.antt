@@ -10,30 +10,35 @@ not_there : (o : Option (List ℕ)) (a : List ℕ) → None ≡ o → o ≡ Some
 not_there o a none some = let h : None ≡ Some a = none ∙ some in absurd cc
 
 pub returns-in_err-config-clause-none : goal.returns-in_err-config-clause-none
-returns-in_err-config-clause-none c = λ _ config disk turns format port pause has.
+returns-in_err-config-clause-none c = λ _ config disk turns format port pause batch has.
     not_there _ config (c.in_err-config.ensures ∙ first_value-rows (found_of c.args.matches) (codes "CONFIG")) has.config_is
 
 pub returns-in_err-disk-clause-none : goal.returns-in_err-disk-clause-none
-returns-in_err-disk-clause-none c = λ _ config disk turns format port pause has.
+returns-in_err-disk-clause-none c = λ _ config disk turns format port pause batch has.
     not_there _ disk (c.in_err-disk.ensures ∙ first_value-rows (found_of c.args.matches) (codes "disk")) has.disk_is
 
 pub returns-in_err-turns-clause-none : goal.returns-in_err-turns-clause-none
-returns-in_err-turns-clause-none c = λ _ config disk turns format port pause has.
+returns-in_err-turns-clause-none c = λ _ config disk turns format port pause batch has.
     c.in_err-turns.ensures.none refl turns (subst (λ t. IsNumber t 1 1000000 turns) (sym (first_value-rows (found_of c.args.matches) (codes "turns"))) has.turns_are)
 
 pub returns-in_err-port-clause-none : goal.returns-in_err-port-clause-none
-returns-in_err-port-clause-none c = λ _ config disk turns format port pause has.
+returns-in_err-port-clause-none c = λ _ config disk turns format port pause batch has.
     c.in_err-port.ensures.none refl port (subst (λ t. IsNumber t 1024 65472 port) (sym (first_value-rows (found_of c.args.matches) (codes "port"))) has.port_is)
 
 pub returns-in_err-pause-clause-none : goal.returns-in_err-pause-clause-none
-returns-in_err-pause-clause-none c = λ _ config disk turns format port pause has.
+returns-in_err-pause-clause-none c = λ _ config disk turns format port pause batch has.
     c.in_err-pause.ensures.none refl pause (subst (λ t. IsNumber t 0 1000 pause) (sym (first_value-rows (found_of c.args.matches) (codes "pause"))) has.pause_is)
+
+pub returns-in_err-batch-clause-none : goal.returns-in_err-batch-clause-none
+returns-in_err-batch-clause-none c = λ _ config disk turns format port pause batch has.
+    c.in_err-batch.ensures.none refl batch (subst (λ t. IsNumber t 1 16 batch) (sym (first_value-rows (found_of c.args.matches) (codes "batch"))) has.batch_is)
 
 pub returns-clause-some : goal.returns-clause-some
 returns-clause-some c =
     let found = found_of c.args.matches in
     let same : c.in_ok-port.port ≡ c.in_ok-port-2.port = search rules in
     let same_pause : c.in_ok-pause.pause ≡ c.in_ok-pause-2.pause = search rules in
+    let same_batch : c.in_ok-batch.batch ≡ c.in_ok-batch-2.batch = search rules in
     record {
       config_is = sym (c.in_ok-config.ensures ∙ first_value-rows found (codes "CONFIG"));
       disk_is = sym (c.in_ok-disk.ensures ∙ first_value-rows found (codes "disk"));
@@ -41,4 +46,5 @@ returns-clause-some c =
       format_is = subst (λ t. (c.is_set-format.result ≡ true) ↔ (t ≡ Some (codes "true"))) (first_value-rows found (codes "format")) c.is_set-format.ensures;
       port_is = subst (λ t. IsNumber t 1024 65472 c.in_ok-port-2.port) (first_value-rows found (codes "port")) (subst (λ n. IsNumber (first_value found (codes "port")) 1024 65472 n) same c.in_ok-port.ensures.some);
       pause_is = subst (λ t. IsNumber t 0 1000 c.in_ok-pause-2.pause) (first_value-rows found (codes "pause")) (subst (λ n. IsNumber (first_value found (codes "pause")) 0 1000 n) same_pause c.in_ok-pause.ensures.some);
+      batch_is = subst (λ t. IsNumber t 1 16 c.in_ok-batch-2.batch) (first_value-rows found (codes "batch")) (subst (λ n. IsNumber (first_value found (codes "batch")) 1 16 n) same_batch c.in_ok-batch.ensures.some);
     }

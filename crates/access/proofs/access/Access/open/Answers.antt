@@ -26,6 +26,7 @@ invariant_of-result g c =
       search rules,
       search rules,
       search rules,
+      search rules,
     )
 
 -- the device has as many regions as before it was opened

@@ -20,6 +20,7 @@ turns-preserved g c =
       regions = back (λ s. s.disk.regions ≡ c.args.self.now.disk.regions) (after.regions ∙ (ap (λ (s : AccessValue). s.disk.regions) c.self.view_is ∙ was.regions));
       formats = back (λ s. s.formats ≡ c.args.self.now.formats) (after.formats ∙ (ap (λ (s : AccessValue). s.formats) c.self.view_is ∙ was.formats));
       port = back (λ s. s.port ≡ c.args.self.now.port) (after.port ∙ (ap (λ (s : AccessValue). s.port) c.self.view_is ∙ was.port));
+      batch = back (λ s. s.batch ≡ c.args.self.now.batch) (after.batch ∙ (ap (λ (s : AccessValue). s.batch) c.self.view_is ∙ was.batch));
       turned = back (HasServedTurns (c.turns.counter + 1) c.moment-now.result c.args.self.now)
           (served_once c.turns.counter c.turns.now c.moment-now.result c.turn.result c.args.self.now c.turns.self _ c.turn.new.self _ was.turned c.self.view_is c.moment-now.ensures.read after.turned);
       closed = back (λ s. StayClosed c.args.self.now.server s.server)

@@ -11,6 +11,7 @@ invariant-turns g l = record {
   regions : l.self.disk.regions ≡ l.fn.self.disk.regions;
   formats : l.self.formats ≡ l.fn.self.formats;
   port : l.self.port ≡ l.fn.self.port;
+  batch : l.self.batch ≡ l.fn.self.batch;
   turned : HasServedTurns l.counter l.now l.fn.self l.self;
   closed : StayClosed l.fn.self.server l.self.server;
 }

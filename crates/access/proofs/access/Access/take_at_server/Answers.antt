@@ -1,68 +1,71 @@
-use Rattle.std.proofs.Common.{arith, false, [], ◌∷◌, ◌++◌, inr, ◌≡◌, ◌∙◌, take, refl, ap, subst, append_assoc}
-use Rattle.std.specs.Prelude.{◌⊎◌}
-use Rattle.types.specs.Delivery.{delivery}
-use Rattle.dispatch.specs.Received.{received}
-use Rattle.dispatch.specs.ServerValue.{books_in}
-use Rattle.lease_disk.proofs.Frames.{writes_count}
-use Rattle.lease_disk.specs.Device.{has_failed}
-use Rattle.lease_disk.specs.FileDisk.{device_of}
-use Rattle.udp.specs.History.{Failed, Took, with_entry}
-use Rattle.udp.specs.declared.history.Role.TheVariants as role
+use Rattle.std.proofs.Common.{◌≡◌, ◌∙◌, ◌++◌, length, refl, sym, ap, subst}
+use Rattle.std.proofs.lemmas.List.{length-map}
+use Rattle.config.specs.Topology.{Topology}
+use Rattle.dispatch.specs.Regions.{HasRegions}
 use Rattle.access.specs.Access.{AccessValue, HasServed}
+use Rattle.access.specs.Batch.{AreReceived, AreReceivedAgain, AreReplied, HasTried, all_delivered, delivered, serving}
+use Rattle.access.specs.Polling.{IsPolled, deliveries_in}
 use Rattle.access.specs.contracts.access.Access.{the_view}
-use Rattle.counts.specs.declared.counts.Outcome.TheVariants as outcome
-use Rattle.access.proofs.AnswerLemmas.{went}
-use Rattle.access.proofs.CarryLemmas.{served_idle}
-use Rattle.access.proofs.UpLemmas.{servers_own}
+use Rattle.access.proofs.ServedLemmas.{access_kept, all_stays, received_stays}
 use Rattle.access.proofs.access.Access.take_at_server.Goals as goal
 
-pub returns-in_default-clause-served : goal.returns-in_default-clause-served
-returns-in_default-clause-served c =
+pub receive_again-requires-clause-regions : goal.receive_again-requires-clause-regions
+receive_again-requires-clause-regions c =
     let inside = c.self.inside in
-    let proto = c.args.proto in
-    let its = (servers_own inside.relays.topology inside.port inside.history.id inside.sockets c.self.invariant.6 proto c.server-socket.result.now c.server-socket.ensures.v4 c.server-socket.ensures.v6).role in
-    subst (λ (old : AccessValue). HasServed c.args.now proto 0 old (record (the_view inside) { history = c.take.new.history.entries })) c.self.view_is
-    (served_idle c.args.now proto (the_view inside) c.take.new.history.entries
-    (subst (λ r. (c.take.new.history.entries ≡ inside.history.entries) ⊎ (c.take.new.history.entries ≡ with_entry (Failed r) inside.history.entries)) its c.in_default.ensures.none))
+    let stays = received_stays (all_delivered c.args.now c.poll.new.self.taken.items) c.receive.new.self.answers _ _ (c.receive.ensures.received inside.counts c.poll.new.history.entries) in
+    subst (λ count. HasRegions c.receive.new.server.topology.circuits count) (sym stays.regions) (subst (λ (t : Topology). HasRegions t.circuits inside.disk.regions) (sym stays.topology) c.self.invariant.5)
+
+pub invariant_of-self : goal.invariant_of-self
+invariant_of-self c =
+    let inside = c.self.inside in
+    let stays = all_stays (all_delivered c.args.now c.poll.new.self.taken.items) (all_delivered c.args.now c.receive.new.self.taken.items) c.receive.new.self.answers (length c.receive.new.self.taken.items) _ _ _
+    c.reply.new.counts c.reply.new.history.entries (c.receive.ensures.received inside.counts c.poll.new.history.entries) c.receive_again.ensures.again in
+    access_kept inside.relays.topology inside.sockets inside.server c.receive_again.new.server inside.disk.regions c.receive_again.new.disk.regions inside.port inside.batch.most c.receive.new.self.most
+    inside.history.id c.receive_again.new.history.id inside.listen4 inside.listen6 c.self.invariant stays.topology stays.regions (c.receive.ensures.most ∙ c.poll.ensures.most)
+    (c.receive_again.ensures.same ∙ c.reply.ensures.same ∙ c.poll.ensures.same)
 
 pub returns-clause-served : goal.returns-clause-served
 returns-clause-served c =
-    let inside = c.self.inside in
-    let proto = c.args.proto in
     let now = c.args.now in
-    let from = c.in-Some.from in
-    let bound = c.self.invariant.6 in
-    let its = (servers_own inside.relays.topology inside.port inside.history.id inside.sockets bound proto c.server-socket.result.now c.server-socket.ensures.v4 c.server-socket.ensures.v6).role in
-    let sender = (servers_own inside.relays.topology inside.port inside.history.id inside.sockets bound proto c.server-own.result.now c.server-own.ensures.v4 c.server-own.ensures.v6).role in
-    let datagram = take c.in-Some.len c.take.new.buffer in
-    let taken = c.take.new.history.entries in
-    let took = subst (λ r. taken ≡ with_entry (Took r from datagram) inside.history.entries) its c.in-Some.ensures.some in
-    let done = received inside.server.topology (delivery proto from now datagram) (has_failed (device_of inside.disk) (device_of c.receive-made.new.disk)) (books_in inside.server) in
-    let w = went _ (role.Server proto) _ from outcome.Answered done.answer c.receive-made.result _ c.receive-made.new.out taken c.send_on-outcome.new.history.entries c.send_on-outcome.result
-    sender refl c.as_slice-out.ensures.value c.receive-made.ensures.answer c.send_on-outcome.ensures.sent in
-    let after : AccessValue = record (the_view inside) { server = c.receive-made.new.self; disk = c.receive-made.new.disk; counts = c.count.new.self; history = c.send_on-outcome.new.history.entries } in
-    subst (λ (old : AccessValue). HasServed now proto 1 old after) c.self.view_is (record {
-      entries = Took (role.Server proto) from datagram ∷ w.rest;
-      outcomes = c.send_on-outcome.result ∷ [];
-      tried = inr (record {
-        from = from;
-        bytes = datagram;
-        rest = w.rest;
-        outcome = c.send_on-outcome.result;
-        entries_are = refl;
-        outcomes_are = refl;
-        made = record { books = c.receive-made.ensures.books; goes_on = w.goes_on };
-      });
-      many = refl;
+    let inside = c.self.inside in
+    let polled = c.poll.ensures.taken in
+    let entries = polled.entries in
+    let datagrams = deliveries_in now entries in
+    let items = c.receive.new.self.taken.items in
+    let answers = c.receive.new.self.answers in
+    let start = serving inside.server inside.disk inside.counts (inside.history.entries ++ entries) in
+    let saved = serving c.receive.new.server c.receive.new.disk inside.counts c.poll.new.history.entries in
+    let sent = serving c.receive.new.server c.receive.new.disk c.reply.new.counts c.reply.new.history.entries in
+    let new = serving c.receive_again.new.server c.receive_again.new.disk c.receive_again.new.counts c.receive_again.new.history.entries in
+    let all : all_delivered now items ≡ datagrams = ap (λ t. all_delivered now t.items) c.receive.ensures.taken ∙ polled.datagrams now in
+    let many : length items ≡ length datagrams = sym (length-map items (delivered now)) ∙ ap length all in
+    let count : c.len.result ≡ length datagrams = c.len.ensures ∙ many in
+    let size : length items ≡ c.len.result = sym c.len.ensures in
+    let received = subst (λ ds. AreReceived ds answers start saved) (polled.datagrams now)
+    (subst (λ h. AreReceived (all_delivered now c.poll.new.self.taken.items) answers (serving inside.server inside.disk inside.counts h) saved) polled.history (c.receive.ensures.received inside.counts c.poll.new.history.entries)) in
+    let replied = subst (λ n. HasTried (AreReplied datagrams answers n) inside.counts c.reply.new.counts c.poll.new.history.entries c.reply.new.history.entries) size
+    (subst (λ ds. HasTried (AreReplied ds answers (length items)) inside.counts c.reply.new.counts c.poll.new.history.entries c.reply.new.history.entries) all (c.reply.ensures.replied now)) in
+    let again = subst (λ n. AreReceivedAgain datagrams answers n sent new) size (subst (λ ds. AreReceivedAgain ds answers (length items) sent new) all c.receive_again.ensures.again) in
+    let stays = all_stays datagrams datagrams answers c.len.result start saved new c.reply.new.counts c.reply.new.history.entries received again in
+    subst (λ (old : AccessValue). HasServed now c.len.result old
+    (record (the_view inside) { server = c.receive_again.new.server; disk = c.receive_again.new.disk; first = c.receive.new.self.first; batch = c.receive.new.self.most; counts = c.receive_again.new.counts; history = c.receive_again.new.history.entries })) c.self.view_is (record {
+      entries = entries;
+      answers = answers;
+      saved = saved;
+      counts = c.reply.new.counts;
+      history = c.reply.new.history.entries;
+      polled = subst (λ next. IsPolled inside.batch.most inside.batch.first next entries) (sym c.receive.ensures.first) polled.polled;
+      many = count;
+      received = received;
+      replied = replied;
+      again = again;
       kept = record {
         topology = refl;
-        served = c.receive-made.ensures.topology;
-        regions = writes_count false _ (device_of inside.disk) (device_of c.receive-made.new.disk) c.receive-made.ensures.frame;
+        served = stays.topology;
+        regions = stays.regions;
         formats = refl;
         port = refl;
+        batch = c.receive.ensures.most ∙ c.poll.ensures.most;
         turns = refl;
       };
-      counts = c.count.ensures;
-      history = w.history ∙ ap (λ h. h ++ w.rest) took ∙ append_assoc inside.history.entries (Took (role.Server proto) from datagram ∷ []) w.rest;
-      idle = λ none. absurd (omega (arith, none));
     })

@@ -13,24 +13,20 @@ use Rattle.access.proofs.access.Access.turn.Goals as goal
 
 pub returns-clause-turned : goal.returns-clause-turned
 returns-clause-turned c =
-    let four = c.take_at_server-datagrams4.ensures.served.kept in
-    let six = c.take_at_server-datagrams6.ensures.served.kept in
-    let topology = six.topology ∙ four.topology ∙ carried_topology _ c.take_from_circuits-frames.result _ _ c.take_from_circuits-frames.ensures.carried in
-    let port = six.port ∙ four.port ∙ carried_port _ c.take_from_circuits-frames.result _ _ c.take_from_circuits-frames.ensures.carried in
+    let kept = c.take_at_server-datagrams.ensures.served.kept in
+    let topology = kept.topology ∙ carried_topology _ c.take_from_circuits-frames.result _ _ c.take_from_circuits-frames.ensures.carried in
+    let port = kept.port ∙ carried_port _ c.take_from_circuits-frames.result _ _ c.take_from_circuits-frames.ensures.carried in
     record {
       relayed = c.take_from_circuits-frames.new.self;
-      served4 = c.take_at_server-datagrams4.new.self;
-      served6 = c.take_at_server-datagrams6.new.self;
+      served = c.take_at_server-datagrams.new.self;
       delivered = c.take_from_relays-answers.new.self;
       frames = c.take_from_circuits-frames.result;
-      datagrams4 = c.take_at_server-datagrams4.result;
-      datagrams6 = c.take_at_server-datagrams6.result;
+      datagrams = c.take_at_server-datagrams.result;
       answers = c.take_from_relays-answers.result;
       from_circuits = c.take_from_circuits-frames.ensures.carried;
-      at_server4 = c.take_at_server-datagrams4.ensures.served;
-      at_server6 = c.take_at_server-datagrams6.ensures.served;
-      from_relays = subst (λ (t : Topology). HasCarried (RelaysSockets t c.args.self.now.port) c.take_from_relays-answers.result c.take_at_server-datagrams6.new.self c.take_from_relays-answers.new.self) topology
-          (subst (λ p. HasCarried (RelaysSockets c.take_at_server-datagrams6.new.self.topology p) c.take_from_relays-answers.result c.take_at_server-datagrams6.new.self c.take_from_relays-answers.new.self) port
+      at_server = c.take_at_server-datagrams.ensures.served;
+      from_relays = subst (λ (t : Topology). HasCarried (RelaysSockets t c.args.self.now.port) c.take_from_relays-answers.result c.take_at_server-datagrams.new.self c.take_from_relays-answers.new.self) topology
+          (subst (λ p. HasCarried (RelaysSockets c.take_at_server-datagrams.new.self.topology p) c.take_from_relays-answers.result c.take_at_server-datagrams.new.self c.take_from_relays-answers.new.self) port
           c.take_from_relays-answers.ensures.carried);
       ticked = ticked (λ region. untold) c.args.now (circuits_in c.tick.new.self) (circuits_in c.self.inside.server) (c.tick.ensures.leases (λ region. untold))
           ∙ ap (λ (s : AccessValue). books_at c.args.now (books_in s.server)) c.self.view_is;

@@ -1,0 +1,89 @@
+-- The answers to the datagrams of a turn, one after the other.
+use Rattle.std.proofs.Common.{◌≡◌, ◌∙◌, ◌+◌, ◌<◌, ℕ, zero, suc, Bool, true, false, Bor, List, [], ◌∷◌, ◌++◌, length, map, refl, sym, ap, subst, arith, append_assoc, append-nil}
+use Rattle.std.specs.Prelude.{Option, Some, option_map, Result, slice_get, slice_index_or}
+use Rattle.std.proofs.lemmas.Option.{slice_get-get_or}
+use Rattle.types.specs.Delivery.{DeliveryValue}
+use Rattle.types.specs.declared.dest.Proto.{Proto}
+use Rattle.types.specs.declared.dest.Proto.TheVariants.{V4, V6}
+use Rattle.udp.specs.Socket.{SocketValue}
+use Rattle.types.specs.declared.discard.Discard.{Discard}
+use Rattle.dispatch.specs.Answers.{answer_of}
+use Rattle.dispatch.specs.declared.batch_answers.Answer.{Answer}
+use Rattle.udp.specs.History.{Entry}
+use Rattle.udp.specs.declared.history.Role.{Role}
+use Rattle.udp.specs.declared.history.Role.TheVariants as role
+use Rattle.counts.specs.Counts.{counted, counted_all}
+use Rattle.counts.specs.declared.counts.Counts.{Counts}
+use Rattle.counts.specs.declared.counts.Outcome.{Outcome}
+use Rattle.counts.specs.declared.counts.Outcome.TheVariants as outcome
+use Rattle.access.specs.Batch.{HasTried, IsReplied, IsRepliedAt, all_delivered, delivered, is_repeated}
+use Rattle.access.specs.Turn.{GoesOn, HasSentOn, InOrder, Tries}
+use Rattle.access.specs.declared.batch.Datagram.{Datagram}
+use Rattle.access.proofs.CarryLemmas.{counted_append}
+
+-- ---- one
+
+get_map : {A B : Type 0} (f : A → B) (xs : List A) (j : ℕ) (x : A) → slice_get xs j ≡ Some x → slice_get (map f xs) j ≡ Some (f x)
+get_map f [] j x there = absurd cc
+get_map f (y ∷ xs) zero x there = ap (option_map f) there
+get_map f (y ∷ xs) (suc j) x there = get_map f xs j x there
+
+-- the datagram of an index
+pub delivered_at : (now : ℕ) (taken : List Datagram) (j : ℕ) (d : Datagram) → j < length taken → d ≡ slice_index_or taken j d → slice_get (all_delivered now taken) j ≡ Some (delivered now d)
+delivered_at now taken j d within is = get_map (delivered now) taken j d (slice_get-get_or taken j d within ∙ ap Some (sym is))
+
+-- the answer of an index
+pub answer_at : (answers : List (Result (List ℕ) Discard)) (j : ℕ) (found : Option (Bor Answer)) (answer : Bor Answer) → option_map (λ (a : Bor Answer). answer_of a.now) found ≡ slice_get answers j → found ≡ Some answer → slice_get answers j ≡ Some (answer_of answer.now)
+answer_at answers j found answer is some = sym is ∙ ap (option_map (λ (a : Bor Answer). answer_of a.now)) some
+
+-- the server's socket of a protocol
+pub servers_role : (proto : Proto) (socket listen4 listen6 : SocketValue) → listen4.role ≡ role.Server V4 → listen6.role ≡ role.Server V6 → (proto ≡ V4 → socket ≡ listen4) → (proto ≡ V6 → socket ≡ listen6)
+    → socket.role ≡ role.Server proto
+servers_role V4 socket listen4 listen6 own4 own6 is4 is6 = ap (λ (s : SocketValue). s.role) (is4 refl) ∙ own4
+servers_role V6 socket listen4 listen6 own4 own6 is4 is6 = ap (λ (s : SocketValue). s.role) (is6 refl) ∙ own6
+
+-- it is repeated: nothing is done
+pub replied_later : (b : Bool) (d : DeliveryValue) (answer : Result (List ℕ) Discard) (counts : Counts) (history : List Entry) → b ≡ true → HasTried (IsReplied b d answer) counts counts history history
+replied_later true d answer counts history is = record { entries = []; outcomes = []; tried = (refl, refl); counts = refl; history = sym (append-nil history) }
+replied_later false d answer counts history is = absurd cc
+
+-- its answer is sent
+pub replied_now : (b : Bool) (socket : Role) (d : DeliveryValue) (answer : Result (List ℕ) Discard) (before after : Counts) (old new : List Entry) (became : Outcome) → b ≡ false → socket ≡ role.Server d.proto
+    → HasSentOn socket d.source outcome.Answered answer old new became → after ≡ counted became before → HasTried (IsReplied b d answer) before after old new
+replied_now true socket d answer before after old new became is own sent count = absurd cc
+replied_now false socket d answer before after old new became is own sent count = record {
+  entries = sent.rest;
+  outcomes = became ∷ [];
+  tried = (became, refl, subst (λ s. GoesOn s d.source outcome.Answered answer sent.rest became) own sent.goes_on);
+  counts = count;
+  history = sent.history;
+}
+
+pub replied_at : (taken : List DeliveryValue) (answers : List (Result (List ℕ) Discard)) (j : ℕ) (d : DeliveryValue) (answer : Result (List ℕ) Discard) (before after : Counts) (old new : List Entry)
+    → slice_get taken j ≡ Some d → slice_get answers j ≡ Some answer → HasTried (IsReplied (is_repeated answer) d answer) before after old new → HasTried (IsRepliedAt taken answers j) before after old new
+replied_at taken answers j d answer before after old new there its tried = record {
+  entries = tried.entries;
+  outcomes = tried.outcomes;
+  tried = record { its_datagram = d; its_answer = answer; taken_at = there; answered_at = its; replied = tried.tried };
+  counts = tried.counts;
+  history = tried.history;
+}
+
+-- ---- all
+
+pub tried_none : (Try : ℕ → Tries) (counts : Counts) (history : List Entry) → HasTried (InOrder Try 0) counts counts history history
+tried_none Try counts history = record { entries = []; outcomes = []; tried = (refl, refl); counts = refl; history = sym (append-nil history) }
+
+tried_next : (Try : ℕ → Tries) (n : ℕ) (a b c : Counts) (old middle new : List Entry) → HasTried (InOrder Try n) a b old middle → HasTried (Try n) b c middle new → HasTried (InOrder Try (suc n)) a c old new
+tried_next Try n a b c old middle new first second = record {
+  entries = first.entries ++ second.entries;
+  outcomes = first.outcomes ++ second.outcomes;
+  tried = record { before = first.entries; after = second.entries; done = first.outcomes; more = second.outcomes; one = first.tried; other = second.tried; entries_are = refl; outcomes_are = refl };
+  counts = second.counts ∙ ap (counted_all second.outcomes) first.counts ∙ sym (counted_append first.outcomes second.outcomes a);
+  history = second.history ∙ ap (λ h. h ++ second.entries) first.history ∙ append_assoc old first.entries second.entries;
+}
+
+pub tried_more : (Try : ℕ → Tries) (n : ℕ) (a b c : Counts) (old middle new : List Entry) → HasTried (InOrder Try n) a b old middle → HasTried (Try n) b c middle new → HasTried (InOrder Try (n + 1)) a c old new
+tried_more Try n a b c old middle new first second =
+    let more : suc n ≡ n + 1 = omega arith in
+    subst (λ (i : ℕ). HasTried (InOrder Try i) a c old new) more (tried_next Try n a b c old middle new first second)
