@@ -1,6 +1,6 @@
 -- A batch: the first datagram of each circuit is received together with those of the others, any further one after that, alone.
-use Rattle.std.proofs.Common.{◌≡◌, ◌∙◌, ◌+◌, ◌≤◌, ℕ, zero, suc, Bool, true, false, cond, ◌||◌, List, [], ◌∷◌, ◌++◌, length, map, take, refl, sym, ap, ap₂, subst, append_assoc, append-nil, arith}
-use Rattle.std.specs.Prelude.{Option, Some, None, slice_get, Result, Ok, Err, if◌then◌else◌}
+use Rattle.std.proofs.Common.{◌≡◌, ◌∙◌, ◌≤◌, ℕ, zero, suc, Bool, true, false, cond, ◌||◌, List, [], ◌∷◌, ◌++◌, length, map, take, refl, sym, ap, ap₂, subst, append_assoc, append-nil, arith}
+use Rattle.std.specs.Prelude.{Option, Some, None, slice_get, Result, if◌then◌else◌}
 use Rattle.std.specs.List.{filter, list_any}
 use Rattle.std.proofs.lemmas.Option.{same_Some, slice_get_past}
 use Rattle.types.specs.Delivery.{DeliveryValue}
@@ -11,7 +11,7 @@ use Rattle.config.specs.Topology.{Topology}
 use Rattle.requests.specs.Addressee.{addressee}
 use Rattle.circuit_server.specs.Answered.{answered}
 use Rattle.circuit_server.specs.Server.{Book}
-use Rattle.dispatch.specs.Batch.{IsBatch, comes_again, is_circuit, is_named, part_received}
+use Rattle.dispatch.specs.Batch.{IsBatch, comes_again, is_named, part_received}
 use Rattle.dispatch.specs.Received.{Received, drop_all, received}
 use Rattle.dispatch.proofs.BatchLemmas.{circuit_is}
 use Rattle.access.specs.Batch.{is_repeated}

@@ -1,12 +1,12 @@
 -- Which part of a turn an entry is of.
-use Rattle.std.proofs.Common.{◌≡◌, ◌∙◌, ℕ, ◌==◌, true, false, List, [], ◌∷◌, ◌++◌, refl, sym, ap}
+use Rattle.std.proofs.Common.{◌≡◌, ◌∙◌, ℕ, ◌==◌, false, List, [], ◌∷◌, ◌++◌, refl, ap}
 use Rattle.std.specs.Prelude.{⊤, Option, None}
 use Rattle.std.specs.List.{cons_option, filter_map}
 use Rattle.config.specs.Topology.{Topology}
 use Rattle.udp.specs.History.{Entry, Took, Failed, Empty, Sent, Ticked, Refused, Read}
 use Rattle.udp.specs.declared.history.Role.TheVariants.{Circuit, Server, Relay}
 use Rattle.access.specs.Polling.{delivery_in}
-use Rattle.access_promises.specs.Own.{first_sent_up, own_datagram, own_frame, sent_down, sent_reply, sent_up}
+use Rattle.access_promises.specs.Own.{own_datagram, own_frame, sent_down, sent_reply, sent_up}
 use Rattle.access_promises.specs.Turns.{turns_after}
 
 -- 0 the clock is read, 1 the circuits' sockets, 2 the server's are tried, 3 its replies, 4 the relays' sockets, 5 the turn ends

@@ -1,6 +1,6 @@
 -- A circuit's server never answers that a datagram is repeated: that is said of a batch alone.
-use Rattle.std.proofs.Common.{◌≡◌, ◌∙◌, ℕ, Bool, true, false, ◌&&◌, cond, List, [], ◌∷◌, refl, ap}
-use Rattle.std.specs.Prelude.{Option, Some, None, option_map, nat_lt, length, slice_index, Result, Ok, Err, if◌then◌else◌, ◌==◌}
+use Rattle.std.proofs.Common.{◌≡◌, ◌∙◌, ℕ, Bool, true, false, ◌&&◌, List, [], ◌∷◌, refl}
+use Rattle.std.specs.Prelude.{Option, Some, None, nat_lt, length, slice_index, Result, Ok, Err, if◌then◌else◌, ◌==◌}
 use Rattle.std.specs.Option.{option_and_then}
 use Rattle.std.specs.Result.{result_map_both}
 use Rattle.types.specs.Delivery.{DeliveryValue}
@@ -16,7 +16,6 @@ use Rattle.types.specs.declared.kind4.Kind4.{Kind4}
 use Rattle.types.specs.declared.kind4.Kind4.TheVariants.{Discover, Offer, Request, Decline, Ack, Nak, Release, Inform}
 use Rattle.types.specs.declared.kind6.Kind6.{Kind6}
 use Rattle.types.specs.declared.kind6.Kind6.TheVariants as kind6
-use Rattle.types.specs.declared.request4.Reply4.{Reply4}
 use Rattle.types.specs.declared.request4.Request4.{Request4}
 use Rattle.types.specs.declared.request6.Reply6.{Reply6}
 use Rattle.types.specs.declared.request6.Request6.{Request6}

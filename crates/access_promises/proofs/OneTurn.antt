@@ -1,8 +1,7 @@
 -- One turn: what it adds to the history, and what its server makes of it.
-use Rattle.std.proofs.Common.{◌≡◌, ◌∙◌, ℕ, zero, suc, List, [], ◌∷◌, ◌++◌, length, map, refl, sym, ap, ap₂, subst, append_assoc, append-nil, arith}
+use Rattle.std.proofs.Common.{◌≡◌, ◌∙◌, ℕ, zero, suc, List, [], ◌∷◌, ◌++◌, map, refl, ap, subst, append_assoc}
 use Rattle.std.specs.Prelude.{Option, Some, None, All, slice_get}
-use Rattle.std.specs.List.{cons_option, filter_map}
-use Rattle.std.proofs.lemmas.List.Elements.{filter_map-append}
+use Rattle.std.specs.List.{filter_map}
 use Rattle.config.specs.CircuitPart.{CircuitPart}
 use Rattle.config.specs.Topology.{Topology}
 use Rattle.circuit_server.specs.CircuitServerValue.{OpenCircuitValue, book_of}
@@ -10,7 +9,7 @@ use Rattle.circuit_server.specs.Server.{Book}
 use Rattle.dispatch.specs.ServerValue.{ServerValue, books_in, with_states}
 use Rattle.udp.specs.History.{Entry, Read, Ticked}
 use Rattle.access.specs.Access.{AccessValue, HasServed, HasTurned, HasTurnedOnce, books_at, serving_in}
-use Rattle.access.specs.Batch.{AreReceivedAgain, AreReplied, HasTried, Serving, serving}
+use Rattle.access.specs.Batch.{AreReceivedAgain, AreReplied, HasTried, serving}
 use Rattle.access.specs.Polling.{begun, deliveries_in}
 use Rattle.access.specs.Turn.{CircuitsSockets, RelaysSockets}
 use Rattle.access_promises.specs.Exchanges.{Exchange, IsStray, reply_of}

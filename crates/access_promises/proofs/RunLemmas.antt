@@ -1,5 +1,5 @@
 -- A run, turn by turn.
-use Rattle.std.proofs.Common.{◌≡◌, ◌∙◌, ℕ, zero, suc, ◌==◌, false, List, [], ◌∷◌, ◌++◌, length, map, drop, refl, sym, ap, ap₂, subst, append_assoc, append-nil, arith}
+use Rattle.std.proofs.Common.{◌≡◌, ◌∙◌, ℕ, zero, suc, List, [], ◌∷◌, ◌++◌, length, map, drop, refl, sym, ap, ap₂, subst, append_assoc, append-nil}
 use Rattle.std.specs.Prelude.{⊤, Option, Some, None, All, option_map, slice_get}
 use Rattle.std.specs.List.{cons_option, filter, filter_map, flat_map}
 use Rattle.std.specs.Option.{option_flatten}
@@ -9,17 +9,16 @@ use Rattle.std.proofs.lemmas.Option.{slice_get-map}
 use Rattle.types.specs.Delivery.{DeliveryValue}
 use Rattle.config.specs.CircuitPart.{CircuitPart}
 use Rattle.config.specs.Topology.{Topology}
-use Rattle.circuit_server.specs.Server.{Book, book_at}
-use Rattle.dispatch.specs.ServerValue.{ServerValue, books_in}
+use Rattle.circuit_server.specs.Server.{book_at}
 use Rattle.udp.specs.History.{Entry, Read, Ticked}
-use Rattle.access.specs.Access.{AccessValue, HasServedTurns, HasTurnedOnce, books_at}
+use Rattle.access.specs.Access.{AccessValue, HasServedTurns}
 use Rattle.access.specs.Polling.{deliveries_in, delivery_in}
 use Rattle.access_promises.specs.Exchanges.{AreAlone, AreExchanges, Exchange, IsStray, book_in, reply_of}
-use Rattle.access_promises.specs.Own.{Receive, Step, Tick, is_own, replies_in, sent_reply, steps_in, steps_of}
+use Rattle.access_promises.specs.Own.{Receive, Tick, is_own, replies_in, sent_reply, steps_in, steps_of}
 use Rattle.access_promises.specs.Turns.{IsRun, Turn, added, turns_in}
-use Rattle.access_promises.proofs.EntryKinds.{AreOf, delivery_only, reply_only, skipped}
+use Rattle.access_promises.proofs.EntryKinds.{delivery_only, reply_only, skipped}
 use Rattle.access_promises.proofs.OneTurn.{IsOneTurn, has_book, one_turn}
-use Rattle.access_promises.proofs.Serves.{HasServedOwn, no_strays, receives}
+use Rattle.access_promises.proofs.Serves.{no_strays, receives}
 use Rattle.access_promises.proofs.StepLemmas.{alone_more, alone_none, alone_ticked}
 use Rattle.access_promises.proofs.TurnEntries.{IsTurn, body_goes_on, downs_of, turn_ends, ups_of}
 

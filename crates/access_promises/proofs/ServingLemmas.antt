@@ -1,16 +1,15 @@
 -- What the server makes of the datagrams of a turn.
-use Rattle.std.proofs.Common.{◌≡◌, ◌∙◌, ◌≤◌, ℕ, zero, suc, Bool, true, false, cond, List, [], ◌∷◌, ◌++◌, length, map, take, refl, sym, ap, ap₂, subst, append-nil, arith}
-use Rattle.std.specs.Prelude.{Option, Some, None, slice_get, Result, Ok, Err, All}
+use Rattle.std.proofs.Common.{◌≡◌, ◌∙◌, ℕ, zero, suc, Bool, true, false, cond, List, [], ◌∷◌, ◌++◌, length, map, take, refl, sym, ap, ap₂, subst, append-nil}
+use Rattle.std.specs.Prelude.{Option, Some, slice_get, Ok, Err, All}
 use Rattle.std.specs.List.{filter, filter_map}
 use Rattle.std.proofs.lemmas.List.{map-append}
-use Rattle.std.proofs.lemmas.List.Elements.{All-append, All-cons, filter-append, filter_map-append}
+use Rattle.std.proofs.lemmas.List.Elements.{All-cons, filter-append, filter_map-append}
 use Rattle.std.proofs.lemmas.Option.{same_Some}
 use Rattle.types.specs.Delivery.{DeliveryValue}
-use Rattle.types.specs.declared.discard.Discard.{Discard}
 use Rattle.config.specs.CircuitPart.{CircuitPart}
 use Rattle.config.specs.Topology.{Topology}
 use Rattle.circuit_server.specs.Server.{Book}
-use Rattle.dispatch.specs.Batch.{IsBatch, comes_again, part_received}
+use Rattle.dispatch.specs.Batch.{comes_again, part_received}
 use Rattle.dispatch.specs.ServerValue.{books_in}
 use Rattle.udp.specs.History.{Entry}
 use Rattle.udp.specs.declared.history.Role.TheVariants as role
@@ -18,14 +17,14 @@ use Rattle.counts.specs.Counts.{counted_all}
 use Rattle.counts.specs.declared.counts.Counts.{Counts}
 use Rattle.counts.specs.declared.counts.Outcome.{Outcome}
 use Rattle.counts.specs.declared.counts.Outcome.TheVariants as outcome
-use Rattle.access.specs.Batch.{AreReceived, AreReceivedAgain, AreReplied, HasTried, IsAnswered, IsReceived, IsReceivedAgain, IsReceivedAgainAt, IsReplied, IsRepliedAt, Serving, failed_in, is_repeated, made_of, serving}
+use Rattle.access.specs.Batch.{AreReceived, AreReceivedAgain, AreReplied, HasTried, IsAnswered, IsReceived, IsReceivedAgain, IsReplied, Serving, failed_in, is_repeated, made_of, serving}
 use Rattle.access.specs.Turn.{GoesOn}
 use Rattle.access_promises.specs.Exchanges.{Exchange, IsStray, reply_of}
 use Rattle.access_promises.specs.Own.{Receive, is_own, replies_in, sent_reply}
 use Rattle.access_promises.proofs.BatchOrder.{Answer, Pair, answers_after, answers_are, batch_firsts, chosen, datagrams_of, firsts, made, repeats}
 use Rattle.access_promises.proofs.EntryKinds.{AreOf, kinds_more}
 use Rattle.access_promises.proofs.ExchangeLemmas.{exchange, one_exchange, stray_one}
-use Rattle.access_promises.proofs.Serves.{HasServedOwn, Serves, no_strays, receives, serves_none, serves_then}
+use Rattle.access_promises.proofs.Serves.{HasServedOwn, Serves, no_strays, serves_none, serves_then}
 
 -- ---- one more of a list
 

@@ -1,7 +1,7 @@
 -- What one circuit's server does, in two parts.
-use Rattle.std.proofs.Common.{◌≡◌, ◌∙◌, ◌+◌, ℕ, suc, Bool, true, false, cond, List, [], ◌∷◌, ◌++◌, length, map, refl, sym, ap, ap₂, arith}
+use Rattle.std.proofs.Common.{◌≡◌, ◌∙◌, ℕ, suc, Bool, true, false, cond, List, [], ◌∷◌, ◌++◌, length, map, refl, sym, ap, ap₂, arith}
 use Rattle.std.specs.Prelude.{Option, option_map, Result}
-use Rattle.std.specs.List.{filter, filter_map}
+use Rattle.std.specs.List.{filter_map}
 use Rattle.std.proofs.lemmas.List.{map-append}
 use Rattle.std.proofs.lemmas.List.Elements.{filter-append, filter_map-append}
 use Rattle.types.specs.Delivery.{DeliveryValue}
@@ -11,7 +11,7 @@ use Rattle.config.specs.Topology.{Topology}
 use Rattle.circuit_server.specs.Answered.{answered}
 use Rattle.circuit_server.specs.Server.{Book, book_at}
 use Rattle.access_promises.specs.Alone.{answers_alone, book_alone}
-use Rattle.access_promises.specs.Exchanges.{AreAlone, Exchange, answers_in, failed_saves, own_exchanges, received_by}
+use Rattle.access_promises.specs.Exchanges.{AreAlone, Exchange, failed_saves, own_exchanges, received_by}
 use Rattle.access_promises.specs.Own.{Step, Receive, Tick, is_own}
 
 pub length_map : {A B : Type 0} (f : A → B) (xs : List A) → length (map f xs) ≡ length xs

@@ -1,6 +1,6 @@
 -- The entries of a run, turn by turn.
-use Rattle.std.proofs.Common.{inl, inr, ◌≡◌, ◌∙◌, ◌+◌, ℕ, zero, suc, ◌==◌, false, List, [], ◌∷◌, ◌++◌, length, drop, refl, sym, ap, subst, append_assoc, append-nil, arith}
-use Rattle.std.specs.Prelude.{⊤, ◌⊎◌, Bool, Option, Some, None, Result, Ok, Err}
+use Rattle.std.proofs.Common.{inl, inr, ◌≡◌, ◌∙◌, ℕ, zero, suc, ◌==◌, false, List, [], ◌∷◌, ◌++◌, length, refl, sym, ap, subst, append_assoc, append-nil}
+use Rattle.std.specs.Prelude.{⊤, ◌⊎◌, Bool, Option, Some, Result, Ok, Err}
 use Rattle.types.specs.declared.addr.Source.{Source}
 use Rattle.types.specs.declared.dest.Proto.{Proto}
 use Rattle.types.specs.declared.dest.Proto.TheVariants.{V4, V6}
@@ -8,16 +8,15 @@ use Rattle.types.specs.declared.discard.Discard.{Discard}
 use Rattle.config.specs.Topology.{Topology, listen}
 use Rattle.relay.specs.Relays.{CircuitFrame, relayed_down_in, relayed_up}
 use Rattle.sockets.specs.Sockets.{client_port, framed, proto_of}
-use Rattle.udp.specs.History.{Entry, Took, Failed, Empty, Sent, Ticked, Refused, Read, with_entry}
+use Rattle.udp.specs.History.{Entry, Took, Failed, Empty, Sent, Ticked, Refused, Read}
 use Rattle.udp.specs.declared.history.Role.{Role}
 use Rattle.udp.specs.declared.history.Role.TheVariants.{Circuit, Server, Relay}
 use Rattle.counts.specs.declared.counts.Outcome.{Outcome}
 use Rattle.counts.specs.declared.counts.Outcome.TheVariants as outcome
-use Rattle.access.specs.Access.{AccessValue, HasServed, HasServedTurns, HasTurned, HasTurnedOnce}
 use Rattle.access.specs.Polling.{AreTries, after_try, server_socket}
-use Rattle.access.specs.Turn.{Both, CircuitSocket, CircuitsSockets, GoesOn, InOrder, IsSentDown, IsSentUp, IsTaken, IsTried, RelaySocket, RelaysSockets, Tries}
+use Rattle.access.specs.Turn.{Both, CircuitSocket, CircuitsSockets, GoesOn, InOrder, IsSentDown, IsSentUp, IsTried, RelaySocket, RelaysSockets, Tries}
 use Rattle.access.specs.declared.polling.Polling.{Polling}
-use Rattle.access_promises.specs.Turns.{Turn, turns_after, turns_in}
+use Rattle.access_promises.specs.Turns.{turns_after, turns_in}
 use Rattle.access_promises.proofs.EntryKinds.{AreOf, goes_on, kind, kinds_more}
 
 -- ---- which part of a turn they are of

@@ -1,5 +1,5 @@
 -- What the server answered in a run.
-use Rattle.std.specs.Prelude.{◌≡◌, ℕ, Bool, List, map, Option, Some, None, option_map, slice_get, Result, Ok, Err, All}
+use Rattle.std.specs.Prelude.{◌≡◌, ℕ, Bool, List, map, Option, Some, None, option_map, slice_get, Result, Err, All}
 use Rattle.std.specs.List.{filter, filter_map}
 use Rattle.std.specs.Option.{option_flatten}
 use Rattle.std.specs.Result.{result_ok}
@@ -10,7 +10,6 @@ use Rattle.config.specs.Topology.{Topology}
 use Rattle.requests.specs.Addressee.{addressee}
 use Rattle.circuit_server.specs.Server.{Book}
 use Rattle.dispatch.specs.ServerValue.{ServerValue, books_in}
-use Rattle.udp.specs.History.{Entry}
 use Rattle.access.specs.Access.{AccessValue}
 use Rattle.access_promises.specs.Turns.{added}
 use Rattle.access_promises.specs.Own.{Reply, Step, Receive, Tick, is_own, replies_in, steps_in}
