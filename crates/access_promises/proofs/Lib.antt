@@ -1,4 +1,5 @@
 mod BatchOrder
+mod DownLemmas
 mod EntryKinds
 mod ExchangeLemmas
 mod NeverTwice
@@ -8,3 +9,4 @@ mod Serves
 mod ServingLemmas
 mod StepLemmas
 mod TurnEntries
+mod UpLemmas

@@ -3,5 +3,7 @@
 #![tactic(auto)]
 
 mod answers;
+mod relaying;
 
 pub use answers::serves_each_circuit_alone;
+pub use relaying::{relays_each_circuit_down_alone, relays_each_circuit_up_alone};
