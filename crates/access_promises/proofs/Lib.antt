@@ -9,4 +9,5 @@ mod Serves
 mod ServingLemmas
 mod StepLemmas
 mod TurnEntries
+mod TwoRuns
 mod UpLemmas
