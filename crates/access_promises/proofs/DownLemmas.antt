@@ -1,9 +1,9 @@
 -- What comes down from the relays' sockets in a run.
 use Rattle.std.proofs.Common.{inl, inr, ◌≡◌, ◌∙◌, ℕ, zero, suc, ◌==◌, Bool, true, false, List, [], ◌∷◌, ◌++◌, length, refl, sym, ap, ap₂, subst, eqb-true, arith}
-use Rattle.std.specs.Prelude.{⊤, ◌⊎◌, All, Option, Some, None, option_map, slice_get, Result, Ok, Err, if◌then◌else◌}
+use Rattle.std.specs.Prelude.{◌⊎◌, All, Option, Some, None, option_map, slice_get, Result, Ok, Err, if◌then◌else◌}
 use Rattle.std.specs.List.{cons_option, filter_map}
 use Rattle.std.specs.Result.{result_ok}
-use Rattle.std.proofs.lemmas.List.Elements.{All-append, All-cons, All-nil, filter_map-append}
+use Rattle.std.proofs.lemmas.List.Elements.{All-append, All-cons, filter_map-append}
 use Rattle.types.specs.declared.addr.Source.{Source}
 use Rattle.types.specs.declared.dest.Proto.{Proto}
 use Rattle.types.specs.declared.discard.Discard.{Discard}
@@ -16,7 +16,7 @@ use Rattle.sockets.specs.Sockets as sockets
 use Rattle.udp.specs.History.{Entry, Took, Failed, Empty, Sent, Ticked, Refused, Read}
 use Rattle.udp.specs.declared.history.Role.TheVariants.{Circuit, Server, Relay}
 use Rattle.counts.specs.declared.counts.Outcome.{Outcome}
-use Rattle.access.specs.Turn.{InOrder, IsSentDown, IsTaken, RelaySocket, RelaysSockets, Tries}
+use Rattle.access.specs.Turn.{InOrder, IsSentDown, RelaySocket}
 use Rattle.access_promises.specs.Alone.{GoesToItsClients, frame_alone, packet_of}
 use Rattle.access_promises.specs.Own.{Packet, datagrams_in, is_for, own_datagram, packet, sent_down, sent_in}
 use Rattle.access_promises.proofs.EntryKinds.{AreOf, datagram_only, down_only, kind}

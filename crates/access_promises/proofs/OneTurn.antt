@@ -2,6 +2,7 @@
 use Rattle.std.proofs.Common.{◌≡◌, ◌∙◌, ℕ, zero, suc, List, [], ◌∷◌, ◌++◌, map, refl, ap, subst, append_assoc}
 use Rattle.std.specs.Prelude.{Option, Some, None, All, slice_get}
 use Rattle.std.specs.List.{filter_map}
+use Rattle.std.specs.List.Sorted.{IsPermutation}
 use Rattle.config.specs.CircuitPart.{CircuitPart}
 use Rattle.config.specs.Topology.{Topology}
 use Rattle.circuit_server.specs.CircuitServerValue.{OpenCircuitValue, book_of}
@@ -14,7 +15,7 @@ use Rattle.access.specs.Polling.{begun, deliveries_in}
 use Rattle.access.specs.Turn.{CircuitsSockets, RelaysSockets}
 use Rattle.access_promises.specs.Exchanges.{Exchange, IsStray, reply_of}
 use Rattle.access_promises.specs.Own.{replies_in}
-use Rattle.access_promises.proofs.Serves.{Serves, ServesEachOwn}
+use Rattle.access_promises.proofs.Serves.{Serves, datagrams, ServesEachOwn}
 use Rattle.access_promises.proofs.ServingLemmas.{serves_by}
 use Rattle.access_promises.proofs.TurnEntries.{IsTurn, polls_of}
 
@@ -44,6 +45,7 @@ pub record IsOneTurn (topology : Topology) (port : ℕ) (old new : AccessValue) 
   pub its : new.server.topology ≡ topology
   pub port_is : new.port ≡ port
   pub exchanges : List Exchange
+  pub once : IsPermutation (datagrams exchanges) (deliveries_in now turn.poll)
   pub replies : replies_in turn.sends ≡ filter_map reply_of exchanges
   pub strays : All (IsStray topology) exchanges
   pub middle : List (Option Book)
@@ -85,6 +87,7 @@ one_turn before now old new known once = record {
   its = t.known ∙ (ap (λ (a : AccessValue). a.server.topology) t.from_relays.after ∙ serves.its);
   port_is = ap (λ (a : AccessValue). a.port) t.rest ∙ (ap (λ (a : AccessValue). a.port) t.from_relays.after ∙ (t.at_server.kept.port ∙ (ap (λ (a : AccessValue). a.port) t.from_circuits.after ∙ ap (λ (a : AccessValue). a.port) once.rest)));
   exchanges = serves.exchanges;
+  once = serves.once;
   replies = serves.replies;
   strays = serves.strays;
   middle = books_in t.served.server;

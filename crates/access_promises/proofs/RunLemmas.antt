@@ -4,6 +4,9 @@ use Rattle.std.specs.Prelude.{⊤, Option, Some, None, All, option_map, slice_ge
 use Rattle.std.specs.List.{cons_option, filter, filter_map, flat_map}
 use Rattle.std.specs.Option.{option_flatten}
 use Rattle.std.proofs.lemmas.List.Concat.{flat_map-append}
+use Rattle.std.specs.List.Sorted.{IsPermutation}
+use Rattle.std.proofs.lemmas.List.{map-append}
+use Rattle.std.proofs.lemmas.List.Sorted.{IsPermutation-append, IsPermutation-refl}
 use Rattle.std.proofs.lemmas.List.Elements.{All-append, filter_map-append}
 use Rattle.std.proofs.lemmas.Option.{slice_get-map}
 use Rattle.types.specs.Delivery.{DeliveryValue}
@@ -14,11 +17,11 @@ use Rattle.udp.specs.History.{Entry, Read, Ticked}
 use Rattle.access.specs.Access.{AccessValue, HasServedTurns}
 use Rattle.access.specs.Polling.{deliveries_in, delivery_in}
 use Rattle.access_promises.specs.Exchanges.{AreAlone, AreExchanges, Exchange, IsStray, book_in, reply_of}
-use Rattle.access_promises.specs.Own.{Receive, Tick, is_own, replies_in, sent_reply, steps_in, steps_of}
+use Rattle.access_promises.specs.Own.{Receive, Tick, is_own, replies_in, sent_reply, steps_in, steps_of, taken_at_server}
 use Rattle.access_promises.specs.Turns.{IsRun, Turn, added, turns_in}
 use Rattle.access_promises.proofs.EntryKinds.{delivery_only, reply_only, skipped}
 use Rattle.access_promises.proofs.OneTurn.{IsOneTurn, has_book, one_turn}
-use Rattle.access_promises.proofs.Serves.{no_strays, receives}
+use Rattle.access_promises.proofs.Serves.{datagrams, no_strays, receives}
 use Rattle.access_promises.proofs.StepLemmas.{alone_more, alone_none, alone_ticked}
 use Rattle.access_promises.proofs.TurnEntries.{IsTurn, body_goes_on, downs_of, turn_ends, ups_of}
 
@@ -75,6 +78,11 @@ module _ (topology : Topology) (port now : ℕ) (entries : List Entry) (turn : I
       ap (flat_map (steps_of topology c)) its_turns
       ∙ (append-nil (steps_of topology c its_turn) ∙ ap (λ (ds : List DeliveryValue). map Receive (filter (is_own topology c) ds) ++ Tick now ∷ []) taken_in_turn)
 
+  pub taken_at_turn : taken_at_server entries ≡ deliveries_in now turn.poll
+  taken_at_turn =
+      ap (flat_map (λ (t : Turn). deliveries_in t.now t.entries)) its_turns
+      ∙ (append-nil (deliveries_in now (Read turn.time ∷ (turn.up ++ (turn.poll ++ (turn.sends ++ turn.down))))) ∙ taken_in_turn)
+
   pub replies_in_turn : replies_in entries ≡ replies_in turn.sends
   replies_in_turn =
       turn_made sent_reply topology port now entries turn refl refl
@@ -106,6 +114,7 @@ pub record Ran (topology : Topology) (port : ℕ) (old new : AccessValue) : Type
   pub port_is : new.port ≡ port
   pub whole : (more : List Entry) → turns_in (all_of turns ++ more) ≡ turns_in (all_of turns) ++ turns_in more
   pub exchanges : List Exchange
+  pub once : IsPermutation (datagrams exchanges) (taken_at_server (all_of turns))
   pub replies : replies_in (all_of turns) ≡ filter_map reply_of exchanges
   pub strays : All (IsStray topology) exchanges
   pub each : (c : ℕ) (part : CircuitPart) → slice_get topology.circuits c ≡ Some part → AreAlone topology c part (steps_in topology c (all_of turns)) exchanges (book_in old.server c) (book_in new.server c)
@@ -120,6 +129,7 @@ ran_none old new known is = subst (λ (a : AccessValue). Ran old.topology old.po
   port_is = refl;
   whole = λ more. refl;
   exchanges = [];
+  once = IsPermutation-refl [];
   replies = refl;
   strays = no_strays old.topology;
   each = λ c part there. alone_none old.topology c part (book_in old.server c);
@@ -135,6 +145,7 @@ ran_once topology port old new known one = record {
   port_is = one.port_is;
   whole = λ more. subst (λ es. turns_in (es ++ more) ≡ turns_in es ++ turns_in more) (sym (append-nil one.entries)) (whole_turn topology port one.now one.entries one.turn more);
   exchanges = one.exchanges;
+  once = subst (IsPermutation (datagrams one.exchanges)) (sym (ap taken_at_server (append-nil one.entries) ∙ taken_at_turn topology port one.now one.entries one.turn)) one.once;
   replies = ap replies_in (append-nil one.entries) ∙ (replies_in_turn topology port one.now one.entries one.turn ∙ one.replies);
   strays = one.strays;
   each = each;
@@ -170,6 +181,12 @@ ran_then topology port old middle new one two = record {
       ∙ (sym (append_assoc (turns_in (all_of one.turns)) (turns_in (all_of two.turns)) (turns_in more))
       ∙ ap (λ ts. ts ++ turns_in more) (sym (one.whole (all_of two.turns)) ∙ ap turns_in (sym together))))));
   exchanges = one.exchanges ++ two.exchanges;
+  once = subst (λ l. IsPermutation l (taken_at_server (all_of (one.turns ++ two.turns)))) (sym (map-append (λ (x : Exchange). x.datagram) one.exchanges two.exchanges))
+      (subst (IsPermutation (datagrams one.exchanges ++ datagrams two.exchanges))
+      (sym (ap taken_at_server together
+      ∙ (ap (flat_map (λ (t : Turn). deliveries_in t.now t.entries)) (one.whole (all_of two.turns))
+      ∙ flat_map-append (λ (t : Turn). deliveries_in t.now t.entries) (turns_in (all_of one.turns)) (turns_in (all_of two.turns)))))
+      (IsPermutation-append (datagrams one.exchanges) (taken_at_server (all_of one.turns)) (datagrams two.exchanges) (taken_at_server (all_of two.turns)) one.once two.once));
   replies = ap replies_in together ∙ (filter_map-append sent_reply (all_of one.turns) (all_of two.turns) ∙ (ap₂ (λ a b. a ++ b) one.replies two.replies ∙ sym (filter_map-append reply_of one.exchanges two.exchanges)));
   strays = All-append (IsStray topology) one.exchanges two.exchanges one.strays two.strays;
   each = λ c part there.
@@ -201,6 +218,7 @@ run_exchanges old new run =
     let is = sym (added_is old.topology old.port old new ran) in (
       ran.exchanges,
       record {
+        once = subst (λ es. IsPermutation (datagrams ran.exchanges) (taken_at_server es)) is ran.once;
         sent = subst (λ es. replies_in es ≡ filter_map reply_of ran.exchanges) is ran.replies;
         strays = ran.strays;
         each = λ c part there. subst (λ es. AreAlone old.topology c part (steps_in old.topology c es) ran.exchanges (book_in old.server c) (book_in new.server c)) is (ran.each c part there);

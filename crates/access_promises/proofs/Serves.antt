@@ -3,6 +3,8 @@ use Rattle.std.proofs.Common.{◌≡◌, ◌∙◌, ℕ, List, [], ◌++◌, map
 use Rattle.std.specs.Prelude.{Option, Some, slice_get, All}
 use Rattle.std.specs.List.{filter, filter_map}
 use Rattle.std.proofs.lemmas.List.{map-append}
+use Rattle.std.specs.List.Sorted.{IsPermutation}
+use Rattle.std.proofs.lemmas.List.Sorted.{IsPermutation-append, IsPermutation-refl}
 use Rattle.std.proofs.lemmas.List.Elements.{All-append, filter-append, filter_map-append}
 use Rattle.types.specs.Delivery.{DeliveryValue}
 use Rattle.config.specs.CircuitPart.{CircuitPart}
@@ -33,12 +35,16 @@ abbrev pub ServesEachOwn : Topology → List DeliveryValue → List Exchange →
 ServesEachOwn topology ds xs old new =
     (c : ℕ) (part : CircuitPart) (before : Option Book) → slice_get topology.circuits c ≡ Some part → slice_get old c ≡ Some before → HasServedOwn topology c part (receives topology c ds) xs old new before
 
+abbrev pub datagrams : List Exchange → List DeliveryValue
+datagrams = map (λ (x : Exchange). x.datagram)
+
 pub record Serves (topology : Topology) (ds : List DeliveryValue) (old new : Serving) : Type 0 where
   pub its : new.server.topology ≡ topology
   pub entries : List Entry
   pub history : new.history ≡ old.history ++ entries
   pub kinds : AreOf 3 entries
   pub exchanges : List Exchange
+  pub once : IsPermutation (datagrams exchanges) ds
   pub replies : replies_in entries ≡ filter_map reply_of exchanges
   pub strays : All (IsStray topology) exchanges
   pub each : ServesEachOwn topology ds exchanges (books_in old.server) (books_in new.server)
@@ -53,6 +59,7 @@ serves_none topology s t its same = subst (λ u. Serves topology [] s u) (sym sa
   history = sym (append-nil s.history);
   kinds = tt;
   exchanges = [];
+  once = IsPermutation-refl [];
   replies = refl;
   strays = no_strays topology;
   each = λ c part before there at. record { after = before; alone = alone_none topology c part before; at = at };
@@ -70,6 +77,8 @@ serves_then topology ds es s t u one two = record {
   history = two.history ∙ (ap (λ h. h ++ two.entries) one.history ∙ append_assoc s.history one.entries two.entries);
   kinds = kinds_more 3 one.entries two.entries one.kinds two.kinds;
   exchanges = one.exchanges ++ two.exchanges;
+  once = subst (λ l. IsPermutation l (ds ++ es)) (sym (map-append (λ (x : Exchange). x.datagram) one.exchanges two.exchanges))
+      (IsPermutation-append (datagrams one.exchanges) ds (datagrams two.exchanges) es one.once two.once);
   replies = filter_map-append sent_reply one.entries two.entries ∙ (ap₂ (λ a b. a ++ b) one.replies two.replies ∙ sym (filter_map-append reply_of one.exchanges two.exchanges));
   strays = All-append (IsStray topology) one.exchanges two.exchanges one.strays two.strays;
   each = λ c part before there at.

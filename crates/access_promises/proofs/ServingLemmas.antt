@@ -1,8 +1,10 @@
 -- What the server makes of the datagrams of a turn.
-use Rattle.std.proofs.Common.{◌≡◌, ◌∙◌, ℕ, zero, suc, Bool, true, false, cond, List, [], ◌∷◌, ◌++◌, length, map, take, refl, sym, ap, ap₂, subst, append-nil}
+use Rattle.std.proofs.Common.{◌≡◌, ◌∙◌, ℕ, zero, suc, Bool, true, false, cond, List, [], ◌∷◌, ◌++◌, length, map, take, refl, sym, ap, ap₂, subst, append-nil, arith}
 use Rattle.std.specs.Prelude.{Option, Some, slice_get, Ok, Err, All}
 use Rattle.std.specs.List.{filter, filter_map}
 use Rattle.std.proofs.lemmas.List.{map-append}
+use Rattle.std.specs.List.Sorted.{IsPermutation}
+use Rattle.std.proofs.lemmas.List.Sorted.{IsPermutation-cons, IsPermutation-middle, IsPermutation-refl, IsPermutation-trans}
 use Rattle.std.proofs.lemmas.List.Elements.{All-cons, filter-append, filter_map-append}
 use Rattle.std.proofs.lemmas.Option.{same_Some}
 use Rattle.types.specs.Delivery.{DeliveryValue}
@@ -24,7 +26,7 @@ use Rattle.access_promises.specs.Own.{Receive, is_own, replies_in, sent_reply}
 use Rattle.access_promises.proofs.BatchOrder.{Answer, Pair, answers_after, answers_are, batch_firsts, chosen, datagrams_of, firsts, made, repeats}
 use Rattle.access_promises.proofs.EntryKinds.{AreOf, kinds_more}
 use Rattle.access_promises.proofs.ExchangeLemmas.{exchange, one_exchange, stray_one}
-use Rattle.access_promises.proofs.Serves.{HasServedOwn, Serves, no_strays, serves_none, serves_then}
+use Rattle.access_promises.proofs.Serves.{HasServedOwn, Serves, datagrams, no_strays, serves_none, serves_then}
 
 -- ---- one more of a list
 
@@ -115,6 +117,7 @@ received_again d s t answered = record {
   history = answered.history;
   kinds = sent.kinds;
   exchanges = exchange s.server.topology (failed_in s t) d (made_of d s t).answer ∷ [];
+  once = IsPermutation-refl (d ∷ []);
   replies = sent.replies;
   strays = All-cons (IsStray s.server.topology) (exchange s.server.topology (failed_in s t) d (made_of d s t).answer) [] (stray_one s.server.topology d (failed_in s t) (books_in s.server)) (no_strays s.server.topology);
   each = λ c part before there at.
@@ -155,6 +158,10 @@ module _ (topology : Topology) (fails : ℕ → Bool) (old : List (Option Book))
         All-cons (IsStray topology) (exchange topology fails d (part_received topology earlier d fails old).answer) (made topology fails old (firsts ds (answers_after topology fails old (earlier ++ d ∷ []) ds)))
         (stray_after earlier d) strays
 
+made_datagrams : (topology : Topology) (fails : ℕ → Bool) (old : List (Option Book)) (ps : List Pair) → datagrams (made topology fails old ps) ≡ datagrams_of ps
+made_datagrams topology fails old [] = refl
+made_datagrams topology fails old (p ∷ ps) = ap (λ ds. p.0 ∷ ds) (made_datagrams topology fails old ps)
+
 -- the first datagrams of the circuits, and the replies to them
 together : (taken : List DeliveryValue) (answers : List Answer) (s saved : Serving) (counts : Counts) (history : List Entry) → IsReceived taken answers s saved
     → HasTried (AreReplied taken answers (length taken)) saved.counts counts saved.history history
@@ -165,6 +172,7 @@ together taken answers s saved counts history received replied = record {
   history = replied.history ∙ ap (λ (u : Serving). u.history ++ replied.entries) received.rest;
   kinds = sent.kinds;
   exchanges = made s.server.topology (failed_in s saved) (books_in s.server) (firsts taken answers);
+  once = subst (λ l. IsPermutation l (datagrams_of (firsts taken answers))) (sym (made_datagrams s.server.topology (failed_in s saved) (books_in s.server) (firsts taken answers))) (IsPermutation-refl (datagrams_of (firsts taken answers)));
   replies = sent.replies;
   strays = subst (λ given. All (IsStray s.server.topology) (made s.server.topology (failed_in s saved) (books_in s.server) (firsts taken given)))
       (sym (answers_are s.server.topology (failed_in s saved) (books_in s.server) taken (books_in saved.server) answers received.batch))
@@ -182,15 +190,27 @@ together taken answers s saved counts history received replied = record {
 
 -- ---- all of a turn
 
-reordered : (topology : Topology) (ds es : List DeliveryValue) (s t : Serving) → Serves topology ds s t
+split_once : (r : Bool) (d : DeliveryValue) (a : Answer) (fs : List Pair) (rs ds : List DeliveryValue) → IsPermutation (datagrams_of fs ++ rs) ds → IsPermutation (datagrams_of (cond r fs ((d, a) ∷ fs)) ++ cond r (d ∷ rs) rs) (d ∷ ds)
+split_once true d a fs rs ds once =
+    IsPermutation-trans (datagrams_of fs ++ d ∷ rs) (d ∷ (datagrams_of fs ++ rs)) (d ∷ ds) (IsPermutation-middle (datagrams_of fs) d rs) (IsPermutation-cons d (datagrams_of fs ++ rs) ds once)
+split_once false d a fs rs ds once = IsPermutation-cons d (datagrams_of fs ++ rs) ds once
+
+-- each is among the first ones, or repeated
+split : (ds : List DeliveryValue) (answers : List Answer) → length answers ≡ length ds → IsPermutation (datagrams_of (firsts ds answers) ++ repeats ds answers) ds
+split [] answers size = IsPermutation-refl []
+split (d ∷ ds) [] size = absurd (omega (arith, size))
+split (d ∷ ds) (a ∷ answers) size = split_once (is_repeated a) d a (firsts ds answers) (repeats ds answers) ds (split ds answers (omega (arith, size)))
+
+reordered : (topology : Topology) (ds es : List DeliveryValue) (s t : Serving) → Serves topology ds s t → IsPermutation ds es
     → ((c : ℕ) (part : CircuitPart) (before : Option Book) → slice_get topology.circuits c ≡ Some part → slice_get (books_in s.server) c ≡ Some before → filter (is_own topology c) ds ≡ filter (is_own topology c) es)
     → Serves topology es s t
-reordered topology ds es s t serves same = record {
+reordered topology ds es s t serves moved same = record {
   its = serves.its;
   entries = serves.entries;
   history = serves.history;
   kinds = serves.kinds;
   exchanges = serves.exchanges;
+  once = IsPermutation-trans (datagrams serves.exchanges) ds es serves.once moved;
   replies = serves.replies;
   strays = serves.strays;
   each = λ c part before there at.
@@ -208,6 +228,7 @@ in_order taken answers s saved t counts history received replied again =
     (subst (λ ds. Serves s.server.topology ds (serving saved.server saved.disk counts history) t)
     (ap₂ repeats (take_whole taken) (ap (λ n. take n answers) (sym received.batch.count) ∙ take_whole answers))
     (again_all s.server.topology taken answers (length taken) (serving saved.server saved.disk counts history) t received.stays.topology again)))
+    (split taken answers received.batch.count)
     (λ c part before there at.
     let first = batch_firsts s.server.topology (failed_in s saved) (books_in s.server) c part there taken (books_in saved.server) answers received.batch before at in
     filter-append (is_own s.server.topology c) (datagrams_of (firsts taken answers)) (repeats taken answers) ∙ first.order)

@@ -10,14 +10,14 @@ use Rattle.types.specs.declared.addr.Source.{Source}
 use Rattle.types.specs.declared.dest.Proto.{Proto}
 use Rattle.types.specs.declared.dest.Proto.TheVariants.{V4, V6}
 use Rattle.types.specs.declared.discard.Discard.{Discard}
-use Rattle.config.specs.CircuitPart.{CircuitPart, listen_of}
+use Rattle.config.specs.CircuitPart.{CircuitPart}
 use Rattle.config.specs.Topology.{IsTopology, Topology, listen}
 use Rattle.relay.specs.Relays.{relayed_up}
 use Rattle.udp.specs.History.{Entry, Took, Failed, Empty, Sent, Ticked, Refused, Read}
 use Rattle.udp.specs.declared.history.Role.TheVariants.{Circuit, Server, Relay}
 use Rattle.counts.specs.declared.counts.Outcome.{Outcome}
 use Rattle.counts.specs.declared.counts.Outcome.TheVariants as outcome
-use Rattle.access.specs.Turn.{Both, CircuitSocket, CircuitsSockets, GoesOn, InOrder, IsSentUp, IsTaken, Tries}
+use Rattle.access.specs.Turn.{Both, CircuitSocket, CircuitsSockets, GoesOn, InOrder, Tries}
 use Rattle.access_promises.specs.Alone.{goes_up, relayed_alone}
 use Rattle.access_promises.specs.Own.{Packet, Relayed, Upward, first_sent_up, frames_in, own_frame, packet, relayed_in, sent_up}
 use Rattle.access_promises.proofs.EntryKinds.{AreOf, frame_only, kind, up_only}
@@ -44,6 +44,9 @@ goes_only topology (Read time) apart = refl
 cons_more : {X : Type 0} (o : Option X) (xs ys : List X) → cons_option o (xs ++ ys) ≡ cons_option o xs ++ ys
 cons_more None xs ys = refl
 cons_more (Some x) xs ys = refl
+
+same_part : (one other : CircuitPart) → Some one ≡ Some other → one ≡ other
+same_part one other same = cc
 
 module _ (topology : Topology) where
   first_same : (xs ys : List Entry) → first_sent_up topology ys ≡ None → first_sent_up topology (xs ++ ys) ≡ first_sent_up topology xs
@@ -108,14 +111,15 @@ module _ (topology : Topology) where
     so (Err why) rest became goes = subst (AreSo (Err why)) (sym goes.0) (record { own = λ c. refl; frames = λ c. refl; sent = refl; goes = refl })
     so (Ok bytes) rest became goes = subst (AreSo (Ok bytes)) (sym goes.1) (record { own = λ c. refl; frames = λ c. refl; sent = refl; goes = refl })
 
+    own_same : (part : CircuitPart) → its ≡ part → record { frame = packet proto frame; sent = sent_so (relayed_up its proto frame) } ∷ [] ≡ relayed_alone part (packet proto frame) ∷ []
+    own_same part same = ap (λ (sent : Option Upward). record { frame = packet proto frame; sent = sent } ∷ []) (sym alone_so) ∙ ap (λ (p : CircuitPart). relayed_alone p (packet proto frame) ∷ []) same
+
     own_so : (c : ℕ) (part : CircuitPart) → slice_get topology.circuits c ≡ Some part → (same : Bool) → (k == c) ≡ same
         → cons_option (option_map (λ (p : Packet). record { frame = p; sent = sent_so (relayed_up its proto frame) }) (if same then Some (packet proto frame) else None)) []
         ≡ map (relayed_alone part) (cons_option (if same then Some (packet proto frame) else None) [])
     own_so c part here false apart = refl
     own_so c part here true is =
-        let one : Some its ≡ Some part = sym there ∙ (ap (slice_get topology.circuits) (eqb-true k c is) ∙ here) in
-        let same : its ≡ part = cc in
-        ap (λ (sent : Option Upward). record { frame = packet proto frame; sent = sent } ∷ []) (sym alone_so) ∙ ap (λ (p : CircuitPart). relayed_alone p (packet proto frame) ∷ []) same
+        own_same part (same_part its part (sym there ∙ (ap (slice_get topology.circuits) (eqb-true k c is) ∙ here)))
 
     up_frame : (rest : List Entry) (became : Outcome) → GoesOn (Relay r) (listen topology proto) outcome.Relayed (relayed_up its proto frame) rest became → AreUp (Took (Circuit k proto) from frame ∷ rest)
     up_frame rest became goes =

@@ -1,6 +1,7 @@
 -- What the server answered in a run.
 use Rattle.std.specs.Prelude.{◌≡◌, ℕ, Bool, List, map, Option, Some, None, option_map, slice_get, Result, Err, All}
 use Rattle.std.specs.List.{filter, filter_map}
+use Rattle.std.specs.List.Sorted.{IsPermutation}
 use Rattle.std.specs.Option.{option_flatten}
 use Rattle.std.specs.Result.{result_ok}
 use Rattle.types.specs.Delivery.{DeliveryValue}
@@ -12,7 +13,7 @@ use Rattle.circuit_server.specs.Server.{Book}
 use Rattle.dispatch.specs.ServerValue.{ServerValue, books_in}
 use Rattle.access.specs.Access.{AccessValue}
 use Rattle.access_promises.specs.Turns.{added}
-use Rattle.access_promises.specs.Own.{Reply, Step, Receive, Tick, is_own, replies_in, steps_in}
+use Rattle.access_promises.specs.Own.{Reply, Step, Receive, Tick, is_own, replies_in, steps_in, taken_at_server}
 use Rattle.access_promises.specs.Alone.{answers_alone, book_alone}
 
 -- a datagram that the server took, whether its save failed, and the answer to it
@@ -57,8 +58,10 @@ pub record AreAlone (topology : Topology) (c : ℕ) (part : CircuitPart) (steps 
 abbrev pub IsStray : Topology → Exchange → Type 0
 IsStray topology x = (why : Discard) → addressee topology x.datagram ≡ Err why → x.answer ≡ Err why
 
--- What the server sends in a run are the answers of these exchanges, in order, and each circuit's are those of its server alone.
+-- Each datagram that the server takes in a run is answered once, what it sends are these answers, in order, and each circuit's are
+-- those of its server alone.
 pub record AreExchanges (old new : AccessValue) (exchanges : List Exchange) : Type 0 where
+  pub once : IsPermutation (map (λ x. x.datagram) exchanges) (taken_at_server (added old new))
   pub sent : replies_in (added old new) ≡ filter_map reply_of exchanges
   pub strays : All (IsStray old.topology) exchanges
   pub each : (c : ℕ) (part : CircuitPart) → slice_get old.topology.circuits c ≡ Some part

@@ -74,6 +74,10 @@ steps_of topology c turn = map Receive (filter (is_own topology c) (deliveries_i
 abbrev pub steps_in : Topology → ℕ → List Entry → List Step
 steps_in topology c entries = flat_map (steps_of topology c) (turns_in entries)
 
+-- all datagrams that were taken at the server, each at the moment of its turn
+abbrev pub taken_at_server : List Entry → List DeliveryValue
+taken_at_server entries = flat_map (λ (turn : Turn). deliveries_in turn.now turn.entries) (turns_in entries)
+
 -- a datagram that the server sends, from its socket of this protocol
 pub record Reply : Type 0 where
   pub proto : Proto

@@ -1,8 +1,7 @@
 use Rattle.std.proofs.Common.{◌≡◌, ◌∙◌, ℕ, Bool, List, map, sym, ap, ap₂}
-use Rattle.std.specs.Prelude.{Option, Some, slice_get}
+use Rattle.std.specs.Prelude.{Some, slice_get}
 use Rattle.std.specs.List.{filter_map}
 use Rattle.config.specs.CircuitPart.{CircuitPart}
-use Rattle.circuit_server.specs.Server.{Book}
 use Rattle.access.specs.Access.{AccessValue}
 use Rattle.access_promises.specs.Alone.{answers_alone, book_alone, frame_alone, relayed_alone}
 use Rattle.access_promises.specs.Exchanges.{AreExchanges, Exchange, book_in, failed_saves, own_exchanges, received_by, reply_of}
