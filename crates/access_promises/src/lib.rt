@@ -6,6 +6,6 @@ mod answers;
 mod histories;
 mod relaying;
 
-pub use answers::serves_each_circuit_alone;
+pub use answers::{adds_to_the_history, serves_each_circuit_alone};
 pub use histories::isolation_of_histories;
 pub use relaying::{relays_each_circuit_down_alone, relays_each_circuit_up_alone};
