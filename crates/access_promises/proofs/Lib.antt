@@ -4,6 +4,7 @@ mod EntryKinds
 mod ExchangeLemmas
 mod NeverTwice
 mod OneTurn
+mod OpenLemmas
 mod RunLemmas
 mod Serves
 mod ServingLemmas
