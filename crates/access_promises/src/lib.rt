@@ -3,6 +3,7 @@
 #![tactic(auto)]
 
 mod answers;
+pub mod examples;
 mod histories;
 mod relaying;
 
