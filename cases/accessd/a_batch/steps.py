@@ -1,6 +1,7 @@
 """Requests of four circuits, two of each protocol, that wait when a turn begins, are one batch at the server: all are saved by
-three syncs, and acknowledged after the last of them. Without `--batch` each is saved alone, by three syncs of its own. The
-first save of a slot after the formatting has no gate to close, and no first write (docs/FORMATS.md, The disk)."""
+three syncs, and acknowledged after the last of them. Without `--batch` a turn takes one of them, saves it by three syncs of its
+own and acknowledges it. The first save of a slot after the formatting has no gate to close, and no first write
+(docs/FORMATS.md, The disk)."""
 import signal
 import time
 

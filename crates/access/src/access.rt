@@ -90,8 +90,8 @@ impl Access {
     /// Opens relay and server of a configuration over a device, whatever that holds. A region of format 1 is
     /// moved to format 2; a circuit whose region can't be read, is damaged or can't be moved is closed, alone.
     /// The first circuit listens on 127.0.0.1 at `port` for DHCPv4 frames and at the port after it for DHCPv6 frames, and frames
-    /// towards it go to the two ports after these; the ports of each other circuit come 4 later. The server takes at most `batch`
-    /// datagrams in a turn, and saves what they change together.
+    /// towards it go to the two ports after these; the ports of each other circuit come 4 later. The server takes at most
+    /// `batch` datagrams in a turn, and saves what they change together.
     ///
     /// More than 16 circuits are refused first, then a device without the region of a circuit, then
     /// an address that the system refuses to bind a socket to, which `opening` then has. What was opened goes on with that
@@ -189,8 +189,8 @@ impl Access {
         }
     }
 
-    /// Tries sockets without waiting: those of the circuits once each, in order; the server's two by turns, until enough
-    /// datagrams were taken for a batch or none waits; those of the relays once each. What comes in is carried on at once; a datagram that can't be
+    /// Tries sockets without waiting: those of the circuits once each, in order; the server's two by turns, until a batch
+    /// is full or none waits; those of the relays once each. What comes in is carried on at once; a datagram that can't be
     /// received or sent is lost. Then moves all clocks to this moment. Returns how many datagrams were taken.
     pub fn turn(&mut self, now: Moment) -> u32
         ensures most { result ≤ 40 + self.old.batch }

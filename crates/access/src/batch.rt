@@ -148,7 +148,8 @@ impl Batch {
         server.receive_batch(&parts[..count], now, disk, &mut self.answers);
     }
 
-    /// Sends the replies, each from the server's socket to where its datagram came from. What is repeated is left for `receive_again`.
+    /// Sends the replies, each from the server's socket to where its datagram came from. What is repeated is left for
+    /// `receive_again`.
     pub(crate) fn reply(&self, sockets: &Sockets, counts: &mut Counts, history: &mut History)
         requires count { length self.now.answers ≡ length self.now.taken.items }
         requires listen4 { IsBound sockets.now.listen4 (role.Server Proto.V4) sockets.now.listen4.at history.old.id }
