@@ -71,8 +71,8 @@ fn part(index: usize) -> BatchPart
 
 /// Whether the requests of both circuits at once, in this order, are answered after three syncs.
 fn shares_syncs(alloc: Global, first: usize, second: usize) -> bool
-    requires { first ≤ 1023 }
-    requires { second ≤ 1023 }
+    requires first { first ≤ 1023 }
+    requires second { second ≤ 1023 }
 {
     let Some(mut world) = opened(alloc) else {
         return false;
