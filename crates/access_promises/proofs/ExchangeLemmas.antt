@@ -13,7 +13,7 @@ use Rattle.dispatch.specs.Batch.{is_circuit}
 use Rattle.dispatch.specs.Received.{Received, addressee_answered, circuit_answered, received, with_answered}
 use Rattle.dispatch.proofs.BatchLemmas.{circuit_is, get_set}
 use Rattle.dispatch.proofs.PartLemmas.{not_both, same_number}
-use Rattle.access_promises.specs.Exchanges.{AreAlone, Exchange, IsStray}
+use Rattle.access_promises.specs.Exchanges.{AreAlone, Exchange, DropsStray}
 use Rattle.access_promises.specs.Own.{Receive, is_own}
 use Rattle.access_promises.proofs.StepLemmas.{alone_one, alone_other}
 
@@ -37,7 +37,7 @@ fails_of topology fails (Ok c) = fails_in fails (slice_get topology.circuits c)
 abbrev pub exchange : Topology → (ℕ → Bool) → DeliveryValue → Result (List ℕ) Discard → Exchange
 exchange topology fails d answer = record { datagram = d; failed = fails_of topology fails (addressee topology d); answer = answer }
 
-pub stray_one : (topology : Topology) (d : DeliveryValue) (fails : ℕ → Bool) (books : List (Option Book)) → IsStray topology (exchange topology fails d (received topology d fails books).answer)
+pub stray_one : (topology : Topology) (d : DeliveryValue) (fails : ℕ → Bool) (books : List (Option Book)) → DropsStray topology (exchange topology fails d (received topology d fails books).answer)
 stray_one topology d fails books why found = ap (λ r. (addressee_answered topology d fails books r).answer) found
 
 module _ (topology : Topology) (c : ℕ) (part : CircuitPart) (there : slice_get topology.circuits c ≡ Some part) (d : DeliveryValue) (fails : ℕ → Bool) (books : List (Option Book)) where

@@ -13,7 +13,7 @@ use Rattle.access.specs.Access.{AccessValue, HasServed, HasTurned, HasTurnedOnce
 use Rattle.access.specs.Batch.{AreReceivedAgain, AreReplied, HasTried, serving}
 use Rattle.access.specs.Polling.{begun, deliveries_in}
 use Rattle.access.specs.Turn.{CircuitsSockets, RelaysSockets}
-use Rattle.access_promises.specs.Exchanges.{Exchange, IsStray, reply_of}
+use Rattle.access_promises.specs.Exchanges.{Exchange, DropsStray, reply_of}
 use Rattle.access_promises.specs.Own.{replies_in}
 use Rattle.access_promises.proofs.Serves.{Serves, datagrams, ServesEachOwn}
 use Rattle.access_promises.proofs.ServingLemmas.{serves_by}
@@ -47,7 +47,7 @@ pub record IsOneTurn (topology : Topology) (port : ℕ) (old new : AccessValue) 
   pub exchanges : List Exchange
   pub once : IsPermutation (datagrams exchanges) (deliveries_in now turn.poll)
   pub replies : replies_in turn.sends ≡ filter_map reply_of exchanges
-  pub strays : All (IsStray topology) exchanges
+  pub strays : All (DropsStray topology) exchanges
   pub middle : List (Option Book)
   pub each : ServesEachOwn topology (deliveries_in now turn.poll) exchanges (books_in old.server) middle
   pub books : books_in new.server ≡ books_at now middle

@@ -16,7 +16,7 @@ use Rattle.circuit_server.specs.Server.{book_at}
 use Rattle.udp.specs.History.{Entry, Read, Ticked}
 use Rattle.access.specs.Access.{AccessValue, HasServedTurns}
 use Rattle.access.specs.Polling.{deliveries_in, delivery_in}
-use Rattle.access_promises.specs.Exchanges.{AreAlone, AreExchanges, Exchange, IsStray, book_in, reply_of}
+use Rattle.access_promises.specs.Exchanges.{AreAlone, AreExchanges, Exchange, DropsStray, book_in, reply_of}
 use Rattle.access_promises.specs.Own.{Receive, Tick, is_own, replies_in, sent_reply, steps_in, steps_of, taken_at_server}
 use Rattle.access_promises.specs.Turns.{IsRun, Turn, added, turns_in}
 use Rattle.access_promises.proofs.EntryKinds.{delivery_only, reply_only, skipped}
@@ -116,7 +116,7 @@ pub record Ran (topology : Topology) (port : ℕ) (old new : AccessValue) : Type
   pub exchanges : List Exchange
   pub once : IsPermutation (datagrams exchanges) (taken_at_server (all_of turns))
   pub replies : replies_in (all_of turns) ≡ filter_map reply_of exchanges
-  pub strays : All (IsStray topology) exchanges
+  pub strays : All (DropsStray topology) exchanges
   pub each : (c : ℕ) (part : CircuitPart) → slice_get topology.circuits c ≡ Some part → AreAlone topology c part (steps_in topology c (all_of turns)) exchanges (book_in old.server c) (book_in new.server c)
 
 ran_none : (old new : AccessValue) → old.server.topology ≡ old.topology → new ≡ old → Ran old.topology old.port old new
@@ -188,7 +188,7 @@ ran_then topology port old middle new one two = record {
       ∙ flat_map-append (λ (t : Turn). deliveries_in t.now t.entries) (turns_in (all_of one.turns)) (turns_in (all_of two.turns)))))
       (IsPermutation-append (datagrams one.exchanges) (taken_at_server (all_of one.turns)) (datagrams two.exchanges) (taken_at_server (all_of two.turns)) one.once two.once));
   replies = ap replies_in together ∙ (filter_map-append sent_reply (all_of one.turns) (all_of two.turns) ∙ (ap₂ (λ a b. a ++ b) one.replies two.replies ∙ sym (filter_map-append reply_of one.exchanges two.exchanges)));
-  strays = All-append (IsStray topology) one.exchanges two.exchanges one.strays two.strays;
+  strays = All-append (DropsStray topology) one.exchanges two.exchanges one.strays two.strays;
   each = λ c part there.
       subst (λ steps. AreAlone topology c part steps (one.exchanges ++ two.exchanges) (book_in old.server c) (book_in new.server c))
       (sym (ap (steps_in topology c) together ∙ (ap (flat_map (steps_of topology c)) (one.whole (all_of two.turns)) ∙ flat_map-append (steps_of topology c) (turns_in (all_of one.turns)) (turns_in (all_of two.turns)))))

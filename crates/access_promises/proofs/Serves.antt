@@ -13,7 +13,7 @@ use Rattle.circuit_server.specs.Server.{Book}
 use Rattle.dispatch.specs.ServerValue.{books_in}
 use Rattle.udp.specs.History.{Entry}
 use Rattle.access.specs.Batch.{Serving}
-use Rattle.access_promises.specs.Exchanges.{AreAlone, Exchange, IsStray, reply_of}
+use Rattle.access_promises.specs.Exchanges.{AreAlone, Exchange, DropsStray, reply_of}
 use Rattle.access_promises.specs.Own.{Receive, Step, is_own, replies_in, sent_reply}
 use Rattle.access_promises.proofs.EntryKinds.{AreOf, kinds_more}
 use Rattle.access_promises.proofs.StepLemmas.{alone_more, alone_none}
@@ -46,10 +46,10 @@ pub record Serves (topology : Topology) (ds : List DeliveryValue) (old new : Ser
   pub exchanges : List Exchange
   pub once : IsPermutation (datagrams exchanges) ds
   pub replies : replies_in entries ≡ filter_map reply_of exchanges
-  pub strays : All (IsStray topology) exchanges
+  pub strays : All (DropsStray topology) exchanges
   pub each : ServesEachOwn topology ds exchanges (books_in old.server) (books_in new.server)
 
-pub no_strays : (topology : Topology) → All (IsStray topology) []
+pub no_strays : (topology : Topology) → All (DropsStray topology) []
 no_strays topology k d below = absurd (omega (arith, below))
 
 pub serves_none : (topology : Topology) (s t : Serving) → s.server.topology ≡ topology → t ≡ s → Serves topology [] s t
@@ -80,7 +80,7 @@ serves_then topology ds es s t u one two = record {
   once = subst (λ l. IsPermutation l (ds ++ es)) (sym (map-append (λ (x : Exchange). x.datagram) one.exchanges two.exchanges))
       (IsPermutation-append (datagrams one.exchanges) ds (datagrams two.exchanges) es one.once two.once);
   replies = filter_map-append sent_reply one.entries two.entries ∙ (ap₂ (λ a b. a ++ b) one.replies two.replies ∙ sym (filter_map-append reply_of one.exchanges two.exchanges));
-  strays = All-append (IsStray topology) one.exchanges two.exchanges one.strays two.strays;
+  strays = All-append (DropsStray topology) one.exchanges two.exchanges one.strays two.strays;
   each = λ c part before there at.
       let first = one.each c part before there at in
       subst (λ steps. HasServedOwn topology c part steps (one.exchanges ++ two.exchanges) (books_in s.server) (books_in u.server) before) (sym (receives_more topology c ds es))

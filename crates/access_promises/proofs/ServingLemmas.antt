@@ -21,7 +21,7 @@ use Rattle.counts.specs.declared.counts.Outcome.{Outcome}
 use Rattle.counts.specs.declared.counts.Outcome.TheVariants as outcome
 use Rattle.access.specs.Batch.{AreReceived, AreReceivedAgain, AreReplied, HasTried, IsAnswered, IsReceived, IsReceivedAgain, IsReplied, Serving, failed_in, is_repeated, made_of, serving}
 use Rattle.access.specs.Turn.{GoesOn}
-use Rattle.access_promises.specs.Exchanges.{Exchange, IsStray, reply_of}
+use Rattle.access_promises.specs.Exchanges.{Exchange, DropsStray, reply_of}
 use Rattle.access_promises.specs.Own.{Receive, is_own, replies_in, sent_reply}
 use Rattle.access_promises.proofs.BatchOrder.{Answer, Pair, answers_after, answers_are, batch_firsts, chosen, datagrams_of, firsts, made, repeats}
 use Rattle.access_promises.proofs.EntryKinds.{AreOf, kinds_more}
@@ -119,7 +119,7 @@ received_again d s t answered = record {
   exchanges = exchange s.server.topology (failed_in s t) d (made_of d s t).answer ∷ [];
   once = IsPermutation-refl (d ∷ []);
   replies = sent.replies;
-  strays = All-cons (IsStray s.server.topology) (exchange s.server.topology (failed_in s t) d (made_of d s t).answer) [] (stray_one s.server.topology d (failed_in s t) (books_in s.server)) (no_strays s.server.topology);
+  strays = All-cons (DropsStray s.server.topology) (exchange s.server.topology (failed_in s t) d (made_of d s t).answer) [] (stray_one s.server.topology d (failed_in s t) (books_in s.server)) (no_strays s.server.topology);
   each = λ c part before there at.
       let one = one_exchange s.server.topology c part there d (failed_in s t) (books_in s.server) before at in
       record { after = one.after; alone = one.alone; at = ap (λ books. slice_get books c) answered.books ∙ one.at };
@@ -144,18 +144,18 @@ again_all topology taken answers (suc n) s t its again =
 -- ---- those that are received together
 
 module _ (topology : Topology) (fails : ℕ → Bool) (old : List (Option Book)) where
-  stray_after : (earlier : List DeliveryValue) (d : DeliveryValue) → IsStray topology (exchange topology fails d (part_received topology earlier d fails old).answer)
+  stray_after : (earlier : List DeliveryValue) (d : DeliveryValue) → DropsStray topology (exchange topology fails d (part_received topology earlier d fails old).answer)
   stray_after earlier d why found =
       ap (λ r. (chosen topology fails old d (comes_again topology earlier r)).answer) found ∙ stray_one topology d fails old why found
 
-  strays_after : (earlier ds : List DeliveryValue) → All (IsStray topology) (made topology fails old (firsts ds (answers_after topology fails old earlier ds)))
+  strays_after : (earlier ds : List DeliveryValue) → All (DropsStray topology) (made topology fails old (firsts ds (answers_after topology fails old earlier ds)))
   strays_after earlier [] = no_strays topology
   strays_after earlier (d ∷ ds) = by (is_repeated (part_received topology earlier d fails old).answer) (strays_after (earlier ++ d ∷ []) ds) where
-    by : (repeated : Bool) → All (IsStray topology) (made topology fails old (firsts ds (answers_after topology fails old (earlier ++ d ∷ []) ds)))
-        → All (IsStray topology) (made topology fails old (cond repeated (firsts ds (answers_after topology fails old (earlier ++ d ∷ []) ds)) ((d, (part_received topology earlier d fails old).answer) ∷ firsts ds (answers_after topology fails old (earlier ++ d ∷ []) ds))))
+    by : (repeated : Bool) → All (DropsStray topology) (made topology fails old (firsts ds (answers_after topology fails old (earlier ++ d ∷ []) ds)))
+        → All (DropsStray topology) (made topology fails old (cond repeated (firsts ds (answers_after topology fails old (earlier ++ d ∷ []) ds)) ((d, (part_received topology earlier d fails old).answer) ∷ firsts ds (answers_after topology fails old (earlier ++ d ∷ []) ds))))
     by true strays = strays
     by false strays =
-        All-cons (IsStray topology) (exchange topology fails d (part_received topology earlier d fails old).answer) (made topology fails old (firsts ds (answers_after topology fails old (earlier ++ d ∷ []) ds)))
+        All-cons (DropsStray topology) (exchange topology fails d (part_received topology earlier d fails old).answer) (made topology fails old (firsts ds (answers_after topology fails old (earlier ++ d ∷ []) ds)))
         (stray_after earlier d) strays
 
 made_datagrams : (topology : Topology) (fails : ℕ → Bool) (old : List (Option Book)) (ps : List Pair) → datagrams (made topology fails old ps) ≡ datagrams_of ps
@@ -174,7 +174,7 @@ together taken answers s saved counts history received replied = record {
   exchanges = made s.server.topology (failed_in s saved) (books_in s.server) (firsts taken answers);
   once = subst (λ l. IsPermutation l (datagrams_of (firsts taken answers))) (sym (made_datagrams s.server.topology (failed_in s saved) (books_in s.server) (firsts taken answers))) (IsPermutation-refl (datagrams_of (firsts taken answers)));
   replies = sent.replies;
-  strays = subst (λ given. All (IsStray s.server.topology) (made s.server.topology (failed_in s saved) (books_in s.server) (firsts taken given)))
+  strays = subst (λ given. All (DropsStray s.server.topology) (made s.server.topology (failed_in s saved) (books_in s.server) (firsts taken given)))
       (sym (answers_are s.server.topology (failed_in s saved) (books_in s.server) taken (books_in saved.server) answers received.batch))
       (strays_after s.server.topology (failed_in s saved) (books_in s.server) [] taken);
   each = λ c part before there at.

@@ -54,15 +54,15 @@ pub record AreAlone (topology : Topology) (c : ℕ) (part : CircuitPart) (steps 
 
 -- ---- all of them
 
--- A datagram of no circuit is not answered.
-abbrev pub IsStray : Topology → Exchange → Type 0
-IsStray topology x = (why : Discard) → addressee topology x.datagram ≡ Err why → x.answer ≡ Err why
+-- A datagram of no circuit is dropped, for that reason.
+abbrev pub DropsStray : Topology → Exchange → Type 0
+DropsStray topology x = (why : Discard) → addressee topology x.datagram ≡ Err why → x.answer ≡ Err why
 
 -- Each datagram that the server takes in a run is answered once, what it sends are these answers, in order, and each circuit's are
 -- those of its server alone.
 pub record AreExchanges (old new : AccessValue) (exchanges : List Exchange) : Type 0 where
   pub once : IsPermutation (map (λ x. x.datagram) exchanges) (taken_at_server (added old new))
   pub sent : replies_in (added old new) ≡ filter_map reply_of exchanges
-  pub strays : All (IsStray old.topology) exchanges
+  pub strays : All (DropsStray old.topology) exchanges
   pub each : (c : ℕ) (part : CircuitPart) → slice_get old.topology.circuits c ≡ Some part
       → AreAlone old.topology c part (steps_in old.topology c (added old new)) exchanges (book_in old.server c) (book_in new.server c)
