@@ -115,6 +115,8 @@ pub record HasTurned (now count : ℕ) (old new : AccessValue) : Type 0 where
   pub at_server : HasServed now datagrams relayed served
   pub from_relays : HasCarried (RelaysSockets old.topology old.port) answers served delivered
   pub ticked : books_in new.server ≡ books_at now (books_in delivered.server)
+  pub known : new.server.topology ≡ delivered.server.topology
+  pub rest : new ≡ record delivered { server = new.server; history = new.history; turns = new.turns }
   pub history : new.history ≡ with_entry (Ticked now) delivered.history
   pub counts : new.counts ≡ delivered.counts
   pub many : count ≡ frames + datagrams + answers

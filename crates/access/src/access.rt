@@ -9,7 +9,7 @@ ghost use Rattle.access.specs.declared.access.AccessFault.TheVariants as fault;
 ghost use Rattle.config.specs.CircuitPart.{parts_of};
 ghost use Rattle.dispatch.specs.Regions.{HasRegions};
 ghost use Rattle.dispatch.specs.ServerValue.{books_in};
-ghost use Rattle.config.specs.Topology.{listen, topology_of};
+ghost use Rattle.config.specs.Topology.{IsTopology, listen, topology_of};
 
 use crate::batch::Batch;
 use crate::clock::moment;
@@ -109,6 +109,7 @@ impl Access {
         requires some { 1 ≤ batch }
         requires few { batch ≤ 16 }
         ensures topology { IfOk result (λ access. access.topology ≡ topology_of config.now) }
+        ensures sound { IfOk result (λ access. IsTopology access.topology) }
         ensures served { IfOk result (λ access. access.server.topology ≡ topology_of config.now) }
         ensures large { IfOk result (λ access. HasRegions (parts_of config.now) access.disk.regions) }
         ensures formats { IfOk result (λ access. length access.formats ≡ length config.now.circuits) }

@@ -30,6 +30,8 @@ returns-clause-turned c =
           c.take_from_relays-answers.ensures.carried);
       ticked = ticked (λ region. untold) c.args.now (circuits_in c.tick.new.self) (circuits_in c.self.inside.server) (c.tick.ensures.leases (λ region. untold))
           ∙ ap (λ (s : AccessValue). books_at c.args.now (books_in s.server)) c.self.view_is;
+      known = c.tick.ensures.topology ∙ ap (λ (s : AccessValue). s.server.topology) c.self.view_is;
+      rest = ap (λ (s : AccessValue). record s { server = c.tick.new.self; history = c.tick-2.new.self.entries; turns = c.tick-3.new.self.count }) c.self.view_is;
       counts = ap (λ (s : AccessValue). s.counts) c.self.view_is;
       history = c.tick-2.ensures.entries ∙ ap (λ (s : AccessValue). with_entry (Ticked c.args.now) s.history) c.self.view_is;
       many = refl;

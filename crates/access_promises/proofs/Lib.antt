@@ -1,0 +1,14 @@
+mod BatchOrder
+mod DownLemmas
+mod EntryKinds
+mod ExchangeLemmas
+mod NeverTwice
+mod OneTurn
+mod OpenLemmas
+mod RunLemmas
+mod Serves
+mod ServingLemmas
+mod StepLemmas
+mod TurnEntries
+mod TwoRuns
+mod UpLemmas

@@ -1,0 +1,5 @@
+pub mod Alone
+pub mod Exchanges
+pub mod Histories
+pub mod Own
+pub mod Turns
