@@ -8,7 +8,6 @@
    byte that opens it (docs/FORMATS.md, "The disk"). After each of these three writes there is a sync of the file's data. A
    batch makes the first write of all its saves, then one sync, and so on: 51 calls, where saves one by one make 96. */
 #define _GNU_SOURCE
-#include <errno.h>
 #include <fcntl.h>
 #include <stdio.h>
 #include <stdlib.h>

@@ -41,7 +41,6 @@ enum {
     GIADDR = 24,
     CIRCUIT = GIADDR + 2,
     CLIENT = 33,
-    COOKIE = 236,
     KIND = 242,
     SERVER_ID = 245,
     SHORTEST = 244,
