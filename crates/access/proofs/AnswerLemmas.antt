@@ -10,7 +10,7 @@ use Rattle.access.specs.Turn.{HasSentOn, with_bytes}
 use Rattle.counts.specs.declared.counts.Outcome.{Outcome}
 
 -- what a call made is its answer
-made_is : (made : Result (List ℕ) Discard) (result : Result (Unit {0}) Discard) (out : List ℕ) → IsAnswer made result out → with_bytes result out ≡ made
+pub made_is : (made : Result (List ℕ) Discard) (result : Result (Unit {0}) Discard) (out : List ℕ) → IsAnswer made result out → with_bytes result out ≡ made
 made_is (Ok bytes) (Ok unit) out is = ap Ok is.1
 made_is (Ok bytes) (Err why) out is = let never : Err why ≡ Ok tt = is.0 in absurd cc
 made_is (Err why) (Ok unit) out is = let never : Ok unit ≡ Err why = is.0 in absurd cc

@@ -1,6 +1,6 @@
 //! The datagrams that the server takes in a turn: received together, and answered one after the other.
-ghost use Rattle.std.specs.Prelude.{◌≡◌, ◌≤◌, ◌+◌, ℕ, List, length, map, take, Some};
-ghost use Rattle.access.specs.Batch.{AreReceived, AreReceivedAgain, AreReplied, HasTaken, HasTried, HasTriedNext, IsAnswered, IsReplied, all_delivered, delivered, is_repeated, serving};
+ghost use Rattle.std.specs.Prelude.{◌≡◌, ◌≤◌, ◌+◌, ◌∷◌, ℕ, List, [], length, map, take, Some};
+ghost use Rattle.access.specs.Batch.{AreReceived, AreReceivedAgain, AreReplied, HasTaken, HasTried, HasTriedNext, IsAnswered, IsReceived, IsReplied, all_delivered, delivered, is_repeated, serving};
 ghost use Rattle.access.specs.Polling.{next_of};
 ghost use Rattle.access.specs.Turn.{HasSentOn};
 ghost use Rattle.counts.specs.declared.counts.Counts as total;
@@ -143,6 +143,10 @@ impl Batch {
         if self.taken.is_empty() {
             return;
         }
+        if self.taken.len() == 1 {
+            receive_single(&self.taken[0], now, server, disk, &mut self.answers);
+            return;
+        }
         let parts = parts_of(&self.taken);
         let count = self.taken.len();
         server.receive_batch(&parts[..count], now, disk, &mut self.answers);
@@ -221,6 +225,27 @@ fn try_next(
         }
         Attempt::Empty => polling.passed(proto, Waiting::No),
         Attempt::Failed => polling.passed(proto, Waiting::Lost),
+    }
+}
+
+/// The server receives the only datagram of a turn, which needs nothing of what a batch keeps between its steps.
+fn receive_single(
+    datagram: &Datagram,
+    now: Moment,
+    server: &mut Server,
+    disk: &mut FileDisk,
+    answers: &mut BatchAnswers,
+)
+    requires none { answers.old ≡ [] }
+    requires regions { HasRegions server.old.topology.circuits disk.old.regions }
+    ensures count { length answers.new ≡ 1 }
+    ensures received { (counts : total.Counts) (history : List entry.Entry) → IsReceived (delivered now datagram.now ∷ []) answers.new (serving server.old disk.old counts history) (serving server.new disk.new counts history) }
+{
+    let mut out = PacketBuf::new();
+    let (proto, from, bytes) = (datagram.proto, datagram.source, datagram.bytes.as_slice());
+    match server.receive(proto, from, bytes, now, disk, &mut out) {
+        Ok(()) => answers.reply(out.as_slice()),
+        Err(why) => answers.discard(why),
     }
 }
 

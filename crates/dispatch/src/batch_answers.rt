@@ -62,7 +62,7 @@ impl BatchAnswers {
     }
 
     /// Adds the datagram that is the reply to the next part.
-    pub(crate) fn reply(&mut self, datagram: &[u8])
+    pub fn reply(&mut self, datagram: &[u8])
         requires room { length self.old < 16 }
         requires fits { length datagram.now ≤ 1280 }
         ensures { self.new ≡ self.old ++ Ok datagram.now ∷ [] }
@@ -73,7 +73,7 @@ impl BatchAnswers {
     }
 
     /// Adds the reason for which the next part is dropped.
-    pub(crate) fn discard(&mut self, why: Discard)
+    pub fn discard(&mut self, why: Discard)
         requires room { length self.old < 16 }
         ensures { self.new ≡ self.old ++ Err why ∷ [] }
     {
