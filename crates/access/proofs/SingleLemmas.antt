@@ -60,6 +60,7 @@ module _ (topology : Topology) (d : DeliveryValue) (fails : ℕ → Bool) (books
     each : (j : ℕ) (e : DeliveryValue) → slice_get (d ∷ []) j ≡ Some e → slice_get (answer ∷ []) j ≡ Some (part_received topology (take j (d ∷ [])) e fails books).answer
     each zero e there = ap Some (given ∙ sym (ap (λ r. r.answer) alone)) ∙ ap (λ x. Some (part_received topology [] x fails books).answer) (same_Some d e there)
     each (suc j) e there = absurd cc
+
     those : (j c : ℕ) (e : DeliveryValue) → slice_get (d ∷ []) j ≡ Some e → addressee topology e ≡ Ok c → is_named topology (take j (d ∷ [])) c ≡ false → slice_get new c ≡ slice_get (received topology e fails books).books c
     those zero c e there found first = ap (λ (all : List (Option Book)). slice_get all c) after ∙ ap (λ x. slice_get (received topology x fails books).books c) (same_Some d e there)
     those (suc j) c e there found first = absurd cc
