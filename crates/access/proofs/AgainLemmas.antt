@@ -4,8 +4,9 @@ use Rattle.std.specs.Prelude.{Some, Result, slice_get}
 use Rattle.std.proofs.lemmas.List.{length-map}
 use Rattle.types.specs.Delivery.{DeliveryValue}
 use Rattle.types.specs.declared.discard.Discard.{Discard}
-use Rattle.access.specs.Batch.{AreReceived, AreReceivedAgain, IsAnswered, IsReceived, IsReceivedAgain, IsReceivedAgainAt, Serving, all_delivered, delivered, is_repeated}
-use Rattle.access.specs.declared.batch.Datagram.{Datagram}
+use Rattle.access.specs.Batch.{AreReceived, AreReceivedAgain, IsAnswered, IsReceived, IsReceivedAgain, IsReceivedAgainAt, Serving, is_repeated}
+use Rattle.access.specs.Taken.{all_delivered, delivered}
+use Rattle.access.specs.declared.datagrams.Datagram.{Datagram}
 use Rattle.access.proofs.UpLemmas.{is_there}
 
 -- ---- all at once

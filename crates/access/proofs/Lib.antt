@@ -5,7 +5,6 @@ pub mod ClockLemmas
 pub mod PollingLemmas
 pub mod ReplyLemmas
 pub mod ServedLemmas
-pub mod SingleLemmas
 pub mod TopologyLemmas
 pub mod TurnLemmas
 pub mod UpLemmas

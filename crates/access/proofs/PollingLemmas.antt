@@ -7,12 +7,20 @@ use Rattle.types.specs.declared.dest.Proto.{Proto}
 use Rattle.types.specs.declared.dest.Proto.TheVariants.{V4, V6}
 use Rattle.udp.specs.History.{Entry, Took, Empty, Failed, Sent, Ticked, Refused, Read}
 use Rattle.udp.specs.declared.history.Role.TheVariants.{Circuit, Server, Relay}
-use Rattle.access.specs.Batch.{HasPolled, HasTaken, HasTriedNext}
+use Rattle.access.specs.Taken.{HasTaken, HasTriedNext, all_delivered}
 use Rattle.access.specs.Polling.{AreTries, IsNext, after_tries, after_try, again, begun, deliveries_in, delivery_in, may_wait, next_of, other, server_socket, waiting_at}
-use Rattle.access.specs.declared.batch.Datagram.{Datagram}
+use Rattle.access.specs.declared.datagrams.Datagram.{Datagram}
 use Rattle.access.specs.declared.polling.Polling.{Polling}
 use Rattle.access.specs.declared.polling.Waiting.{Waiting}
 use Rattle.access.specs.declared.polling.Waiting.TheVariants as waiting
+
+-- Sockets were tried from the beginning of a turn on.
+pub record HasPolled (most : ℕ) (first : Proto) (state : Polling) (taken : List Datagram) (old new : List Entry) : Type 0 where
+  pub entries : List Entry
+  pub tries : AreTries (begun most first) entries
+  pub state_is : state ≡ after_tries entries (begun most first)
+  pub history : new ≡ old ++ entries
+  pub datagrams : (now : ℕ) → all_delivered now taken ≡ deliveries_in now entries
 
 -- ---- one try more
 

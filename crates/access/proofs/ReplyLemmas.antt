@@ -1,7 +1,7 @@
 -- The answers to the datagrams of a turn, one after the other.
-use Rattle.std.proofs.Common.{◌≡◌, ◌∙◌, ◌+◌, ◌<◌, ℕ, zero, suc, Bool, true, false, Bor, List, [], ◌∷◌, ◌++◌, length, map, refl, sym, ap, subst, arith, append_assoc, append-nil}
-use Rattle.std.specs.Prelude.{Option, Some, option_map, Result, slice_get, slice_index_or}
-use Rattle.std.proofs.lemmas.Option.{slice_get-get_or}
+use Rattle.std.proofs.Common.{inl, inr, ◌≡◌, ◌∙◌, ◌+◌, ◌<◌, ◌≤◌, ℕ, zero, suc, Bool, true, false, Bor, List, [], ◌∷◌, ◌++◌, length, get_or, map, refl, sym, ap, subst, arith, append_assoc, append-nil}
+use Rattle.std.specs.Prelude.{◌⊎◌, Option, Some, None, option_map, Result, slice_get, slice_index_or}
+use Rattle.std.proofs.lemmas.Option.{slice_get_cases, slice_get-get_or}
 use Rattle.types.specs.Delivery.{DeliveryValue}
 use Rattle.types.specs.declared.dest.Proto.{Proto}
 use Rattle.types.specs.declared.dest.Proto.TheVariants.{V4, V6}
@@ -16,9 +16,10 @@ use Rattle.counts.specs.Counts.{counted, counted_all}
 use Rattle.counts.specs.declared.counts.Counts.{Counts}
 use Rattle.counts.specs.declared.counts.Outcome.{Outcome}
 use Rattle.counts.specs.declared.counts.Outcome.TheVariants as outcome
-use Rattle.access.specs.Batch.{HasTried, IsReplied, IsRepliedAt, all_delivered, delivered, is_repeated}
+use Rattle.access.specs.Batch.{HasTried, IsReplied, IsRepliedAt, is_repeated}
+use Rattle.access.specs.Taken.{all_delivered, delivered}
 use Rattle.access.specs.Turn.{GoesOn, HasSentOn, InOrder, Tries}
-use Rattle.access.specs.declared.batch.Datagram.{Datagram}
+use Rattle.access.specs.declared.datagrams.Datagram.{Datagram}
 use Rattle.access.proofs.CarryLemmas.{counted_append}
 
 -- ---- one
@@ -32,9 +33,26 @@ get_map f (y ∷ xs) (suc j) x there = get_map f xs j x there
 pub delivered_at : (now : ℕ) (taken : List Datagram) (j : ℕ) (d : Datagram) → j < length taken → d ≡ slice_index_or taken j d → slice_get (all_delivered now taken) j ≡ Some (delivered now d)
 delivered_at now taken j d within is = get_map (delivered now) taken j d (slice_get-get_or taken j d within ∙ ap Some (sym is))
 
+-- what a slice without that index gives
+abbrev pub no_datagram : Datagram
+no_datagram = record { proto = V4; source = record { addr = record { 0 = [] }; port = 0 }; len = 0; buffer = [] }
+
+-- the same by the list that a slice has
+pub delivered_in : (now : ℕ) (taken slice : List Datagram) (j : ℕ) → slice ≡ taken → j < length slice → slice_get (all_delivered now taken) j ≡ Some (delivered now (slice_index_or slice j no_datagram))
+delivered_in now taken slice j same within =
+    subst (λ ds. slice_get (all_delivered now ds) j ≡ Some (delivered now (slice_index_or slice j no_datagram))) same
+    (get_map (delivered now) slice j (slice_index_or slice j no_datagram) (slice_get-get_or slice j no_datagram within))
+
 -- the answer of an index
 pub answer_at : (answers : List (Result (List ℕ) Discard)) (j : ℕ) (found : Option (Bor Answer)) (answer : Bor Answer) → option_map (λ (a : Bor Answer). answer_of a.now) found ≡ slice_get answers j → found ≡ Some answer → slice_get answers j ≡ Some (answer_of answer.now)
 answer_at answers j found answer is some = sym is ∙ ap (option_map (λ (a : Bor Answer). answer_of a.now)) some
+
+-- past the last answer
+pub none_left : (answers : List (Result (List ℕ) Discard)) (j : ℕ) (found : Option (Bor Answer)) → option_map (λ (a : Bor Answer). answer_of a.now) found ≡ slice_get answers j → found ≡ None → length answers ≤ j
+none_left answers j found is none = by (slice_get_cases answers j).1 where
+  by : ((x : Result (List ℕ) Discard) × (j < length answers) × (slice_get answers j ≡ Some x) × (get_or answers j x ≡ x)) ⊎ ((length answers ≤ j) × (slice_get answers j ≡ None)) → length answers ≤ j
+  by (inl one) = let never : None ≡ Some one.0 = ap (option_map (λ (a : Bor Answer). answer_of a.now)) (sym none) ∙ (is ∙ one.2) in absurd cc
+  by (inr past) = past.0
 
 -- the server's socket of a protocol
 pub servers_role : (proto : Proto) (socket listen4 listen6 : SocketValue) → listen4.role ≡ role.Server V4 → listen6.role ≡ role.Server V6 → (proto ≡ V4 → socket ≡ listen4) → (proto ≡ V6 → socket ≡ listen6)

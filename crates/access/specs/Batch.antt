@@ -1,7 +1,6 @@
 -- What the server makes of the datagrams that a turn takes from its sockets.
-use Rattle.std.specs.Prelude.{◌≡◌, ℕ, zero, suc, Bool, true, false, List, [], ◌∷◌, ◌++◌, map, Some, slice_get, Result, Err}
-use Rattle.types.specs.Delivery.{DeliveryValue, delivery}
-use Rattle.types.specs.declared.dest.Proto.{Proto}
+use Rattle.std.specs.Prelude.{◌≡◌, ℕ, zero, suc, Bool, true, false, List, [], ◌∷◌, ◌++◌, Some, slice_get, Result, Err}
+use Rattle.types.specs.Delivery.{DeliveryValue}
 use Rattle.types.specs.declared.discard.Discard.{Discard}
 use Rattle.types.specs.declared.discard.Discard.TheVariants.{BatchTwice}
 use Rattle.lease_disk.specs.FileDisk.{FileDiskValue, device_of}
@@ -15,10 +14,7 @@ use Rattle.counts.specs.Counts.{counted, counted_all}
 use Rattle.counts.specs.declared.counts.Counts.{Counts}
 use Rattle.counts.specs.declared.counts.Outcome.{Outcome}
 use Rattle.counts.specs.declared.counts.Outcome.TheVariants as outcome
-use Rattle.access.specs.Polling.{IsPolled, IsNext, AreTries, after_try, after_tries, begun, deliveries_in}
 use Rattle.access.specs.Turn.{GoesOn, InOrder, Tries}
-use Rattle.access.specs.declared.batch.Datagram.{Datagram}
-use Rattle.access.specs.declared.polling.Polling.{Polling}
 
 -- what serving changes: the server, its device, the counts and the history
 pub record Serving : Type 0 where
@@ -117,35 +113,3 @@ pub record IsReceivedAgainAt (taken : List DeliveryValue) (answers : List (Resul
 abbrev pub AreReceivedAgain : List DeliveryValue → List (Result (List ℕ) Discard) → ℕ → Serving → Serving → Type 0
 AreReceivedAgain taken answers zero old new = new ≡ old
 AreReceivedAgain taken answers (suc n) old new = (middle : Serving) × AreReceivedAgain taken answers n old middle × IsReceivedAgainAt taken answers n middle new
-
--- ---- in the code
-
--- a datagram in its buffer, as taken at a moment
-abbrev pub delivered : ℕ → Datagram → DeliveryValue
-delivered now d = delivery d.proto d.source now d.bytes.items
-
-abbrev pub all_delivered : ℕ → List Datagram → List DeliveryValue
-all_delivered now = map (delivered now)
-
--- One of the server's sockets was tried.
-pub record HasTriedNext (proto : Proto) (before after : Polling) (taken more : List Datagram) (old new : List Entry) : Type 0 where
-  pub entry : Entry
-  pub next : IsNext before entry
-  pub state : after ≡ after_try entry before
-  pub history : new ≡ old ++ entry ∷ []
-  pub datagrams : (now : ℕ) → all_delivered now more ≡ all_delivered now taken ++ deliveries_in now (entry ∷ [])
-
--- Sockets were tried from the beginning of a turn on.
-pub record HasPolled (most : ℕ) (first : Proto) (state : Polling) (taken : List Datagram) (old new : List Entry) : Type 0 where
-  pub entries : List Entry
-  pub tries : AreTries (begun most first) entries
-  pub state_is : state ≡ after_tries entries (begun most first)
-  pub history : new ≡ old ++ entries
-  pub datagrams : (now : ℕ) → all_delivered now taken ≡ deliveries_in now entries
-
--- A turn has taken these datagrams.
-pub record HasTaken (most : ℕ) (first next : Proto) (taken : List Datagram) (old new : List Entry) : Type 0 where
-  pub entries : List Entry
-  pub polled : IsPolled most first next entries
-  pub history : new ≡ old ++ entries
-  pub datagrams : (now : ℕ) → all_delivered now taken ≡ deliveries_in now entries

@@ -2,4 +2,5 @@ pub mod Access
 pub mod Batch
 pub mod Moments
 pub mod Polling
+pub mod Taken
 pub mod Turn

@@ -253,6 +253,13 @@ impl Access {
         }
     }
 
+    /// The server that answers over these sockets.
+    pub fn server(&self) -> &Server
+        ensures { result.now ≡ self.now.server }
+    {
+        &self.server
+    }
+
     /// What became of the datagrams that were taken.
     pub fn counts(&self) -> &Counts
         ensures { result.now ≡ self.now.counts }
@@ -313,7 +320,7 @@ impl Access {
     {
         let (sockets, counts, history) = (&self.sockets, &mut self.counts, &mut self.history);
         let (server, disk) = (&mut self.server, &mut self.disk);
-        self.batch.poll(sockets, &mut self.buffer, history);
+        self.batch.poll(sockets, history);
         self.batch.receive(now, server, disk);
         self.batch.reply(sockets, counts, history);
         self.batch

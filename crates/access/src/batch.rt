@@ -1,6 +1,7 @@
 //! The datagrams that the server takes in a turn: received together, and answered one after the other.
-ghost use Rattle.std.specs.Prelude.{◌≡◌, ◌≤◌, ◌+◌, ◌∷◌, ℕ, List, [], length, map, take, Some};
-ghost use Rattle.access.specs.Batch.{AreReceived, AreReceivedAgain, AreReplied, HasTaken, HasTried, HasTriedNext, IsAnswered, IsReceived, IsReplied, all_delivered, delivered, is_repeated, serving};
+ghost use Rattle.std.specs.Prelude.{◌≡◌, ◌≤◌, ◌+◌, ℕ, List, All, length, map, min, take, Some};
+ghost use Rattle.access.specs.Batch.{AreReceived, AreReceivedAgain, AreReplied, HasTried, IsAnswered, IsReplied, is_repeated, serving};
+ghost use Rattle.access.specs.Taken.{HasTaken, HasTriedNext, all_delivered, delivered};
 ghost use Rattle.access.specs.Polling.{next_of};
 ghost use Rattle.access.specs.Turn.{HasSentOn};
 ghost use Rattle.counts.specs.declared.counts.Counts as total;
@@ -12,60 +13,17 @@ ghost use Rattle.types.specs.Delivery.{delivery};
 ghost use Rattle.udp.specs.History as entry;
 ghost use Rattle.udp.specs.declared.history.Role.TheVariants as role;
 
+use crate::datagrams::{Datagram, Datagrams, NOWHERE};
 use crate::polling::{Polling, Waiting};
 use crate::sending::send_on;
-use arrayvec::ArrayVec;
 use batch_saves::MAX_BATCH;
 use counts::{Counts, Outcome};
 use dispatch::{Answer, BatchAnswers, Server};
 use lease_disk::FileDisk;
 use sockets::Sockets;
-use types::{Addr4, Discard, Moment, Proto, Source};
-use udp::{Attempt, BUFFER_LEN, DatagramSocket, History};
+use types::{Discard, Moment, Proto, Source};
+use udp::{Attempt, DatagramSocket, History};
 use wire::PacketBuf;
-
-/// The source of nothing.
-const NOWHERE: Source = Source {
-    addr: Addr4::UNSPECIFIED,
-    port: 0,
-};
-
-/// A datagram that was taken from one of the server's sockets.
-#[derive(Drop)]
-pub(crate) struct Datagram {
-    proto: Proto,
-    source: Source,
-    bytes: ArrayVec<u8, BUFFER_LEN>,
-}
-
-impl Default for Datagram {
-    fn default() -> Datagram {
-        Datagram {
-            proto: Proto::V4,
-            source: NOWHERE,
-            bytes: ArrayVec::new(),
-        }
-    }
-}
-
-impl Datagram {
-    fn new(proto: Proto, source: Source, bytes: &[u8]) -> Datagram
-        requires { length bytes.now ≤ 1281 }
-        ensures proto { result.proto ≡ proto }
-        ensures source { result.source ≡ source }
-        ensures bytes { result.bytes.items ≡ bytes.now }
-    {
-        let mut copy = ArrayVec::new();
-        let Ok(()) = copy.try_extend_from_slice(bytes) else {
-            unreachable!()
-        };
-        Datagram {
-            proto,
-            source,
-            bytes: copy,
-        }
-    }
-}
 
 /// The datagrams of a turn, and the answers to them. The room for sixteen lies in the value.
 #[derive(Drop)]
@@ -74,7 +32,7 @@ pub(crate) struct Batch {
     most: usize,
     /// Which of the server's sockets the next turn tries first.
     first: Proto,
-    taken: ArrayVec<Datagram, MAX_BATCH>,
+    taken: Datagrams,
     answers: BatchAnswers,
 }
 
@@ -86,86 +44,70 @@ impl Batch {
         Batch {
             most,
             first: Proto::V4,
-            taken: ArrayVec::new(),
+            taken: Datagrams::new(),
             answers: BatchAnswers::new(),
         }
     }
 
     /// How many datagrams were taken.
     pub(crate) fn len(&self) -> usize
-        ensures { result ≡ length self.now.taken.items }
+        ensures { result ≡ length self.now.taken }
     {
-        self.taken.len()
+        self.taken.as_slice().len()
     }
 
     /// Takes datagrams from the server's two sockets by turns, until there are as many as a turn takes or none waits.
-    pub(crate) fn poll(
-        &mut self,
-        sockets: &Sockets,
-        buffer: &mut [u8; BUFFER_LEN],
-        history: &mut History,
-    )
+    pub(crate) fn poll(&mut self, sockets: &Sockets, history: &mut History)
         requires most { self.old.most ≤ 16 }
         requires listen4 { IsBound sockets.now.listen4 (role.Server Proto.V4) sockets.now.listen4.at history.old.id }
         requires listen6 { IsBound sockets.now.listen6 (role.Server Proto.V6) sockets.now.listen6.at history.old.id }
         ensures same { history.new.id ≡ history.old.id }
         ensures most { self.new.most ≡ self.old.most }
-        ensures few { length self.new.taken.items ≤ self.old.most }
-        ensures taken { HasTaken self.old.most self.old.first self.new.first self.new.taken.items history.old.entries history.new.entries }
+        ensures few { length self.new.taken ≤ self.old.most }
+        ensures taken { HasTaken self.old.most self.old.first self.new.first self.new.taken history.old.entries history.new.entries }
     {
         self.taken.clear();
         let mut polling = Polling::begin(self.most, self.first);
         'sockets: while let Some(proto) = polling.next() {
             let socket = sockets.server(proto);
-            try_next(
-                socket,
-                proto,
-                &mut polling,
-                buffer,
-                &mut self.taken,
-                history,
-            );
+            try_next(socket, proto, &mut polling, &mut self.taken, history);
         }
         self.first = polling.first;
     }
 
     /// The server receives all of them at once.
     pub(crate) fn receive(&mut self, now: Moment, server: &mut Server, disk: &mut FileDisk)
-        requires few { length self.old.taken.items ≤ 16 }
+        requires few { length self.old.taken ≤ 16 }
         requires regions { HasRegions server.old.topology.circuits disk.old.regions }
         ensures most { self.new.most ≡ self.old.most }
         ensures first { self.new.first ≡ self.old.first }
         ensures taken { self.new.taken ≡ self.old.taken }
-        ensures count { length self.new.answers ≡ length self.old.taken.items }
-        ensures received { (counts : total.Counts) (history : List entry.Entry) → AreReceived (all_delivered now self.old.taken.items) self.new.answers (serving server.old disk.old counts history) (serving server.new disk.new counts history) }
+        ensures count { length self.new.answers ≡ length self.old.taken }
+        ensures received { (counts : total.Counts) (history : List entry.Entry) → AreReceived (all_delivered now self.old.taken) self.new.answers (serving server.old disk.old counts history) (serving server.new disk.new counts history) }
     {
         self.answers.clear();
-        if self.taken.is_empty() {
+        let taken = self.taken.as_slice();
+        if taken.is_empty() {
             return;
         }
-        if self.taken.len() == 1 {
-            receive_single(&self.taken[0], now, server, disk, &mut self.answers);
-            return;
-        }
-        let parts = parts_of(&self.taken);
-        let count = self.taken.len();
-        server.receive_batch(&parts[..count], now, disk, &mut self.answers);
+        let parts = parts_of(taken);
+        server.receive_batch(&parts[..taken.len()], now, disk, &mut self.answers);
     }
 
     /// Sends the replies, each from the server's socket to where its datagram came from. What is repeated is left for
-    /// `receive_again`.
+    /// `receive_again`. It ends at the first datagram that has no answer.
     pub(crate) fn reply(&self, sockets: &Sockets, counts: &mut Counts, history: &mut History)
-        requires count { length self.now.answers ≡ length self.now.taken.items }
         requires listen4 { IsBound sockets.now.listen4 (role.Server Proto.V4) sockets.now.listen4.at history.old.id }
         requires listen6 { IsBound sockets.now.listen6 (role.Server Proto.V6) sockets.now.listen6.at history.old.id }
         ensures same { history.new.id ≡ history.old.id }
-        ensures replied { (now : ℕ) → HasTried (AreReplied (all_delivered now self.now.taken.items) self.now.answers (length self.now.taken.items)) counts.old counts.new history.old.entries history.new.entries }
+        ensures replied { (now : ℕ) → HasTried (AreReplied (all_delivered now self.now.taken) self.now.answers (min (length self.now.taken) (length self.now.answers))) counts.old counts.new history.old.entries history.new.entries }
     {
-        'parts: for index in 0..self.taken.len() {
+        let taken = self.taken.as_slice();
+        'parts: for index in 0..taken.len() {
             let Some(answer) = self.answers.get(index) else {
-                unreachable!()
+                return;
             };
-            let datagram = &self.taken[index];
+            let datagram = &taken[index];
             let socket = sockets.server(datagram.proto);
             reply_to(datagram.source, answer, socket, counts, history);
         }
@@ -181,20 +123,21 @@ impl Batch {
         counts: &mut Counts,
         history: &mut History,
     )
-        requires count { length self.now.answers ≡ length self.now.taken.items }
+        requires count { length self.now.answers ≡ length self.now.taken }
         requires regions { HasRegions server.old.topology.circuits disk.old.regions }
         requires listen4 { IsBound sockets.now.listen4 (role.Server Proto.V4) sockets.now.listen4.at history.old.id }
         requires listen6 { IsBound sockets.now.listen6 (role.Server Proto.V6) sockets.now.listen6.at history.old.id }
         ensures same { history.new.id ≡ history.old.id }
-        ensures again { AreReceivedAgain (all_delivered now self.now.taken.items) self.now.answers (length self.now.taken.items) (serving server.old disk.old counts.old history.old.entries) (serving server.new disk.new counts.new history.new.entries) }
+        ensures again { AreReceivedAgain (all_delivered now self.now.taken) self.now.answers (length self.now.taken) (serving server.old disk.old counts.old history.old.entries) (serving server.new disk.new counts.new history.new.entries) }
     {
-        'parts: for index in 0..self.taken.len() {
+        let taken = self.taken.as_slice();
+        'parts: for index in 0..taken.len() {
             let Some(answer) = self.answers.get(index) else {
                 unreachable!()
             };
             let again = is_repeated(answer);
             if again {
-                let datagram = &self.taken[index];
+                let datagram = &taken[index];
                 let socket = sockets.server(datagram.proto);
                 receive_alone(datagram, now, socket, server, disk, counts, history);
             }
@@ -207,58 +150,34 @@ fn try_next(
     socket: &DatagramSocket,
     proto: Proto,
     polling: &mut Polling,
-    buffer: &mut [u8; BUFFER_LEN],
-    taken: &mut ArrayVec<Datagram, MAX_BATCH>,
+    taken: &mut Datagrams,
     history: &mut History,
 )
     requires next { next_of polling.old ≡ Some proto }
     requires socket { IsBound socket.now (role.Server proto) socket.now.at history.old.id }
-    requires room { length taken.old.items + polling.old.left ≤ 16 }
+    requires room { length taken.old + polling.old.left ≤ 16 }
     ensures same { history.new.id ≡ history.old.id }
-    ensures room { length taken.new.items + polling.new.left ≤ length taken.old.items + polling.old.left }
-    ensures tried { HasTriedNext proto polling.old polling.new taken.old.items taken.new.items history.old.entries history.new.entries }
+    ensures room { length taken.new + polling.new.left ≤ length taken.old + polling.old.left }
+    ensures tried { HasTriedNext proto polling.old polling.new taken.old taken.new history.old.entries history.new.entries }
 {
-    match socket.take(buffer, history) {
-        Attempt::Took(len, from) => {
-            taken.push(Datagram::new(proto, from, &buffer[..len]));
-            polling.took(proto);
-        }
+    match taken.receive(socket, proto, history) {
+        Attempt::Took(..) => polling.took(proto),
         Attempt::Empty => polling.passed(proto, Waiting::No),
         Attempt::Failed => polling.passed(proto, Waiting::Lost),
     }
 }
 
-/// The server receives the only datagram of a turn, which needs nothing of what a batch keeps between its steps.
-fn receive_single(
-    datagram: &Datagram,
-    now: Moment,
-    server: &mut Server,
-    disk: &mut FileDisk,
-    answers: &mut BatchAnswers,
-)
-    requires none { answers.old ≡ [] }
-    requires regions { HasRegions server.old.topology.circuits disk.old.regions }
-    ensures count { length answers.new ≡ 1 }
-    ensures received { (counts : total.Counts) (history : List entry.Entry) → IsReceived (delivered now datagram.now ∷ []) answers.new (serving server.old disk.old counts history) (serving server.new disk.new counts history) }
-{
-    let mut out = PacketBuf::new();
-    let (proto, from, bytes) = (datagram.proto, datagram.source, datagram.bytes.as_slice());
-    match server.receive(proto, from, bytes, now, disk, &mut out) {
-        Ok(()) => answers.reply(out.as_slice()),
-        Err(why) => answers.discard(why),
-    }
-}
-
 /// These datagrams, as the server receives them.
-fn parts_of<'a>(taken: &'a ArrayVec<Datagram, MAX_BATCH>) -> [(Proto, Source, &'a [u8]); MAX_BATCH]
-    requires few { length taken.now.items ≤ 16 }
-    ensures { (now : ℕ) → map (λ d. delivery d.0 d.1 now d.2.now) (take (length taken.now.items) result) ≡ all_delivered now taken.now.items }
+fn parts_of<'a>(taken: &'a [Datagram]) -> [(Proto, Source, &'a [u8]); MAX_BATCH]
+    requires few { length taken.now ≤ 16 }
+    requires fits { All (λ (one : Datagram). one.len ≤ 1281) taken.now }
+    ensures { (now : ℕ) → map (λ d. delivery d.0 d.1 now d.2.now) (take (length taken.now) result) ≡ all_delivered now taken.now }
 {
     let none: &[u8] = &[];
     let mut parts = [(Proto::V4, NOWHERE, none); MAX_BATCH];
     'parts: for index in 0..taken.len() {
         let datagram = &taken[index];
-        parts[index] = (datagram.proto, datagram.source, datagram.bytes.as_slice());
+        parts[index] = (datagram.proto, datagram.source, datagram.bytes());
     }
     parts
 }
@@ -318,13 +237,14 @@ fn receive_alone(
     counts: &mut Counts,
     history: &mut History,
 )
+    requires fits { datagram.now.len ≤ 1281 }
     requires regions { HasRegions server.old.topology.circuits disk.old.regions }
     requires socket { IsBound socket.now (role.Server datagram.now.proto) socket.now.at history.old.id }
     ensures same { history.new.id ≡ history.old.id }
     ensures answered { IsAnswered (delivered now datagram.now) (serving server.old disk.old counts.old history.old.entries) (serving server.new disk.new counts.new history.new.entries) }
 {
     let mut out = PacketBuf::new();
-    let (proto, from, bytes) = (datagram.proto, datagram.source, datagram.bytes.as_slice());
+    let (proto, from, bytes) = (datagram.proto, datagram.source, datagram.bytes());
     let made = server.receive(proto, from, bytes, now, disk, &mut out);
     let reply = out.as_slice();
     let outcome = send_on(made, socket, from, reply, Outcome::Answered, history);

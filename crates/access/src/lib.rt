@@ -4,6 +4,7 @@
 mod access;
 mod batch;
 mod clock;
+mod datagrams;
 mod polling;
 mod sending;
 

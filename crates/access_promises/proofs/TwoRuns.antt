@@ -14,10 +14,10 @@ datagrams = map (λ (x : Exchange). x.datagram)
 abbrev answers : List Exchange → List (Result (List ℕ) Discard)
 answers = map (λ (x : Exchange). x.answer)
 
-same_head : {A : Type 0} (x y : A) (xs ys : List A) → x ∷ xs ≡ y ∷ ys → x ≡ y
+pub same_head : {A : Type 0} (x y : A) (xs ys : List A) → x ∷ xs ≡ y ∷ ys → x ≡ y
 same_head x y xs ys same = cc
 
-same_tail : {A : Type 0} (x y : A) (xs ys : List A) → x ∷ xs ≡ y ∷ ys → xs ≡ ys
+pub same_tail : {A : Type 0} (x y : A) (xs ys : List A) → x ∷ xs ≡ y ∷ ys → xs ≡ ys
 same_tail x y xs ys same = cc
 
 abbrev reply_by : DeliveryValue → Result (List ℕ) Discard → Option Reply

@@ -2,4 +2,5 @@ pub mod Alone
 pub mod Exchanges
 pub mod Histories
 pub mod Own
+pub mod Transactions
 pub mod Turns

@@ -174,7 +174,7 @@ impl Book4 {
     }
 
     /// What each slot of the pool holds; no client has two.
-    pub(crate) fn slots(&self) -> &[Option<Holder<Key4>>]
+    pub fn slots(&self) -> &[Option<Holder<Key4>>]
         ensures value { result.now ≡ self.now.slots }
         ensures within { AreSlots self.now.pool self.now.slots }
     {

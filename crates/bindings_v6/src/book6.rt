@@ -158,7 +158,7 @@ impl Book6 {
     }
 
     /// What each slot of the pool holds; no client has two.
-    pub(crate) fn slots(&self) -> &[Option<Holder<Key6>>]
+    pub fn slots(&self) -> &[Option<Holder<Key6>>]
         ensures value { result.now ≡ self.now.slots }
         ensures within { AreSlots self.now.pool self.now.slots }
     {

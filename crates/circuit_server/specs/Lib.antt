@@ -5,5 +5,6 @@ pub mod Deadlines
 pub mod Leases
 pub mod Prepared
 pub mod Server
+pub mod SlotsOfPools
 pub mod Ticked
 pub mod Unoffered

@@ -9,6 +9,7 @@ ghost use Rattle.circuit_server.specs.Answered.{IsAnswer, answered, circuit_save
 ghost use Rattle.requests.specs.RelayedMessage.{IsRelayedMessage};
 ghost use Rattle.circuit_server.specs.Prepared.{IsDropped, IsPrepared, IsSettled, with_marks};
 ghost use Rattle.circuit_server.specs.CircuitServerValue.{HasPools, IsReadyFor, leases_of, open_book};
+ghost use Rattle.circuit_server.specs.SlotsOfPools.{HasSlots};
 ghost use Rattle.circuit_server.specs.Ticked.{IsLater, state_at};
 ghost use Rattle.circuit_server.specs.Unoffered.{state_unoffered};
 ghost use Rattle.lease_disk.specs.Device.{ChangesOne, Touches, WritesAt, has_failed};
@@ -56,6 +57,15 @@ impl CircuitServer {
         ensures { result ≡ is_some (option_map open_book self.now) }
     {
         self.state.is_some()
+    }
+
+    /// An open circuit has slots of its books' pools. Nothing is done: this is called for its contract.
+    pub fn has_slots(&self)
+        ensures { IfSome self.now HasSlots }
+    {
+        if let Some(circuit) = &self.state {
+            circuit.has_slots();
+        }
     }
 
     /// Begins with what the circuit's region holds. A region of format 1 is moved to format 2 first, in this buffer. The
@@ -204,7 +214,7 @@ impl CircuitServer {
             Ok(prepared) => prepared,
             Err(why) => return Err(why),
         };
-        let saved = save_alone(prepared.saving, disk);
+        let saved = save_alone(&prepared.saving, disk);
         self.settle(part, &prepared, saved, out, table, first)
     }
 

@@ -14,6 +14,7 @@ ghost use Rattle.requests.specs.RelayedMessage.{IsRelayedMessage};
 ghost use Rattle.requests.specs.Request4.{request4_in};
 ghost use Rattle.circuit_server.specs.Server.{book_at, datagram_served, drop, kept_book, message6_served, request4_served};
 ghost use Rattle.circuit_server.specs.CircuitServerValue.{HasPools, IsReadyFor, counts_in, kept_slots, open_book};
+ghost use Rattle.circuit_server.specs.SlotsOfPools.{HasSlots};
 ghost use Rattle.circuit_server.specs.Ticked.{open_at};
 ghost use Rattle.circuit_server.specs.Unoffered.{open_unoffered};
 ghost use Rattle.lease_disk.specs.Book.{IsBook};
@@ -99,6 +100,14 @@ impl OpenCircuit {
         ensures { self.new ≡ open_unoffered self.old }
     {
         self.four.withdraw_offers();
+    }
+
+    /// Both books have slots of their pools. Nothing is done: this is called for its contract.
+    pub(crate) fn has_slots(&self)
+        ensures { HasSlots self.now }
+    {
+        let _four = self.four.slots();
+        let _six = self.six.slots();
     }
 
     /// Until when a slot of the circuit is held, live or expired, in seconds.

@@ -17,12 +17,12 @@ pub struct Prepared<'a> {
 
 /// Saves what has to be saved, if anything, alone. Returns the marks of the region after it.
 pub(crate) fn save_alone<D: Disk>(
-    saving: Option<Saving>,
+    saving: &Option<Saving>,
     disk: &mut D,
 ) -> Result<Option<Marks>, Fault>
-    requires { IfSome saving (IsReady D.tells (D.device disk.old)) }
-    ensures nothing { saving ≡ None → (result ≡ Ok None) × (D.device disk.new ≡ D.device disk.old) }
-    ensures saved { IfSome saving (IsSavedAlone D.tells result (D.device disk.old) (D.device disk.new)) }
+    requires { IfSome saving.now (IsReady D.tells (D.device disk.old)) }
+    ensures nothing { saving.now ≡ None → (result ≡ Ok None) × (D.device disk.new ≡ D.device disk.old) }
+    ensures saved { IfSome saving.now (IsSavedAlone D.tells result (D.device disk.old) (D.device disk.new)) }
 {
     let Some(saving) = saving else {
         return Ok(None);

@@ -5,7 +5,7 @@ use Rattle.std.proofs.lemmas.List.{length-map}
 use Rattle.std.proofs.lemmas.Option.{get_or_from_slice_get, slice_get-map, slice_get_past}
 use Rattle.types.specs.Delivery.{DeliveryValue}
 use Rattle.types.specs.declared.discard.Discard.{Discard}
-use Rattle.lease_disk.specs.Device.{Device, has_failed, is_in}
+use Rattle.lease_disk.specs.Device.{Device, is_in}
 use Rattle.lease_disk.specs.Region.{effective}
 use Rattle.batch_saves.specs.Batch.{AreApart, first_of, fuses_of, regions_of, shared_fault}
 use Rattle.batch_saves.specs.Batch as saves
@@ -15,8 +15,8 @@ use Rattle.config.specs.Topology.{IsTopology}
 use Rattle.circuit_server.specs.CircuitServerValue.{CircuitServerValue, IsReady, IsReadyFor, OpenCircuitValue, book_of, leases_of}
 use Rattle.circuit_server.specs.Ticked.{state_of}
 use Rattle.circuit_server.specs.declared.prepared.Prepared.{Prepared}
-use Rattle.dispatch.specs.Batch.{IsBatch, IsBatchOfLeases, IsWrittenTogether, batch_fault, batch_saves}
-use Rattle.dispatch.specs.Parts.{AreAnswered, AreDecided, AreSavedTogether, savings_of}
+use Rattle.dispatch.specs.Batch.{IsWrittenTogether, batch_fault, batch_saves}
+use Rattle.dispatch.specs.Parts.{AreAnswered, AreDecided, AreSavedTogether, IsReceivedBatch, savings_of}
 use Rattle.dispatch.specs.Regions.{HasRegions}
 use Rattle.dispatch.specs.ServerValue.{AreReady, ServerValue, books_in, circuits_in, leases_in}
 use Rattle.dispatch.proofs.BatchLemmas.{batch_answered, batch_failed, batch_leased, batch_ready, batch_written}
@@ -48,14 +48,6 @@ module _ {B : Type 0} (f : CircuitServerValue → B) (s : ServerValue) where
         let size = length-map (circuits_in s) f in
         let all = size_with s.topology.circuits s.states in
         slice_get_past (map f (circuits_in s)) c (grind (arith, e, size, all))
-
--- What the clauses of a batch say.
-pub record IsReceivedBatch (tells : Bool) (ds : List DeliveryValue) (given : List (Result (List ℕ) Discard)) (s later_s : ServerValue) (was later : Device) : Type 0 where
-  pub answers : IsBatch s.topology ds (has_failed was later) (books_in s) (books_in later_s) given
-  pub frame : IsWrittenTogether tells (batch_saves s.topology ds (books_in s)) was later
-  pub fails : tells ≡ true → (r : ℕ) → has_failed was later r ≡ (is_in (batch_saves s.topology ds (books_in s)) r && not (batch_fault was.fuse (batch_saves s.topology ds (books_in s)) r == 0))
-  pub leases : tells ≡ true → IsBatchOfLeases s.topology ds (batch_fault was.fuse (batch_saves s.topology ds (books_in s))) (leases_in was.region s) (leases_in later.region later_s)
-  pub ready : tells ≡ true → AreReady later.region later_s
 
 -- ---- before anything is saved
 

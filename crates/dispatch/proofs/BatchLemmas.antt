@@ -28,10 +28,11 @@ use Rattle.circuit_server.specs.Ticked.{state_of}
 use Rattle.circuit_server.specs.declared.prepared.Prepared.{Prepared}
 use Rattle.circuit_server.proofs.AnswerLemmas.{not_more}
 use Rattle.circuit_server.proofs.PreparedLemmas.{WasSaved, came, left, not_not, settled}
+use Rattle.dispatch.specs.Answers.{answer_by}
 use Rattle.dispatch.specs.Batch.{IsBatch, IsBatchOfLeases, IsWrittenTogether, comes_again, is_circuit, is_named, part_received}
 use Rattle.dispatch.specs.Received.{Received, addressee_answered, drop_all, received}
 use Rattle.dispatch.proofs.ReceivedLemmas.{leases_at, received_at}
-use Rattle.dispatch.specs.Parts.{AreAnswered, AreDecided, AreSavedTogether, IsAnswered, IsDecided, IsSettledSo, answer_by, is_of, place_of, saved_by, saving_in, savings_of}
+use Rattle.dispatch.specs.Parts.{AreAnswered, AreDecided, AreSavedTogether, IsAnswered, IsDecided, IsSettledSo, is_of, place_of, saved_by, saving_in, savings_of}
 use Rattle.dispatch.proofs.PartLemmas.{any_found, any_there, not_both, same_number}
 use Rattle.dispatch.proofs.SaverLemmas.{keeps_as, of_is, one_first, own_region, saver, settles_at}
 use Rattle.dispatch.proofs.SavingLemmas.{placed}
@@ -54,7 +55,7 @@ pub region_found : (ss : List Saving) (r : ℕ) → is_in (regions_of ss) r ≡ 
 region_found [] r is = absurd cc
 region_found (s ∷ ss) r is = region_by ss s r (region_found ss r) (s.region == r) refl is
 
-answer_is : (a : Result (List ℕ) Discard) (result : Result (Unit {0}) Discard) (out : List ℕ) → IsAnswer a result out → a ≡ answer_by result out
+pub answer_is : (a : Result (List ℕ) Discard) (result : Result (Unit {0}) Discard) (out : List ℕ) → IsAnswer a result out → a ≡ answer_by result out
 answer_is (Ok bytes) result out is = ap Ok (sym is.1) ∙ sym (ap (λ r. answer_by r out) is.0)
 answer_is (Err why) result out is = sym (ap (λ r. answer_by r out) is.0)
 

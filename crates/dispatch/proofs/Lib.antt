@@ -1,3 +1,4 @@
+pub mod AloneLemmas
 pub mod AnsweredLemmas
 pub mod BatchClauses
 pub mod BatchLemmas
@@ -11,6 +12,7 @@ pub mod RestartLemmas
 pub mod SaverLemmas
 pub mod SavingLemmas
 pub mod ServerLemmas
+pub mod SlotLemmas
 pub mod TickLemmas
 pub mod TurnedLemmas
 pub mod WithStates

@@ -29,7 +29,7 @@ past_all [] i none = omega arith
 past_all (x ∷ xs) zero none = absurd cc
 past_all (x ∷ xs) (suc i) none = let less = past_all xs i none in omega (arith, less)
 
-set_elsewhere : {A : Type 0} (xs : List A) (c k : ℕ) (x : A) → (c ≡ k → ⊥) → slice_get (slice_set xs c x) k ≡ slice_get xs k
+pub set_elsewhere : {A : Type 0} (xs : List A) (c k : ℕ) (x : A) → (c ≡ k → ⊥) → slice_get (slice_set xs c x) k ≡ slice_get xs k
 set_elsewhere [] c k x apart = refl
 set_elsewhere (y ∷ xs) zero zero x apart = absurd (apart refl)
 set_elsewhere (y ∷ xs) zero (suc k) x apart = refl
@@ -147,3 +147,15 @@ module _ (topology : Topology) (fails : ℕ → Bool) where
         let one = first_there (λ x. is_circuit c (addressee topology x)) ds e in
         let found = circuit_is c (addressee topology one.1) one.3 in
         batch.books one.0 c one.1 one.2 found one.4 ∙ sym (book_at ds old apart one.0 c one.1 one.2 found)
+
+  -- and so are its parts a batch
+  pub batch_back : (ds : List DeliveryValue) (old new : List (Option Book)) (answers : List (Result (List ℕ) Discard)) → AreOfOthers topology ds → answers ≡ answers_to topology fails ds old → new ≡ books_after topology fails ds old → IsBatch topology ds fails old new answers
+  batch_back ds old new answers apart given after = record {
+    count = ap (λ (xs : List (Result (List ℕ) Discard)). length xs) given ∙ answers_past ds old;
+    each = λ j d there.
+        ap (λ (xs : List (Result (List ℕ) Discard)). slice_get xs j) given
+        ∙ answer_at ds old apart j d there
+        ∙ sym (ap (λ b. Some (if b then drop_all BatchTwice old else received topology d fails old).answer) (again_none ds apart j d there (addressee topology d) refl));
+    books = λ j c d there found first. ap (λ (xs : List (Option Book)). slice_get xs c) after ∙ book_at ds old apart j c d there found;
+    others = λ c none. ap (λ (xs : List (Option Book)). slice_get xs c) after ∙ book_unnamed ds old c none;
+  }

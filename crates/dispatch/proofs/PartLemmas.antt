@@ -4,7 +4,8 @@ use Rattle.std.specs.Prelude.{◌⊎◌, Option, Some, None, Result, Ok, Err, sl
 use Rattle.std.specs.List.{list_any}
 use Rattle.std.proofs.lemmas.Bool.{or_right}
 use Rattle.std.proofs.lemmas.List.{get_or-set_other, length-set}
-use Rattle.std.proofs.lemmas.Option.{same_Some}
+use Rattle.std.proofs.lemmas.List.Folds.{list_any_more}
+use Rattle.std.proofs.lemmas.Option.{get_or_from_slice_get, same_Some, slice_get_within}
 use Rattle.types.specs.Delivery.{DeliveryValue}
 use Rattle.types.specs.declared.discard.Discard.{Discard}
 use Rattle.config.specs.Topology.{Topology}
@@ -16,23 +17,10 @@ use Rattle.circuit_server.specs.declared.prepared.Prepared.{Prepared}
 use Rattle.dispatch.specs.Batch.{is_circuit, is_named}
 use Rattle.dispatch.specs.Parts.{AreDecided, IsDecided, IsOf, IsPart, has_named}
 
-or_false : (x : Bool) → (x || false) ≡ x
-or_false true = refl
-or_false false = refl
-
-or_again : (x y z : Bool) → (x || (y || z)) ≡ ((x || y) || z)
-or_again true y z = refl
-or_again false y z = refl
-
--- one place more of a list
 module _ {A : Type 0} (f : A → Bool) where
-  any_next : (xs : List A) (i : ℕ) (x : A) → slice_get xs i ≡ Some x → list_any f (take (suc i) xs) ≡ (list_any f (take i xs) || f x)
-  any_next [] i x is = absurd cc
-  any_next (y ∷ xs) zero x is = or_false (f y) ∙ ap f (same_Some y x is)
-  any_next (y ∷ xs) (suc i) x is = ap (λ b. f y || b) (any_next xs i x is) ∙ or_again (f y) (list_any f (take i xs)) (f x)
-
+  -- one place more of a list
   pub any_more : (xs : List A) (i : ℕ) (x : A) → slice_get xs i ≡ Some x → list_any f (take (i + 1) xs) ≡ (list_any f (take i xs) || f x)
-  any_more xs i x is = let more : suc i ≡ i + 1 = omega arith in subst (λ n. list_any f (take n xs) ≡ (list_any f (take i xs) || f x)) more (any_next xs i x is)
+  any_more xs i x is = list_any_more f xs i x (slice_get_within xs i x is) ∙ ap (λ y. list_any f (take i xs) || f y) (get_or_from_slice_get xs i x x is)
 
   -- one that is among the first is found there
   pub any_there : (xs : List A) (i j : ℕ) (x : A) → j < i → slice_get xs j ≡ Some x → f x ≡ true → list_any f (take i xs) ≡ true

@@ -1,12 +1,12 @@
 -- What is made of the parts of a batch before anything is saved. Only proofs need this.
-use Rattle.std.specs.Prelude.{◌≡◌, ◌⊎◌, ℕ, ◌==◌, ◌<◌, ◌≤◌, Bool, true, false, if◌then◌else◌, List, [], length, take, None, Some, slice_get, slice_set, Option, Result, Ok, Err}
+use Rattle.std.specs.Prelude.{◌≡◌, ◌⊎◌, ℕ, ◌==◌, ◌<◌, ◌≤◌, ◌&&◌, not, Bool, true, false, if◌then◌else◌, List, [], length, take, None, Some, slice_get, slice_set, Option, Result, Ok, Err}
 use Rattle.std.specs.List.{filter_map, list_any}
 use Rattle.types.specs.Delivery.{DeliveryValue}
 use Rattle.types.specs.declared.discard.Discard.{Discard}
 use Rattle.types.specs.declared.discard.Discard.TheVariants.{BatchTwice}
 use Rattle.lease_disk.specs.declared.device.Fault.{Fault}
 use Rattle.lease_disk.specs.declared.marks.Marks.{Marks}
-use Rattle.lease_disk.specs.Device.{Device, TouchesAll, is_in}
+use Rattle.lease_disk.specs.Device.{Device, TouchesAll, has_failed, is_in}
 use Rattle.batch_saves.specs.Batch.{IsSavedPart, fuses_of, part_at, regions_of, shared_fault}
 use Rattle.batch_saves.specs.declared.saving.Saving.{Saving}
 use Rattle.config.specs.CircuitPart.{CircuitPart}
@@ -15,7 +15,9 @@ use Rattle.requests.specs.Addressee.{addressee}
 use Rattle.circuit_server.specs.CircuitServerValue.{OpenCircuitValue}
 use Rattle.circuit_server.specs.Prepared.{IsDropped, IsPrepared, IsSettled}
 use Rattle.circuit_server.specs.Ticked.{state_of}
-use Rattle.dispatch.specs.Batch.{is_named}
+use Rattle.dispatch.specs.Answers.{answer_by}
+use Rattle.dispatch.specs.Batch.{IsBatch, IsBatchOfLeases, IsWrittenTogether, batch_fault, batch_saves, is_named}
+use Rattle.dispatch.specs.ServerValue.{AreReady, ServerValue, books_in, leases_in}
 use Rattle.circuit_server.specs.declared.prepared.Prepared.{Prepared}
 
 abbrev pub has_named : List ℕ → ℕ → Bool
@@ -103,11 +105,6 @@ saved_by (Some was) now = if now.failed == 0 then Ok (Some now.marks) else Err (
 abbrev pub place_of : List (Option (Result (ℕ × Prepared) Discard)) → ℕ → ℕ
 place_of parts j = length (savings_of (take j parts))
 
--- an answer, by the result and what `out` then holds
-abbrev pub answer_by : Result (Unit {0}) Discard → List ℕ → Result (List ℕ) Discard
-answer_by (Ok done) out = Ok out
-answer_by (Err why) out = Err why
-
 -- The part's circuit was settled, by its save and the circuit's state before.
 pub record IsSettledSo (topology : Topology) (prepared : Prepared) (saved : Result (Option Marks) Fault) (c : ℕ) (old new : List (Option OpenCircuitValue)) (answer : Result (List ℕ) Discard) : Type 0 where
   pub part : CircuitPart
@@ -139,3 +136,13 @@ pub record AreAnswered (topology : Topology) (parts : List (Option (Result (ℕ 
   pub each : (j : ℕ) (part : Result (ℕ × Prepared) Discard) → j < i → slice_get parts j ≡ Some (Some part)
       → (answer : Result (List ℕ) Discard) × (slice_get answers j ≡ Some answer) × IsAnswered topology (part_at savings (place_of parts j)) old new answer part
   pub others : (c : ℕ) → list_any (is_of c) (take i parts) ≡ false → state_of new c ≡ state_of old c
+
+-- ---- all together
+
+-- What the clauses of a batch say.
+pub record IsReceivedBatch (tells : Bool) (ds : List DeliveryValue) (given : List (Result (List ℕ) Discard)) (s later_s : ServerValue) (was later : Device) : Type 0 where
+  pub answers : IsBatch s.topology ds (has_failed was later) (books_in s) (books_in later_s) given
+  pub frame : IsWrittenTogether tells (batch_saves s.topology ds (books_in s)) was later
+  pub fails : tells ≡ true → (r : ℕ) → has_failed was later r ≡ (is_in (batch_saves s.topology ds (books_in s)) r && not (batch_fault was.fuse (batch_saves s.topology ds (books_in s)) r == 0))
+  pub leases : tells ≡ true → IsBatchOfLeases s.topology ds (batch_fault was.fuse (batch_saves s.topology ds (books_in s))) (leases_in was.region s) (leases_in later.region later_s)
+  pub ready : tells ≡ true → AreReady later.region later_s

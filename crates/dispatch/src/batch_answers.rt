@@ -1,6 +1,6 @@
 //! What the server answers to the parts of a batch.
-ghost use Rattle.std.specs.Prelude.{◌≡◌, ◌<◌, ◌≤◌, Ok, Err, [], ◌∷◌, ◌++◌, length, option_map, slice_get};
-ghost use Rattle.dispatch.specs.Answers.{answer_of};
+ghost use Rattle.std.specs.Prelude.{◌≡◌, ◌<◌, [], ◌∷◌, ◌++◌, length, option_map, slice_get};
+ghost use Rattle.dispatch.specs.Answers.{answer_by, answer_of};
 
 use arrayvec::ArrayVec;
 use batch_saves::MAX_BATCH;
@@ -14,6 +14,18 @@ pub enum Answer {
     /// The datagram of the reply.
     Reply(PacketBuf),
     Dropped(Discard),
+}
+
+impl Answer {
+    /// The answer of a call that returned this and left the reply's datagram in `out`.
+    pub(crate) fn of(made: Result<(), Discard>, out: PacketBuf) -> Answer
+        ensures { answer_of result ≡ answer_by made out }
+    {
+        match made {
+            Ok(()) => Answer::Reply(out),
+            Err(why) => Answer::Dropped(why),
+        }
+    }
 }
 
 impl Default for Answer {
@@ -61,22 +73,11 @@ impl BatchAnswers {
         self.answers.clear();
     }
 
-    /// Adds the datagram that is the reply to the next part.
-    pub fn reply(&mut self, datagram: &[u8])
+    /// Adds the answer to the next part.
+    pub(crate) fn push(&mut self, answer: Answer)
         requires room { length self.old < 16 }
-        requires fits { length datagram.now ≤ 1280 }
-        ensures { self.new ≡ self.old ++ Ok datagram.now ∷ [] }
+        ensures { self.new ≡ self.old ++ answer_of answer ∷ [] }
     {
-        let mut copy = PacketBuf::new();
-        let _ = copy.extend(datagram);
-        self.answers.push(Answer::Reply(copy));
-    }
-
-    /// Adds the reason for which the next part is dropped.
-    pub fn discard(&mut self, why: Discard)
-        requires room { length self.old < 16 }
-        ensures { self.new ≡ self.old ++ Err why ∷ [] }
-    {
-        self.answers.push(Answer::Dropped(why));
+        self.answers.push(answer);
     }
 }

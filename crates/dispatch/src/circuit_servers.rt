@@ -1,5 +1,5 @@
 //! The servers of all circuits: one tick moves the clocks of all at once.
-ghost use Rattle.std.specs.Prelude.{◌≡◌, ◌<◌, ◌≤◌, ◌+◌, ◌*◌, ℕ, [], List, Some, length, map, replicate, slice_set, All, true, is_some, option_map, IfOk, IfErr};
+ghost use Rattle.std.specs.Prelude.{◌≡◌, ◌<◌, ◌≤◌, ◌+◌, ◌*◌, ℕ, [], List, Some, length, map, replicate, slice_set, All, true, is_some, option_map, IfOk, IfErr, IfSome};
 ghost use Rattle.config.specs.CircuitPart as parts;
 ghost use Rattle.config.specs.CircuitPart.{IsPart};
 ghost use Rattle.config.specs.Topology.{RegionsDiffer};
@@ -11,6 +11,7 @@ ghost use Rattle.circuit_server.specs.Answered.{IsAnswer, answered, circuit_save
 ghost use Rattle.requests.specs.RelayedMessage.{IsRelayedMessage};
 ghost use Rattle.circuit_server.specs.CircuitServerValue.{HasItsPools, HasPools, IsReady, IsReadyFor, leases_of, open_book};
 ghost use Rattle.circuit_server.specs.Prepared.{IsDropped, IsPrepared, IsSettled};
+ghost use Rattle.circuit_server.specs.SlotsOfPools.{HasSlots};
 ghost use Rattle.circuit_server.specs.Ticked.{state_at, state_of};
 ghost use Rattle.circuit_server.specs.Unoffered.{state_unoffered};
 ghost use Rattle.dispatch.specs.Turned.{AreTurned, turns_off};
@@ -73,6 +74,13 @@ impl CircuitServers {
         ensures { result ≡ is_some (option_map open_book (state_of self.now index)) }
     {
         self.servers[index].is_open()
+    }
+
+    /// Each open circuit has slots of its books' pools.
+    pub(crate) fn have_slots(&self)
+        ensures { All (λ state. IfSome state HasSlots) self.now }
+    {
+        have_slots(&self.servers);
     }
 
     /// Answers a datagram of the circuit, of which this was read. A save that fails closes the circuit.
@@ -225,6 +233,15 @@ impl CircuitServers {
         // each begins with the clock that its region keeps, however late the last tick was
         self.ticked = Moment::first();
         restart_all(parts, &mut self.servers, disk, buffer, table);
+    }
+}
+
+/// Each open circuit has slots of its books' pools.
+fn have_slots(servers: &[CircuitServer])
+    ensures { All (λ state. IfSome state HasSlots) servers.now }
+{
+    'circuits: for server in servers {
+        server.has_slots();
     }
 }
 

@@ -1,5 +1,5 @@
 //! What holds of every circuit's server: functions that do nothing, for their contracts.
-ghost use Rattle.std.specs.Prelude.{◌≡◌, ℕ, Bool, List, Option, Result, max};
+ghost use Rattle.std.specs.Prelude.{◌≡◌, ◌↔◌, ℕ, Bool, List, Option, Result, max};
 ghost use Rattle.types.specs.Delivery.{DeliveryValue};
 ghost use Rattle.types.specs.declared.discard.Discard as discard;
 ghost use Rattle.types.specs.declared.dest.Proto.TheVariants.{V4, V6};
@@ -33,9 +33,9 @@ pub fn serves_one_protocol()
     ensures six { (part : CircuitPart) (d : DeliveryValue) (b : Book) → d.proto ≡ V6 → (served part d b).book.four ≡ (book_at d.moment b).four }
 {}
 
-/// A batch no two parts of which are of one circuit is its parts one after the other, where a save fails in the regions that `fails`
-/// names.
+/// A batch no two parts of which are of one circuit is its parts one after the other, and the other way round, where a save fails in the
+/// regions that `fails` names. So a batch of one is what `receive` gives.
 pub fn is_one_by_one()
     ensures { (topology : Topology) (parts : List DeliveryValue) (fails : ℕ → Bool) (old new : List (Option Book)) (answers : List (Result (List ℕ) discard.Discard)) → AreOfOthers topology parts → IsBatch topology parts fails old new answers
-        → (answers ≡ answers_to topology fails parts old) × (new ≡ books_after topology fails parts old) }
+        ↔ ((answers ≡ answers_to topology fails parts old) × (new ≡ books_after topology fails parts old)) }
 {}

@@ -1,10 +1,11 @@
 //! The server of all circuits, over a device that keeps their leases.
-ghost use Rattle.std.specs.Prelude.{◌≡◌, ◌<◌, ◌≤◌, ◌+◌, ◌*◌, ◌↔◌, ℕ, Option, length, map, slice_get, Some, true, false, is_some, nat_lt, count_by, IfOk, IfErr, OnErr};
+ghost use Rattle.std.specs.Prelude.{◌≡◌, ◌<◌, ◌≤◌, ◌+◌, ◌*◌, ◌↔◌, ℕ, Option, length, map, slice_get, Some, true, false, is_some, nat_lt, count_by, All, IfOk, IfErr, OnErr};
 ghost use Rattle.config.specs.CircuitPart.{parts_of};
 ghost use Rattle.config.specs.Topology.{IsTopology, plans_topology, reloaded, serves, topology_of};
 ghost use Rattle.requests.specs.Addressee as who;
 ghost use Rattle.circuit_server.specs.Deadlines.{held_in};
-ghost use Rattle.dispatch.specs.ServerValue.{AreReady, HoldsDeadlines, books_in, leases_in};
+ghost use Rattle.circuit_server.specs.SlotsOfPools.{HasItsSlots};
+ghost use Rattle.dispatch.specs.ServerValue.{AreReady, HoldsDeadlines, books_in, circuits_in, leases_in};
 ghost use Rattle.circuit_server.specs.Leases.{Leases, after_tick, found_leases, turned};
 ghost use Rattle.dispatch.specs.Regions.{AreBroughtUp, AreSynced, HasRegions, KeepsOthers};
 ghost use Rattle.dispatch.specs.Received.{received, received_leases, received_saves};
@@ -198,6 +199,13 @@ impl Server {
     {
         let index = circuit.index();
         index < self.servers.count() && self.servers.is_open(index)
+    }
+
+    /// Each open circuit has the slots of its pools. Nothing is done: this is called for its contract.
+    pub fn has_slots_of_pools(&self)
+        ensures { All HasItsSlots (circuits_in self.now) }
+    {
+        self.servers.have_slots();
     }
 
     /// When the slots of all circuits are due, slot s of circuit c by the number 32 c + s: until when each slot of

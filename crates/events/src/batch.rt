@@ -23,7 +23,7 @@ pub enum PartOutcome {
     /// The datagram was dropped.
     Dropped(Discard),
     /// The server sent a datagram of this many bytes to the relay.
-    SentDown(usize),
+    SentDown(u16),
 }
 
 /// Whether a part is of this circuit.

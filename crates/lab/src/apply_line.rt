@@ -15,7 +15,7 @@ ghost use Rattle.lab.specs.Run.{IsEnd, IsStatus};
 
 use crate::batch_output::write_batch;
 use crate::buffers::Buffers;
-use crate::output::{write_bad_line, write_done, write_outcome};
+use crate::output::{MAX_DIGITS, write_bad_line, write_done, write_outcome};
 use crate::status::{BAD_LINE, DONE, FAILED};
 use config::Plans;
 use events::{BatchPart, Comeback};
@@ -39,12 +39,14 @@ pub(crate) fn refuse<W: ByteWriter>(number: u64, writer: &mut W) -> u8
 }
 
 /// Applies an event of a circuit. Returns a status where the run ends with it.
+#[inline(always)]
 fn apply_event<M: Machine, W: ByteWriter>(
     machine: &mut M,
     plans: &Plans,
     circuit: Circuit,
     event: &Event<'_>,
     out: &mut PacketBuf,
+    row: &mut [u8; MAX_DIGITS],
     writer: &mut W,
 ) -> Option<u8>
     requires { circuit < length plans.now.union.circuits }
@@ -57,7 +59,7 @@ fn apply_event<M: Machine, W: ByteWriter>(
 {
     let outcome = machine.step(event, out);
     let named = plans.union().at(circuit);
-    match write_outcome(writer, named.id.as_bytes(), outcome, out) {
+    match write_outcome(writer, named.id.as_bytes(), outcome, out, row) {
         Ok(()) => None,
         Err(_) => Some(FAILED),
     }
@@ -156,6 +158,7 @@ fn apply_stray<M: Machine, W: ByteWriter>(
     machine: &mut M,
     event: &Event<'_>,
     out: &mut PacketBuf,
+    row: &mut [u8; MAX_DIGITS],
     writer: &mut W,
 ) -> Option<u8>
     requires { is_stray event.now ≡ true }
@@ -168,7 +171,7 @@ fn apply_stray<M: Machine, W: ByteWriter>(
     ensures cause { result ≡ Some 6 → W.failures writer.new ≡ W.failures writer.old + 1 }
 {
     let outcome = machine.step(event, out);
-    match write_outcome(writer, &[], outcome, out) {
+    match write_outcome(writer, &[], outcome, out, row) {
         Ok(()) => None,
         Err(_) => Some(FAILED),
     }
@@ -202,25 +205,30 @@ fn apply<M: Machine, W: ByteWriter>(
         | ParsedLine::Move(_, _) => Some(refuse(number, writer)),
         ParsedLine::Frame(circuit, proto, len) => {
             let event = Event::Frame(circuit, proto, &buffers.bytes[..len]);
-            apply_event(machine, plans, circuit, &event, &mut buffers.out, writer)
+            let (out, row) = (&mut buffers.out, &mut buffers.row);
+            apply_event(machine, plans, circuit, &event, out, row, writer)
         }
         ParsedLine::Up(circuit, j, now, fault) => {
             let event = Event::Up(circuit, j, now, fault);
-            apply_event(machine, plans, circuit, &event, &mut buffers.out, writer)
+            let (out, row) = (&mut buffers.out, &mut buffers.row);
+            apply_event(machine, plans, circuit, &event, out, row, writer)
         }
         ParsedLine::Down(circuit, j) => {
             let event = Event::Down(circuit, j);
-            apply_event(machine, plans, circuit, &event, &mut buffers.out, writer)
+            let (out, row) = (&mut buffers.out, &mut buffers.row);
+            apply_event(machine, plans, circuit, &event, out, row, writer)
         }
         ParsedLine::Tick(now) => apply_tick(machine, now, &mut buffers.out, writer),
         ParsedLine::Reload(plan) => apply_reload(machine, plan, &mut buffers.out, writer),
         ParsedLine::StrayUp(proto, source, len, now) => {
             let event = Event::StrayUp(proto, source, &buffers.bytes[..len], now);
-            apply_stray(machine, &event, &mut buffers.out, writer)
+            let (out, row) = (&mut buffers.out, &mut buffers.row);
+            apply_stray(machine, &event, out, row, writer)
         }
         ParsedLine::StrayDown(relay, source, len) => {
             let event = Event::StrayDown(relay, source, &buffers.bytes[..len]);
-            apply_stray(machine, &event, &mut buffers.out, writer)
+            let (out, row) = (&mut buffers.out, &mut buffers.row);
+            apply_stray(machine, &event, out, row, writer)
         }
     }
 }

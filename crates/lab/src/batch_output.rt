@@ -41,7 +41,7 @@ fn write_part<W: ByteWriter>(
         Some(PartOutcome::Dropped(why)) => {
             write_number(writer, mark, b"drop ", u64::from(why.number()))
         }
-        Some(PartOutcome::SentDown(len)) => write_number(writer, mark, b"down ", len as u64),
+        Some(PartOutcome::SentDown(len)) => write_number(writer, mark, b"down ", u64::from(len)),
         Some(PartOutcome::Gone) => write_parts(writer, &[mark, b"gone"]),
         None => write_parts(writer, &[mark, b"gone"]),
     }

@@ -2,6 +2,7 @@
 ghost use Rattle.std.specs.Prelude.{◌≤◌, length};
 ghost use Rattle.lab.specs.Follows.{Says};
 
+use crate::output::MAX_DIGITS;
 use config::Plans;
 use events::Comeback;
 use lab_text::parse_line::{Parsed, parse_line};
@@ -20,6 +21,8 @@ pub(crate) struct Buffers {
     pub(crate) parts: Parts,
     /// What leaves.
     pub(crate) out: PacketBuf,
+    /// The digits of what leaves.
+    pub(crate) row: [u8; MAX_DIGITS],
 }
 
 impl Buffers {
@@ -29,6 +32,7 @@ impl Buffers {
             comebacks: [ZEROED; MAX_CIRCUITS],
             parts: Parts::new(),
             out: PacketBuf::new(),
+            row: [0; MAX_DIGITS],
         }
     }
 

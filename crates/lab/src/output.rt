@@ -50,12 +50,13 @@ pub(crate) fn write_bad_line<W: ByteWriter>(writer: &mut W, number: u64) -> Resu
     write_parts(writer, &[b"line ", digits, b" bad\n"])
 }
 
-/// Writes that a frame leaves towards the circuit with this id.
+/// Writes that a frame leaves towards the circuit with this id. Its digits are put into this row.
 fn write_frame<W: ByteWriter>(
     writer: &mut W,
     id: &[u8],
     dest: Dest,
     frame: &PacketBuf,
+    row: &mut [u8; MAX_DIGITS],
 ) -> Result<(), Failed>
     ensures ok { OnOk result (Appends (W.contents writer.old) (W.contents writer.new)
         (with_newline (effect_text id.now (Framed (record { dest = dest; bytes = frame.now }))))) }
@@ -64,8 +65,7 @@ fn write_frame<W: ByteWriter>(
     ensures quiet { OnOk result (W.failures writer.new ≡ W.failures writer.old) }
     ensures cause { OnErr result (W.failures writer.new ≡ W.failures writer.old + 1) }
 {
-    let mut row = [0; MAX_DIGITS];
-    let count = digits_of(frame.as_slice(), &mut row);
+    let count = digits_of(frame.as_slice(), row);
     let digits = &row[..count];
     match dest {
         Dest::Broadcast => write_broadcast(writer, id, digits),
@@ -180,12 +180,13 @@ pub(crate) fn write_done<W: ByteWriter>(writer: &mut W) -> Result<(), Failed>
     writer.write_all(b"ok\n")
 }
 
-/// Writes the outcome of an event of the circuit with this id.
+/// Writes the outcome of an event of the circuit with this id. The digits of a frame are put into this row.
 pub(crate) fn write_outcome<W: ByteWriter>(
     writer: &mut W,
     id: &[u8],
     outcome: Outcome,
     out: &PacketBuf,
+    row: &mut [u8; MAX_DIGITS],
 ) -> Result<(), Failed>
     ensures ok { OnOk result (Appends (W.contents writer.old) (W.contents writer.new)
         (with_newline (effect_text id.now (outcome_effect outcome out.now)))) }
@@ -199,7 +200,7 @@ pub(crate) fn write_outcome<W: ByteWriter>(
         Outcome::Gone => writer.write_all(b"gone\n"),
         Outcome::SentUp(len) => write_number(writer, b"up ", len as u64),
         Outcome::SentDown(len) => write_number(writer, b"down ", len as u64),
-        Outcome::Framed(_, dest) => write_frame(writer, id, dest, out),
+        Outcome::Framed(_, dest) => write_frame(writer, id, dest, out, row),
         Outcome::Done => write_done(writer),
         Outcome::Batched(_) => writer.write_all(b"gone\n"),
         Outcome::NotABatch => writer.write_all(b"gone\n"),

@@ -417,6 +417,7 @@ impl World {
     }
 
     /// Takes one event. A frame that leaves is in `out`, which is empty after every other outcome.
+    #[inline(always)]
     pub fn step(&mut self, event: &Event<'_>, out: &mut PacketBuf) -> Outcome
         ensures steps { Steps event.now (states self.old) (states self.new) result out.new }
         ensures stray { IfSome (stray_outcome self.old.relays.topology event.now) (λ expected. result ≡ expected) }
@@ -486,6 +487,7 @@ impl Machine for World {
 
     ghost device = { λ world. device_of world.disk };
 
+    #[inline(always)]
     fn step(&mut self, event: &Event<'_>, out: &mut PacketBuf) -> Outcome {
         World::step(self, event, out)
     }

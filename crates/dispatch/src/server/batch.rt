@@ -5,7 +5,7 @@ ghost use Rattle.types.specs.declared.discard.Discard as discard;
 ghost use Rattle.lease_disk.specs.Device.{has_failed, is_in};
 ghost use Rattle.dispatch.specs.Batch.{IsBatch, IsBatchOfLeases, IsWrittenTogether, batch_fault, batch_saves, is_circuit};
 ghost use Rattle.requests.specs.Addressee as who;
-ghost use Rattle.dispatch.specs.Parts.{AreAnswered, AreDecided, AreToSettle, IsAnswered, IsPart, IsSettledSo, is_of, has_named, saved_by, saving_in, savings_of};
+ghost use Rattle.dispatch.specs.Parts.{AreAnswered, AreDecided, AreToSettle, IsAnswered, IsPart, IsReceivedBatch, IsSettledSo, is_of, has_named, saved_by, saving_in, savings_of};
 ghost use Rattle.batch_saves.specs.Batch.{part_at};
 ghost use Rattle.std.specs.List.{cons_option};
 ghost use Rattle.dispatch.specs.Regions.{HasRegions};
@@ -17,7 +17,7 @@ ghost use Rattle.circuit_server.specs.Ticked.{state_of};
 
 use super::Server;
 use super::savings::Savings;
-use crate::batch_answers::BatchAnswers;
+use crate::batch_answers::{Answer, BatchAnswers};
 use arrayvec::ArrayVec;
 use batch_saves::{MAX_BATCH, Saving};
 use circuit_server::Prepared;
@@ -110,17 +110,20 @@ impl Server {
     }
 
     /// Decides on each part of a batch, in order.
-    fn prepare_all<'a>(&mut self, parts: &[(Proto, Source, &'a [u8])], now: Moment) -> Batch<'a>
+    fn prepare_all<'a>(
+        &mut self,
+        parts: &[(Proto, Source, &'a [u8])],
+        now: Moment,
+        batch: &mut Batch<'a>,
+    )
         requires most { length parts.now ≤ 16 }
+        requires parts { batch.old.parts.items ≡ [] }
+        requires named { batch.old.named.items ≡ [] }
+        requires savings { batch.old.savings ≡ [] }
         ensures topology { self.new.topology ≡ self.old.topology }
-        ensures made { AreDecided self.old.topology (map (λ part. delivery part.0 part.1 now part.2.now) parts.now) (length parts.now) result.named.items self.old.states self.new.states result.parts.items }
-        ensures savings { result.savings ≡ savings_of result.parts.items }
+        ensures made { AreDecided self.old.topology (map (λ part. delivery part.0 part.1 now part.2.now) parts.now) (length parts.now) batch.new.named.items self.old.states self.new.states batch.new.parts.items }
+        ensures savings { batch.new.savings ≡ savings_of batch.new.parts.items }
     {
-        let mut batch = Batch {
-            parts: ArrayVec::new(),
-            named: ArrayVec::new(),
-            savings: Savings::new(),
-        };
         'parts: for index in 0..parts.len() {
             let Some(part) = parts.get(index) else {
                 unreachable!()
@@ -135,7 +138,6 @@ impl Server {
             batch.savings.add(saving_of(&made));
             batch.parts.push(Some(made));
         }
-        batch
     }
 
     /// Takes several datagrams of this moment, each with its protocol and its source, 1 to 16 of them, as `receive` takes one, but
@@ -168,9 +170,54 @@ impl Server {
         ensures ready { D.tells ≡ true → AreReady (D.device disk.new).region self.new }
         ensures frame { IsWrittenTogether D.tells (batch_saves self.old.topology (map (λ part. delivery part.0 part.1 now part.2.now) parts.now) (books_in self.old)) (D.device disk.old) (D.device disk.new) }
     {
-        let _ = &self.circuits;
         answers.clear();
-        let mut batch = self.prepare_all(parts, now);
+        match parts {
+            [part] => self.receive_alone(part, now, disk, answers),
+            _ => self.receive_together(parts, now, disk, answers),
+        }
+    }
+
+    /// Receives the only datagram of a batch, which needs nothing of what a batch keeps between its steps.
+    fn receive_alone<D: Disk>(
+        &mut self,
+        part: &(Proto, Source, &[u8]),
+        now: Moment,
+        disk: &mut D,
+        answers: &mut BatchAnswers,
+    )
+        requires none { answers.old ≡ [] }
+        requires regions { HasRegions self.old.topology.circuits (D.device disk.old).count }
+        requires ready { D.tells ≡ true → AreReady (D.device disk.old).region self.old }
+        ensures topology { self.new.topology ≡ self.old.topology }
+        ensures received { IsReceivedBatch D.tells (delivery part.now.0 part.now.1 now part.now.2.now ∷ []) answers.new self.old self.new (D.device disk.old) (D.device disk.new) }
+    {
+        let mut out = PacketBuf::new();
+        let made = self.receive(part.0, part.1, part.2, now, disk, &mut out);
+        answers.push(Answer::of(made, out));
+    }
+
+    /// Decides on all parts of a batch, saves them together, and answers them.
+    fn receive_together<D: Disk>(
+        &mut self,
+        parts: &[(Proto, Source, &[u8])],
+        now: Moment,
+        disk: &mut D,
+        answers: &mut BatchAnswers,
+    )
+        requires most { length parts.now ≤ 16 }
+        requires none { answers.old ≡ [] }
+        requires regions { HasRegions self.old.topology.circuits (D.device disk.old).count }
+        requires ready { D.tells ≡ true → AreReady (D.device disk.old).region self.old }
+        ensures topology { self.new.topology ≡ self.old.topology }
+        ensures received { IsReceivedBatch D.tells (map (λ part. delivery part.0 part.1 now part.2.now) parts.now) answers.new self.old self.new (D.device disk.old) (D.device disk.new) }
+    {
+        let _ = &self.circuits;
+        let mut batch = Batch {
+            parts: ArrayVec::new(),
+            named: ArrayVec::new(),
+            savings: Savings::new(),
+        };
+        self.prepare_all(parts, now, &mut batch);
         batch.savings.save(disk);
         self.answer_all(&batch, answers);
     }
@@ -182,7 +229,6 @@ impl Server {
         prepared: &Prepared<'_>,
         savings: &Savings,
         place: usize,
-        out: &mut PacketBuf,
         answers: &mut BatchAnswers,
     )
         requires circuit { circuit < length self.old.topology.circuits }
@@ -193,10 +239,9 @@ impl Server {
         ensures answered { (answer : Result (List ℕ) discard.Discard) × (answers.new ≡ answers.old ++ answer ∷ []) × IsSettledSo self.old.topology prepared.now (saved_by prepared.now.saving (part_at savings.now place)) circuit self.old.states self.new.states answer }
     {
         let saved = savings.outcome(prepared.saving, place);
-        match self.settle(circuit, prepared, saved, out) {
-            Ok(()) => answers.reply(out.as_slice()),
-            Err(why) => answers.discard(why),
-        }
+        let mut out = PacketBuf::new();
+        let made = self.settle(circuit, prepared, saved, &mut out);
+        answers.push(Answer::of(made, out));
     }
 
     /// Answers a part of a batch, where this is the place of its save among those of the batch.
@@ -205,7 +250,6 @@ impl Server {
         part: &Part<'_>,
         savings: &Savings,
         place: usize,
-        out: &mut PacketBuf,
         answers: &mut BatchAnswers,
     )
         requires exists { IfOk part.now (λ one. one.0 < length self.old.topology.circuits) }
@@ -218,9 +262,9 @@ impl Server {
     {
         match part {
             Ok((circuit, prepared)) => {
-                self.settle_part(*circuit, prepared, savings, place, out, answers);
+                self.settle_part(*circuit, prepared, savings, place, answers);
             }
-            Err(why) => answers.discard(*why),
+            Err(why) => answers.push(Answer::Dropped(*why)),
         }
     }
 
@@ -233,11 +277,10 @@ impl Server {
         ensures topology { self.new.topology ≡ self.old.topology }
         ensures answered { AreAnswered self.old.topology batch.now.parts.items batch.now.savings (length batch.now.parts.items) self.old.states self.new.states answers.new }
     {
-        let mut out = PacketBuf::new();
         let mut place = 0;
         'parts: for part in batch.parts.iter() {
             let Some(part) = part else { unreachable!() };
-            self.answer_part(part, &batch.savings, place, &mut out, answers);
+            self.answer_part(part, &batch.savings, place, answers);
             place = place_after(place, part);
         }
     }

@@ -223,7 +223,7 @@ fn answer_outcome(answer: Option<&Answer>) -> PartOutcome
     ensures short { IsShort result }
 {
     match answer {
-        Some(Answer::Reply(reply)) => PartOutcome::SentDown(reply.len()),
+        Some(Answer::Reply(reply)) => PartOutcome::SentDown(reply.len() as u16),
         Some(Answer::Dropped(why)) => PartOutcome::Dropped(*why),
         None => PartOutcome::Gone,
     }
@@ -260,7 +260,9 @@ fn outcomes_of(
 }
 
 impl World {
-    /// A datagram of each of several circuits at the server.
+    /// A datagram of each of several circuits at the server. It is apart from the other events, since what it has on
+    /// the stack is large.
+    #[inline(never)]
     pub(super) fn batch(
         &mut self,
         now: Moment,

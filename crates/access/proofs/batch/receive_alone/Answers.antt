@@ -1,4 +1,4 @@
-use Rattle.std.proofs.Common.{◌≡◌, false, refl, rules, subst}
+use Rattle.std.proofs.Common.{take, ◌≡◌, false, refl, rules, subst}
 use Rattle.types.specs.Delivery.{delivery}
 use Rattle.lease_disk.proofs.Frames.{writes_count}
 use Rattle.lease_disk.specs.Device.{has_failed}
@@ -8,7 +8,8 @@ use Rattle.dispatch.specs.Received.{received}
 use Rattle.dispatch.specs.ServerValue.{books_in}
 use Rattle.udp.specs.declared.history.Role.TheVariants as role
 use Rattle.counts.specs.declared.counts.Outcome.TheVariants as outcome
-use Rattle.access.specs.Batch.{delivered, made_of, serving}
+use Rattle.access.specs.Batch.{made_of, serving}
+use Rattle.access.specs.Taken.{delivered}
 use Rattle.access.proofs.AnswerLemmas.{went}
 use Rattle.access.proofs.batch.receive_alone.Goals as goal
 
@@ -21,7 +22,7 @@ returns-clause-answered c =
     let old = serving server disk c.args.counts.now c.args.history.now.entries in
     let new = serving made.new.self made.new.disk c.count.new.self c.send_on-outcome.new.history.entries in
     let fails = has_failed (device_of disk) (device_of made.new.disk) in
-    let same : c.as_slice-bytes.result.now ≡ d.bytes.items = search rules in
+    let same : c.bytes-bytes.result.now ≡ take d.len d.buffer = search rules in
     let answer = subst (λ bytes. IsAnswer (received server.topology (delivery d.proto d.source c.args.now bytes) fails (books_in server)).answer made.result made.new.out) same made.ensures.answer in
     let books = subst (λ bytes. books_in made.new.self ≡ (received server.topology (delivery d.proto d.source c.args.now bytes) fails (books_in server)).books) same made.ensures.books in
     let w = went _ (role.Server d.proto) _ d.source outcome.Answered (made_of (delivered c.args.now d) old new).answer made.result _ made.new.out c.args.history.now.entries

@@ -1,9 +1,10 @@
-use Rattle.std.proofs.Common.{◌≡◌, ◌∙◌, ◌++◌, length, refl, sym, ap, subst}
+use Rattle.std.proofs.Common.{◌≡◌, ◌∙◌, ◌++◌, length, min, refl, sym, ap, subst, arith}
 use Rattle.std.proofs.lemmas.List.{length-map}
 use Rattle.config.specs.Topology.{Topology}
 use Rattle.dispatch.specs.Regions.{HasRegions}
 use Rattle.access.specs.Access.{AccessValue, HasServed}
-use Rattle.access.specs.Batch.{AreReceived, AreReceivedAgain, AreReplied, HasTried, all_delivered, delivered, serving}
+use Rattle.access.specs.Batch.{AreReceived, AreReceivedAgain, AreReplied, HasTried, serving}
+use Rattle.access.specs.Taken.{all_delivered, delivered}
 use Rattle.access.specs.Polling.{IsPolled, deliveries_in}
 use Rattle.access.specs.contracts.access.Access.{the_view}
 use Rattle.access.proofs.ServedLemmas.{access_kept, all_stays, received_stays}
@@ -12,13 +13,13 @@ use Rattle.access.proofs.access.Access.take_at_server.Goals as goal
 pub receive_again-requires-clause-regions : goal.receive_again-requires-clause-regions
 receive_again-requires-clause-regions c =
     let inside = c.self.inside in
-    let stays = received_stays (all_delivered c.args.now c.poll.new.self.taken.items) c.receive.new.self.answers _ _ (c.receive.ensures.received inside.counts c.poll.new.history.entries) in
+    let stays = received_stays (all_delivered c.args.now c.poll.new.self.taken) c.receive.new.self.answers _ _ (c.receive.ensures.received inside.counts c.poll.new.history.entries) in
     subst (λ count. HasRegions c.receive.new.server.topology.circuits count) (sym stays.regions) (subst (λ (t : Topology). HasRegions t.circuits inside.disk.regions) (sym stays.topology) c.self.invariant.5)
 
 pub invariant_of-self : goal.invariant_of-self
 invariant_of-self c =
     let inside = c.self.inside in
-    let stays = all_stays (all_delivered c.args.now c.poll.new.self.taken.items) (all_delivered c.args.now c.receive.new.self.taken.items) c.receive.new.self.answers (length c.receive.new.self.taken.items) _ _ _
+    let stays = all_stays (all_delivered c.args.now c.poll.new.self.taken) (all_delivered c.args.now c.receive.new.self.taken) c.receive.new.self.answers (length c.receive.new.self.taken) _ _ _
     c.reply.new.counts c.reply.new.history.entries (c.receive.ensures.received inside.counts c.poll.new.history.entries) c.receive_again.ensures.again in
     access_kept inside.relays.topology inside.sockets inside.server c.receive_again.new.server inside.disk.regions c.receive_again.new.disk.regions inside.port inside.batch.most c.receive.new.self.most
     inside.history.id c.receive_again.new.history.id inside.listen4 inside.listen6 c.self.invariant stays.topology stays.regions (c.receive.ensures.most ∙ c.poll.ensures.most)
@@ -31,20 +32,22 @@ returns-clause-served c =
     let polled = c.poll.ensures.taken in
     let entries = polled.entries in
     let datagrams = deliveries_in now entries in
-    let items = c.receive.new.self.taken.items in
+    let items = c.receive.new.self.taken in
     let answers = c.receive.new.self.answers in
     let start = serving inside.server inside.disk inside.counts (inside.history.entries ++ entries) in
     let saved = serving c.receive.new.server c.receive.new.disk inside.counts c.poll.new.history.entries in
     let sent = serving c.receive.new.server c.receive.new.disk c.reply.new.counts c.reply.new.history.entries in
     let new = serving c.receive_again.new.server c.receive_again.new.disk c.receive_again.new.counts c.receive_again.new.history.entries in
-    let all : all_delivered now items ≡ datagrams = ap (λ t. all_delivered now t.items) c.receive.ensures.taken ∙ polled.datagrams now in
+    let all : all_delivered now items ≡ datagrams = ap (λ t. all_delivered now t) c.receive.ensures.taken ∙ polled.datagrams now in
     let many : length items ≡ length datagrams = sym (length-map items (delivered now)) ∙ ap length all in
     let count : c.len.result ≡ length datagrams = c.len.ensures ∙ many in
     let size : length items ≡ c.len.result = sym c.len.ensures in
+    let answered : length answers ≡ length items = c.receive.ensures.count ∙ sym (ap length c.receive.ensures.taken) in
+    let least : min (length items) (length answers) ≡ c.len.result = omega (arith, answered, size) in
     let received = subst (λ ds. AreReceived ds answers start saved) (polled.datagrams now)
-    (subst (λ h. AreReceived (all_delivered now c.poll.new.self.taken.items) answers (serving inside.server inside.disk inside.counts h) saved) polled.history (c.receive.ensures.received inside.counts c.poll.new.history.entries)) in
-    let replied = subst (λ n. HasTried (AreReplied datagrams answers n) inside.counts c.reply.new.counts c.poll.new.history.entries c.reply.new.history.entries) size
-    (subst (λ ds. HasTried (AreReplied ds answers (length items)) inside.counts c.reply.new.counts c.poll.new.history.entries c.reply.new.history.entries) all (c.reply.ensures.replied now)) in
+    (subst (λ h. AreReceived (all_delivered now c.poll.new.self.taken) answers (serving inside.server inside.disk inside.counts h) saved) polled.history (c.receive.ensures.received inside.counts c.poll.new.history.entries)) in
+    let replied = subst (λ n. HasTried (AreReplied datagrams answers n) inside.counts c.reply.new.counts c.poll.new.history.entries c.reply.new.history.entries) least
+    (subst (λ ds. HasTried (AreReplied ds answers (min (length items) (length answers))) inside.counts c.reply.new.counts c.poll.new.history.entries c.reply.new.history.entries) all (c.reply.ensures.replied now)) in
     let again = subst (λ n. AreReceivedAgain datagrams answers n sent new) size (subst (λ ds. AreReceivedAgain ds answers (length items) sent new) all c.receive_again.ensures.again) in
     let stays = all_stays datagrams datagrams answers c.len.result start saved new c.reply.new.counts c.reply.new.history.entries received again in
     subst (λ (old : AccessValue). HasServed now c.len.result old

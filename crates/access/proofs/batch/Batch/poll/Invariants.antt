@@ -1,5 +1,5 @@
 use Rattle.std.proofs.Common.{◌≡◌, ◌≤◌, ◌+◌, length}
-use Rattle.access.specs.Batch.{HasPolled}
+use Rattle.access.proofs.PollingLemmas.{HasPolled}
 use Rattle.access.proofs.PollingLemmas.{tries_left}
 use Rattle.access.proofs.batch.Batch.poll.Given as goal
 
@@ -9,8 +9,8 @@ invariant-sockets l = record {
   same : l.history.id ≡ l.fn.history.id;
   most : l.self.most ≡ l.fn.self.most;
   first : l.self.first ≡ l.fn.self.first;
-  room : length l.self.taken.items + l.polling.left ≤ l.fn.self.most;
-  polled : HasPolled l.fn.self.most l.fn.self.first l.polling l.self.taken.items l.fn.history.entries l.history.entries;
+  room : length l.self.taken + l.polling.left ≤ l.fn.self.most;
+  polled : HasPolled l.fn.self.most l.fn.self.first l.polling l.self.taken l.fn.history.entries l.history.entries;
 }
 
 abbrev pub decreases-sockets : goal.decreases-sockets

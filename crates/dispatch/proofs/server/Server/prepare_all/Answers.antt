@@ -17,10 +17,10 @@ parts-init c = record {
   most = c.requires.most;
   topology = refl;
   made =
-      subst (λ named. AreDecided c.args.self.now.topology (map (λ part. delivery part.0 part.1 c.args.now part.2.now) c.args.parts.now) 0 named c.args.self.now.states c.args.self.now.states c.new.result.items) (sym c.new-2.ensures)
-      (subst (λ parts. AreDecided c.args.self.now.topology (map (λ part. delivery part.0 part.1 c.args.now part.2.now) c.args.parts.now) 0 [] c.args.self.now.states c.args.self.now.states parts) (sym c.new.ensures)
+      subst (λ named. AreDecided c.args.self.now.topology (map (λ part. delivery part.0 part.1 c.args.now part.2.now) c.args.parts.now) 0 named c.args.self.now.states c.args.self.now.states c.args.batch.now.parts.items) (sym c.requires.named)
+      (subst (λ parts. AreDecided c.args.self.now.topology (map (λ part. delivery part.0 part.1 c.args.now part.2.now) c.args.parts.now) 0 [] c.args.self.now.states c.args.self.now.states parts) (sym c.requires.parts)
       (made_none c.args.self.now.topology (map (λ part. delivery part.0 part.1 c.args.now part.2.now) c.args.parts.now) c.args.self.now.states));
-  savings = c.new-3.ensures ∙ sym (ap savings_of c.new.ensures);
+  savings = c.requires.savings ∙ sym (ap savings_of c.requires.parts);
 }
 
 pub add-requires : goal.add-requires

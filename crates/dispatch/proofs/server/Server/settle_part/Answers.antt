@@ -1,4 +1,4 @@
-use Rattle.std.proofs.Common.{◌≡◌, ◌∙◌, ◌<◌, ℕ, Ok, Err, List, length, sym, ap, subst}
+use Rattle.std.proofs.Common.{◌≡◌, ◌∙◌, ◌<◌, ◌++◌, ◌∷◌, [], ℕ, List, length, refl, ap, subst}
 use Rattle.std.specs.Prelude.{Option, Some, Result, slice_get}
 use Rattle.types.specs.declared.discard.Discard.{Discard}
 use Rattle.lease_disk.specs.declared.device.Fault.{Fault}
@@ -9,7 +9,8 @@ use Rattle.circuit_server.specs.CircuitServerValue.{OpenCircuitValue}
 use Rattle.circuit_server.specs.Prepared.{IsSettled}
 use Rattle.circuit_server.specs.declared.prepared.Prepared.{Prepared}
 use Rattle.circuit_server.specs.Ticked.{state_of}
-use Rattle.dispatch.specs.Parts.{IsSettledSo, answer_by}
+use Rattle.dispatch.specs.Answers.{answer_by}
+use Rattle.dispatch.specs.Parts.{IsSettledSo}
 use Rattle.dispatch.proofs.WithStates.{there_is}
 use Rattle.dispatch.proofs.server.Server.settle_part.Goals as goal
 
@@ -28,18 +29,11 @@ settled_so topology prepared c old new saved by_it result out answer inside is g
       given = given;
     }
 
-pub returns-in-Ok-clause-answered : goal.returns-in-Ok-clause-answered
-returns-in-Ok-clause-answered c = (
-  Ok c.as_slice.result.now,
-  c.reply.ensures,
-  settled_so c.args.self.now.topology c.args.prepared.now c.args.circuit c.args.self.now.states c.settle.new.self.states c.outcome-saved.result _ c.settle.result c.settle.new.out (Ok c.as_slice.result.now) c.requires.circuit c.outcome-saved.ensures
-      (ap Ok c.as_slice.ensures.value ∙ sym (ap (λ r. answer_by r c.settle.new.out) c.in-Ok.is)) c.settle.ensures.settled,
-)
-
-pub returns-in-Err-clause-answered : goal.returns-in-Err-clause-answered
-returns-in-Err-clause-answered c = (
-  Err c.in-Err.why,
-  c.discard.ensures,
-  settled_so c.args.self.now.topology c.args.prepared.now c.args.circuit c.args.self.now.states c.settle.new.self.states c.outcome-saved.result _ c.settle.result c.settle.new.out (Err c.in-Err.why) c.requires.circuit c.outcome-saved.ensures
-      (sym (ap (λ r. answer_by r c.settle.new.out) c.in-Err.is)) c.settle.ensures.settled,
-)
+pub returns-clause-answered : goal.returns-clause-answered
+returns-clause-answered c =
+    let answer = answer_by c.settle-made.result c.settle-made.new.out in (
+      answer,
+      c.push.ensures ∙ ap (λ a. c.args.answers.now ++ a ∷ []) c.of.ensures,
+      settled_so c.args.self.now.topology c.args.prepared.now c.args.circuit c.args.self.now.states c.settle-made.new.self.states c.outcome-saved.result _ c.settle-made.result c.settle-made.new.out answer c.requires.circuit c.outcome-saved.ensures refl
+          c.settle-made.ensures.settled,
+    )

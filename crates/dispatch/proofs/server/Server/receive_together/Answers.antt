@@ -5,62 +5,50 @@ use Rattle.batch_saves.specs.Batch.{AreApart}
 use Rattle.batch_saves.specs.Batch as saves
 use Rattle.batch_saves.specs.declared.saving.Saving.{Saving}
 use Rattle.config.specs.Topology.{IsTopology, Topology}
-use Rattle.dispatch.specs.Parts.{AreAnswered, AreSavedTogether, AreToSettle}
+use Rattle.dispatch.specs.Parts.{AreAnswered, AreSavedTogether, AreToSettle, IsReceivedBatch}
 use Rattle.dispatch.specs.ServerValue.{ServerValue}
-use Rattle.dispatch.proofs.BatchClauses.{IsReceivedBatch, received_batch, saves_apart, saves_ready}
+use Rattle.dispatch.proofs.BatchClauses.{received_batch, saves_apart, saves_ready}
 use Rattle.dispatch.proofs.SaverLemmas.{to_settle}
-use Rattle.dispatch.proofs.server.Server.receive_batch.Given as given
-use Rattle.dispatch.proofs.server.Server.receive_batch.Goals as goal
+use Rattle.dispatch.proofs.server.Server.receive_together.Given as given
+use Rattle.dispatch.proofs.server.Server.receive_together.Goals as goal
 
 pub save-requires-clause-apart : goal.save-requires-clause-apart
 save-requires-clause-apart g c =
-    let made = c.prepare_all-batch.ensures in
+    let made = c.prepare_all.ensures in
     let sound = subst (λ (s : ServerValue). IsTopology s.topology) c.self.view_is c.self.invariant.0.sound in
     let size = subst (λ (s : ServerValue). length s.states ≡ length s.topology.circuits) c.self.view_is c.self.invariant.0.size in
     subst AreApart (sym made.savings)
-    (saves_apart c.args.self.now (map (λ part. delivery part.0 part.1 c.args.now part.2.now) c.args.parts.now) (length c.args.parts.now) c.prepare_all-batch.result.named.items c.prepare_all-batch.new.self.states c.prepare_all-batch.result.parts.items
+    (saves_apart c.args.self.now (map (λ part. delivery part.0 part.1 c.args.now part.2.now) c.args.parts.now) (length c.args.parts.now) c.prepare_all.new.batch.named.items c.prepare_all.new.self.states c.prepare_all.new.batch.parts.items
     (length-map c.args.parts.now _) made.made sound size)
 
 pub save-requires-clause-ready : goal.save-requires-clause-ready
 save-requires-clause-ready g c =
-    let made = c.prepare_all-batch.ensures in
+    let made = c.prepare_all.ensures in
     let sound = subst (λ (s : ServerValue). IsTopology s.topology) c.self.view_is c.self.invariant.0.sound in
     let size = subst (λ (s : ServerValue). length s.states ≡ length s.topology.circuits) c.self.view_is c.self.invariant.0.size in
     subst (saves.AreReady g.D.Disk.tells (g.D.Disk.device c.args.disk.now)) (sym made.savings)
-    (saves_ready c.args.self.now (map (λ part. delivery part.0 part.1 c.args.now part.2.now) c.args.parts.now) (length c.args.parts.now) c.prepare_all-batch.result.named.items c.prepare_all-batch.new.self.states c.prepare_all-batch.result.parts.items
+    (saves_ready c.args.self.now (map (λ part. delivery part.0 part.1 c.args.now part.2.now) c.args.parts.now) (length c.args.parts.now) c.prepare_all.new.batch.named.items c.prepare_all.new.self.states c.prepare_all.new.batch.parts.items
     (length-map c.args.parts.now _) made.made sound size g.D.Disk.tells (g.D.Disk.device c.args.disk.now) c.requires.regions c.requires.ready)
 
 pub answer_all-requires-clause-parts : goal.answer_all-requires-clause-parts
 answer_all-requires-clause-parts g c =
-    let made = c.prepare_all-batch.ensures in
-    subst (λ (t : Topology). AreToSettle t c.prepare_all-batch.result.parts.items) (sym made.topology)
-    (to_settle c.args.self.now.topology (map (λ part. delivery part.0 part.1 c.args.now part.2.now) c.args.parts.now) (length c.args.parts.now) c.prepare_all-batch.result.named.items c.args.self.now.states c.prepare_all-batch.new.self.states c.prepare_all-batch.result.parts.items
+    let made = c.prepare_all.ensures in
+    subst (λ (t : Topology). AreToSettle t c.prepare_all.new.batch.parts.items) (sym made.topology)
+    (to_settle c.args.self.now.topology (map (λ part. delivery part.0 part.1 c.args.now part.2.now) c.args.parts.now) (length c.args.parts.now) c.prepare_all.new.batch.named.items c.args.self.now.states c.prepare_all.new.self.states c.prepare_all.new.batch.parts.items
     (length-map c.args.parts.now _) made.made)
 
 done : (g : given.Over) (c : goal.After-answer_all g)
     → IsReceivedBatch g.D.Disk.tells (map (λ part. delivery part.0 part.1 c.args.now part.2.now) c.args.parts.now) c.answer_all.new.answers c.args.self.now c.answer_all.new.self (g.D.Disk.device c.args.disk.now) (g.D.Disk.device c.save.new.disk)
 done g c =
-    let made = c.prepare_all-batch.ensures in
+    let made = c.prepare_all.ensures in
     let ended = c.answer_all.ensures.answered in
     let sound = subst (λ (s : ServerValue). IsTopology s.topology) c.self.view_is c.self.invariant.0.sound in
     let size = subst (λ (s : ServerValue). length s.states ≡ length s.topology.circuits) c.self.view_is c.self.invariant.0.size in
-    let parts = c.prepare_all-batch.result.parts.items in
-    received_batch c.args.self.now (map (λ part. delivery part.0 part.1 c.args.now part.2.now) c.args.parts.now) (length c.args.parts.now) c.prepare_all-batch.result.named.items c.prepare_all-batch.new.self.states parts
+    let parts = c.prepare_all.new.batch.parts.items in
+    received_batch c.args.self.now (map (λ part. delivery part.0 part.1 c.args.now part.2.now) c.args.parts.now) (length c.args.parts.now) c.prepare_all.new.batch.named.items c.prepare_all.new.self.states parts
     (length-map c.args.parts.now _) made.made sound size c.answer_all.new.self (c.answer_all.ensures.topology ∙ made.topology) c.save.new.self g.D.Disk.tells (g.D.Disk.device c.args.disk.now) (g.D.Disk.device c.save.new.disk)
     (subst (λ (ss : List Saving). AreSavedTogether g.D.Disk.tells ss c.save.new.self (g.D.Disk.device c.args.disk.now) (g.D.Disk.device c.save.new.disk)) made.savings c.save.ensures)
-    c.answer_all.new.answers (subst (λ (t : Topology). AreAnswered t parts c.save.new.self (length parts) c.prepare_all-batch.new.self.states c.answer_all.new.self.states c.answer_all.new.answers) made.topology ended) c.requires.ready
+    c.answer_all.new.answers (subst (λ (t : Topology). AreAnswered t parts c.save.new.self (length parts) c.prepare_all.new.self.states c.answer_all.new.self.states c.answer_all.new.answers) made.topology ended) c.requires.ready
 
-pub returns-clause-answers : goal.returns-clause-answers
-returns-clause-answers g c = (done g c).answers
-
-pub returns-clause-fails : goal.returns-clause-fails
-returns-clause-fails g c = (done g c).fails
-
-pub returns-clause-leases : goal.returns-clause-leases
-returns-clause-leases g c = (done g c).leases
-
-pub returns-clause-ready : goal.returns-clause-ready
-returns-clause-ready g c = (done g c).ready
-
-pub returns-clause-frame : goal.returns-clause-frame
-returns-clause-frame g c = (done g c).frame
+pub returns-clause-received : goal.returns-clause-received
+returns-clause-received g c = done g c

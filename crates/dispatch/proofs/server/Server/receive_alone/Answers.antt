@@ -1,0 +1,15 @@
+use Rattle.std.proofs.Common.{◌∙◌, ◌∷◌, ◌++◌, ℕ, List, [], ap}
+use Rattle.std.specs.Prelude.{Result}
+use Rattle.types.specs.Delivery.{delivery}
+use Rattle.types.specs.declared.discard.Discard.{Discard}
+use Rattle.dispatch.specs.Answers.{answer_of}
+use Rattle.dispatch.proofs.AloneLemmas.{received_batch_of_one}
+use Rattle.dispatch.proofs.server.Server.receive_alone.Goals as goal
+
+pub returns-clause-received : goal.returns-clause-received
+returns-clause-received g c =
+    let part = c.args.part.now in
+    let made = c.receive-made in
+    received_batch_of_one g.D.Disk.tells (delivery part.0 part.1 c.args.now part.2.now) c.args.self.now made.new.self (g.D.Disk.device c.args.disk.now) (g.D.Disk.device made.new.disk) made.result made.new.out c.push.new.self
+    made.ensures.answer made.ensures.books made.ensures.fails made.ensures.leases made.ensures.ready made.ensures.frame
+    (c.push.ensures ∙ ap (λ (xs : List (Result (List ℕ) Discard)). xs ++ answer_of c.of.result ∷ []) c.requires.none ∙ ap (λ a. a ∷ []) c.of.ensures)
