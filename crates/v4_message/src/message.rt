@@ -1,7 +1,8 @@
 //! Whole messages (RFC 2131, section 2).
-ghost use Rattle.std.specs.Prelude.{◌≡◌, ◌≤◌, ◌<◌, ◌+◌, ◌↔◌, [], ◌∷◌, ◌++◌, ◌==◌, ◌||◌, length, Some, Ok, Err, IsOk, OnOk, OnErr, IfSome, option_map};
+ghost use Rattle.std.specs.Prelude.{◌≡◌, ◌≤◌, ◌<◌, ◌+◌, ◌↔◌, ℕ, List, [], ◌∷◌, ◌++◌, ◌==◌, ◌||◌, length, Some, Ok, Err, IsOk, OnOk, OnErr, IfSome, option_map};
+ghost use Rattle.std.specs.Option.{option_or};
 ghost use Rattle.types.specs.Kind4.{code_of_kind};
-ghost use Rattle.v4_options.specs.Codes.{REQUESTED_ADDRESS, MESSAGE_TYPE, SERVER_IDENTIFIER, CLIENT_IDENTIFIER, RELAY_AGENT_INFORMATION};
+ghost use Rattle.v4_options.specs.Codes.{REQUESTED_ADDRESS, OPTION_OVERLOAD, MESSAGE_TYPE, SERVER_IDENTIFIER, CLIENT_IDENTIFIER, RELAY_AGENT_INFORMATION};
 ghost use Rattle.v4_options.specs.Spelling.{look_up};
 ghost use Rattle.v4_message.specs.Header.{IsSized};
 ghost use Rattle.v4_message.specs.Reading.{are_allowed, has_cookie, is_ethernet, kind_in, may_be_addr, message_of};
@@ -226,13 +227,14 @@ fn message_in(bytes: &[u8]) -> Result<Message<'_>, MessageFault>
     let Ok(options) = Options::read(tail) else {
         return Err(MessageFault::Options);
     };
-    if !are_allowed(&options) {
+    let judged = judge(&options);
+    if !judged.are_allowed {
         return Err(MessageFault::Options);
     }
     if !is_op(bytes[field::OP]) {
         return Err(MessageFault::Kind);
     }
-    match kind_of(&options) {
+    match judged.kind {
         None => Err(MessageFault::Kind),
         Some(kind) => Ok(Message {
             bytes,
@@ -262,28 +264,95 @@ fn is_op(op: u8) -> bool
     op == OP_REQUEST || op == OP_REPLY
 }
 
-fn are_allowed(options: &Options<'_>) -> bool
-    ensures { result ≡ are_allowed options.now }
-{
-    options.get(code::OPTION_OVERLOAD).is_none()
-        && has_addr_or_none(options, code::REQUESTED_ADDRESS)
-        && has_addr_or_none(options, code::SERVER_IDENTIFIER)
+/// What the options of a message decide.
+#[derive(Drop)]
+struct Judged {
+    are_allowed: bool,
+    kind: Option<Kind4>,
 }
 
-/// Whether the option with this code is an address or absent.
-fn has_addr_or_none(options: &Options<'_>, code: u8) -> bool
-    ensures { result ≡ may_be_addr (look_up code options.now) }
+fn judge(options: &Options<'_>) -> Judged
+    ensures allowed { result.are_allowed ≡ are_allowed options.now }
+    ensures kind { option_map code_of_kind result.kind ≡ kind_in (look_up MESSAGE_TYPE options.now) }
 {
-    match options.get(code) {
+    let deciding = deciding_in(options);
+    let has_overload = deciding.overload.is_some();
+    let are_addrs = is_addr_or_none(deciding.requested) && is_addr_or_none(deciding.server);
+    Judged {
+        are_allowed: !has_overload && are_addrs,
+        kind: kind_of(deciding.kind),
+    }
+}
+
+/// The values of the options that decide whether a message is read.
+#[derive(Drop)]
+struct Deciding<'a> {
+    requested: Option<&'a [u8]>,
+    overload: Option<&'a [u8]>,
+    kind: Option<&'a [u8]>,
+    server: Option<&'a [u8]>,
+}
+
+/// Finds them all in one walk over the options.
+fn deciding_in<'a>(options: &Options<'a>) -> Deciding<'a>
+    ensures requested { option_map (λ value. value.now) result.requested ≡ look_up REQUESTED_ADDRESS options.now }
+    ensures overload { option_map (λ value. value.now) result.overload ≡ look_up OPTION_OVERLOAD options.now }
+    ensures kind { option_map (λ value. value.now) result.kind ≡ look_up MESSAGE_TYPE options.now }
+    ensures server { option_map (λ value. value.now) result.server ≡ look_up SERVER_IDENTIFIER options.now }
+{
+    let mut requested = None;
+    let mut overload = None;
+    let mut kind = None;
+    let mut server = None;
+    'row: for (number, value) in options.iter() {
+        // all four codes are between these two
+        if number < code::REQUESTED_ADDRESS || number > code::SERVER_IDENTIFIER {
+            continue;
+        }
+        requested = first_of(requested, code::REQUESTED_ADDRESS, number, value);
+        overload = first_of(overload, code::OPTION_OVERLOAD, number, value);
+        kind = first_of(kind, code::MESSAGE_TYPE, number, value);
+        server = first_of(server, code::SERVER_IDENTIFIER, number, value);
+    }
+    Deciding {
+        requested,
+        overload,
+        kind,
+        server,
+    }
+}
+
+/// The value that was found before, else that of the option with this number where it is the one wanted.
+fn first_of<'a>(
+    before: Option<&'a [u8]>,
+    wanted: u8,
+    number: u8,
+    value: &'a [u8],
+) -> Option<&'a [u8]>
+    ensures { (rest : List (ℕ × List ℕ)) → option_or (option_map (λ value. value.now) result) (look_up wanted rest) ≡ option_or (option_map (λ value. value.now) before.entry) (look_up wanted ((number, value.now) ∷ rest)) }
+{
+    match before {
+        Some(_) => before,
+        None if number == wanted => Some(value),
+        None => None,
+    }
+}
+
+/// Whether an option is an address or absent.
+fn is_addr_or_none(found: Option<&[u8]>) -> bool
+    ensures { result ≡ may_be_addr (option_map (λ value. value.now) found.entry) }
+{
+    match found {
         None => true,
         Some(value) => value.len() == field::ADDR_LEN,
     }
 }
 
-fn kind_of(options: &Options<'_>) -> Option<Kind4>
-    ensures { option_map code_of_kind result ≡ kind_in (look_up MESSAGE_TYPE options.now) }
+/// The kind that option 53 means.
+fn kind_of(found: Option<&[u8]>) -> Option<Kind4>
+    ensures { option_map code_of_kind result ≡ kind_in (option_map (λ value. value.now) found.entry) }
 {
-    match options.get(code::MESSAGE_TYPE) {
+    match found {
         Some([code]) => Kind4::new(*code),
         _ => None,
     }

@@ -7,3 +7,4 @@ pub mod Exact
 pub mod Left
 pub mod Subexact
 pub mod Lengths
+pub mod Ends

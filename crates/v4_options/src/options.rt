@@ -1,15 +1,16 @@
 //! Lists of options (RFC 2132, section 2).
 ghost use Rattle.std.specs.Prelude.{◌≡◌, ◌≤◌, ◌<◌, ◌+◌, ◌↔◌, ℕ, List, ◌++◌, [], length, IsOk, OnOk, OnErr, IfSome, option_map};
 ghost use Rattle.v4_options.specs.Spelling.{spelling, look_up, without, Spells, Fails};
-ghost use Rattle.v4_options.specs.Reading.{options_of};
+ghost use Rattle.v4_options.specs.Reading.{listed_from, options_of};
+ghost use Rattle.v4_options.specs.declared.token.Syntax.TheVariants as syntax;
 
+use crate::code::END;
 use crate::fault::{OptFault, fault_in};
 use crate::iter::Iter;
-use crate::token::Syntax;
-use crate::writing::put;
+use crate::token::{Syntax, Token, next_token};
 use std::marker::Model;
 use types::MAX_DATAGRAM;
-use wire::{Full, PacketBuf};
+use wire::{Cursor, Full, PacketBuf};
 
 /// A list of options in the bytes that it was read from. Its values are slices of those bytes.
 #[derive(Debug, Drop)]
@@ -63,10 +64,8 @@ impl<'a> Options<'a> {
         ensures err { OnErr result (out.new ≡ []) }
     {
         prove!(out.len() <= MAX_DATAGRAM);
-        'row: for (code, value) in self.iter() {
-            put(code, value, out)?;
-        }
-        Ok(())
+        // no option has the code of the end
+        write_rows(self.bytes, END, out)
     }
 
     /// As `write`, without the option of one code.
@@ -76,11 +75,47 @@ impl<'a> Options<'a> {
         ensures err { OnErr result (out.new ≡ []) }
     {
         prove!(out.len() <= MAX_DATAGRAM);
-        'row: for (other, value) in self.iter() {
-            if other != left_out {
-                put(other, value, out)?;
-            }
-        }
-        Ok(())
+        write_rows(self.bytes, left_out, out)
     }
+}
+
+/// Appends options without pads and without those of one code. Options that follow one another without either between them
+/// are appended together.
+fn write_rows(bytes: &[u8], left_out: u8, out: &mut PacketBuf) -> Result<(), Full>
+    requires { length out.old ≤ 1280 }
+    ensures full { IsOk result ↔ (length out.old + length (spelling (without left_out (listed_from syntax.Options 0 bytes.now))) ≤ 1280) }
+    ensures ok { OnOk result (out.new ≡ out.old ++ spelling (without left_out (listed_from syntax.Options 0 bytes.now))) }
+    ensures err { OnErr result (out.new ≡ []) }
+{
+    let mut left = Cursor::new(bytes);
+    let mut front = bytes;
+    let mut len = 0;
+    'row: loop {
+        match next_token(&mut left, Syntax::Options) {
+            Token::Whole(code, _) if code != left_out => {
+                len = front.len() - left.rest().len();
+                continue;
+            }
+            Token::Whole(_, _) => {}
+            Token::Pad => {}
+            Token::Nothing | Token::End | Token::Cut => break,
+        }
+        append(&front[..len], out)?;
+        front = left.rest();
+        len = 0;
+    }
+    append(&front[..len], out)
+}
+
+/// Appends bytes. Where they do not fit, `out` is left empty.
+fn append(bytes: &[u8], out: &mut PacketBuf) -> Result<(), Full>
+    ensures full { IsOk result ↔ (length out.old + length bytes.now ≤ 1280) }
+    ensures ok { OnOk result (out.new ≡ out.old ++ bytes.now) }
+    ensures err { OnErr result (out.new ≡ []) }
+{
+    if out.extend(bytes).is_err() {
+        out.clear();
+        return Err(Full);
+    }
+    Ok(())
 }

@@ -1,19 +1,24 @@
-use Rattle.std.proofs.Common.{arith, sym, ◌∙◌}
+use Rattle.std.proofs.Common.{◌≡◌, Bool, true, false, not, arith, refl, sym, ◌∙◌}
 use Rattle.types.specs.Kind4.{code_of_kind}
 use Rattle.v4_options.specs.Codes.{MESSAGE_TYPE}
 use Rattle.v4_options.specs.Spelling.{look_up}
 use Rattle.v4_message.proofs.Decisions.{op, allowed, kind_found}
 use Rattle.v4_message.proofs.message.message_in.Goals as goal
 
+true_of_not : (b : Bool) → not b ≡ false → b ≡ true
+true_of_not true e = refl
+true_of_not false e = sym e
+
 pub invariant_of-result : goal.invariant_of-result
 invariant_of-result c =
-    let found = kind_found (look_up MESSAGE_TYPE c.in-Ok.options) (code_of_kind c.in-Some.kind) (sym c.in-Some.ensures) in
+    let told = rw c.in-Some.is at c.judge-judged.ensures.kind in
+    let found = kind_found (look_up MESSAGE_TYPE c.in-Ok.options) (code_of_kind c.in-Some.kind) (sym told) in
     record {
       long = omega arith;
       valid = record {
         op = (op _).0 (sym c.is_op.ensures ∙ c.if-not-is_op.false);
         kind = found.0;
-        allowed = (allowed c.in-Ok.options).0 (sym c.are_allowed.ensures ∙ c.if-not-are_allowed.false);
+        allowed = (allowed c.in-Ok.options).0 (sym c.judge-judged.ensures.allowed ∙ true_of_not _ c.if-not-judged.false);
       };
       kind_is = found.1;
     }
