@@ -1,17 +1,11 @@
-//! Outside values of the codecs: what no text brings about, since a program answers several faults alike.
+//! What no text brings about: which of several faults is reported, since a program answers them alike.
 #![tactic(auto)]
 
 #[cfg(test)]
-mod duid_tests;
+mod fault_texts_tests;
 #[cfg(test)]
-mod types_tests;
+mod v4_fault_tests;
 #[cfg(test)]
-mod v4_message_tests;
+mod v6_fault_tests;
 #[cfg(test)]
-mod v4_options_tests;
-#[cfg(test)]
-mod v6_message_tests;
-#[cfg(test)]
-mod v6_options_tests;
-#[cfg(test)]
-mod wire_tests;
+mod value_tests;
