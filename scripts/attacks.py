@@ -20,7 +20,8 @@ FLOODING = 0x10000
 
 
 class Target:
-    """The ports of a server: those of its first circuit and those where it listens by protocol, and its relay's."""
+    """The ports of a server: those of its first circuit and those where it listens by protocol, and its relay's. Each further
+    circuit has those that come four later."""
 
     def __init__(self, circuit, listen, relay):
         self.circuit, self.listen, self.relay = circuit, listen, relay
@@ -69,6 +70,12 @@ def discovers(_, target):
     for number in itertools.count():
         client = FLOODING + (number if number % 2 else number % 16)
         yield target.circuit[4], frame(DISCOVER, client, xid=number)
+
+
+def discovers_at_two(_, target):
+    """The same at the first two circuits in turn."""
+    for number, (port, data) in enumerate(discovers(_, target)):
+        yield port + 4 * (number // 2 % 2), data
 
 
 def everything(pick, target):

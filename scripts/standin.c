@@ -1,11 +1,11 @@
 /* Stands in for `accessd` where its speed is measured: makes the same calls of the system for an exchange of DHCPv4, in the same
    order and with as many bytes, and does no DHCP. So what `accessd` takes beside it is what its own code takes.
        standin CONFIG --disk FILE --turns N [--format] [--port P]
-   It takes the arguments of `accessd`. CONFIG is one that scripts/configuration writes for 1 to 16 circuits behind one relay: only
-   the number of its circuits is read. FILE is always formatted. Ends after N turns. Nothing is checked that comes in, and every
-   client gets the address of its number.
+   It takes the arguments of `accessd`. CONFIG is one that scripts/configuration writes for 1 to 16 circuits behind at most as many
+   relays: only the numbers of its circuits and relays are read. FILE is always formatted. Ends after N turns. Nothing is checked
+   that comes in, and every client gets the address of its number.
 
-   A turn tries each socket once, and waits for none: those of each circuit, for DHCPv4 and DHCPv6, the server's two, the relay's.
+   A turn tries each socket once, and waits for none: those of each circuit, for DHCPv4 and DHCPv6, the server's two, the relays'.
    A frame goes from its circuit to the relay, which sends it on to the server with an option more; the server's answer goes back to
    the relay, and from there to the client's port of the circuit, after one byte. A REQUEST is a save: three writes to FILE, each
    with a sync, before the answer leaves (docs/FORMATS.md, "The disk"). */
@@ -33,7 +33,7 @@ enum {
     /* the addresses of scripts/configuration */
     LISTEN4 = 6767,
     LISTEN6 = 6547,
-    RELAY = 6801,
+    FIRST_RELAY = 6801,
     FIRST_ADDRESS = 10,
     /* where a DHCPv4 message has what, and its sizes */
     HOPS = 3,
@@ -64,8 +64,9 @@ struct circuit {
 };
 
 struct standin {
-    int circuit_count, file, watched;
-    int listen4, listen6, relay;
+    int circuit_count, relay_count, file, watched;
+    int listen4, listen6;
+    int relays[MOST_CIRCUITS];
     struct sockaddr_in server_address;
     struct circuit circuits[MOST_CIRCUITS];
     /* the datagram that came in, and what is made of it */
@@ -113,7 +114,9 @@ static void bind_all(struct standin *all, int port) {
     }
     all->listen4 = bound(all, LISTEN4);
     all->listen6 = bound(all, LISTEN6);
-    all->relay = bound(all, RELAY);
+    for (int index = 0; index < all->relay_count; index++) {
+        all->relays[index] = bound(all, FIRST_RELAY + index);
+    }
     all->server_address = local(LISTEN4);
 }
 
@@ -200,7 +203,7 @@ static void take_frame(struct standin *all, int index) {
     size_t length = taken(all, all->circuits[index].socket4, &from);
     if (length > 0) {
         size_t made = relayed_up(all, length, index);
-        send_on(all->relay, all->out, made, &all->server_address);
+        send_on(all->relays[index % all->relay_count], all->out, made, &all->server_address);
     }
     /* no client of DHCPv6 sends */
     (void)taken(all, all->circuits[index].socket6, &from);
@@ -236,9 +239,9 @@ static void take_at_server(struct standin *all) {
     (void)taken(all, all->listen6, &from);
 }
 
-static void take_from_relay(struct standin *all) {
+static void take_from_relay(struct standin *all, int relay) {
     struct sockaddr_in from;
-    size_t length = taken(all, all->relay, &from);
+    size_t length = taken(all, all->relays[relay], &from);
     if (length > 0) {
         struct circuit *circuit = &all->circuits[all->in[CIRCUIT] % MOST_CIRCUITS];
         all->out[0] = 1;
@@ -254,21 +257,27 @@ static void turn(struct standin *all) {
         take_frame(all, index);
     }
     take_at_server(all);
-    take_from_relay(all);
+    for (int relay = 0; relay < all->relay_count; relay++) {
+        take_from_relay(all, relay);
+    }
 }
 
-static int circuits_of(const char *path) {
+/* Counts the circuits and the relays. */
+static void read_config(struct standin *all, const char *path) {
     char line[256];
-    int count = 0;
     FILE *config = fopen(path, "r");
     if (config == NULL) {
         fail(path);
     }
     while (fgets(line, sizeof line, config) != NULL) {
-        count += strcmp(line, "[[circuit]]\n") == 0;
+        all->circuit_count += strcmp(line, "[[circuit]]\n") == 0;
+        all->relay_count += strcmp(line, "[[relay]]\n") == 0;
     }
     fclose(config);
-    return count;
+}
+
+static bool is_from_1_to(int most, int count) {
+    return 1 <= count && count <= most;
 }
 
 static bool read_words(int count, char **words, struct words *values) {
@@ -303,9 +312,9 @@ int main(int count, char **words) {
         fprintf(stderr, "usage: standin CONFIG --disk FILE --turns N [--format] [--port P]\n");
         return 2;
     }
-    all.circuit_count = circuits_of(values.config);
-    if (all.circuit_count < 1 || all.circuit_count > MOST_CIRCUITS) {
-        fprintf(stderr, "%s: not 1 to %d circuits\n", values.config, MOST_CIRCUITS);
+    read_config(&all, values.config);
+    if (!is_from_1_to(MOST_CIRCUITS, all.circuit_count) || !is_from_1_to(all.circuit_count, all.relay_count)) {
+        fprintf(stderr, "%s: not 1 to %d circuits behind at most as many relays\n", values.config, MOST_CIRCUITS);
         return 2;
     }
     all.file = formatted(values.disk, all.circuit_count);

@@ -69,11 +69,11 @@ def sockets_of(process):
 
 
 class Watch:
-    """The calls of one program, in order, by the names above."""
+    """The calls of one program, in order, by the names above, and the descriptor that each was made with."""
 
     def __init__(self, names=OUTGOING):
         self.names = names
-        self.calls = []
+        self.calls, self.descriptors = [], []
         self.left, self.failing = 0, ()
         self.broken = []
 
@@ -123,6 +123,7 @@ class Watch:
             self.left -= counts
             is_broken = names[call] == "receive" and first_argument in self.broken
             fails = counts and self.left == 0 or is_broken
+            self.descriptors.append(first_argument)
             self.calls.append(names[call] + (" fails" if fails else ""))
             how = (-errno.EIO, 0) if fails else (0, CONTINUE)
             try:
