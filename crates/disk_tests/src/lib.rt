@@ -1,7 +1,13 @@
-//! The bytes of regions on a device in memory, which no line of text shows.
+//! Regions on a device in memory: their bytes, and saves and moves that stop.
 #![tactic(auto)]
 
 #[cfg(test)]
+mod batch_tests;
+#[cfg(test)]
 mod moving_tests;
 #[cfg(test)]
+mod recovery_tests;
+#[cfg(test)]
 mod save_tests;
+#[cfg(test)]
+mod stop_tests;

@@ -140,9 +140,9 @@ pub record AreAnswered (topology : Topology) (parts : List (Option (Result (ℕ 
 -- ---- all together
 
 -- What the clauses of a batch say.
-pub record IsReceivedBatch (tells : Bool) (ds : List DeliveryValue) (given : List (Result (List ℕ) Discard)) (s later_s : ServerValue) (was later : Device) : Type 0 where
-  pub answers : IsBatch s.topology ds (has_failed was later) (books_in s) (books_in later_s) given
-  pub frame : IsWrittenTogether tells (batch_saves s.topology ds (books_in s)) was later
-  pub fails : tells ≡ true → (r : ℕ) → has_failed was later r ≡ (is_in (batch_saves s.topology ds (books_in s)) r && not (batch_fault was.fuse (batch_saves s.topology ds (books_in s)) r == 0))
-  pub leases : tells ≡ true → IsBatchOfLeases s.topology ds (batch_fault was.fuse (batch_saves s.topology ds (books_in s))) (leases_in was.region s) (leases_in later.region later_s)
-  pub ready : tells ≡ true → AreReady later.region later_s
+pub record IsReceivedBatch (tells : Bool) (ds : List DeliveryValue) (given : List (Result (List ℕ) Discard)) (server later_server : ServerValue) (device later_device : Device) : Type 0 where
+  pub answers : IsBatch server.topology ds (has_failed device later_device) (books_in server) (books_in later_server) given
+  pub frame : IsWrittenTogether tells (batch_saves server.topology ds (books_in server)) device later_device
+  pub fails : tells ≡ true → (r : ℕ) → has_failed device later_device r ≡ (is_in (batch_saves server.topology ds (books_in server)) r && not (batch_fault device.fuse (batch_saves server.topology ds (books_in server)) r == 0))
+  pub leases : tells ≡ true → IsBatchOfLeases server.topology ds (batch_fault device.fuse (batch_saves server.topology ds (books_in server))) (leases_in device.region server) (leases_in later_device.region later_server)
+  pub ready : tells ≡ true → AreReady later_device.region later_server

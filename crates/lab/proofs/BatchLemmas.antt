@@ -19,7 +19,7 @@ use Rattle.world.specs.Headline.{Answers, CircuitState, IsListed, IsOutcome, Rep
 use Rattle.world.specs.Start.{setup_in}
 use Rattle.lab_text.specs.Line.{Batch}
 use Rattle.lab_text.specs.ParsedLine.{IsBatchWithin}
-use Rattle.lab_text.specs.Writing.{AppendsPrefix}
+use Rattle.streams.specs.Writing.{AppendsPrefix}
 use Rattle.lab.specs.Follows.{AllRepresent, Follows}
 use Rattle.lab.specs.Lab.{batched, text_of_part, line_result, part_seen}
 use Rattle.lab.specs.Output.{batch_text, effect_text, joined, outcome_effect, part_text, with_newline}

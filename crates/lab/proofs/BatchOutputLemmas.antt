@@ -5,8 +5,8 @@ use Rattle.std.specs.Io.KnownBytes.{Appends}
 use Rattle.std.proofs.lemmas.List.{take-append-drop, at_drop_more}
 use Rattle.events.specs.declared.batch.PartOutcome.{PartOutcome}
 use Rattle.events.specs.declared.outcome.Outcome.TheVariants as outcome
-use Rattle.lab_text.specs.Writing.{AppendsPrefix}
-use Rattle.lab_text.proofs.WriteLemmas.{front_behind, front_longer}
+use Rattle.streams.specs.Writing.{AppendsPrefix}
+use Rattle.streams.proofs.WriteLemmas.{front_behind, front_longer}
 use Rattle.lab.specs.Output.{batch_text, with_marks, part_text, with_newline}
 
 abbrev texts : List (Option PartOutcome) → List ℕ

@@ -1,9 +1,9 @@
 -- Why a run ends.
 use Rattle.std.proofs.Common.{◌≡◌, ℕ, ◌+◌, ◌<◌, ◌⊎◌, inl, inr, List, ◌∙◌, arith, subst}
 use Rattle.std.specs.Prelude.{Option}
-use Rattle.lab_text.specs.LineEnd.{IsCounted}
+use Rattle.streams.specs.LineEnd.{IsCounted}
 use Rattle.lab.specs.Run.{HasRead, HasCause, HasNoCause}
-use Rattle.lab_text.proofs.ReadLemmas.{counted_more}
+use Rattle.streams.proofs.ReadLemmas.{counted_more}
 
 pub has_read : (given left : Option (List ℕ)) (n : ℕ) → IsCounted given left 0 n → HasRead given left n
 has_read given left n h = record { read = h.bytes; consumed = h.read; count = let e = h.count in omega arith }

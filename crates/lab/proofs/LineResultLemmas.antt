@@ -31,7 +31,7 @@ use Rattle.lab_text.specs.Fields.{comeback_in}
 use Rattle.lab_text.specs.ParsedLine.{IsRestart}
 use Rattle.lab.specs.Lab.{named_result, line_result, with_machine, reloaded, ticked, restarted}
 use Rattle.lab_text.specs.Line.{Line, Bad, line_of_text, short_line}
-use Rattle.lab_text.specs.Writing.{AppendsPrefix}
+use Rattle.streams.specs.Writing.{AppendsPrefix}
 use Rattle.lab.specs.Follows.{AllRepresent, Follows, KnowsPlans, Names}
 use Rattle.lab.specs.Output.{effect_text, outcome_effect, with_newline}
 

@@ -27,18 +27,18 @@ use Rattle.world.proofs.SetupLemmas.{its_part, setup_at}
 use Rattle.lab_text.specs.declared.parse_line.ParsedLine.{ParsedLine}
 use Rattle.lab_text.specs.declared.parse_line.ParsedLine.TheVariants as parsed_line
 use Rattle.events.specs.declared.comeback.Comeback.{Comeback}
-use Rattle.lab_text.specs.declared.line.LineEnd.TheVariants.{Newline, EndOfInput, TooLong}
+use Rattle.streams.specs.declared.line.LineEnd.TheVariants.{Newline, EndOfInput, TooLong}
 use Rattle.lab.specs.Preparations.{IsReady, AreReady, IsOpening, AreOver, ArePrepared, PreparedSoFar}
 use Rattle.lab.specs.Follows.{AllRepresent, SoFar}
 use Rattle.lab.specs.Lab.{first_machines, first_openings, lab_from, lab_output, loaded, or_begin, output_from, prepared, with_opening}
 use Rattle.lab_text.specs.Line.{Line, line_of_text}
-use Rattle.lab_text.specs.LineEnd.{Fits, HoldsLine, HoldsLast, HoldsLong, IsLast, IsLine}
-use Rattle.lab_text.specs.Lines.{lacks, lines_of}
+use Rattle.streams.specs.LineEnd.{Fits, HoldsLine, HoldsLast, HoldsLong, IsLast, IsLine}
+use Rattle.streams.specs.Lines.{lacks, lines_of}
 use Rattle.lab_text.specs.ParsedLine.{IsRestart, line_of}
-use Rattle.lab_text.proofs.CutLemmas.{line_before, line_begins, line_last}
+use Rattle.streams.proofs.CutLemmas.{line_before, line_begins, line_last}
 use Rattle.lab.proofs.LineResultLemmas.{long_is}
-use Rattle.lab_text.proofs.ReadLemmas.{consumes_none, consumes_more}
-use Rattle.lab_text.proofs.WriteLemmas.{appends_none}
+use Rattle.streams.proofs.ReadLemmas.{consumes_none, consumes_more}
+use Rattle.streams.proofs.WriteLemmas.{appends_none}
 
 -- ---- the regions
 

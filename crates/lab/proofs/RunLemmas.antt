@@ -8,19 +8,19 @@ use Rattle.std.proofs.lemmas.Option.{same_Some}
 use Rattle.config.specs.Plans.{PlansValue}
 use Rattle.world.specs.Alone.{Alone}
 use Rattle.world.specs.Headline.{CircuitState}
-use Rattle.lab_text.specs.declared.line.LineEnd.TheVariants.{EndOfInput, TooLong}
-use Rattle.lab_text.specs.LineEnd.{Fits, HoldsLast, HoldsLong, IsCounted, IsLine, IsLast, IsLong, IsCut}
+use Rattle.streams.specs.declared.line.LineEnd.TheVariants.{EndOfInput, TooLong}
+use Rattle.streams.specs.LineEnd.{Fits, HoldsLast, HoldsLong, IsCounted, IsLine, IsLast, IsLong, IsCut}
 use Rattle.lab.specs.Lab.{Output, LineResult, Refused, Applied, line_result, and_then, lab_from, events_output}
 use Rattle.lab_text.specs.Line.{line_of_text}
-use Rattle.lab_text.specs.Lines.{lacks, lines_of}
+use Rattle.streams.specs.Lines.{lacks, lines_of}
 use Rattle.lab.specs.Run.{IsPartial}
-use Rattle.lab_text.specs.Writing.{AppendsPrefix}
+use Rattle.streams.specs.Writing.{AppendsPrefix}
 use Rattle.lab.specs.Follows.{AllRepresent, IsRefusal, Follows, FollowsLast, SoFar, Ends, after}
 use Rattle.lab.specs.Output.{bad_text}
-use Rattle.lab_text.proofs.AheadLemmas.{all_consumed, held_consumed}
-use Rattle.lab_text.proofs.CutLemmas.{line_before, line_begins, line_last}
-use Rattle.lab_text.proofs.ReadLemmas.{consumes_none, consumes_more}
-use Rattle.lab_text.proofs.WriteLemmas.{appends_none, appends_kept, appends_more, front_behind, front_longer}
+use Rattle.streams.proofs.AheadLemmas.{all_consumed, held_consumed}
+use Rattle.streams.proofs.CutLemmas.{line_before, line_begins, line_last}
+use Rattle.streams.proofs.ReadLemmas.{consumes_none, consumes_more}
+use Rattle.streams.proofs.WriteLemmas.{appends_none, appends_kept, appends_more, front_behind, front_longer}
 use Rattle.lab.proofs.LineResultLemmas.{long_is}
 
 -- nothing was read, and any text may come

@@ -12,11 +12,11 @@ use Rattle.events.specs.Seen.{Seen, named_by, seen_of}
 use Rattle.events.specs.declared.event.Event.{Event}
 use Rattle.lab.specs.Lab.{Output, LineResult, Refused, Applied, lab_from}
 use Rattle.lab_text.specs.Line.{line_of_text}
-use Rattle.lab_text.specs.Lines.{lines_of}
+use Rattle.streams.specs.Lines.{lines_of}
 use Rattle.lab_text.specs.ParsedLine.{Means, ParsedWithin}
 use Rattle.lab_text.specs.declared.parse_line.Parsed.{Parsed}
 use Rattle.lab.specs.Output.{bad_text}
-use Rattle.lab_text.specs.Writing.{AppendsPrefix}
+use Rattle.streams.specs.Writing.{AppendsPrefix}
 
 -- each circuit's state represents its machine, and says which plans have it
 pub record AllRepresent (plans : PlansValue) (quota : ℕ) (states : List CircuitState) (machines : ℕ → Alone) : Type 0 where

@@ -14,7 +14,7 @@ use Rattle.events.specs.Seen.{Seen, seen_part, turn_to}
 use Rattle.events.specs.Seen as sees
 use Rattle.lab_text.specs.Fields.{comeback_in}
 use Rattle.lab_text.specs.Line.{Line, Ignored, Bad, Fill, Old, Load, Move, Named, Tick, Restart, Batch, Reload, Stray, line_of_text}
-use Rattle.lab_text.specs.Lines.{lines_of}
+use Rattle.streams.specs.Lines.{lines_of}
 use Rattle.lab.specs.Output.{effect_text, joined, with_newline, bad_text}
 
 pub record Output : Type 0 where

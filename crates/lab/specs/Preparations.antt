@@ -9,7 +9,7 @@ use Rattle.lease_disk.specs.Region.{Region, IsClean}
 use Rattle.world.specs.Alone.{Setup}
 use Rattle.world.specs.Start.{Opening, setup_in}
 use Rattle.lab.specs.Lab.{Output, first_machines, lab_from, lab_output, output_from}
-use Rattle.lab_text.specs.Lines.{lines_of}
+use Rattle.streams.specs.Lines.{lines_of}
 
 -- A region that can be read, of which no byte is unsynced.
 pub record IsReady (region : Region) : Type 0 where

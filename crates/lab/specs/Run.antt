@@ -2,7 +2,7 @@
 use Rattle.std.specs.Prelude.{◌≡◌, ℕ, ◌<◌, ◌⊎◌, List, length, Option}
 use Rattle.std.specs.Io.KnownBytes.{Consumes}
 use Rattle.lab.specs.Lab.{Output}
-use Rattle.lab_text.specs.Writing.{AppendsPrefix}
+use Rattle.streams.specs.Writing.{AppendsPrefix}
 
 -- the status of a run that ends before the end of the text: 3 at a bad line, 6 at a failure
 abbrev pub IsEnd : ℕ → Type 0

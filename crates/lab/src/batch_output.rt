@@ -1,12 +1,12 @@
 //! The line of the output for a batch.
 ghost use Rattle.std.specs.Prelude.{◌≡◌, ◌+◌, ◌≤◌, ◌++◌, codes, decimal, map, OnOk, OnErr};
 ghost use Rattle.std.specs.Io.KnownBytes.{Appends};
-ghost use Rattle.lab_text.specs.Writing.{AppendsPrefix};
+ghost use Rattle.streams.specs.Writing.{AppendsPrefix};
 ghost use Rattle.lab.specs.Output.{batch_text, with_marks, part_text, with_newline};
 
 use events::PartOutcome;
 use itoa::Buffer;
-use lab_text::{ByteWriter, Failed, write_parts};
+use streams::{ByteWriter, Failed, write_parts};
 use world::Outcome;
 
 /// Writes a mark, a word and a number.

@@ -4,17 +4,16 @@ ghost use Rattle.std.specs.Io.KnownBytes.{Appends, prepend_known};
 ghost use Rattle.world.specs.Alone.{Alone};
 ghost use Rattle.lab.specs.Lab.{Output, events_output};
 ghost use Rattle.lab.specs.Follows.{AllRepresent, Ends, KnowsPlans, Says, SoFar};
-ghost use Rattle.lab_text.specs.LineEnd.{Fits, IsCounted, IsLineEnd, len_of, feeds_of};
-ghost use Rattle.lab_text.specs.ReadAhead.{held};
+ghost use Rattle.streams.specs.LineEnd.{Fits, IsCounted, IsLineEnd, len_of, feeds_of};
+ghost use Rattle.streams.specs.ReadAhead.{held};
 ghost use Rattle.lab.specs.Run.{IsPartial, IsStatus, HasCause, HasNoCause};
 
 use crate::apply_line::{apply_last_line, apply_line, refuse};
 use crate::buffers::Buffers;
+use crate::next_line::NextLine;
 use crate::status::FAILED;
 use config::Plans;
-use lab_text::{
-    ByteReader, ByteWriter, LineEnd, MAX_TEXT, NextLine, ReadAhead, flush_and_read_line,
-};
+use streams::{ByteReader, ByteWriter, LineEnd, MAX_TEXT, ReadAhead, flush_and_read_line};
 use world::Machine;
 
 /// Applies the lines in order from this one on, up to the end or to the first bad one.

@@ -5,6 +5,7 @@ mod apply_line;
 mod batch_output;
 mod buffers;
 mod engine;
+mod next_line;
 mod opening;
 mod output;
 mod preparations;
@@ -12,6 +13,6 @@ mod status;
 
 pub use command_line::accesslab_words::{LabWords, words};
 pub use engine::lab;
-pub use lab_text::{ByteReader, ByteWriter, Failed, MAX_LINE, MAX_TEXT, StdReader, StdWriter};
 pub use opening::run;
 pub use status::{BAD_LINE, DONE};
+pub use streams::{ByteReader, ByteWriter, Failed, MAX_LINE, MAX_TEXT, StdReader, StdWriter};

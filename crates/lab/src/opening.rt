@@ -17,9 +17,9 @@ use crate::preparations::prepare_all;
 use crate::status::{FAILED, UNOPENED};
 use config::Plans;
 use dispatch::region_count;
-use lab_text::{ByteReader, ByteWriter, ReadAhead};
 use lease_disk::ModelDisk;
 use std::alloc::Global;
+use streams::{ByteReader, ByteWriter, ReadAhead};
 use world::{OpenFault, World};
 
 /// The world of some plans over this disk.

@@ -3,11 +3,11 @@ ghost use Rattle.std.specs.Prelude.{◌≡◌, ◌+◌, ◌≤◌, ◌∷◌, �
 ghost use Rattle.std.specs.Io.KnownBytes.{Appends};
 ghost use Rattle.hex.specs.Hex.{encode_lower};
 ghost use Rattle.world.specs.Alone.{Framed, Done};
-ghost use Rattle.lab_text.specs.Writing.{AppendsPrefix};
+ghost use Rattle.streams.specs.Writing.{AppendsPrefix};
 ghost use Rattle.lab.specs.Output.{dotted, effect_text, outcome_effect, with_newline, bad_text};
 
 use itoa::Buffer;
-use lab_text::{ByteWriter, Failed, write_parts};
+use streams::{ByteWriter, Failed, write_parts};
 use types::{Addr4, Addr6, Dest, MAX_DATAGRAM};
 use wire::PacketBuf;
 use world::Outcome;

@@ -9,16 +9,18 @@ ghost use Rattle.lab.specs.Follows.{Says};
 ghost use Rattle.lab.specs.Lab.{prepared};
 ghost use Rattle.lab.specs.Preparations.{AreOver, ArePrepared, AreReady, AreWithin, PreparedSoFar};
 ghost use Rattle.lab_text.specs.Line.{line_of_text};
-ghost use Rattle.lab_text.specs.LineEnd.{Fits, HoldsLast, IsCounted, IsLineEnd, len_of, feeds_of};
+ghost use Rattle.streams.specs.LineEnd.{Fits, HoldsLast, IsCounted, IsLineEnd, len_of, feeds_of};
 ghost use Rattle.lab_text.specs.ParsedLine.{IsWithin, line_of};
-ghost use Rattle.lab_text.specs.ReadAhead.{held};
+ghost use Rattle.streams.specs.ReadAhead.{held};
 ghost use Rattle.lab_text.specs.declared.parse_line.Parsed.TheVariants.{Event};
 
 use crate::buffers::Buffers;
+use crate::next_line::NextLine;
 use config::Plans;
+use lab_text::MAX_BYTES;
 use lab_text::parse_line::{Parsed, ParsedLine};
-use lab_text::{ByteReader, Failed, LineEnd, MAX_BYTES, MAX_TEXT, NextLine, ReadAhead, read_line};
 use lease_disk::{ModelDisk, format_old};
+use streams::{ByteReader, Failed, LineEnd, MAX_TEXT, ReadAhead, read_line};
 
 /// Formats a region in format 1, whichever call is to fail in its move.
 fn format_region(disk: &mut ModelDisk, region: u16)

@@ -1,4 +1,3 @@
-pub mod AheadLemmas
 pub mod BatchLemmas
 pub mod CircuitLemmas
 pub mod CutLemmas
@@ -6,7 +5,5 @@ pub mod FieldLemmas
 pub mod FormLemmas
 pub mod NumberLemmas
 pub mod PartLemmas
-pub mod ReadLemmas
 pub mod RelayLemmas
 pub mod RestartLemmas
-pub mod WriteLemmas

@@ -1,4 +1,4 @@
--- The value of a field: a number, a protocol, bytes, a circuit, a relay, an address and port, or how a region comes back.
+-- The fields of a line, and the value of each: a number, a protocol, bytes, a circuit, a relay, an address and port, or how a region comes back.
 use Rattle.std.specs.Prelude.{ℕ, ◌+◌, ◌-◌, ◌*◌, nat_le, ◌==◌, ◌||◌, Bool, true, false, if◌then◌else◌, List, [], ◌∷◌, length, take, drop, codes, position, Option, option_map, Some, None, Result, Ok, Err}
 use Rattle.std.specs.Str.{bytes_eq}
 use Rattle.std.specs.Char.{is_ascii_digit}
@@ -14,6 +14,12 @@ use Rattle.types.specs.declared.addr.Source.{Source}
 use Rattle.types.specs.declared.dest.Proto.{Proto}
 use Rattle.types.specs.declared.dest.Proto.TheVariants.{V4, V6}
 use Rattle.settings.specs.Settings.{Settings}
+use Rattle.streams.specs.Lines.{with_byte}
+
+-- The fields of a line, separated by exactly one space (32).
+unfoldable pub fields_of : List ℕ → List (List ℕ)
+fields_of [] = [] ∷ []
+fields_of (b ∷ line) = if b == 32 then [] ∷ fields_of line else with_byte b (fields_of line)
 
 -- the number with the digits of n followed by these; the digit `0` is 48
 unfoldable pub digits_after : ℕ → List ℕ → Option ℕ

@@ -1,7 +1,7 @@
 -- The fields of a line as they are read. Only proofs need these.
 use Rattle.std.specs.Prelude.{ℕ, List, [], ◌∷◌, map, Option, Some, None}
 use Rattle.std.specs.Borrow.{Bor}
-use Rattle.lab_text.specs.Lines.{fields_of}
+use Rattle.lab_text.specs.Fields.{fields_of}
 
 -- the fields after a space, if there is one
 abbrev pub fields_after : Option (List ℕ) → List (List ℕ)

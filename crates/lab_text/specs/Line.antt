@@ -9,7 +9,7 @@ use Rattle.types.specs.declared.discard.Discard.TheVariants.{UnknownSource, NotS
 use Rattle.config.specs.Topology.{topology_of, is_relay, is_server}
 use Rattle.events.specs.Seen.{Seen, Frame, Up, Down}
 use Rattle.lab_text.specs.Fields.{number_to, proto_of, bytes_of, byte_of, circuit_named, relay_named, source_of, named_comeback, is_named, parts_of, sync_fault_of}
-use Rattle.lab_text.specs.Lines.{fields_of}
+use Rattle.lab_text.specs.Fields.{fields_of}
 use Rattle.lab_text.specs.declared.form.Form.{Form}
 use Rattle.lab_text.specs.declared.form.Form.TheVariants as form
 

@@ -1,6 +1,6 @@
 //! The fields of a line.
 ghost use Rattle.std.specs.Prelude.{◌≡◌, ◌∷◌, option_map, take};
-ghost use Rattle.lab_text.specs.Lines.{fields_of};
+ghost use Rattle.lab_text.specs.Fields.{fields_of};
 ghost use Rattle.lab_text.specs.FieldsAfter.{fields_after, fields_of_next, texts};
 
 use memchr::memchr;

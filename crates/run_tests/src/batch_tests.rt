@@ -39,28 +39,23 @@ fn outcome_of(world: &mut World, events: &[Event<'_>]) -> Option<Outcome> {
     Some(world.step(event, &mut out))
 }
 
-/// Whether an event sends a datagram up or down.
-fn is_sent(world: &mut World, events: &[Event<'_>]) -> bool {
-    match outcome_of(world, events) {
-        Some(Outcome::SentUp(_)) => true,
-        Some(Outcome::SentDown(_)) => true,
-        _ => false,
-    }
-}
-
-/// Whether a message of client 1 on the circuit is sent up.
-fn is_sent_up(world: &mut World, circuit: Circuit, kind: Kind4, options: &[u8]) -> bool {
+/// Whether a message of client 1 on the circuit comes to the server's socket as so many bytes.
+fn is_sent_up(world: &mut World, index: usize, kind: Kind4, options: &[u8], len: usize) -> bool
+    requires { index ≤ 1023 }
+{
     let frame = client_frame(kind, 1, options);
-    let events = [Event::Frame(circuit, Proto::V4, frame.as_slice())];
-    is_sent(world, &events)
+    let events = [Event::Frame(circuit(index), Proto::V4, frame.as_slice())];
+    outcome_of(world, &events) == Some(Outcome::SentUp(len))
 }
 
 /// Whether client 1 is offered an address on the circuit, and its request waits for the server.
-fn requests(world: &mut World, circuit: Circuit, options: &[u8]) -> bool {
-    let up = [Event::Up(circuit, 0, moment(100), 0)];
-    is_sent_up(world, circuit, Kind4::Discover, &[])
-        && is_sent(world, &up)
-        && is_sent_up(world, circuit, Kind4::Request, options)
+fn requests(world: &mut World, index: usize, options: &[u8]) -> bool
+    requires { index ≤ 1 }
+{
+    let up = [Event::Up(circuit(index), 0, moment(100), 0)];
+    is_sent_up(world, index, Kind4::Discover, &[], 255 + index)
+        && outcome_of(world, &up) == Some(Outcome::SentDown(300))
+        && is_sent_up(world, index, Kind4::Request, options, 267 + index)
 }
 
 /// The newest datagram of a circuit, whose save does not fail.
@@ -74,30 +69,29 @@ fn part(index: usize) -> BatchPart
     }
 }
 
-/// Whether both parts of a batch are answered by 300 bytes.
-fn is_answered(world: &mut World, parts: &[BatchPart]) -> bool {
-    let events = [Event::Batch(moment(101), 0, parts)];
-    let answer = Some(PartOutcome::SentDown(300));
-    match outcome_of(world, &events) {
-        Some(Outcome::Batched(answers)) => answers[0] == answer && answers[1] == answer,
-        _ => false,
-    }
-}
-
 /// Whether the requests of both circuits at once, in this order, are answered after three syncs.
-fn shares_syncs(alloc: Global, parts: &[BatchPart]) -> bool {
+fn shares_syncs(alloc: Global, first: usize, second: usize) -> bool
+    requires first { first ≤ 1023 }
+    requires second { second ≤ 1023 }
+{
     let Some(mut world) = opened(alloc) else {
         return false;
     };
-    let waits = requests(&mut world, circuit(0), SELECTS[0])
-        && requests(&mut world, circuit(1), SELECTS[1]);
+    if !requests(&mut world, 0, SELECTS[0]) || !requests(&mut world, 1, SELECTS[1]) {
+        return false;
+    }
     let before = world.disk().syncs();
-    let answered = is_answered(&mut world, parts);
-    waits && answered && world.disk().syncs().wrapping_sub(before) == 3
+    let parts = [part(first), part(second)];
+    let events = [Event::Batch(moment(101), 0, &parts)];
+    let mut expected = [None; 16];
+    expected[0] = Some(PartOutcome::SentDown(300));
+    expected[1] = Some(PartOutcome::SentDown(300));
+    outcome_of(&mut world, &events) == Some(Outcome::Batched(expected))
+        && world.disk().syncs().wrapping_sub(before) == 3
 }
 
 #[test]
 fn a_batch_shares_its_syncs(rt: HostRuntime) {
-    assert!(rt; shares_syncs(rt.alloc(), &[part(0), part(1)]));
-    assert!(rt; shares_syncs(rt.alloc(), &[part(1), part(0)]));
+    assert!(rt; shares_syncs(rt.alloc(), 0, 1));
+    assert!(rt; shares_syncs(rt.alloc(), 1, 0));
 }

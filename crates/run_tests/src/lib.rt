@@ -1,7 +1,9 @@
-//! What no line of text shows: readers and writers that fail or are interrupted, and how many syncs a batch costs.
+//! What no line of text shows: sinks, readers and writers that fail, what does not exist, and how many syncs a batch costs.
 #![tactic(auto)]
 
 #[cfg(test)]
 mod batch_tests;
 #[cfg(test)]
 mod lab_tests;
+#[cfg(test)]
+mod world_tests;

@@ -34,14 +34,14 @@ kind_in (Some (code ∷ [])) = if nat_le 1 code && nat_le code 8 then Some code 
 kind_in _ = None
 
 -- Its op is a request's (1) or a reply's (2).
-abbrev pub judged : List ℕ → List (ℕ × List ℕ) → Result MessageValue MessageFault
-judged bytes list =
+abbrev pub message_with : List ℕ → List (ℕ × List ℕ) → Result MessageValue MessageFault
+message_with bytes list =
     if are_allowed list then
     (if (slice_index bytes 0 == 1 || slice_index bytes 0 == 2) && is_some (kind_in (look_up MESSAGE_TYPE list)) then Ok (record { header = header_at bytes; options = list }) else Err Kind)
     else Err Options
 
 abbrev pub with_options : List ℕ → Result (List (ℕ × List ℕ)) OptFault → Result MessageValue MessageFault
-with_options bytes (Ok list) = judged bytes list
+with_options bytes (Ok list) = message_with bytes list
 with_options bytes (Err fault) = Err Options
 
 -- The result of reading.

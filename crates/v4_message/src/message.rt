@@ -227,14 +227,14 @@ fn message_in(bytes: &[u8]) -> Result<Message<'_>, MessageFault>
     let Ok(options) = Options::read(tail) else {
         return Err(MessageFault::Options);
     };
-    let judged = judge(&options);
-    if !judged.are_allowed {
+    let check = check_options(&options);
+    if !check.are_allowed {
         return Err(MessageFault::Options);
     }
     if !is_op(bytes[field::OP]) {
         return Err(MessageFault::Kind);
     }
-    match judged.kind {
+    match check.kind {
         None => Err(MessageFault::Kind),
         Some(kind) => Ok(Message {
             bytes,
@@ -264,29 +264,29 @@ fn is_op(op: u8) -> bool
     op == OP_REQUEST || op == OP_REPLY
 }
 
-/// What the options of a message decide.
+/// Whether a message with these options is read, and its kind.
 #[derive(Drop)]
-struct Judged {
+struct OptionsCheck {
     are_allowed: bool,
     kind: Option<Kind4>,
 }
 
-fn judge(options: &Options<'_>) -> Judged
+fn check_options(options: &Options<'_>) -> OptionsCheck
     ensures allowed { result.are_allowed ≡ are_allowed options.now }
     ensures kind { option_map code_of_kind result.kind ≡ kind_in (look_up MESSAGE_TYPE options.now) }
 {
-    let deciding = deciding_in(options);
-    let has_overload = deciding.overload.is_some();
-    let are_addrs = is_addr_or_none(deciding.requested) && is_addr_or_none(deciding.server);
-    Judged {
+    let values = validity_options(options);
+    let has_overload = values.overload.is_some();
+    let are_addrs = is_addr_or_none(values.requested) && is_addr_or_none(values.server);
+    OptionsCheck {
         are_allowed: !has_overload && are_addrs,
-        kind: kind_of(deciding.kind),
+        kind: kind_of(values.kind),
     }
 }
 
 /// The values of the options that decide whether a message is read.
 #[derive(Drop)]
-struct Deciding<'a> {
+struct ValidityOptions<'a> {
     requested: Option<&'a [u8]>,
     overload: Option<&'a [u8]>,
     kind: Option<&'a [u8]>,
@@ -294,7 +294,7 @@ struct Deciding<'a> {
 }
 
 /// Finds them all in one walk over the options.
-fn deciding_in<'a>(options: &Options<'a>) -> Deciding<'a>
+fn validity_options<'a>(options: &Options<'a>) -> ValidityOptions<'a>
     ensures requested { option_map (λ value. value.now) result.requested ≡ look_up REQUESTED_ADDRESS options.now }
     ensures overload { option_map (λ value. value.now) result.overload ≡ look_up OPTION_OVERLOAD options.now }
     ensures kind { option_map (λ value. value.now) result.kind ≡ look_up MESSAGE_TYPE options.now }
@@ -314,7 +314,7 @@ fn deciding_in<'a>(options: &Options<'a>) -> Deciding<'a>
         kind = first_of(kind, code::MESSAGE_TYPE, number, value);
         server = first_of(server, code::SERVER_IDENTIFIER, number, value);
     }
-    Deciding {
+    ValidityOptions {
         requested,
         overload,
         kind,

@@ -1,8 +1,8 @@
 use Rattle.std.proofs.Common.{◌≤◌, [], ◌∷◌, ◌++◌, length, map, ap, subst, sym, ◌∙◌, arith}
 use Rattle.std.specs.Prelude.{None, OnErr, slice_index_or, slice_range}
 use Rattle.events.specs.declared.outcome.Outcome.{Outcome}
-use Rattle.lab_text.specs.Writing.{AppendsPrefix}
-use Rattle.lab_text.proofs.WriteLemmas.{front_longer, front_behind, err_behind}
+use Rattle.streams.specs.Writing.{AppendsPrefix}
+use Rattle.streams.proofs.WriteLemmas.{front_longer, front_behind, err_behind}
 use Rattle.lab.specs.Output.{batch_text, with_marks, part_text, with_newline}
 use Rattle.lab.proofs.BatchOutputLemmas.{line_parts}
 use Rattle.lab.proofs.batch_output.write_batch.Goals as goal

@@ -2,10 +2,10 @@ use Rattle.std.proofs.Common.{◌≡◌, ◌+◌, ◌++◌, ◌∷◌, [], ◌�
 use Rattle.std.specs.Prelude.{Some, IfSome}
 use Rattle.std.proofs.KnownBytes.{Keeps-refl}
 use Rattle.lab.specs.Follows.{Says}
-use Rattle.lab_text.specs.ReadAhead.{held}
-use Rattle.lab_text.proofs.AheadLemmas.{line_consumed, last_consumed, cut_consumed}
+use Rattle.streams.specs.ReadAhead.{held}
+use Rattle.streams.proofs.AheadLemmas.{line_consumed, last_consumed, cut_consumed}
 use Rattle.lab.proofs.CauseLemmas.{read_failed, still_none_failed, write_failed}
-use Rattle.lab_text.proofs.ReadLemmas.{counted_none, counted_more}
+use Rattle.streams.proofs.ReadLemmas.{counted_none, counted_more}
 use Rattle.lab.proofs.RunLemmas.{so_far_kept, next_line, ends_cut, ends_last, ends_feed, ends_too_long, fits_last}
 use Rattle.lab.proofs.engine.apply_lines.Goals as goal
 

@@ -4,8 +4,8 @@ use Rattle.std.specs.Io.KnownBytes.{prepend_known}
 use Rattle.lab.specs.Follows.{KnowsPlans, Says, SoFar}
 use Rattle.config.specs.Plans.{PlansValue}
 use Rattle.lab.specs.Lab.{Output}
-use Rattle.lab_text.specs.LineEnd.{Fits, IsCounted, IsLineEnd, len_of, feeds_of}
-use Rattle.lab_text.specs.ReadAhead.{held}
+use Rattle.streams.specs.LineEnd.{Fits, IsCounted, IsLineEnd, len_of, feeds_of}
+use Rattle.streams.specs.ReadAhead.{held}
 use Rattle.lab.proofs.engine.apply_lines.Given as goal
 
 abbrev pub invariant-lines : goal.invariant-lines

@@ -1,7 +1,7 @@
 use Rattle.std.proofs.Common.{length, refl, ap, arith}
 use Rattle.lab.specs.Lab.{events_output}
 use Rattle.lab.proofs.CauseLemmas.{cause_from, none_from, read_failed}
-use Rattle.lab_text.proofs.ReadLemmas.{counted_none}
+use Rattle.streams.proofs.ReadLemmas.{counted_none}
 use Rattle.lab.proofs.RunLemmas.{at_start, ended_written, partial_none}
 use Rattle.lab.proofs.engine.lab.Goals as goal
 

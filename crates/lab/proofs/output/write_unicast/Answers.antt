@@ -1,7 +1,7 @@
 use Rattle.std.proofs.Common.{ℕ, List, ◌++◌, codes}
 use Rattle.hex.specs.Hex.{encode_lower}
 use Rattle.lab.specs.Output.{dotted}
-use Rattle.lab_text.proofs.WriteLemmas.{front_longer, front_behind, ok_behind, err_behind}
+use Rattle.streams.proofs.WriteLemmas.{front_longer, front_behind, ok_behind, err_behind}
 use Rattle.lab.proofs.output.write_unicast.Goals as goal
 
 abbrev heading : List ℕ → List ℕ → List ℕ

@@ -4,14 +4,14 @@ use Rattle.std.specs.Io.KnownBytes.{prepend_known}
 use Rattle.lease_disk.specs.Model.{device_of, state_of}
 use Rattle.lab.specs.Preparations.{PreparedSoFar}
 use Rattle.lab.specs.Follows.{Says}
-use Rattle.lab_text.specs.declared.line.LineEnd.TheVariants.{Newline}
+use Rattle.streams.specs.declared.line.LineEnd.TheVariants.{Newline}
 use Rattle.lab.specs.Lab.{prepared}
 use Rattle.lab_text.specs.Line.{line_of_text}
-use Rattle.lab_text.specs.LineEnd.{Fits}
-use Rattle.lab_text.specs.ReadAhead.{held}
-use Rattle.lab_text.proofs.AheadLemmas.{line_consumed}
+use Rattle.streams.specs.LineEnd.{Fits}
+use Rattle.streams.specs.ReadAhead.{held}
+use Rattle.streams.proofs.AheadLemmas.{line_consumed}
 use Rattle.lab.proofs.PreparationLemmas.{IsBegun, begun_long, begun_newline, prepared_begun, prepared_first, prepared_kept, prepared_next, formatted_are_ready, formatted_over, nothing_held}
-use Rattle.lab_text.proofs.ReadLemmas.{counted_none, counted_more}
+use Rattle.streams.proofs.ReadLemmas.{counted_none, counted_more}
 use Rattle.lab.proofs.StartLemmas.{part_within}
 use Rattle.lab.proofs.preparations.prepare_all.Goals as goal
 

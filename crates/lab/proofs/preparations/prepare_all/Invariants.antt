@@ -3,8 +3,8 @@ use Rattle.std.specs.Prelude.{⊤}
 use Rattle.std.specs.Io.KnownBytes.{prepend_known}
 use Rattle.lease_disk.specs.Model.{device_of, state_of}
 use Rattle.lab.specs.Preparations.{AreReady, PreparedSoFar}
-use Rattle.lab_text.specs.LineEnd.{IsCounted}
-use Rattle.lab_text.specs.ReadAhead.{held}
+use Rattle.streams.specs.LineEnd.{IsCounted}
+use Rattle.streams.specs.ReadAhead.{held}
 use Rattle.lab.proofs.preparations.prepare_all.Given as goal
 
 abbrev pub invariant-lines : goal.invariant-lines

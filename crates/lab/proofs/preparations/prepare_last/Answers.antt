@@ -4,12 +4,12 @@ use Rattle.std.specs.Io.KnownBytes.{prepend_known}
 use Rattle.lease_disk.specs.Model.{device_of}
 use Rattle.lab.specs.Preparations.{PreparedSoFar}
 use Rattle.lab.specs.Follows.{Says}
-use Rattle.lab_text.specs.declared.line.LineEnd.TheVariants.{EndOfInput}
+use Rattle.streams.specs.declared.line.LineEnd.TheVariants.{EndOfInput}
 use Rattle.lab.specs.Lab.{prepared}
 use Rattle.lab_text.specs.Line.{line_of_text}
-use Rattle.lab_text.specs.LineEnd.{Fits}
-use Rattle.lab_text.specs.ReadAhead.{held}
-use Rattle.lab_text.proofs.AheadLemmas.{last_consumed}
+use Rattle.streams.specs.LineEnd.{Fits}
+use Rattle.streams.specs.ReadAhead.{held}
+use Rattle.streams.proofs.AheadLemmas.{last_consumed}
 use Rattle.lab.proofs.PreparationLemmas.{begun_last, prepared_begun, prepared_last, none_left, nothing_more}
 use Rattle.lab.proofs.preparations.prepare_last.Goals as goal
 

@@ -1,8 +1,8 @@
 use Rattle.std.proofs.Common.{◌+◌, ◌∷◌, take, sym, ap, ◌∙◌, eqb-true, arith}
 use Rattle.std.proofs.lemmas.List.{take_rest}
-use Rattle.lab_text.specs.Lines.{fields_of}
+use Rattle.lab_text.specs.Fields.{fields_of}
 use Rattle.lab_text.proofs.CutLemmas.{field_before, field_alone}
-use Rattle.lab_text.proofs.AheadLemmas.{lacks_nowhere, lacks_everywhere}
+use Rattle.streams.proofs.AheadLemmas.{lacks_nowhere, lacks_everywhere}
 use Rattle.lab_text.proofs.fields.first_field.Goals as goal
 
 pub returns-in-Some : goal.returns-in-Some

@@ -11,14 +11,14 @@ true_of_not false e = sym e
 
 pub invariant_of-result : goal.invariant_of-result
 invariant_of-result c =
-    let told = rw c.in-Some.is at c.judge-judged.ensures.kind in
+    let told = rw c.in-Some.is at c.check_options-check.ensures.kind in
     let found = kind_found (look_up MESSAGE_TYPE c.in-Ok.options) (code_of_kind c.in-Some.kind) (sym told) in
     record {
       long = omega arith;
       valid = record {
         op = (op _).0 (sym c.is_op.ensures ∙ c.if-not-is_op.false);
         kind = found.0;
-        allowed = (allowed c.in-Ok.options).0 (sym c.judge-judged.ensures.allowed ∙ true_of_not _ c.if-not-judged.false);
+        allowed = (allowed c.in-Ok.options).0 (sym c.check_options-check.ensures.allowed ∙ true_of_not _ c.if-not-check.false);
       };
       kind_is = found.1;
     }

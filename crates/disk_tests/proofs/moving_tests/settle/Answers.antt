@@ -1,7 +1,0 @@
-use Rattle.std.proofs.Common.{refl}
-use Rattle.lease_disk.specs.Model.{state_of}
-use Rattle.lease_disk.proofs.Fresh.{synced_clean}
-use Rattle.disk_tests.proofs.moving_tests.settle.Goals as goal
-
-pub returns-clause-clean : goal.returns-clause-clean
-returns-clause-clean c = synced_clean c.sync.result (state_of c.args.disk.now 0) (state_of c.sync.new.self 0) (c.sync.ensures.ok refl)

@@ -1,0 +1,4 @@
+pub mod AheadLemmas
+pub mod CutLemmas
+pub mod ReadLemmas
+pub mod WriteLemmas

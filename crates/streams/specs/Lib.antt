@@ -1,0 +1,4 @@
+pub mod LineEnd
+pub mod Lines
+pub mod ReadAhead
+pub mod Writing
