@@ -5,7 +5,8 @@
    relays: only the numbers of its circuits and relays are read. FILE is always formatted. Ends after N turns. Nothing is checked
    that comes in, and every client gets the address of its number.
 
-   A turn tries each socket once, and waits for none: those of each circuit, for DHCPv4 and DHCPv6, the server's two, the relays'.
+   A turn tries sockets, and waits for none: those of the circuits of which the system has told since they were last found empty,
+   the server's two, the relays'.
    A frame goes from its circuit to the relay, which sends it on to the server with an option more; the server's answer goes back to
    the relay, and from there to the client's port of the circuit, after one byte. A REQUEST is a save: three writes to FILE, each
    with a sync, before the answer leaves (docs/FORMATS.md, "The disk"). */
@@ -28,6 +29,9 @@
 
 enum {
     MOST_CIRCUITS = 16,
+    /* each circuit has a socket for DHCPv4 and one for DHCPv6 */
+    CIRCUIT_SOCKETS = 2 * MOST_CIRCUITS,
+    MOST_SOCKETS = CIRCUIT_SOCKETS + 2 + MOST_CIRCUITS,
     PORTS = 4,
     BUFFER = 1281,
     /* the addresses of scripts/configuration */
@@ -69,6 +73,8 @@ struct standin {
     int relays[MOST_CIRCUITS];
     struct sockaddr_in server_address;
     struct circuit circuits[MOST_CIRCUITS];
+    /* which of the circuits' sockets may have a datagram */
+    bool ready[CIRCUIT_SOCKETS];
     /* the datagram that came in, and what is made of it */
     unsigned char in[BUFFER], out[BUFFER + 64];
 };
@@ -90,11 +96,10 @@ static struct sockaddr_in local(int port) {
     return address;
 }
 
-/* A socket that never waits. Nobody waits for it either, but `accessd` has the system watch each socket, which costs whoever
-   sends to it. */
-static int bound(struct standin *all, int port) {
+/* A socket that never waits. The system tells of it by this number when a datagram arrives. */
+static int bound(struct standin *all, int port, uint32_t number) {
     struct sockaddr_in address = local(port);
-    struct epoll_event event = {.events = EPOLLIN | EPOLLRDHUP | EPOLLET};
+    struct epoll_event event = {.events = EPOLLIN | EPOLLRDHUP | EPOLLET, .data.u32 = number};
     int on = 1, end = socket(AF_INET, SOCK_DGRAM | SOCK_CLOEXEC, 0);
     if (end < 0 || bind(end, (struct sockaddr *)&address, sizeof address) != 0 || ioctl(end, FIONBIO, &on) != 0
         || epoll_ctl(all->watched, EPOLL_CTL_ADD, end, &event) != 0) {
@@ -108,14 +113,14 @@ static void bind_all(struct standin *all, int port) {
     for (int index = 0; index < all->circuit_count; index++) {
         struct circuit *circuit = &all->circuits[index];
         int first = port + PORTS * index;
-        circuit->socket4 = bound(all, first);
-        circuit->socket6 = bound(all, first + 1);
+        circuit->socket4 = bound(all, first, 2 * (uint32_t)index);
+        circuit->socket6 = bound(all, first + 1, 2 * (uint32_t)index + 1);
         circuit->client = local(first + 2);
     }
-    all->listen4 = bound(all, LISTEN4);
-    all->listen6 = bound(all, LISTEN6);
+    all->listen4 = bound(all, LISTEN4, CIRCUIT_SOCKETS);
+    all->listen6 = bound(all, LISTEN6, CIRCUIT_SOCKETS);
     for (int index = 0; index < all->relay_count; index++) {
-        all->relays[index] = bound(all, FIRST_RELAY + index);
+        all->relays[index] = bound(all, FIRST_RELAY + index, CIRCUIT_SOCKETS);
     }
     all->server_address = local(LISTEN4);
 }
@@ -179,6 +184,26 @@ static size_t taken(struct standin *all, int end, struct sockaddr_in *from) {
     return (size_t)count;
 }
 
+/* Asks the system where datagrams arrived. */
+static void look(struct standin *all) {
+    struct epoll_event events[MOST_SOCKETS];
+    int count = epoll_wait(all->watched, events, MOST_SOCKETS, 0);
+    for (int index = 0; index < count; index++) {
+        if (events[index].data.u32 < CIRCUIT_SOCKETS) {
+            all->ready[events[index].data.u32] = true;
+        }
+    }
+}
+
+/* The same from a circuit's socket, if it may have a datagram. The clients send none that is too short. */
+static size_t taken_if_ready(struct standin *all, int end, int number, struct sockaddr_in *from) {
+    size_t length = all->ready[number] ? taken(all, end, from) : 0;
+    if (length == 0) {
+        all->ready[number] = false;
+    }
+    return length;
+}
+
 /* A datagram that the system does not accept is lost, as with `accessd`. */
 static void send_on(int end, const unsigned char *bytes, size_t length, const struct sockaddr_in *to) {
     (void)!sendto(end, bytes, length, MSG_NOSIGNAL, (const struct sockaddr *)to, sizeof *to);
@@ -200,13 +225,13 @@ static size_t relayed_up(struct standin *all, size_t length, int index) {
 
 static void take_frame(struct standin *all, int index) {
     struct sockaddr_in from;
-    size_t length = taken(all, all->circuits[index].socket4, &from);
+    size_t length = taken_if_ready(all, all->circuits[index].socket4, 2 * index, &from);
     if (length > 0) {
         size_t made = relayed_up(all, length, index);
         send_on(all->relays[index % all->relay_count], all->out, made, &all->server_address);
     }
     /* no client of DHCPv6 sends */
-    (void)taken(all, all->circuits[index].socket6, &from);
+    (void)taken_if_ready(all, all->circuits[index].socket6, 2 * index + 1, &from);
 }
 
 /* A reply that has what a client reads in it: its number, its address, the server's, and the kind. */
@@ -253,6 +278,7 @@ static void take_from_relay(struct standin *all, int relay) {
 static void turn(struct standin *all) {
     struct timespec now;
     clock_gettime(CLOCK_REALTIME, &now);
+    look(all);
     for (int index = 0; index < all->circuit_count; index++) {
         take_frame(all, index);
     }

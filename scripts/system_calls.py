@@ -19,6 +19,8 @@ import time
 NUMBERS = {"write": 18, "lengthen": 77, "sync": 75, "sync all": 74, "send": 44, "receive": 45}
 # what is watched by default: a server receives in vain all the time
 OUTGOING = ("write", "lengthen", "sync", "sync all", "send")
+# more receives than a server of one circuit makes in two turns that take nothing: at its two sockets and at a relay's
+TURNS = 10
 SYS_SECCOMP, PR_SET_NO_NEW_PRIVS, SET_MODE_FILTER, NEW_LISTENER = 317, 38, 1, 8
 SYS_PIDFD_GETFD = 438
 ALLOW, ASK = 0x7FFF0000, 0x7FC00000
@@ -94,10 +96,11 @@ class Watch:
 
     def break_receives(self, port):
         """From now on every receive from the socket with this port fails with EIO, and no other one. Waits for the first, since
-        one that was let through may not be done yet."""
+        one that was let through may not be done yet. A server makes none where the system has told of no datagram; then it has
+        made so many others that a turn is over."""
         self.broken = [descriptor for descriptor, end in copies(self.process).items() if end.getsockname()[1] == port]
         count = len(self.calls)
-        while "receive fails" not in self.calls[count:] and self.process.poll() is None:
+        while "receive fails" not in self.calls[count:] and len(self.calls) < count + TURNS and self.process.poll() is None:
             time.sleep(0.001)
 
     def mend_receives(self):

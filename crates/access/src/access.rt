@@ -191,7 +191,8 @@ impl Access {
 
     /// Tries sockets without waiting: those of the circuits once each, in order; the server's two by turns, until a batch
     /// is full or none waits; those of the relays once each. What comes in is carried on at once; a datagram that can't be
-    /// received or sent is lost. Then moves all clocks to this moment. Returns how many datagrams were taken.
+    /// received or sent is lost. Then moves all clocks to this moment. Returns how many datagrams were taken. The system is
+    /// asked once at which circuits' sockets datagrams arrived; where none did, none waits.
     pub fn turn(&mut self, now: Moment) -> u32
         ensures most { result ≤ 40 + self.old.batch }
         ensures turned { HasTurned now result self.old self.new }
@@ -277,11 +278,19 @@ impl Access {
         }
     }
 
+    /// Has the system tell at which sockets datagrams arrived.
+    fn look(&mut self)
+        ensures { self.new ≡ self.old }
+    {
+        self.waiter.poll();
+    }
+
     /// Takes a frame from each of the circuits' sockets to its relay.
     fn take_from_circuits(&mut self) -> u32
         ensures most { result ≤ 32 }
         ensures carried { HasCarried (CircuitsSockets self.old.topology) result self.old self.new }
     {
+        self.look();
         let mut taken = 0;
         'circuits: for index in 0..self.sockets.circuits.len() {
             taken += self.take_frame(index, Proto::V4);
@@ -299,7 +308,11 @@ impl Access {
         let to = self.listen(proto);
         let sockets = &self.sockets.circuits[index];
         let socket = sockets.socket(proto);
-        let Attempt::Took(len, _) = socket.take(&mut self.buffer, &mut self.history) else {
+        let Attempt::Took(len, _) = socket.take_if_ready(
+            &mut self.buffer,
+            &mut self.waiter,
+            &mut self.history,
+        ) else {
             return 0;
         };
         let frame = &self.buffer[..len];

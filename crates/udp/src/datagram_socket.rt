@@ -1,5 +1,5 @@
-//! A UDP socket that never waits. What the system does with it is in three functions, and each says in the history
-//! what it did.
+//! A UDP socket that never waits. What the system does with it is in three functions, `bind`, `take` and `send`, and each
+//! says in the history what it did; `take_if_ready` says that nothing waited where the system has told of nothing.
 ghost use Rattle.std.specs.Prelude.{◌≡◌, ◌≤◌, Err, IfOk, IfSome, IfNone};
 ghost use Rattle.types.specs.declared.addr.Source.{Source};
 ghost use Rattle.udp.specs.Address.{IsSystemForm};
@@ -7,6 +7,7 @@ ghost use Rattle.udp.specs.History.{IsWithin, Refused, Sent, attempt_entry, with
 ghost use Rattle.udp.specs.declared.datagram_socket.BindFault.TheVariants as fault;
 
 use crate::history::{Happened, History, Role};
+use crate::waiting::Waiter;
 use mio::net::UdpSocket;
 use std::io::ErrorKind;
 use std::marker::Model;
@@ -45,6 +46,8 @@ pub struct DatagramSocket {
     at: Source,
     /// Which history says what happens at it.
     history: u8,
+    /// By which number the system tells of it, once it is watched.
+    pub(crate) number: usize,
 }
 
 impl Model for DatagramSocket {
@@ -97,6 +100,7 @@ impl DatagramSocket {
                 role,
                 at,
                 history: history.id(),
+                number: usize::MAX,
             }),
             Err(error) if error.kind() == ErrorKind::OutOfMemory => Err(BindFault::Memory),
             Err(_) => {
@@ -131,6 +135,30 @@ impl DatagramSocket {
                 Attempt::Failed
             }
         }
+    }
+
+    /// The same for a socket that is watched. Where the system has told of no datagram since a receive found the socket
+    /// empty, none waits, and it isn't asked again.
+    pub fn take_if_ready(
+        &self,
+        buffer: &mut [u8; BUFFER_LEN],
+        waiter: &mut Waiter,
+        history: &mut History,
+    ) -> Attempt
+        requires { history.old.id ≡ self.now.history }
+        ensures same { history.new.id ≡ history.old.id }
+        ensures len { IsWithin 1281 result }
+        ensures entries { history.new.entries ≡ with_entry (attempt_entry self.now.role buffer.new result) history.old.entries }
+    {
+        if !waiter.is_ready(self.number) {
+            history.add(&Happened::Empty(self.role));
+            return Attempt::Empty;
+        }
+        let attempt = self.take(buffer, history);
+        if attempt == Attempt::Empty {
+            waiter.found_empty(self.number);
+        }
+        attempt
     }
 
     /// Sends a datagram, or loses it. Returns whether the system accepted it.

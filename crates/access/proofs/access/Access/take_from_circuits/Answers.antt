@@ -1,7 +1,7 @@
 use Rattle.std.proofs.Common.{◌≡◌, arith, ◌∙◌, ◌+◌, ℕ, length, ap, refl, subst, sym, rules}
 use Rattle.config.specs.Topology.{Topology}
 use Rattle.types.specs.declared.dest.Proto.TheVariants.{V4, V6}
-use Rattle.access.specs.Access.{HasCarried}
+use Rattle.access.specs.Access.{AccessValue, HasCarried}
 use Rattle.access.specs.Turn.{Both, CircuitSocket, InOrder, Tries}
 use Rattle.access.proofs.CarryLemmas.{carried_again, carried_none, carried_then, carried_topology}
 use Rattle.access.proofs.access.Access.take_from_circuits.Goals as goal
@@ -12,8 +12,8 @@ circuits-init c = record {
   end = search rules;
   few = search rules;
   taken = search rules;
-  same = refl;
-  so_far = carried_none c.args.self.now _ (refl, refl);
+  same = ap (λ (s : AccessValue). s.topology) c.look.ensures;
+  so_far = subst (λ (s : AccessValue). HasCarried (InOrder (λ k. Both (CircuitSocket c.args.self.now.topology k V4) (CircuitSocket c.args.self.now.topology k V6)) 0) 0 c.args.self.now s) (sym c.look.ensures) (carried_none c.args.self.now _ (refl, refl));
 }
 
 pub circuits-preserved : goal.circuits-preserved
