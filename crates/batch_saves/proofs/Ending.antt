@@ -1,22 +1,21 @@
 -- What the three steps make of one part and of its region.
-use Rattle.std.proofs.Common.{◌≡◌, ◌≢◌, ℕ, ◌+◌, ◌-◌, ◌<◌, ◌≤◌, ◌==◌, ◌||◌, if◌then◌else◌, nat_le, Bool, true, false, List, [], ◌∷◌, length, drop, slice_index, refl, sym, ap, ◌∙◌, subst, arith}
+use Rattle.std.proofs.Common.{◌≡◌, ◌≢◌, ℕ, ◌+◌, ◌-◌, ◌<◌, ◌≤◌, ◌==◌, if◌then◌else◌, Bool, true, false, List, length, drop, slice_index, refl, sym, ap, ◌∙◌, subst, arith}
 use Rattle.lease_disk.specs.declared.format2.steps.SaveStep.TheVariants.{Close, Fill, Open}
-use Rattle.lease_disk.specs.declared.marks.Mark.{Mark}
 use Rattle.batch_saves.specs.declared.saving.Saving.{Saving}
 use Rattle.lease_disk.specs.Keys.{HasKey}
 use Rattle.lease_disk.specs.Layout.{is_format2}
 use Rattle.lease_disk.specs.Recovered.{next}
-use Rattle.lease_disk.specs.Region.{IsClean, IsTorn, Region, effective, is_within, synced, written}
+use Rattle.lease_disk.specs.Region.{IsClean, IsTorn, Region, effective, synced, written}
 use Rattle.lease_disk.specs.Save.{Fits, IsMark, IsSaveOf, gate_at, mark_at, other}
 use Rattle.lease_disk.specs.SaveSteps.{marks_after, saved_half}
 use Rattle.lease_disk.proofs.Exits.{IsSave}
 use Rattle.lease_disk.proofs.SaveExits.{save_closing, save_done, save_opening, save_writing}
-use Rattle.batch_saves.specs.Batch.{first_of, in_doubt}
+use Rattle.batch_saves.specs.Batch.{first_of}
 use Rattle.batch_saves.specs.Seen.{Seen}
 use Rattle.batch_saves.specs.Steps.{bytes_in, change_of, place_in}
 use Rattle.batch_saves.proofs.Passing.{Pass, Passed, SyncFailed, WriteFailed, pass_cases, pass_out}
 
--- ---- what is unsynced
+-- ---- a write whose sync failed
 
 torn_written : (at : ℕ) (bytes : List ℕ) (r new : Region) → new ≡ written at bytes r → IsTorn at (length bytes) r new
 torn_written at bytes r new is = subst (λ (x : Region). IsTorn at (length bytes) r x) (sym is) (record {
@@ -24,23 +23,6 @@ torn_written at bytes r new is = subst (λ (x : Region). IsTorn at (length bytes
   unsynced = λ i. refl;
   readable = refl;
 })
-
-doubt_torn : (at n m : ℕ) (r new : Region) → IsClean r → n ≡ m → IsTorn at n r new → (i : ℕ) → new.unsynced i ≡ is_within at m i
-doubt_torn at n m r new clean size torn i = torn.unsynced i ∙ ap (λ b. is_within at n i || b) (clean.each i) ∙ or_false (is_within at n i) ∙ ap (λ k. is_within at k i) size where
-  or_false : (b : Bool) → (b || false) ≡ b
-  or_false true = refl
-  or_false false = refl
-
-clean_after : (r new : Region) → new ≡ synced r → IsClean new
-clean_after r new is = record { each = λ i. ap (λ (x : Region). x.unsynced i) is }
-
-drop_size : (xs : List ℕ) → length xs ≡ 256 → length (drop 1 xs) ≡ 255
-drop_size [] size = absurd (omega (arith, size))
-drop_size (x ∷ xs) size = omega (arith, size)
-
-closed_size : (was_open : Bool) → length {A = ℕ} (if was_open then 0 ∷ [] else []) ≡ (if was_open then 1 else 0)
-closed_size true = refl
-closed_size false = refl
 
 -- ---- which call failed
 
@@ -52,30 +34,6 @@ calls k n least = ap (λ b. n - (if b then 6 else k)) (sym (some_call k least))
 
 counted : (k n : ℕ) → 1 ≤ k → n + 1 ≡ n + (if k == 0 then 0 else 1)
 counted k n least = ap (λ b. n + (if b then 0 else 1)) (sym (some_call k least))
-
-module _ (k s : ℕ) (mark : Mark) (i : ℕ) where
-  late_is : 3 ≤ k → in_doubt k s mark i ≡ (if nat_le k 4 then is_within (gate_at s mark + 1) 255 i else is_within (gate_at s mark) 1 i)
-  late_is least =
-      let later : nat_le k 2 ≡ false = grind (arith, least) in
-      ap (λ b. if b then false else if nat_le k 2 then is_within (gate_at s mark) (if mark.other_open then 1 else 0) i else if nat_le k 4 then is_within (gate_at s mark + 1) 255 i else is_within (gate_at s mark) 1 i) (some_call k (omega (arith, least)))
-      ∙ ap (λ b. if b then is_within (gate_at s mark) (if mark.other_open then 1 else 0) i else if nat_le k 4 then is_within (gate_at s mark + 1) 255 i else is_within (gate_at s mark) 1 i) later
-
-  doubt_closing : 1 ≤ k → k ≤ 2 → is_within (gate_at s mark) (if mark.other_open then 1 else 0) i ≡ in_doubt k s mark i
-  doubt_closing least most =
-      let early : nat_le k 2 ≡ true = grind (arith, most) in
-      sym (
-      ap (λ b. if b then false else if nat_le k 2 then is_within (gate_at s mark) (if mark.other_open then 1 else 0) i else if nat_le k 4 then is_within (gate_at s mark + 1) 255 i else is_within (gate_at s mark) 1 i) (some_call k least)
-      ∙ ap (λ b. if b then is_within (gate_at s mark) (if mark.other_open then 1 else 0) i else if nat_le k 4 then is_within (gate_at s mark + 1) 255 i else is_within (gate_at s mark) 1 i) early)
-
-  doubt_filling : 3 ≤ k → k ≤ 4 → is_within (gate_at s mark + 1) 255 i ≡ in_doubt k s mark i
-  doubt_filling least most =
-      let early : nat_le k 4 ≡ true = grind (arith, most) in
-      sym (late_is least ∙ ap (λ b. if b then is_within (gate_at s mark + 1) 255 i else is_within (gate_at s mark) 1 i) early)
-
-  doubt_opening : 5 ≤ k → is_within (gate_at s mark) 1 i ≡ in_doubt k s mark i
-  doubt_opening least =
-      let late : nat_le k 4 ≡ false = grind (arith, least) in
-      sym (late_is (omega (arith, least)) ∙ ap (λ b. if b then is_within (gate_at s mark + 1) 255 i else is_within (gate_at s mark) 1 i) late)
 
 -- ---- which call fails first
 
@@ -150,22 +108,21 @@ module _ (tells : Bool) (p : Saving) (s : Seen) (given : tells ≡ true → IsGi
     pub failed : tells ≡ true → k ≡ first_of (effective 6 s.fuse) shared
     pub fuse : tells ≡ true → new.fuse ≡ s.fuse - (if k == 0 then 6 else k)
     pub failures : new.failures ≡ s.failures + (if k == 0 then 0 else 1)
-    pub doubt : tells ≡ true → (i : ℕ) → new.region.unsynced i ≡ in_doubt k p.slot (mark_at p.marks p.slot) i
     pub left : tells ≡ true → k ≢ 0 → IsSaveOf k p.clock p.slot p.content p.marks p.marks s.region new.region
     pub done : tells ≡ true → k ≡ 0 → p.slot < length p.marks.slots → IsSaveOf 0 p.clock p.slot p.content p.marks (marks_after p.marks p.slot) s.region new.region
 
   -- a call of the first step failed
   closing : (shared k : ℕ) (new : Seen) → 1 ≤ k → k ≤ 2
       → (tells ≡ true → k ≡ first_of (effective 6 s.fuse) shared) → (tells ≡ true → new.fuse ≡ s.fuse - k) → new.failures ≡ s.failures + 1
-      → (tells ≡ true → IsTorn (place_in Close (change_of p)) (length (bytes_in Close (change_of p))) s.region new.region) → Ends shared k new
-  closing shared k new least most failed fuse failures torn = record {
+      → (tells ≡ true → IsTorn (place_in Close (change_of p)) (length (bytes_in Close (change_of p))) s.region new.region)
+      → (tells ≡ true → k ≡ 2 → new.region ≡ written (place_in Close (change_of p)) (bytes_in Close (change_of p)) s.region) → Ends shared k new
+  closing shared k new least most failed fuse failures torn reads = record {
     most = omega (arith, most);
     failed = failed;
     fuse = λ t. fuse t ∙ calls k s.fuse least;
     failures = failures ∙ counted k s.failures least;
-    doubt = λ t i. doubt_torn (gate_at p.slot (mark_at p.marks p.slot)) _ _ s.region new.region (given t).clean (closed_size (mark_at p.marks p.slot).other_open) (torn t) i ∙ doubt_closing k p.slot (mark_at p.marks p.slot) i least most;
     left = λ t some. save_closing p.slot p.marks (gate_at p.slot (mark_at p.marks p.slot)) (next (mark_at p.marks p.slot).sequence) p.clock p.content (saved_half (mark_at p.marks p.slot) p.clock p.content) (drop 1 (saved_half (mark_at p.marks p.slot) p.clock p.content)) s.region
-        (is_save t) k new.region some (grind (arith, least, most)) (torn t);
+        (is_save t) k new.region some (grind (arith, least, most)) (torn t) (reads t);
     done = λ t zero. absurd (omega (arith, zero, least));
   }
 
@@ -173,16 +130,15 @@ module _ (tells : Bool) (p : Saving) (s : Seen) (given : tells ≡ true → IsGi
   filling : (shared k : ℕ) (mid new : Seen) → 3 ≤ k → k ≤ 4
       → (tells ≡ true → k ≡ first_of (effective 6 s.fuse) shared) → (tells ≡ true → new.fuse ≡ s.fuse - k) → new.failures ≡ s.failures + 1
       → (tells ≡ true → mid.region ≡ synced (written (place_in Close (change_of p)) (bytes_in Close (change_of p)) s.region))
-      → (tells ≡ true → IsTorn (place_in Fill (change_of p)) (length (bytes_in Fill (change_of p))) mid.region new.region) → Ends shared k new
-  filling shared k mid new least most failed fuse failures closed torn = record {
+      → (tells ≡ true → IsTorn (place_in Fill (change_of p)) (length (bytes_in Fill (change_of p))) mid.region new.region)
+      → (tells ≡ true → k ≡ 4 → new.region ≡ written (place_in Fill (change_of p)) (bytes_in Fill (change_of p)) mid.region) → Ends shared k new
+  filling shared k mid new least most failed fuse failures closed torn reads = record {
     most = omega (arith, most);
     failed = failed;
     fuse = λ t. fuse t ∙ calls k s.fuse (omega (arith, least));
     failures = failures ∙ counted k s.failures (omega (arith, least));
-    doubt = λ t i. doubt_torn (gate_at p.slot (mark_at p.marks p.slot) + 1) _ _ mid.region new.region (clean_after (written (place_in Close (change_of p)) (bytes_in Close (change_of p)) s.region) mid.region (closed t)) (drop_size (saved_half (mark_at p.marks p.slot) p.clock p.content) (given t).size) (torn t) i
-        ∙ doubt_filling k p.slot (mark_at p.marks p.slot) i least most;
     left = λ t some. save_writing p.slot p.marks (gate_at p.slot (mark_at p.marks p.slot)) (next (mark_at p.marks p.slot).sequence) p.clock p.content (saved_half (mark_at p.marks p.slot) p.clock p.content) (drop 1 (saved_half (mark_at p.marks p.slot) p.clock p.content)) s.region
-        (is_save t) mid.region (closed t) k (k - 2) new.region some refl (grind (arith, least, most)) (torn t);
+        (is_save t) mid.region (closed t) k (k - 2) new.region some refl (grind (arith, least, most)) (torn t) (λ two. reads t (omega (arith, two, least)));
     done = λ t zero. absurd (omega (arith, zero, least));
   }
 
@@ -191,15 +147,15 @@ module _ (tells : Bool) (p : Saving) (s : Seen) (given : tells ≡ true → IsGi
       → (tells ≡ true → k ≡ first_of (effective 6 s.fuse) shared) → (tells ≡ true → new.fuse ≡ s.fuse - k) → new.failures ≡ s.failures + 1
       → (tells ≡ true → mid.region ≡ synced (written (place_in Close (change_of p)) (bytes_in Close (change_of p)) s.region))
       → (tells ≡ true → full.region ≡ synced (written (place_in Fill (change_of p)) (bytes_in Fill (change_of p)) mid.region))
-      → (tells ≡ true → IsTorn (place_in Open (change_of p)) 1 full.region new.region) → Ends shared k new
-  opening shared k mid full new least most failed fuse failures closed filled torn = record {
+      → (tells ≡ true → IsTorn (place_in Open (change_of p)) 1 full.region new.region)
+      → (tells ≡ true → k ≡ 6 → new.region ≡ written (place_in Open (change_of p)) (bytes_in Open (change_of p)) full.region) → Ends shared k new
+  opening shared k mid full new least most failed fuse failures closed filled torn reads = record {
     most = most;
     failed = failed;
     fuse = λ t. fuse t ∙ calls k s.fuse (omega (arith, least));
     failures = failures ∙ counted k s.failures (omega (arith, least));
-    doubt = λ t i. doubt_torn (gate_at p.slot (mark_at p.marks p.slot)) 1 1 full.region new.region (clean_after (written (place_in Fill (change_of p)) (bytes_in Fill (change_of p)) mid.region) full.region (filled t)) refl (torn t) i ∙ doubt_opening k p.slot (mark_at p.marks p.slot) i least;
     left = λ t some. save_opening p.slot p.marks (gate_at p.slot (mark_at p.marks p.slot)) (next (mark_at p.marks p.slot).sequence) p.clock p.content (saved_half (mark_at p.marks p.slot) p.clock p.content) (drop 1 (saved_half (mark_at p.marks p.slot) p.clock p.content)) s.region
-        (is_save t) mid.region (closed t) full.region (filled t) k (k - 2) (k - 2 - 2) new.region some refl refl (grind (arith, least, most)) (torn t);
+        (is_save t) mid.region (closed t) full.region (filled t) k (k - 2) (k - 2 - 2) new.region some refl refl (grind (arith, least, most)) (torn t) (λ two. reads t (omega (arith, two, least)));
     done = λ t zero. absurd (omega (arith, zero, least));
   }
 
@@ -214,7 +170,6 @@ module _ (tells : Bool) (p : Saving) (s : Seen) (given : tells ≡ true → IsGi
     failed = failed;
     fuse = fuse;
     failures = omega (arith, failures);
-    doubt = λ t i. ap (λ (r : Region). r.unsynced i) (opened t);
     left = λ t some. absurd (some refl);
     done = λ t zero there. save_done p.slot p.marks (gate_at p.slot (mark_at p.marks p.slot)) (next (mark_at p.marks p.slot).sequence) p.clock p.content (saved_half (mark_at p.marks p.slot) p.clock p.content) (drop 1 (saved_half (mark_at p.marks p.slot) p.clock p.content)) s.region
         (is_save t) mid.region (closed t) full.region (filled t) new.region (opened t) (other (mark_at p.marks p.slot).half) refl there;
@@ -242,12 +197,12 @@ module _ (tells : Bool) (p : Saving) (s : Seen) (given : tells ≡ true → IsGi
 
     write1 : WriteFailed tells (change_of p) Close f1 s s1 → Ends (shared_of b1 b2 b3) f3 s3
     write1 w = after1 (λ z. absurd (omega (arith, z, w.failed))) (ended 1 s1 f1 s1 w.failed refl
-        (closing (shared_of b1 b2 b3) 1 s1 (omega arith) (omega arith) (λ t. first_1 s.fuse b1 b2 b3 (w.one t)) w.fuse w.failures w.torn))
+        (closing (shared_of b1 b2 b3) 1 s1 (omega arith) (omega arith) (λ t. first_1 s.fuse b1 b2 b3 (w.one t)) w.fuse w.failures w.torn (λ t two. absurd (omega (arith, two)))))
 
     sync1 : SyncFailed tells (change_of p) Close b1 f1 s s1 → Ends (shared_of b1 b2 b3) f3 s3
     sync1 y = after1 (λ z. absurd (omega (arith, z, y.failed))) (ended 2 s1 f1 s1 y.failed refl
         (closing (shared_of b1 b2 b3) 2 s1 (omega arith) (omega arith) (λ t. first_is true b2 b3 y.does_fail refl refl 2 (first_2 s.fuse b2 b3 (y.other t))) y.fuse y.failures
-        (λ t. torn_written (place_in Close (change_of p)) (bytes_in Close (change_of p)) s.region s1.region (y.region t))))
+        (λ t. torn_written (place_in Close (change_of p)) (bytes_in Close (change_of p)) s.region s1.region (y.region t)) (λ t two. y.region t)))
 
     module _ (x1 : Passed tells (change_of p) Close b1 f1 s s1) where
       not_2 : tells ≡ true → s.fuse ≢ 2
@@ -257,14 +212,14 @@ module _ (tells : Bool) (p : Saving) (s : Seen) (given : tells ≡ true → IsGi
       write2 w = after2 (λ z. absurd (omega (arith, z, w.failed))) (ended 3 s2 f2 s2 w.failed refl
           (filling (shared_of b1 b2 b3) 3 s1 s2 (omega arith) (omega arith)
           (λ t. first_is false b2 b3 x1.does_not_fail refl refl 3 (first_3 s.fuse b2 b3 (let a = x1.fuse t in let b = w.one t in omega (arith, a, b))))
-          (λ t. let a = x1.fuse t in let b = w.fuse t in omega (arith, a, b)) (let a = x1.failures in let b = w.failures in omega (arith, a, b)) x1.region w.torn))
+          (λ t. let a = x1.fuse t in let b = w.fuse t in omega (arith, a, b)) (let a = x1.failures in let b = w.failures in omega (arith, a, b)) x1.region w.torn (λ t four. absurd (omega (arith, four)))))
 
       sync2 : SyncFailed tells (change_of p) Fill b2 f2 s1 s2 → Ends (shared_of b1 b2 b3) f3 s3
       sync2 y = after2 (λ z. absurd (omega (arith, z, y.failed))) (ended 4 s2 f2 s2 y.failed refl
           (filling (shared_of b1 b2 b3) 4 s1 s2 (omega arith) (omega arith)
           (λ t. first_is false true b3 x1.does_not_fail y.does_fail refl 4 (first_4 s.fuse (x1.other t) (not_2 t) (λ three. let a = x1.fuse t in y.other t (omega (arith, a, three)))))
           (λ t. let a = x1.fuse t in let b = y.fuse t in omega (arith, a, b)) (let a = x1.failures in let b = y.failures in omega (arith, a, b)) x1.region
-          (λ t. torn_written (place_in Fill (change_of p)) (bytes_in Fill (change_of p)) s1.region s2.region (y.region t))))
+          (λ t. torn_written (place_in Fill (change_of p)) (bytes_in Fill (change_of p)) s1.region s2.region (y.region t)) (λ t four. y.region t)))
 
       module _ (x2 : Passed tells (change_of p) Fill b2 f2 s1 s2) where
         not_3 : tells ≡ true → s.fuse ≢ 3
@@ -277,7 +232,7 @@ module _ (tells : Bool) (p : Saving) (s : Seen) (given : tells ≡ true → IsGi
         write3 w = ended 5 s3 f3 s3 w.failed refl
             (opening (shared_of b1 b2 b3) 5 s1 s2 s3 (omega arith) (omega arith)
             (λ t. first_is false false b3 x1.does_not_fail x2.does_not_fail refl 5 (first_5 s.fuse b3 (let a = x1.fuse t in let b = x2.fuse t in let d = w.one t in omega (arith, a, b, d))))
-            (λ t. let a = x1.fuse t in let b = x2.fuse t in let d = w.fuse t in omega (arith, a, b, d)) (let a = x1.failures in let b = x2.failures in let d = w.failures in omega (arith, a, b, d)) x1.region x2.region w.torn)
+            (λ t. let a = x1.fuse t in let b = x2.fuse t in let d = w.fuse t in omega (arith, a, b, d)) (let a = x1.failures in let b = x2.failures in let d = w.failures in omega (arith, a, b, d)) x1.region x2.region w.torn (λ t six. absurd (omega (arith, six))))
 
         sync3 : SyncFailed tells (change_of p) Open b3 f3 s2 s3 → Ends (shared_of b1 b2 b3) f3 s3
         sync3 y = ended 6 s3 f3 s3 y.failed refl
@@ -285,7 +240,7 @@ module _ (tells : Bool) (p : Saving) (s : Seen) (given : tells ≡ true → IsGi
             (λ t. first_is false false true x1.does_not_fail x2.does_not_fail y.does_fail 6
             (first_6 s.fuse (x1.other t) (not_2 t) (not_3 t) (not_4 t) (λ five. let a = x1.fuse t in let b = x2.fuse t in y.other t (omega (arith, a, b, five)))))
             (λ t. let a = x1.fuse t in let b = x2.fuse t in let d = y.fuse t in omega (arith, a, b, d)) (let a = x1.failures in let b = x2.failures in let d = y.failures in omega (arith, a, b, d)) x1.region x2.region
-            (λ t. torn_written (place_in Open (change_of p)) (bytes_in Open (change_of p)) s2.region s3.region (y.region t)))
+            (λ t. torn_written (place_in Open (change_of p)) (bytes_in Open (change_of p)) s2.region s3.region (y.region t)) (λ t six. y.region t))
 
         none3 : Passed tells (change_of p) Open b3 f3 s2 s3 → Ends (shared_of b1 b2 b3) f3 s3
         none3 x3 = ended 0 s3 f3 s3 x3.failed refl

@@ -14,7 +14,7 @@ use Rattle.lease_disk.specs.Region.{Region, effective}
 use Rattle.lease_disk.specs.Save.{Fits, IsSaveOf, mark_at, other}
 use Rattle.lease_disk.specs.SaveSteps.{marks_after}
 use Rattle.lease_disk.proofs.Halves.{counting_sequence}
-use Rattle.batch_saves.specs.Batch.{IsReady, IsSavedPart, first_of, fuses_of, in_doubt, part_at, regions_of, shared_fault}
+use Rattle.batch_saves.specs.Batch.{IsReady, IsSavedPart, first_of, fuses_of, part_at, regions_of, shared_fault}
 use Rattle.batch_saves.specs.Seen.{Seen, seen}
 use Rattle.batch_saves.specs.Steps.{AreStepped, Change, IsTurned, KeepsOthers, call_of, change_of}
 use Rattle.batch_saves.proofs.Ending.{Ends, IsGiven, ends, shared_of}
@@ -260,7 +260,6 @@ module _ (tells : Bool) (p0 p1 p2 p3 : List Saving) (d0 d1 d2 d3 : Device)
           (subst (λ (r : Region). IsSaveOf (part_at p3 i).failed (part_at p0 i).clock (part_at p0 i).slot (part_at p0 i).content (part_at p0 i).marks p4.marks r (d3.region (part_at p0 i).region)) (seen_region tells d0 (part_at p0 i).region t)
           (subst (λ (r : Region). IsSaveOf (part_at p3 i).failed (part_at p0 i).clock (part_at p0 i).slot (part_at p0 i).content (part_at p0 i).marks p4.marks (seen tells d0 (part_at p0 i).region).region r) (seen_region tells d3 (part_at p0 i).region t)
           (either (part_at p3 i).failed _ (where_saved t) (where_failed t))));
-      doubt = λ t j. sym (ap (λ (r : Region). r.unsynced j) (seen_region tells d3 (part_at p0 i).region t)) ∙ end.doubt t j ∙ ap (λ k. in_doubt k (part_at p0 i).slot (mark_at (part_at p0 i).marks (part_at p0 i).slot) j) (sym k_is);
       fuse = λ t. sym (seen_fuse tells d3 (part_at p0 i).region t) ∙ end.fuse t ∙ ap (λ n. n - (if (part_at p3 i).failed == 0 then 6 else (part_at p3 i).failed)) (seen_fuse tells d0 (part_at p0 i).region t)
           ∙ ap (λ k. d0.fuse (part_at p0 i).region - (if k == 0 then 6 else k)) (sym k_is);
       kept = λ some. turned.kept (λ z. some (k_is ∙ z)) ∙ marks_stay;

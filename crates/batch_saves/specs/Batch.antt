@@ -1,14 +1,13 @@
 -- Slots of different regions that are saved together, and which of its calls fails for each.
-use Rattle.std.specs.Prelude.{◌≡◌, ◌≢◌, ℕ, ◌+◌, ◌-◌, ◌==◌, ◌<◌, ◌≤◌, min, Bool, true, false, ◌||◌, nat_le, if◌then◌else◌, List, [], length, map, slice_index_or}
+use Rattle.std.specs.Prelude.{◌≡◌, ◌≢◌, ℕ, ◌+◌, ◌-◌, ◌==◌, ◌<◌, ◌≤◌, min, Bool, true, ◌||◌, nat_le, if◌then◌else◌, List, [], length, map, slice_index_or}
 use Rattle.std.specs.List.{count_by, list_any}
 use Rattle.types.specs.declared.slots.Slot6.TheVariants as S6
 use Rattle.lease_disk.specs.declared.content.Content.TheVariants.{Six}
-use Rattle.lease_disk.specs.declared.marks.Mark.{Mark}
 use Rattle.batch_saves.specs.declared.saving.Saving.{Saving}
 use Rattle.lease_disk.specs.Device.{Device}
-use Rattle.lease_disk.specs.Region.{IsClean, effective, is_within}
+use Rattle.lease_disk.specs.Region.{IsClean, effective}
 use Rattle.lease_disk.specs.Layout.{is_format2}
-use Rattle.lease_disk.specs.Save.{Fits, IsMark, IsSaveOf, gate_at, mark_at}
+use Rattle.lease_disk.specs.Save.{Fits, IsMark, IsSaveOf, mark_at}
 
 -- past the last part
 abbrev pub no_part : Saving
@@ -61,14 +60,6 @@ is_sync_fault f = f == 0 || f == 2 || f == 4 || f == 6
 abbrev pub fuses_of : Device → List Saving → List ℕ
 fuses_of device parts = map (λ p. device.fuse p.region) parts
 
--- the bytes in doubt after a save whose k-th call failed: those that its last write was to write
-abbrev pub in_doubt : ℕ → ℕ → Mark → ℕ → Bool
-in_doubt k s mark i =
-    if k == 0 then false
-    else if nat_le k 2 then is_within (gate_at s mark) (if mark.other_open then 1 else 0) i
-    else if nat_le k 4 then is_within (gate_at s mark + 1) 255 i
-    else is_within (gate_at s mark) 1 i
-
 -- what a part has to be before its batch is saved
 pub record IsReady (tells : Bool) (device : Device) (p : Saving) : Type 0 where
   pub exists : p.region < device.count
@@ -89,7 +80,6 @@ pub record IsSavedPart (tells : Bool) (shared : ℕ) (was now : Saving) (old new
   pub failed : tells ≡ true → now.failed ≡ first_of (effective 6 (old.fuse was.region)) shared
   pub most : now.failed ≤ 6
   pub saved : tells ≡ true → IsSaveOf now.failed was.clock was.slot was.content was.marks now.marks (old.region was.region) (new.region was.region)
-  pub doubt : tells ≡ true → (i : ℕ) → (new.region was.region).unsynced i ≡ in_doubt now.failed was.slot (mark_at was.marks was.slot) i
   pub fuse : tells ≡ true → new.fuse was.region ≡ old.fuse was.region - (if now.failed == 0 then 6 else now.failed)
   pub kept : now.failed ≢ 0 → now.marks ≡ was.marks
   pub failures : new.failures was.region ≡ old.failures was.region + (if now.failed == 0 then 0 else 1)

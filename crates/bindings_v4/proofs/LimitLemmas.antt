@@ -62,9 +62,9 @@ module _ (v : PoolSlots) (t : ℕ) (are : AreSlots v.pool v.slots) where
   ends_in_time k =
       record {
         unchanged = tt;
-        offers = λ i fit none. tt;
+        offers = λ i fit none only. tt;
         withdraws = λ i is. tt;
-        binds = λ i fit clear. omega (arith, are.limits.longest);
+        binds = λ i fit clear only. omega (arith, are.limits.longest);
         bars = λ i is. omega arith;
         frees = λ i is. tt;
       }
@@ -81,9 +81,9 @@ module _ (v : PoolSlots) (t : ℕ) (are : AreSlots v.pool v.slots) where
   offers_in_time k =
       record {
         unchanged = tt;
-        offers = λ i fit none. (omega (arith, fit.below, are.size), omega arith);
+        offers = λ i fit none only. (omega (arith, fit.below, are.size), omega arith);
         withdraws = λ i is. omega (arith, (offered_own key4_is_key t k v.slots i is).0, are.size);
-        binds = λ i fit clear. tt;
+        binds = λ i fit clear only. tt;
         bars = λ i is. tt;
         frees = λ i is. tt;
       }

@@ -14,7 +14,7 @@ use Rattle.slots.specs.Slots.{bound_to, offered_to, barred_until, with_slot}
 use Rattle.slots.proofs.FitLemmas.{Fit, bound_own, bound_clients, offered_own, offered_clients, fit_bound, fit_offered, fit_picked}
 use Rattle.slots.proofs.FormLemmas.{form_set, form_given}
 use Rattle.slots.proofs.FreeLemmas.{from, bound_test, offered_test, binding_is}
-use Rattle.slots.proofs.KeptWrites.{IsClear, clear_bound, clear_offered, kept_same, kept_bound, kept_barred, kept_offered, offered_unkept}
+use Rattle.slots.proofs.KeptWrites.{IsClear, IsOnly, clear_bound, clear_offered, kept_same, kept_bound, kept_barred, kept_offered, live_given, offered_unkept, only_bound, only_free, only_offered, unoffered_at}
 use Rattle.slots.proofs.ShownLemmas.{not_true, live_slots, bound_sort, offered_sort}
 use Rattle.slots.proofs.WriteLemmas.{distinct_slot, length_slot, leases_kept, leases_with, leases_gone, leases_without, leases_same, bars_kept, bars_same, bars_with}
 use Rattle.types.specs.Addr.{number4}
@@ -33,7 +33,7 @@ use Rattle.bindings_v4.specs.declared.decision4.OfferChange.TheVariants as offer
 use Rattle.bindings_v4.specs.Book4.{Book4, in_pool}
 use Rattle.bindings_v4.specs.Decision4.{offer_of, keep_of, decision_of}
 use Rattle.bindings_v4.specs.Kept4.{keep_in, slot_of, kept_slots}
-use Rattle.bindings_v4.specs.Slots4.{Holders4, PoolSlots, book_of_slots, book_of, AreSlots, with_offer, holder_of, with_kept, with_decision}
+use Rattle.bindings_v4.specs.Slots4.{Holders4, PoolSlots, book_of_slots, book_of, AreSlots, with_offer, holder_of, with_kept, with_decision, with_written, with_written_offer, with_written_slot}
 use Rattle.bindings_v4.specs.declared.server4.Server4.{Server4}
 use Rattle.bindings_v4.specs.declared.server4.Server4.TheVariants.{Anybody, This, Another}
 use Rattle.slots.specs.Row.{Change, Unchanged, Offers, Withdraws, Binds, Bars, Frees, is_kept, Row, replies}
@@ -200,9 +200,9 @@ module _ (v : PoolSlots) (t : ℕ) (k : List ℕ) (are : AreSlots v.pool v.slots
   -- it holds of every change that a row makes
   pub record OfChanges (P : Change → Type 0) : Type 0 where
     pub unchanged : P Unchanged
-    pub offers : (i : ℕ) → Fit key4_is_key t k v.slots i → bound ≡ None → P (Offers (a + i) (t + 60))
+    pub offers : (i : ℕ) → Fit key4_is_key t k v.slots i → bound ≡ None → IsOnly key4_is_key t k v.slots i → P (Offers (a + i) (t + 60))
     pub withdraws : (i : ℕ) → offered ≡ Some i → P (Withdraws (a + i))
-    pub binds : (i : ℕ) → Fit key4_is_key t k v.slots i → IsClear key4_is_key t k v.slots i → P (Binds (a + i) (t + v.pool.lease))
+    pub binds : (i : ℕ) → Fit key4_is_key t k v.slots i → IsClear key4_is_key t k v.slots i → IsOnly key4_is_key t k v.slots i → P (Binds (a + i) (t + v.pool.lease))
     pub bars : (i : ℕ) → bound ≡ Some i → P (Bars (a + i) (t + 3600))
     pub frees : (i : ℕ) → bound ≡ Some i → P (Frees (a + i))
 
@@ -216,6 +216,15 @@ module _ (v : PoolSlots) (t : ℕ) (k : List ℕ) (are : AreSlots v.pool v.slots
   fit_pick : (wanted : Option ℕ) (i : ℕ) → picked t v.pool v.slots k wanted ≡ Some i → Fit key4_is_key t k v.slots i
   fit_pick wanted i e = fit_picked key4_is_key t a k v.slots (option_or bound offered) wanted i held_fits (ap (λ n. picked_slot t v.slots (option_or bound offered) (slot_in a n wanted)) are.size ∙ e)
 
+  -- a client without a binding is offered the slot that it was offered
+  only_pick : (wanted : Option ℕ) (i : ℕ) → picked t v.pool v.slots k wanted ≡ Some i → bound ≡ None → IsOnly key4_is_key t k v.slots i
+  only_pick wanted i e none = by offered refl e where
+    by : (o : Option ℕ) → offered ≡ o → picked_slot t v.slots (option_or bound o) (slot_in a v.pool.count wanted) ≡ Some i → IsOnly key4_is_key t k v.slots i
+    by None is e = only_free key4_is_key t k v.slots i none (unoffered_at key4_is_key t k v.slots is)
+    by (Some j) is e =
+        let own : Some j ≡ Some i = subst (λ o. picked_slot t v.slots (option_or o (Some j)) (slot_in a v.pool.count wanted) ≡ Some i) none e in
+        only_offered key4_is_key t k v.slots i (is ∙ own)
+
   -- what is looked up, by slots
   abbrev by_slots : Option ℕ → Lookup
   by_slots wanted = record { binding = from a bound; offer = from a offered; pick = from a (picked t v.pool v.slots k wanted) }
@@ -224,17 +233,17 @@ module _ (v : PoolSlots) (t : ℕ) (k : List ℕ) (are : AreSlots v.pool v.slots
     discovered : (wanted found bound_slot : Option ℕ) → picked t v.pool v.slots k wanted ≡ found → bound ≡ bound_slot → P (discover_row t (from a found) (from a bound_slot)).change
     discovered wanted None bound_slot is_picked is_bound = of.unchanged
     discovered wanted (Some i) (Some j) is_picked is_bound = of.unchanged
-    discovered wanted (Some i) None is_picked is_bound = of.offers i (fit_pick wanted i is_picked) is_bound
+    discovered wanted (Some i) None is_picked is_bound = of.offers i (fit_pick wanted i is_picked) is_bound (only_pick wanted i is_picked is_bound)
 
     withdrawn : (found : Option ℕ) → offered ≡ found → P (other_server_row (from a found)).change
     withdrawn None is = of.unchanged
     withdrawn (Some i) is = of.withdraws i is
 
     bound_granted : (i : ℕ) → bound ≡ Some i → P (Binds (a + i) (t + v.pool.lease))
-    bound_granted i is = of.binds i (fit_bound key4_is_key t k v.slots i is) (clear_bound key4_is_key t k v.slots i is)
+    bound_granted i is = of.binds i (fit_bound key4_is_key t k v.slots i is) (clear_bound key4_is_key t k v.slots i is) (only_bound key4_is_key t k v.slots i is)
 
     offered_granted : (i : ℕ) → offered ≡ Some i → P (Binds (a + i) (t + v.pool.lease))
-    offered_granted i is = of.binds i (fit_offered key4_is_key t k v.slots i is) (clear_offered key4_is_key t k v.slots i is)
+    offered_granted i is = of.binds i (fit_offered key4_is_key t k v.slots i is) (clear_offered key4_is_key t k v.slots i is) (only_offered key4_is_key t k v.slots i is)
 
     -- an address that is the client's binding or offer
     selected : (wanted held : Option ℕ) → ((address : ℕ) → held ≡ Some address → P (Binds address (t + v.pool.lease))) → P (selecting_row (t + v.pool.lease) wanted held).change
@@ -307,9 +316,9 @@ module _ (v : PoolSlots) (t : ℕ) (k : List ℕ) (are : AreSlots v.pool v.slots
       let term : 0 < v.pool.lease = omega (arith, are.limits.shortest) in
       record {
         unchanged = refl;
-        offers = λ i fit none. ap (λ n. written n (Some (Offered k (t + 60)))) (slot_there a i) ∙ offered_book v t k (t + 60) i are fit none (lasting t 60 (omega arith));
+        offers = λ i fit none only. ap (λ n. written n (Some (Offered k (t + 60)))) (slot_there a i) ∙ offered_book v t k (t + 60) i are fit none (lasting t 60 (omega arith));
         withdraws = λ i is. ap (λ n. written n None) (slot_there a i) ∙ withdrawn_book v t k i are is;
-        binds = λ i fit clear. ap (λ n. written n (Some (Bound k (t + v.pool.lease)))) (slot_there a i) ∙ bound_book v t k (t + v.pool.lease) i are fit (lasting t v.pool.lease term);
+        binds = λ i fit clear only. ap (λ n. written n (Some (Bound k (t + v.pool.lease)))) (slot_there a i) ∙ bound_book v t k (t + v.pool.lease) i are fit (lasting t v.pool.lease term);
         bars = λ i is. ap (λ n. written n (Some (Barred (t + 3600)))) (slot_there a i) ∙ barred_book v t k (t + 3600) i are is (lasting t 3600 (omega arith));
         frees = λ i is. ap (λ n. written n None) (slot_there a i) ∙ freed_book v t k i are is;
       }
@@ -328,9 +337,9 @@ module _ (v : PoolSlots) (t : ℕ) (k : List ℕ) (are : AreSlots v.pool v.slots
       let bar_stays = kept_barred {K = List ℕ} t (t + 3600) (lasting t 3600 (omega arith)) in
       record {
         unchanged = refl;
-        offers = λ i fit none. subst (IsSame (Some (Offered k (t + 60)))) (sym (slot_there a i)) (ap (map slot_of) (kept_offered key4_is_key t k (t + 60) i ss are.distinct fit none));
+        offers = λ i fit none only. subst (IsSame (Some (Offered k (t + 60)))) (sym (slot_there a i)) (ap (map slot_of) (kept_offered key4_is_key t k (t + 60) i ss are.distinct fit none));
         withdraws = λ i is. subst (IsSame None) (sym (slot_there a i)) (ap (map slot_of) (kept_same t i None ss (sym (offered_unkept key4_is_key t k ss i is))));
-        binds = λ i fit clear. subst (IsSet (slot4.Bound k (t + v.pool.lease))) (sym (slot_there a i))
+        binds = λ i fit clear only. subst (IsSet (slot4.Bound k (t + v.pool.lease))) (sym (slot_there a i))
             (form_given form4 key4_is_key t k i (Some (Bound k (t + v.pool.lease))) ss (slot4.Bound k (t + v.pool.lease)) are.distinct fit.below clear (ap slot_of stays));
         bars = λ i is. subst (IsSet (slot4.Barred (t + 3600))) (sym (slot_there a i))
             (form_set form4 t i (Some (Barred (t + 3600))) ss (slot4.Barred (t + 3600)) (bound_own key4_is_key t k ss i is).0 (ap slot_of bar_stays));
@@ -345,11 +354,28 @@ module _ (v : PoolSlots) (t : ℕ) (k : List ℕ) (are : AreSlots v.pool v.slots
   keeps_in_pool =
       record {
         unchanged = tt;
-        offers = λ i fit none. tt;
+        offers = λ i fit none only. tt;
         withdraws = λ i is. tt;
-        binds = λ i fit clear. omega (arith, fit.below, are.size);
+        binds = λ i fit clear only. omega (arith, fit.below, are.size);
         bars = λ i is. omega (arith, (bound_own key4_is_key t k v.slots i is).0, are.size);
         frees = λ i is. omega (arith, (bound_own key4_is_key t k v.slots i is).0, are.size);
+      }
+
+  -- by the clock nothing else is lost
+  abbrev WritesItsSlot : Change → Type 0
+  WritesItsSlot c = map (live t) (changed_by c) ≡ map (live t) (with_written_slot (keep_of a k c) (with_written_offer (offer_of a k c) v.slots))
+
+  writes_its_slot : OfChanges WritesItsSlot
+  writes_its_slot =
+      let ss = v.slots in
+      let IsSame : Option (Holder (List ℕ)) → ℕ → Type 0 = λ new n. map (live t) (with_slot bytes_eq n new ss) ≡ map (live t) (set ss n new) in
+      record {
+        unchanged = refl;
+        offers = λ i fit none only. subst (IsSame (Some (Offered k (t + 60)))) (sym (slot_there a i)) (live_given key4_is_key t k i (Some (Offered k (t + 60))) ss are.distinct only);
+        withdraws = λ i is. refl;
+        binds = λ i fit clear only. subst (IsSame (Some (Bound k (t + v.pool.lease)))) (sym (slot_there a i)) (live_given key4_is_key t k i (Some (Bound k (t + v.pool.lease))) ss are.distinct only);
+        bars = λ i is. refl;
+        frees = λ i is. refl;
       }
 
 kept_is : (first : ℕ) (k : List ℕ) (change : Change) → is_some (keep_of first k change) ≡ is_kept change
@@ -401,3 +427,7 @@ module _ (v : PoolSlots) (t : ℕ) (m : Request4) (are : AreSlots v.pool v.slots
   pub slots_are : (d : Decision4) → d ≡ decision_of (number4 v.pool.first) t m.key (row v.pool found) → kept_slots t (with_decision d v).slots ≡ keep_in d.keep (kept_slots t v.slots)
   slots_are d e =
       subst (λ (x : Decision4). kept_slots t (with_decision x v).slots ≡ keep_in x.keep (kept_slots t v.slots)) (sym e) (of_row (KeepsItsSlot v t m.key are) (keeps_its_slot v t m.key are))
+
+  pub written_is : (d : Decision4) → d ≡ decision_of (number4 v.pool.first) t m.key (row v.pool found) → map (live t) (with_decision d v).slots ≡ map (live t) (with_written d v.slots)
+  written_is d e =
+      subst (λ (x : Decision4). map (live t) (with_decision x v).slots ≡ map (live t) (with_written x v.slots)) (sym e) (of_row (WritesItsSlot v t m.key are) (writes_its_slot v t m.key are))

@@ -1,5 +1,5 @@
 -- Which book the slots of a pool show: slot i is the pool's address i, the lowest is 0.
-use Rattle.std.specs.Prelude.{◌≡◌, ◌≤◌, ℕ, length, map, List, Option, Some, None}
+use Rattle.std.specs.Prelude.{◌≡◌, ◌≤◌, ℕ, length, map, slice_set, List, Option, Some, None}
 use Rattle.std.specs.Str.{bytes_eq}
 use Rattle.slots.specs.Kept.{unoffered}
 use Rattle.slots.specs.Key.{key4_cmp}
@@ -67,3 +67,16 @@ without_offers slots = map unoffered slots
 -- The slots after a decision: its change of offers, and the slot that it keeps.
 abbrev pub with_decision : Decision4 → PoolSlots → PoolSlots
 with_decision decision v = record v { slots = with_kept decision.keep (with_offer decision.offer v.slots) }
+
+-- The slots with what a decision writes alone, where its client keeps every other slot that it has.
+abbrev pub with_written_offer : Option OfferChange → Holders4 → Holders4
+with_written_offer None slots = slots
+with_written_offer (Some (offer.Made slot key until)) slots = slice_set slots slot (Some (Offered key until))
+with_written_offer (Some (offer.Withdrawn slot)) slots = slice_set slots slot None
+
+abbrev pub with_written_slot : Option KeptSlot → Holders4 → Holders4
+with_written_slot None slots = slots
+with_written_slot (Some kept) slots = slice_set slots kept.slot (holder_of kept.content)
+
+abbrev pub with_written : Decision4 → Holders4 → Holders4
+with_written decision slots = with_written_slot decision.keep (with_written_offer decision.offer slots)

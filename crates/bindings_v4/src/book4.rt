@@ -1,14 +1,14 @@
 //! The book of one circuit's DHCPv4 leases.
-ghost use Rattle.std.specs.Prelude.{◌≡◌, ◌+◌, ◌<◌, ◌≤◌, ℕ, true, is_some, option_map, map, slice_index_or, IfSome, All};
+ghost use Rattle.std.specs.Prelude.{◌≡◌, ◌+◌, ◌<◌, ◌≤◌, ℕ, true, is_some, length, option_map, map, slice_index_or, IfSome, All};
 ghost use Rattle.slots.specs.Kept.{AreOffersWithin, AreWithin};
-ghost use Rattle.slots.specs.Lookup.{slot_in, until_of};
+ghost use Rattle.slots.specs.Lookup.{live, slot_in, until_of};
 ghost use Rattle.types.specs.Addr.{number4};
 ghost use Rattle.types.specs.Slots.{IsWithin4, live4, none_twice, same_client4};
 ghost use Rattle.types.specs.declared.slot4.Slot4.TheVariants.{Free};
 ghost use Rattle.bindings_v4.specs.Decision4.{IsOffer, decision_of};
 ghost use Rattle.bindings_v4.specs.Kept4.{EndsBy, book4_in, keep_in, kept_book, kept_slots};
 ghost use Rattle.bindings_v4.specs.Lookup4.{IsAt, IsLookup, lookup_of};
-ghost use Rattle.bindings_v4.specs.Slots4.{AreSlots, IsOfferWithin, book_of, with_decision, without_offers};
+ghost use Rattle.bindings_v4.specs.Slots4.{AreSlots, IsOfferWithin, book_of, with_decision, with_written, without_offers};
 ghost use Rattle.bindings_v4.specs.Table4.{answer4, lookup_in, row4};
 
 use crate::case4::{Case4, SlotAddress};
@@ -84,6 +84,8 @@ impl Book4 {
         ensures slot { IfSome result.keep (λ kept. kept.slot < self.now.pool.count) }
         ensures offer { IfSome result.offer (IsOffer clock self.now.pool.count) }
         ensures few { self.now.pool.count ≤ 16 }
+        ensures size { length self.now.slots ≡ self.now.pool.count }
+        ensures others { map (live clock) (with_decision result self.now).slots ≡ map (live clock) (with_written result self.now.slots) }
         ensures kept { kept_slots clock (with_decision result self.now).slots ≡ keep_in result.keep (kept_slots clock self.now.slots) }
     {
         let found = self.look_up(request, clock);

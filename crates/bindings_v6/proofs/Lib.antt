@@ -4,6 +4,7 @@ pub mod LaterBook
 pub mod LawLemmas
 pub mod LeaseLemmas
 pub mod LimitLemmas
+pub mod ReplyLemmas
 pub mod RowLemmas
 pub mod ShownBook
 pub mod ShownLemmas

@@ -39,7 +39,7 @@ module _ (v : PoolSlots) (t : ℕ) (are : AreSlots v.pool v.slots) where
   ends_in_time k =
       record {
         unchanged = tt;
-        binds = λ i fit clear. omega (arith, are.limits.longest);
+        binds = λ i fit clear only. omega (arith, are.limits.longest);
         bars = λ i is. omega arith;
         frees = λ i is. tt;
       }

@@ -1,18 +1,18 @@
 -- A row of the table is what its decision makes of the slots.
-use Rattle.std.proofs.Common.{◌≡◌, inr, ℕ, zero, suc, ◌+◌, ◌-◌, ◌<◌, Bool, true, false, cond, List, [], ◌∷◌, set, get_or, refl, sym, ap, subst, ◌∙◌, arith}
+use Rattle.std.proofs.Common.{◌≡◌, inr, ℕ, zero, suc, ◌+◌, ◌-◌, ◌<◌, Bool, true, false, cond, List, [], ◌∷◌, map, set, get_or, refl, sym, ap, subst, ◌∙◌, arith}
 use Rattle.std.specs.Prelude.{Option, Some, None, IfSome, is_some}
 use Rattle.std.specs.List.{position}
 use Rattle.std.proofs.lemmas.Bool.Decides.{nat_tests}
 use Rattle.slots.specs.declared.holder.Holder.{Holder}
 use Rattle.slots.specs.declared.holder.Holder.TheVariants.{Bound, Offered, Barred}
 use Rattle.slots.specs.KeyLaws.{key6_is_key}
-use Rattle.slots.specs.Lookup.{live, is_bound_to, slot_in, picked_slot}
+use Rattle.slots.specs.Lookup.{live, is_bound_to, is_offered_to, slot_in, picked_slot}
 use Rattle.slots.specs.Maps.{is_live}
 use Rattle.slots.specs.Slots.{bound_to, offered_to, barred_until, is_clients, with_vacancy, with_slot}
 use Rattle.slots.proofs.FitLemmas.{Fit, bound_own, bound_clients, fit_bound, fit_picked}
 use Rattle.slots.proofs.FormLemmas.{form_set, form_given}
 use Rattle.slots.proofs.FreeLemmas.{from}
-use Rattle.slots.proofs.KeptWrites.{IsClear, clear_bound, kept_bound, kept_barred}
+use Rattle.slots.proofs.KeptWrites.{IsClear, IsOnly, clear_bound, kept_bound, kept_barred, live_given, only_bound, only_free}
 use Rattle.slots.proofs.ShownLemmas.{live_slots, bound_sort}
 use Rattle.slots.proofs.WriteLemmas.{distinct_slot, length_slot, leases_with, leases_without, bars_kept, bars_same, bars_with}
 use Rattle.types.specs.Addr.{number6}
@@ -30,7 +30,7 @@ use Rattle.bindings_v6.specs.declared.decision6.Decision6.{Decision6}
 use Rattle.bindings_v6.specs.Book6.{Book6}
 use Rattle.bindings_v6.specs.Decision6.{keep_of, decision_of}
 use Rattle.bindings_v6.specs.Kept6.{keep_in, slot_of, kept_slots}
-use Rattle.bindings_v6.specs.Slots6.{Holders6, PoolSlots, book_of_slots, book_of, HaveNoOffers, AreSlots, holder_of, with_kept, with_decision}
+use Rattle.bindings_v6.specs.Slots6.{Holders6, PoolSlots, book_of_slots, book_of, HaveNoOffers, AreSlots, holder_of, with_kept, with_decision, with_written, with_written_slot}
 use Rattle.slots.specs.Row.{Change, Unchanged, Offers, Withdraws, Binds, Bars, Frees, is_kept, Row, drops}
 use Rattle.bindings_v6.specs.Table6.{with_change, solicit_row, request_row, renew_row, confirm_row, release_row, decline_row, first_listed, where_listed, is_off_link, Lookup, lookup_in, row_of, is_for_us, answer6}
 use Rattle.bindings_v6.proofs.FreeLemmas.{picked, pick_is, bound_is}
@@ -132,7 +132,7 @@ module _ (v : PoolSlots) (t : ℕ) (k : Key6Value) (are : AreSlots v.pool v.slot
   -- it holds of every change that a row makes
   pub record OfChanges (P : Change → Type 0) : Type 0 where
     pub unchanged : P Unchanged
-    pub binds : (i : ℕ) → Fit key6_is_key t k v.slots i → IsClear key6_is_key t k v.slots i → P (Binds (a + i) (t + v.pool.lease))
+    pub binds : (i : ℕ) → Fit key6_is_key t k v.slots i → IsClear key6_is_key t k v.slots i → IsOnly key6_is_key t k v.slots i → P (Binds (a + i) (t + v.pool.lease))
     pub bars : (i : ℕ) → bound ≡ Some i → P (Bars (a + i) (t + 3600))
     pub frees : (i : ℕ) → bound ≡ Some i → P (Frees (a + i))
 
@@ -145,6 +145,18 @@ module _ (v : PoolSlots) (t : ℕ) (k : Key6Value) (are : AreSlots v.pool v.slot
     by None is e = inr is
     by (Some j) is e = clear_bound key6_is_key t k v.slots i (is ∙ e)
 
+  unoffered : (s : Option (Holder Key6Value)) → offered_to s ≡ None → is_offered_to same_key6 t k s ≡ false
+  unoffered None none = refl
+  unoffered (Some (Bound key u)) none = refl
+  unoffered (Some (Offered key u)) none = absurd cc
+  unoffered (Some (Barred u)) none = refl
+
+  only_pick : (wanted : Option ℕ) (i : ℕ) → picked t v.pool v.slots k wanted ≡ Some i → IsOnly key6_is_key t k v.slots i
+  only_pick wanted i e = by bound refl e where
+    by : (o : Option ℕ) → bound ≡ o → picked_slot t v.slots o (slot_in a v.pool.count wanted) ≡ Some i → IsOnly key6_is_key t k v.slots i
+    by None is e = only_free key6_is_key t k v.slots i is (λ j. unoffered (get_or v.slots j None) (are.no_offers j))
+    by (Some j) is e = only_bound key6_is_key t k v.slots i (is ∙ e)
+
   -- what is looked up, by slots
   abbrev by_slots : Option ℕ → Lookup
   by_slots wanted = record { binding = from a bound; pick = from a (picked t v.pool v.slots k wanted) }
@@ -156,11 +168,11 @@ module _ (v : PoolSlots) (t : ℕ) (k : Key6Value) (are : AreSlots v.pool v.slot
 
     requested : (off_link : Bool) (wanted found : Option ℕ) → picked t v.pool v.slots k wanted ≡ found → P (request_row (t + v.pool.lease) off_link (from a found)).change
     requested true wanted found is = of.unchanged
-    requested false wanted (Some i) is = of.binds i (fit_pick wanted i is) (clear_pick wanted i is)
+    requested false wanted (Some i) is = of.binds i (fit_pick wanted i is) (clear_pick wanted i is) (only_pick wanted i is)
     requested false wanted None is = of.unchanged
 
     renewed : (listed : List Addr6) (found : Option ℕ) → bound ≡ found → P (renew_row (t + v.pool.lease) listed (from a found)).change
-    renewed listed (Some i) is = of.binds i (fit_bound key6_is_key t k v.slots i is) (clear_bound key6_is_key t k v.slots i is)
+    renewed listed (Some i) is = of.binds i (fit_bound key6_is_key t k v.slots i is) (clear_bound key6_is_key t k v.slots i is) (only_bound key6_is_key t k v.slots i is)
     renewed listed None is = of.unchanged
 
     confirmed : (listed : List Addr6) (off_link : Bool) → P (confirm_row listed off_link).change
@@ -199,7 +211,7 @@ module _ (v : PoolSlots) (t : ℕ) (k : Key6Value) (are : AreSlots v.pool v.slot
       let term : 0 < v.pool.lease = omega (arith, are.limits.shortest) in
       record {
         unchanged = refl;
-        binds = λ i fit clear. ap (λ n. written n (Some (Bound k (t + v.pool.lease)))) (slot_there a i) ∙ bound_book v t k (t + v.pool.lease) i are fit (lasting t v.pool.lease term);
+        binds = λ i fit clear only. ap (λ n. written n (Some (Bound k (t + v.pool.lease)))) (slot_there a i) ∙ bound_book v t k (t + v.pool.lease) i are fit (lasting t v.pool.lease term);
         bars = λ i is. ap (λ n. written n (Some (Barred (t + 3600)))) (slot_there a i) ∙ barred_book v t k (t + 3600) i are is (lasting t 3600 (omega arith));
         frees = λ i is. ap (λ n. written n None) (slot_there a i) ∙ freed_book v t k i are is;
       }
@@ -217,7 +229,7 @@ module _ (v : PoolSlots) (t : ℕ) (k : Key6Value) (are : AreSlots v.pool v.slot
       let bar_stays = kept_barred {K = Key6Value} t (t + 3600) (lasting t 3600 (omega arith)) in
       record {
         unchanged = refl;
-        binds = λ i fit clear. subst (IsSet (slot6.Bound k (t + v.pool.lease))) (sym (slot_there a i))
+        binds = λ i fit clear only. subst (IsSet (slot6.Bound k (t + v.pool.lease))) (sym (slot_there a i))
             (form_given form6 key6_is_key t k i (Some (Bound k (t + v.pool.lease))) ss (slot6.Bound k (t + v.pool.lease)) are.distinct fit.below clear (ap slot_of stays));
         bars = λ i is. subst (IsSet (slot6.Barred (t + 3600))) (sym (slot_there a i))
             (form_set form6 t i (Some (Barred (t + 3600))) ss (slot6.Barred (t + 3600)) (bound_own key6_is_key t k ss i is).0 (ap slot_of bar_stays));
@@ -232,9 +244,24 @@ module _ (v : PoolSlots) (t : ℕ) (k : Key6Value) (are : AreSlots v.pool v.slot
   keeps_in_pool =
       record {
         unchanged = tt;
-        binds = λ i fit clear. omega (arith, fit.below, are.size);
+        binds = λ i fit clear only. omega (arith, fit.below, are.size);
         bars = λ i is. omega (arith, (bound_own key6_is_key t k v.slots i is).0, are.size);
         frees = λ i is. omega (arith, (bound_own key6_is_key t k v.slots i is).0, are.size);
+      }
+
+  -- by the clock nothing else is lost
+  abbrev WritesItsSlot : Change → Type 0
+  WritesItsSlot c = map (live t) (with_kept (keep_of a k c) v.slots) ≡ map (live t) (with_written_slot (keep_of a k c) v.slots)
+
+  writes_its_slot : OfChanges WritesItsSlot
+  writes_its_slot =
+      let ss = v.slots in
+      let IsSame : Option (Holder Key6Value) → ℕ → Type 0 = λ new n. map (live t) (with_slot same_key6 n new ss) ≡ map (live t) (set ss n new) in
+      record {
+        unchanged = refl;
+        binds = λ i fit clear only. subst (IsSame (Some (Bound k (t + v.pool.lease)))) (sym (slot_there a i)) (live_given key6_is_key t k i (Some (Bound k (t + v.pool.lease))) ss are.distinct only);
+        bars = λ i is. refl;
+        frees = λ i is. refl;
       }
 
 kept_is : (first : ℕ) (k : Key6Value) (change : Change) → is_some (keep_of first k change) ≡ is_kept change
@@ -295,3 +322,7 @@ module _ (v : PoolSlots) (t : ℕ) (m : Request6) (are : AreSlots v.pool v.slots
   pub slots_are : (d : Decision6) → d ≡ decision_of (number6 v.pool.first) t m.key (row v.pool found) → kept_slots t (with_decision d v).slots ≡ keep_in d.keep (kept_slots t v.slots)
   slots_are d e =
       subst (λ (x : Decision6). kept_slots t (with_decision x v).slots ≡ keep_in x.keep (kept_slots t v.slots)) (sym e) (of_row (KeepsItsSlot v t m.key are) (keeps_its_slot v t m.key are))
+
+  pub written_is : (d : Decision6) → d ≡ decision_of (number6 v.pool.first) t m.key (row v.pool found) → map (live t) (with_decision d v).slots ≡ map (live t) (with_written d v.slots)
+  written_is d e =
+      subst (λ (x : Decision6). map (live t) (with_decision x v).slots ≡ map (live t) (with_written x v.slots)) (sym e) (of_row (WritesItsSlot v t m.key are) (writes_its_slot v t m.key are))

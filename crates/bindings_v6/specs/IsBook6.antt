@@ -1,5 +1,5 @@
 -- What makes maps a book at a clock, and what is true of every decision.
-use Rattle.std.specs.Prelude.{◌≡◌, ℕ, ◌+◌, ◌<◌, ◌⊎◌, true, false, List, Some, Ok, IfSome}
+use Rattle.std.specs.Prelude.{◌≡◌, ℕ, ◌+◌, ◌<◌, ◌≤◌, ◌⊎◌, true, false, List, length, All, Some, Ok, IfSome}
 use Rattle.std.specs.FinMap.{get, contains_key}
 use Rattle.slots.specs.Maps.{Lease, address_of}
 use Rattle.types.specs.Addr.{addr6}
@@ -7,6 +7,9 @@ use Rattle.types.specs.Key6.{Key6Value}
 use Rattle.types.specs.declared.addr.Addr6.{Addr6}
 use Rattle.types.specs.declared.kind6.Kind6.TheVariants.{Renew, Rebind, Release, Decline}
 use Rattle.types.specs.Pool6.{Pool6Value}
+use Rattle.types.specs.declared.request6.Reply6.{Reply6}
+use Rattle.types.specs.declared.request6.ReplyIa.{ReplyIa}
+use Rattle.types.specs.declared.request6.ReplyIa.TheVariants as ia
 use Rattle.types.specs.declared.request6.ReplyKind6.TheVariants.{Reply}
 use Rattle.types.specs.declared.request6.Request6.{Request6}
 use Rattle.bindings_v6.specs.Book6.{Book6}
@@ -49,6 +52,20 @@ GrantsItsOwn pool t m =
     → (k : ℕ) × (addr6 n ≡ addr6 k)
     × (get (answer6 pool t b m).book.bindings m.key ≡ Some (record { address = k; until = t + pool.lease }))
     × ((x : Entry) → Names b k x → x ≡ TheBinding m.key)
+
+-- Each address has 16 bytes.
+abbrev pub AreWhole : List Addr6 → Type 0
+AreWhole addresses = All (λ (a : Addr6). length a.0 ≡ 16) addresses
+
+-- The IA_NA of a reply to a client that listed these addresses: no more are zeroed, each address is whole.
+abbrev pub IsWholeIa : List Addr6 → ReplyIa → Type 0
+IsWholeIa listed ia.None = Unit {0}
+IsWholeIa listed (ia.Status status) = Unit {0}
+IsWholeIa listed (ia.Given zeroed leased) = (length zeroed.items ≤ length listed) × (AreWhole listed → AreWhole zeroed.items) × (length leased.0 ≡ 16)
+
+-- Every reply has such an IA_NA.
+abbrev pub GivesWholeAddresses : Pool6Value → ℕ → Request6 → Type 0
+GivesWholeAddresses pool t m = (b : Book6) (reply : Reply6) → (answer6 pool t b m).answer ≡ Ok reply → IsWholeIa m.listed.items reply.ia
 
 -- A client keeps its address as long as it renews in time (RFC 8415, sections 18.2.4 and 18.2.5).
 abbrev pub RenewsInTime : Pool6Value → ℕ → Request6 → Type 0

@@ -1,5 +1,5 @@
 -- Which book the slots of a pool show: slot i is the pool's address i, the lowest is 0.
-use Rattle.std.specs.Prelude.{◌≡◌, ℕ, length, slice_index_or, List, Option, Some, None}
+use Rattle.std.specs.Prelude.{◌≡◌, ℕ, length, slice_index_or, slice_set, List, Option, Some, None}
 use Rattle.slots.specs.Key.{key6_cmp}
 use Rattle.slots.specs.Slots.{bound_to, offered_to, leases, bars_of, AreDistinct, with_slot}
 use Rattle.slots.specs.declared.holder.Holder.{Holder}
@@ -53,3 +53,11 @@ with_kept (Some kept) slots = with_slot same_key6 kept.slot (holder_of kept.cont
 -- The slots after a decision: with the slot that it keeps.
 abbrev pub with_decision : Decision6 → PoolSlots → PoolSlots
 with_decision decision v = record v { slots = with_kept decision.keep v.slots }
+
+-- The slots with what a decision writes alone, where its client keeps every other slot that it has.
+abbrev pub with_written_slot : Option KeptSlot → Holders6 → Holders6
+with_written_slot None slots = slots
+with_written_slot (Some kept) slots = slice_set slots kept.slot (holder_of kept.content)
+
+abbrev pub with_written : Decision6 → Holders6 → Holders6
+with_written decision slots = with_written_slot decision.keep slots

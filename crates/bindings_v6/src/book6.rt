@@ -1,14 +1,14 @@
 //! The book of one circuit's DHCPv6 leases.
-ghost use Rattle.std.specs.Prelude.{◌≡◌, ◌+◌, ◌<◌, ◌≤◌, ℕ, true, is_some, option_map, map, slice_index_or, IfSome, All};
+ghost use Rattle.std.specs.Prelude.{◌≡◌, ◌+◌, ◌<◌, ◌≤◌, ℕ, true, is_some, length, option_map, map, slice_index_or, IfSome, All};
 ghost use Rattle.slots.specs.Kept.{AreOffersWithin, AreWithin};
-ghost use Rattle.slots.specs.Lookup.{slot_in, until_of};
+ghost use Rattle.slots.specs.Lookup.{live, slot_in, until_of};
 ghost use Rattle.types.specs.Addr.{number6};
 ghost use Rattle.types.specs.Slots.{IsWithin6, live6, none_twice, same_client6};
 ghost use Rattle.types.specs.declared.slots.Slot6.TheVariants.{Free};
 ghost use Rattle.bindings_v6.specs.Decision6.{decision_of};
 ghost use Rattle.bindings_v6.specs.Kept6.{EndsBy, book6_in, keep_in, kept_slots};
 ghost use Rattle.bindings_v6.specs.Lookup6.{IsAt, IsLookup, lookup_of};
-ghost use Rattle.bindings_v6.specs.Slots6.{AreSlots, book_of, with_decision};
+ghost use Rattle.bindings_v6.specs.Slots6.{AreSlots, book_of, with_decision, with_written};
 ghost use Rattle.bindings_v6.specs.Table6.{answer6, lookup_in, row6};
 
 use crate::case6::{Case6, SlotAddress};
@@ -81,6 +81,8 @@ impl Book6 {
         ensures within { IfSome result.keep (λ kept. EndsBy (clock + 604800) kept.content) }
         ensures slot { IfSome result.keep (λ kept. kept.slot < self.now.pool.count) }
         ensures few { self.now.pool.count ≤ 16 }
+        ensures size { length self.now.slots ≡ self.now.pool.count }
+        ensures others { map (live clock) (with_decision result self.now).slots ≡ map (live clock) (with_written result self.now.slots) }
         ensures kept { kept_slots clock (with_decision result self.now).slots ≡ keep_in result.keep (kept_slots clock self.now.slots) }
     {
         let found = self.look_up(request, clock);

@@ -11,7 +11,7 @@ ghost use Rattle.types.specs.declared.slots.Slot6.TheVariants.{Free};
 ghost use Rattle.types.specs.declared.slots.Slots.{Slots};
 ghost use Rattle.bindings_v6.specs.Book6.{book6_at, empty_book};
 ghost use Rattle.bindings_v6.specs.Book6 as maps;
-ghost use Rattle.bindings_v6.specs.IsBook6.{IsBook6, LeavesABook, KeepsOthers, ChangesNothing, GrantsItsOwn, RenewsInTime, KeepsItsLease};
+ghost use Rattle.bindings_v6.specs.IsBook6.{IsBook6, LeavesABook, KeepsOthers, ChangesNothing, GivesWholeAddresses, GrantsItsOwn, RenewsInTime, KeepsItsLease};
 ghost use Rattle.bindings_v6.specs.Kept6.{book6_in, kept_slots};
 ghost use Rattle.bindings_v6.specs.Slots6.{book_of};
 
@@ -61,6 +61,12 @@ pub fn grants_its_own(pool: Pool6, clock: Moment, request: &Request6)
 /// A client that renews before its lease ends keeps its address.
 pub fn renews_in_time(pool: Pool6, clock: Moment, request: &Request6)
     ensures { RenewsInTime pool clock request.now }
+{}
+
+/// An address that is given has 16 bytes. Of those with lifetimes of 0 there are no more than the client listed, and
+/// they have 16 bytes if those have.
+pub fn gives_whole_addresses()
+    ensures { (pool : Pool6Value) (clock : ℕ) (m : Request6) → GivesWholeAddresses pool clock m }
 {}
 
 /// What `Book6::new` takes and `Book6::put` writes is a book: the one that slots mean. Slots of which none

@@ -1,5 +1,5 @@
 -- What a circuit's decision makes of it. Only proofs need this.
-use Rattle.std.specs.Prelude.{◌≡◌, ℕ, ◌+◌, ◌<◌, ◌≤◌, true, Bool, is_some, List, Option, option_map, Some, IfSome, Result}
+use Rattle.std.specs.Prelude.{◌≡◌, ℕ, ◌+◌, ◌<◌, ◌≤◌, true, Bool, is_some, length, map, List, Option, option_map, Some, IfSome, Result}
 use Rattle.std.specs.Result.{result_map_both}
 use Rattle.types.specs.Slots.{IsWithin4, IsWithin6}
 use Rattle.types.specs.declared.discard.Discard.{Discard}
@@ -11,6 +11,7 @@ use Rattle.lease_disk.specs.Layout.{is_format2}
 use Rattle.lease_disk.specs.Recovered.{recovered}
 use Rattle.lease_disk.specs.Region.{Region, IsClean}
 use Rattle.lease_disk.specs.Save.{AreMarks, is_read, with_slot}
+use Rattle.slots.specs.Lookup.{live}
 use Rattle.bindings_v4.specs.Kept4 as kept4
 use Rattle.bindings_v4.specs.Decision4.{IsOffer}
 use Rattle.bindings_v4.specs.Slots4 as slots4
@@ -50,6 +51,13 @@ KeepsItsSlot (V4 m decision) o =
 KeepsItsSlot (V6 forward m client decision) o =
     (kept6.kept_slots o.clock (slots6.with_decision decision o.six).slots ≡ kept6.keep_in decision.keep (kept6.kept_slots o.clock o.six.slots))
     × IfSome decision.keep (λ kept. kept.slot < o.six.pool.count) × (o.six.pool.count ≤ 16)
+
+-- by the clock a decision changes nothing but the slots that it writes, which are slots of the pool
+abbrev pub LosesNoOther : CircuitDecision → OpenCircuitValue → Type 0
+LosesNoOther (V4 m decision) o =
+    (map (live o.clock) (slots4.with_decision decision o.four).slots ≡ map (live o.clock) (slots4.with_written decision o.four.slots)) × (length o.four.slots ≡ o.four.pool.count)
+LosesNoOther (V6 forward m client decision) o =
+    (map (live o.clock) (slots6.with_decision decision o.six).slots ≡ map (live o.clock) (slots6.with_written decision o.six.slots)) × (length o.six.slots ≡ o.six.pool.count)
 
 -- a slot that is kept or offered is held within its limit
 abbrev pub IsWithin : CircuitDecision → Type 0

@@ -24,17 +24,22 @@ abbrev pub held_in : Option OpenCircuitValue → ℕ → Option ℕ
 held_in None s = None
 held_in (Some o) s = held_until o s
 
--- Of a circuit whose first slot has this number: nothing while it is closed; while it is open, until when each slot is
--- held that is live.
+-- until when a slot of an open circuit is held, where it is live: where its clock has not come to that
+abbrev pub live_until : OpenCircuitValue → ℕ → Option ℕ
+live_until o s = entry_after_sweep o.clock (held_until o s)
+
+-- Of a circuit whose first slot has this number: nothing while it is closed. While it is open, the deadlines that its clock
+-- has not come to are those of its live slots, and each of them has its own.
 abbrev pub HasDeadlines : DeadlinesValue → ℕ → Option OpenCircuitValue → Type 0
 HasDeadlines table first None = (s : ℕ) → s < 32 → deadline table (first + s) ≡ None
-HasDeadlines table first (Some o) = (s until : ℕ) → s < 32 → held_until o s ≡ Some until → o.clock < until → deadline table (first + s) ≡ Some until
+HasDeadlines table first (Some o) = (s : ℕ) → s < 32 → entry_after_sweep o.clock (deadline table (first + s)) ≡ live_until o s
 
 -- ---- no public call of `dispatch` speaks of these
 
--- all but the 32 slots from this number on have the deadlines that they had
+-- all but the 32 slots from this number on have the deadlines that they had, and no entry was looked at
 pub record SameBeside (first : ℕ) (old new : DeadlinesValue) : Type 0 where
   pub size : length new.slots ≡ length old.slots
+  pub looks : new.looks ≡ old.looks
   pub beside : (n : ℕ) → (n < first) ⊎ (first + 32 ≤ n) → deadline new n ≡ deadline old n
 
 abbrev pub swept : ℕ → DeadlinesValue → DeadlinesValue

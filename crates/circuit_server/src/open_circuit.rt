@@ -6,7 +6,7 @@ ghost use Rattle.slots.specs.Kept.{AreWithin};
 ghost use Rattle.v6_options.specs.Codes.{RELAY_MESSAGE};
 ghost use Rattle.v6_options.specs.Spelling.{look_up};
 ghost use Rattle.config.specs.CircuitPart as parts;
-ghost use Rattle.circuit_server.specs.CircuitDecision.{IsWithin, KeepsItsSlot, served_by, with_decision};
+ghost use Rattle.circuit_server.specs.CircuitDecision.{IsWithin, KeepsItsSlot, LosesNoOther, served_by, with_decision};
 ghost use Rattle.circuit_server.specs.Deadlines.{held_until};
 ghost use Rattle.circuit_server.specs.Leases.{book_in, found_book};
 ghost use Rattle.circuit_server.specs.Prepared.{saving_of};
@@ -134,6 +134,7 @@ impl OpenCircuit {
         ensures err { (proto : Proto) (bytes : List ℕ) → IsRelayedMessage proto bytes relayed.entry → IfErr result (λ why. datagram_served part.now proto bytes (open_book self.now) ≡ drop why (open_book self.now)) }
         ensures within { IfOk result IsWithin }
         ensures keeps { IfOk result (λ decision. KeepsItsSlot decision self.now) }
+        ensures others { IfOk result (λ decision. LosesNoOther decision self.now) }
     {
         match relayed {
             RelayedMessage::V4(message) => self.decide4(message),
@@ -147,6 +148,7 @@ impl OpenCircuit {
         ensures err { IfErr result (λ why. request4_in message.entry ≡ Err why) }
         ensures within { IfOk result IsWithin }
         ensures keeps { IfOk result (λ decision. KeepsItsSlot decision self.now) }
+        ensures others { IfOk result (λ decision. LosesNoOther decision self.now) }
     {
         let request = match request4_in(&message) {
             Ok(request) => request,
@@ -167,6 +169,7 @@ impl OpenCircuit {
         ensures err { IfErr result (λ why. message6_served part.now forward.entry (open_book self.now) (look_up RELAY_MESSAGE forward.entry.options) ≡ drop why (open_book self.now)) }
         ensures within { IfOk result IsWithin }
         ensures keeps { IfOk result (λ decision. KeepsItsSlot decision self.now) }
+        ensures others { IfOk result (λ decision. LosesNoOther decision self.now) }
     {
         let Some(bytes) = forward.relay_message() else {
             return Err(Discard::Malformed);

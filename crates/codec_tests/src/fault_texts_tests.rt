@@ -38,6 +38,6 @@ fn faults_have_texts(rt: HostRuntime) -> Result<(), AllocError> {
             "the message has not exactly one IA_NA"
         )?
     );
-    assert!(rt; says(alloc, &duid::Length, "a DUID has 3 to 130 bytes")?);
+    assert!(rt; says(alloc, &types::duid::Length, "a DUID has 3 to 130 bytes")?);
     Ok(())
 }

@@ -1,5 +1,5 @@
 //! Values that no program looks at: what a server's reply says of a lease, a count, and DUIDs by themselves.
-use duid::Duid;
+use types::duid::Duid;
 use types::{Addr6, Count};
 use v6_message::{IaAddress, Message6};
 use v6_options::Options;

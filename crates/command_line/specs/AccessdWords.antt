@@ -34,8 +34,12 @@ batch_rule = record (new_rule (codes "batch")) { long = Some (codes "batch"); va
 abbrev pub bare_app : App
 bare_app = on_top (λ s. record s { no_binary_name = true; has_version = true }) (new_app (codes "accessd"))
 
+-- with the words that have to be there
+abbrev pub base_app : App
+base_app = with_rule (with_rule (with_rule bare_app config_rule) disk_rule) turns_rule
+
 abbrev pub access_app : App
-access_app = with_rule (with_rule (with_rule (with_rule (with_rule (with_rule (with_rule bare_app config_rule) disk_rule) turns_rule) format_rule) port_rule) pause_rule) batch_rule
+access_app = with_rule (with_rule (with_rule (with_rule base_app format_rule) port_rule) pause_rule) batch_rule
 
 -- What the words give the arguments is these values.
 pub record HasValues (given : List Row) (config disk : List ℕ) (turns : ℕ) (format : Bool) (port pause batch : ℕ) : Type 0 where

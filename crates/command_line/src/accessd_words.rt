@@ -4,7 +4,7 @@ ghost use Rattle.std.specs.Prelude.{string_bytes, IfOk, IfErr, IfSome, IsNone};
 ghost use Rattle.clap.specs.Words.{app_of, rule_of, found_of, rows_of};
 ghost use Rattle.command_line.specs.CommandLine.{IsRefused};
 ghost use Rattle.command_line.specs.AccessdWords.{batch_rule, disk_rule, format_rule, pause_rule, port_rule, turns_rule};
-ghost use Rattle.command_line.specs.AccessdWords.{bare_app, access_app, HasValues, Spells, SpellsSomething};
+ghost use Rattle.command_line.specs.AccessdWords.{bare_app, base_app, access_app, HasValues, Spells, SpellsSomething};
 
 use crate::arguments::{config_arg, is_set, number};
 use crate::refusal::Refusal;
@@ -126,20 +126,26 @@ fn named<'a>(alloc: Global) -> Command<'a>
         )
 }
 
-fn command<'a>(alloc: Global) -> Result<Command<'a>, AllocError>
-    ensures { IfOk result (λ command. app_of command ≡ access_app) }
+/// With the words that have to be there.
+fn base_command<'a>(alloc: Global) -> Result<Command<'a>, AllocError>
+    ensures { IfOk result (λ command. app_of command ≡ base_app) }
 {
     let config = config_arg(alloc);
     let disk = disk_arg(alloc);
     let turns = turns_arg(alloc);
+    let with_config = named(alloc).arg(config)?;
+    let with_disk = with_config.arg(disk)?;
+    with_disk.arg(turns)
+}
+
+fn command<'a>(alloc: Global) -> Result<Command<'a>, AllocError>
+    ensures { IfOk result (λ command. app_of command ≡ access_app) }
+{
     let format = format_arg(alloc);
     let port = port_arg(alloc);
     let pause = pause_arg(alloc);
     let batch = batch_arg(alloc);
-    let with_config = named(alloc).arg(config)?;
-    let with_disk = with_config.arg(disk)?;
-    let with_turns = with_disk.arg(turns)?;
-    let with_format = with_turns.arg(format)?;
+    let with_format = base_command(alloc)?.arg(format)?;
     let with_port = with_format.arg(port)?;
     let with_pause = with_port.arg(pause)?;
     with_pause.arg(batch)

@@ -7,6 +7,7 @@ pub mod PartLemmas
 pub mod PlanLawLemmas
 pub mod PlanLemmas
 pub mod PoolLemmas
+pub mod RefLemmas
 pub mod RuleLemmas
 pub mod TopologyLemmas
 pub mod UnionLemmas

@@ -14,7 +14,7 @@ use Rattle.types.specs.declared.addr.Addr4.{Addr4}
 use Rattle.types.specs.declared.addr.Source.{Source}
 use Rattle.config.specs.CircuitPart.{CircuitPart, IsPart, part_of, source_at, parts_of, part_in}
 use Rattle.config.specs.Rules.{IsHost, IsOnSubnet, IsSound}
-use Rattle.settings.specs.Settings.{Settings, IsWithinLimits}
+use Rattle.settings.specs.Settings.{Settings, IsServerWithinLimits, IsWithinLimits}
 use Rattle.settings.specs.declared.settings.CircuitConfig.{CircuitConfig}
 use Rattle.settings.specs.declared.settings.RelayConfig.{RelayConfig}
 use Rattle.settings.specs.declared.settings.ServerConfig.{ServerConfig}
@@ -63,11 +63,13 @@ part_there settings c circuit copy relay server duid there behind copied servers
     ∙ λ i. Some (part_of (sym copied i) (source_there settings.relays circuit.relay relay behind i) (sym servers i).listen4 (sym servers i).listen6 ((ap (λ (s : ServerConfig). s.duid.items) (sym servers) ∙ sym duids) i))
 
 -- a part of a configuration keeps what the circuit's values keep
-pub is_part : (settings : Settings) (c : ℕ) (circuit copy : CircuitConfig) (relay listen4 listen6 : Source) (duid : List ℕ)
+pub is_part : (settings : Settings) (c : ℕ) (circuit copy : CircuitConfig) (relay : Source) (server : ServerConfig) (duid : List ℕ)
     → slice_get settings.circuits c ≡ Some circuit → copy ≡ circuit → IsWithinLimits settings.relays circuit → IsSound settings → length circuit.gateway4.0 ≡ 4 → length circuit.link6.0 ≡ 16
-    → IsPart (part_of copy relay listen4 listen6 duid)
-is_part settings c circuit copy relay listen4 listen6 duid there copied limits sound size4 size6 =
-    let P : CircuitConfig → Type 0 = λ x. IsPart (part_of x relay listen4 listen6 duid) in
+    → duid ≡ server.duid.items → IsServerWithinLimits server
+    → IsPart (part_of copy relay server.listen4 server.listen6 duid)
+is_part settings c circuit copy relay server duid there copied limits sound size4 size6 duids within =
+    let size = ap length duids in
+    let P : CircuitConfig → Type 0 = λ x. IsPart (part_of x relay server.listen4 server.listen6 duid) in
     subst P (sym copied) (record {
       id = limits.id;
       pool4 = limits.pool4;
@@ -75,6 +77,8 @@ is_part settings c circuit copy relay listen4 listen6 duid there copied limits s
       gateway4_size = size4;
       gateway4 = gateway_is_given settings c circuit there sound;
       link6_size = size6;
+      least_duid = omega (arith, size, within.least_duid);
+      most_duid = omega (arith, size, within.most_duid);
     })
 
 -- one part more

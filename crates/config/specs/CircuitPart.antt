@@ -1,6 +1,6 @@
 -- One circuit's part of a configuration: all that its relay and its server know of it. Neither the
 -- circuit's index nor its relay's is in it, so the same circuit at another index has the same part.
-use Rattle.std.specs.Prelude.{◌≡◌, ℕ, zero, suc, List, [], ◌∷◌, length, map, slice_get, Option, false}
+use Rattle.std.specs.Prelude.{◌≡◌, ℕ, ◌≤◌, zero, suc, List, [], ◌∷◌, length, map, slice_get, Option, false}
 use Rattle.types.specs.Addr.{is_unspecified}
 use Rattle.types.specs.Pool4.{IsPool4, PoolValue}
 use Rattle.types.specs.Pool6.{IsPool6, Pool6Value}
@@ -89,3 +89,5 @@ pub record IsPart (part : CircuitPart) : Type 0 where
   pub gateway4_size : length part.gateway4.0 ≡ 4
   pub gateway4 : is_unspecified part.gateway4.0 ≡ false
   pub link6_size : length part.link6 ≡ 16
+  pub least_duid : 3 ≤ length part.duid
+  pub most_duid : length part.duid ≤ 130

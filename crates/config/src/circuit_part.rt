@@ -129,9 +129,10 @@ impl CircuitPart {
         &self.circuit.dns
     }
 
-    /// The server's DUID, at most 130 bytes.
+    /// The server's DUID, 3 to 130 bytes.
     pub fn duid(&self) -> &ArrayVec<u8, MAX_DUID>
-        ensures { result.now.items ≡ self.now.duid }
+        ensures value { result.now.items ≡ self.now.duid }
+        ensures sound { IsPart self.now }
     {
         &self.duid
     }

@@ -1,5 +1,5 @@
 -- One part of a batch more is answered.
-use Rattle.std.proofs.Common.{◌≡◌, ◌∙◌, ◌+◌, ◌<◌, ◌==◌, ℕ, Bool, true, false, List, [], ◌∷◌, ◌++◌, length, take, refl, sym, ap, subst, arith}
+use Rattle.std.proofs.Common.{◌≡◌, ◌∙◌, ◌+◌, ◌<◌, ◌==◌, ◌||◌, ℕ, Bool, true, false, List, [], ◌∷◌, ◌++◌, length, take, refl, sym, ap, subst, arith}
 use Rattle.std.specs.Prelude.{Option, Some, None, Result, Ok, Err, slice_get, slice_set}
 use Rattle.std.specs.List.{list_any}
 use Rattle.std.proofs.lemmas.Bool.{eqb-true}
@@ -15,7 +15,10 @@ use Rattle.circuit_server.specs.CircuitServerValue.{OpenCircuitValue}
 use Rattle.circuit_server.specs.Prepared.{IsSettled}
 use Rattle.circuit_server.specs.Ticked.{state_of}
 use Rattle.circuit_server.specs.declared.prepared.Prepared.{Prepared}
+use Rattle.timers.specs.Deadlines.{DeadlinesValue}
+use Rattle.dispatch.specs.Deadlines.{KeepsDeadlines}
 use Rattle.dispatch.specs.Parts.{AreAnswered, AreToSettle, IsAnswered, IsSettledSo, is_of, place_of}
+use Rattle.dispatch.proofs.HeldDeadlines.{kept_both, kept_wider}
 use Rattle.dispatch.proofs.PartLemmas.{any_more, any_there, get_before, get_last, left_false, not_both, right_false, same_number, size_more}
 
 abbrev Part : Type 0
@@ -105,3 +108,13 @@ set_keeps c now new prepared set_so k none =
 
 pub set_size : (c : ℕ) (now new : States) → new ≡ slice_set now c (state_of new c) → length new ≡ length now
 set_size c now new set_so = ap (λ (s : States). length s) set_so ∙ length-set now c (state_of new c)
+
+-- the deadlines of every circuit of which nothing is to be settled stay
+pub kept_answered : (parts : List (Option Part)) (i : ℕ) (x : Option Part) (old now new : DeadlinesValue) → slice_get parts i ≡ Some x → KeepsDeadlines (λ k. list_any (is_of k) (take i parts)) old now
+    → KeepsDeadlines (λ k. is_of k x) now new → KeepsDeadlines (λ k. list_any (is_of k) (take (i + 1) parts)) old new
+kept_answered parts i x old now new here before next =
+    kept_both (λ k. list_any (is_of k) (take (i + 1) parts)) old now new
+    (kept_wider (λ k. list_any (is_of k) (take i parts)) (λ k. list_any (is_of k) (take (i + 1) parts)) old now (λ k none. left_false (list_any (is_of k) (take i parts)) (is_of k x) (so k none)) before)
+    (kept_wider (λ k. is_of k x) (λ k. list_any (is_of k) (take (i + 1) parts)) now new (λ k none. right_false (list_any (is_of k) (take i parts)) (is_of k x) (so k none)) next) where
+      so : (k : ℕ) → list_any (is_of k) (take (i + 1) parts) ≡ false → (list_any (is_of k) (take i parts) || is_of k x) ≡ false
+      so k none = sym (any_more (is_of k) parts i x here) ∙ none

@@ -3,8 +3,9 @@ use Rattle.std.proofs.Common.{◌≡◌, ℕ, zero, suc, ◌+◌, ◌*◌, ◌<�
 use Rattle.std.specs.Prelude.{Option, Some, None, slice_get, if◌then◌else◌, ◌⊎◌}
 use Rattle.std.proofs.lemmas.List.{length-set}
 use Rattle.timers.specs.Deadlines.{DeadlinesValue, deadline, entry_after_sweep}
-use Rattle.circuit_server.specs.Deadlines.{HasDeadlines, SameBeside}
+use Rattle.circuit_server.specs.Deadlines.{HasDeadlines, SameBeside, held_in}
 use Rattle.circuit_server.proofs.DeadlineLemmas.{after_sweep_at}
+use Rattle.dispatch.specs.Deadlines.{AreSetAnew, KeepsDeadlines}
 use Rattle.dispatch.specs.ServerValue.{HoldsDeadlines}
 use Rattle.circuit_server.specs.CircuitServerValue.{OpenCircuitValue}
 use Rattle.std.proofs.lemmas.Option.{same_Some, slice_get_within}
@@ -23,37 +24,74 @@ get_set_other (x ∷ xs) (suc i) (suc c) y other = get_set_other xs i c y (λ sa
 
 -- another circuit's deadlines stay
 pub still_has : (first other : ℕ) (old new : DeadlinesValue) (state : Option OpenCircuitValue) → SameBeside first old new → (other + 32 ≤ first) ⊎ (first + 32 ≤ other) → HasDeadlines old other state → HasDeadlines new other state
-still_has first other old new None same apart has = λ s below. same.beside (other + s) (aside first other s below apart) ∙ has s below where
-  aside : (first other s : ℕ) → s < 32 → (other + 32 ≤ first) ⊎ (first + 32 ≤ other) → (other + s < first) ⊎ (first + 32 ≤ other + s)
-  aside first other s below (inl h) = inl (omega (arith, below, h))
-  aside first other s below (inr h) = inr (omega (arith, h))
-still_has first other old new (Some o) same apart has = λ s until below held live. same.beside (other + s) (aside first other s below apart) ∙ has s until below held live where
-  aside : (first other s : ℕ) → s < 32 → (other + 32 ≤ first) ⊎ (first + 32 ≤ other) → (other + s < first) ⊎ (first + 32 ≤ other + s)
-  aside first other s below (inl h) = inl (omega (arith, below, h))
-  aside first other s below (inr h) = inr (omega (arith, h))
-
--- the first circuits have theirs
-pub record HoldsFirst (count : ℕ) (table : DeadlinesValue) (states : List (Option OpenCircuitValue)) : Type 0 where
-  pub each : (c : ℕ) (state : Option OpenCircuitValue) → c < count → slice_get states c ≡ Some state → HasDeadlines table (32 * c) state
-
-pub holds_more : (count : ℕ) (table after : DeadlinesValue) (states : List (Option OpenCircuitValue)) (new : Option OpenCircuitValue) → count < length states → HoldsFirst count table states
-    → HasDeadlines after (32 * count) new → SameBeside (32 * count) table after → HoldsFirst (count + 1) after (set states count new)
-holds_more count table after states new within holds own same = record { each = λ c state below there. by c state below there (c == count) refl } where
-  by : (c : ℕ) (state : Option OpenCircuitValue) → c < count + 1 → slice_get (set states count new) c ≡ Some state → (b : Bool) → (c == count) ≡ b → HasDeadlines after (32 * c) state
-  by c state below there true e =
-      let is : c ≡ count = grind arith in
-      let new_is : new ≡ state = same_Some new state (sym (get_set_same states count new within) ∙ ap (slice_get (set states count new)) (sym is) ∙ there) in
-      subst (λ n. HasDeadlines after (32 * n) state) (sym is) (subst (HasDeadlines after (32 * count)) new_is own)
-  by c state below there false e =
-      let other : c ≡ count → ⊥ = λ is. grind arith in
-      let less : c < count = grind arith in
-      still_has (32 * count) (32 * c) table after state same (inl (omega (arith, less))) (holds.each c state less (sym (get_set_other states count c new other) ∙ there))
+still_has first other old new None same apart has = λ s below. same.beside (other + s) (outside first other s below apart) ∙ has s below where
+  outside : (first other s : ℕ) → s < 32 → (other + 32 ≤ first) ⊎ (first + 32 ≤ other) → (other + s < first) ⊎ (first + 32 ≤ other + s)
+  outside first other s below (inl h) = inl (omega (arith, below, h))
+  outside first other s below (inr h) = inr (omega (arith, h))
+still_has first other old new (Some o) same apart has = λ s below. ap (entry_after_sweep o.clock) (same.beside (other + s) (outside first other s below apart)) ∙ has s below where
+  outside : (first other s : ℕ) → s < 32 → (other + 32 ≤ first) ⊎ (first + 32 ≤ other) → (other + s < first) ⊎ (first + 32 ≤ other + s)
+  outside first other s below (inl h) = inl (omega (arith, below, h))
+  outside first other s below (inr h) = inr (omega (arith, h))
 
 pub sides : (c k : ℕ) → (c ≡ k → ⊥) → (32 * c + 32 ≤ 32 * k) ⊎ (32 * k + 32 ≤ 32 * c)
 sides c k other = at (nat_lt c k) refl where
   at : (b : Bool) → nat_lt c k ≡ b → (32 * c + 32 ≤ 32 * k) ⊎ (32 * k + 32 ≤ 32 * c)
   at true less = let below : c < k = grind arith in inl (omega (arith, below))
   at false less = let above : k < c = grind (arith, other) in inr (omega (arith, above))
+
+-- a slot of another circuit is outside of this one's
+pub aside : (c k s : ℕ) → (c ≡ k → ⊥) → s < 32 → (32 * c + s < 32 * k) ⊎ (32 * k + 32 ≤ 32 * c + s)
+aside c k s other below = by (sides c k other) where
+  by : (32 * c + 32 ≤ 32 * k) ⊎ (32 * k + 32 ≤ 32 * c) → (32 * c + s < 32 * k) ⊎ (32 * k + 32 ≤ 32 * c + s)
+  by (inl h) = inl (omega (arith, h, below))
+  by (inr h) = inr (omega (arith, h))
+
+-- ---- the deadlines of other circuits
+
+pub kept_beside : (k : ℕ) (among : ℕ → Bool) (old new : DeadlinesValue) → ((c : ℕ) → among c ≡ false → c ≡ k → ⊥) → SameBeside (32 * k) old new → KeepsDeadlines among old new
+kept_beside k among old new apart same = record { looks = same.looks; others = λ c s is below. same.beside (32 * c + s) (aside c k s (apart c is) below) }
+
+pub kept_wider : (among wide : ℕ → Bool) (old new : DeadlinesValue) → ((c : ℕ) → wide c ≡ false → among c ≡ false) → KeepsDeadlines among old new → KeepsDeadlines wide old new
+kept_wider among wide old new narrower keeps = record { looks = keeps.looks; others = λ c s is below. keeps.others c s (narrower c is) below }
+
+pub kept_both : (among : ℕ → Bool) (old middle new : DeadlinesValue) → KeepsDeadlines among old middle → KeepsDeadlines among middle new → KeepsDeadlines among old new
+kept_both among old middle new one other = record { looks = other.looks ∙ one.looks; others = λ c s is below. other.others c s is below ∙ one.others c s is below }
+
+pub kept_all : (among : ℕ → Bool) (table : DeadlinesValue) → KeepsDeadlines among table table
+kept_all among table = record { looks = refl; others = λ c s is below. refl }
+
+-- ---- all circuits anew, one after the other
+
+pub record SetFirst (count : ℕ) (table : DeadlinesValue) (states : List (Option OpenCircuitValue)) : Type 0 where
+  pub each : (c s : ℕ) (state : Option OpenCircuitValue) → c < count → slice_get states c ≡ Some state → s < 32 → deadline table (32 * c + s) ≡ held_in state s
+
+pub none_set : (table : DeadlinesValue) (states : List (Option OpenCircuitValue)) → SetFirst 0 table states
+none_set table states = record { each = λ c s state below there small. absurd (omega (arith, below)) }
+
+pub set_more : (count : ℕ) (table after : DeadlinesValue) (states : List (Option OpenCircuitValue)) (new : Option OpenCircuitValue) → count < length states → SetFirst count table states
+    → ((s : ℕ) → s < 32 → deadline after (32 * count + s) ≡ held_in new s) → SameBeside (32 * count) table after → SetFirst (count + 1) after (set states count new)
+set_more count table after states new within firsts own same = record { each = λ c s state below there small. by c s state below there small (c == count) refl } where
+  by : (c s : ℕ) (state : Option OpenCircuitValue) → c < count + 1 → slice_get (set states count new) c ≡ Some state → s < 32 → (b : Bool) → (c == count) ≡ b → deadline after (32 * c + s) ≡ held_in state s
+  by c s state below there small true e =
+      let is : c ≡ count = grind arith in
+      let new_is : new ≡ state = same_Some new state (sym (get_set_same states count new within) ∙ ap (slice_get (set states count new)) (sym is) ∙ there) in
+      ap (λ n. deadline after (32 * n + s)) is ∙ own s small ∙ ap (λ x. held_in x s) new_is
+  by c s state below there small false e =
+      let other : c ≡ count → ⊥ = λ is. grind arith in
+      let less : c < count = grind arith in
+      same.beside (32 * c + s) (aside c count s other small) ∙ firsts.each c s state less (sym (get_set_other states count c new other) ∙ there) small
+
+pub all_set : (table : DeadlinesValue) (states : List (Option OpenCircuitValue)) (count : ℕ) → length states ≤ count → SetFirst count table states → AreSetAnew table states
+all_set table states count whole firsts = record { each = λ c s state there small. firsts.each c s state (let inside = slice_get_within states c state there in omega (arith, whole, inside)) there small }
+
+has_own : (first : ℕ) (table : DeadlinesValue) (state : Option OpenCircuitValue) → ((s : ℕ) → s < 32 → deadline table (first + s) ≡ held_in state s) → HasDeadlines table first state
+has_own first table None own = own
+has_own first table (Some o) own = λ s below. ap (entry_after_sweep o.clock) (own s below)
+
+pub all_held : (table : DeadlinesValue) (states : List (Option OpenCircuitValue)) → length table.slots ≡ 32 * length states → AreSetAnew table states → HoldsDeadlines table states
+all_held table states size anew = record { size = size; each = λ c state there. has_own (32 * c) table state (λ s below. anew.each c s state there below) }
+
+-- ---- what is held, after a change
 
 -- one circuit's are changed, of all that have theirs
 pub one_held : (c : ℕ) (table after : DeadlinesValue) (states : List (Option OpenCircuitValue)) (new : Option OpenCircuitValue) → c < length states → HoldsDeadlines table states
@@ -72,13 +110,10 @@ one_held k table after states new within holds own same =
           let other : c ≡ k → ⊥ = λ is. grind arith in
           still_has (32 * k) (32 * c) table after state same (sides c k other) (holds.each c state (sym (get_set_other states k c new other) ∙ there))
 
-pub all_held : (table : DeadlinesValue) (states : List (Option OpenCircuitValue)) (count : ℕ) → length states ≤ count → length table.slots ≡ 32 * length states → HoldsFirst count table states → HoldsDeadlines table states
-all_held table states count whole size holds = record { size = size; each = λ c state there. holds.each c state (omega (arith, whole, slice_get_within states c state there)) there }
-
 -- the count of looks is no part of it
 has_same : (first : ℕ) (old new : DeadlinesValue) (state : Option OpenCircuitValue) → new.slots ≡ old.slots → HasDeadlines old first state → HasDeadlines new first state
 has_same first old new None same has = λ s below. ap (λ slots. get_or slots (first + s) None) same ∙ has s below
-has_same first old new (Some o) same has = λ s until below held live. ap (λ slots. get_or slots (first + s) None) same ∙ has s until below held live
+has_same first old new (Some o) same has = λ s below. ap (λ slots. entry_after_sweep o.clock (get_or slots (first + s) None)) same ∙ has s below
 
 pub same_slots : (old new : DeadlinesValue) (states : List (Option OpenCircuitValue)) → new.slots ≡ old.slots → HoldsDeadlines old states → HoldsDeadlines new states
 same_slots old new states same holds =

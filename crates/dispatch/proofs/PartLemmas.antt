@@ -14,8 +14,11 @@ use Rattle.circuit_server.specs.CircuitServerValue.{OpenCircuitValue}
 use Rattle.circuit_server.specs.Prepared.{IsDropped, IsPrepared}
 use Rattle.circuit_server.specs.Ticked.{state_of}
 use Rattle.circuit_server.specs.declared.prepared.Prepared.{Prepared}
+use Rattle.timers.specs.Deadlines.{DeadlinesValue}
 use Rattle.dispatch.specs.Batch.{is_circuit, is_named}
+use Rattle.dispatch.specs.Deadlines.{KeepsDeadlines}
 use Rattle.dispatch.specs.Parts.{AreDecided, IsDecided, IsOf, IsPart, has_named}
+use Rattle.dispatch.proofs.HeldDeadlines.{kept_both, kept_wider}
 
 module _ {A : Type 0} (f : A → Bool) where
   -- one place more of a list
@@ -66,6 +69,9 @@ not_both is is_not = let never : true ≡ false = sym is ∙ is_not in absurd cc
 
 pub same_number : (n : ℕ) → (n == n) ≡ true
 same_number n = grind arith
+
+pub not_same : (c k : ℕ) → (c == k) ≡ false → k ≡ c → ⊥
+not_same c k none same = not_both (ap (λ n. c == n) same ∙ same_number c) none
 
 abbrev Part : Type 0
 Part = Result (ℕ × Prepared) Discard
@@ -154,3 +160,13 @@ module _ (topology : Topology) (ds : List DeliveryValue) (i : ℕ) (d : Delivery
 -- before the first part
 pub made_none : (topology : Topology) (ds : List DeliveryValue) (states : States) → AreDecided topology ds 0 [] states states []
 made_none topology ds states = record { size = refl; count = refl; few = omega arith; names = λ c. refl; each = λ j d less there. absurd (omega (arith, less)); others = λ c none. refl }
+
+-- the deadlines of every circuit that none of the parts is of stay
+pub kept_more : (topology : Topology) (ds : List DeliveryValue) (i : ℕ) (d : DeliveryValue) (old now new : DeadlinesValue) → slice_get ds i ≡ Some d → KeepsDeadlines (is_named topology (take i ds)) old now
+    → KeepsDeadlines (λ k. is_circuit k (addressee topology d)) now new → KeepsDeadlines (is_named topology (take (i + 1) ds)) old new
+kept_more topology ds i d old now new here before next =
+    kept_both (is_named topology (take (i + 1) ds)) old now new
+    (kept_wider (is_named topology (take i ds)) (is_named topology (take (i + 1) ds)) old now (λ k none. left_false (is_named topology (take i ds) k) (is_circuit k (addressee topology d)) (so k none)) before)
+    (kept_wider (λ k. is_circuit k (addressee topology d)) (is_named topology (take (i + 1) ds)) now new (λ k none. right_false (is_named topology (take i ds) k) (is_circuit k (addressee topology d)) (so k none)) next) where
+      so : (k : ℕ) → is_named topology (take (i + 1) ds) k ≡ false → (is_named topology (take i ds) k || is_circuit k (addressee topology d)) ≡ false
+      so k none = sym (any_more (λ x. is_circuit k (addressee topology x)) ds i d here) ∙ none

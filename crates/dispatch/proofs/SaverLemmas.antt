@@ -3,7 +3,7 @@ use Rattle.std.proofs.Common.{inl, inr, ◌≡◌, ◌∙◌, ◌<◌, nat_lt, �
 use Rattle.std.specs.Prelude.{IfSome, Option, Some, None, option_map, is_some, Result, Ok, Err, slice_get, if◌then◌else◌}
 use Rattle.std.specs.List.{cons_option, list_any}
 use Rattle.std.proofs.lemmas.Bool.{eqb-true}
-use Rattle.std.proofs.lemmas.List.{append-nil}
+use Rattle.std.proofs.lemmas.List.{append-nil, take_all}
 use Rattle.std.proofs.lemmas.Option.{get_or_from_slice_get, same_Some, slice_get_within}
 use Rattle.types.specs.Delivery.{DeliveryValue}
 use Rattle.types.specs.declared.discard.Discard.{Discard}
@@ -139,6 +139,19 @@ module _ (topology : Topology) (ds : List DeliveryValue) (i : ℕ) (named : List
         let same : before.0 ≡ j = one_first before.0 j c a.d b.d a.given b.given a.found b.found a.first b.first in
         let less = before.2 in
         absurd (omega (arith, same, less))
+
+  -- nothing is to be settled of a circuit that no part is of
+  pub none_settles : (c : ℕ) → is_named topology ds c ≡ false → list_any (is_of c) (take (length parts) parts) ≡ false
+  none_settles c none = by (list_any (is_of c) (take (length parts) parts)) refl where
+    by : (b : Bool) → list_any (is_of c) (take (length parts) parts) ≡ b → list_any (is_of c) (take (length parts) parts) ≡ false
+    by false is = is
+    by true is =
+        let one = any_found (is_of c) parts (length parts) is in
+        let its = of_is c one.1 one.4 in
+        let s = settles_at one.0 c its.0 (one.3 ∙ ap Some its.1) in
+        let inside = slice_get_within ds one.0 s.d s.given in
+        let named_there = any_there (λ x. is_circuit c (addressee topology x)) ds (length ds) one.0 s.d inside s.given (ap (is_circuit c) s.found ∙ same_number c) in
+        absurd (not_both (sym (ap (λ xs. is_named topology xs c) (take_all (length ds) ds (omega arith))) ∙ named_there) none)
 
   pub saver : (n : ℕ) → n < length (savings_of parts) → Saves topology ds old new parts n
   saver n less =

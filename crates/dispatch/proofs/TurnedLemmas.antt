@@ -20,7 +20,7 @@ use Rattle.circuit_server.specs.CircuitServerValue.{CircuitServerValue, HasItsPo
 use Rattle.circuit_server.specs.Ticked.{IsLater, state_of}
 use Rattle.circuit_server.specs.Unoffered.{state_unoffered}
 use Rattle.dispatch.specs.Turned.{AreTurned, state_turned}
-use Rattle.dispatch.proofs.HeldDeadlines.{one_held, sides}
+use Rattle.dispatch.proofs.HeldDeadlines.{aside, one_held}
 use Rattle.dispatch.proofs.RestartLemmas.{all_with}
 use Rattle.dispatch.proofs.TickLemmas.{own_state}
 use Rattle.dispatch.proofs.WithStates.{at_index, server, there_with}
@@ -105,6 +105,7 @@ none_off off states table holds = record {
   states = λ c. sym (ap (λ b. state_turned b (state_of states c)) (at_first off c));
   left = λ c s within is below. absurd (let both = sym is ∙ at_first off c in cc);
   others = λ c s is below. refl;
+  looks = refl;
   held = holds;
 }
 
@@ -136,12 +137,6 @@ module _ (off : ℕ → Bool) (n : ℕ) (old mid : List (Option OpenCircuitValue
   elsewhere : (c : ℕ) → (c ≡ n → ⊥) → state_of new c ≡ state_of mid c
   elsewhere c other = get_or-set_other mid n c its None other
 
-  apart : (c s : ℕ) → (c ≡ n → ⊥) → s < 32 → (32 * c + s < 32 * n) ⊎ (32 * n + 32 ≤ 32 * c + s)
-  apart c s other below = by (sides c n other) where
-    by : (32 * c + 32 ≤ 32 * n) ⊎ (32 * n + 32 ≤ 32 * c) → (32 * c + s < 32 * n) ⊎ (32 * n + 32 ≤ 32 * c + s)
-    by (inl h) = inl (omega (arith, h, below))
-    by (inr h) = inr (omega (arith, h))
-
   turned_at : (c : ℕ) (b : Bool) → (c == n) ≡ b → state_of new c ≡ state_turned (so_far off (n + 1) c) (state_of old c)
   turned_at c true e =
       let is : c ≡ n = grind arith in
@@ -158,7 +153,7 @@ module _ (off : ℕ → Bool) (n : ℕ) (old mid : List (Option OpenCircuitValue
       ap (λ k. deadline after (32 * k + s)) at ∙ own s below ∙ ap (λ state. held_in state s) (sym here) ∙ ap (λ k. held_in (state_of new k) s) (sym at)
   left_at c s inside is below false e =
       let other : c ≡ n → ⊥ = λ at. grind arith in
-      same.beside (32 * c + s) (apart c s other below)
+      same.beside (32 * c + s) (aside c n s other below)
       ∙ are.left c s (subst (λ k. c < k) (length-set mid n its) inside) (sym (others_as off n c other) ∙ is) below
       ∙ ap (λ state. held_in state s) (sym (elsewhere c other))
 
@@ -169,7 +164,7 @@ module _ (off : ℕ → Bool) (n : ℕ) (old mid : List (Option OpenCircuitValue
       absurd cc
   others_at c s is below false e =
       let other : c ≡ n → ⊥ = λ at. grind arith in
-      same.beside (32 * c + s) (apart c s other below) ∙ are.others c s (sym (others_as off n c other) ∙ is) below
+      same.beside (32 * c + s) (aside c n s other below) ∙ are.others c s (sym (others_as off n c other) ∙ is) below
 
   pub one_goes : AreTurned (so_far off (n + 1)) old new before after
   one_goes = record {
@@ -177,6 +172,7 @@ module _ (off : ℕ → Bool) (n : ℕ) (old mid : List (Option OpenCircuitValue
     states = λ c. turned_at c (c == n) refl;
     left = λ c s inside is below. left_at c s inside is below (c == n) refl;
     others = λ c s is below. others_at c s is below (c == n) refl;
+    looks = same.looks ∙ are.looks;
     held = one_held n table after mid its within are.held has same;
   }
 
@@ -188,6 +184,7 @@ all_turned off n old new before after whole are =
       states = λ c. at c (nat_lt c n) refl;
       left = λ c s inside is below. are.left c s inside (after_all off n c (omega (arith, inside, are.count, whole)) ∙ is) below;
       others = λ c s is below. are.others c s (ap (λ b. nat_lt c n && b) is ∙ and_false (nat_lt c n)) below;
+      looks = are.looks;
       held = are.held;
     } where
       at : (c : ℕ) (b : Bool) → nat_lt c n ≡ b → state_of new c ≡ state_turned (off c) (state_of old c)

@@ -1,7 +1,9 @@
 pub mod Answers
 pub mod Batch
+pub mod Deadlines
 pub mod OneByOne
 pub mod Parts
+pub mod ReadBack
 pub mod Received
 pub mod Regions
 pub mod ServerValue

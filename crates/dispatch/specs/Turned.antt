@@ -24,4 +24,5 @@ pub record AreTurned (off : ℕ → Bool) (old new : List (Option OpenCircuitVal
   pub states : (c : ℕ) → state_of new c ≡ state_turned (off c) (state_of old c)
   pub left : (c s : ℕ) → c < length new → off c ≡ true → s < 32 → deadline after (32 * c + s) ≡ held_in (state_of new c) s
   pub others : (c s : ℕ) → off c ≡ false → s < 32 → deadline after (32 * c + s) ≡ deadline before (32 * c + s)
+  pub looks : after.looks ≡ before.looks
   pub held : HoldsDeadlines after new

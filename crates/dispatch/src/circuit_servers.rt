@@ -4,6 +4,7 @@ ghost use Rattle.config.specs.CircuitPart as parts;
 ghost use Rattle.config.specs.CircuitPart.{IsPart};
 ghost use Rattle.config.specs.Topology.{RegionsDiffer};
 ghost use Rattle.circuit_server.specs.Deadlines.{HasDeadlines, SameBeside, held_in};
+ghost use Rattle.dispatch.specs.Deadlines.{AreSetAnew};
 ghost use Rattle.dispatch.specs.ServerValue.{HoldsDeadlines, with_states};
 ghost use Rattle.circuit_server.specs.Leases.{after_datagram, found_leases};
 ghost use Rattle.dispatch.specs.Regions.{AreBroughtUp, AreSynced, HasRegions, KeepsOthers};
@@ -223,6 +224,8 @@ impl CircuitServers {
         ensures ready { D.tells ≡ true → All (IsReady (D.device disk.new).region) (with_states parts.now self.new) }
         ensures pools { All HasItsPools (with_states parts.now self.new) }
         ensures deadlines { HoldsDeadlines table.new self.new }
+        ensures anew { AreSetAnew table.new self.new }
+        ensures looks { table.new.looks ≡ table.old.looks }
         ensures regions { D.tells ≡ true → AreBroughtUp parts.now (D.device disk.old) (D.device disk.new) }
         ensures others { D.tells ≡ true → KeepsOthers parts.now (D.device disk.old) (D.device disk.new) }
         ensures buffer { length buffer.new ≡ 16384 }
@@ -303,6 +306,8 @@ fn restart_all<D: Disk>(
     ensures ready { D.tells ≡ true → All (IsReady (D.device disk.new).region) (with_states parts.now servers.new) }
     ensures pools { All HasItsPools (with_states parts.now servers.new) }
     ensures deadlines { HoldsDeadlines table.new servers.new }
+    ensures anew { AreSetAnew table.new servers.new }
+    ensures looks { table.new.looks ≡ table.old.looks }
     ensures regions { D.tells ≡ true → AreBroughtUp parts.now (D.device disk.old) (D.device disk.new) }
     ensures others { D.tells ≡ true → KeepsOthers parts.now (D.device disk.old) (D.device disk.new) }
     ensures buffer { length buffer.new ≡ 16384 }

@@ -1,5 +1,5 @@
 //! What holds of every circuit's server: functions that do nothing, for their contracts.
-ghost use Rattle.std.specs.Prelude.{◌≡◌, ◌↔◌, ℕ, Bool, List, Option, Result, max};
+ghost use Rattle.std.specs.Prelude.{◌≡◌, ◌↔◌, ℕ, Bool, List, Option, Result, Ok, max};
 ghost use Rattle.types.specs.Delivery.{DeliveryValue};
 ghost use Rattle.types.specs.declared.discard.Discard as discard;
 ghost use Rattle.types.specs.declared.dest.Proto.TheVariants.{V4, V6};
@@ -9,6 +9,8 @@ ghost use Rattle.config.specs.CircuitPart.{CircuitPart, IsPart};
 ghost use Rattle.config.specs.Topology.{Topology};
 ghost use Rattle.dispatch.specs.Batch.{IsBatch};
 ghost use Rattle.dispatch.specs.OneByOne.{AreOfOthers, answers_to, books_after};
+ghost use Rattle.dispatch.specs.ReadBack.{IsReadBack};
+ghost use Rattle.wire.specs.Bytes.{AreBytes};
 ghost use Rattle.circuit_server.specs.Server.{Book, IsBook, book_at, kept_book, served};
 
 /// A server begins with a book, and a book it stays, whatever moment passes and whatever datagram is
@@ -32,6 +34,17 @@ pub fn serves_one_protocol()
     ensures four { (part : CircuitPart) (d : DeliveryValue) (b : Book) → d.proto ≡ V4 → (served part d b).book.six ≡ (book_at d.moment b).six }
     ensures six { (part : CircuitPart) (d : DeliveryValue) (b : Book) → d.proto ≡ V6 → (served part d b).book.four ≡ (book_at d.moment b).four }
 {}
+
+/// What is answered to a DHCPv6 datagram has at most 508 bytes and reads back as the Relay-reply to the datagram's
+/// Relay-forward, and what that carries spells the reply which the table gives the client.
+pub fn reads_back()
+    ensures { (part : CircuitPart) (d : DeliveryValue) (b : Book) (bytes : List ℕ) → IsPart part → AreBytes d.bytes → d.proto ≡ V6 → (served part d b).answer ≡ Ok bytes → IsReadBack part d b bytes }
+{
+    bindings_v6::laws::gives_whole_addresses();
+    replies::laws::reply6_is_read();
+    requests::laws::asks_within_limits();
+    v6_message::laws::exact_relay_reading();
+}
 
 /// A batch no two parts of which are of one circuit is its parts one after the other, and the other way round, where a save fails in the
 /// regions that `fails` names. So a batch of one is what `receive` gives.

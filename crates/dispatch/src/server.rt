@@ -5,6 +5,8 @@ ghost use Rattle.config.specs.Topology.{IsTopology, plans_topology, reloaded, se
 ghost use Rattle.requests.specs.Addressee as who;
 ghost use Rattle.circuit_server.specs.Deadlines.{held_in};
 ghost use Rattle.circuit_server.specs.SlotsOfPools.{HasItsSlots};
+ghost use Rattle.dispatch.specs.Batch.{is_circuit};
+ghost use Rattle.dispatch.specs.Deadlines.{AreSetAnew, KeepsDeadlines};
 ghost use Rattle.dispatch.specs.ServerValue.{AreReady, HoldsDeadlines, books_in, circuits_in, leases_in};
 ghost use Rattle.circuit_server.specs.Leases.{Leases, after_tick, found_leases, turned};
 ghost use Rattle.dispatch.specs.Regions.{AreBroughtUp, AreSynced, HasRegions, KeepsOthers};
@@ -15,7 +17,7 @@ ghost use Rattle.dispatch.specs.declared.server.OpenFault.TheVariants as fault;
 ghost use Rattle.lease_disk.specs.Device.{WritesAt, has_failed};
 ghost use Rattle.types.specs.Delivery.{delivery};
 ghost use Rattle.lease_disk.specs.Region.{Region};
-ghost use Rattle.timers.specs.Deadlines.{deadline, is_due};
+ghost use Rattle.timers.specs.Deadlines.{deadline, entry_after_sweep, is_due};
 
 mod batch;
 mod savings;
@@ -90,6 +92,7 @@ impl Server {
         ensures sound { IfOk result (λ server. IsTopology (topology_of config.now)) }
         ensures leases { D.tells ≡ true → IfOk result (λ server. leases_in (D.device disk.new).region server ≡ map (found_leases (D.device disk.old).region (D.device disk.old).fuse) (parts_of config.now)) }
         ensures ready { D.tells ≡ true → IfOk result (λ server. AreReady (D.device disk.new).region server) }
+        ensures deadlines { IfOk result (λ server. AreSetAnew server.deadlines server.states) }
         ensures large { IfOk result (λ server. HasRegions (parts_of config.now) (D.device disk.new).count) }
         ensures small { IfErr result (λ why. why ≡ fault.DiskTooSmall → ¬ HasRegions (parts_of config.now) (D.device disk.old).count) }
         ensures untouched { OnErr result (D.device disk.new ≡ D.device disk.old) }
@@ -117,6 +120,7 @@ impl Server {
         ensures sound { IfOk result (λ server. IsTopology (plans_topology plans.now)) }
         ensures leases { D.tells ≡ true → IfOk result (λ server. leases_in (D.device disk.new).region server ≡ map (found_leases (D.device disk.old).region (D.device disk.old).fuse) (parts_of plans.now.union)) }
         ensures ready { D.tells ≡ true → IfOk result (λ server. AreReady (D.device disk.new).region server) }
+        ensures deadlines { IfOk result (λ server. AreSetAnew server.deadlines server.states) }
         ensures large { IfOk result (λ server. HasRegions (parts_of plans.now.union) (D.device disk.new).count) }
         ensures small { IfErr result (λ why. why ≡ fault.DiskTooSmall → ¬ HasRegions (parts_of plans.now.union) (D.device disk.old).count) }
         ensures untouched { OnErr result (D.device disk.new ≡ D.device disk.old) }
@@ -140,6 +144,7 @@ impl Server {
         ensures topology { IfOk result (λ server. server.topology ≡ circuits) }
         ensures leases { D.tells ≡ true → IfOk result (λ server. leases_in (D.device disk.new).region server ≡ map (found_leases (D.device disk.old).region (D.device disk.old).fuse) circuits.circuits) }
         ensures ready { D.tells ≡ true → IfOk result (λ server. AreReady (D.device disk.new).region server) }
+        ensures deadlines { IfOk result (λ server. AreSetAnew server.deadlines server.states) }
         ensures large { IfOk result (λ server. HasRegions circuits.circuits (D.device disk.new).count) }
         ensures small { IfErr result (λ why. why ≡ fault.DiskTooSmall → ¬ HasRegions circuits.circuits (D.device disk.old).count) }
         ensures untouched { OnErr result (D.device disk.new ≡ D.device disk.old) }
@@ -208,8 +213,8 @@ impl Server {
         self.servers.have_slots();
     }
 
-    /// When the slots of all circuits are due, slot s of circuit c by the number 32 c + s: until when each slot of
-    /// an open circuit is held that is live, and nothing of a closed one.
+    /// When the slots of all circuits are due, slot s of circuit c by the number 32 c + s: nothing of a closed circuit; of an open
+    /// one the deadlines that its clock has not come to are those of its live slots, each until when it is held.
     pub fn deadlines(&self) -> &Deadlines
         ensures value { result.now ≡ self.now.deadlines }
         ensures held { HoldsDeadlines self.now.deadlines self.now.states }
@@ -240,6 +245,9 @@ impl Server {
         // A datagram of no circuit is refused for that reason and changes nothing, not even a clock.
         ensures unchanged { IfErr (who.addressee self.old.topology (delivery proto source now datagram.now)) (λ why. (result ≡ Err why) × (self.new ≡ self.old) × (D.device disk.new ≡ D.device disk.old)) }
 
+        // No deadline is looked at, and those of every other circuit stay.
+        ensures deadlines { KeepsDeadlines (λ c. is_circuit c (who.addressee self.old.topology (delivery proto source now datagram.now))) self.old.deadlines self.new.deadlines }
+
         // Over a device that tells its bytes: when the save fails, and what restarts then find.
         ensures fails { D.tells ≡ true → (r : ℕ) → has_failed (D.device disk.old) (D.device disk.new) r ≡ fails_at (D.device disk.old).fuse (received_saves self.old.topology (delivery proto source now datagram.now) (books_in self.old)) r }
         ensures leases { D.tells ≡ true → leases_in (D.device disk.new).region self.new ≡ received_leases self.old.topology (delivery proto source now datagram.now) (D.device disk.old).fuse (leases_in (D.device disk.old).region self.old) }
@@ -266,13 +274,14 @@ impl Server {
             .answer(index, part, &delivery, relayed, disk, out, table)
     }
 
-    /// Moves the clock of every open circuit to this moment, where it is a later one.
+    /// Moves the clock of every open circuit to this moment, where it is a later one, and removes the deadlines that are due then.
     pub fn tick(&mut self, now: Moment)
         ensures topology { self.new.topology ≡ self.old.topology }
         ensures leases { (regions : ℕ → Region) → leases_in regions self.new ≡ map (after_tick now) (leases_in regions self.old) }
         ensures ready { (regions : ℕ → Region) → AreReady regions self.old → AreReady regions self.new }
         ensures due { (n until : ℕ) → deadline self.new.deadlines n ≡ Some until → now < until }
-        ensures looks { self.new.deadlines.looks ≤ count_by (is_due now) self.old.deadlines.slots + 1 }
+        ensures deadlines { self.new.deadlines.slots ≡ map (entry_after_sweep now) self.old.deadlines.slots }
+        ensures looks { self.new.deadlines.looks ≡ self.old.deadlines.looks + count_by (is_due now) self.old.deadlines.slots + 1 }
     {
         self.servers.tick(now);
         self.deadlines.sweep(now);
@@ -294,6 +303,7 @@ impl Server {
         ensures deadlines { (c : ℕ) → serves self.old.topology c ≡ serves self.new.topology c → (s : ℕ) → s < 32 → deadline self.new.deadlines (32 * c + s) ≡ deadline self.old.deadlines (32 * c + s) }
         ensures left { (c : ℕ) (state : Option OpenCircuitValue) → serves self.old.topology c ≡ true → serves self.new.topology c ≡ false → slice_get self.new.states c ≡ Some state
             → (s : ℕ) → s < 32 → deadline self.new.deadlines (32 * c + s) ≡ held_in state s }
+        ensures looks { self.new.deadlines.looks ≡ self.old.deadlines.looks }
     {
         let number = usize::from(plan);
         if !self.circuits.has_plan(number) {
@@ -304,14 +314,16 @@ impl Server {
         self.circuits.reload(number)
     }
 
-    /// Begins each circuit anew with what its region holds, without offers. One whose region cannot be
-    /// read or is damaged is closed, alone, and so is one whose region is of format 1 and cannot be moved.
+    /// Begins each circuit anew with what its region holds, without offers, and sets the deadlines of its slots anew. One whose
+    /// region cannot be read or is damaged is closed, alone, and so is one whose region is of format 1 and cannot be moved.
     pub fn restart<D: Disk>(&mut self, disk: &mut D)
         requires regions { HasRegions self.old.topology.circuits (D.device disk.old).count }
         requires synced { D.tells ≡ true → AreSynced self.old.topology.circuits (D.device disk.old).region }
         ensures topology { self.new.topology ≡ self.old.topology }
         ensures leases { D.tells ≡ true → leases_in (D.device disk.new).region self.new ≡ map (found_leases (D.device disk.old).region (D.device disk.old).fuse) self.old.topology.circuits }
         ensures ready { D.tells ≡ true → AreReady (D.device disk.new).region self.new }
+        ensures deadlines { AreSetAnew self.new.deadlines self.new.states }
+        ensures looks { self.new.deadlines.looks ≡ self.old.deadlines.looks }
         ensures regions { D.tells ≡ true → AreBroughtUp self.old.topology.circuits (D.device disk.old) (D.device disk.new) }
         ensures others { D.tells ≡ true → KeepsOthers self.old.topology.circuits (D.device disk.old) (D.device disk.new) }
         ensures count { (D.device disk.new).count ≡ (D.device disk.old).count }

@@ -7,6 +7,7 @@ pub mod ReadBack
 pub mod Changes
 pub mod Steps
 pub mod Exits
+pub mod Stops
 pub mod SaveExits
 pub mod Reading
 pub mod Books

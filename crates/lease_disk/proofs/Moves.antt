@@ -1,5 +1,5 @@
 -- What a crash leaves after each call of a move.
-use Rattle.std.proofs.Common.{◌≡◌, ℕ, ◌+◌, ◌-◌, ◌<◌, ◌≤◌, Bool, true, false, List, [], ◌∷◌, length, slice_index, Some, Err, refl, sym, ap, ◌∙◌, arith}
+use Rattle.std.proofs.Common.{◌≡◌, ℕ, ◌+◌, ◌-◌, ◌<◌, ◌≤◌, Bool, true, false, List, [], ◌∷◌, length, slice_index, Some, Err, refl, sym, ap, subst, ◌∙◌, arith}
 use Rattle.std.specs.Prelude.{◌==◌, ◌&&◌, ◌||◌, not, is_some, None, nat_le, nat_lt, if◌then◌else◌}
 use Rattle.types.specs.declared.slots.Slots.{Slots}
 use Rattle.lease_disk.specs.declared.recovering.RecoverFault.{RecoverFault}
@@ -11,11 +11,12 @@ use Rattle.lease_disk.specs.Keys.{HasKey}
 use Rattle.lease_disk.specs.Layout.{is_format2}
 use Rattle.lease_disk.specs.Moving.{HasAddress, InDoubt, IsHalfMoved, IsMigrated, content_at, migrated, moved_half, moved_of, moves}
 use Rattle.lease_disk.specs.Recovered.{last_clock, recovered}
-use Rattle.lease_disk.specs.Region.{Region, effective, is_within, written, synced, IsClean, IsCrash}
+use Rattle.lease_disk.specs.Region.{Region, effective, is_within, written, synced, IsClean, IsCrash, IsTorn}
 use Rattle.lease_disk.proofs.Halves.{is_inside}
 use Rattle.lease_disk.proofs.Moved.{moved_book}
 use Rattle.lease_disk.proofs.Reading.{same_banks}
 use Rattle.lease_disk.proofs.Steps.{outside}
+use Rattle.lease_disk.proofs.Stops.{or_false, place_by}
 
 early_place : (i : ℕ) → i < 8192 → is_within 16384 16384 i ≡ false
 early_place i h = grind (arith, h)
@@ -25,6 +26,39 @@ not_format i h = grind (arith, h)
 
 behind_format : (i : ℕ) → is_within 8192 1 (16384 + i) ≡ false
 behind_format i = grind arith
+
+-- the writes of a move, one of whose calls failed
+
+early_is : (k : ℕ) → false ≡ (effective 2 k == 0) → nat_le 3 k ≡ false
+early_is k answer = grind arith
+
+late_is : (k k1 : ℕ) → k1 ≡ k - 2 → false ≡ (effective 2 k1 == 0) → nat_le 3 k ≡ true
+late_is k k1 is answer = grind arith
+
+not_four : (k : ℕ) → false ≡ (effective 2 k == 0) → k ≡ 4 → ⊥
+not_four k answer four = grind arith
+
+not_two : (k k1 : ℕ) → k1 ≡ k - 2 → false ≡ (effective 2 k1 == 0) → k ≡ 2 → ⊥
+not_two k k1 is answer two = grind arith
+
+only_two : (k : ℕ) → nat_le 3 k ≡ false → 2 ≤ k → k ≡ 2
+only_two k early least = grind arith
+
+module _ (halves : List ℕ) (size : length halves ≡ 16384) (old : Region) where
+  pub half_first : (k : ℕ) (new : Region) → false ≡ (effective 2 k == 0) → IsTorn 16384 (length halves) old new → (k ≡ 2 → new ≡ written 16384 halves old) → IsHalfMoved k halves old new
+  half_first k new answer torn reads = record {
+    torn = subst (λ b. InDoubt b halves old new) (sym (early_is k answer)) (subst (λ n. IsTorn 16384 n old new) size torn);
+    first = reads;
+    second = λ four. absurd (not_four k answer four);
+  }
+
+  pub half_second : (k k1 : ℕ) (middle new : Region) → middle ≡ synced (written 16384 halves old) → k1 ≡ k - 2 → false ≡ (effective 2 k1 == 0) → IsTorn 8192 1 middle new
+      → (k1 ≡ 2 → new ≡ written 8192 (2 ∷ []) middle) → IsHalfMoved k halves old new
+  half_second k k1 middle new is f answer torn reads = record {
+    torn = subst (λ b. InDoubt b halves old new) (sym (late_is k k1 f answer)) (subst (λ (r : Region). IsTorn 8192 1 r new) is torn);
+    first = λ two. absurd (not_two k k1 f answer two);
+    second = λ four. reads (omega (arith, f, four)) ∙ ap (written 8192 (2 ∷ [])) is;
+  }
 
 -- a region of format 1 that recovers to these slots, and the halves that are made of them
 pub record IsMove (counts : List ℕ) (slots : Slots) (halves : List ℕ) (old : Region) : Type 0 where
@@ -72,7 +106,7 @@ module _ (counts : List ℕ) (slots : Slots) (halves : List ℕ) (old : Region) 
       same_banks counts old.byte f m.one ((λ j. beside 8192 (grind arith) j == 2) ∙ m.one) (λ i h. beside i (early_place i h))
 
   left_moving : (k : ℕ) (new : Region) → IsHalfMoved k halves old new → HasAddress counts → (f : ℕ → ℕ) → IsCrash new f → recovered counts f ≡ recovered counts old.byte
-  left_moving k new torn some f crash = half_moved some k new (nat_le 3 k) torn f crash
+  left_moving k new half some f crash = half_moved some k new (nat_le 3 k) half.torn f crash
 
   -- after the last call
 
@@ -120,6 +154,12 @@ module _ (counts : List ℕ) (slots : Slots) (halves : List ℕ) (old : Region) 
       let before : is_within 16384 16384 i ≡ false = grind (arith, h) in
       last_beside i out ∙ ap (λ n. if is_within 16384 n i then slice_index halves (i - 16384) else old.byte i) m.size ∙ ap (λ b. if b then slice_index halves (i - 16384) else old.byte i) before
 
+  -- all but the byte of the format, once the halves are written
+  first_rest : (i : ℕ) → (i == 8192) ≡ false → first.byte i ≡ migrated counts old.byte i
+  first_rest i other =
+      let out : is_within 8192 1 i ≡ false = grind (arith, other) in
+      sym (last_beside i out) ∙ ap (λ (f : ℕ → ℕ). f i) (moved_bytes last refl)
+
   pub is_migrated : (k : ℕ) (new : Region) → new ≡ last → true ≡ (effective 4 k == 0) → IsMigrated counts k old new
   is_migrated k new e answer =
       let none : effective 4 k ≡ 0 = grind (arith, answer) in
@@ -131,6 +171,9 @@ module _ (counts : List ℕ) (slots : Slots) (halves : List ℕ) (old : Region) 
         is_new = λ t z. ap (λ (r : Region). is_format2 r.byte) e;
         doubt = λ t ne. absurd (ne none);
         format = λ t ne h. absurd (ne none);
+        in_doubt = λ t ne. absurd (ne none);
+        others = λ t least i other. ap (λ (f : ℕ → ℕ). f i) (moved_bytes new e);
+        after = λ t four. ap (λ (r : Region). r.byte 8192) e;
         beside = λ i h ne. ap (λ (r : Region). r.byte i) e ∙ last_old i h ne;
         sure = λ i h ne. ap (λ (r : Region). r.unsynced i) e;
         readable = ap (λ (r : Region). r.readable) e;
@@ -159,17 +202,29 @@ module _ (counts : List ℕ) (slots : Slots) (halves : List ℕ) (old : Region) 
   torn_readable new true torn = torn.readable
   torn_readable new false torn = torn.readable
 
+  torn_in_doubt : (new : Region) (b : Bool) → InDoubt b halves old new → (i : ℕ) → new.unsynced i ≡ (if b then i == 8192 else is_within 16384 16384 i)
+  torn_in_doubt new true torn i = torn.unsynced i ∙ or_false (is_within 8192 1 i) ∙ place_by 8192 i (i == 8192) refl
+  torn_in_doubt new false torn i = torn.unsynced i ∙ ap (λ b. is_within 16384 16384 i || b) (m.clean.each i) ∙ or_false (is_within 16384 16384 i)
+
+  torn_rest : (k : ℕ) (new : Region) (b : Bool) → nat_le 3 k ≡ b → InDoubt b halves old new → (k ≡ 2 → new ≡ written 16384 halves old) → 2 ≤ k → (i : ℕ) → (i == 8192) ≡ false → new.byte i ≡ first.byte i
+  torn_rest k new true late torn reads least i other = torn.byte i (place_by 8192 i false other)
+  torn_rest k new false early torn reads least i other = ap (λ (r : Region). r.byte i) (reads (only_two k early least))
+
   pub is_half_migrated : (k : ℕ) (new : Region) → IsHalfMoved k halves old new → false ≡ (effective 4 k == 0) → IsMigrated counts k old new
-  is_half_migrated k new torn answer =
+  is_half_migrated k new half answer =
+      let torn = half.torn in
       let some : effective 4 k ≡ 0 → ⊥ = λ e. absurd (grind (arith, answer, e)) in
       record {
-        kept = left_moving k new torn;
+        kept = left_moving k new half;
         still = contradicts;
         bytes = λ t z. absurd (some z);
         clean = λ t z. absurd (some z);
         is_new = λ t z. absurd (some z);
         doubt = λ t ne. torn_doubt new (nat_le 3 k) torn;
         format = λ t ne h. torn_format new (nat_le 3 k) torn h;
+        in_doubt = λ t ne. torn_in_doubt new (nat_le 3 k) torn;
+        others = λ t least i other. torn_rest k new (nat_le 3 k) refl torn half.first least i other ∙ first_rest i other;
+        after = λ t four. ap (λ (r : Region). r.byte 8192) (half.second four);
         beside = torn_beside new (nat_le 3 k) torn;
         sure = torn_sure new (nat_le 3 k) torn;
         readable = torn_readable new (nat_le 3 k) torn;
@@ -190,6 +245,9 @@ is_not_moved counts k old new clean e not_moved = record {
   is_new = λ t. absurd (let both = sym t ∙ not_moved in cc);
   doubt = λ t. absurd (let both = sym t ∙ not_moved in cc);
   format = λ t. absurd (let both = sym t ∙ not_moved in cc);
+  in_doubt = λ t. absurd (let both = sym t ∙ not_moved in cc);
+  others = λ t. absurd (let both = sym t ∙ not_moved in cc);
+  after = λ t. absurd (let both = sym t ∙ not_moved in cc);
   beside = λ i h ne. ap (λ (r : Region). r.byte i) e;
   sure = λ i h ne. ap (λ (r : Region). r.unsynced i) e ∙ clean.each i;
   readable = ap (λ (r : Region). r.readable) e;

@@ -1,6 +1,6 @@
 -- What a save makes of one region, at each of its exits, by what its steps leave there.
 use Rattle.std.proofs.Common.{◌≡◌, ◌≢◌, ℕ, ◌+◌, ◌-◌, ◌<◌, ◌≤◌, ◌==◌, ◌||◌, Bool, true, false, List, [], ◌∷◌, length, set, slice_index, nat_le, Some, Ok, Err, Result, is_ok, OnOk, OnErr, refl, sym, ap, ◌∙◌, subst, arith}
-use Rattle.std.specs.Prelude.{if◌then◌else◌, drop}
+use Rattle.std.specs.Prelude.{if◌then◌else◌, drop, ◌%◌}
 use Rattle.types.specs.declared.slots.Slots.{Slots}
 use Rattle.lease_disk.specs.declared.content.Content.{Content}
 use Rattle.lease_disk.specs.declared.half.Half.{Half}
@@ -8,9 +8,10 @@ use Rattle.lease_disk.specs.declared.marks.Marks.{Marks}
 use Rattle.lease_disk.specs.Layout.{gate_open, half_at, is_format2}
 use Rattle.lease_disk.specs.Recovered.{recovered}
 use Rattle.lease_disk.specs.Region.{Region, IsClean, IsTorn, SameBeside, effective, is_within, synced, written}
-use Rattle.lease_disk.specs.Save.{IsChange, IsLeft, IsSaveOf, gate_at, mark_at, other, with_slot}
+use Rattle.lease_disk.specs.Save.{IsChange, IsLeft, IsSaveOf, IsStopped, gate_at, mark_at, other, with_slot}
 use Rattle.lease_disk.proofs.Exits.{IsSave, exit_bytes, exit_closing, exit_marks, exit_opening, exit_saved, exit_writing}
 use Rattle.lease_disk.proofs.Halves.{format_apart}
+use Rattle.lease_disk.proofs.Stops.{stops_closing, stops_filling, stops_opening}
 
 -- ---- beside the half that is written
 
@@ -66,6 +67,31 @@ is_some_late k k1 k2 f g e = λ none. absurd (grind (arith, none))
 pub is_none : (k k1 k2 : ℕ) → k1 ≡ k - 2 → k2 ≡ k1 - 2 → true ≡ (effective 2 k == 0) → true ≡ (effective 2 k1 == 0) → true ≡ (effective 2 k2 == 0) → effective 6 k ≡ 0
 is_none k k1 k2 f g e e1 e2 = grind arith
 
+early_most : (k : ℕ) → false ≡ (effective 2 k == 0) → k ≤ 2
+early_most k e = grind arith
+
+middle_least : (k k1 : ℕ) → k1 ≡ k - 2 → false ≡ (effective 2 k1 == 0) → 3 ≤ k
+middle_least k k1 f e = grind arith
+
+middle_most : (k k1 : ℕ) → k1 ≡ k - 2 → false ≡ (effective 2 k1 == 0) → k ≤ 4
+middle_most k k1 f e = grind arith
+
+late_least : (k k1 k2 : ℕ) → k1 ≡ k - 2 → k2 ≡ k1 - 2 → false ≡ (effective 2 k2 == 0) → 5 ≤ k
+late_least k k1 k2 f g e = grind arith
+
+late_most : (k k1 k2 : ℕ) → k1 ≡ k - 2 → k2 ≡ k1 - 2 → false ≡ (effective 2 k2 == 0) → k ≤ 6
+late_most k k1 k2 f g e = grind arith
+
+-- an even call is a sync
+early_sync : (k : ℕ) → k ≢ 0 → k ≤ 2 → k % 2 ≡ 0 → k ≡ 2
+early_sync k some most even = omega (arith, some, most, even)
+
+middle_sync : (k k1 : ℕ) → k1 ≡ k - 2 → 3 ≤ k → k ≤ 4 → k % 2 ≡ 0 → k1 ≡ 2
+middle_sync k k1 f least most even = omega (arith, f, least, most, even)
+
+late_sync : (k k1 k2 : ℕ) → k1 ≡ k - 2 → k2 ≡ k1 - 2 → 5 ≤ k → k ≤ 6 → k % 2 ≡ 0 → k2 ≡ 2
+late_sync k k1 k2 f g least most even = omega (arith, f, g, least, most, even)
+
 drop_size : (xs : List ℕ) → length xs ≡ 256 → length (drop 1 xs) ≡ 255
 drop_size [] size = absurd (omega (arith, size))
 drop_size (x ∷ xs) size = omega (arith, size)
@@ -97,40 +123,50 @@ module _ (s : ℕ) (known : Marks) (at n clock : ℕ) (content : Content) (whole
   -- a call failed, and this is what is left
   failing : (k : ℕ) (r : Region) → k ≢ 0
       → ((counts : List ℕ) (slots : Slots) → recovered counts r0.byte ≡ Some slots → IsChange counts clock s content slots → IsLeft k gate (Some slots) (Some (with_slot clock s content slots)) counts r)
-      → SameBeside gate 256 r0 r → IsSaveOf k clock s content known known r0 r
-  failing k r some left beside = record {
+      → SameBeside gate 256 r0 r → IsStopped k s (mark_at known s) clock content r0 r → IsSaveOf k clock s content known known r0 r
+  failing k r some left beside stopped = record {
     saved = λ none. absurd (some none);
     bytes = λ none. absurd (some none);
     clean = λ none. absurd (some none);
     marks = λ none. absurd (some none);
     kept = λ not_none. refl;
     failed = λ not_none. left;
+    stopped = λ not_none. stopped;
     format = format_stays s gate (other (mark_at known s).half) r0 r refl given.two beside;
     beside = beside;
   }
 
-  pub save_closing : (k : ℕ) (r : Region) → k ≢ 0 → false ≡ (effective 2 k == 0) → IsTorn at (length closed) r0 r → IsSaveOf k clock s content known known r0 r
-  save_closing k r some answer torn =
+  pub save_closing : (k : ℕ) (r : Region) → k ≢ 0 → false ≡ (effective 2 k == 0) → IsTorn at (length closed) r0 r → (k ≡ 2 → r ≡ written at closed r0) → IsSaveOf k clock s content known known r0 r
+  save_closing k r some answer torn reads =
+      let most = early_most k answer in
       failing k r some (λ counts slots was change. exit_closing s (mark_at known s) at n clock content whole bytes r0 given k counts slots was change r torn answer)
       (beside_torn gate at (length closed) r0 r0 r near (beside_none gate r0) torn)
+      (stops_closing s (mark_at known s) at n clock content whole bytes r0 given k r most torn (λ even. reads (early_sync k some most even)))
 
   module _ (r1 : Region) (is1 : r1 ≡ synced (written at closed r0)) where
     beside1 : SameBeside gate 256 r0 r1
     beside1 = beside_written gate at closed r0 r0 r1 near given.clean (beside_none gate r0) is1
 
-    pub save_writing : (k k1 : ℕ) (r : Region) → k ≢ 0 → k1 ≡ k - 2 → false ≡ (effective 2 k1 == 0) → IsTorn (at + 1) (length bytes) r1 r → IsSaveOf k clock s content known known r0 r
-    save_writing k k1 r some f answer torn =
+    pub save_writing : (k k1 : ℕ) (r : Region) → k ≢ 0 → k1 ≡ k - 2 → false ≡ (effective 2 k1 == 0) → IsTorn (at + 1) (length bytes) r1 r → (k1 ≡ 2 → r ≡ written (at + 1) bytes r1)
+        → IsSaveOf k clock s content known known r0 r
+    save_writing k k1 r some f answer torn reads =
+        let least = middle_least k k1 f answer in
+        let most = middle_most k k1 f answer in
         failing k r some (λ counts slots was change. exit_writing s (mark_at known s) at n clock content whole bytes r0 given r1 is1 k k1 counts slots was change r f torn answer)
         (beside_torn gate (at + 1) (length bytes) r0 r1 r behind beside1 torn)
+        (stops_filling s (mark_at known s) at n clock content whole bytes r0 given size r1 is1 k r least most torn (λ even. reads (middle_sync k k1 f least most even)))
 
     module _ (r2 : Region) (is2 : r2 ≡ synced (written (at + 1) bytes r1)) where
       beside2 : SameBeside gate 256 r0 r2
       beside2 = beside_written gate (at + 1) bytes r0 r1 r2 behind given.clean beside1 is2
 
-      pub save_opening : (k k1 k2 : ℕ) (r : Region) → k ≢ 0 → k1 ≡ k - 2 → k2 ≡ k1 - 2 → false ≡ (effective 2 k2 == 0) → IsTorn at 1 r2 r → IsSaveOf k clock s content known known r0 r
-      save_opening k k1 k2 r some f g answer torn =
+      pub save_opening : (k k1 k2 : ℕ) (r : Region) → k ≢ 0 → k1 ≡ k - 2 → k2 ≡ k1 - 2 → false ≡ (effective 2 k2 == 0) → IsTorn at 1 r2 r → (k2 ≡ 2 → r ≡ written at (gate_open ∷ []) r2)
+          → IsSaveOf k clock s content known known r0 r
+      save_opening k k1 k2 r some f g answer torn reads =
+          let least = late_least k k1 k2 f g answer in
           failing k r some (λ counts slots was change. exit_opening s (mark_at known s) at n clock content whole bytes r0 given r1 is1 r2 is2 k k1 k2 counts slots was change r f g torn answer)
           (beside_torn gate at 1 r0 r2 r first beside2 torn)
+          (stops_opening s (mark_at known s) at n clock content whole bytes r0 given size r1 is1 r2 is2 k r least torn (λ even. reads (late_sync k k1 k2 f g least (late_most k k1 k2 f g answer) even)))
 
       pub save_done : (r3 : Region) → r3 ≡ synced (written at (gate_open ∷ []) r2) → (o : Half) → o ≡ other (mark_at known s).half → s < length known.slots
           → IsSaveOf 0 clock s content known (record { slots = set known.slots s (record { half = o; sequence = n; other_open = true }) }) r0 r3
@@ -143,6 +179,7 @@ module _ (s : ℕ) (known : Marks) (at n clock : ℕ) (content : Content) (whole
             marks = λ none counts are. exit_marks s (mark_at known s) at n clock content whole bytes r0 given r1 is1 r2 is2 r3 is3 counts known o half there are;
             kept = λ some. absurd (some refl);
             failed = λ some. absurd (some refl);
+            stopped = λ some. absurd (some refl);
             format = format_stays s gate (other (mark_at known s).half) r0 r3 refl given.two beside;
             beside = beside;
           }

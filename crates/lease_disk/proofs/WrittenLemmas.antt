@@ -21,6 +21,9 @@ is_first fuse e = grind (arith, e)
 is_second : (fuse : ℕ) → false ≡ not (fuse - 1 == 1) → fuse ≡ 2
 is_second fuse e = grind (arith, e)
 
+not_second : (fuse : ℕ) → true ≡ not (fuse - 1 == 1) → fuse ≡ 2 → ⊥
+not_second fuse e two = grind (arith, e, two)
+
 two_calls : (fuse middle new : ℕ) → middle ≡ fuse - 1 → new ≡ middle - 1 → new ≡ fuse - 2
 two_calls fuse middle new e f = omega arith
 
@@ -50,6 +53,7 @@ pub then_synced : {T E : Type 0} → (tells : Bool) (r at : ℕ) (bytes : List �
 then_synced tells r at bytes (Ok x) old middle new w s = record {
   ok = λ t. s.ok t ∙ ap synced (w.ok t);
   err = λ t. tt;
+  reads = λ t two. absurd (not_second (old.fuse r) (rw (w.fuse t) at s.answer t) two);
   answer = λ t. second_is true (old.fuse r) (w.answer t) (rw (w.fuse t) at s.answer t);
   fuse = λ t. two_calls (old.fuse r) (middle.fuse r) (new.fuse r) (w.fuse t) (s.fuse t);
   frame = touches_then tells r old middle new w.frame s.frame;
@@ -61,6 +65,7 @@ then_synced tells r at bytes (Ok x) old middle new w s = record {
 then_synced tells r at bytes (Err x) old middle new w s = record {
   ok = λ t. tt;
   err = λ t. subst (λ (region : Region). IsTorn at (length bytes) (old.region r) region) (sym (s.err t ∙ w.ok t)) (torn at bytes (old.region r));
+  reads = λ t two. s.err t ∙ w.ok t;
   answer = λ t. second_is false (old.fuse r) (w.answer t) (rw (w.fuse t) at s.answer t);
   fuse = λ t. tt;
   frame = touches_then tells r old middle new w.frame s.frame;
@@ -78,6 +83,7 @@ not_written tells r at bytes (Ok x) old new is torn answer frame writes failures
 not_written tells r at bytes (Err e) old new is torn answer frame writes failures = record {
   ok = λ t. tt;
   err = torn;
+  reads = λ t two. let one = is_first (old.fuse r) (answer t) in absurd (omega (arith, one, two));
   answer = λ t. first_fails (old.fuse r) (answer t);
   fuse = λ t. tt;
   frame = frame;

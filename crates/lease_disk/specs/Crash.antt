@@ -1,5 +1,5 @@
 -- What a restart finds of a region.
-use Rattle.std.specs.Prelude.{◌≡◌, ◌<◌, ◌≤◌, ◌==◌, ℕ, true, false, nat_lt, if◌then◌else◌, List, Some, None}
+use Rattle.std.specs.Prelude.{◌≡◌, ◌<◌, ◌≤◌, ◌==◌, ◌||◌, ℕ, true, false, nat_le, nat_lt, if◌then◌else◌, List, Some, None}
 use Rattle.lease_disk.specs.declared.image.Image.{Image}
 use Rattle.lease_disk.specs.declared.image.Image.TheVariants.{Byte, Unreadable}
 use Rattle.lease_disk.specs.Book.{empty_book}
@@ -33,6 +33,15 @@ pub record IsFormatted (r : Region) : Type 0 where
 -- byte has become, the region is damaged or has an empty book.
 abbrev pub IsHalfFormatted : ℕ → Region → Type 0
 IsHalfFormatted k r = 3 ≤ k → (counts : List ℕ) (f : ℕ → ℕ) → IsCrash r f → recovered counts f ≡ (if f 8192 == 2 then Some empty_book else None)
+
+-- What a formatting whose k-th call failed leaves of the bytes of a region, of which it writes one last.
+pub record IsHalfWritten (last : ℕ) (formatted : ℕ → ℕ) (k : ℕ) (r : Region) : Type 0 where
+  -- in doubt are all bytes, and from the third call on this one alone
+  pub doubt : (i : ℕ) → i < 32768 → r.unsynced i ≡ (nat_le k 2 || i == last)
+  -- once they are written reads give the others as a formatted region has them, and this one as 0 until it is written too
+  pub others : 2 ≤ k → (i : ℕ) → i < 32768 → (i == last) ≡ false → r.byte i ≡ formatted i
+  pub before : k ≡ 2 → r.byte last ≡ 0
+  pub after : k ≡ 4 → r.byte last ≡ formatted last
 
 -- a region that was formatted in format 1
 pub record IsFormattedOld (r : Region) : Type 0 where

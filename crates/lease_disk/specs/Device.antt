@@ -66,6 +66,8 @@ WritesAt tells (Some r) old new = Touches tells r old new
 pub record IsWritten {T E : Type 0} (tells : Bool) (r at : ℕ) (bytes : List ℕ) (result : Result T E) (old new : Device) : Type 0 where
   pub ok : tells ≡ true → OnOk result (new.region r ≡ synced (written at bytes (old.region r)))
   pub err : tells ≡ true → OnErr result (IsTorn at (length bytes) (old.region r) (new.region r))
+  -- where the sync failed, reads give them
+  pub reads : tells ≡ true → old.fuse r ≡ 2 → new.region r ≡ written at bytes (old.region r)
   pub answer : tells ≡ true → is_ok result ≡ (effective 2 (old.fuse r) == 0)
   pub fuse : tells ≡ true → OnOk result (new.fuse r ≡ old.fuse r - 2)
   pub frame : Touches tells r old new

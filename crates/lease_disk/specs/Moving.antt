@@ -1,5 +1,5 @@
 -- Moving a region from format 1 to format 2.
-use Rattle.std.specs.Prelude.{◌≡◌, ◌<◌, ◌≤◌, ◌⊎◌, ℕ, ◌-◌, ◌/◌, ◌%◌, ◌==◌, Bool, true, false, not, ◌&&◌, ◌||◌, nat_le, nat_lt, is_some, if◌then◌else◌, List, slice_index, slice_index_or, Option, Some, None, Result, Ok, Err}
+use Rattle.std.specs.Prelude.{◌≡◌, ◌<◌, ◌≤◌, ◌⊎◌, ℕ, ◌-◌, ◌/◌, ◌%◌, ◌==◌, Bool, true, false, not, ◌&&◌, ◌||◌, nat_le, nat_lt, is_some, if◌then◌else◌, List, [], ◌∷◌, slice_index, slice_index_or, Option, Some, None, Result, Ok, Err}
 use Rattle.types.specs.declared.slot4.Slot4.TheVariants as S4
 use Rattle.types.specs.declared.slots.Slot6.TheVariants as S6
 use Rattle.types.specs.declared.slots.Slots.{Slots}
@@ -10,7 +10,7 @@ use Rattle.lease_disk.specs.declared.recovering.RecoverFault.TheVariants.{DiskFa
 use Rattle.lease_disk.specs.HalfBytes.{half_bytes}
 use Rattle.lease_disk.specs.Layout.{is_format2}
 use Rattle.lease_disk.specs.Recovered.{recovered}
-use Rattle.lease_disk.specs.Region.{Region, effective, one_more_at, synced, written, IsClean, IsCrash, IsTorn}
+use Rattle.lease_disk.specs.Region.{Region, effective, is_within, one_more_at, synced, written, IsClean, IsCrash, IsTorn}
 
 -- What is written
 
@@ -61,8 +61,11 @@ abbrev pub InDoubt : Bool → List ℕ → Region → Region → Type 0
 InDoubt false halves old new = IsTorn 16384 16384 old new
 InDoubt true halves old new = IsTorn 8192 1 (synced (written 16384 halves old)) new
 
-abbrev pub IsHalfMoved : ℕ → List ℕ → Region → Region → Type 0
-IsHalfMoved k = InDoubt (nat_le 3 k)
+pub record IsHalfMoved (k : ℕ) (halves : List ℕ) (old new : Region) : Type 0 where
+  pub torn : InDoubt (nat_le 3 k) halves old new
+  -- where a sync failed, reads give what was written
+  pub first : k ≡ 2 → new ≡ written 16384 halves old
+  pub second : k ≡ 4 → new ≡ written 8192 (2 ∷ []) (synced (written 16384 halves old))
 
 -- a pool has an address, so that a region of format 2 has a clock
 abbrev pub HasAddress : List ℕ → Type 0
@@ -81,6 +84,11 @@ pub record IsMigrated (counts : List ℕ) (k : ℕ) (old new : Region) : Type 0 
   -- byte 8192 is in doubt where the third or fourth call failed, and else it and all that format 1 uses are as they were
   pub doubt : moves counts old ≡ true → (effective 4 k ≡ 0 → ⊥) → new.unsynced 8192 ≡ nat_le 3 k
   pub format : moves counts old ≡ true → (effective 4 k ≡ 0 → ⊥) → nat_le 3 k ≡ false → new.byte 8192 ≡ old.byte 8192
+  -- Nothing is in doubt but the halves where the first or second call failed, and that byte where a later one did.
+  -- Reads give all others as they are in a moved region from the second call on, and that byte after the fourth.
+  pub in_doubt : moves counts old ≡ true → (effective 4 k ≡ 0 → ⊥) → (i : ℕ) → new.unsynced i ≡ (if nat_le 3 k then i == 8192 else is_within 16384 16384 i)
+  pub others : moves counts old ≡ true → 2 ≤ k → (i : ℕ) → (i == 8192) ≡ false → new.byte i ≡ migrated counts old.byte i
+  pub after : moves counts old ≡ true → k ≡ 4 → new.byte 8192 ≡ 2
   pub beside : (i : ℕ) → i < 16384 → (i == 8192) ≡ false → new.byte i ≡ old.byte i
   pub sure : (i : ℕ) → i < 16384 → (i == 8192) ≡ false → new.unsynced i ≡ false
   pub readable : new.readable ≡ old.readable

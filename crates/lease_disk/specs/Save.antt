@@ -1,5 +1,5 @@
 -- What a save is given, and what it leaves.
-use Rattle.std.specs.Prelude.{◌≡◌, ◌≢◌, ℕ, ◌-◌, ◌==◌, ◌<◌, ◌≤◌, Bool, true, false, ◌&&◌, nat_le, nat_lt, if◌then◌else◌, List, map, slice_index, slice_index_or, slice_set, Option, Some}
+use Rattle.std.specs.Prelude.{◌≡◌, ◌≢◌, ℕ, ◌+◌, ◌-◌, ◌%◌, ◌==◌, ◌<◌, ◌≤◌, Bool, true, false, ◌&&◌, nat_le, nat_lt, if◌then◌else◌, List, map, slice_index, slice_index_or, slice_set, Option, Some}
 use Rattle.types.specs.declared.slots.Slots.{Slots}
 use Rattle.types.specs.Slots.{live4, live6}
 use Rattle.lease_disk.specs.declared.content.Content.{Content}
@@ -66,6 +66,30 @@ abbrev pub saved_byte : ℕ → Mark → ℕ → Content → (ℕ → ℕ) → �
 saved_byte s mark clock content region i =
     if is_within (gate_at s mark) 256 i then slice_index (half_bytes (next mark.sequence) clock content) (i - gate_at s mark) else region i
 
+-- the bytes in doubt after a save whose k-th call failed: those that its last write was to write
+abbrev pub in_doubt : ℕ → ℕ → Mark → ℕ → Bool
+in_doubt k s mark i =
+    if nat_le k 2 then is_within (gate_at s mark) (if mark.other_open then 1 else 0) i
+    else if nat_le k 4 then is_within (gate_at s mark + 1) 255 i
+    else is_within (gate_at s mark) 1 i
+
+-- A byte after a save whose k-th call failed, with its last write as if that was made: a gate that stood open is 0, from the
+-- third call on what is behind the gate is saved, and from the fifth on the gate is open. All else is as it was.
+abbrev pub left_byte : ℕ → ℕ → Mark → ℕ → Content → (ℕ → ℕ) → ℕ → ℕ
+left_byte k s mark clock content region i =
+    if nat_le 5 k then saved_byte s mark clock content region i
+    else if i == gate_at s mark then (if mark.other_open then 0 else region i)
+    else if nat_le 3 k then saved_byte s mark clock content region i
+    else region i
+
+-- What a save whose k-th call failed leaves of the bytes of its region.
+pub record IsStopped (k s : ℕ) (mark : Mark) (clock : ℕ) (content : Content) (old new : Region) : Type 0 where
+  pub doubt : (i : ℕ) → new.unsynced i ≡ in_doubt k s mark i
+  -- whatever the bytes in doubt become, each other one is known
+  pub sure : (f : ℕ → ℕ) → IsCrash new f → (i : ℕ) → in_doubt k s mark i ≡ false → f i ≡ left_byte k s mark clock content old.byte i
+  -- where a sync failed, the second, fourth or sixth call, reads give those in doubt as they were written
+  pub reads : k % 2 ≡ 0 → (i : ℕ) → new.byte i ≡ left_byte k s mark clock content old.byte i
+
 -- After a save whose k-th call failed: whatever the unsynced bytes have become, the region recovers
 -- to what it was before, but from the fifth call on to the new slots where the gate is open.
 pub record IsLeft (k gate : ℕ) (before after : Option Slots) (counts : List ℕ) (r : Region) : Type 0 where
@@ -82,5 +106,6 @@ pub record IsSaveOf (k clock s : ℕ) (content : Content) (known left : Marks) (
   pub kept : k ≢ 0 → left ≡ known
   pub failed : k ≢ 0 → (counts : List ℕ) (slots : Slots) → recovered counts old.byte ≡ Some slots → IsChange counts clock s content slots
       → IsLeft k (gate_at s (mark_at known s)) (Some slots) (Some (with_slot clock s content slots)) counts new
+  pub stopped : k ≢ 0 → IsStopped k s (mark_at known s) clock content old new
   pub format : is_format2 new.byte ≡ true
   pub beside : SameBeside (gate_at s (mark_at known s)) 256 old new

@@ -1,9 +1,10 @@
 //! A device over a file.
 ghost use Rattle.std.specs.Path.{path_parent};
-ghost use Rattle.std.specs.Prelude.{◌≡◌, ◌≢◌, ℕ, List, [], Some, codes, ◌≤◌, ◌+◌, ◌*◌, ◌/◌, ◌↔◌, min, is_ok};
+ghost use Rattle.std.specs.Prelude.{◌≡◌, ◌≢◌, ℕ, List, [], Some, codes, ◌≤◌, ◌+◌, ◌*◌, ◌↔◌, is_ok};
 ghost use Rattle.std.specs.IoError.{error_kind};
 ghost use Rattle.lease_disk.specs.Device.{set_faults};
 ghost use Rattle.lease_disk.specs.Failures.{count_in};
+ghost use Rattle.lease_disk.specs.FileDisk.{whole_regions};
 ghost use Rattle.lease_disk.specs.Region.{faults_after};
 
 use crate::device::{Disk, Fault, REGION};
@@ -50,23 +51,24 @@ fn fault_of(error: io::Error) -> FileFault
 #[derive(Drop)]
 pub struct FileDisk {
     file: File,
-    regions: u16,
+    // how many bytes it had when it was opened, or was lengthened to then
+    length: u64,
     reads: Count,
     writes: Count,
     failures: Failures,
 }
 
 impl Model for FileDisk {
-    ghost use Rattle.lease_disk.specs.FileDisk.{FileDiskValue};
+    ghost use Rattle.lease_disk.specs.FileDisk.{FileDiskValue, whole_regions};
 
     ghost Value = { FileDiskValue };
 
-    ghost view = { λ d. record { regions = d.regions; reads = d.reads.count; writes = d.writes.count; failures = d.failures.regions } };
+    ghost view = { λ d. record { length = d.length; regions = whole_regions d.length; reads = d.reads.count; writes = d.writes.count; failures = d.failures.regions } };
 }
 
 /// How many whole regions a file of so many bytes has, and at most 1024.
 fn whole_regions(length: u64) -> u16
-    ensures { result ≡ min (length / 32768) 1024 }
+    ensures { result ≡ whole_regions length }
 {
     (length / REGION as u64).min(u64::from(MAX_REGIONS)) as u16
 }
@@ -131,7 +133,7 @@ fn counted_all(
 }
 
 impl FileDisk {
-    ghost use Rattle.std.specs.Prelude.{◌≡◌, ◌≤◌, ◌/◌, min, IfOk};
+    ghost use Rattle.std.specs.Prelude.{◌≡◌, ◌≤◌, ◌*◌, ◌/◌, min, IfOk};
     ghost use Rattle.lease_disk.specs.FileDisk.{uncalled};
 
     /// Opens a file as a device of at least so many regions, of which it has at most 1024. Makes the
@@ -142,9 +144,10 @@ impl FileDisk {
         path: &str,
         regions: u16,
     ) -> Result<FileDisk, FileFault>
+        ensures long { IfOk result (λ disk. 32768 * regions ≤ disk.length) }
         ensures least { IfOk result (λ disk. min regions 1024 ≤ disk.regions) }
         ensures most { IfOk result (λ disk. disk.regions ≤ 1024) }
-        ensures new { IfOk result (λ disk. disk ≡ uncalled disk.regions) }
+        ensures new { IfOk result (λ disk. disk ≡ uncalled disk.length) }
     {
         let mut how = OpenOptions::new();
         how.read(true).write(true).create(true);
@@ -154,7 +157,7 @@ impl FileDisk {
     /// Opens a file as a device of as many regions as are whole in it, at most 1024.
     pub fn open<R: Files<File = File>>(rt: &R, path: &str) -> Result<FileDisk, FileFault>
         ensures most { IfOk result (λ disk. disk.regions ≤ 1024) }
-        ensures new { IfOk result (λ disk. disk ≡ uncalled disk.regions) }
+        ensures new { IfOk result (λ disk. disk ≡ uncalled disk.length) }
     {
         let mut how = OpenOptions::new();
         how.read(true).write(true);
@@ -168,9 +171,10 @@ impl FileDisk {
         how: &OpenOptions,
         bytes: u64,
     ) -> io::Result<FileDisk>
+        ensures long { IfOk result (λ disk. bytes ≤ disk.length) }
         ensures least { IfOk result (λ disk. min (bytes / 32768) 1024 ≤ disk.regions) }
         ensures most { IfOk result (λ disk. disk.regions ≤ 1024) }
-        ensures new { IfOk result (λ disk. disk ≡ uncalled disk.regions) }
+        ensures new { IfOk result (λ disk. disk ≡ uncalled disk.length) }
     {
         let file = how.open(rt, path)?;
         // so that nobody else formats or writes the leases of a server that runs
@@ -181,7 +185,7 @@ impl FileDisk {
         }
         Ok(FileDisk {
             file,
-            regions: whole_regions(length.max(bytes)),
+            length: length.max(bytes),
             reads: Count::new(),
             writes: Count::new(),
             failures: Failures::new(),
@@ -198,7 +202,7 @@ impl Disk for FileDisk {
     ghost device = { device_of };
 
     fn regions(&self) -> u16 {
-        self.regions
+        whole_regions(self.length)
     }
 
     fn read(&mut self, region: u16, at: usize, out: &mut [u8]) -> Result<(), Fault> {

@@ -55,7 +55,7 @@ fn fault_of(why: FileFault) -> DeviceFault
 /// Opens the file with this path as the device of a configuration, as it is.
 pub fn open_device<R: Files<File = File>>(rt: &R, path: &str) -> Result<FileDisk, DeviceFault>
     ensures most { IfOk result (λ disk. disk.regions ≤ 1024) }
-    ensures new { IfOk result (λ disk. disk ≡ uncalled disk.regions) }
+    ensures new { IfOk result (λ disk. disk ≡ uncalled disk.length) }
     ensures refused { IfErr result (λ why. why ≢ fault.Format) }
 {
     FileDisk::open(rt, path).map_err(fault_of)
@@ -86,7 +86,7 @@ pub fn device_of<R: Files<File = File>>(
     config: &Config,
 ) -> Result<FileDisk, DeviceFault>
     ensures formats { words.now.format ≡ true → length config.now.circuits ≤ 16 → IfOk result (λ disk. disk.writes ≡ 4 * length config.now.circuits) }
-    ensures opens { words.now.format ≡ false → IfOk result (λ disk. disk ≡ uncalled disk.regions) }
+    ensures opens { words.now.format ≡ false → IfOk result (λ disk. disk ≡ uncalled disk.length) }
 {
     if words.format {
         format_device(rt, words.disk, config)

@@ -1,5 +1,5 @@
 //! Opening the server over a device, some of whose regions may be of the format of an earlier version.
-ghost use Rattle.std.specs.Prelude.{◌≡◌, ◌≤◌, ◌+◌, ◌*◌, true, length, IfOk, IfErr};
+ghost use Rattle.std.specs.Prelude.{◌≡◌, ◌≤◌, ◌+◌, ◌*◌, true, length, IfOk, IfErr, OnErr};
 ghost use Rattle.opening.specs.Opening.{format_of, formats_of};
 ghost use Rattle.config.specs.CircuitPart.{parts_of};
 ghost use Rattle.config.specs.Topology.{topology_of};
@@ -63,6 +63,7 @@ pub fn open_server<D: Disk>(
     ensures topology { IfOk result (λ opened. opened.0.topology ≡ topology_of config.now) }
     ensures large { IfOk result (λ opened. HasRegions (parts_of config.now) (D.device disk.new).count) }
     ensures small { IfErr result (λ why. why ≡ fault.DiskTooSmall → ¬ HasRegions (parts_of config.now) (D.device disk.old).count) }
+    ensures untouched { OnErr result (TouchesNothing D.tells (D.device disk.old) (D.device disk.new)) }
     ensures count { (D.device disk.new).count ≡ (D.device disk.old).count }
     ensures reads { (D.device disk.new).reads ≤ (D.device disk.old).reads + 6 * length config.now.circuits }
     ensures writes { (D.device disk.new).writes ≤ (D.device disk.old).writes + 4 * length config.now.circuits }

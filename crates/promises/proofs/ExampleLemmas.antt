@@ -2,15 +2,18 @@
 use Rattle.std.proofs.Common.{◌≡◌, ℕ, ◌+◌, Bool, true, false, cond, not, ◌&&◌, ◌||◌, List, [], ◌∷◌, ◌++◌, length, replicate, max, refl, ap, ◌∙◌}
 use Rattle.std.specs.Prelude.{Ok, Err, Option, Some, None, ◌==◌}
 use Rattle.std.specs.List.{find, range_with_len}
-use Rattle.std.specs.FinMap.{get, empty, get-empty}
+use Rattle.std.specs.FinMap.{get, empty, insert, get-empty}
 use Rattle.std.specs.Ordering.{nat_cmp, eq_by_cmp}
 use Rattle.std.specs.Cmp.Lexicographic.{slice_cmp}
 use Rattle.std.specs.Option.{option_or}
 use Rattle.types.specs.Addr.{number4, addr4}
+use Rattle.types.specs.Delivery.{delivery}
+use Rattle.types.specs.declared.addr.Addr4.{Addr4}
 use Rattle.types.specs.Pool4.{PoolValue}
 use Rattle.types.specs.declared.dest.Proto.TheVariants.{V4}
 use Rattle.types.specs.declared.discard.Discard.TheVariants as reason
-use Rattle.types.specs.declared.kind4.Kind4.TheVariants.{Discover, Request}
+use Rattle.types.specs.declared.kind4.Kind4.{Kind4}
+use Rattle.types.specs.declared.kind4.Kind4.TheVariants.{Discover, Request, Release, Decline}
 use Rattle.types.specs.declared.request4.Request4.{Request4}
 use Rattle.types.specs.declared.request4.Reply4.TheVariants as reply
 use Rattle.types.specs.declared.request4.Reply4.{Reply4}
@@ -21,8 +24,8 @@ use Rattle.slots.specs.Key.{key4_cmp}
 use Rattle.slots.specs.KeyLaws.{key4_is_key}
 use Rattle.slots.specs.Maps.{Lease, Clients, address_of, is_live}
 use Rattle.bindings_v4.specs.Book4.{Book4, in_pool, lowest_free}
-use Rattle.slots.specs.Row.{Decision, is_kept}
-use Rattle.bindings_v4.specs.Table4.{answer4, discover_row as row, selecting_row, where_is, with_change}
+use Rattle.slots.specs.Row.{Decision, Row, is_kept}
+use Rattle.bindings_v4.specs.Table4.{answer4, decline_row, discover_row as row, release_row, selecting_row, where_is, with_change}
 use Rattle.config.specs.CircuitPart.{pool4_of}
 use Rattle.requests.specs.Request4.{request4_in}
 use Rattle.circuit_server.specs.Server.{Book, Served, book_at, served, drop, decision_served, message4_served, request4_served}
@@ -31,10 +34,10 @@ use Rattle.relay.specs.Up4.{relayed_up4}
 use Rattle.relay.specs.Down4.{reply_of, relayed_down4}
 use Rattle.replies.specs.Reply4.{reply4_bytes}
 use Rattle.world.specs.Alone.{Alone, Setup, Step, Dropped, Gone, SentUp, SentDown, Framed, alone_step, served_step, sent_frame, after_all, frames}
-use Rattle.promises.specs.Examples.{part_a, part_a1, setup_a, setup_a1, ipv4, discover, discover_up, relayed_discover, offer, client, offers_at, one_offer, lease_until, datagram, with_up, begun, no_leases, request_up, asked, leased, closed, ack}
+use Rattle.promises.specs.Examples.{barred_at, client_message, decline_up, nak, reboot_up, release_up, saved_silently, part_a, part_a1, setup_a, setup_a1, ipv4, discover, discover_up, relayed_discover, offer, client, offers_at, one_offer, lease_until, datagram, with_up, begun, no_leases, request_up, asked, leased, closed, ack}
 use Rattle.promises.specs.Granted.{Granted4, lines, message4_lines, decision4_lines, restart_over}
 use Rattle.events.specs.Seen.{Seen, Frame, Up, Down}
-use Rattle.promises.proofs.BookLemmas.{free-none, free-one, at-offers, live_none, live_one, get-one}
+use Rattle.promises.proofs.BookLemmas.{bound_at, free-none, free-one, at-bound, at-offers, live_none, live_one, get-one, remove-only}
 
 abbrev no_offers : Clients key4_cmp
 no_offers = empty
@@ -167,12 +170,20 @@ key_of_65 =
 
 -- ---- the network
 
-pub none_sent : ((alone_step setup_a (Up 0 100 0) begun).effect ≡ Gone)
-unfolding alone_step
+pub none_sent : ((alone_step setup_a (Up 0 100 0) (after_all setup_a (Frame V4 (client_message 2 1 []) ∷ []) begun)).effect ≡ Gone)
+unfolding alone_step after_all relayed_up4 listed_from fault_from
 none_sent = refl
 
-pub oldest_lost : ((alone_step setup_a (Up 1 100 0) (with_up (discover_up 2 []) 0 empty)).effect ≡ Gone)
-unfolding alone_step
+pub none_down : ((alone_step setup_a (Down 0) (after_all setup_a (Frame V4 (discover 1 []) ∷ []) begun)).effect ≡ Gone)
+unfolding alone_step after_all relayed_up4 listed_from fault_from
+none_down = refl
+
+pub both_kept : ((after_all setup_a (Frame V4 (discover 1 []) ∷ Frame V4 (discover 2 []) ∷ []) begun).up ≡ datagram (discover_up 2 []) ∷ datagram (discover_up 1 []) ∷ [])
+unfolding alone_step after_all relayed_up4 listed_from fault_from
+both_kept = refl
+
+pub oldest_lost : ((alone_step (record setup_a { quota = 1 }) (Up 1 100 0) (after_all (record setup_a { quota = 1 }) (Frame V4 (discover 1 []) ∷ Frame V4 (discover 2 []) ∷ []) begun)).effect ≡ Gone)
+unfolding alone_step after_all relayed_up4 listed_from fault_from
 oldest_lost = refl
 
 pub newest_kept : ((after_all (record setup_a { quota = 1 }) (Frame V4 (discover 1 []) ∷ Frame V4 (discover 2 []) ∷ []) begun).up ≡ datagram (discover_up 2 []) ∷ [])
@@ -269,6 +280,70 @@ save_found = ap (after_closing (restart_over 0xa5 0)) save_fails
 pub save_lost : ((after_all setup_a (Up 0 110 6 ∷ restart_over 0 0 ∷ []) asked).book ≡ Some no_leases)
 unfolding alone_step after_all served
 save_lost = ap (after_closing (restart_over 0 0)) save_fails
+
+-- ---- what a client gives up, and what it is refused
+
+-- what is served of client 1's message, where the book is this one
+answered_by : (now : ℕ) (bytes : List ℕ) (book b : Book) (request : Request4) (d : Decision Reply4 Book4) {m : MessageValue} → message_of bytes ≡ Ok m → request4_in m ≡ Ok request
+    → book_at now book ≡ b → answer4 (pool4_of part_a) b.clock b.four request ≡ d
+    → served part_a (delivery V4 part_a.relay now bytes) book ≡ decision_served (reply4_bytes part_a m) (λ four. record b { four = four }) d
+unfolding served
+answered_by now bytes book b request d {m} read is_request at is =
+    ap (λ c. message4_served part_a c (message_of bytes)) at
+    ∙ ap (message4_served part_a b) read
+    ∙ ap (request4_served part_a m b) is_request
+    ∙ ap (decision_served (reply4_bytes part_a m) (λ four. record b { four = four })) is
+
+-- client 1's lease at 400, and what a row makes of it
+abbrev held : Clients key4_cmp
+held = one_offer (client 1) (lease_until 710)
+
+abbrev held_book : Book4
+held_book = (bound_at 400 held).four
+
+abbrev gives_up : Kind4 → Option Addr4 → Addr4 → Request4
+gives_up kind wanted ciaddr = record { kind = kind; key = client 1; server = Some (ipv4 10 0 0 1); wanted = wanted; ciaddr = ciaddr }
+
+abbrev as_decided : Row Reply4 → Decision Reply4 Book4
+as_decided r = record { answer = r.answer; book = with_change (client 1) r.change held_book; is_kept = is_kept r.change }
+
+at_400 : book_at 400 leased ≡ bound_at 400 held
+at_400 = at-bound 400 110 held ∙ ap (bound_at 400) (live_one 400 (client 1) (lease_until 710))
+
+released : answer4 (pool4_of part_a) 400 held_book (gives_up Release None (ipv4 10 0 0 10)) ≡ as_decided (release_row (Some 167772170))
+unfolding answer4
+released = ap (λ o. as_decided (release_row (where_is (address_of o) (Some 167772170)))) (get-one (client 1) (lease_until 710) (client 1))
+
+declined : answer4 (pool4_of part_a) 400 held_book (gives_up Decline (Some (ipv4 10 0 0 10)) (ipv4 0 0 0 0)) ≡ as_decided (decline_row 400 (Some 167772170))
+unfolding answer4
+declined = ap (λ o. as_decided (decline_row 400 (where_is (address_of o) (Some 167772170)))) (get-one (client 1) (lease_until 710) (client 1))
+
+pub release_saved : (served part_a (delivery V4 part_a.relay 400 release_up) leased ≡ saved_silently (offers_at 400 empty))
+unfolding listed_from fault_from
+release_saved =
+    answered_by 400 release_up leased _ (gives_up Release None (ipv4 10 0 0 10)) _ refl refl at_400 released
+    ∙ ap (λ bindings. saved_silently (bound_at 400 bindings)) (remove-only key4_is_key (client 1) (lease_until 710))
+
+pub decline_saved : (served part_a (delivery V4 part_a.relay 400 decline_up) leased ≡ saved_silently (barred_at 400 4000))
+unfolding listed_from fault_from
+decline_saved =
+    answered_by 400 decline_up leased _ (gives_up Decline (Some (ipv4 10 0 0 10)) (ipv4 0 0 0 0)) _ refl refl at_400 declined
+    ∙ ap (λ bindings. saved_silently (record (barred_at 400 4000) { four = record { bindings = bindings; offers = empty; bars = insert empty 167772170 4000 } }))
+    (remove-only key4_is_key (client 1) (lease_until 710))
+
+-- client 1 names an address outside the pool, without a server
+abbrev reboots : Request4
+reboots = record { kind = Request; key = client 1; server = None; wanted = Some (ipv4 10 0 0 200); ciaddr = ipv4 0 0 0 0 }
+
+refused : answer4 (pool4_of part_a) 110 (offers_in no_offers) reboots ≡ record { answer = Ok reply.Nak; book = offers_in no_offers; is_kept = false }
+unfolding answer4
+refused = refl
+
+pub nak_a : (frames setup_a (Up 0 110 0 ∷ Down 0 ∷ []) (with_up reboot_up 100 empty) ≡ nak ∷ [])
+unfolding alone_step frames relayed_down4 reply_of reply4_bytes listed_from fault_from
+nak_a =
+    two setup_a nak (with_up reboot_up 100 no_offers) _
+    (decided_by setup_a 110 0 reboot_up 100 no_offers _ reboots _ refl refl (none_at 110 100) refused) refl refl
 
 -- ---- what is granted
 

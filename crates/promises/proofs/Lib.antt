@@ -3,6 +3,7 @@ pub mod BookLemmas
 pub mod ConfigLemmas
 pub mod ElsewhereLemmas
 pub mod ExampleLemmas
+pub mod ExampleLemmas6
 pub mod FormatLemmas
 pub mod GrantLemmas
 pub mod GrantLemmas6

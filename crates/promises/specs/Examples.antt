@@ -1,17 +1,18 @@
 -- Worked examples: a circuit, frames of its clients, and what the definitions make of them.
-use Rattle.std.specs.Prelude.{ℕ, ◌+◌, List, [], ◌∷◌, ◌++◌, length, replicate, Some, None, true, false}
+use Rattle.std.specs.Prelude.{ℕ, ◌+◌, List, [], ◌∷◌, ◌++◌, length, take, drop, replicate, Some, None, Err, true, false}
 use Rattle.std.specs.FinMap.{empty, insert}
 use Rattle.types.specs.declared.addr.Addr4.{Addr4}
 use Rattle.types.specs.declared.addr.Source.{Source}
-use Rattle.types.specs.declared.dest.Dest.TheVariants.{Unicast}
+use Rattle.types.specs.declared.dest.Dest.TheVariants.{Broadcast, Unicast}
 use Rattle.types.specs.declared.dest.Proto.TheVariants.{V4}
+use Rattle.types.specs.declared.discard.Discard.TheVariants.{NothingToSay}
 use Rattle.slots.specs.Key.{key4_cmp}
 use Rattle.slots.specs.Maps.{Lease, Clients}
 use Rattle.bindings_v6.specs.Book6.{empty_book}
 use Rattle.config.specs.Membership.{MembershipValue}
 use Rattle.config.specs.CircuitPart.{CircuitPart}
 use Rattle.config.specs.Topology.{Topology}
-use Rattle.circuit_server.specs.Server.{Book}
+use Rattle.circuit_server.specs.Server.{Book, Served}
 use Rattle.events.specs.declared.comeback.Comeback.{Comeback}
 use Rattle.lease_disk.specs.declared.image.Image.TheVariants.{Unreadable}
 use Rattle.lossy_net.specs.Net.{Datagram}
@@ -132,6 +133,30 @@ ack x = reply 5 x
 abbrev pub request_up : List ℕ
 request_up = relayed_message 3 (97 ∷ []) 0 1 (54 ∷ 4 ∷ 10 ∷ 0 ∷ 0 ∷ 1 ∷ 50 ∷ 4 ∷ 10 ∷ 0 ∷ 0 ∷ 10 ∷ [])
 
+-- a message with 10.0.0.10 in bytes 12 to 15, ciaddr
+abbrev pub with_ciaddr : List ℕ → List ℕ
+with_ciaddr message = take 12 message ++ 10 ∷ 0 ∷ 0 ∷ 10 ∷ drop 16 message
+
+-- client 1 gives up 10.0.0.10: its DHCPRELEASE (7), and its DHCPDECLINE (4) with the address in option 50
+abbrev pub release_up : List ℕ
+release_up = with_ciaddr (relayed_message 7 (97 ∷ []) 0 1 (54 ∷ 4 ∷ 10 ∷ 0 ∷ 0 ∷ 1 ∷ []))
+
+abbrev pub decline_up : List ℕ
+decline_up = relayed_message 4 (97 ∷ []) 0 1 (54 ∷ 4 ∷ 10 ∷ 0 ∷ 0 ∷ 1 ∷ 50 ∷ 4 ∷ 10 ∷ 0 ∷ 0 ∷ 10 ∷ [])
+
+-- client 1 comes back with 10.0.0.200, which is no address of the pool, in option 50 of a DHCPREQUEST to no server
+abbrev pub reboot_up : List ℕ
+reboot_up = relayed_message 3 (97 ∷ []) 0 1 (50 ∷ 4 ∷ 10 ∷ 0 ∷ 0 ∷ 200 ∷ [])
+
+-- The frame with its DHCPNAK (6), to all clients and with the broadcast flag: 300 bytes.
+abbrev pub nak : SentFrame
+nak = record {
+  dest = Broadcast;
+  bytes =
+      (2 ∷ 1 ∷ 6 ∷ 0 ∷ 0 ∷ 0 ∷ 0 ∷ 1 ∷ 0 ∷ 0 ∷ 128 ∷ 0 ∷ []) ++ (replicate 12 0 ++ ((10 ∷ 0 ∷ 0 ∷ 1 ∷ 2 ∷ 0 ∷ 0 ∷ 0 ∷ 0 ∷ 1 ∷ []) ++ (replicate 202 0
+      ++ ((99 ∷ 130 ∷ 83 ∷ 99 ∷ []) ++ ((53 ∷ 1 ∷ 6 ∷ []) ++ ((54 ∷ 4 ∷ 10 ∷ 0 ∷ 0 ∷ 1 ∷ []) ++ (255 ∷ [] ++ replicate 50 0)))))));
+}
+
 -- client n's key: Ethernet and its address
 abbrev pub client : ℕ → List ℕ
 client n = 1 ∷ 2 ∷ 0 ∷ 0 ∷ 0 ∷ 0 ∷ n ∷ []
@@ -182,6 +207,14 @@ asked = with_up request_up 100 (one_offer (client 1) (lease_until 160))
 -- client 1 got 10.0.0.10 at 110, for ten minutes, and no offer is left
 abbrev pub leased : Book
 leased = record { clock = 110; four = record { bindings = one_offer (client 1) (lease_until 710); offers = empty; bars = empty }; six = empty_book }
+
+-- no client has an address, and nobody is given 10.0.0.10 until a moment
+abbrev pub barred_at : ℕ → ℕ → Book
+barred_at clock until = record { clock = clock; four = record { bindings = empty; offers = empty; bars = insert empty 167772170 until }; six = empty_book }
+
+-- nothing is answered, and this book is saved
+abbrev pub saved_silently : Book → Served
+saved_silently book = record { answer = Err NothingToSay; book = book; is_kept = true }
 
 -- the same client asks where a save of its lease failed
 abbrev pub closed : Alone

@@ -1,14 +1,22 @@
-//! The definitions on worked examples, computed by the prover. The values stand in `specs/Examples.antt`
-//! and were taken from the standards and the profile, not from a program.
+//! The definitions on worked examples, computed by the prover. The values stand in `specs/Examples.antt`,
+//! `Examples6.antt` and `ExampleDisk.antt` and were taken from the standards and the profile, not from a program.
 ghost use Rattle.std.specs.Prelude.{◌≡◌, [], ◌∷◌, Some, None, true, false, ◌++◌, take, drop, replicate};
 ghost use Rattle.std.specs.FinMap.{empty};
 ghost use Rattle.types.specs.Delivery.{delivery};
+ghost use Rattle.types.specs.declared.slot4.Slot4.TheVariants as slot4;
+ghost use Rattle.types.specs.declared.slots.Slot6.TheVariants as slot6;
 ghost use Rattle.types.specs.declared.dest.Proto.TheVariants.{V4, V6};
 ghost use Rattle.types.specs.declared.discard.Discard.TheVariants as reason;
 ghost use Rattle.requests.specs.Addressee.{addressee};
+ghost use Rattle.circuit_server.specs.Server.{served};
+ghost use Rattle.lease_disk.specs.HalfBytes.{half_bytes};
+ghost use Rattle.lease_disk.specs.Recovered.{recovered};
+ghost use Rattle.lease_disk.specs.declared.content.Content.TheVariants.{Four, Six};
 ghost use Rattle.relay.specs.Relays.{relayed_up};
 ghost use Rattle.world.specs.Alone.{alone_step, after_all, frames, Dropped, Gone, SentDown, start, New, Old, Moving};
-ghost use Rattle.promises.specs.Examples.{part_a, with_relays, setup_a, setup_a1, at_port, client_message, discover, discover_up, peer, solicit, solicit_up, relayed_message, relayed_discover, offer, client, offers_at, one_offer, lease_until, datagram, with_up, begun, no_leases, begun_off, asked, leased, closed, ack, begun_in_format_1, turned_off, unreadable};
+ghost use Rattle.promises.specs.Examples.{part_a, with_relays, setup_a, setup_a1, at_port, client_message, discover, discover_up, peer, solicit, solicit_up, relayed_message, relayed_discover, offer, client, offers_at, one_offer, lease_until, datagram, with_up, begun, no_leases, begun_off, asked, leased, closed, ack, begun_in_format_1, turned_off, unreadable, release_up, decline_up, reboot_up, nak, barred_at, saved_silently};
+ghost use Rattle.promises.specs.Examples6.{message6, server_id6, ia6, timed_ia6, listed6, leased6, status6, relayed6, book6, bound6, barred6, replied6, client6};
+ghost use Rattle.promises.specs.ExampleDisk.{bound_half, bound_half6, free_half, barred_half, laid, both_bound, both_bound_in_format_1, two_slots};
 ghost use Rattle.promises.specs.Granted.{Granted4, lines, restart_over};
 ghost use Rattle.events.specs.Seen.{Frame, Up, Down, Tick, Restart, Turn};
 
@@ -82,11 +90,14 @@ pub fn keys_have_limits()
     ensures long { (alone_step setup_a (Up 0 100 0) (with_up (discover_up 1 (61 ∷ 65 ∷ replicate 65 7)) 0 empty)).effect ≡ Dropped reason.ClientKey }
 {}
 
-/// The network keeps the newest datagrams of a direction, and no more than its quota.
+/// The network keeps the newest datagrams of a direction, and no more than its quota. What the relay drops never gets
+/// there, and what goes up does not come down.
 pub fn the_network_keeps_the_newest()
-    ensures none { (alone_step setup_a (Up 0 100 0) begun).effect ≡ Gone }
+    ensures none { (alone_step setup_a (Up 0 100 0) (after_all setup_a (Frame V4 (client_message 2 1 []) ∷ []) begun)).effect ≡ Gone }
+    ensures apart { (alone_step setup_a (Down 0) (after_all setup_a (Frame V4 (discover 1 []) ∷ []) begun)).effect ≡ Gone }
+    ensures both { (after_all setup_a (Frame V4 (discover 1 []) ∷ Frame V4 (discover 2 []) ∷ []) begun).up ≡ datagram (discover_up 2 []) ∷ datagram (discover_up 1 []) ∷ [] }
     ensures last { (after_all (record setup_a { quota = 1 }) (Frame V4 (discover 1 []) ∷ Frame V4 (discover 2 []) ∷ []) begun).up ≡ datagram (discover_up 2 []) ∷ [] }
-    ensures lost { (alone_step setup_a (Up 1 100 0) (with_up (discover_up 2 []) 0 empty)).effect ≡ Gone }
+    ensures lost { (alone_step (record setup_a { quota = 1 }) (Up 1 100 0) (after_all (record setup_a { quota = 1 }) (Frame V4 (discover 1 []) ∷ Frame V4 (discover 2 []) ∷ []) begun)).effect ≡ Gone }
 {}
 
 /// A DHCPREQUEST that the server answers: the DHCPACK's frame, byte for byte, and what is saved before
@@ -95,6 +106,55 @@ pub fn a_lease_is_kept()
     ensures ack { frames setup_a (Up 0 110 0 ∷ Down 0 ∷ []) asked ≡ ack 0 ∷ [] }
     ensures kept { (alone_step setup_a (Up 0 110 0) asked).next.kept ≡ Some leased }
     ensures sure { (alone_step setup_a (Up 0 110 0) asked).next.doubt ≡ None }
+{}
+
+/// A client's DHCPRELEASE frees its address, and its DHCPDECLINE bars it for an hour. Both are saved, and nothing is
+/// answered.
+pub fn a_lease_is_given_up()
+    ensures release { served part_a (delivery V4 part_a.relay 400 release_up) leased ≡ saved_silently (offers_at 400 empty) }
+    ensures decline { served part_a (delivery V4 part_a.relay 400 decline_up) leased ≡ saved_silently (barred_at 400 4000) }
+{}
+
+/// A client that comes back with an address outside the pool is sent a DHCPNAK: its frame, byte for byte.
+pub fn a_foreign_address_is_refused()
+    ensures { frames setup_a (Up 0 110 0 ∷ Down 0 ∷ []) (with_up reboot_up 100 empty) ≡ nak ∷ [] }
+{}
+
+/// A row of each type of the DHCPv6 table: the reply, byte for byte, the book after it, and whether it is saved before.
+pub fn each_type_of_dhcpv6_is_answered()
+    ensures solicit { served part_a (delivery V6 part_a.relay 100 (relayed6 12 (message6 1 (ia6 [])))) no_leases ≡ replied6 (message6 2 (server_id6 ++ timed_ia6 leased6)) (book6 100 empty empty) false }
+    ensures request { served part_a (delivery V6 part_a.relay 100 (relayed6 12 (message6 3 (server_id6 ++ ia6 (listed6 0))))) no_leases ≡ replied6 (message6 7 (server_id6 ++ timed_ia6 leased6)) (book6 100 (bound6 700) empty) true }
+    ensures confirm { served part_a (delivery V6 part_a.relay 400 (relayed6 12 (message6 4 (ia6 (listed6 0))))) (book6 100 (bound6 700) empty) ≡ replied6 (message6 7 (server_id6 ++ status6 0)) (book6 400 (bound6 700) empty) false }
+    ensures elsewhere { served part_a (delivery V6 part_a.relay 400 (relayed6 12 (message6 4 (ia6 (listed6 1))))) (book6 100 (bound6 700) empty) ≡ replied6 (message6 7 (server_id6 ++ status6 4)) (book6 400 (bound6 700) empty) false }
+    ensures renew { served part_a (delivery V6 part_a.relay 400 (relayed6 12 (message6 5 (server_id6 ++ ia6 (listed6 1 ++ listed6 0))))) (book6 100 (bound6 700) empty) ≡ replied6 (message6 7 (server_id6 ++ timed_ia6 (listed6 1 ++ leased6))) (book6 400 (bound6 1000) empty) true }
+    ensures rebind { served part_a (delivery V6 part_a.relay 400 (relayed6 12 (message6 6 (ia6 (listed6 0))))) no_leases ≡ replied6 (message6 7 (server_id6 ++ ia6 (status6 3))) (book6 400 empty empty) false }
+    ensures release { served part_a (delivery V6 part_a.relay 400 (relayed6 12 (message6 8 (server_id6 ++ ia6 (listed6 0))))) (book6 100 (bound6 700) empty) ≡ replied6 (message6 7 (server_id6 ++ status6 0)) (book6 400 empty empty) true }
+    ensures decline { served part_a (delivery V6 part_a.relay 400 (relayed6 12 (message6 9 (server_id6 ++ ia6 (listed6 0))))) (book6 100 (bound6 700) empty) ≡ replied6 (message6 7 (server_id6 ++ status6 0)) (book6 400 empty (barred6 4000)) true }
+{}
+
+/// What a save writes of a slot: a half, byte for byte.
+pub fn a_slot_is_written()
+    ensures bound { half_bytes 0 110 (Four (slot4.Bound (client 1) 710)) ≡ bound_half }
+    ensures bound6 { half_bytes 2 100 (Six (slot6.Bound client6 700)) ≡ bound_half6 }
+    ensures free { half_bytes 1 110 (Four slot4.Free) ≡ free_half }
+    ensures free6 { half_bytes 1 110 (Six slot6.Free) ≡ free_half }
+    ensures barred { half_bytes 0 400 (Four (slot4.Barred 4000)) ≡ barred_half }
+    ensures barred6 { half_bytes 0 400 (Six (slot6.Barred 4000)) ≡ barred_half }
+{}
+
+/// What a region means to pools of one address each. Of two open halves the one counts whose sequence follows the other's.
+/// The clock is the greatest of those that count, and what has ended by it is free. A slot without a half that counts, or
+/// with a state or a length past its limit, is damage.
+pub fn a_region_is_recovered()
+    ensures bound { recovered (1 ∷ 1 ∷ []) (laid both_bound) ≡ Some (two_slots 110 (slot4.Bound (client 1) 710) (slot6.Bound client6 700)) }
+    ensures format_1 { recovered (1 ∷ 1 ∷ []) (laid both_bound_in_format_1) ≡ Some (two_slots 110 (slot4.Bound (client 1) 710) (slot6.Bound client6 700)) }
+    ensures newer { recovered (1 ∷ 1 ∷ []) (laid ((16640, free_half) ∷ both_bound)) ≡ Some (two_slots 110 slot4.Free (slot6.Bound client6 700)) }
+    ensures around { recovered (1 ∷ 1 ∷ []) (laid ((24832, barred_half) ∷ both_bound)) ≡ Some (two_slots 400 (slot4.Bound (client 1) 710) (slot6.Barred 4000)) }
+    ensures over { recovered (1 ∷ 1 ∷ []) (laid ((24590, 2 ∷ 198 ∷ []) ∷ both_bound)) ≡ Some (two_slots 710 slot4.Free slot6.Free) }
+    ensures no_half { recovered (1 ∷ 1 ∷ []) (laid ((16384, 0 ∷ []) ∷ both_bound)) ≡ None }
+    ensures state { recovered (1 ∷ 1 ∷ []) (laid ((24577, 3 ∷ []) ∷ both_bound)) ≡ None }
+    ensures short_key { recovered (1 ∷ 1 ∷ []) (laid ((16386, 1 ∷ []) ∷ both_bound)) ≡ None }
+    ensures long_duid { recovered (1 ∷ 1 ∷ []) (laid ((24578, 131 ∷ []) ∷ both_bound)) ≡ None }
 {}
 
 /// Where the last call of the save fails, the circuit closes and sends nothing. A restart then finds

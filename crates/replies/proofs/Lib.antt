@@ -1,1 +1,2 @@
 pub mod Addresses6
+pub mod ReadBack6

@@ -1,5 +1,5 @@
 -- The bytes of the server's DHCPv6 replies (RFC 8415, sections 18.3 and 19.3).
-use Rattle.std.specs.Prelude.{ℕ, ◌*◌, ◌/◌, List, [], ◌∷◌, ◌++◌, map, Option, Some, None}
+use Rattle.std.specs.Prelude.{◌≡◌, ℕ, ◌+◌, ◌*◌, ◌/◌, ◌≤◌, nat_le, List, [], ◌∷◌, ◌++◌, length, map, All, Option, Some, None, Result, Ok, Err, if◌then◌else◌}
 use Rattle.std.specs.Int.{w16, to_be_bytes}
 use Rattle.std.specs.Option.{option_map_or}
 use Rattle.types.specs.Key6.{Key6Value}
@@ -10,6 +10,8 @@ use Rattle.types.specs.declared.request6.ReplyIa.{ReplyIa}
 use Rattle.types.specs.declared.request6.ReplyIa.TheVariants as variants
 use Rattle.types.specs.declared.request6.Status6.{Status6}
 use Rattle.v6_options.specs.Codes.{CLIENT_ID, SERVER_ID, IA_NA, IA_ADDRESS, RELAY_MESSAGE, STATUS_CODE, INTERFACE_ID}
+use Rattle.v6_message.specs.declared.fault.MessageFault.{MessageFault}
+use Rattle.v6_message.specs.declared.fault.MessageFault.TheVariants.{IaCount, AddrCount}
 use Rattle.v6_message.specs.Ia.{address_bytes, ia_bytes}
 use Rattle.v6_message.specs.Message.{MessageValue, message_bytes}
 use Rattle.v6_message.specs.Relay.{RelayValue, relay_bytes}
@@ -69,3 +71,23 @@ relay_reply part request message client reply = record request {
 
 unfoldable pub reply6_bytes : CircuitPart → RelayValue → MessageValue → Key6Value → Reply6 → List ℕ
 reply6_bytes part request message client reply = relay_bytes (relay_reply part request message client reply)
+
+-- ---- reading it back
+
+-- an IA_NA within the limits of its type: at most 4 zeroed addresses, and all addresses of 16 bytes
+abbrev pub IsReplyIa : ReplyIa → Type 0
+IsReplyIa variants.None = Unit {0}
+IsReplyIa (variants.Status status) = Unit {0}
+IsReplyIa (variants.Given zeroed leased) = (length zeroed.items ≤ 4) × All (λ (a : Addr6). length a.0 ≡ 16) zeroed.items × (length leased.0 ≡ 16)
+
+-- a reply to this message of this client, each within the limits of its type
+pub record IsReplyTo (message : MessageValue) (client : Key6Value) (reply : Reply6) : Type 0 where
+  pub id : length message.transaction_id ≡ 3
+  pub duid : length client.duid ≤ 130
+  pub ia : IsReplyIa reply.ia
+
+-- What reading makes of a reply, by its IA_NA: the limits for reading ask for one, with at most 4 addresses.
+abbrev pub read_within : ReplyIa → MessageValue → Result MessageValue MessageFault
+read_within variants.None m = Err IaCount
+read_within (variants.Status status) m = Ok m
+read_within (variants.Given zeroed leased) m = if nat_le (1 + length zeroed.items) 4 then Ok m else Err AddrCount

@@ -1,12 +1,17 @@
 //! The datagrams of DHCPv6 replies (RFC 8415, sections 18.3 and 19.3).
-ghost use Rattle.std.specs.Prelude.{◌≡◌, ◌≤◌, ◌+◌, [], ◌∷◌, ◌++◌, length, map, None};
+ghost use Rattle.std.specs.Prelude.{◌≡◌, ◌≤◌, ◌+◌, [], ◌∷◌, ◌++◌, length, map, None, Ok};
+ghost use Rattle.types.specs.declared.request6.ReplyIa.TheVariants.{Given};
 ghost use Rattle.v6_options.specs.Codes.{IA_NA, INTERFACE_ID, RELAY_MESSAGE};
 ghost use Rattle.v6_options.specs.Spelling.{option, spelling};
 ghost use Rattle.v6_message.specs.Ia.{ia_header};
-ghost use Rattle.v6_message.specs.Message.{message_bytes};
-ghost use Rattle.v6_message.specs.Relay.{relay_header};
-ghost use Rattle.replies.specs.Reply6.{address_option, ia_options, ia_with_addresses, ia_with_status, reply6_bytes, reply_message, reply_options, status_option, status_options};
+ghost use Rattle.v6_message.specs.Message.{SpellsMessage, message_bytes};
+ghost use Rattle.v6_message.specs.MessageReading.{message_of};
+ghost use Rattle.v6_message.specs.Relay.{SpellsRelay, relay_header};
+ghost use Rattle.v6_message.specs.RelayReading.{relay_of};
+ghost use Rattle.config.specs.CircuitPart.{IsPart};
+ghost use Rattle.replies.specs.Reply6.{IsReplyIa, address_option, ia_options, ia_with_addresses, ia_with_status, read_within, relay_reply, reply6_bytes, reply_message, reply_options, status_option, status_options};
 
+use crate::laws::reply6_is_read;
 use arrayvec::ArrayVec;
 use config::CircuitPart;
 use types::{Addr6, Key6, MAX_LISTED, Reply6, ReplyIa, ReplyKind6, Status6};
@@ -14,7 +19,9 @@ use v6_message::{IaAddress, IaHeader, Message6, MessageHeader, RELAY_REPLY, Rela
 use v6_options::code;
 use wire::PacketBuf;
 
-/// Writes a reply to this client's message in this Relay-forward of the circuit, over whatever `out` held.
+/// Writes a reply to this client's message in this Relay-forward of the circuit, over whatever `out` held. It reads back
+/// as the Relay-reply that it is, and what that carries spells the client's reply, which reads back in turn if it is
+/// within the limits for reading.
 pub fn write6(
     part: &CircuitPart,
     request: &Relay6<'_>,
@@ -26,12 +33,33 @@ pub fn write6(
     ensures bytes { out.new ≡ reply6_bytes part.now request.now message.now client.now reply.now }
     ensures fits { length out.new ≤ 508 }
     ensures without_status { reply.now.status ≡ None → length out.new ≤ 502 }
+    ensures spelled { SpellsRelay out.new (relay_reply part.now request.now message.now client.now reply.now) }
+    ensures again { relay_of out.new ≡ Ok (relay_reply part.now request.now message.now client.now reply.now) }
+    ensures inside { SpellsMessage (message_bytes (reply_message part.now message.now client.now reply.now)) (reply_message part.now message.now client.now reply.now) }
+    ensures inside_again { message_of (message_bytes (reply_message part.now message.now client.now reply.now)) ≡ read_within reply.now.ia (reply_message part.now message.now client.now reply.now) }
 {
+    reply6_is_read();
+    keeps_limits(part, request, message, client);
     let mut inside = PacketBuf::new();
     put_message(part, message, client, reply, &mut inside);
     put_header(request, out);
     put(code::INTERFACE_ID, part.id().as_bytes(), out);
     put_inside(&inside, out);
+}
+
+/// For its contract: the limits that the types of a circuit's part, a Relay-forward, a message and a client keep.
+fn keeps_limits(part: &CircuitPart, request: &Relay6<'_>, message: &Message6<'_>, client: &Key6)
+    ensures sound { IsPart part.now }
+    ensures link { length request.now.link_address ≡ 16 }
+    ensures peer { length request.now.peer_address ≡ 16 }
+    ensures id { length message.now.transaction_id ≡ 3 }
+    ensures duid { length client.now.duid ≤ 130 }
+{
+    let _duid = part.duid();
+    let _link = request.link_address();
+    let _peer = request.peer_address();
+    let _id = message.transaction_id();
+    let _client = client.duid();
 }
 
 /// The Relay-reply's header, over whatever `out` held.
@@ -70,6 +98,7 @@ fn put_message(
     ensures bytes { out.new ≡ out.old ++ message_bytes (reply_message part.now message.now client.now reply.now) }
     ensures len { length out.new ≤ length out.old + 434 }
     ensures without_status { reply.now.status ≡ None → length out.new ≤ length out.old + 428 }
+    ensures whole { IsReplyIa reply.now.ia }
 {
     let header = MessageHeader {
         kind: reply.kind.code(),
@@ -85,6 +114,7 @@ fn put_options(part: &CircuitPart, client: &Key6, reply: &Reply6, out: &mut Pack
     ensures bytes { out.new ≡ out.old ++ spelling (reply_options part.now client.now reply.now) }
     ensures len { length out.new ≤ length out.old + 430 }
     ensures without_status { reply.now.status ≡ None → length out.new ≤ length out.old + 424 }
+    ensures whole { IsReplyIa reply.now.ia }
 {
     put(code::CLIENT_ID, client.duid(), out);
     put(code::SERVER_ID, part.duid().as_slice(), out);
@@ -109,6 +139,7 @@ fn put_ia(lease: u32, iaid: u32, ia: &ReplyIa, out: &mut PacketBuf)
     requires { length out.old + 156 ≤ 1280 }
     ensures bytes { out.new ≡ out.old ++ spelling (ia_options lease iaid ia.now) }
     ensures len { length out.new ≤ length out.old + 156 }
+    ensures whole { IsReplyIa ia.now }
 {
     match ia {
         ReplyIa::None => {}
@@ -139,6 +170,7 @@ fn put_ia_of(
     requires { length out.old + 156 ≤ 1280 }
     ensures bytes { out.new ≡ out.old ++ spelling (ia_with_addresses lease iaid zeroed.now.items leased ∷ []) }
     ensures len { length out.new ≤ length out.old + 156 }
+    ensures whole { IsReplyIa (Given zeroed.now leased) }
 {
     let mut inside = PacketBuf::new();
     put_addresses(lease, zeroed, leased, &mut inside);
@@ -166,6 +198,7 @@ fn put_addresses(
     requires { length out.old + 140 ≤ 1280 }
     ensures bytes { out.new ≡ out.old ++ spelling (map (address_option 0) zeroed.now.items ++ address_option lease leased ∷ []) }
     ensures len { length out.new ≤ length out.old + 140 }
+    ensures whole { IsReplyIa (Given zeroed.now leased) }
 {
     for address in zeroed.as_slice() {
         put_address(*address, 0, out);
@@ -178,6 +211,7 @@ fn put_address(address: Addr6, lifetime: u32, out: &mut PacketBuf)
     requires { length out.old + 28 ≤ 1280 }
     ensures bytes { out.new ≡ out.old ++ spelling (address_option lifetime address ∷ []) }
     ensures len { length out.new ≡ length out.old + 28 }
+    ensures whole { length address.0 ≡ 16 }
 {
     let address = IaAddress {
         address,

@@ -1,2 +1,3 @@
 pub mod AddresseeLemmas
+pub mod LimitLemmas6
 pub mod RequestLemmas6

@@ -3,6 +3,7 @@
 
 mod addressee4;
 mod addressee6;
+pub mod laws;
 mod relayed_message;
 mod request4;
 mod request6;

@@ -1,4 +1,4 @@
--- What a written slot makes of what is kept.
+-- What a written slot makes of what is kept, and of what is live.
 use Rattle.std.proofs.Common.{◌≡◌, ◌⊎◌, inl, inr, ℕ, zero, suc, ◌+◌, ◌-◌, ◌<◌, Bool, true, false, cond, [], ◌∷◌, ◌++◌, length, map, replicate, set, get_or, refl, sym, ap, ◌∙◌, arith}
 use Rattle.std.specs.Prelude.{Option, Some, None}
 use Rattle.std.specs.declared.cmp.Ordering.{Ordering}
@@ -144,3 +144,45 @@ module _ {K : Type 0} {eqk : K → K → Bool} {cmpk : K → K → Ordering} (la
         by : (get_or (without_client eqk k ss) i None ≡ None) ⊎ (get_or (without_client eqk k ss) i None ≡ get_or ss i None) → kept t (get_or (without_client eqk k ss) i None) ≡ None
         by (inl e) = ap (kept t) e
         by (inr e) = ap (kept t) e ∙ fit_unkept t k ss i fit none
+
+  -- ---- a client that gets a slot loses no other one that is live
+
+  -- the slot is the client's, or it has no live one
+  abbrev pub IsOnly : ℕ → K → Slots K → ℕ → Type 0
+  IsOnly t k ss i = (is_clients eqk k (get_or ss i None) ≡ true) ⊎ ((j : ℕ) → is_clients eqk k (get_or ss j None) ≡ true → live t (get_or ss j None) ≡ None)
+
+  pub only_bound : (t : ℕ) (k : K) (ss : Slots K) (i : ℕ) → position (is_bound_to eqk t k) ss ≡ Some i → IsOnly t k ss i
+  only_bound t k ss i e = let s = get_or ss i None in inl (live_clients_own lawk t k s (bound_clients lawk t k s (bound_own lawk t k ss i e).1))
+
+  pub only_offered : (t : ℕ) (k : K) (ss : Slots K) (i : ℕ) → position (is_offered_to eqk t k) ss ≡ Some i → IsOnly t k ss i
+  only_offered t k ss i e = let s = get_or ss i None in inl (live_clients_own lawk t k s (offered_clients lawk t k s (offered_own lawk t k ss i e).1))
+
+  expired : (t : ℕ) (k : K) (s : Option (Holder K)) → is_bound_to eqk t k s ≡ false → is_offered_to eqk t k s ≡ false → is_clients eqk k s ≡ true → live t s ≡ None
+  expired t k None bound offered own = refl
+  expired t k (Some (Bound key u)) bound offered own = by (is_live t u) bound where
+    by : (b : Bool) → cond b (eqk k key) false ≡ false → cond b (Some (Bound key u)) None ≡ None
+    by true free = absurd (not_true (sym free ∙ own))
+    by false free = refl
+  expired t k (Some (Offered key u)) bound offered own = by (is_live t u) offered where
+    by : (b : Bool) → cond b (eqk k key) false ≡ false → cond b (Some (Offered key u)) None ≡ None
+    by true free = absurd (not_true (sym free ∙ own))
+    by false free = refl
+  expired t k (Some (Barred u)) bound offered own = absurd (not_true own)
+
+  pub unoffered_at : (t : ℕ) (k : K) (ss : Slots K) → position (is_offered_to eqk t k) ss ≡ None → (i : ℕ) → is_offered_to eqk t k (get_or ss i None) ≡ false
+  unoffered_at t k ss none i = none_passes (is_offered_to eqk t k) refl 0 ss (sym (position_from-zero (is_offered_to eqk t k) ss) ∙ none) i
+
+  pub only_free : (t : ℕ) (k : K) (ss : Slots K) (i : ℕ) → position (is_bound_to eqk t k) ss ≡ None → ((j : ℕ) → is_offered_to eqk t k (get_or ss j None) ≡ false) → IsOnly t k ss i
+  only_free t k ss i bound offered = inr (λ j own. expired t k (get_or ss j None) (unbound t k ss bound j) (offered j) own)
+
+  live_vacated : (t : ℕ) (k : K) (ss : Slots K) → ((j : ℕ) → is_clients eqk k (get_or ss j None) ≡ true → live t (get_or ss j None) ≡ None) → map (live t) (without_client eqk k ss) ≡ map (live t) ss
+  live_vacated t k ss none = by (position (is_clients eqk k) ss) refl where
+    by : (o : Option ℕ) → position (is_clients eqk k) ss ≡ o → map (live t) (with_vacancy o ss) ≡ map (live t) ss
+    by None e = refl
+    by (Some j) e = map-set_same (live t) ss j None None (sym (none j (position-Some (is_clients eqk k) ss j None e).1))
+
+  pub live_given : (t : ℕ) (k : K) (i : ℕ) (new : Option (Holder K)) (ss : Slots K) → AreDistinct eqk ss → IsOnly t k ss i
+      → map (live t) (set (without_client eqk k ss) i new) ≡ map (live t) (set ss i new)
+  live_given t k i new ss d (inl own) = ap (λ o. map (live t) (set (with_vacancy o ss) i new)) (place_is k i ss d own) ∙ ap (map (live t)) (set-set ss i None new)
+  live_given t k i new ss d (inr none) =
+      map-set (live t) (without_client eqk k ss) i new ∙ ap (λ xs. set xs i (live t new)) (live_vacated t k ss none) ∙ sym (map-set (live t) ss i new)

@@ -2,7 +2,7 @@
 use Rattle.std.specs.Prelude.{ℕ, Bool, false, nat_le, if◌then◌else◌, List, Option, Some, None, slice_index_or}
 
 -- slots: until when each slot has a deadline, in seconds, by its number; None where it has none.
--- looks: how many entries were looked at since the last sweep began
+-- looks: how often an entry was looked at since the table was made
 pub record DeadlinesValue : Type 0 where
   pub slots : List (Option ℕ)
   pub looks : ℕ

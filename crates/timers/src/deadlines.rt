@@ -1,17 +1,18 @@
 //! The table of deadlines.
-ghost use Rattle.std.specs.Prelude.{◌≡◌, ℕ, ◌+◌, ◌<◌, ◌≤◌, ◌↔◌, map, length, replicate, slice_set, count_by, IfOk, IfSome, IsNone};
+ghost use Rattle.std.specs.Prelude.{◌≡◌, ℕ, ◌+◌, ◌<◌, ◌≤◌, ◌↔◌, length, replicate, slice_set, IfOk, IfSome, IsNone};
 ghost use Rattle.types.specs.Slots.{last_until};
-ghost use Rattle.timers.specs.Deadlines.{deadline, is_due, entry_after_sweep};
+ghost use Rattle.timers.specs.Deadlines.{deadline};
 
 use crate::rows::Rows;
 use std::alloc::{AllocError, Global};
 use std::marker::Model;
-use types::{Count, Moment};
+use types::Count;
 
 /// Stands for no deadline: later than every deadline.
 const NEVER: u64 = u64::MAX;
 
-/// Until when each slot has a deadline, in seconds. A slot has one deadline at most.
+/// Until when each slot has a deadline, in seconds. A slot has one deadline at most. Contracts see how often an entry
+/// was looked at: each call of `last` and of `get` is a look.
 #[derive(Drop)]
 pub struct Deadlines {
     rows: Rows,
@@ -65,12 +66,16 @@ impl Deadlines {
         self.rows.set(slot, NEVER);
     }
 
-    pub fn get(&self, slot: usize) -> Option<u64>
-        requires { slot < length self.now.slots }
-        ensures { result ≡ deadline self.now slot }
+    /// The slot's deadline, if it has one. Counts as one look.
+    pub fn get(&mut self, slot: usize) -> Option<u64>
+        requires { slot < length self.old.slots }
+        ensures value { result ≡ deadline self.old slot }
+        ensures slots { self.new.slots ≡ self.old.slots }
+        ensures looks { self.new.looks ≡ self.old.looks + 1 }
     {
-        let until = self.rows.get(slot);
-        if until < NEVER { Some(until) } else { None }
+        let until = self.until(slot);
+        self.looks.tick();
+        until
     }
 
     /// A slot with the least deadline, and that deadline. Counts as one look.
@@ -87,25 +92,23 @@ impl Deadlines {
         Some((slot, self.rows.get(slot)))
     }
 
-    /// Removes every deadline that is due, which is at most `now`. It reads them by `last` alone.
-    pub fn sweep(&mut self, now: Moment)
-        ensures slots { self.new.slots ≡ map (entry_after_sweep now) self.old.slots }
-        ensures looks { self.new.looks ≤ count_by (is_due now) self.old.slots + 1 }
+    /// The deadlines of all slots, for those who may not change the table. Takes memory, and counts as no look.
+    pub fn list(&self, alloc: Global) -> Result<Vec<Option<u64>>, AllocError>
+        ensures { IfOk result (λ list. list.items ≡ self.now.slots) }
     {
-        self.looks = Count::new();
-        self.remove_due(now.seconds());
+        let mut list = Vec::with_capacity(alloc, self.count())?;
+        'slots: for slot in 0..self.count() {
+            list.push(self.until(slot))?;
+        }
+        Ok(list)
     }
 
-    /// The same, with the looks added to those before.
-    fn remove_due(&mut self, now: u64)
-        ensures slots { self.new.slots ≡ map (entry_after_sweep now) self.old.slots }
-        ensures looks { self.new.looks ≡ self.old.looks + count_by (is_due now) self.old.slots + 1 }
+    /// The slot's deadline, if it has one.
+    fn until(&self, slot: usize) -> Option<u64>
+        requires { slot < length self.now.slots }
+        ensures { result ≡ deadline self.now slot }
     {
-        while let Some((slot, until)) = self.last() {
-            if until > now {
-                return;
-            }
-            self.clear(slot);
-        }
+        let until = self.rows.get(slot);
+        if until < NEVER { Some(until) } else { None }
     }
 }

@@ -3,6 +3,7 @@
 
 mod deadlines;
 mod rows;
+mod sweep;
 mod tree;
 
 pub use deadlines::Deadlines;

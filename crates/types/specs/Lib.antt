@@ -2,6 +2,7 @@ pub mod Addr
 pub mod CircuitId
 pub mod Delivery
 pub mod Discard
+pub mod Duid
 pub mod Key4
 pub mod Key6
 pub mod Kind4

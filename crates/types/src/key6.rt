@@ -2,6 +2,7 @@
 ghost use Rattle.std.specs.Prelude.{◌≡◌, ◌≤◌, ◌↔◌, length, IsSome, IfSome};
 ghost use Rattle.types.specs.Key6.{same_key6};
 
+use crate::duid::Duid;
 use crate::limits::{MAX_DUID, MIN_DUID};
 use std::marker::Model;
 
@@ -36,14 +37,15 @@ impl Key6 {
         ensures within { IsSome result ↔ ((MIN_DUID ≤ length duid.now) × (length duid.now ≤ MAX_DUID)) }
         ensures value { IfSome result (λ key. key ≡ record { duid = duid.now; iaid = iaid }) }
     {
-        if duid.len() < MIN_DUID || duid.len() > MAX_DUID {
+        let Ok(whole) = Duid::read(duid) else {
             return None;
-        }
+        };
+        let bytes = whole.as_bytes();
         let mut padded = [0; 130];
-        padded[..duid.len()].copy_from_slice(duid);
+        padded[..bytes.len()].copy_from_slice(bytes);
         Some(Key6 {
             iaid,
-            len: duid.len() as u8,
+            len: bytes.len() as u8,
             bytes: padded,
         })
     }

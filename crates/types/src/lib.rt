@@ -9,6 +9,7 @@ mod count;
 mod delivery;
 mod dest;
 mod discard;
+pub mod duid;
 mod key4;
 mod key6;
 mod kind4;

@@ -13,7 +13,7 @@ pub data Entry : Type 0 where
   Took : Role → Source → List ℕ → Entry
   -- a receive from this socket failed
   Failed : Role → Entry
-  -- nothing waited at this socket
+  -- nothing waited at this socket: a receive found none, or the system has told of none since one did
   Empty : Role → Entry
   -- the system was asked to send these bytes from this socket to there, and accepted them or did not
   Sent : Role → Source → List ℕ → Bool → Entry

@@ -26,7 +26,7 @@ pub enum Happened<'a> {
     Took(Role, Source, &'a [u8]),
     /// A receive from this socket failed.
     Failed(Role),
-    /// Nothing waited at this socket.
+    /// Nothing waited at this socket: a receive found none, or the system has told of none since one did.
     Empty(Role),
     /// The system was asked to send a datagram from this socket to there, and accepted it or did not.
     Sent(Role, Source, &'a [u8], bool),

@@ -5,5 +5,6 @@ pub mod Fronts
 pub mod IaExact
 pub mod Lists
 pub mod MessageExact
+pub mod ReadLimits
 pub mod RelayExact
 pub mod Tokens

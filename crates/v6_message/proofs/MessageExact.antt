@@ -5,7 +5,7 @@ use Rattle.std.proofs.lemmas.Bool.{le-leb, lt-leb, leb-true, leb-false, eqb-true
 use Rattle.std.proofs.lemmas.List.{take_at, drop_at, take-append-drop, length-append, length-take-le, length-drop}
 use Rattle.std.specs.Option.{option_and_then}
 use Rattle.v6_options.specs.Codes.{IA_NA, IA_ADDRESS}
-use Rattle.v6_options.specs.Spelling.{spelling, look_up, Spells}
+use Rattle.v6_options.specs.Spelling.{spelling, look_up, AreOptions, Spells}
 use Rattle.v6_options.specs.Reading.{listed, cut_from, options_of}
 use Rattle.v6_options.proofs.Fronts.{AreSmall}
 use Rattle.v6_message.specs.declared.fault.MessageFault.{MessageFault}
@@ -15,7 +15,7 @@ use Rattle.v6_message.specs.declared.scan.ListFault.{ListFault}
 use Rattle.v6_message.specs.declared.scan.ListFault.TheVariants as list_faults
 use Rattle.wire.specs.Part.{part}
 use Rattle.v6_message.specs.Layout.{IA_OPTIONS}
-use Rattle.v6_message.specs.Lists.{count, first_code, second_code, IsIa, AreFormed}
+use Rattle.v6_message.specs.Lists.{count, first_code, second_code, IsIa, AreAllowed, AreFormed}
 use Rattle.v6_message.specs.Reading.{is_formed, is_again, is_ia, fault_of, first_fault}
 use Rattle.v6_options.proofs.Exact.{one_list}
 use Rattle.v6_message.specs.Message.{MessageValue, HasIa, HasAtMost, HasOptions, SpellsMessage, IsReadable, FailsMessage, message_bytes}
@@ -181,6 +181,14 @@ read_again bytes m s r = again m (record { whole = refl; id = s.id; options = s.
 
 pub written : (bytes : List ℕ) (m : MessageValue) → SpellsMessage bytes m → SpellsMessage (message_bytes m) m
 written bytes m s = record { whole = refl; id = s.id; options = s.options; allowed = s.allowed; one = s.one; few = s.few }
+
+-- What was written reads back by its counts.
+pub written_counted : (m : MessageValue) → length m.transaction_id ≡ 3 → AreOptions m.options → AreAllowed Client m.options → message_of (message_bytes m) ≡ counted m
+written_counted m id options allowed =
+    let b = begins (message_bytes m) m.kind m.transaction_id (spelling m.options) id refl in
+    let o : HasOptions (message_bytes m) m.options = record { long = b.long; spelled = record { whole = b.behind; options = options }; allowed = allowed } in
+    let same : message_at (message_bytes m) m.options ≡ m = λ i. record { kind = b.kind_is i; transaction_id = b.id_is i; options = m.options } in
+    to_counted (message_bytes m) m.options o ∙ ap (λ (x : MessageValue). counted x) same
 
 -- ---- the IA_NA of a message without a fault
 

@@ -9,7 +9,7 @@ ghost use Rattle.v6_message.specs.declared.fault.RelayFault.{RelayFault};
 ghost use Rattle.v6_message.specs.declared.fault.MessageFault.{MessageFault};
 ghost use Rattle.v6_message.specs.Ia.{AddressValue, IaValue, IsAddressValue, IsIaValue, address_at, address_bytes, ia_bytes, ia_of};
 ghost use Rattle.v6_message.specs.Message.{MessageValue, HasAtMost, SpellsMessage, IsReadable, FailsMessage, message_bytes};
-ghost use Rattle.v6_message.specs.MessageReading.{message_of};
+ghost use Rattle.v6_message.specs.MessageReading.{counted, message_of};
 ghost use Rattle.v6_message.specs.declared.relay_header.TheConstants.{RELAY_FORWARD, RELAY_REPLY};
 ghost use Rattle.v6_message.specs.Relay.{RelayValue, SpellsRelay, FailsRelay, relay_bytes};
 ghost use Rattle.v6_message.specs.RelayReading.{relay_of};
@@ -48,10 +48,12 @@ pub fn exact_message_reading()
 {}
 
 /// A message that was written spells that message, if its options are allowed, with at most one IA_NA and
-/// at most 5 addresses in it. Within the limits for reading it reads back as the same message.
+/// at most 5 addresses in it. It reads back as the same message where its counts are within the limits for
+/// reading, and otherwise as the fault of a count (`counts`).
 pub fn written_message_is_read()
     ensures spelled { (m : MessageValue) → length m.transaction_id ≡ 3 → AreOptions m.options → AreAllowed Client m.options → count IA_NA m.options ≤ 1 → HasAtMost 5 m.options → SpellsMessage (message_bytes m) m }
     ensures read { (m : MessageValue) → length m.transaction_id ≡ 3 → AreOptions m.options → AreAllowed Client m.options → IsReadable m → message_of (message_bytes m) ≡ Ok m }
+    ensures counts { (m : MessageValue) → length m.transaction_id ≡ 3 → AreOptions m.options → AreAllowed Client m.options → message_of (message_bytes m) ≡ counted m }
 {}
 
 /// An IA_NA that was written is one, and reads back as the same; so does an address.

@@ -159,6 +159,15 @@ fault_set (y ∷ ws) faults zero x each at =
     (ap (λ b. if b then y.fault else faults x.region) (eq-eqb x.region y.region (ap (λ (z : Waiting). z.region) (sym same))) ∙ ap (λ (z : Waiting). z.fault) same)
 fault_set (y ∷ ws) faults (suc j) x each at = fault_set ws _ j x (λ i z at. each (suc i) z at) at
 
+-- the region of each is one of theirs
+pub in_regions : (ws : List Waiting) (j : ℕ) (x : Waiting) → slice_get ws j ≡ Some x → is_in (regions_of ws) x.region ≡ true
+in_regions [] j x at = absurd cc
+in_regions (y ∷ ws) zero x at = ap (λ b. b || is_in (regions_of ws) x.region) (eq-eqb y.region x.region (ap (λ (z : Waiting). z.region) (same_Some y x at)))
+in_regions (y ∷ ws) (suc j) x at = by (y.region == x.region) (in_regions ws j x at) where
+  by : (b : Bool) → is_in (regions_of ws) x.region ≡ true → (b || is_in (regions_of ws) x.region) ≡ true
+  by true there = refl
+  by false there = there
+
 no_region : (ws : List Waiting) (r : ℕ) → ((j : ℕ) (y : Waiting) → slice_get ws j ≡ Some y → y.region ≡ r → ⊥) → is_in (regions_of ws) r ≡ false
 no_region [] r none = refl
 no_region (x ∷ ws) r none = λ i. ne_eqb x.region r (none 0 x refl) i || no_region ws r (λ j y at. none (suc j) y at) i

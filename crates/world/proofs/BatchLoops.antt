@@ -33,13 +33,6 @@ each_added P [] (Some y) all one (suc j) x at = absurd cc
 each_added P (y ∷ xs) more all one zero x at = all zero x at
 each_added P (y ∷ xs) more all one (suc j) x at = each_added P xs more (λ j x at. all (suc j) x at) one j x at
 
-pub one_more : {X : Type 0} (P : X → Type 0) (xs : List X) (n : ℕ) (d : X) → P (get_or xs n d) → ((i : ℕ) (x : X) → slice_get xs i ≡ Some x → i < n → P x)
-    → (i : ℕ) (x : X) → slice_get xs i ≡ Some x → i < n + 1 → P x
-one_more P xs n d own before i x there less = by (eqb n i) refl where
-  by : (b : Bool) → eqb n i ≡ b → P x
-  by true same = subst P (ap (λ k. get_or xs k d) (eqb-true n i same) ∙ get_or_from_slice_get xs i x d there) own
-  by false other = before i x there (not_last n i less (eqb-false n i other))
-
 pub done_set : {X Y : Type 0} (f : X → Y) (xs : List X) (ys : List Y) (n : ℕ) (d : X) → n < length ys
     → ((i : ℕ) (x : X) → slice_get xs i ≡ Some x → i < n → slice_get ys i ≡ Some (f x))
     → (i : ℕ) (x : X) → slice_get xs i ≡ Some x → i < n + 1 → slice_get (set ys n (f (get_or xs n d))) i ≡ Some (f x)

@@ -1,6 +1,7 @@
 -- What the server makes of the parts of a batch that wait, over the device as their faults were set.
-use Rattle.std.proofs.Common.{◌≡◌, ℕ, Bool, true, false, List, [], ◌∷◌, length, refl, sym, ap, subst, ◌∙◌}
-use Rattle.std.specs.Prelude.{◌==◌, ◌&&◌, if◌then◌else◌, not, Result}
+use Rattle.std.proofs.Common.{◌≡◌, ℕ, Bool, true, false, List, [], ◌∷◌, length, refl, sym, ap, subst, ◌∙◌, eq-eqb}
+use Rattle.std.specs.Prelude.{◌==◌, ◌&&◌, ◌||◌, if◌then◌else◌, not, Result}
+use Rattle.std.proofs.lemmas.Bool.{eqb-true}
 use Rattle.types.specs.Delivery.{DeliveryValue}
 use Rattle.types.specs.declared.discard.Discard.{Discard}
 use Rattle.lease_disk.specs.Device.{is_in}
@@ -24,6 +25,7 @@ none_served now [] net server disk ready none = record {
   ready = ready;
   region = λ r out_of. refl;
   fuse = λ r out_of beside. refl;
+  cleared = λ r there. absurd cc;
 }
 none_served now (w ∷ ws) net server disk ready none = absurd cc
 
@@ -35,6 +37,24 @@ faults_beside fails (w ∷ ws) faults r beside =
     let apart = neither (w.region == r) (is_in (regions_of ws) r) beside in
     let other = apart_back w.region r apart.0 in
     faults_beside fails ws _ r apart.1 ∙ ap (λ b. if b then (if fails then w.fault else 0) else faults r) other
+
+-- put out: of a region that is out already, and of one of these
+out_stays : (ws : List Waiting) (faults : ℕ → ℕ) (r : ℕ) → faults r ≡ 0 → faults_after false ws faults r ≡ 0
+out_stays [] faults r out = out
+out_stays (w ∷ ws) faults r out = out_stays ws (λ q. if q == w.region then 0 else faults q) r (by (r == w.region)) where
+  by : (b : Bool) → (if b then 0 else faults r) ≡ 0
+  by true = refl
+  by false = out
+
+faults_out : (ws : List Waiting) (faults : ℕ → ℕ) (r : ℕ) → is_in (regions_of ws) r ≡ true → faults_after false ws faults r ≡ 0
+faults_out [] faults r there = absurd cc
+faults_out (w ∷ ws) faults r there = by (w.region == r) refl (faults_out ws later r) there where
+  later : ℕ → ℕ
+  later q = if q == w.region then 0 else faults q
+
+  by : (b : Bool) → (w.region == r) ≡ b → (is_in (regions_of ws) r ≡ true → faults_after false ws later r ≡ 0) → (b || is_in (regions_of ws) r) ≡ true → faults_after false ws later r ≡ 0
+  by true same rest there = out_stays ws later r (ap (λ b. if b then 0 else faults r) (eq-eqb r w.region (sym (eqb-true w.region r same))))
+  by false other rest there = rest there
 
 -- ---- the server's call, with the faults set before and put out after
 
@@ -70,4 +90,5 @@ module _ (now : ℕ) (ws : List Waiting) (net : NetValue) (server new : ServerVa
         fuse = λ r out_of beside.
             ap (λ faults. faults r) out_faults ∙ faults_beside false ws (fuse_of after) r beside ∙ there.frame.touches.fuse refl r out_of
             ∙ ap (λ faults. faults r) set_faults ∙ faults_beside true ws (fuse_of disk) r beside;
+        cleared = λ r there. ap (λ faults. faults r) out_faults ∙ faults_out ws (fuse_of after) r there;
       }

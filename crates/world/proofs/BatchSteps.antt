@@ -15,7 +15,7 @@ use Rattle.circuit_server.specs.Answered.{IsAnswer}
 use Rattle.circuit_server.specs.Leases.{Leases, after_datagram}
 use Rattle.circuit_server.specs.Server.{Book, served}
 use Rattle.dispatch.specs.Regions.{KeepsOthers}
-use Rattle.lease_disk.specs.Model.{device_of}
+use Rattle.lease_disk.specs.Model.{device_of, fuse_of}
 use Rattle.lossy_net.specs.Net.{Datagram, datagrams}
 use Rattle.lossy_net.specs.declared.dir.Dir.TheVariants as dir
 use Rattle.relay.specs.Relays.{for_circuit, relayed_down, relayed_down_in}
@@ -27,12 +27,12 @@ use Rattle.events.specs.declared.batch.PartOutcome.{PartOutcome}
 use Rattle.events.specs.declared.event.Event.{Event}
 use Rattle.events.specs.declared.event.Event.TheVariants as event
 use Rattle.events.specs.declared.outcome.Outcome.TheVariants as outcome
-use Rattle.world.specs.Batch.{AreServed, IsShort, answer_outcome, bytes_in, bytes_of, downs_after, outcome_for, waiting_of}
+use Rattle.world.specs.Batch.{AreServed, answer_outcome, bytes_in, bytes_of, downs_after, outcome_for, waiting_of}
 use Rattle.world.specs.Headline.{CircuitState, Steps, of_part}
-use Rattle.world.specs.StepsAs.{Each, IsDue, IsFor, IsWorld, Returns, StepsAs, under}
+use Rattle.world.specs.StepsAs.{Each, IsFor, IsWorld, Returns, StepsAs, under}
 use Rattle.world.specs.World.{WorldValue, each_state, state_of, states}
 use Rattle.world.specs.declared.world.batch.Waiting.{Waiting}
-use Rattle.world.proofs.BatchLemmas.{IsServedPart, IsWaitingAt, as_alone, fuse_stays, leases_stay, no_circuit, not_waiting, seen_alike, of_its_part, region_stays, served_part, spare_stays, waits_at}
+use Rattle.world.proofs.BatchLemmas.{IsServedPart, IsWaitingAt, as_alone, fuse_stays, in_regions, leases_stay, no_circuit, not_waiting, seen_alike, of_its_part, region_stays, served_part, spare_stays, waits_at}
 use Rattle.world.proofs.BatchParts.{AreApart, from_part, gone_outcome, has_part, is_waiting, its_downs, its_outcome, its_place, no_part, none_waits, of_its_circuit, one_waits, truth, outcome_is, same_downs, unnamed_waits, waits_apart}
 use Rattle.world.proofs.BatchSaves.{MeetsEach}
 use Rattle.world.proofs.CircuitSteps.{Moved, steps_of}
@@ -77,7 +77,7 @@ RepliesCome = (topology : Topology) (relay c : ℕ) (part : CircuitPart) (d : De
     → ((d : ℕ) (other : CircuitPart) → slice_get topology.circuits d ≡ Some other → other.id ≡ part.id → d ≡ c)
     → slice_get topology.relays relay ≡ Some part.relay → IsPart part → AreBytes d.bytes
     → addressee topology (delivery d.proto part.relay d.moment d.bytes) ≡ Ok c → (served part d b).answer ≡ Ok bytes
-    → (d.proto ≡ V6 → IsDue topology bytes)
+    → (d.proto ≡ V6 → topology.listen4 ≢ topology.listen6)
     → relayed_down_in topology relay (listen topology d.proto) bytes ≡ for_circuit c (relayed_down part d.proto bytes)
 
 -- ---- what is known after the server's call, and after the answers were sent
@@ -93,7 +93,6 @@ pub record IsTakenBatch (w new : WorldValue) (sync now : ℕ) (ps : List BatchPa
   pub ups : (c : ℕ) → datagrams new.net c dir.Up ≡ datagrams w.net c dir.Up
   pub downs : (c : ℕ) → datagrams new.net c dir.Down ≡ downs_after w.net.quota (all_parts w is sync ps) answers c (datagrams w.net c dir.Down)
   pub outcomes_are : (i : ℕ) (p : BatchPart) → slice_get ps i ≡ Some p → slice_get outcomes i ≡ Some (Some (outcome_for p.circuit (all_parts w is sync ps) answers))
-  pub short : (i : ℕ) (p : BatchPart) → slice_get ps i ≡ Some p → IsShort (outcome_for p.circuit (all_parts w is sync ps) answers)
   pub bytes : (j : ℕ) (x : Waiting) → slice_get (all_parts w is sync ps) j ≡ Some x → AreBytes (bytes_of w.net x)
   pub law : MeetsEach
   pub comes : RepliesCome
@@ -159,16 +158,22 @@ module _ (w new : WorldValue) (sync now : ℕ) (ps : List BatchPart) (outcomes :
       abbrev after : CircuitState
       after = state_of new x.circuit a.the.part (after_datagram a.the.part e x.fault a.the.leases)
 
+      its_count : slice_index new.relays.discarded x.circuit ≡ slice_index w.relays.discarded x.circuit
+      its_count = ap (λ r. slice_index r.discarded x.circuit) b.relays
+
+      its_fuse : fuse_of new.disk a.the.part.region ≡ 0
+      its_fuse = subst (λ r. fuse_of new.disk r ≡ 0) a.region (b.served.cleared x.region (in_regions ws j x at))
+
       steps_by_answer : (r : Result (List ℕ) Discard) → its_answer a.the.part e x.fault a.the.leases.book ≡ r
           → StepsAs x.circuit (Up x.number now x.fault) (state_of w x.circuit a.the.part a.the.leases) after (of_part (Some (answer_outcome (Some r)))) out
       steps_by_answer (Ok bytes) is =
-          up_sent x.circuit w new a.the.part a.the.leases x.number now x.fault a.datagram (Ok tt) bytes a.kept (subst (λ r. IsAnswer r (Ok tt) bytes) (sym is) (refl, refl)) topology a.on b.quota (b.ups x.circuit)
+          up_sent x.circuit w new a.the.part a.the.leases x.number now x.fault a.datagram (Ok tt) bytes a.kept (subst (λ r. IsAnswer r (Ok tt) bytes) (sym is) (refl, refl)) topology a.on b.quota (b.ups x.circuit) its_count its_fuse
           (λ nothing. done.quiet w.net.quota (has w.relays.topology.plans 0 x.circuit) nothing) (length bytes) out refl
           (b.downs x.circuit ∙ its_downs w.net.quota ws b.answers j x (Ok bytes) (datagrams w.net x.circuit dir.Down) apart at (done.answer ∙ ap Some is)
           ∙ (λ i. take w.net.quota (record { proto = a.proto i; bytes = bytes } ∷ datagrams w.net x.circuit dir.Down))) refl empty
       steps_by_answer (Err why) is =
           subst (StepsAs x.circuit (Up x.number now x.fault) (state_of w x.circuit a.the.part a.the.leases) after (outcome.Dropped why)) (sym empty)
-          (up_dropped x.circuit w new a.the.part a.the.leases x.number now x.fault a.datagram (Err why) [] a.kept (subst (λ r. IsAnswer r (Err why) []) (sym is) (refl, refl)) topology a.on b.quota (b.ups x.circuit)
+          (up_dropped x.circuit w new a.the.part a.the.leases x.number now x.fault a.datagram (Err why) [] a.kept (subst (λ r. IsAnswer r (Err why) []) (sym is) (refl, refl)) topology a.on b.quota (b.ups x.circuit) its_count its_fuse
           (λ nothing. done.quiet w.net.quota (has w.relays.topology.plans 0 x.circuit) nothing) why refl
           (b.downs x.circuit ∙ its_downs w.net.quota ws b.answers j x (Err why) (datagrams w.net x.circuit dir.Down) apart at (done.answer ∙ ap Some is)))
 
@@ -295,18 +300,14 @@ module _ (w new : WorldValue) (sync now : ℕ) (ps : List BatchPart) (outcomes :
       let e = as_alone w b.is sync now ws all apart x a in
       let t = w.relays.topology in
       let same : a.the.part ≡ part = same_Some a.the.part part (sym a.the.there ∙ there) in
-      let done = served_part w b.is sync now ws all apart new b.answers b.law b.served j x at in
       let reply = reply_of a.the.part e (its_fails a.the.part e x.fault a.the.leases.book) a.the.leases.book bytes answer in
-      let from = from_part f keeps ps j x at in
-      let outcome = ap (λ n. outcome_for n ws b.answers) (sym (keeps from.part x from.waits)) ∙ its_outcome ws b.answers j x (Ok bytes) apart at (done.answer ∙ ap Some answer) in
-      let short : length bytes ≤ 1280 = subst IsShort outcome (b.short from.index from.part from.at) in
       let P : CircuitPart → Type 0 = λ own. slice_get t.relays relay ≡ Some own.relay → relayed_down_in (under t plans) relay (listen t a.datagram.proto) bytes ≡ for_circuit x.circuit (relayed_down own a.datagram.proto bytes) in
       let Q : Proto → Type 0 = λ proto. relayed_down_in (under t plans) relay (listen t proto) bytes ≡ for_circuit x.circuit (relayed_down part proto bytes) in
       subst Q (sym a.proto) (subst P same (λ its.
       b.comes (under t plans) relay x.circuit a.the.part e bytes reply.book a.the.there served (b.is.sound.ids x.circuit a.the.part a.the.there) its (is_part_at w b.is x.circuit a.the.part a.the.there)
       (subst AreBytes (ap bytes_in a.kept) (b.bytes j x at))
       (each_at (IsFor t x.circuit a.the.part) (datagrams w.net x.circuit dir.Up) x.number a.datagram (b.is.addressed x.circuit a.the.part a.the.there) a.kept plans now served)
-      reply.answer (λ six. record { apart = b.is.sound.listens_differ; short = short })) its)
+      reply.answer (λ six. b.is.sound.listens_differ)) its)
 
   its_returned : (j : ℕ) (x : Waiting) (at : slice_get ws j ≡ Some x) (part : CircuitPart) → slice_get w.relays.topology.circuits x.circuit ≡ Some part
       → Each (Returns w.relays.topology x.circuit part) (datagrams w.net x.circuit dir.Down) → Each (Returns w.relays.topology x.circuit part) (datagrams new.net x.circuit dir.Down)

@@ -6,7 +6,7 @@ use Rattle.std.proofs.lemmas.Bool.{eqb-true, ltb-false}
 use Rattle.std.proofs.lemmas.Option.{same_Some, slice_get_within}
 use Rattle.world.specs.Alone.{Setup, Alone, writes}
 use Rattle.events.specs.Seen.{Seen, Frame, Up, Down, Tick, Turn, is_on_after, is_restart, named_by, reload_of, seen_of, seen_part, turn_to}
-use Rattle.world.specs.Headline.{IsBatched, batch_of, outcome_at, CircuitState, Shows, Represents, frames_to, frame_of, IsOutcome, IsReloaded, Answers, after_seen, is_on_at, plans_at, region_at, seen_at, Steps, topology_after}
+use Rattle.world.specs.Headline.{IsBatched, MovesRest, batch_of, outcome_at, CircuitState, Shows, Represents, frames_to, frame_of, IsOutcome, IsReloaded, Answers, after_seen, is_on_at, plans_at, region_at, seen_at, Steps, topology_after}
 use Rattle.world.specs.StepsAs.{StepsAs, AllMove, AllTurn, MovesBy, on_by}
 use Rattle.config.specs.Topology.{Topology}
 use Rattle.events.specs.Stray.{is_stray}
@@ -115,6 +115,13 @@ module _ (c : ℕ) (before : CircuitState) (new : List CircuitState) (o : Outcom
       let same : t ≡ s = same_Some t s sees in
       ap (option_map (λ (state : CircuitState). state.region)) m.is ∙ ap Some (m.by.quiet setup a shown (ap (λ u. writes setup u a) same ∙ nothing))
 
+  moved_rest : (v : Option Seen) → Moved c v before new o out → (s : Seen) (after : CircuitState) → v ≡ Some s → slice_get new c ≡ Some after → MovesRest s before after
+  moved_rest None m s after sees is = absurd cc
+  moved_rest (Some t) m s after sees is =
+      let same : t ≡ s = same_Some t s sees in
+      let ends : m.after ≡ after = same_Some m.after after (sym m.is ∙ is) in
+      subst (λ u. MovesRest u before after) same (subst (λ q. MovesRest t before q) ends m.by.rest)
+
   moved_stays : (v : Option Seen) → Moved c v before new o out → v ≡ None → slice_get new c ≡ Some before
   moved_stays None m none = m.is ∙ ap Some m.by
   moved_stays (Some s) m none = absurd cc
@@ -205,6 +212,7 @@ module _ (e : Event) (old new : List CircuitState) (o : Outcome) (out : List ℕ
     quiet = λ c setup a s here seen nothing.
         moved_quiet c here.state new (outcome_at c e o) out (seen_at c old e) (moved c here.state here.there) setup a s here.shows seen nothing
         ∙ sym (ap (option_map (λ (state : CircuitState). state.region)) here.there);
+    rest = λ c s p q seen there is. moved_rest c p new (outcome_at c e o) out (seen_at c old e) (moved c p there) s q seen is;
     others = λ c blind. others c (slice_get old c) refl blind;
     away = rest.away;
     gone = rest.gone;

@@ -12,7 +12,6 @@ pub mod StartLemmas
 pub mod WorldLemmas
 pub mod ReloadLemmas
 pub mod ReturnLemmas
-pub mod ReturnLemmas6
 pub mod CircuitSteps
 pub mod StateLemmas
 pub mod StrayLemmas

@@ -17,7 +17,7 @@ use Rattle.lossy_net.specs.declared.dir.Dir.{Dir}
 use Rattle.lossy_net.specs.declared.dir.Dir.TheVariants as dir
 use Rattle.world.specs.Alone.{setup_of, Setup, Alone, Done, alone_step}
 use Rattle.world.specs.Alone as alone
-use Rattle.world.specs.Headline.{CircuitState}
+use Rattle.world.specs.Headline.{CircuitState, MovesRest}
 use Rattle.events.specs.Seen.{Turn, turn_to}
 use Rattle.world.specs.StepsAs.{AllTurn, MovesBy, turns_off, StepsAs, Each, IsFor, Returns, IsWorldOf, IsWorld}
 use Rattle.world.specs.World.{WorldValue, each_state, state_of, states}
@@ -75,6 +75,13 @@ module _ (w new : WorldValue) (plan : ℕ) (is : IsWorld w) (r : IsReloading w n
     its_server : serves new.server.topology c ≡ served_later c
     its_server = ap (λ v. serves v c) r.served ∙ ap (λ v. serves (reloaded plan v) c) is.served ∙ ap (λ there. has (in_force there) (in_force there).plan c) r.there
 
+  its_rest : (c : ℕ) (p : CircuitPart) (on : Bool) (l after : Leases) → MovesRest (Turn on) (state_of w c p l) (state_of new c p after)
+  its_rest c p on l after = record {
+    discarded = ap (λ (counts : List ℕ). slice_index counts c) r.discarded;
+    fuse = λ none. ap (λ d. disk.fuse_of d p.region) r.disk ∙ none;
+    region = tt;
+  }
+
   turn_off : (c : ℕ) (p : CircuitPart) (l : Leases) → serves t c ≡ true → served_later c ≡ false → StepsAs c (Turn false) (state_of w c p l) (state_of new c p (turned true false l)) outcome.Done out
   turn_off c p l on off =
       let was = state_of w c p l in
@@ -83,7 +90,7 @@ module _ (w new : WorldValue) (plan : ℕ) (is : IsWorld w) (r : IsReloading w n
       known_step was.setup (Turn false) a Done gone _ (turn_is was.setup a false) refl
       (shows_as gone was.setup (alone.turned false a) [] [] (setup_stays c p) (is_served_later c ∙ off)
       (r.queues c dir.Up ∙ (λ i. queue (on i) (off i) c dir.Up)) (r.queues c dir.Down ∙ (λ i. queue (on i) (off i) c dir.Down)) (holds_off l a (holds was was.setup a shown))))
-      (λ a shown nothing. ap (λ d. disk.state_of d p.region) r.disk) (plans_stay c) (is_served_later c ∙ off)
+      (λ a shown nothing. ap (λ d. disk.state_of d p.region) r.disk) (plans_stay c) (is_served_later c ∙ off) (its_rest c p false l (turned true false l))
 
   turn_on : (c : ℕ) (p : CircuitPart) (l : Leases) → serves t c ≡ false → served_later c ≡ true → StepsAs c (Turn true) (state_of w c p l) (state_of new c p (turned false true l)) outcome.Done out
   turn_on c p l off on =
@@ -93,7 +100,7 @@ module _ (w new : WorldValue) (plan : ℕ) (is : IsWorld w) (r : IsReloading w n
       known_step was.setup (Turn true) a Done back _ (turn_is was.setup a true) refl
       (shows_as back was.setup (alone.turned true a) a.up a.down (setup_stays c p) (is_served_later c ∙ on)
       (r.queues c dir.Up ∙ (λ i. queue (off i) (on i) c dir.Up) ∙ shown.up) (r.queues c dir.Down ∙ (λ i. queue (off i) (on i) c dir.Down) ∙ shown.down) (holds_on l a (holds was was.setup a shown))))
-      (λ a shown nothing. ap (λ d. disk.state_of d p.region) r.disk) (plans_stay c) (is_served_later c ∙ on)
+      (λ a shown nothing. ap (λ d. disk.state_of d p.region) r.disk) (plans_stay c) (is_served_later c ∙ on) (its_rest c p true l (turned false true l))
 
   stays : (c : ℕ) (p : CircuitPart) (l : Leases) (b : Bool) → serves t c ≡ b → served_later c ≡ b → (n : Leases) → n ≡ l → state_of new c p n ≡ state_of w c p l
   stays c p l b was now n same =

@@ -1,10 +1,11 @@
 -- What an event does to the state of its circuit, as the circuit's machine's step.
-use Rattle.std.proofs.Common.{[], ◌≡◌, ◌≢◌, ℕ, zero, suc, ◌<◌, ◌≤◌, Bool, true, false, eqb, ltb, List, ◌∷◌, length, map, take, set, refl, sym, ap, subst, ◌∙◌, arith}
-use Rattle.std.specs.Prelude.{All, ◌&&◌, if◌then◌else◌, Option, Some, None, Result, Ok, Err, option_map, slice_get, slice_index, slice_index_or}
+use Rattle.std.proofs.Common.{[], ◌≡◌, ◌≢◌, ℕ, zero, suc, ◌+◌, ◌<◌, ◌≤◌, Bool, true, false, eqb, ltb, List, ◌∷◌, length, map, take, set, refl, sym, ap, subst, subst₂, ◌∙◌, arith}
+use Rattle.std.specs.Prelude.{All, ◌&&◌, if◌then◌else◌, min, Option, Some, None, Result, Ok, Err, option_map, slice_get, slice_index, slice_index_or}
+use Rattle.std.specs.Result.{is_err}
 use Rattle.std.proofs.lemmas.Option.{slice_get-map, slice_get_within, get_or_from_slice_get, same_Some}
 use Rattle.std.proofs.lemmas.Bool.{eqb-true, eqb-false, ltb-false}
 use borrow.Author.Tests.{ltb-true}
-use Rattle.std.proofs.lemmas.List.{length-map, get_or-set_other}
+use Rattle.std.proofs.lemmas.List.{length-map, get_or-set_other, get_or-set_same}
 use Rattle.std.proofs.lemmas.List.Elements.{All-get_or}
 use Rattle.types.specs.declared.dest.Dest.{Dest}
 use Rattle.types.specs.declared.dest.Proto.{Proto}
@@ -13,7 +14,7 @@ use Rattle.config.specs.CircuitPart.{CircuitPart, IsPart}
 use Rattle.config.specs.Membership.{has}
 use Rattle.config.specs.Topology.{Topology, is_relay, serves}
 use Rattle.config.proofs.TopologyLemmas.{is_known}
-use Rattle.circuit_server.specs.Leases.{Leases, after_datagram, after_restart, after_tick, formats_of, found_leases, restarts_of}
+use Rattle.circuit_server.specs.Leases.{IsBroughtUp, Leases, counts_of, after_datagram, after_restart, after_tick, formats_of, found_leases, restarts_of}
 use Rattle.dispatch.specs.Regions.{HasRegions}
 use Rattle.circuit_server.specs.Answered.{IsAnswer}
 use Rattle.circuit_server.specs.Server.{book_at, served}
@@ -27,10 +28,10 @@ use Rattle.lossy_net.specs.Net.{Datagram, NetValue, datagrams}
 use Rattle.lossy_net.specs.declared.dir.Dir.{Dir}
 use Rattle.lossy_net.specs.declared.dir.Dir.TheVariants as dir
 use Rattle.relay.specs.SentFrame.{SentFrame}
-use Rattle.relay.specs.Relays.{CircuitFrame, for_circuit, one_more, relayed_up, relayed_down}
+use Rattle.relay.specs.Relays.{CircuitFrame, RelaysValue, for_circuit, one_more, relayed_up, relayed_down}
 use Rattle.world.specs.Alone.{if_on, setup_of, Setup, Alone, Effect, Step, Dropped, Gone, SentUp, SentDown, Framed, Done, alone_step, frame_step, up_step, answer_step, down_step, reply_step, delivery_of, book_writes, up_writes, writes}
 use Rattle.world.specs.Alone as alone
-use Rattle.world.specs.Headline.{CircuitState, IsOutcome, Shows, is_on_at, plans_at}
+use Rattle.world.specs.Headline.{CircuitState, IsOutcome, MovesRest, Shows, is_on_at, plans_at}
 use Rattle.events.specs.declared.comeback.Comeback.{Comeback}
 use Rattle.events.specs.Seen.{Seen, Frame, Up, Down, Tick, Restart}
 use Rattle.world.specs.StepsAs.{on_by, StepsAs, Each, IsFor, Returns, IsWorldOf, IsWorld, AllMove}
@@ -73,8 +74,8 @@ known_step setup s a effect q step is effect_is shows =
 
 pub steps_by : (k : ℕ) (s : Seen) (p q : CircuitState) (o : Outcome) (out : List ℕ) (effect : Effect) → IsOutcome k effect o out
     → ((a : Alone) → Shows p p.setup a → MachineSteps p.setup s a effect q)
-    → ((a : Alone) → Shows p p.setup a → writes p.setup s a ≡ false → q.region ≡ p.region) → q.plans ≡ p.plans → q.on ≡ on_by s p.on → StepsAs k s p q o out
-steps_by k s p q o out effect outcome each quiet plans turns = record {
+    → ((a : Alone) → Shows p p.setup a → writes p.setup s a ≡ false → q.region ≡ p.region) → q.plans ≡ p.plans → q.on ≡ on_by s p.on → MovesRest s p q → StepsAs k s p q o out
+steps_by k s p q o out effect outcome each quiet plans turns rest = record {
   effect = effect;
   outcome = outcome;
   effect_is = λ setup a shown. (full setup a shown).effect_is;
@@ -82,6 +83,7 @@ steps_by k s p q o out effect outcome each quiet plans turns = record {
   quiet = λ setup a shown nothing. quietly setup a shown nothing;
   plans = plans;
   turns = turns;
+  rest = rest;
 }
   where
     full : (setup : Setup) (a : Alone) → Shows p setup a → MachineSteps setup s a effect q
@@ -121,28 +123,41 @@ pub frame_sent : (k : ℕ) (w new : WorldValue) (p : CircuitPart) (l : Leases) (
     → relayed_up p proto frame ≡ Ok bytes → new.disk ≡ w.disk → new.net.quota ≡ w.net.quota
     → datagrams new.net k dir.Up ≡ take w.net.quota (record { proto = proto; bytes = bytes } ∷ datagrams w.net k dir.Up)
     → datagrams new.net k dir.Down ≡ datagrams w.net k dir.Down → len ≡ length bytes → out ≡ []
+    → slice_index new.relays.discarded k ≡ slice_index w.relays.discarded k
     → StepsAs k (Frame proto frame) (state_of w k p l) (state_of new k p l) (outcome.SentUp len) out
-frame_sent k w new p l proto frame bytes len out topology on sent same quota kept others size empty =
+frame_sent k w new p l proto frame bytes len out topology on sent same quota kept others size empty counts =
     let was = state_of w k p l in
     let is = state_of new k p l in
     let newest : List Datagram → List Datagram = λ ds. take w.net.quota (record { proto = proto; bytes = bytes } ∷ ds) in
+    let rest : MovesRest (Frame proto frame) was is = record {
+      discarded = counts ∙ sym (λ i. if on i && is_err (sent i) then min 4294967295 (was.discarded + 1) else was.discarded);
+      fuse = λ none. ap (λ d. disk.fuse_of d p.region) same ∙ none;
+      region = tt;
+    } in
     steps_by k (Frame proto frame) was is (outcome.SentUp len) out (SentUp len) (refl, empty) (λ a shown.
     known_step was.setup (Frame proto frame) a (SentUp len) is _ (frame_is was.setup a proto frame (Ok bytes) (sym shown.on ∙ on) sent) (ap SentUp (sym size))
     (shows_as is was.setup a (newest a.up) a.down (same_setup k w new p topology quota) (same_on k w new p topology ∙ shown.on) (kept ∙ ap newest shown.up) (others ∙ shown.down) (holds was was.setup a shown)))
-    (λ a shown nothing. ap (λ d. disk.state_of d p.region) same) (same_plans k w new p topology) (same_on k w new p topology)
+    (λ a shown nothing. ap (λ d. disk.state_of d p.region) same) (same_plans k w new p topology) (same_on k w new p topology) rest
 
 pub frame_dropped : (k : ℕ) (w new : WorldValue) (p : CircuitPart) (l : Leases) (proto : Proto) (frame : List ℕ) (why : Discard) (out : List ℕ)
     → new.relays.topology ≡ w.relays.topology → serves w.relays.topology k ≡ true
     → relayed_up p proto frame ≡ Err why → new.disk ≡ w.disk → new.net ≡ w.net → out ≡ []
+    → k < length w.relays.discarded → new.relays.discarded ≡ one_more k w.relays.discarded
     → StepsAs k (Frame proto frame) (state_of w k p l) (state_of new k p l) (outcome.Dropped why) out
-frame_dropped k w new p l proto frame why out topology on dropped same net empty =
+frame_dropped k w new p l proto frame why out topology on dropped same net empty within counts =
     let was = state_of w k p l in
     let is = state_of new k p l in
+    let one = ap (λ ds. slice_index ds k) counts ∙ get_or-set_same w.relays.discarded k (min 4294967295 (was.discarded + 1)) 0 within in
+    let rest : MovesRest (Frame proto frame) was is = record {
+      discarded = one ∙ sym (λ i. if on i && is_err (dropped i) then min 4294967295 (was.discarded + 1) else was.discarded);
+      fuse = λ none. ap (λ d. disk.fuse_of d p.region) same ∙ none;
+      region = tt;
+    } in
     steps_by k (Frame proto frame) was is (outcome.Dropped why) out (Dropped why) (refl, empty) (λ a shown.
     known_step was.setup (Frame proto frame) a (Dropped why) is _ (frame_is was.setup a proto frame (Err why) (sym shown.on ∙ on) dropped) refl
     (shows_as is was.setup a a.up a.down (same_setup k w new p topology (ap (λ (n : NetValue). n.quota) net)) (same_on k w new p topology ∙ shown.on) (ap (λ n. datagrams n k dir.Up) net ∙ shown.up)
     (ap (λ n. datagrams n k dir.Down) net ∙ shown.down) (holds was was.setup a shown)))
-    (λ a shown nothing. ap (λ d. disk.state_of d p.region) same) (same_plans k w new p topology) (same_on k w new p topology)
+    (λ a shown nothing. ap (λ d. disk.state_of d p.region) same) (same_plans k w new p topology) (same_on k w new p topology) rest
 
 -- ---- while a circuit is off
 
@@ -150,24 +165,27 @@ module _ (k : ℕ) (w : WorldValue) (p : CircuitPart) (l : Leases) (out : List �
   off_is : (a : Alone) (step : Step) → a.on ≡ false → if_on a step ≡ record { effect = Gone; next = a }
   off_is a step off = ap (λ b. if b then step else record { effect = Gone; next = a }) off
 
-  off_gone : (s : Seen) → on_by s false ≡ false → ((setup : Setup) (a : Alone) → a.on ≡ false → alone_step setup s a ≡ record { effect = Gone; next = a })
+  off_gone : (s : Seen) → on_by s false ≡ false → MovesRest s (state_of w k p l) (state_of w k p l) → ((setup : Setup) (a : Alone) → a.on ≡ false → alone_step setup s a ≡ record { effect = Gone; next = a })
       → StepsAs k s (state_of w k p l) (state_of w k p l) outcome.Gone out
-  off_gone s keeps gone =
+  off_gone s keeps rest gone =
       let was = state_of w k p l in
       steps_by k s was was outcome.Gone out Gone (refl, empty) (λ a shown. known_step was.setup s a Gone was _ (gone was.setup a (sym shown.on ∙ off)) refl shown)
-      (λ a shown nothing. refl) refl (off ∙ sym keeps ∙ ap (on_by s) (sym off))
+      (λ a shown nothing. refl) refl (off ∙ sym keeps ∙ ap (on_by s) (sym off)) rest
 
   pub frame_off : (proto : Proto) (frame : List ℕ) → StepsAs k (Frame proto frame) (state_of w k p l) (state_of w k p l) outcome.Gone out
   unfolding alone_step
-  frame_off proto frame = off_gone (Frame proto frame) refl (λ setup a off. off_is a _ off)
+  frame_off proto frame =
+      let was = state_of w k p l in
+      let uncounted = sym (λ i. if off i && is_err (relayed_up p proto frame) then min 4294967295 (was.discarded + 1) else was.discarded) in
+      off_gone (Frame proto frame) refl (record { discarded = uncounted; fuse = λ none. none; region = tt }) (λ setup a off. off_is a _ off)
 
   pub up_off : (j now fault : ℕ) → StepsAs k (Up j now fault) (state_of w k p l) (state_of w k p l) outcome.Gone out
   unfolding alone_step
-  up_off j now fault = off_gone (Up j now fault) refl (λ setup a off. off_is a _ off)
+  up_off j now fault = off_gone (Up j now fault) refl (record { discarded = refl; fuse = λ none. none; region = tt }) (λ setup a off. off_is a _ off)
 
   pub down_off : (j : ℕ) → StepsAs k (Down j) (state_of w k p l) (state_of w k p l) outcome.Gone out
   unfolding alone_step
-  down_off j = off_gone (Down j) refl (λ setup a off. off_is a _ off)
+  down_off j = off_gone (Down j) refl (record { discarded = refl; fuse = λ none. none; region = tt }) (λ setup a off. off_is a _ off)
 
 -- ---- a datagram at the server
 
@@ -181,7 +199,7 @@ up_gone k w p l j now fault out on none empty =
     let was = state_of w k p l in
     steps_by k (Up j now fault) was was outcome.Gone out Gone (refl, empty) (λ a shown.
     known_step was.setup (Up j now fault) a Gone was _ (up_is was.setup a j now fault None (sym shown.on ∙ on) (ap (λ ds. slice_get ds j) (sym shown.up) ∙ none)) refl shown)
-    (λ a shown nothing. refl) refl refl
+    (λ a shown nothing. refl) refl refl (record { discarded = refl; fuse = λ none. none; region = tt })
 
 pub is_reply : (r : Result (List ℕ) Discard) (out : List ℕ) → IsAnswer r (Ok tt) out → r ≡ Ok out
 is_reply (Ok bytes) out h = ap Ok (sym h.1)
@@ -195,6 +213,7 @@ module _ (k : ℕ) (w new : WorldValue) (p : CircuitPart) (l : Leases) (j now fa
     (there : slice_get (datagrams w.net k dir.Up) j ≡ Some d) (answer : IsAnswer (its_answer p (delivery_of p now d) fault l.book) result reply)
     (topology : new.relays.topology ≡ w.relays.topology) (on : serves w.relays.topology k ≡ true)
     (quota : new.net.quota ≡ w.net.quota) (ups : datagrams new.net k dir.Up ≡ datagrams w.net k dir.Up)
+    (counts : slice_index new.relays.discarded k ≡ slice_index w.relays.discarded k) (cleared : disk.fuse_of new.disk p.region ≡ 0)
     (stays : book_writes (setup_of w.net.quota p (has w.relays.topology.plans 0 k)) now d l.book ≡ false → disk.state_of new.disk p.region ≡ disk.state_of w.disk p.region) where
   abbrev was : CircuitState
   was = state_of w k p l
@@ -225,6 +244,9 @@ module _ (k : ℕ) (w new : WorldValue) (p : CircuitPart) (l : Leases) (j now fa
   its_on : (a : Alone) → Shows was was.setup a → is.on ≡ (next a).on
   its_on a shown = same_on k w new p topology ∙ shown.on ∙ sym (on_stays p (delivery_of p now d) fault a a.book)
 
+  its_rest : MovesRest (Up j now fault) was is
+  its_rest = record { discarded = counts; fuse = λ none. cleared; region = tt }
+
   pub reply_is : result ≡ Ok tt → its_answer p (delivery_of p now d) fault l.book ≡ Ok reply
   reply_is ok =
       let P : Result (Unit {0}) Discard → Type 0 = λ r. IsAnswer (its_answer p (delivery_of p now d) fault l.book) r reply in
@@ -239,7 +261,7 @@ module _ (k : ℕ) (w new : WorldValue) (p : CircuitPart) (l : Leases) (j now fa
       known_step was.setup (Up j now fault) a (SentDown len) is _ (its_step (Ok reply) (reply_is ok) a shown) (ap SentDown (sym size))
       (shows_as is was.setup (next a) (next a).up (newest (next a).down) (same_setup k w new p topology quota) (its_on a shown) (its_ups a shown)
       (kept ∙ ap newest (shown.down ∙ sym (down_stays p (delivery_of p now d) fault a a.book))) (its_leases a shown)))
-      its_region (same_plans k w new p topology) (same_on k w new p topology)
+      its_region (same_plans k w new p topology) (same_on k w new p topology) its_rest
 
   pub up_dropped : (why : Discard) → result ≡ Err why → datagrams new.net k dir.Down ≡ datagrams w.net k dir.Down
       → StepsAs k (Up j now fault) was is (outcome.Dropped why) reply
@@ -250,7 +272,7 @@ module _ (k : ℕ) (w new : WorldValue) (p : CircuitPart) (l : Leases) (j now fa
       known_step was.setup (Up j now fault) a (Dropped why) is _ (its_step (Err why) dropped.0 a shown) refl
       (shows_as is was.setup (next a) (next a).up (next a).down (same_setup k w new p topology quota) (its_on a shown) (its_ups a shown)
       (downs ∙ shown.down ∙ sym (down_stays p (delivery_of p now d) fault a a.book)) (its_leases a shown)))
-      its_region (same_plans k w new p topology) (same_on k w new p topology)
+      its_region (same_plans k w new p topology) (same_on k w new p topology) its_rest
 
 -- ---- a datagram at the relay
 
@@ -264,7 +286,7 @@ down_gone k w p l j out on none empty =
     let was = state_of w k p l in
     steps_by k (Down j) was was outcome.Gone out Gone (refl, empty) (λ a shown.
     known_step was.setup (Down j) a Gone was _ (down_is was.setup a j None (sym shown.on ∙ on) (ap (λ ds. slice_get ds j) (sym shown.down) ∙ none)) refl shown)
-    (λ a shown nothing. refl) refl refl
+    (λ a shown nothing. refl) refl refl (record { discarded = refl; fuse = λ none. none; region = tt })
 
 for_ok : (k : ℕ) (r : Result SentFrame Discard) (sent : CircuitFrame) → for_circuit k r ≡ Ok sent → (sent.circuit ≡ k) × (r ≡ Ok sent.frame)
 for_ok k (Ok frame) sent h =
@@ -286,7 +308,7 @@ module _ (k : ℕ) (w : WorldValue) (p : CircuitPart) (l : Leases) (j : ℕ) (d 
       steps_by k (Down j) was was (outcome.Framed found dest) out (Framed sent) (ap (λ c. outcome.Framed c dest) frame.0, refl) (λ a shown.
       known_step was.setup (Down j) a (Framed sent) was _
       (down_is was.setup a j (Some d) (sym shown.on ∙ on) (ap (λ ds. slice_get ds j) (sym shown.down) ∙ there) ∙ ap (reply_step a) frame.1) refl shown)
-      (λ a shown nothing. refl) refl refl
+      (λ a shown nothing. refl) refl refl (record { discarded = refl; fuse = λ none. none; region = tt })
 
   pub down_dropped : (why : Discard) (out : List ℕ) → for_circuit k (relayed_down p d.proto d.bytes) ≡ Err why → out ≡ []
       → StepsAs k (Down j) (state_of w k p l) (state_of w k p l) (outcome.Dropped why) out
@@ -296,7 +318,7 @@ module _ (k : ℕ) (w : WorldValue) (p : CircuitPart) (l : Leases) (j : ℕ) (d 
       steps_by k (Down j) was was (outcome.Dropped why) out (Dropped why) (refl, empty) (λ a shown.
       known_step was.setup (Down j) a (Dropped why) was _
       (down_is was.setup a j (Some d) (sym shown.on ∙ on) (ap (λ ds. slice_get ds j) (sym shown.down) ∙ there) ∙ ap (reply_step a) dropped) refl shown)
-      (λ a shown nothing. refl) refl refl
+      (λ a shown nothing. refl) refl refl (record { discarded = refl; fuse = λ none. none; region = tt })
 
 -- ---- a moment
 
@@ -304,9 +326,10 @@ tick_is : (setup : Setup) (a : Alone) (now : ℕ) → alone_step setup (Tick now
 unfolding alone_step
 tick_is setup a now = refl
 
-pub tick_done : (k : ℕ) (w new : WorldValue) (p : CircuitPart) (l : Leases) (now : ℕ) (out : List ℕ) → new.relays.topology ≡ w.relays.topology → new.disk ≡ w.disk → new.net ≡ w.net → out ≡ []
+pub tick_done : (k : ℕ) (w new : WorldValue) (p : CircuitPart) (l : Leases) (now : ℕ) (out : List ℕ) → new.relays ≡ w.relays → new.disk ≡ w.disk → new.net ≡ w.net → out ≡ []
     → StepsAs k (Tick now) (state_of w k p l) (state_of new k p (after_tick now l)) outcome.Done out
-tick_done k w new p l now out topology same net empty =
+tick_done k w new p l now out relays same net empty =
+    let topology = ap (λ (r : RelaysValue). r.topology) relays in
     let was = state_of w k p l in
     let is = state_of new k p (after_tick now l) in
     steps_by k (Tick now) was is outcome.Done out Done (refl, empty) (λ a shown.
@@ -314,6 +337,7 @@ tick_done k w new p l now out topology same net empty =
     (shows_as is was.setup (record a { book = option_map (book_at now) a.book }) a.up a.down (same_setup k w new p topology (ap (λ (n : NetValue). n.quota) net)) (same_on k w new p topology ∙ shown.on)
     (ap (λ n. datagrams n k dir.Up) net ∙ shown.up) (ap (λ n. datagrams n k dir.Down) net ∙ shown.down) (holds_tick now l a (holds was was.setup a shown))))
     (λ a shown nothing. ap (λ d. disk.state_of d p.region) same) (same_plans k w new p topology) (same_on k w new p topology)
+    (record { discarded = ap (λ (r : RelaysValue). slice_index r.discarded k) relays; fuse = λ none. ap (λ d. disk.fuse_of d p.region) same ∙ none; region = tt })
 
 -- ---- a restart
 
@@ -321,9 +345,11 @@ restart_is : (setup : Setup) (a : Alone) (comeback : Comeback) → alone_step se
 unfolding alone_step
 restart_is setup a comeback = refl
 
-pub restart_done : (k : ℕ) (w new : WorldValue) (p : CircuitPart) (l : Leases) (comeback : Comeback) (out : List ℕ) → new.relays.topology ≡ w.relays.topology → new.net ≡ w.net → out ≡ []
+pub restart_done : (k : ℕ) (w new : WorldValue) (p : CircuitPart) (l : Leases) (comeback : Comeback) (out : List ℕ) → new.relays ≡ w.relays → new.net ≡ w.net → out ≡ []
+    → disk.fuse_of new.disk p.region ≡ 0 → IsBroughtUp (counts_of p) comeback.move_fault (crashed comeback.image (disk.state_of w.disk p.region)) (disk.state_of new.disk p.region)
     → StepsAs k (Restart comeback) (state_of w k p l) (state_of new k p (after_restart comeback.image comeback.move_fault l)) outcome.Done out
-restart_done k w new p l comeback out topology net empty =
+restart_done k w new p l comeback out relays net empty cleared brought =
+    let topology = ap (λ (r : RelaysValue). r.topology) relays in
     let was = state_of w k p l in
     let fault = comeback.move_fault in
     let is = state_of new k p (after_restart comeback.image fault l) in
@@ -335,6 +361,7 @@ restart_done k w new p l comeback out topology net empty =
     (ap (λ n. datagrams n k dir.Up) net ∙ shown.up ∙ sym (restart_ups fault comeback.image a)) (ap (λ n. datagrams n k dir.Down) net ∙ shown.down ∙ sym (restart_downs fault comeback.image a))
     (holds_restart fault comeback.image l a (holds was was.setup a shown))))
     (λ a shown nothing. absurd cc) (same_plans k w new p topology) (same_on k w new p topology)
+    (record { discarded = ap (λ (r : RelaysValue). slice_index r.discarded k) relays; fuse = λ none. cleared; region = brought })
 
 -- ---- one circuit of a world
 
@@ -490,7 +517,7 @@ apart k c other same = eqb-false k c other (sym same)
 
 all_move : (w new : WorldValue) (s : ℕ → Seen) (after : ℕ → Leases → Leases) (out : List ℕ) → new.server.topology.circuits ≡ w.server.topology.circuits → length (leases_now new) ≡ length w.server.topology.circuits
     → ((c : ℕ) (part : CircuitPart) (l : Leases) → slice_get w.server.topology.circuits c ≡ Some part → slice_get (leases_now w) c ≡ Some l → slice_get (leases_now new) c ≡ Some (after c l))
-    → ((c : ℕ) (part : CircuitPart) (l : Leases) → StepsAs c (s c) (state_of w c part l) (state_of new c part (after c l)) outcome.Done out)
+    → ((c : ℕ) (part : CircuitPart) (l : Leases) → slice_get w.server.topology.circuits c ≡ Some part → StepsAs c (s c) (state_of w c part l) (state_of new c part (after c l)) outcome.Done out)
     → AllMove s (states w) (states new) outcome.Done out
 all_move w new s after out parts size now steps = record { count = count; each = λ c p at. each c p at } where
   with_parts : List CircuitPart → List CircuitState
@@ -509,24 +536,26 @@ all_move w new s after out parts size now steps = record { count = count; each =
         state_of new c is.part next,
         ap (λ ps. slice_get (each_state (state_of new) ps (leases_now new)) c) parts
             ∙ state_at (state_of new) w.server.topology.circuits (leases_now new) c is.part next is.there (now c is.part is.leases is.there is.its),
-        subst P (sym is.is) (steps c is.part is.leases),
+        subst P (sym is.is) (steps c is.part is.leases is.there),
       )
 
-pub all_tick : (w new : WorldValue) (now : ℕ) (out : List ℕ) → new.relays.topology ≡ w.relays.topology → new.disk ≡ w.disk → new.net ≡ w.net → out ≡ []
+pub all_tick : (w new : WorldValue) (now : ℕ) (out : List ℕ) → new.relays ≡ w.relays → new.disk ≡ w.disk → new.net ≡ w.net → out ≡ []
     → new.server.topology.circuits ≡ w.server.topology.circuits → leases_now new ≡ map (after_tick now) (leases_now w)
     → AllMove (λ c. Tick now) (states w) (states new) outcome.Done out
-all_tick w new now out topology same net empty parts leases =
+all_tick w new now out relays same net empty parts leases =
     all_move w new (λ c. Tick now) (λ c. after_tick now) out parts (ap length leases ∙ length-map (leases_now w) (after_tick now) ∙ whole w)
     (λ c part l there its. ap (λ ls. slice_get ls c) leases ∙ slice_get-map (after_tick now) (leases_now w) c ∙ ap (option_map (after_tick now)) its)
-    (λ c part l. tick_done c w new part l now out topology same net empty)
+    (λ c part l there. tick_done c w new part l now out relays same net empty)
 
 -- A restart, where each circuit's region comes back so.
-pub all_restart : (w new : WorldValue) (comebacks : ℕ → Comeback) (regions : ℕ → Region) (faults : ℕ → ℕ) (out : List ℕ) → new.relays.topology ≡ w.relays.topology → new.net ≡ w.net → out ≡ []
+pub all_restart : (w new : WorldValue) (comebacks : ℕ → Comeback) (regions : ℕ → Region) (faults : ℕ → ℕ) (out : List ℕ) → new.relays ≡ w.relays → new.net ≡ w.net → out ≡ []
     → new.server.topology.circuits ≡ w.server.topology.circuits → leases_now new ≡ map (found_leases regions faults) w.server.topology.circuits
     → ((c : ℕ) (part : CircuitPart) → slice_get w.server.topology.circuits c ≡ Some part → regions part.region ≡ crashed (comebacks c).image (disk.state_of w.disk part.region))
     → ((c : ℕ) (part : CircuitPart) → slice_get w.server.topology.circuits c ≡ Some part → faults part.region ≡ (comebacks c).move_fault)
+    → ((c : ℕ) (part : CircuitPart) → slice_get w.server.topology.circuits c ≡ Some part → disk.fuse_of new.disk part.region ≡ 0)
+    → All (λ (part : CircuitPart). IsBroughtUp (counts_of part) (faults part.region) (regions part.region) (disk.state_of new.disk part.region)) w.server.topology.circuits
     → AllMove (λ c. Restart (comebacks c)) (states w) (states new) outcome.Done out
-all_restart w new comebacks regions faults out topology net empty parts leases crash fails =
+all_restart w new comebacks regions faults out relays net empty parts leases crash fails cleared brought =
     all_move w new (λ c. Restart (comebacks c)) (λ c. after_restart (comebacks c).image (comebacks c).move_fault) out parts (ap length leases ∙ length-map w.server.topology.circuits (found_leases regions faults))
     (λ c part l there its.
     let found = found_crashed part (comebacks c).move_fault (comebacks c).image (disk.state_of w.disk) regions faults l.book (crash c part there) (fails c part there) in
@@ -535,4 +564,11 @@ all_restart w new comebacks regions faults out topology net empty parts leases c
     let formats = formats_at (disk.state_of w.disk) (circuits_in w.server) c part l at its in
     ap (λ ls. slice_get ls c) leases ∙ slice_get-map (found_leases regions faults) w.server.topology.circuits c ∙ ap (option_map (found_leases regions faults)) there
     ∙ ap Some (found ∙ ap (after_restart (comebacks c).image (comebacks c).move_fault) (λ i. record { book = l.book; restarts = sym restarts i; is_new = sym formats i })))
-    (λ c part l. restart_done c w new part l (comebacks c) out topology net empty)
+    (λ c part l there. restart_done c w new part l (comebacks c) out relays net empty (cleared c part there) (its_region c part there))
+  where
+    its_region : (c : ℕ) (part : CircuitPart) → slice_get w.server.topology.circuits c ≡ Some part
+        → IsBroughtUp (counts_of part) (comebacks c).move_fault (crashed (comebacks c).image (disk.state_of w.disk part.region)) (disk.state_of new.disk part.region)
+    its_region c part there =
+        let P : CircuitPart → Type 0 = λ p. IsBroughtUp (counts_of p) (faults p.region) (regions p.region) (disk.state_of new.disk p.region) in
+        let Q : ℕ → Region → Type 0 = λ fault region. IsBroughtUp (counts_of part) fault region (disk.state_of new.disk part.region) in
+        subst₂ Q (fails c part there) (crash c part there) (all_at P w.server.topology.circuits c part brought there)

@@ -1,6 +1,6 @@
 -- A batch in the world: which of its parts have a datagram for the server, what that makes of them, and what then comes of
 -- each part. Only proofs need these.
-use Rattle.std.specs.Prelude.{◌≡◌, ℕ, ◌≤◌, ◌==◌, ◌&&◌, not, Bool, true, false, List, [], ◌∷◌, map, Option, Some, None, Result, Ok, Err, slice_get, if◌then◌else◌, length}
+use Rattle.std.specs.Prelude.{◌≡◌, ℕ, ◌==◌, ◌&&◌, not, Bool, true, false, List, [], ◌∷◌, map, Option, Some, None, Result, Ok, Err, slice_get, if◌then◌else◌, length}
 use Rattle.types.specs.Delivery.{DeliveryValue, delivery}
 use Rattle.types.specs.declared.dest.Proto.{Proto}
 use Rattle.types.specs.declared.discard.Discard.{Discard}
@@ -74,6 +74,7 @@ pub record AreServed (now : ℕ) (ws : List Waiting) (net : NetValue) (old new :
   pub ready : AreReady (state_of later) new
   pub region : (r : ℕ) → is_in (all_saves net now ws old) r ≡ false → state_of later r ≡ state_of disk r
   pub fuse : (r : ℕ) → is_in (all_saves net now ws old) r ≡ false → is_in (regions_of ws) r ≡ false → fuse_of later r ≡ fuse_of disk r
+  pub cleared : (r : ℕ) → is_in (regions_of ws) r ≡ true → fuse_of later r ≡ 0
 
 -- ---- what then comes of each part
 
@@ -97,8 +98,3 @@ abbrev pub outcome_for : ℕ → List Waiting → List (Result (List ℕ) Discar
 outcome_for c [] answers = Gone
 outcome_for c (w ∷ ws) [] = Gone
 outcome_for c (w ∷ ws) (a ∷ answers) = if w.circuit == c then answer_outcome (Some a) else outcome_for c ws answers
-
--- a reply fits a datagram
-abbrev pub IsShort : PartOutcome → Type 0
-IsShort (SentDown len) = len ≤ 1280
-IsShort outcome = Unit {0}

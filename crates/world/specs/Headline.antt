@@ -1,21 +1,23 @@
 -- The words of the headline: when the state of a circuit in the world represents the circuit's machine,
 -- what a step and a run of the world do, and which frames leave towards a circuit.
-use Rattle.std.specs.Prelude.{⊤, ◌≡◌, ℕ, ◌+◌, ◌<◌, ◌≤◌, List, [], ◌∷◌, ◌++◌, length, take, slice_get, Bool, Option, Some, None, option_map, true, false, ◌==◌, if◌then◌else◌}
+use Rattle.std.specs.Prelude.{⊤, ◌≡◌, ℕ, ◌+◌, ◌<◌, ◌≤◌, min, List, [], ◌∷◌, ◌++◌, length, take, slice_get, Bool, Option, Some, None, option_map, true, false, ◌==◌, ◌&&◌, if◌then◌else◌}
 use Rattle.std.specs.List.{filter_map}
 use Rattle.std.specs.Option.{option_map_or}
+use Rattle.std.specs.Result.{is_err}
 use Rattle.config.specs.Topology.{Topology, reloaded}
-use Rattle.circuit_server.specs.Leases.{Leases}
+use Rattle.circuit_server.specs.Leases.{IsBroughtUp, Leases, counts_of}
 use Rattle.circuit_server.specs.Server.{Book}
+use Rattle.lease_disk.specs.Crash.{crashed}
 use Rattle.lease_disk.specs.Region.{Region}
 use Rattle.lossy_net.specs.Net.{Datagram}
 use Rattle.relay.specs.SentFrame.{SentFrame}
-use Rattle.relay.specs.Relays.{CircuitFrame}
+use Rattle.relay.specs.Relays.{CircuitFrame, relayed_up}
 use Rattle.events.specs.declared.event.Event.{Event}
 use Rattle.events.specs.declared.event.Event.TheVariants as event
 use Rattle.events.specs.declared.outcome.Outcome.{Outcome}
 use Rattle.events.specs.declared.outcome.Outcome.TheVariants as outcome
 use Rattle.world.specs.Alone.{Setup, Alone, Effect, Dropped, Gone, SentUp, SentDown, Framed, Done, alone_step, after_all, found, frames, is_new, writes}
-use Rattle.events.specs.Seen.{Seen, seen_of, seen_by, named_by, is_on_after, is_restart, reload_of}
+use Rattle.events.specs.Seen.{Seen, Frame, Restart, seen_of, seen_by, named_by, is_on_after, is_restart, reload_of}
 use Rattle.events.specs.Stray.{is_stray}
 use Rattle.events.specs.Batch.{is_batch, is_named, outcome_of}
 use Rattle.events.specs.declared.batch.BatchPart.{BatchPart}
@@ -108,6 +110,24 @@ abbrev pub after_seen : Setup → Option Seen → Alone → Alone
 after_seen setup None a = a
 after_seen setup (Some s) a = (alone_step setup s a).next
 
+-- whether the relay of a circuit in this state discards what it sees: a client's frame, while the circuit is on
+abbrev pub is_discarded : CircuitState → Seen → Bool
+is_discarded state (Frame proto frame) = state.on && is_err (relayed_up state.setup.part proto frame)
+is_discarded state seen = false
+
+-- A restart makes of a circuit's region its image, byte for byte; one that then is of format 1 and holds a book is moved.
+abbrev pub ComesBack : Seen → CircuitState → CircuitState → Type 0
+ComesBack (Restart comeback) old new = IsBroughtUp (counts_of old.setup.part) comeback.move_fault (crashed comeback.image old.region) new.region
+ComesBack seen old new = ⊤
+
+-- What becomes of the rest of a circuit's state, beside what a machine shows of it, with what the circuit sees.
+pub record MovesRest (seen : Seen) (old new : CircuitState) : Type 0 where
+  -- one more exactly where the relay discards the frame, up to the greatest 32-bit number
+  pub discarded : new.discarded ≡ (if is_discarded old seen then min 4294967295 (old.discarded + 1) else old.discarded)
+  -- no call of the device is left to fail, where none was
+  pub fuse : old.fuse ≡ 0 → new.fuse ≡ 0
+  pub region : ComesBack seen old new
+
 abbrev pub region_at : ℕ → List CircuitState → Option Region
 region_at c states = option_map (λ (state : CircuitState). state.region) (slice_get states c)
 
@@ -145,6 +165,8 @@ pub record Steps (e : Event) (old new : List CircuitState) (o : Outcome) (out : 
   pub answers : (c : ℕ) (setup : Setup) (a : Alone) → Represents c old setup a → Answers c setup (seen_at c old e) a (outcome_at c e o) out
   -- a circuit that sees an event that saves nothing keeps its region byte for byte
   pub quiet : (c : ℕ) (setup : Setup) (a : Alone) (s : Seen) → Represents c old setup a → seen_at c old e ≡ Some s → writes setup s a ≡ false → region_at c new ≡ region_at c old
+  -- its counter, its region's fault and what a restart leaves of its region are those of what it sees
+  pub rest : (c : ℕ) (s : Seen) (before after : CircuitState) → seen_at c old e ≡ Some s → slice_get old c ≡ Some before → slice_get new c ≡ Some after → MovesRest s before after
   -- what a circuit doesn't see leaves its state as it was
   pub others : (c : ℕ) → seen_at c old e ≡ None → slice_get new c ≡ slice_get old c
   -- and no frame leaves towards it

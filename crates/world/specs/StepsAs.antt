@@ -1,5 +1,5 @@
 -- What a world keeps from step to step. Only proofs need these.
-use Rattle.std.specs.Prelude.{◌≡◌, ◌≢◌, ℕ, ◌≤◌, ◌==◌, ◌&&◌, not, Bool, true, false, Option, List, [], ◌∷◌, length, slice_get, Some, None, Ok}
+use Rattle.std.specs.Prelude.{◌≡◌, ℕ, ◌==◌, ◌&&◌, not, Bool, true, false, Option, List, [], ◌∷◌, length, slice_get, Some, None, Ok}
 use Rattle.config.specs.CircuitPart.{CircuitPart}
 use Rattle.requests.specs.Addressee.{addressee}
 use Rattle.dispatch.specs.Regions.{HasRegions}
@@ -11,7 +11,7 @@ use Rattle.config.specs.Membership.{MembershipValue, has}
 use Rattle.config.specs.Topology.{IsTopology, Topology, listen, serves}
 use Rattle.relay.specs.Relays.{for_circuit, relayed_down, relayed_down_in}
 use Rattle.world.specs.Alone.{Alone, Effect, Setup, alone_step, delivery_of, writes}
-use Rattle.world.specs.Headline.{CircuitState, IsOutcome, Shows}
+use Rattle.world.specs.Headline.{CircuitState, IsOutcome, MovesRest, Shows}
 use Rattle.events.specs.Seen.{Seen, Frame, Up, Down, Tick, Restart, Turn, turn_to}
 use Rattle.world.specs.World.{WorldValue}
 use Rattle.events.specs.declared.outcome.Outcome.{Outcome}
@@ -35,6 +35,7 @@ pub record StepsAs (c : ℕ) (s : Seen) (old new : CircuitState) (o : Outcome) (
   pub quiet : (setup : Setup) (a : Alone) → Shows old setup a → writes setup s a ≡ false → new.region ≡ old.region
   pub plans : new.plans ≡ old.plans
   pub turns : new.on ≡ on_by s old.on
+  pub rest : MovesRest s old new
 
 -- Circuit k's state moves so, and every other one stays.
 pub record Moves (k : ℕ) (s : Seen) (old new : List CircuitState) (o : Outcome) (out : List ℕ) : Type 0 where
@@ -82,11 +83,6 @@ IsFor t k part d = (plans : MembershipValue) (now : ℕ) → serves (under t pla
 abbrev pub Returns : Topology → ℕ → CircuitPart → Datagram → Type 0
 Returns t k part d = (plans : MembershipValue) (relay : ℕ) → serves (under t plans) k ≡ true → slice_get t.relays relay ≡ Some part.relay
     → relayed_down_in (under t plans) relay (listen t d.proto) d.bytes ≡ for_circuit k (relayed_down part d.proto d.bytes)
-
--- a DHCPv6 reply that the relay can tell from DHCPv4's and that fits a datagram
-pub record IsDue (t : Topology) (bytes : List ℕ) : Type 0 where
-  pub apart : t.listen4 ≢ t.listen6
-  pub short : length bytes ≤ 1280
 
 -- Relay, network and server know the circuits of this topology, and what the network keeps of each is its
 -- own.

@@ -1,5 +1,5 @@
 //! A world: its relays, the network, the server and a disk.
-ghost use Rattle.std.specs.Prelude.{◌≡◌, ℕ, ◌+◌, ◌<◌, ◌≤◌, [], Some, length, nat_lt, if◌then◌else◌, slice_get, take, IfOk, IfErr, IfSome, OnOk};
+ghost use Rattle.std.specs.Prelude.{◌≡◌, ℕ, ◌+◌, ◌*◌, ◌<◌, ◌≤◌, [], Some, length, nat_lt, if◌then◌else◌, slice_get, take, IfOk, IfErr, IfSome, OnOk};
 ghost use Rattle.config.specs.CircuitPart.{CircuitPart, parts_of};
 ghost use Rattle.dispatch.specs.Regions.{AreBroughtUp, AreSynced, HasRegions, KeepsOthers};
 ghost use Rattle.dispatch.specs.declared.server.OpenFault.TheVariants as fault;
@@ -72,6 +72,14 @@ fn are_bytes(bytes: &[u8])
     ensures { AreBytes bytes.now }
 {}
 
+/// For its contract: each circuit has its counter.
+fn has_counter(relays: &Relays, circuit: Circuit)
+    requires { circuit < length relays.now.topology.circuits }
+    ensures { circuit < length relays.now.discarded }
+{
+    let _ = relays.discarded(circuit);
+}
+
 /// Each circuit's region becomes what its image says, and the call of the disk that fails in its move is set.
 fn crash_all(server: &Server, disk: &mut ModelDisk, comebacks: &[Comeback])
     requires few { length server.now.topology.circuits ≤ 1024 }
@@ -103,6 +111,8 @@ fn clear_faults(server: &Server, disk: &mut ModelDisk)
     ensures states { state_of disk.new ≡ state_of disk.old }
     ensures faults { (c : ℕ) (part : CircuitPart) → slice_get server.now.topology.circuits c ≡ Some part → fuse_of disk.new part.region ≡ 0 }
     ensures count { length disk.new.regions ≡ length disk.old.regions }
+    ensures reads { disk.new.reads ≡ disk.old.reads }
+    ensures writes { disk.new.writes ≡ disk.old.writes }
     ensures spares { KeepsOthers server.now.topology.circuits (device_of disk.old) (device_of disk.new) }
 {
     'circuits: for index in 0..server.circuit_count() {
@@ -147,6 +157,8 @@ impl World {
         ensures faults { IfOk result (λ world. (c : ℕ) (part : CircuitPart) → slice_get (parts_of config.now) c ≡ Some part → fuse_of world.disk part.region ≡ 0) }
         ensures small { IfErr result (λ why. why ≡ fault.DiskTooSmall → ¬ HasRegions (parts_of config.now) (length disk.regions)) }
         ensures large { IfOk result (λ world. HasRegions (parts_of config.now) (length disk.regions)) }
+        ensures reads { IfOk result (λ world. world.disk.reads ≤ disk.reads + 5 * length config.now.circuits) }
+        ensures writes { IfOk result (λ world. world.disk.writes ≤ disk.writes + 4 * length config.now.circuits) }
     {
         let Ok(relays) = Relays::new(alloc, config) else {
             return Err(OpenFault::Memory);
@@ -177,6 +189,8 @@ impl World {
         ensures faults { IfOk result (λ world. (c : ℕ) (part : CircuitPart) → slice_get (parts_of plans.now.union) c ≡ Some part → fuse_of world.disk part.region ≡ 0) }
         ensures small { IfErr result (λ why. why ≡ fault.DiskTooSmall → ¬ HasRegions (parts_of plans.now.union) (length disk.regions)) }
         ensures large { IfOk result (λ world. HasRegions (parts_of plans.now.union) (length disk.regions)) }
+        ensures reads { IfOk result (λ world. world.disk.reads ≤ disk.reads + 5 * length plans.now.union.circuits) }
+        ensures writes { IfOk result (λ world. world.disk.writes ≤ disk.writes + 4 * length plans.now.union.circuits) }
     {
         let Ok(relays) = Relays::new_plans(alloc, plans) else {
             return Err(OpenFault::Memory);
@@ -199,6 +213,8 @@ impl World {
         ensures server { result.server ≡ server }
         ensures states { state_of result.disk ≡ state_of disk }
         ensures count { length result.disk.regions ≡ length disk.regions }
+        ensures reads { result.disk.reads ≡ disk.reads }
+        ensures writes { result.disk.writes ≡ disk.writes }
         ensures faults { (c : ℕ) (part : CircuitPart) → slice_get server.topology.circuits c ≡ Some part → fuse_of result.disk part.region ≡ 0 }
         ensures spares { KeepsOthers server.topology.circuits (device_of disk) (device_of result.disk) }
     {
@@ -241,6 +257,7 @@ impl World {
         ensures disk { self.new.disk ≡ self.old.disk }
     {
         comes_to_its_circuit();
+        has_counter(&self.relays, circuit);
         if !self.relays.serves(circuit) {
             return gone(out);
         }

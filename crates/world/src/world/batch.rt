@@ -11,7 +11,7 @@ ghost use Rattle.lossy_net.specs.Net.{datagrams};
 ghost use Rattle.lossy_net.specs.declared.dir.Dir.TheVariants as dir;
 ghost use Rattle.wire.specs.Bytes.{AreBytes};
 ghost use Rattle.dispatch.specs.Answers.{answer_of};
-ghost use Rattle.world.specs.Batch.{AreServed, IsShort, answer_outcome, bytes_of, delivered, downs_after, faults_after, outcome_for, waiting_of, with_answer};
+ghost use Rattle.world.specs.Batch.{AreServed, answer_outcome, bytes_of, delivered, downs_after, faults_after, outcome_for, waiting_of, with_answer};
 ghost use Rattle.world.specs.Headline.{Steps};
 ghost use Rattle.world.specs.World.{states};
 
@@ -220,7 +220,6 @@ fn send_all(net: &mut Net, waiting: &[Waiting], answers: &BatchAnswers)
 /// What came of a part, by the answer to it.
 fn answer_outcome(answer: Option<&Answer>) -> PartOutcome
     ensures value { result ≡ answer_outcome (option_map (λ a. answer_of a.now) answer.entry) }
-    ensures short { IsShort result }
 {
     match answer {
         Some(Answer::Reply(reply)) => PartOutcome::SentDown(reply.len() as u16),
@@ -232,7 +231,6 @@ fn answer_outcome(answer: Option<&Answer>) -> PartOutcome
 /// What came of the part of a circuit.
 fn outcome_for(circuit: Circuit, waiting: &[Waiting], answers: &BatchAnswers) -> PartOutcome
     ensures value { result ≡ outcome_for circuit waiting.now answers.now }
-    ensures short { IsShort result }
 {
     'parts: for index in 0..waiting.len() {
         if waiting[index].circuit == circuit {
@@ -249,7 +247,6 @@ fn outcomes_of(
     answers: &BatchAnswers,
 ) -> [Option<PartOutcome>; MAX_BATCH]
     requires few { length parts.now ≤ 16 }
-    ensures short { (i : ℕ) (part : BatchPart) → slice_get parts.now i ≡ Some part → IsShort (outcome_for part.circuit waiting.now answers.now) }
     ensures value { (i : ℕ) (part : BatchPart) → slice_get parts.now i ≡ Some part → slice_get result i ≡ Some (Some (outcome_for part.circuit waiting.now answers.now)) }
 {
     let mut outcomes = [None; MAX_BATCH];

@@ -5,14 +5,14 @@ use Rattle.std.proofs.lemmas.Option.{slice_get_read}
 use Rattle.std.proofs.lemmas.List.Elements.{All-more}
 use Rattle.config.specs.CircuitPart.{CircuitPart, IsPart}
 use Rattle.lease_disk.specs.Region.{IsClean, Region}
-use Rattle.circuit_server.specs.Deadlines.{HasDeadlines}
+use Rattle.circuit_server.specs.Deadlines.{held_in}
 use Rattle.circuit_server.specs.Leases.{found_leases}
 use Rattle.circuit_server.specs.CircuitServerValue.{CircuitServerValue, HasItsPools}
 use Rattle.dispatch.specs.ServerValue.{with_states}
 use Rattle.dispatch.proofs.RestartLemmas.{all_leases, all_ready, all_regions, none_up, one_more_up}
 use Rattle.dispatch.proofs.ServerLemmas.{all_found}
 use Rattle.dispatch.proofs.WithStates.{parts_with, server, set_with, size_with}
-use Rattle.dispatch.proofs.HeldDeadlines.{all_held, holds_more}
+use Rattle.dispatch.proofs.HeldDeadlines.{all_held, all_set, none_set, set_more}
 use Rattle.dispatch.proofs.circuit_servers.restart_all.Goals as goal
 
 pub restart-requires-clause-exists : goal.restart-requires-clause-exists
@@ -53,7 +53,8 @@ circuits-init g c = record {
   writes = omega arith;
   buffer = c.requires.buffer;
   room = c.requires.room;
-  deadlines = search rules;
+  deadlines = none_set c.args.table.now c.args.servers.now;
+  looks = refl;
   size = refl;
 }
 
@@ -80,20 +81,29 @@ circuits-preserved g c =
       buffer = search rules;
       room = c.set_deadlines.ensures.beside.size ∙ loop.room;
       deadlines =
-          let own = subst (HasDeadlines c.set_deadlines.new.table (32 * i)) (get_or-set_same states i c.restart.new.self c.index-servers-index-in-circuits.result inside) c.set_deadlines.ensures.deadlines in
-          holds_more i c.circuits.table c.set_deadlines.new.table states c.restart.new.self inside loop.deadlines own c.set_deadlines.ensures.beside;
+          set_more i c.circuits.table c.set_deadlines.new.table states c.restart.new.self inside loop.deadlines
+          (λ s below. c.set_deadlines.ensures.own s below ∙ ap (λ state. held_in state s) (get_or-set_same states i c.restart.new.self c.index-servers-index-in-circuits.result inside)) c.set_deadlines.ensures.beside;
+      looks = c.set_deadlines.ensures.beside.looks ∙ loop.looks;
       size = length-set states i c.restart.new.self ∙ loop.size;
     }
 
 pub set_deadlines-requires-clause-room : goal.set_deadlines-requires-clause-room
 set_deadlines-requires-clause-room g c = omega (arith, c.circuits-test.true, c.circuits.invariant.room)
 
+pub returns-clause-anew : goal.returns-clause-anew
+returns-clause-anew g c =
+    let loop = c.circuits.invariant in
+    all_set c.circuits.table c.circuits.servers c.circuits.index (omega (arith, c.circuits-test.false, loop.size, c.requires.size)) loop.deadlines
+
+pub returns-clause-looks : goal.returns-clause-looks
+returns-clause-looks g c = c.circuits.invariant.looks
+
 pub returns-clause-deadlines : goal.returns-clause-deadlines
 returns-clause-deadlines g c =
     let loop = c.circuits.invariant in
     let sizes : length c.args.parts.now ≡ length c.circuits.servers = sym c.requires.size ∙ sym loop.size in
-    all_held c.circuits.table c.circuits.servers c.circuits.index (omega (arith, c.circuits-test.false, loop.size, c.requires.size))
-    (loop.room ∙ ap (λ n. 32 * n) sizes) loop.deadlines
+    all_held c.circuits.table c.circuits.servers (loop.room ∙ ap (λ n. 32 * n) sizes)
+    (all_set c.circuits.table c.circuits.servers c.circuits.index (omega (arith, c.circuits-test.false, loop.size, c.requires.size)) loop.deadlines)
 
 pub returns-clause-leases : goal.returns-clause-leases
 returns-clause-leases g c tells =

@@ -2,7 +2,7 @@ use Rattle.std.proofs.Common.{◌≡◌, ◌≤◌, ◌+◌, ◌*◌, true, take
 use Rattle.std.specs.Prelude.{All}
 use Rattle.circuit_server.specs.CircuitServerValue.{HasItsPools}
 use Rattle.dispatch.specs.ServerValue.{with_states}
-use Rattle.dispatch.proofs.HeldDeadlines.{HoldsFirst}
+use Rattle.dispatch.proofs.HeldDeadlines.{SetFirst}
 use Rattle.dispatch.proofs.RestartLemmas.{AreUp}
 use Rattle.dispatch.proofs.circuit_servers.restart_all.Given as goal
 
@@ -15,6 +15,7 @@ invariant-circuits g l = record {
   writes : (g.D.Disk.device l.disk).writes ≤ (g.D.Disk.device l.fn.disk).writes + 4 * l.index;
   buffer : length l.buffer ≡ 16384;
   room : length l.table.slots ≡ 32 * length l.parts;
-  deadlines : HoldsFirst l.index l.table l.servers;
+  deadlines : SetFirst l.index l.table l.servers;
+  looks : l.table.looks ≡ l.fn.table.looks;
   size : length l.servers ≡ length l.fn.servers;
 }

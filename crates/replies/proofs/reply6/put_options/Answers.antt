@@ -11,5 +11,5 @@ parts-append out client server status ia = rw (spelling-append status ia) (simp 
 
 pub returns-clause-bytes : goal.returns-clause-bytes
 returns-clause-bytes c =
-    simp (c.put_ia.ensures.bytes, c.put_status_of_all.ensures.bytes, c.put-2.ensures.bytes, c.put.ensures.bytes, c.as_slice.ensures.value, c.duid.ensures.value, c.duid-2.ensures, c.lease.ensures, c.iaid.ensures)
+    simp (c.put_ia.ensures.bytes, c.put_status_of_all.ensures.bytes, c.put-2.ensures.bytes, c.put.ensures.bytes, c.as_slice.ensures.value, c.duid.ensures.value, c.duid-2.ensures.value, c.lease.ensures, c.iaid.ensures)
     (parts-append c.args.out.now c.args.client.now.duid c.args.part.now.duid (status_options c.args.reply.now.status) (ia_options c.args.part.now.lease c.args.client.now.iaid c.args.reply.now.ia))

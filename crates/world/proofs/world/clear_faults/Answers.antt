@@ -32,6 +32,8 @@ circuits-preserved c =
     let cleared : (q : ℕ) (b : Bool) → (q == here.region) ≡ b → fuse_of c.circuits.disk q ≡ 0 → fuse_of new q ≡ 0 = λ q b e was. either new.fuses c.circuits.disk.fuses q here.region b e own (fuse q) was in
     record {
       count = c.fail_at.ensures.others.count ∙ loop.count;
+      reads = c.fail_at.ensures.others.reads ∙ loop.reads;
+      writes = c.fail_at.ensures.others.writes ∙ loop.writes;
       spares = record {
         region = λ r spare. ap (λ (regions : ℕ → Region). regions r) (same_states c.circuits.disk new c.region.result c.fail_at.ensures.state c.fail_at.ensures.others) ∙ loop.spares.region r spare;
         fuse = λ r spare. fuse r (spare_is_other parts n here there r spare) ∙ loop.spares.fuse r spare;

@@ -9,6 +9,8 @@ use Rattle.world.proofs.world.clear_faults.Given as goal
 abbrev pub invariant-circuits : goal.invariant-circuits
 invariant-circuits l = record {
   count : length l.disk.regions ≡ length l.fn.disk.regions;
+  reads : l.disk.reads ≡ l.fn.disk.reads;
+  writes : l.disk.writes ≡ l.fn.disk.writes;
   spares : KeepsOthers l.server.topology.circuits (device_of l.fn.disk) (device_of l.disk);
   states : state_of l.disk ≡ state_of l.fn.disk;
   faults : (c : ℕ) (part : CircuitPart) → slice_get l.server.topology.circuits c ≡ Some part → c < l.index → fuse_of l.disk part.region ≡ 0;

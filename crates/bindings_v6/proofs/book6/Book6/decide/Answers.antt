@@ -1,5 +1,5 @@
 use Rattle.bindings_v6.specs.Lookup6.{lookup_of}
-use Rattle.bindings_v6.proofs.RowLemmas.{decision_is, answer_is, keep_is, book_is, slot_is, slots_are}
+use Rattle.bindings_v6.proofs.RowLemmas.{decision_is, answer_is, keep_is, book_is, slot_is, slots_are, written_is}
 use Rattle.bindings_v6.proofs.LimitLemmas.{decided_in_time}
 use Rattle.bindings_v6.proofs.book6.Book6.decide.Goals as goal
 
@@ -60,3 +60,14 @@ returns-clause-kept c =
 
 pub returns-clause-few : goal.returns-clause-few
 returns-clause-few c = c.look_up-found.ensures.slots.limits.most
+
+pub returns-clause-size : goal.returns-clause-size
+returns-clause-size c = c.look_up-found.ensures.slots.size
+
+pub returns-clause-others : goal.returns-clause-others
+returns-clause-others c =
+    let v = c.args.self.now in
+    let m = c.args.request.now in
+    let are = c.look_up-found.ensures.slots in
+    let d = c.decision_for.result in
+    written_is v c.args.clock m are d (decision_is v c.args.clock m are c.pool.result (lookup_of c.look_up-found.result) d c.pool.ensures c.look_up-found.ensures.found c.decision_for.ensures)

@@ -38,7 +38,7 @@ returns-clause-deadlines c =
     let d = c.in-Ok.decision in
     let state : c.match-kept.self-inside.state ≡ Some c.commit.new.self = elim c.match-kept.branch [ in-Some-kept w ↦ ap (λ x. x.state) w.self-inside-is | in-None w ↦ ap (λ x. x.state) w.self-inside-is ] in
     let ticked = stays_at first table c.in-Some.circuit c.tick.new.self c.tick.ensures.four c.tick.ensures.six c.tick.ensures.later (subst (HasDeadlines table first) (sym c.self.view_is ∙ c.in-Some.is) c.requires.deadlines) in
-    let decided = after_decision d table first c.tick.new.self c.requires.room (slots_inside d c.tick.new.self c.in-Ok.ensures.keeps) ticked in
+    let decided = after_decision d table first c.tick.new.self c.requires.room c.in-Ok.ensures.keeps c.in-Ok.ensures.others ticked in
     subst (HasDeadlines c.set_deadlines.new.table first) (sym state)
     (subst (λ (t : DeadlinesValue). HasDeadlines t first (Some c.commit.new.self)) (sym c.set_deadlines.ensures) (subst (λ (o : OpenCircuitValue). HasDeadlines (with_deadlines d first table) first (Some o)) (sym c.commit.ensures) decided))
 

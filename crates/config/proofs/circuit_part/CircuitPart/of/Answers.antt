@@ -4,13 +4,15 @@ use Rattle.config.proofs.circuit_part.CircuitPart.of.Goals as goal
 
 pub invariant_of-result : goal.invariant_of-result
 invariant_of-result c =
-    is_part c.args.config.now c.args.circuit c.at-values.result.now c.copy.result c.relay-relay.result.now.source c.server-server.result.now.listen4 c.server-server.result.now.listen6 c.copy_of.result.items
+    is_part c.args.config.now c.args.circuit c.at-values.result.now c.copy.result c.relay-relay.result.now.source c.server-server.result.now c.copy_of.result.items
     c.at-values.ensures.value c.copy.ensures c.at-values.ensures.limits c.at-values.ensures.sound c.is_unspecified.ensures.size c.has_sixteen_bytes.ensures
+    (ap (λ x. x.items) c.copy_of.ensures) c.server-server.ensures.limits
 
 pub returns-clause-sound : goal.returns-clause-sound
 returns-clause-sound c =
-    is_part c.args.config.now c.args.circuit c.at-values.result.now c.copy.result c.relay-relay.result.now.source c.server-server.result.now.listen4 c.server-server.result.now.listen6 c.copy_of.result.items
+    is_part c.args.config.now c.args.circuit c.at-values.result.now c.copy.result c.relay-relay.result.now.source c.server-server.result.now c.copy_of.result.items
     c.at-values.ensures.value c.copy.ensures c.at-values.ensures.limits c.at-values.ensures.sound c.is_unspecified.ensures.size c.has_sixteen_bytes.ensures
+    (ap (λ x. x.items) c.copy_of.ensures) c.server-server.ensures.limits
 
 pub returns-clause-value : goal.returns-clause-value
 returns-clause-value c =

@@ -1,5 +1,6 @@
 use Rattle.std.proofs.Common.{◌≡◌, ◌++◌, map, take, length, drop, sym, ap, subst, ◌∙◌, arith}
 use Rattle.std.specs.Prelude.{All}
+use Rattle.dispatch.specs.Deadlines.{AreSetAnew}
 use Rattle.dispatch.specs.ServerValue.{HoldsDeadlines, with_states}
 use Rattle.circuit_server.specs.CircuitServerValue.{HasItsPools, IsReady, leases_of}
 use Rattle.circuit_server.specs.Ticked.{state_at}
@@ -29,3 +30,6 @@ returns-clause-pools g c = subst (λ xs. All HasItsPools (with_states c.args.par
 
 pub returns-clause-deadlines : goal.returns-clause-deadlines
 returns-clause-deadlines g c = subst (HoldsDeadlines c.restart_all.new.table) (sym (shown g c)) c.restart_all.ensures.deadlines
+
+pub returns-clause-anew : goal.returns-clause-anew
+returns-clause-anew g c = subst (AreSetAnew c.restart_all.new.table) (sym (shown g c)) c.restart_all.ensures.anew

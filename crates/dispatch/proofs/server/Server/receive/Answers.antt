@@ -1,21 +1,25 @@
-use Rattle.std.proofs.Common.{◌≡◌, ◌<◌, ℕ, List, map, set, length, sym, ap, subst, ◌∙◌, arith, Err, refl}
-use Rattle.std.specs.Prelude.{Option, Some, Ok, slice_get, option_map, All}
+use Rattle.std.proofs.Common.{◌≡◌, ◌<◌, ◌==◌, ℕ, false, List, map, set, length, sym, ap, subst, ◌∙◌, arith, Err, refl}
+use Rattle.std.specs.Prelude.{Option, Some, Result, Ok, slice_get, option_map, All}
 use Rattle.std.proofs.lemmas.List.{length-set, map-set}
 use Rattle.std.proofs.lemmas.List.Elements.{All-set}
 use Rattle.std.proofs.lemmas.Option.{slice_get-map, slice_get_within}
 use Rattle.types.specs.Delivery.{DeliveryValue, delivery}
+use Rattle.types.specs.declared.discard.Discard.{Discard}
 use Rattle.config.specs.CircuitPart.{CircuitPart}
 use Rattle.config.specs.Topology.{Topology}
 use Rattle.lease_disk.specs.Device.{WritesAt, has_failed}
 use Rattle.requests.specs.Addressee.{addressee}
 use Rattle.circuit_server.specs.Leases.{formats_of, restarts_of}
+use Rattle.dispatch.specs.Batch.{is_circuit}
+use Rattle.dispatch.specs.Deadlines.{KeepsDeadlines}
 use Rattle.dispatch.specs.Received.{Received, addressee_answered, addressee_leases, addressee_saves, received, received_leases, received_saves}
 use Rattle.circuit_server.specs.Answered.{IsAnswer, fails_at}
 use Rattle.circuit_server.specs.CircuitServerValue.{CircuitServerValue, HasItsPools, IsReady, IsReadyFor, OpenCircuitValue, book_of, leases_of, part_of}
 use Rattle.dispatch.specs.ServerValue.{HoldsDeadlines, ServerValue, books_in, circuits_in, leases_in, with_states}
 use Rattle.circuit_server.specs.Ticked.{state_of}
 use Rattle.circuit_server.proofs.AnswerLemmas.{because_err, because_ok, not_more}
-use Rattle.dispatch.proofs.HeldDeadlines.{one_held}
+use Rattle.dispatch.proofs.HeldDeadlines.{kept_all, kept_beside, one_held}
+use Rattle.dispatch.proofs.PartLemmas.{not_both, same_number}
 use Rattle.dispatch.proofs.ReceivedLemmas.{received_at, leases_at, saves_at}
 use Rattle.dispatch.proofs.ServerLemmas.{all_moved, one_moved}
 use Rattle.dispatch.proofs.TickLemmas.{own_state}
@@ -54,6 +58,9 @@ returns-in-Err-clause-leases g c tells =
     let s = c.args.self.now in
     let device = g.D.Disk.device c.args.disk.now in
     ap (addressee_leases s.topology (refused g c) device.fuse (leases_in device.region s)) (sym (none_of g c))
+
+pub returns-in-Err-clause-deadlines : goal.returns-in-Err-clause-deadlines
+returns-in-Err-clause-deadlines g c = kept_all _ c.args.self.now.deadlines
 
 pub returns-in-Err-clause-unchanged : goal.returns-in-Err-clause-unchanged
 returns-in-Err-clause-unchanged g c = because_err _ _ _ (none_of g c) (refl, refl, refl)
@@ -231,3 +238,14 @@ returns-clause-ready g c tells =
     subst (All (IsReady later)) (sym (written g c))
     (all_moved (IsReady regions) (IsReady later) (before g c) c.index-index.result (server c.part-part.result.now (answered_state g c)) (c.answer.ensures.ready tells) was
     (λ n y there apart. subst (λ r. IsReadyFor r y.state) (sym (c.answer.ensures.frame.region tells y.part.region (elsewhere g c n y there apart)))))
+
+not_named : (c k : ℕ) (found : Result ℕ Discard) → found ≡ Ok c → is_circuit k found ≡ false → k ≡ c → ⊥
+not_named c k found is none same = not_both (ap (λ n. c == n) same ∙ same_number c) (sym (ap (is_circuit k) is) ∙ none)
+
+pub returns-clause-deadlines : goal.returns-clause-deadlines
+returns-clause-deadlines g c =
+    let k = c.index-index.result in
+    let P : ServerValue → Type 0 = λ s. KeepsDeadlines (λ n. is_circuit n (addressee s.topology (asks g c))) s.deadlines c.answer.new.table in
+    subst P c.self.view_is
+    (kept_beside k (λ n. is_circuit n (addressee (topology g c) (asks g c))) c.self.inside.deadlines c.answer.new.table
+    (λ n none. not_named k n (addressee (topology g c) (asks g c)) (found g c) none) c.answer.ensures.beside)

@@ -1,14 +1,17 @@
-use Rattle.std.proofs.Common.{◌≡◌, ◌∙◌, List, length, map, sym, subst}
+use Rattle.std.proofs.Common.{◌≡◌, ◌∙◌, List, length, map, take, sym, subst}
+use Rattle.std.specs.List.{list_any}
 use Rattle.std.proofs.lemmas.List.{length-map}
 use Rattle.types.specs.Delivery.{delivery}
 use Rattle.batch_saves.specs.Batch.{AreApart}
 use Rattle.batch_saves.specs.Batch as saves
 use Rattle.batch_saves.specs.declared.saving.Saving.{Saving}
 use Rattle.config.specs.Topology.{IsTopology, Topology}
-use Rattle.dispatch.specs.Parts.{AreAnswered, AreSavedTogether, AreToSettle, IsReceivedBatch}
+use Rattle.dispatch.specs.Batch.{is_named}
+use Rattle.dispatch.specs.Parts.{AreAnswered, AreSavedTogether, AreToSettle, IsReceivedBatch, is_of}
 use Rattle.dispatch.specs.ServerValue.{ServerValue}
 use Rattle.dispatch.proofs.BatchClauses.{received_batch, saves_apart, saves_ready}
-use Rattle.dispatch.proofs.SaverLemmas.{to_settle}
+use Rattle.dispatch.proofs.HeldDeadlines.{kept_both, kept_wider}
+use Rattle.dispatch.proofs.SaverLemmas.{none_settles, to_settle}
 use Rattle.dispatch.proofs.server.Server.receive_together.Given as given
 use Rattle.dispatch.proofs.server.Server.receive_together.Goals as goal
 
@@ -52,3 +55,14 @@ done g c =
 
 pub returns-clause-received : goal.returns-clause-received
 returns-clause-received g c = done g c
+
+pub returns-clause-deadlines : goal.returns-clause-deadlines
+returns-clause-deadlines g c =
+    let made = c.prepare_all.ensures in
+    let topology = c.args.self.now.topology in
+    let ds = map (λ part. delivery part.0 part.1 c.args.now part.2.now) c.args.parts.now in
+    let parts = c.prepare_all.new.batch.parts.items in
+    kept_both (is_named topology ds) c.args.self.now.deadlines c.prepare_all.new.self.deadlines c.answer_all.new.self.deadlines made.deadlines
+    (kept_wider (λ k. list_any (is_of k) (take (length parts) parts)) (is_named topology ds) c.prepare_all.new.self.deadlines c.answer_all.new.self.deadlines
+    (none_settles topology ds (length c.args.parts.now) c.prepare_all.new.batch.named.items c.args.self.now.states c.prepare_all.new.self.states parts (length-map c.args.parts.now _) made.made)
+    c.answer_all.ensures.deadlines)

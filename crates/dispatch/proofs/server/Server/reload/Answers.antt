@@ -82,3 +82,6 @@ returns-clause-left c k state was is found s below =
     let off = turns (serves t k) (has t.plans c.from-number.result k) before (sym (serves_new c k) ∙ is) in
     c.turn_off_all.ensures.left k s (slice_get_within new k state found) off below
     ∙ ap (λ x. held_in x s) (get_or_from_slice_get new k state None found)
+
+pub returns-clause-looks : goal.returns-clause-looks
+returns-clause-looks c = c.turn_off_all.ensures.looks ∙ ap (λ (v : ServerValue). v.deadlines.looks) c.self.view_is

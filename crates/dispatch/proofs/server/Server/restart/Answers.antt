@@ -77,3 +77,6 @@ pub returns-clause-writes : goal.returns-clause-writes
 returns-clause-writes g c =
     let count = ap (λ (ps : List CircuitPart). length ps) c.parts.ensures ∙ ap (λ (s : ServerValue). length s.topology.circuits) c.self.view_is in
     subst (λ (n : ℕ). (g.D.Disk.device c.restart.new.disk).writes ≤ (g.D.Disk.device c.args.disk.now).writes + 4 * n) count c.restart.ensures.writes
+
+pub returns-clause-looks : goal.returns-clause-looks
+returns-clause-looks g c = c.restart.ensures.looks ∙ ap (λ (s : ServerValue). s.deadlines.looks) c.self.view_is

@@ -1,12 +1,14 @@
-use Rattle.std.proofs.Common.{◌≡◌, ◌<◌, List, set, length, sym, ap, subst, ◌∙◌, arith}
+use Rattle.std.proofs.Common.{◌≡◌, ◌<◌, ◌==◌, List, set, length, sym, ap, subst, ◌∙◌, arith}
 use Rattle.std.specs.Prelude.{All, Option, Some, slice_get}
 use Rattle.std.proofs.lemmas.List.{length-set}
 use Rattle.std.proofs.lemmas.List.Elements.{All-set}
 use Rattle.std.proofs.lemmas.Option.{slice_get_within}
 use Rattle.circuit_server.specs.CircuitServerValue.{HasItsPools, OpenCircuitValue}
 use Rattle.circuit_server.specs.Ticked.{state_of}
-use Rattle.dispatch.specs.ServerValue.{HoldsDeadlines, with_states}
-use Rattle.dispatch.proofs.HeldDeadlines.{one_held}
+use Rattle.dispatch.specs.Deadlines.{KeepsDeadlines}
+use Rattle.dispatch.specs.ServerValue.{HoldsDeadlines, ServerValue, with_states}
+use Rattle.dispatch.proofs.HeldDeadlines.{kept_beside, one_held}
+use Rattle.dispatch.proofs.PartLemmas.{not_same}
 use Rattle.dispatch.proofs.TickLemmas.{own_state}
 use Rattle.dispatch.proofs.WithStates.{at_index, server, set_with, there_with}
 use Rattle.dispatch.proofs.server.Server.settle.Goals as goal
@@ -39,3 +41,9 @@ invariant_of-self c =
           (one_held index c.self.inside.deadlines c.settle.new.table states new inside c.self.invariant.1 c.settle.ensures.deadlines c.settle.ensures.beside),
       c.self.invariant.2,
     )
+
+pub returns-clause-deadlines : goal.returns-clause-deadlines
+returns-clause-deadlines c =
+    let P : ServerValue → Type 0 = λ s. KeepsDeadlines (λ k. c.args.circuit == k) s.deadlines c.settle.new.table in
+    subst P c.self.view_is
+    (kept_beside c.index-index.result (λ k. c.args.circuit == k) c.self.inside.deadlines c.settle.new.table (λ k none same. not_same c.args.circuit k none (same ∙ c.index-index.ensures.value)) c.settle.ensures.beside)

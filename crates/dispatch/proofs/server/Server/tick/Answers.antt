@@ -1,6 +1,7 @@
-use Rattle.std.proofs.Common.{List, map, length, sym, ap, subst, ◌∙◌}
+use Rattle.std.proofs.Common.{◌+◌, List, map, length, count_by, sym, ap, subst, ◌∙◌}
 use Rattle.std.specs.Prelude.{All, Option}
 use Rattle.std.proofs.lemmas.List.{length-map}
+use Rattle.timers.specs.Deadlines.{entry_after_sweep, is_due}
 use Rattle.circuit_server.specs.Deadlines.{swept}
 use Rattle.dispatch.specs.ServerValue.{HoldsDeadlines, ServerValue, circuits_in, leases_in, with_states}
 use Rattle.circuit_server.specs.Leases.{after_tick}
@@ -42,3 +43,9 @@ returns-clause-ready c regions ready =
 
 pub returns-clause-due : goal.returns-clause-due
 returns-clause-due c n until there = later_left c.args.now c.self.inside.deadlines c.sweep.new.self n until c.sweep.ensures.slots there
+
+pub returns-clause-deadlines : goal.returns-clause-deadlines
+returns-clause-deadlines c = c.sweep.ensures.slots ∙ ap (λ (s : ServerValue). map (entry_after_sweep c.args.now) s.deadlines.slots) c.self.view_is
+
+pub returns-clause-looks : goal.returns-clause-looks
+returns-clause-looks c = c.sweep.ensures.looks ∙ ap (λ (s : ServerValue). s.deadlines.looks + count_by (is_due c.args.now) s.deadlines.slots + 1) c.self.view_is

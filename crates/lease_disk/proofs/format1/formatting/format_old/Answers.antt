@@ -1,5 +1,6 @@
-use Rattle.std.proofs.Common.{rules}
-use Rattle.lease_disk.proofs.FormatLemmas.{on_ok, on_err, at_err, is_formatted_old, old_left_first, old_left_last}
+use Rattle.std.proofs.Common.{◌∙◌, arith, refl, rules}
+use Rattle.lease_disk.proofs.FormatLemmas.{on_ok, on_err, on_fault, at_err, half_first, half_second, is_formatted_old, old_left_first, old_left_last, old_rest}
+use Rattle.lease_disk.specs.Layout.{formatted_old, gate_open}
 use Rattle.lease_disk.proofs.format1.formatting.format_old.Goals as goal
 
 pub returns-in_err-write_synced-clause-err : goal.returns-in_err-write_synced-clause-err
@@ -15,3 +16,20 @@ pub returns-clause-err : goal.returns-clause-err
 returns-clause-err g c = λ tells.
     on_err c.write_synced-2.result (old_left_last ((g.D.Disk.device c.args.disk.now).fuse c.args.region) c.closed_banks.new.bytes ((g.D.Disk.device c.args.disk.now).region c.args.region) ((g.D.Disk.device c.write_synced.new.disk).region c.args.region) ((g.D.Disk.device c.write_synced-2.new.disk).region c.args.region)
     (search rules) c.closed_banks.ensures (c.in_ok-write_synced.ensures.ok tells)) (c.write_synced-2.ensures.err tells)
+
+pub returns-in_err-write_synced-clause-left : goal.returns-in_err-write_synced-clause-left
+returns-in_err-write_synced-clause-left g c = λ tells.
+    let e = c.in_err-write_synced.ensures in
+    let bytes = c.closed_banks.new.bytes in
+    at_err c.from_residual.result (half_first 0 formatted_old bytes ((g.D.Disk.device c.args.disk.now).region c.args.region) (search rules) (omega arith) (old_rest bytes c.closed_banks.ensures) (c.closed_banks.ensures 0)
+    ((g.D.Disk.device c.args.disk.now).fuse c.args.region) ((g.D.Disk.device c.write_synced.new.disk).region c.args.region) (e.answer tells) (e.err tells) (e.reads tells))
+
+pub returns-clause-left : goal.returns-clause-left
+returns-clause-left g c = λ tells.
+    let e = c.in_ok-write_synced.ensures in
+    let last = c.write_synced-2.ensures in
+    let bytes = c.closed_banks.new.bytes in
+    on_fault c.write_synced-2.result (λ failed torn.
+    half_second 0 formatted_old bytes ((g.D.Disk.device c.args.disk.now).region c.args.region) (search rules) (omega arith) (old_rest bytes c.closed_banks.ensures) (c.closed_banks.ensures 0)
+    ((g.D.Disk.device c.args.disk.now).fuse c.args.region) ((g.D.Disk.device c.write_synced.new.disk).fuse c.args.region) ((g.D.Disk.device c.write_synced.new.disk).region c.args.region) ((g.D.Disk.device c.write_synced-2.new.disk).region c.args.region)
+    gate_open refl (e.ok tells) (e.fuse tells) (failed ∙ last.answer tells) torn (last.reads tells)) (last.err tells)

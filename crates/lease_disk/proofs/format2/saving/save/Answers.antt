@@ -46,7 +46,7 @@ returns-in_err-save_step-clause-saved g c = λ tells.
     (save_closing c.args.slot c.args.marks.now (gate_at c.args.slot (mark_at c.args.marks.now c.args.slot)) c.sequence_after.result c.args.clock c.args.content.now half (drop 1 half) r0
     (is_save r0 c.args.slot c.sequence_after.result c.args.clock c.args.marks.now c.args.content.now half (c.requires.format tells) (c.requires.mark tells) (c.requires.clean tells)
     c.write_half-half.ensures.bytes c.write_half-half.ensures.size c.sequence_after.ensures c.requires.fits c.write_half-half.ensures.key c.write_half-half.ensures.clock)
-    fuse left (is_some_early _ answer) answer (c.in_err-save_step.ensures.err tells))
+    fuse left (is_some_early _ answer) answer (c.in_err-save_step.ensures.err tells) (c.in_err-save_step.ensures.reads tells))
 
 pub returns-in_err-save_step-2-clause-saved : goal.returns-in_err-save_step-2-clause-saved
 returns-in_err-save_step-2-clause-saved g c = λ tells.
@@ -60,7 +60,7 @@ returns-in_err-save_step-2-clause-saved g c = λ tells.
     (save_writing c.args.slot c.args.marks.now (gate_at c.args.slot (mark_at c.args.marks.now c.args.slot)) c.sequence_after.result c.args.clock c.args.content.now half (drop 1 half) r0
     (is_save r0 c.args.slot c.sequence_after.result c.args.clock c.args.marks.now c.args.content.now half (c.requires.format tells) (c.requires.mark tells) (c.requires.clean tells)
     c.write_half-half.ensures.bytes c.write_half-half.ensures.size c.sequence_after.ensures c.requires.fits c.write_half-half.ensures.key c.write_half-half.ensures.clock)
-    ((g.D.Disk.device c.save_step.new.disk).region c.args.region) (c.in_ok-save_step.ensures.ok tells) fuse _ left (is_some_middle fuse _ later answer) later answer (c.in_err-save_step-2.ensures.err tells))
+    ((g.D.Disk.device c.save_step.new.disk).region c.args.region) (c.in_ok-save_step.ensures.ok tells) fuse _ left (is_some_middle fuse _ later answer) later answer (c.in_err-save_step-2.ensures.err tells) (c.in_err-save_step-2.ensures.reads tells))
 
 pub returns-in_err-save_step-3-clause-saved : goal.returns-in_err-save_step-3-clause-saved
 returns-in_err-save_step-3-clause-saved g c = λ tells.
@@ -76,7 +76,7 @@ returns-in_err-save_step-3-clause-saved g c = λ tells.
     (is_save r0 c.args.slot c.sequence_after.result c.args.clock c.args.marks.now c.args.content.now half (c.requires.format tells) (c.requires.mark tells) (c.requires.clean tells)
     c.write_half-half.ensures.bytes c.write_half-half.ensures.size c.sequence_after.ensures c.requires.fits c.write_half-half.ensures.key c.write_half-half.ensures.clock)
     ((g.D.Disk.device c.save_step.new.disk).region c.args.region) (c.in_ok-save_step.ensures.ok tells) ((g.D.Disk.device c.save_step-2.new.disk).region c.args.region) (c.in_ok-save_step-2.ensures.ok tells)
-    fuse _ _ left (is_some_late fuse _ _ later last answer) later last answer (c.in_err-save_step-3.ensures.err tells))
+    fuse _ _ left (is_some_late fuse _ _ later last answer) later last answer (c.in_err-save_step-3.ensures.err tells) (c.in_err-save_step-3.ensures.reads tells))
 
 pub returns-clause-saved : goal.returns-clause-saved
 returns-clause-saved g c = λ tells.

@@ -7,7 +7,7 @@ use Rattle.events.specs.declared.outcome.Outcome.TheVariants as outcome
 use Rattle.lease_disk.specs.Model as disk
 use Rattle.lossy_net.specs.Net.{datagrams}
 use Rattle.lossy_net.specs.declared.dir.Dir.TheVariants as dir
-use Rattle.world.specs.Batch.{AreServed, IsShort, downs_after, outcome_for}
+use Rattle.world.specs.Batch.{AreServed, downs_after, outcome_for}
 use Rattle.world.specs.Headline.{Steps}
 use Rattle.world.specs.World.{WorldValue, states}
 use Rattle.world.specs.declared.world.batch.Waiting.{Waiting}
@@ -51,7 +51,6 @@ known c =
       ups = c.send_all.ensures.ups;
       downs = λ n. c.send_all.ensures.downs n ∙ ap (λ ws. downs_after w.net.quota ws given n (datagrams w.net n dir.Down)) same;
       outcomes_are = λ i p at. c.outcomes_of.ensures.value i p at ∙ ap (λ ws. Some (Some (outcome_for p.circuit ws given))) same;
-      short = λ i p at. subst (λ ws. IsShort (outcome_for p.circuit ws given)) same (c.outcomes_of.ensures.short i p at);
       bytes = λ j x at. c.all_waiting-waiting.ensures.bytes j x (ap (λ ws. slice_get ws j) items ∙ at);
       law = c.meets_each_fault.ensures;
       comes = c.reply_comes_to_its_circuit.ensures;

@@ -49,7 +49,7 @@ returns-in-Ok-clause-moves c =
     same_circuit w new n p l topology c.send.ensures.quota (c.send.ensures.other_circuits n dir.Up (apart k n other)) (c.send.ensures.other_circuits n dir.Down (apart k n other))
     (ap (λ r. slice_index r.discarded n) c.in-Ok.ensures.kept) refl refl)
     (frame_sent k w new the.part the.leases c.args.proto c.args.frame.now c.up.new.out c.len-len.result c.clear.new.self topology on (c.in-Ok.ensures.ok the.part the.there) refl c.send.ensures.quota
-    c.send.ensures.kept c.send.ensures.other_direction c.len-len.ensures.value c.clear.ensures)
+    c.send.ensures.kept c.send.ensures.other_direction c.len-len.ensures.value c.clear.ensures (ap (λ r. slice_index r.discarded k) c.in-Ok.ensures.kept))
     )
 
 pub returns-in-Err-clause-moves : goal.returns-in-Err-clause-moves
@@ -65,7 +65,8 @@ returns-in-Err-clause-moves c =
     subst P c.self.view_is (
     moves k (Frame c.args.proto c.args.frame.now) w new the.part the.leases the.leases (outcome.Dropped c.in-Err.why) c.up.new.out refl (whole w) refl the.served the.its the.its (λ n other. refl)
     (λ n other p l there. same_circuit w new n p l topology refl refl refl (ap (λ r. slice_index r.discarded n) c.in-Err.ensures.counted ∙ other_count k n w.relays.discarded other) refl refl)
-    (frame_dropped k w new the.part the.leases c.args.proto c.args.frame.now c.in-Err.why c.up.new.out topology on (c.in-Err.ensures.err the.part the.there) refl refl c.in-Err.ensures.empty)
+    (frame_dropped k w new the.part the.leases c.args.proto c.args.frame.now c.in-Err.why c.up.new.out topology on (c.in-Err.ensures.err the.part the.there) refl refl c.in-Err.ensures.empty
+    c.has_counter.ensures (ap (λ r. r.discarded) c.in-Err.ensures.counted))
     )
 
 pub returns-then-not-serves-clause-moves : goal.returns-then-not-serves-clause-moves

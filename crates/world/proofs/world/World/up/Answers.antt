@@ -1,5 +1,6 @@
-use Rattle.std.proofs.Common.{ℕ, ◌<◌, true, length, refl, sym, ap, subst, ◌∙◌, arith}
+use Rattle.std.proofs.Common.{◌≡◌, ℕ, ◌<◌, true, length, refl, sym, ap, subst, ◌∙◌, arith}
 use Rattle.std.specs.Prelude.{Result, slice_get}
+use Rattle.std.proofs.lemmas.Option.{same_Some}
 use Rattle.types.specs.declared.discard.Discard.{Discard}
 use Rattle.circuit_server.specs.Answered.{IsAnswer}
 use Rattle.config.specs.CircuitPart.{CircuitPart}
@@ -83,7 +84,7 @@ invariant_of-self c =
     let reply = reply_of part (delivery_of part c.args.now d) (its_fails part (delivery_of part c.args.now d) c.args.fault known.leases.book) known.leases.book sent.bytes (is_reply answer sent.bytes (subst P c.in-Ok.is r.answer)) in
     let found = each_at (IsFor t k part) (datagrams w.net k dir.Up) c.args.number d (is.addressed k part there) (sym c.in-Some.ensures) plans c.args.now served in
     c.reply_comes_to_its_circuit.ensures (under t plans) relay k part (delivery_of part c.args.now d) sent.bytes reply.book there served (is.sound.ids k part there) its (is_part_at w is k part there) c.are_bytes.ensures found reply.answer
-    (λ six. record { apart = is.sound.listens_differ; short = c.len-len.ensures.fits })))
+    (λ six. is.sound.listens_differ)))
 
 pub returns-in-Ok-clause-moves : goal.returns-in-Ok-clause-moves
 returns-in-Ok-clause-moves c =
@@ -105,13 +106,16 @@ returns-in-Ok-clause-moves c =
     c.fail_at.new.self c.receive-result.new.disk c.fail_at-2.new.self c.fail_at.ensures.others c.receive-result.ensures.frame c.fail_at-2.ensures.others in
     let quiet = quiet_up w c.self.invariant k the on c.args.number d c.args.now c.relay-source.result c.part-part.result.now (sym c.in-Some.ensures) c.part-part.ensures c.relay-source.ensures
     c.fail_at.new.self c.receive-result.new.disk c.receive-result.ensures.frame in
+    let own : c.part-part.result.now ≡ the.part = same_Some c.part-part.result.now the.part (sym c.part-part.ensures ∙ the.served) in
+    let cleared : disk.fuse_of new.disk the.part.region ≡ 0 =
+    subst (λ r. disk.fuse_of new.disk r ≡ 0) (c.region-region.ensures ∙ ap (λ (part : CircuitPart). part.region) own) c.fail_at-2.ensures.fuse in
     let P : WorldValue → Type 0 = λ v. Moves k (Up c.args.number c.args.now c.args.fault) (states v) (states new) (outcome.SentDown c.len-len.result) c.clear-in-Ok.new.self in
     subst P c.self.view_is (
     moves k (Up c.args.number c.args.now c.args.fault) w new the.part the.leases (after_datagram the.part (delivery_of the.part c.args.now d) c.args.fault the.leases) (outcome.SentDown c.len-len.result) c.clear-in-Ok.new.self
     (ap (λ (t : Topology). t.circuits) c.receive-result.ensures.topology) (whole w) r.size the.served the.its r.leases r.others
     (λ n other p l there. same_circuit w new n p l refl c.send.ensures.quota (c.send.ensures.other_circuits n dir.Up (apart k n other)) (c.send.ensures.other_circuits n dir.Down (apart k n other)) refl
     (beside.region p.region (elsewhere w c.self.invariant k n c.part-part.result.now p c.part-part.ensures there other region c.region-region.ensures)) (beside.fuse p.region (elsewhere w c.self.invariant k n c.part-part.result.now p c.part-part.ensures there other region c.region-region.ensures)))
-    (up_sent k w new the.part the.leases c.args.number c.args.now c.args.fault d c.receive-result.result c.receive-result.new.out (sym c.in-Some.ensures) r.answer refl on c.send.ensures.quota c.send.ensures.other_direction
+    (up_sent k w new the.part the.leases c.args.number c.args.now c.args.fault d c.receive-result.result c.receive-result.new.out (sym c.in-Some.ensures) r.answer refl on c.send.ensures.quota c.send.ensures.other_direction refl cleared
     (λ nothing. ap (λ (regions : ℕ → Region). regions the.part.region) (after ∙ quiet nothing ∙ before))
     c.len-len.result c.clear-in-Ok.new.self c.in-Ok.is c.send.ensures.kept c.len-len.ensures.value c.clear-in-Ok.ensures)
     )
@@ -146,13 +150,16 @@ returns-in-Err-clause-moves c =
     c.fail_at.new.self c.receive-result.new.disk c.fail_at-2.new.self c.fail_at.ensures.others c.receive-result.ensures.frame c.fail_at-2.ensures.others in
     let quiet = quiet_up w c.self.invariant k the on c.args.number d c.args.now c.relay-source.result c.part-part.result.now (sym c.in-Some.ensures) c.part-part.ensures c.relay-source.ensures
     c.fail_at.new.self c.receive-result.new.disk c.receive-result.ensures.frame in
+    let own : c.part-part.result.now ≡ the.part = same_Some c.part-part.result.now the.part (sym c.part-part.ensures ∙ the.served) in
+    let cleared : disk.fuse_of new.disk the.part.region ≡ 0 =
+    subst (λ r. disk.fuse_of new.disk r ≡ 0) (c.region-region.ensures ∙ ap (λ (part : CircuitPart). part.region) own) c.fail_at-2.ensures.fuse in
     let P : WorldValue → Type 0 = λ v. Moves k (Up c.args.number c.args.now c.args.fault) (states v) (states new) (outcome.Dropped c.in-Err.why) c.receive-result.new.out in
     subst P c.self.view_is (
     moves k (Up c.args.number c.args.now c.args.fault) w new the.part the.leases (after_datagram the.part (delivery_of the.part c.args.now d) c.args.fault the.leases) (outcome.Dropped c.in-Err.why) c.receive-result.new.out
     (ap (λ (t : Topology). t.circuits) c.receive-result.ensures.topology) (whole w) r.size the.served the.its r.leases r.others
     (λ n other p l there. same_circuit w new n p l refl refl refl refl refl (beside.region p.region (elsewhere w c.self.invariant k n c.part-part.result.now p c.part-part.ensures there other region c.region-region.ensures))
     (beside.fuse p.region (elsewhere w c.self.invariant k n c.part-part.result.now p c.part-part.ensures there other region c.region-region.ensures)))
-    (up_dropped k w new the.part the.leases c.args.number c.args.now c.args.fault d c.receive-result.result c.receive-result.new.out (sym c.in-Some.ensures) r.answer refl on refl refl
+    (up_dropped k w new the.part the.leases c.args.number c.args.now c.args.fault d c.receive-result.result c.receive-result.new.out (sym c.in-Some.ensures) r.answer refl on refl refl refl cleared
     (λ nothing. ap (λ (regions : ℕ → Region). regions the.part.region) (after ∙ quiet nothing ∙ before))
     c.in-Err.why c.in-Err.is refl)
     )

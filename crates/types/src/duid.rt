@@ -1,18 +1,18 @@
-//! A DUID in the bytes that it was read from.
+//! DUIDs, by which DHCPv6 clients and servers know each other (RFC 8415, section 11).
 ghost use Rattle.std.specs.Prelude.{◌≡◌, ◌↔◌, IsOk, IfOk};
-ghost use Rattle.duid.specs.Duid.{IsDuid};
+ghost use Rattle.types.specs.Duid.{IsDuid};
 
+use crate::limits::{MAX_DUID, MIN_DUID};
 use std::marker::Model;
 use thiserror::Error;
-use types::{MAX_DUID, MIN_DUID};
 
 /// The bytes are fewer or more than a DUID has.
 #[derive(Clone, Copy, Debug, PartialEq, Eq, Error)]
 #[error("a DUID has 3 to 130 bytes")]
 pub struct Length;
 
-/// A DUID: two bytes of type, then 1 to 128 bytes (RFC 8415, section 11.1). What they stand for is
-/// nobody's business: two DUIDs are the same exactly where their bytes are.
+/// A DUID in the bytes that it was read from: two bytes of type, then 1 to 128 bytes (RFC 8415, section 11.1). What
+/// they stand for is nobody's business: two DUIDs are the same exactly where their bytes are.
 #[derive(Debug, Drop)]
 pub struct Duid<'a> {
     bytes: &'a [u8],
@@ -20,7 +20,7 @@ pub struct Duid<'a> {
 
 impl<'a> Model for Duid<'a> {
     ghost use Rattle.std.specs.Prelude.{ℕ, List};
-    ghost use Rattle.duid.specs.Duid.{IsDuid};
+    ghost use Rattle.types.specs.Duid.{IsDuid};
 
     ghost Value = { List ℕ };
 

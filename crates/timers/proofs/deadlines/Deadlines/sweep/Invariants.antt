@@ -1,7 +1,7 @@
 use Rattle.std.proofs.Common.{count_by}
 use Rattle.timers.specs.Deadlines.{is_due}
 use Rattle.timers.proofs.DeadlineLemmas.{HasSwept}
-use Rattle.timers.proofs.deadlines.Deadlines.remove_due.Given as goal
+use Rattle.timers.proofs.deadlines.Deadlines.sweep.Given as goal
 
 abbrev pub invariant-loop-slot : goal.invariant-loop-slot
 invariant-loop-slot l = HasSwept l.now l.fn.self l.self

@@ -1,0 +1,12 @@
+use Rattle.std.proofs.Common.{◌∙◌, ap₂}
+use Rattle.std.proofs.lemmas.Result.{IfOk-weaker}
+use Rattle.clap.specs.Words.{with_rule}
+use Rattle.command_line.proofs.accessd_words.base_command.Goals as goal
+
+pub returns : goal.returns
+returns c =
+    let config = c.in_ok-with_config.ensures.shape c.config_arg-config.ensures.local ∙ ap₂ with_rule c.named.ensures c.config_arg-config.ensures.rule in
+    let disk = c.in_ok-with_disk.ensures.shape c.disk_arg-disk.ensures.local ∙ ap₂ with_rule config c.disk_arg-disk.ensures.rule in
+    IfOk-weaker c.arg-3.result _ _
+    (λ made h. h.shape c.turns_arg-turns.ensures.local ∙ ap₂ with_rule disk c.turns_arg-turns.ensures.rule)
+    c.arg-3.ensures
