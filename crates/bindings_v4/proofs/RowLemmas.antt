@@ -1,5 +1,5 @@
 -- A row of the table is what its decision makes of the slots.
-use Rattle.std.proofs.Common.{◌≡◌, ℕ, ◌+◌, ◌-◌, ◌<◌, Bool, true, false, cond, List, map, set, get_or, refl, sym, ap, subst, ◌∙◌, arith}
+use Rattle.std.proofs.Common.{◌≡◌, ◌⊎◌, inl, inr, ℕ, ◌+◌, ◌-◌, ◌<◌, Bool, true, false, cond, List, map, set, get_or, refl, sym, ap, subst, ◌∙◌, arith}
 use Rattle.std.specs.Prelude.{Option, Some, None, IfSome, ◌==◌, is_some, option_map}
 use Rattle.std.specs.List.{position}
 use Rattle.std.specs.Str.{bytes_eq}
@@ -378,6 +378,21 @@ module _ (v : PoolSlots) (t : ℕ) (k : List ℕ) (are : AreSlots v.pool v.slots
         frees = λ i is. refl;
       }
 
+  -- an offer changes or a slot is kept, not both
+  abbrev ChangesOne : Change → Type 0
+  ChangesOne c = (offer_of a k c ≡ None) ⊎ (keep_of a k c ≡ None)
+
+  changes_one : OfChanges ChangesOne
+  changes_one =
+      record {
+        unchanged = inl refl;
+        offers = λ i fit none only. inr refl;
+        withdraws = λ i is. inr refl;
+        binds = λ i fit clear only. inl refl;
+        bars = λ i is. inl refl;
+        frees = λ i is. inl refl;
+      }
+
 kept_is : (first : ℕ) (k : List ℕ) (change : Change) → is_some (keep_of first k change) ≡ is_kept change
 kept_is first k Unchanged = refl
 kept_is first k (Offers address until) = refl
@@ -431,3 +446,6 @@ module _ (v : PoolSlots) (t : ℕ) (m : Request4) (are : AreSlots v.pool v.slots
   pub written_is : (d : Decision4) → d ≡ decision_of (number4 v.pool.first) t m.key (row v.pool found) → map (live t) (with_decision d v).slots ≡ map (live t) (with_written d v.slots)
   written_is d e =
       subst (λ (x : Decision4). map (live t) (with_decision x v).slots ≡ map (live t) (with_written x v.slots)) (sym e) (of_row (WritesItsSlot v t m.key are) (writes_its_slot v t m.key are))
+
+  pub one_is : (d : Decision4) → d ≡ decision_of (number4 v.pool.first) t m.key (row v.pool found) → (d.offer ≡ None) ⊎ (d.keep ≡ None)
+  one_is d e = subst (λ (x : Decision4). (x.offer ≡ None) ⊎ (x.keep ≡ None)) (sym e) (of_row (ChangesOne v t m.key are) (changes_one v t m.key are))

@@ -1,11 +1,15 @@
 -- What decisions, clocks and sweeps make of the deadlines of a circuit.
 use Rattle.std.proofs.Common.{◌≡◌, ℕ, zero, suc, ◌+◌, ◌-◌, ◌<◌, ◌≤◌, ◌==◌, nat_le, nat_lt, Bool, true, false, List, [], ◌∷◌, length, map, set, get_or, refl, sym, ap, subst, ◌∙◌, arith, inl, inr}
 use Rattle.std.specs.Prelude.{Option, Some, None, IfSome, option_map, if◌then◌else◌, ◌⊎◌}
+use Rattle.std.specs.List.{position}
+use Rattle.std.specs.Str.{bytes_eq}
 use Rattle.std.proofs.lemmas.List.{get_or-set_same, get_or-set_other, length-set}
 use Rattle.slots.specs.declared.holder.Holder.{Holder}
 use Rattle.slots.specs.declared.holder.Holder.TheVariants.{Offered}
 use Rattle.slots.specs.Lookup.{live, until_of}
+use Rattle.slots.specs.Slots.{client_of, is_clients, with_slot, with_vacancy, without_lessee}
 use Rattle.timers.specs.Deadlines.{DeadlinesValue, deadline, entry_after_sweep}
+use Rattle.types.specs.Key6.{same_key6}
 use Rattle.bindings_v4.specs.Slots4 as slots4
 use Rattle.bindings_v4.specs.Decision4.{IsOffer}
 use Rattle.bindings_v4.specs.declared.decision4.KeptSlot.{KeptSlot as KeptSlot4}
@@ -16,7 +20,7 @@ use Rattle.bindings_v6.specs.declared.decision6.KeptSlot.{KeptSlot as KeptSlot6}
 use Rattle.circuit_server.specs.CircuitDecision.{KeepsItsSlot, LosesNoOther, with_decision}
 use Rattle.circuit_server.specs.declared.decision.CircuitDecision.{CircuitDecision}
 use Rattle.circuit_server.specs.declared.decision.CircuitDecision.TheVariants.{V4, V6}
-use Rattle.circuit_server.specs.Deadlines.{HasDeadlines, HasItsSlots, IsOfferIn, SameBeside, held_in, held_until, live_until, swept, with_deadlines, with_kept4, with_kept6, with_offered, with_until}
+use Rattle.circuit_server.specs.Deadlines.{AreOldOrHeld, HasDeadlines, HasItsSlots, IsOfferIn, SameBeside, held_in, held_until, live_until, swept, with_deadlines, with_kept4, with_kept6, with_offered, with_until}
 use Rattle.circuit_server.specs.CircuitServerValue.{OpenCircuitValue}
 
 -- ---- what slots hold
@@ -278,6 +282,66 @@ after_decision (V6 forward m client d) table first o room keeps others has =
     (kept6_aside d.keep table first o.clock o.four.slots (four_of table first o has))
     (with_live after (first + 16) o.clock (slots6.with_written d o.six.slots) (slots6.with_decision d o.six).slots others.0
     (after_keep6 d.keep table first o.clock o.six.pool.count o.six.slots room keeps.2 others.1 keeps.1 (six_of table first o has)))
+
+-- what a decision does not change stays
+put_old_or : (table : DeadlinesValue) (first i : ℕ) (until : Option ℕ) (state : Option OpenCircuitValue) → first + 32 ≤ length table.slots → i < 32 → until ≡ held_in state i
+    → AreOldOrHeld first table (with_until (first + i) until table) state
+put_old_or table first i until state room few is = λ s below. by s (s == i) refl where
+  by : (s : ℕ) (b : Bool) → (s == i) ≡ b → (deadline (with_until (first + i) until table) (first + s) ≡ deadline table (first + s)) ⊎ (deadline (with_until (first + i) until table) (first + s) ≡ held_in state s)
+  by s true e =
+      let same : s ≡ i = grind arith in
+      inr (ap (λ n. deadline (with_until (first + i) until table) (first + n)) same ∙ put_same table (first + i) until (omega (arith, few, room)) ∙ is ∙ ap (held_in state) (sym same))
+  by s false e = inl (put_other table (first + i) (first + s) until (λ same. grind arith))
+
+module _ {K : Type 0} where
+  vacated_size : (found : Option ℕ) (ss : List (Option (Holder K))) → length (with_vacancy found ss) ≡ length ss
+  vacated_size None ss = refl
+  vacated_size (Some j) ss = length-set ss j None
+
+  lessee_size : (eqk : K → K → Bool) (client : Option K) (ss : List (Option (Holder K))) → length (without_lessee eqk client ss) ≡ length ss
+  lessee_size eqk None ss = refl
+  lessee_size eqk (Some client) ss = vacated_size (position (is_clients eqk client) ss) ss
+
+  written_at : (eqk : K → K → Bool) (i : ℕ) (new : Option (Holder K)) (ss : List (Option (Holder K))) → i < length ss → option_map until_of new ≡ until_at (with_slot eqk i new ss) i
+  written_at eqk i new ss inside = ap (option_map until_of) (sym (get_or-set_same (without_lessee eqk (client_of new) ss) i new None (omega (arith, inside, lessee_size eqk (client_of new) ss))))
+
+abbrev with_four : OpenCircuitValue → slots4.Holders4 → OpenCircuitValue
+with_four o ss = record o { four = record o.four { slots = ss } }
+
+abbrev with_six : OpenCircuitValue → slots6.Holders6 → OpenCircuitValue
+with_six o ss = record o { six = record o.six { slots = ss } }
+
+by_change4 : (change : Option OfferChange) (keep : Option KeptSlot4) (table : DeadlinesValue) (first clock count : ℕ) (o : OpenCircuitValue) → first + 32 ≤ length table.slots → count ≤ 16 → length o.four.slots ≡ count
+    → IfSome change (IsOffer clock count) → IfSome keep (λ kept. kept.slot < count) → (change ≡ None) ⊎ (keep ≡ None)
+    → AreOldOrHeld first table (with_kept4 first keep (with_offered first change table)) (Some (with_four o (slots4.with_kept keep (slots4.with_offer change o.four.slots))))
+by_change4 None None table first clock count o room few size offered kept one = λ s below. inl refl
+by_change4 None (Some k) table first clock count o room few size offered kept one =
+    let ss = slots4.with_kept (Some k) o.four.slots in
+    put_old_or table first k.slot (option_map until_of (slots4.holder_of k.content)) (Some (with_four o ss)) room (omega (arith, few, kept))
+    (written_at bytes_eq k.slot (slots4.holder_of k.content) o.four.slots (omega (arith, size, kept)) ∙ sym (held4 (with_four o ss) k.slot (omega (arith, few, kept))))
+by_change4 (Some (offer.Made i k u)) None table first clock count o room few size offered kept one =
+    let ss = slots4.with_offer (Some (offer.Made i k u)) o.four.slots in
+    put_old_or table first i (Some u) (Some (with_four o ss)) room (omega (arith, few, offered.0))
+    (written_at bytes_eq i (Some (Offered k u)) o.four.slots (omega (arith, size, offered.0)) ∙ sym (held4 (with_four o ss) i (omega (arith, few, offered.0))))
+by_change4 (Some (offer.Withdrawn i)) None table first clock count o room few size offered kept one =
+    let ss = slots4.with_offer (Some (offer.Withdrawn i)) o.four.slots in
+    put_old_or table first i None (Some (with_four o ss)) room (omega (arith, few, offered))
+    (written_at bytes_eq i None o.four.slots (omega (arith, size, offered)) ∙ sym (held4 (with_four o ss) i (omega (arith, few, offered))))
+by_change4 (Some x) (Some y) table first clock count o room few size offered kept (inl none) = absurd cc
+by_change4 (Some x) (Some y) table first clock count o room few size offered kept (inr none) = absurd cc
+
+by_change6 : (keep : Option KeptSlot6) (table : DeadlinesValue) (first count : ℕ) (o : OpenCircuitValue) → first + 32 ≤ length table.slots → count ≤ 16 → length o.six.slots ≡ count → IfSome keep (λ kept. kept.slot < count)
+    → AreOldOrHeld first table (with_kept6 first keep table) (Some (with_six o (slots6.with_kept keep o.six.slots)))
+by_change6 None table first count o room few size kept = λ s below. inl refl
+by_change6 (Some k) table first count o room few size kept =
+    let ss = slots6.with_kept (Some k) o.six.slots in
+    put_old_or table first (16 + k.slot) (option_map until_of (slots6.holder_of k.content)) (Some (with_six o ss)) room (omega (arith, few, kept))
+    (written_at same_key6 k.slot (slots6.holder_of k.content) o.six.slots (omega (arith, size, kept)) ∙ sym (held6 (with_six o ss) k.slot))
+
+pub old_or_decided : (d : CircuitDecision) (table : DeadlinesValue) (first : ℕ) (o : OpenCircuitValue) → first + 32 ≤ length table.slots → KeepsItsSlot d o → LosesNoOther d o
+    → AreOldOrHeld first table (with_deadlines d first table) (Some (with_decision d o))
+old_or_decided (V4 m d) table first o room keeps others = by_change4 d.offer d.keep table first o.clock o.four.pool.count o room keeps.2 others.1 keeps.3 keeps.1 others.2
+old_or_decided (V6 forward m client d) table first o room keeps others = by_change6 d.keep table first o.six.pool.count o room keeps.2 others.1 keeps.1
 
 -- nothing beside the circuit's slots
 beside_one : (first n : ℕ) (until : Option ℕ) (old table : DeadlinesValue) → first ≤ n → n < first + 32 → SameBeside first old table → SameBeside first old (with_until n until table)

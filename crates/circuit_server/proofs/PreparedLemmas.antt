@@ -1,5 +1,5 @@
 -- What comes of a datagram that was prepared, once its save is done or has failed.
-use Rattle.std.proofs.Common.{◌≡◌, ◌∙◌, ◌≤◌, ◌==◌, ◌&&◌, ◌<◌, nat_le, nat_lt, not, ℕ, Bool, true, false, List, refl, sym, ap, subst, arith}
+use Rattle.std.proofs.Common.{◌≡◌, ◌⊎◌, inl, inr, ◌+◌, ◌∙◌, ◌≤◌, ◌==◌, ◌&&◌, ◌<◌, nat_le, nat_lt, not, ℕ, Bool, true, false, List, refl, sym, ap, subst, arith}
 use Rattle.std.specs.Prelude.{Option, Some, None, option_map, is_some, Result, Ok, Err, is_ok, IfOk, IfSome, if◌then◌else◌}
 use Rattle.std.proofs.lemmas.Bool.{eq-eqb, eqb-true, leb-true}
 use Rattle.types.specs.Delivery.{DeliveryValue}
@@ -21,9 +21,9 @@ use Rattle.circuit_server.specs.CircuitServerValue.{HasPools, IsReadyFor, OpenCi
 use Rattle.circuit_server.specs.Leases.{Leases, after_datagram, formats_of, restarts_of}
 use Rattle.circuit_server.specs.Prepared.{IsDropped, IsPrepared, IsSavedAlone, IsSettled, marks_by, saving_of, with_marks}
 use Rattle.circuit_server.specs.Server.{Served, book_at, datagram_served, drop}
-use Rattle.circuit_server.specs.Deadlines.{HasDeadlines}
+use Rattle.circuit_server.specs.Deadlines.{AreOldOrHeld, HasDeadlines, held_in}
 use Rattle.circuit_server.specs.Ticked.{IsLater, open_at}
-use Rattle.timers.specs.Deadlines.{DeadlinesValue}
+use Rattle.timers.specs.Deadlines.{DeadlinesValue, deadline}
 use Rattle.circuit_server.specs.declared.decision.CircuitDecision.{CircuitDecision}
 use Rattle.circuit_server.specs.declared.decision.CircuitDecision.TheVariants.{V4, V6}
 use Rattle.circuit_server.specs.declared.prepared.Prepared.{Prepared}
@@ -264,3 +264,20 @@ pub marked_later : (moment : ℕ) (marks : Option Marks) (state : Option OpenCir
 marked_later moment None state later = later
 marked_later moment (Some marks) None later = later
 marked_later moment (Some marks) (Some o) later = later
+
+-- a slot's deadline after the save: what it was before the datagram, or until when the slot is held then
+marked_held : (marks : Option Marks) (state : Option OpenCircuitValue) (s : ℕ) → held_in state s ≡ held_in (with_marks marks state) s
+marked_held None state s = refl
+marked_held (Some marks) None s = refl
+marked_held (Some marks) (Some o) s = refl
+
+pub answered_own : (part : CircuitPart) (prepared : Prepared) (saved : Result (Option Marks) Fault) (first : ℕ) (old middle new : DeadlinesValue) (state final : Option OpenCircuitValue) (result : Result (Unit {0}) Discard) (out : List ℕ)
+    → IsSettled part prepared saved state final result out → AreOldOrHeld first old middle state → AreOldOrHeld first middle new final → HasDeadlines new first final → AreOldOrHeld first old new final
+answered_own part prepared (Ok marks) first old middle new state final result out settled before after has = λ s below. by s (before s below) (after s below) where
+  by : (s : ℕ) → (deadline middle (first + s) ≡ deadline old (first + s)) ⊎ (deadline middle (first + s) ≡ held_in state s) → (deadline new (first + s) ≡ deadline middle (first + s)) ⊎ (deadline new (first + s) ≡ held_in final s)
+      → (deadline new (first + s) ≡ deadline old (first + s)) ⊎ (deadline new (first + s) ≡ held_in final s)
+  by s was (inr held) = inr held
+  by s (inl same) (inl still) = inl (still ∙ same)
+  by s (inr held) (inl still) = inr (still ∙ held ∙ marked_held marks state s ∙ ap (λ (x : Option OpenCircuitValue). held_in x s) (sym settled.0))
+answered_own part prepared (Err fault) first old middle new state final result out settled before after has = λ s below.
+    inr (subst (HasDeadlines new first) settled.0 has s below ∙ ap (λ (x : Option OpenCircuitValue). held_in x s) (sym settled.0))

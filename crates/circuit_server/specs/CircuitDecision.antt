@@ -1,5 +1,5 @@
 -- What a circuit's decision makes of it. Only proofs need this.
-use Rattle.std.specs.Prelude.{◌≡◌, ℕ, ◌+◌, ◌<◌, ◌≤◌, true, Bool, is_some, length, map, List, Option, option_map, Some, IfSome, Result}
+use Rattle.std.specs.Prelude.{◌≡◌, ◌⊎◌, ℕ, ◌+◌, ◌<◌, ◌≤◌, true, Bool, is_some, length, map, List, Option, option_map, Some, None, IfSome, Result}
 use Rattle.std.specs.Result.{result_map_both}
 use Rattle.types.specs.Slots.{IsWithin4, IsWithin6}
 use Rattle.types.specs.declared.discard.Discard.{Discard}
@@ -55,7 +55,7 @@ KeepsItsSlot (V6 forward m client decision) o =
 -- by the clock a decision changes nothing but the slots that it writes, which are slots of the pool
 abbrev pub LosesNoOther : CircuitDecision → OpenCircuitValue → Type 0
 LosesNoOther (V4 m decision) o =
-    (map (live o.clock) (slots4.with_decision decision o.four).slots ≡ map (live o.clock) (slots4.with_written decision o.four.slots)) × (length o.four.slots ≡ o.four.pool.count)
+    (map (live o.clock) (slots4.with_decision decision o.four).slots ≡ map (live o.clock) (slots4.with_written decision o.four.slots)) × (length o.four.slots ≡ o.four.pool.count) × ((decision.offer ≡ None) ⊎ (decision.keep ≡ None))
 LosesNoOther (V6 forward m client decision) o =
     (map (live o.clock) (slots6.with_decision decision o.six).slots ≡ map (live o.clock) (slots6.with_written decision o.six.slots)) × (length o.six.slots ≡ o.six.pool.count)
 

@@ -34,6 +34,10 @@ abbrev pub HasDeadlines : DeadlinesValue → ℕ → Option OpenCircuitValue →
 HasDeadlines table first None = (s : ℕ) → s < 32 → deadline table (first + s) ≡ None
 HasDeadlines table first (Some o) = (s : ℕ) → s < 32 → entry_after_sweep o.clock (deadline table (first + s)) ≡ live_until o s
 
+-- each deadline of a circuit is what it was, or until when its slot is held now
+abbrev pub AreOldOrHeld : ℕ → DeadlinesValue → DeadlinesValue → Option OpenCircuitValue → Type 0
+AreOldOrHeld first old new state = (s : ℕ) → s < 32 → (deadline new (first + s) ≡ deadline old (first + s)) ⊎ (deadline new (first + s) ≡ held_in state s)
+
 -- ---- no public call of `dispatch` speaks of these
 
 -- all but the 32 slots from this number on have the deadlines that they had, and no entry was looked at

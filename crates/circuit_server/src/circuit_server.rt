@@ -1,7 +1,7 @@
 //! The server of one circuit: what it has while it is open, and what it makes of a message.
 ghost use Rattle.std.specs.Prelude.{◌≡◌, ◌<◌, ◌≤◌, ◌+◌, ℕ, length, [], Some, None, IfOk, IfErr, IfSome, true, is_some, option_map};
 ghost use Rattle.config.specs.CircuitPart.{IsPart};
-ghost use Rattle.circuit_server.specs.Deadlines.{HasDeadlines, SameBeside, held_in};
+ghost use Rattle.circuit_server.specs.Deadlines.{AreOldOrHeld, HasDeadlines, SameBeside, held_in};
 ghost use Rattle.circuit_server.specs.Leases.{IsBroughtUp, after_datagram, counts_of, found_leases};
 ghost use Rattle.timers.specs.Deadlines.{deadline};
 ghost use Rattle.types.specs.Slots.{last_until};
@@ -111,6 +111,7 @@ impl CircuitServer {
         ensures pools { HasPools part.now self.new }
         ensures deadlines { HasDeadlines table.new first self.new }
         ensures beside { SameBeside first table.old table.new }
+        ensures own { AreOldOrHeld first table.old table.new self.new }
         ensures prepared { IfOk result (IsPrepared part.now delivery.now self.old self.new) }
         ensures dropped { IfErr result (IsDropped part.now delivery.now self.old self.new) }
     {
@@ -151,6 +152,7 @@ impl CircuitServer {
         ensures pools { HasPools part.now self.new }
         ensures deadlines { HasDeadlines table.new first self.new }
         ensures beside { SameBeside first table.old table.new }
+        ensures own { AreOldOrHeld first table.old table.new self.new }
         ensures settled { IsSettled part.now prepared.now saved self.old self.new result out.new }
     {
         match saved {
@@ -200,6 +202,7 @@ impl CircuitServer {
         ensures pools { HasPools part.now self.new }
         ensures deadlines { HasDeadlines table.new first self.new }
         ensures beside { SameBeside first table.old table.new }
+        ensures own { AreOldOrHeld first table.old table.new self.new }
         ensures answer { IsAnswer (answered part.now delivery.now (has_failed (D.device disk.old) (D.device disk.new) part.now.region) (option_map open_book self.old)).answer result out.new }
         ensures book { option_map open_book self.new ≡ (answered part.now delivery.now (has_failed (D.device disk.old) (D.device disk.new) part.now.region) (option_map open_book self.old)).book }
         ensures fails { D.tells ≡ true → (r : ℕ) → has_failed (D.device disk.old) (D.device disk.new) r ≡ fails_at (D.device disk.old).fuse (circuit_saves delivery.now (Some part.now) (Some (option_map open_book self.old))) r }

@@ -3,7 +3,7 @@ ghost use Rattle.std.specs.Prelude.{◌≡◌, ◌<◌, ◌≤◌, ◌+◌, ◌*
 ghost use Rattle.config.specs.CircuitPart as parts;
 ghost use Rattle.config.specs.CircuitPart.{IsPart};
 ghost use Rattle.config.specs.Topology.{RegionsDiffer};
-ghost use Rattle.circuit_server.specs.Deadlines.{HasDeadlines, SameBeside, held_in};
+ghost use Rattle.circuit_server.specs.Deadlines.{AreOldOrHeld, HasDeadlines, SameBeside, held_in};
 ghost use Rattle.dispatch.specs.Deadlines.{AreSetAnew};
 ghost use Rattle.dispatch.specs.ServerValue.{HoldsDeadlines, with_states};
 ghost use Rattle.circuit_server.specs.Leases.{after_datagram, found_leases};
@@ -108,6 +108,7 @@ impl CircuitServers {
         ensures pools { HasPools part.now (state_of self.new index) }
         ensures deadlines { HasDeadlines table.new (32 * index) (state_of self.new index) }
         ensures beside { SameBeside (32 * index) table.old table.new }
+        ensures own { AreOldOrHeld (32 * index) table.old table.new (state_of self.new index) }
         ensures answer { IsAnswer (answered part.now delivery.now (has_failed (D.device disk.old) (D.device disk.new) part.now.region) (option_map open_book (state_of self.old index))).answer result out.new }
         ensures book { option_map open_book (state_of self.new index) ≡ (answered part.now delivery.now (has_failed (D.device disk.old) (D.device disk.new) part.now.region) (option_map open_book (state_of self.old index))).book }
         ensures fails { D.tells ≡ true → (r : ℕ) → has_failed (D.device disk.old) (D.device disk.new) r ≡ fails_at (D.device disk.old).fuse (circuit_saves delivery.now (Some part.now) (Some (option_map open_book (state_of self.old index)))) r }

@@ -1,10 +1,9 @@
-//! Opens a world while one request for memory is refused: either all of it is right, or what asked for the
-//! memory reports that it ran out, and does nothing else. It reads one line:
+//! Opens a world while one request for memory is refused: either there is a world, or what asked for the
+//! memory reports that it ran out. It reads one line:
 //!
 //! `refuse K` first makes as many requests as it takes for the K-th of the opening to be the one that is
 //! refused, `REFUSED` of all, and prints `right`, or which step reports what. `left STEP` does what is needed for a world up to
-//! this step, `run` also runs the world, and both then print how many further requests are granted before
-//! one is refused. Where the two numbers are equal, a run takes no memory.
+//! this step, and then prints how many further requests are granted before one is refused.
 //!
 //! Or it reads a configuration whose first line is `# disk   1`, `# server 1` or `# world  1`, makes a disk, opens
 //! over both what that line names, and prints how many further requests are granted before one is refused.
@@ -12,17 +11,13 @@
 //! configuration is eight plans.
 #![tactic(auto)]
 
-mod client;
 mod openings;
 mod steps;
-mod watched;
 
-use client::is_served;
 use openings::Opening;
 use std::alloc::Global;
 use std::io::{self, Read};
 use steps::{Step, opened};
-use world::World;
 
 /// The number of the request that is refused. The configuration of 1024 circuits makes some 25,000.
 const REFUSED: u32 = 40_000;
@@ -37,33 +32,22 @@ fn granted(alloc: Global, most: u32) -> u32 {
     most
 }
 
-/// Whether there is a world, and clients are answered in it as they should be.
-fn is_right(world: Option<World>) -> bool {
-    match world {
-        Some(mut world) => is_served(&mut world),
-        None => false,
-    }
-}
-
 /// Prints what comes of an opening whose request of this number is refused.
 fn show_refused(rt: &HostRuntime, number: u32) -> io::Result<()> {
     granted(rt.alloc(), REFUSED.saturating_sub(number));
     let answer = match opened(rt.alloc(), Step::World) {
-        Ok(world) => { if is_right(world) { "right" } else { "wrong" } }
+        Ok(world) => { if world.is_some() { "right" } else { "wrong" } }
         Err(trouble) => return println!(rt; "{trouble}"),
     };
     println!(rt; "{answer}")
 }
 
-/// Prints how many requests are granted after the steps up to this one, and after a run if there is one.
-fn show_left(rt: &HostRuntime, step: Step, is_run: bool) -> io::Result<()> {
-    let world = match opened(rt.alloc(), step) {
+/// Prints how many requests are granted after the steps up to this one.
+fn show_left(rt: &HostRuntime, step: Step) -> io::Result<()> {
+    let _world = match opened(rt.alloc(), step) {
         Ok(world) => world,
         Err(trouble) => return println!(rt; "{trouble}"),
     };
-    if is_run && !is_right(world) {
-        return println!(rt; "wrong");
-    }
     println!(rt; "{}", granted(rt.alloc(), REFUSED))
 }
 
@@ -108,5 +92,5 @@ fn main(rt: HostRuntime) -> io::Result<()> {
         return show_refused(&rt, number(line));
     }
     let step = line.trim_ascii().strip_prefix(b"left ");
-    show_left(&rt, Step::of(step.unwrap_or(b"")), line.starts_with(b"run"))
+    show_left(&rt, Step::of(step.unwrap_or(b"")))
 }

