@@ -117,7 +117,7 @@ fn disk(alloc: Global) -> Result<ModelDisk, Trouble>
 
 /// A server, over a disk in which nothing is unsynced. That one which is refused has not called its device is in its contract.
 fn server(alloc: Global, config: &Config, mut disk: ModelDisk) -> Result<(), Trouble>
-    requires synced { (q : ℕ) → IsClean (state_of disk q) }
+    requires { (q : ℕ) → IsClean (state_of disk q) }
 {
     match Server::open(alloc, config, &mut disk) {
         Ok(_) => Ok(()),

@@ -22,6 +22,9 @@ parts-preserved c =
     }
 
 pub returns : goal.returns
-returns c = λ i part there.
-    let within = slice_get_within c.args.parts.now i part there in
-    c.parts.invariant.done i part there (omega (arith, within, c.parts-test.false))
+returns c =
+    record {
+      value = λ i part there.
+          let within = slice_get_within c.args.parts.now i part there in
+          c.parts.invariant.done i part there (omega (arith, within, c.parts-test.false));
+    }
