@@ -153,7 +153,35 @@ fn text_of(id: &[u8]) -> &str {
     std::str::from_utf8(id).unwrap_or("?")
 }
 
-/// Opens relay and server, takes the turns, and returns the status.
+/// Reports what is served, takes the turns, and returns the status.
+fn serve(rt: &HostRuntime, config: &Config, values: &AccessWords<'_>, access: &mut Access) -> u8
+    requires few { length config.now.circuits ≤ 16 }
+    requires most { values.now.port ≤ 65472 }
+    ensures { IsExitStatus result }
+{
+    report_addresses(rt, config, values.port);
+    report_moves(rt, config, access);
+    report_start(rt, config, access, values);
+    access.serve(rt, values.turns, values.pause);
+    complain(rt, *access.counts(), 0)
+}
+
+/// Opens relay and server over a device, and serves.
+fn run_over(rt: &HostRuntime, config: &Config, values: &AccessWords<'_>, disk: FileDisk) -> u8
+    requires most { values.now.port ≤ 65472 }
+    requires some { 1 ≤ values.now.batch }
+    requires few { values.now.batch ≤ 16 }
+    ensures { IsExitStatus result }
+{
+    let mut opening = History::new();
+    let (port, batch) = (values.port, values.batch);
+    match Access::open(rt, rt.alloc(), config, disk, port, batch, &mut opening) {
+        Ok(mut access) => serve(rt, config, values, &mut access),
+        Err(fault) => refuse(rt, config, values.disk, fault),
+    }
+}
+
+/// Runs as the words say, and returns the status.
 fn run(rt: &HostRuntime, values: AccessWords<'_>) -> u8
     requires most { values.port ≤ 65472 }
     requires some { 1 ≤ values.batch }
@@ -164,22 +192,10 @@ fn run(rt: &HostRuntime, values: AccessWords<'_>) -> u8
         Ok(config) => config,
         Err(status) => return status,
     };
-    let disk = match device(rt, &config, &values) {
-        Ok(disk) => disk,
-        Err(status) => return status,
-    };
-    let mut opening = History::new();
-    let (port, batch) = (values.port, values.batch);
-    let opened = Access::open(rt, rt.alloc(), &config, disk, port, batch, &mut opening);
-    let mut access = match opened {
-        Ok(access) => access,
-        Err(fault) => return refuse(rt, &config, values.disk, fault),
-    };
-    report_addresses(rt, &config, values.port);
-    report_moves(rt, &config, &access);
-    report_start(rt, &config, &access, &values);
-    access.serve(rt, values.turns, values.pause);
-    complain(rt, *access.counts(), 0)
+    match device(rt, &config, &values) {
+        Ok(disk) => run_over(rt, &config, &values, disk),
+        Err(status) => status,
+    }
 }
 
 fn status(rt: &HostRuntime) -> u8

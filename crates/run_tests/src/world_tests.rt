@@ -89,11 +89,8 @@ impl Sink for Shelf {
     }
 }
 
-/// Whether a run in which frames leave with the events 2 and 4 ends so over a sink with this room.
-fn ends(alloc: Global, room: usize, ended: Result<(), usize>) -> bool {
-    let (Ok(mut world), Ok(mut shelf)) = (opened(alloc, 1), Shelf::new(alloc, room)) else {
-        return false;
-    };
+/// Whether a run in which frames leave with the events 2 and 4 ends so over this sink.
+fn ends_over(world: &mut World, shelf: &mut Shelf, ended: Result<(), usize>) -> bool {
     let frame = client_frame(Kind4::Discover, 1, &[]);
     let (a, now) = (circuit(0), Moment::first());
     let events = [
@@ -103,7 +100,17 @@ fn ends(alloc: Global, room: usize, ended: Result<(), usize>) -> bool {
         Event::Down(a, 9),
         Event::Down(a, 0),
     ];
-    world.run(&events, &mut shelf) == ended && shelf.frames.len() == room
+    world.run(&events, shelf) == ended
+}
+
+/// The same over a sink with this room, which it fills.
+fn ends(alloc: Global, room: usize, ended: Result<(), usize>) -> bool {
+    match (opened(alloc, 1), Shelf::new(alloc, room)) {
+        (Ok(mut world), Ok(mut shelf)) => {
+            ends_over(&mut world, &mut shelf, ended) && shelf.frames.len() == room
+        }
+        _ => false,
+    }
 }
 
 #[test]
@@ -191,21 +198,26 @@ fn has(world: &World, rows: &[Bytes]) -> bool {
 }
 
 /// Whether the region is as it should be after an offer, the first lease and when it is extended.
-fn keeps_a_lease(alloc: Global) -> bool {
-    let Ok(mut world) = opened(alloc, 1) else {
-        return false;
-    };
-    is_answered(&mut world, Kind4::Discover, &[], 255)
-        && has(&world, &OFFERED)
-        && is_answered(&mut world, Kind4::Request, SELECTS, 267)
-        && has(&world, &LEASED)
-        && is_answered_at(&mut world, Kind4::Request, SELECTS, 267, 102)
-        && has(&world, &RENEWED)
+fn keeps_a_lease(world: &mut World) -> bool {
+    is_answered(world, Kind4::Discover, &[], 255)
+        && has(world, &OFFERED)
+        && is_answered(world, Kind4::Request, SELECTS, 267)
+        && has(world, &LEASED)
+        && is_answered_at(world, Kind4::Request, SELECTS, 267, 102)
+        && has(world, &RENEWED)
+}
+
+/// The same of a world that is opened for it.
+fn a_world_keeps_a_lease(alloc: Global) -> bool {
+    match opened(alloc, 1) {
+        Ok(mut world) => keeps_a_lease(&mut world),
+        Err(_) => false,
+    }
 }
 
 #[test]
 fn the_bytes_of_a_lease(rt: HostRuntime) {
-    assert!(rt; keeps_a_lease(rt.alloc()));
+    assert!(rt; a_world_keeps_a_lease(rt.alloc()));
 }
 
 /// A region comes back like this, and a fault is set that has no effect on a region of format 2.
@@ -217,10 +229,7 @@ fn back(image: Image) -> Comeback {
 }
 
 /// Whether what names circuits, relays and plans that do not exist comes to nothing.
-fn passes_over_what_does_not_exist(alloc: Global) -> bool {
-    let Ok(mut world) = opened(alloc, 1) else {
-        return false;
-    };
+fn passes_over_what_does_not_exist(world: &mut World) -> bool {
     let frame = client_frame(Kind4::Discover, 1, &[]);
     let bytes = frame.as_slice();
     let (other, relay) = (circuit(1), RelayNo::new(1).unwrap());
@@ -237,18 +246,26 @@ fn passes_over_what_does_not_exist(alloc: Global) -> bool {
         Event::Down(other, 0),
         Event::StrayDown(relay, server, bytes),
     ];
-    each_comes_to(&mut world, &events, Outcome::Gone)
-        && each_comes_to(&mut world, &[Event::Restart(&comebacks)], Outcome::Done)
+    each_comes_to(world, &events, Outcome::Gone)
+        && each_comes_to(world, &[Event::Restart(&comebacks)], Outcome::Done)
         && each_comes_to(
-            &mut world,
+            world,
             &[Event::Reload(1), Event::Reload(255)],
             Outcome::NoPlan,
         )
-        && each_comes_to(&mut world, &[Event::Reload(0)], Outcome::Done)
-        && is_answered(&mut world, Kind4::Discover, &[], 255)
+        && each_comes_to(world, &[Event::Reload(0)], Outcome::Done)
+        && is_answered(world, Kind4::Discover, &[], 255)
+}
+
+/// The same of a world that is opened for it.
+fn a_world_passes_over_it(alloc: Global) -> bool {
+    match opened(alloc, 1) {
+        Ok(mut world) => passes_over_what_does_not_exist(&mut world),
+        Err(_) => false,
+    }
 }
 
 #[test]
 fn what_does_not_exist(rt: HostRuntime) {
-    assert!(rt; passes_over_what_does_not_exist(rt.alloc()));
+    assert!(rt; a_world_passes_over_it(rt.alloc()));
 }

@@ -24,13 +24,14 @@ const AGENT: &[u8] = &[82, 9, 1, 1, 97, 11, 4, 10, 0, 0, 1, 255];
 
 /// The datagram of a client's message that the relay of `ONE_CIRCUIT` sends up.
 fn datagram(kind: Kind4, ciaddr: &[u8; 4], options: &[u8]) -> PacketBuf {
-    let mut header = [0; 240];
-    header[..8].copy_from_slice(&[1, 1, 6, 1, 0, 0, 0, 1]);
-    header[12..16].copy_from_slice(ciaddr);
-    header[24..34].copy_from_slice(&[10, 0, 0, 1, 2, 0, 0, 0, 0, 1]);
-    header[236..].copy_from_slice(&[99, 130, 83, 99]);
     let mut bytes = PacketBuf::new();
-    let _ = bytes.extend(&header);
+    let _ = bytes.extend(&[1, 1, 6, 1, 0, 0, 0, 1]);
+    let _ = bytes.pad_to(12);
+    let _ = bytes.extend(ciaddr);
+    let _ = bytes.pad_to(24);
+    let _ = bytes.extend(&[10, 0, 0, 1, 2, 0, 0, 0, 0, 1]);
+    let _ = bytes.pad_to(236);
+    let _ = bytes.extend(&[99, 130, 83, 99]);
     let _ = bytes.extend(&[53, 1, kind.code()]);
     let _ = bytes.extend(options);
     let _ = bytes.extend(AGENT);
@@ -89,16 +90,12 @@ fn is_leased(alloc: Global, server: &mut Server, disk: &mut ModelDisk) -> bool
     ensures regions { HasRegions server.new.topology.circuits (device_of disk.new).count }
     ensures ready { AreReady (device_of disk.new).region server.new }
 {
-    is_due(alloc, server, None)
-        && is_answered(server, disk, &datagram(Kind4::Discover, &[0; 4], &[]), 100)
-        && is_due(alloc, server, Some(160))
-        && is_answered(
-            server,
-            disk,
-            &datagram(Kind4::Request, &[0; 4], SELECTS),
-            101,
-        )
-        && is_due(alloc, server, Some(701))
+    let is_free = is_due(alloc, server, None);
+    let is_offered = is_answered(server, disk, &datagram(Kind4::Discover, &[0; 4], &[]), 100);
+    let is_held = is_due(alloc, server, Some(160));
+    let request = datagram(Kind4::Request, &[0; 4], SELECTS);
+    let is_given = is_answered(server, disk, &request, 101);
+    is_free && is_offered && is_held && is_given && is_due(alloc, server, Some(701))
 }
 
 /// A second before its end the lease is still there; then its client gives it up.
@@ -109,14 +106,10 @@ fn is_released(alloc: Global, server: &mut Server, disk: &mut ModelDisk) -> bool
     ensures ready { AreReady (device_of disk.new).region server.new }
 {
     server.tick(moment(700));
-    is_due(alloc, server, Some(701))
-        && !is_answered(
-            server,
-            disk,
-            &datagram(Kind4::Release, &[10, 0, 0, 10], RELEASES),
-            700,
-        )
-        && is_due(alloc, server, None)
+    let is_held = is_due(alloc, server, Some(701));
+    let release = datagram(Kind4::Release, &[10, 0, 0, 10], RELEASES);
+    let is_silent = !is_answered(server, disk, &release, 700);
+    is_held && is_silent && is_due(alloc, server, None)
 }
 
 /// A later offer ends by the tick of its end, and not before.
@@ -124,30 +117,34 @@ fn ends(alloc: Global, server: &mut Server, disk: &mut ModelDisk) -> bool
     requires regions { HasRegions server.old.topology.circuits (device_of disk.old).count }
     requires ready { AreReady (device_of disk.old).region server.old }
 {
-    if !is_answered(server, disk, &datagram(Kind4::Discover, &[0; 4], &[]), 702) {
-        return false;
-    }
+    let is_offered = is_answered(server, disk, &datagram(Kind4::Discover, &[0; 4], &[]), 702);
     server.tick(moment(761));
     let is_held = is_due(alloc, server, Some(762));
     server.tick(moment(762));
-    is_held && is_due(alloc, server, None)
+    is_offered && is_held && is_due(alloc, server, None)
 }
 
 /// Whether all of it is so for a server of one circuit.
-fn follows_the_slot(alloc: Global) -> bool {
-    let (Ok(config), Ok(mut disk)) = (Config::read(alloc, ONE_CIRCUIT), ModelDisk::new(alloc, 1))
-    else {
+fn follows_the_slot(alloc: Global, config: &Config, disk: &mut ModelDisk) -> bool
+    requires synced { (q : ℕ) → IsClean (state_of disk.old q) }
+{
+    let Ok(mut server) = open_over(alloc, config, disk) else {
         return false;
     };
-    let Ok(mut server) = open_over(alloc, &config, &mut disk) else {
-        return false;
-    };
-    is_leased(alloc, &mut server, &mut disk)
-        && is_released(alloc, &mut server, &mut disk)
-        && ends(alloc, &mut server, &mut disk)
+    let begins = is_leased(alloc, &mut server, disk);
+    let stops = is_released(alloc, &mut server, disk);
+    begins && stops && ends(alloc, &mut server, disk)
+}
+
+/// The same over a disk that is made for it.
+fn a_server_follows_the_slot(alloc: Global) -> bool {
+    match (Config::read(alloc, ONE_CIRCUIT), ModelDisk::new(alloc, 1)) {
+        (Ok(config), Ok(mut disk)) => follows_the_slot(alloc, &config, &mut disk),
+        _ => false,
+    }
 }
 
 #[test]
 fn deadlines_follow_a_slot(rt: HostRuntime) {
-    assert!(rt; follows_the_slot(rt.alloc()));
+    assert!(rt; a_server_follows_the_slot(rt.alloc()));
 }

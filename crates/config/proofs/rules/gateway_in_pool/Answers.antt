@@ -1,5 +1,6 @@
 use Rattle.std.proofs.Common.{List, subst, sym}
 use Rattle.std.specs.Prelude.{All}
+use Rattle.std.proofs.lemmas.Option.{slice_get_within}
 use Rattle.types.specs.Addr.{number4, number6}
 use Rattle.settings.specs.declared.settings.CircuitConfig.{CircuitConfig}
 use Rattle.config.specs.Rules.{IsInPool4, IsInPool6}
@@ -24,3 +25,25 @@ returns-clause-none c = λ s same. record {
   four = subst (λ (circuits : List CircuitConfig). All (λ one. All (λ other. ¬ IsInPool4 other (number4 one.gateway4)) circuits) circuits) (sym same) c.in_default.ensures.none;
   six = subst (λ (circuits : List CircuitConfig). All (λ one. All (λ other. ¬ IsInPool6 other (number6 one.link6)) circuits) circuits) (sym same) c.in_default-first_of_all.ensures.none;
 }
+
+pub circuit_ref-circuit-requires : goal.circuit_ref-circuit-requires
+circuit_ref-circuit-requires c =
+    let found = c.in-Some.ensures.some in
+    slice_get_within c.args.circuits.now c.in-Some.first found.one found.one_is
+
+pub circuit_ref-owner-requires : goal.circuit_ref-owner-requires
+circuit_ref-owner-requires c =
+    let found = c.in-Some.ensures.some in
+    slice_get_within c.args.circuits.now c.in-Some.second found.other found.other_is
+
+pub circuit_ref-circuit-requires-in-Some-first_of_all :
+    goal.circuit_ref-circuit-requires-in-Some-first_of_all
+circuit_ref-circuit-requires-in-Some-first_of_all c =
+    let found = c.in-Some-first_of_all.ensures.some in
+    slice_get_within c.args.circuits.now c.in-Some-first_of_all.first found.one found.one_is
+
+pub circuit_ref-owner-requires-in-Some-first_of_all :
+    goal.circuit_ref-owner-requires-in-Some-first_of_all
+circuit_ref-owner-requires-in-Some-first_of_all c =
+    let found = c.in-Some-first_of_all.ensures.some in
+    slice_get_within c.args.circuits.now c.in-Some-first_of_all.second found.other found.other_is
