@@ -1,5 +1,5 @@
 //! When the slot of a client's address is due, from its offer to the end of its lease.
-ghost use Rattle.std.specs.Prelude.{◌≡◌, ℕ, length, true};
+ghost use Rattle.std.specs.Prelude.{IfOk, ◌≡◌, ℕ, length, true};
 ghost use Rattle.lease_disk.specs.Model.{device_of, state_of};
 ghost use Rattle.lease_disk.specs.Region.{IsClean};
 ghost use Rattle.dispatch.specs.Regions.{HasRegions};
@@ -45,6 +45,8 @@ fn moment(seconds: u64) -> Moment {
 /// A server over a disk in which nothing is unsynced.
 fn open_over(alloc: Global, config: &Config, disk: &mut ModelDisk) -> Result<Server, OpenFault>
     requires synced { (q : ℕ) → IsClean (state_of disk.old q) }
+    ensures regions { IfOk result (λ server. HasRegions server.topology.circuits (device_of disk.new).count) }
+    ensures ready { IfOk result (λ server. AreReady (device_of disk.new).region server) }
 {
     Server::open(alloc, config, disk)
 }
