@@ -103,13 +103,19 @@ fn ends_over(world: &mut World, shelf: &mut Shelf, ended: Result<(), usize>) -> 
     world.run(&events, shelf) == ended
 }
 
+/// The same of a world that is opened for it.
+fn a_world_ends_over(alloc: Global, shelf: &mut Shelf, ended: Result<(), usize>) -> bool {
+    match opened(alloc, 1) {
+        Ok(mut world) => ends_over(&mut world, shelf, ended),
+        Err(_) => false,
+    }
+}
+
 /// The same over a sink with this room, which it fills.
 fn ends(alloc: Global, room: usize, ended: Result<(), usize>) -> bool {
-    match (opened(alloc, 1), Shelf::new(alloc, room)) {
-        (Ok(mut world), Ok(mut shelf)) => {
-            ends_over(&mut world, &mut shelf, ended) && shelf.frames.len() == room
-        }
-        _ => false,
+    match Shelf::new(alloc, room) {
+        Ok(mut shelf) => a_world_ends_over(alloc, &mut shelf, ended) && shelf.frames.len() == room,
+        Err(_) => false,
     }
 }
 
