@@ -121,7 +121,8 @@ def half_of(region, slot, which):
         return Half(region[half_at(slot, which):half_at(slot, which) + HALF])
     bank = region[BANK * which:BANK * (which + 1)]
     place = bank[32 + 80 * slot:][:80] if slot < POOL else bank[1312 + 152 * (slot - POOL):][:152]
-    return Half((bank[:1] + place[:2] + bank[1:2] + place[4:8] + bank[8:16] + place[8:16] + bytes(8) + place[16:]).ljust(HALF, b"\0"))
+    head = bank[:1] + place[:2] + bank[1:2] + place[4:8] + bank[8:16] + place[8:16] + bytes(8)
+    return Half((head + place[16:]).ljust(HALF, b"\0"))
 
 
 def counting(region, slot):

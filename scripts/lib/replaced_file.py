@@ -1,5 +1,8 @@
 """Files that are written so that a stop at any moment leaves the old one or the new one, whole."""
+import contextlib
 import os
+import stat
+import time
 
 from operator_script import Refused
 
@@ -45,3 +48,37 @@ def write_beside(path, parts, mode, owner=None):
         os.unlink(new)
         raise
     return new
+
+
+def owner_of(path, file):
+    """Whom a file's successor belongs to, and its mode: as the old one's, or its folder's where there is none."""
+    if file:
+        return (file.status.st_uid, file.status.st_gid), stat.S_IMODE(file.status.st_mode)
+    folder = os.stat(folder_of(path))
+    return (folder.st_uid, folder.st_gid), 0o600
+
+
+def keep(path):
+    """Gives a file a second name, and returns it."""
+    name = path + time.strftime(".before-%Y%m%dT%H%M%S")
+    for end in ("", *(f"-{count}" for count in range(1, 100))):
+        with contextlib.suppress(FileExistsError):
+            os.link(path, name + end)
+            return name + end
+    raise Refused(5, f"{name}: is there already")
+
+
+def put(path, regions, file, check=lambda new: None):
+    """Puts these regions in the place of a file, if there is one, once `check` has refused nothing of the new file. Returns
+    what the old one is called from then on."""
+    owner, mode = owner_of(path, file)
+    new = write_beside(path, regions, mode, owner)
+    try:
+        check(new)
+        kept = keep(path) if file else None
+        os.rename(new, path)
+    except BaseException:
+        os.unlink(new)
+        raise
+    sync_folder(path)
+    return kept

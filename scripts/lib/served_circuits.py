@@ -7,7 +7,8 @@ import tomllib
 from operator_script import Refused, say
 
 BUILT = pathlib.Path(__file__).resolve().parent / "built"
-PORTS = 4
+# of a circuit, and circuits of an `accessd`
+PORTS, MOST_SERVED = 4, 16
 
 
 def built(name):
@@ -33,18 +34,15 @@ class Listing:
         self.status, self.words = done.returncode, done.stderr.decode("utf-8", "replace").rstrip("\n")
         self.lines = [json.loads(line) for line in done.stdout.splitlines()]
 
-    def of(self, circuit, *states):
-        return [line for line in self.lines if line["circuit"] == circuit and line["state"] in states]
-
-    def unread(self):
-        """Why each circuit is not listed, by its id."""
-        return {line["circuit"]: line["why"] for line in self.lines if line["state"] in ("closed", "busy")}
+    def unread(self, state):
+        """Why each circuit is not listed that is in this state, 'closed' or 'busy', by its id."""
+        return {line["circuit"]: line["why"] for line in self.lines if line["state"] == state}
 
 
 def listing(config, file, takes_busy=False):
     """The listing, where `leases` refuses nothing, and no circuit is busy unless that is taken too."""
     found = Listing(config, file)
-    busy = [f"{line['circuit']}: {line['why']}" for line in found.lines if line["state"] == "busy"]
+    busy = [f"{circuit}: {why}" for circuit, why in found.unread("busy").items()]
     if found.status and not (busy and takes_busy):
         raise Refused(found.status if found.status > 0 else 5, "\n".join(busy) or found.words or "leases was stopped")
     return found
