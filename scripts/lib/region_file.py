@@ -72,9 +72,8 @@ class RegionFile:
         return data
 
     def region(self, number):
-        """The bytes of a region that two readings in a row had. From the end of the first to the beginning of the second
-        each of them stood in the file, unless it changed and changed back between its two readings. No save does that: the
-        half that it writes has the next sequence, and the same again only after six saves of its slot."""
+        """The bytes of a region that two readings in a row had. The file had them at one moment between the beginning of the
+        first and the end of the second: docs/DECISIONS.md, The scripts of operators, says why two suffice."""
         before = self.reading(number)
         for count in range(1, READINGS):
             now = self.reading(number)
