@@ -1,10 +1,13 @@
 """The circuits of a configuration and the leases in the file of its `accessd`, for the scripts of operators."""
+import errno
 import json
+import os
 import pathlib
+import stat
 import subprocess
 import tomllib
 
-from operator_script import Refused, say
+from operator_script import Refused, cause, say
 
 BUILT = pathlib.Path(__file__).resolve().parent / "built"
 # of a circuit, and circuits of an `accessd`
@@ -22,6 +25,21 @@ def built(name):
     return found.stdout.decode("utf-8", "surrogateescape").removesuffix("\n")
 
 
+def why_unread(*paths):
+    """The system's cause why one of these files can't be read, or None."""
+    for path in paths:
+        try:
+            # a FIFO is not waited for
+            file = os.open(path, os.O_RDONLY | os.O_NONBLOCK | os.O_CLOEXEC)
+            is_folder = stat.S_ISDIR(os.fstat(file).st_mode)
+            os.close(file)
+            if is_folder:
+                return f"{path}: {os.strerror(errno.EISDIR)}"
+        except OSError as error:
+            return cause(error)
+    return None
+
+
 class Listing:
     """What `leases` says of a file by a configuration: a line for each lease and for each circuit that is closed or busy.
     Its words are those that the program has on standard error, and its status is not 0 where it lists nothing or a circuit
@@ -32,6 +50,8 @@ class Listing:
         command = [built("leases"), "--json", f"--disk={file}", "--", config]
         done = subprocess.run(command, stdin=subprocess.DEVNULL, capture_output=True)
         self.status, self.words = done.returncode, done.stderr.decode("utf-8", "replace").rstrip("\n")
+        if self.status == 5:
+            self.words = why_unread(config, file) or self.words
         self.lines = [json.loads(line) for line in done.stdout.splitlines()]
 
     def unread(self, state):
