@@ -24,6 +24,42 @@ LONGEST = 604800
 LAST_END = LAST_CLOCK + LONGEST
 
 
+def config_of(path):
+    """The file beside a file of leases, or beside a copy of it, that has the configuration by which it is served."""
+    return path + ".config"
+
+
+class KeptFile:
+    """What stands beside a file of leases, open for reading; a server holds its lock as long as it runs."""
+
+    def __init__(self, path):
+        self.path = config_of(path)
+        self.file = os.open(self.path, os.O_RDONLY | os.O_NONBLOCK | os.O_CLOEXEC)
+        self.status = os.fstat(self.file)
+
+    def __enter__(self):
+        return self
+
+    def __exit__(self, *_):
+        os.close(self.file)
+
+    def lock(self):
+        lock(self.file, f"{self.path}: in use; stop the server first")
+
+
+def kept_beside(path):
+    """What stands beside a file of leases, or None where nothing does."""
+    return KeptFile(path) if os.path.lexists(config_of(path)) else None
+
+
+def lock(file, words, kind=fcntl.LOCK_EX):
+    """Takes the lock that `accessd` holds on its file while it runs, until the file is closed."""
+    try:
+        fcntl.flock(file, kind | fcntl.LOCK_NB)
+    except BlockingIOError:
+        raise Refused(5, words) from None
+
+
 class RegionFile:
     """A file of regions, open for reading. Where another length is allowed, `regions` counts those that are whole."""
 
@@ -56,11 +92,7 @@ class RegionFile:
         os.close(self.file)
 
     def lock(self, words, kind=fcntl.LOCK_EX):
-        """Takes the lock that `accessd` holds while it runs, until the file is closed."""
-        try:
-            fcntl.flock(self.file, kind | fcntl.LOCK_NB)
-        except BlockingIOError:
-            raise Refused(5, f"{self.path}: {words}") from None
+        lock(self.file, f"{self.path}: {words}", kind)
 
     def is_same(self, other):
         return os.path.samestat(self.status, other.status)

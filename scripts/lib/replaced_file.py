@@ -68,11 +68,11 @@ def keep(path):
     raise Refused(5, f"{name}: is there already")
 
 
-def put(path, regions, file, check=lambda new: None):
-    """Puts these regions in the place of a file, if there is one, once `check` has refused nothing of the new file. Returns
-    what the old one is called from then on."""
+def put(path, parts, file, check=lambda new: None):
+    """Puts these bytes in the place of a file, if there is one, once `check` has refused nothing of the new file. Returns what
+    the old one is called from then on."""
     owner, mode = owner_of(path, file)
-    new = write_beside(path, regions, mode, owner)
+    new = write_beside(path, parts, mode, owner)
     try:
         check(new)
         kept = keep(path) if file else None
