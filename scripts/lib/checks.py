@@ -46,7 +46,9 @@ def leases_by_circuit(text, circuits, file):
         done, _ = run_over("leases", [text], "--disk", file, "--json")
     except Refused:
         return {}
-    found = {circuit["id"]: [] for circuit in circuits} if done.returncode in (0, 4) and done.stdout else {}
+    # with 4 some of them are listed, or none
+    is_listed = done.returncode == 0 or done.returncode == 4 and done.stdout
+    found = {circuit["id"]: [] for circuit in circuits} if is_listed else {}
     for line in map(json.loads, done.stdout.splitlines()):
         if line["state"] in ("closed", "busy"):
             found.pop(line["circuit"], None)

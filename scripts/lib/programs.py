@@ -44,7 +44,7 @@ def run_over(name, texts, *words):
     """Runs a program over configurations with these texts, before its other words."""
     files = shown(texts)
     try:
-        paths = [f"/dev/fd/{file}" for file in files]
+        paths = [f"/proc/self/fd/{file}" for file in files]
         done = subprocess.run([program(name), *paths, *words], stdin=subprocess.DEVNULL, stdout=subprocess.PIPE,
                               stderr=subprocess.PIPE, pass_fds=files, text=True, errors="replace")
         return done, paths

@@ -6,7 +6,7 @@ from pathlib import Path
 
 from client import DISCOVER, REQUEST, Circuit, Server, reboot, select
 
-ADD = os.environ["ROOT"] + "/scripts/operate/add-region"
+ADD = os.environ["ROOT"] + "/scripts/operate/add-regions"
 REGION = 32768
 
 
