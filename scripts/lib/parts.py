@@ -168,9 +168,9 @@ def say_changes(places, parts, texts, folder):
             for end in ("toml", "env"):
                 (folder / f"part{part}.{end}").unlink()
             print(f"part{part} is gone: stop its server")
-        elif part not in places.parts:
+        elif part not in places.parts and places.parts:
             print(f"part{part} is new: {len(parts[part])} circuits")
-        elif read(folder / f"part{part}.toml") != texts[part]:
+        elif part in places.parts and read(folder / f"part{part}.toml") != texts[part]:
             print(f"part{part} has changed: {len(parts[part])} circuits")
 
 
