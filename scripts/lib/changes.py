@@ -93,7 +93,8 @@ def last_words(circuit, leases):
     if circuit["id"] not in leases:
         return f"what {name(circuit)} has leased is not known"
     count, date = leases[circuit["id"]]
-    return f"{name(circuit)} has {count} leases, and the last ends {date}" if count else f"{name(circuit)} has no lease"
+    leased = f"{count} lease{'s' if count > 1 else ''} until {date}" if count else "no lease"
+    return f"{name(circuit)} has {leased}"
 
 
 def by_id(circuits):

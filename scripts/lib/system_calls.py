@@ -76,7 +76,7 @@ class Watch:
     def __init__(self, names=OUTGOING):
         self.names = names
         self.calls, self.descriptors = [], []
-        self.left, self.failing = 0, ()
+        self.left, self.failing, self.kills = 0, (), False
         self.broken = []
 
     def start(self, command, **how):
@@ -93,6 +93,10 @@ class Watch:
     def fail(self, k, names=tuple(NUMBERS)):
         """The k-th call of these names from now on fails with EIO."""
         self.left, self.failing = k, names
+
+    def kill(self, k):
+        """Where it would make the k-th of its calls from now on, the program is killed."""
+        self.left, self.failing, self.kills = k, tuple(NUMBERS), True
 
     def break_receives(self, port):
         """From now on every receive from the socket with this port fails with EIO, and no other one. Waits for the first, since
@@ -126,6 +130,8 @@ class Watch:
             self.left -= counts
             is_broken = names[call] == "receive" and first_argument in self.broken
             fails = counts and self.left == 0 or is_broken
+            if fails and self.kills:
+                self.process.kill()
             self.descriptors.append(first_argument)
             self.calls.append(names[call] + (" fails" if fails else ""))
             how = (-errno.EIO, 0) if fails else (0, CONTINUE)
