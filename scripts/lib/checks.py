@@ -142,5 +142,5 @@ def judge(path, file, port, is_new=False, accepting=False):
     except Refused as error:
         verdict.refuse(error.status, [str(error)])
     except OSError as error:
-        verdict.refuse(SYSTEM, [f"{error.filename}: {error.strerror}"])
+        verdict.refuse(SYSTEM, [f"{error.filename or file}: {error.strerror}"])
     return verdict

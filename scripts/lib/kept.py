@@ -6,6 +6,7 @@ import os
 
 from configurations import read_text, table, text_of
 from programs import Refused, read
+from regions import give_to_folder
 
 # after this line stand tables that no program reads
 MARK = b"# No longer served, but FILE may have their leases:\n"
@@ -67,6 +68,7 @@ def put(path, text, hold=False):
     new = path + ".new"
     file = os.open(new, os.O_WRONLY | os.O_CREAT | os.O_TRUNC, 0o666)
     try:
+        give_to_folder(file, path)
         if hold:
             fcntl.flock(file, fcntl.LOCK_EX | fcntl.LOCK_NB)
         left = text

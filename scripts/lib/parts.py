@@ -12,7 +12,7 @@ from checks import used_lines
 from configurations import FIRST_PORT, LEAST_PORT, MOST, PORTS, read_text, text_of
 from kept import config_of, hold, kept_beside, put, sync_folder, text_to_keep
 from programs import Refused, read, refusal
-from regions import NotRegions, Regions, add, count_in
+from regions import NotRegions, Regions, add, count_in, give_to_folder
 
 # the ports of a part's circuits, and those of its server and relays, which come after the circuits' of all parts
 PARTS = 64
@@ -109,6 +109,7 @@ def copy_leases(file, folder, part, text, removed):
         while number <= max(circuit["region"] for circuit in read_text(text)["circuit"]):
             add(copy.fileno(), number)
             number += 1
+        give_to_folder(copy.fileno(), path)
         os.fsync(copy.fileno())
     put(config_of(path), text_to_keep(text, removed))
     os.rename(new, path)

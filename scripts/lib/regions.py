@@ -45,12 +45,20 @@ def add(file, number):
     os.fsync(file)
 
 
+def give_to_folder(file, path):
+    """What root writes belongs to whom its folder belongs to: a service that runs as another user."""
+    if os.geteuid() == 0:
+        folder = os.stat(os.path.dirname(path) or ".")
+        os.fchown(file, folder.st_uid, folder.st_gid)
+
+
 def make(path, count):
     """Makes a file of so many formatted regions. It has its name once it is whole and synced. A file that has this name by then
     is left alone."""
     new = path + ".new"
     file = os.open(new, os.O_RDWR | os.O_CREAT | os.O_TRUNC, 0o666)
     try:
+        give_to_folder(file, path)
         write_whole(file, formatted() * count, 0)
         os.fsync(file)
         os.link(new, path)
@@ -64,11 +72,11 @@ def count_in(file):
     after them."""
     info = os.fstat(file)
     count, rest = divmod(info.st_size, REGION)
-    tail = os.pread(file, rest, REGION * count)
-    begun = all(byte in (0, ours) for byte, ours in zip(tail, formatted()))
-    if not stat.S_ISREG(info.st_mode) or not 0 < count <= MOST or not begun or (rest and count == MOST):
-        raise NotRegions(f"not a file of 1 to {MOST} regions of {REGION} bytes")
-    return count
+    if stat.S_ISREG(info.st_mode) and 0 < count <= (MOST - 1 if rest else MOST):
+        tail = os.pread(file, rest, REGION * count)
+        if all(byte in (0, ours) for byte, ours in zip(tail, formatted())):
+            return count
+    raise NotRegions(f"not a file of 1 to {MOST} regions of {REGION} bytes")
 
 
 class Regions:
