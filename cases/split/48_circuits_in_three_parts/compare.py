@@ -1,4 +1,4 @@
-"""A run of `accesslab` over 48 circuits, and one over each part that `scripts/split` makes of them, with the lines of its
+"""A run of `accesslab` over 48 circuits, and one over each part that `scripts/operate/split` makes of them, with the lines of its
 circuits alone: what is written for each circuit has to be the same. Of every 16 circuits one has a damaged region, two have
 a save that fails, one can't be read after the restart, and each names the server, an address and the id of a circuit of
 another part. `output` has what is written for whom by docs/FORMATS.md and docs/TABLES.md."""

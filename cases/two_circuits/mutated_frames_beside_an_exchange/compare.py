@@ -1,4 +1,4 @@
-"""20000 lines of scripts/mutated-lines on `c0`, and behind each ten of them the next line of `exchange` on `c1`, which begins
+"""20000 lines of scripts/gate/mutated-lines on `c0`, and behind each ten of them the next line of `exchange` on `c1`, which begins
 again where it has ended. What is written for `c1` has to be what stands behind ' > ' there, by docs/TABLES.md, and for a
 frame on `c0` what reading.py says. The kinds of answers on `c0` are printed too: each reason that docs/FORMATS.md has for a
 client's frame, and each for a server whose disk does not fail, but those that no frame meets since the relay drops it (22) or
@@ -31,7 +31,7 @@ def kind(answer):
 
 
 def main():
-    mutated = subprocess.run([f"{os.environ['ROOT']}/scripts/mutated-lines", str(COUNT), "1"],
+    mutated = subprocess.run([f"{os.environ['ROOT']}/scripts/gate/mutated-lines", str(COUNT), "1"],
                              capture_output=True, text=True, check=True).stdout.splitlines()
     lines, others = [], fixed()
     for number, line in enumerate(mutated, 1):

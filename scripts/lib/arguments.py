@@ -1,0 +1,67 @@
+"""The command line of an operator's scripts: options that stand alone, and then words such as CONFIG, FILE and PORT."""
+import signal
+import sys
+
+from configurations import FIRST_PORT
+from programs import Refused
+
+
+def ended(help_text, fault):
+    """Ends a script with its help, and where something is wrong with that first."""
+    if fault is None:
+        print(help_text)
+        sys.exit(0)
+    print(f"error: {fault}", help_text, sep="\n", file=sys.stderr)
+    sys.exit(2)
+
+
+def number_of(help_text, name, word, most):
+    """A word that is a number from 1 on."""
+    if not (word.isascii() and word.isdecimal() and len(word) < 6 and 0 < int(word) <= most):
+        ended(help_text, f"{name} is 1 to {most}, and not {word}")
+    return int(word)
+
+
+def parsed(help_text, known, least, most):
+    """The options among a script's arguments and the words, of which there are so many. After `--` there are no options."""
+    options, words, given = set(), [], sys.argv[1:]
+    while given:
+        word = given.pop(0)
+        if word == "--":
+            words += given
+            break
+        if word in ("--help", "-h"):
+            ended(help_text, None)
+        if word.startswith("-"):
+            if word not in known:
+                ended(help_text, f"there is no option {word}")
+            options.add(word)
+        else:
+            words.append(word)
+    if not least <= len(words) <= most:
+        ended(help_text, f"{len(words)} arguments, and not {least if least == most else f'{least} to {most}'}")
+    if not all(words):
+        ended(help_text, "an argument is empty")
+    return options, words
+
+
+def parsed_service(help_text, known, least=2):
+    """The same of CONFIG, FILE and PORT."""
+    options, words = parsed(help_text, known, least, 3)
+    port = number_of(help_text, "PORT", words[2], 65535) if len(words) > 2 else FIRST_PORT
+    return options, words[0], words[1] if len(words) > 1 else None, port
+
+
+def run(main):
+    """Ends a script with its status, and with words in place of a traceback. Nobody who reads only its first lines makes it fail."""
+    signal.signal(signal.SIGPIPE, signal.SIG_DFL)
+    if signal.getsignal(signal.SIGINT) != signal.SIG_IGN:
+        signal.signal(signal.SIGINT, signal.SIG_DFL)
+    try:
+        sys.exit(main())
+    except Refused as error:
+        print(error, file=sys.stderr)
+        sys.exit(error.status)
+    except OSError as error:
+        print(f"{error.filename}: {error.strerror}" if error.filename else error.strerror, file=sys.stderr)
+        sys.exit(5)

@@ -1,0 +1,146 @@
+"""Whether a configuration may be served over a file of leases: what `scripts/operate/check` says, `serve` goes by, and `accept`
+changes."""
+import json
+import os
+
+from changes import Changes, name
+from configurations import faults, read_text, text_of, warnings
+from kept import config_of, is_accepted, kept_beside, text_to_keep
+from programs import Refused, read, refusal, run_over
+from regions import NotRegions, Regions
+
+SERVED, REFUSED, OTHER, DISK, SYSTEM = 0, 2, 3, 4, 5
+RESTORE = "docs/OPERATING.md, Back up and restore"
+
+
+class Verdict:
+    """Of a start with CONFIG at this path over a file, or without one: with which status it ends, or 0, and why, a line for each
+    reason; what it changes that has to be accepted; and the text that it keeps."""
+
+    def __init__(self, path, file, port, accepting):
+        self.path, self.file, self.port, self.accepting = path, file, port, accepting
+        self.status, self.lines, self.changes = SERVED, [], []
+        self.source = self.config = self.kept = self.text = None
+
+    def refuse(self, status, lines):
+        self.lines += lines
+        self.status = self.status or (status if lines else SERVED)
+
+    def change(self, head, lines):
+        """Refuses these changes, but where they are accepted, or about to be."""
+        self.changes = lines
+        if lines and not self.accepting and not is_accepted(self.file, self.kept, self.source):
+            self.refuse(OTHER, [head, *lines, f"to do this on purpose: scripts/operate/accept {self.path} {self.file}, then a start"])
+
+
+def plan_of(config, circuits):
+    """A configuration of these circuits, which were served before, behind the relays of this one."""
+    names = [relay["name"] for relay in config["relay"]]
+    circuits = [circuit if circuit["relay"] in names else {**circuit, "relay": names[0]} for circuit in circuits]
+    return text_of(config["server"], config["relay"], circuits).encode()
+
+
+def leases_by_circuit(text, circuits, file):
+    """How many leases each of these circuits has now and when the last ends, by id; nothing of those that can't be read."""
+    try:
+        done, _ = run_over("leases", [text], "--disk", file, "--json")
+    except Refused:
+        return {}
+    # with 4 some of them are listed, or none
+    is_listed = done.returncode == 0 or done.returncode == 4 and done.stdout
+    found = {circuit["id"]: [] for circuit in circuits} if is_listed else {}
+    for line in map(json.loads, done.stdout.splitlines()):
+        if line["state"] in ("closed", "busy"):
+            found.pop(line["circuit"], None)
+        elif line["circuit"] in found:
+            found[line["circuit"]].append((line["until"], line["date"]))
+    return {key: (len(ends), max(ends)[1] if ends else None) for key, ends in found.items()}
+
+
+def region_lines(config, regions, kept):
+    """The circuits whose region is not in the file, which has fewer."""
+    before = {circuit["id"]: circuit["region"] for circuit in kept.config["circuit"]} if kept else {}
+    missing = [circuit for circuit in config["circuit"] if circuit["region"] >= regions.count]
+    for circuit in missing:
+        if before.get(circuit["id"]) == circuit["region"]:
+            yield (f"{regions.path} has {regions.count} regions and no region {circuit['region']}, where the leases of "
+                   f"{name(circuit)} were: it is not the file that was served; put its copy in its place")
+    added = [circuit for circuit in missing if before.get(circuit["id"]) != circuit["region"]]
+    if added:
+        most = max(added, key=lambda circuit: circuit["region"])
+        count = most["region"] + 1 - regions.count
+        yield (f"{regions.path} has {regions.count} regions and no region {most['region']} for {name(most)}: stop the server, then "
+               f"scripts/operate/add-regions {regions.path} {count}")
+
+
+def used_lines(circuits, regions):
+    """The circuits that are new and whose region is not."""
+    for circuit in circuits:
+        if circuit["region"] < regions.count and not regions.unused[circuit["region"]]:
+            yield (f"{name(circuit)} is new and region {circuit['region']} is not: it has what another circuit left there, or was "
+                   "never formatted; scripts/operate/add-regions adds one that is new")
+
+
+def judge_without(verdict, regions):
+    """Over a file beside which nothing is kept: it has no leases, or nobody knows of which circuits."""
+    lines = [] if all(regions.unused) else [
+        f"{verdict.path} is served over {verdict.file} as it is: its leases are those of the circuits with their regions"]
+    verdict.change(f"{verdict.file} may have leases, and no {config_of(verdict.file)} says of which circuits:", lines)
+    verdict.text = text_to_keep(verdict.source, [])
+
+
+def judge_after(verdict, regions):
+    """Over a file beside which is kept what was served over it last."""
+    kept, config = verdict.kept, verdict.config
+    changes = Changes(kept, config, verdict.port,
+                      lambda circuits: leases_by_circuit(plan_of(config, circuits), circuits, verdict.file))
+    lines = changes.refused + list(used_lines(changes.added, regions))
+    if not lines and verdict.source != kept.text:
+        # the rules for configurations that follow each other are those of `accesslab`
+        before = [plan_of(config, changes.removed)] if changes.removed else []
+        names = [kept.path, *("what was served before" for _ in before), verdict.path]
+        words = refusal(names, [kept.text, *before, verdict.source])
+        lines = [str(words)] if words else []
+    verdict.change(f"{verdict.path} differs from {kept.path}, which was served last:", lines)
+    verdict.text = text_to_keep(verdict.source, changes.removed)
+
+
+def judge_file(verdict, is_new):
+    """Over a file, and over what is kept beside it."""
+    file, kept = verdict.file, kept_beside(verdict.file)
+    verdict.kept = kept
+    if not os.path.lexists(file):
+        lost = f"{file} is missing, and {config_of(file)} is there: the leases were lost; put their copy in its place ({RESTORE})"
+        first = f"{file} is missing: where it is to be made, say --new; where it was lost, put its copy in its place"
+        verdict.refuse(OTHER, [lost] if kept else [] if is_new else [first])
+        verdict.text = text_to_keep(verdict.source, [])
+        return
+    try:
+        regions = Regions(file)
+    except NotRegions as error:
+        return verdict.refuse(DISK, [f"{file}: {error}"])
+    if kept:
+        judge_after(verdict, regions)
+    else:
+        judge_without(verdict, regions)
+    verdict.refuse(DISK, list(region_lines(verdict.config, regions, kept)))
+
+
+def judge(path, file, port, is_new=False, accepting=False):
+    """Whether the configuration at this path may be served from this port on, over this file where one is given."""
+    verdict = Verdict(path, file, port, accepting)
+    try:
+        verdict.source = read(path)
+        refused = refusal([path], [verdict.source])
+        if refused:
+            raise refused
+        verdict.config = read_text(verdict.source)
+        verdict.refuse(REFUSED, [f"{path}: {line}" for line in faults(verdict.config, port)])
+        if file and not verdict.status:
+            judge_file(verdict, is_new)
+        verdict.lines += [f"warning: {path}: {line}" for line in warnings(verdict.config)]
+    except Refused as error:
+        verdict.refuse(error.status, [str(error)])
+    except OSError as error:
+        verdict.refuse(SYSTEM, [f"{error.filename or file}: {error.strerror}"])
+    return verdict

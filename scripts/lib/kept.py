@@ -1,0 +1,124 @@
+"""What `scripts/operate/serve` keeps beside the file of its leases, FILE: in FILE.config the configuration that it serves, and
+after it the circuits that it served before, whose leases FILE may still have; in FILE.accepted, what was accepted on purpose."""
+import fcntl
+import hashlib
+import os
+
+from configurations import read_text, table, text_of
+from programs import Refused, read
+from regions import give_to_folder
+
+# after this line stand tables that no program reads
+MARK = b"# No longer served, but FILE may have their leases:\n"
+
+
+def config_of(file):
+    return file + ".config"
+
+
+def accepted_of(file):
+    return file + ".accepted"
+
+
+class Kept:
+    """What is kept beside FILE: the text as it is, the configuration that is served, and the circuits that no longer are."""
+
+    def __init__(self, path, text):
+        self.path, self.text = path, text
+        self.served = text.partition(MARK)[0]
+        self.config = read_text(text)
+        self.removed = self.config.get("removed", [])
+        # each has what is read of it later
+        text_of(self.config["server"], self.config["relay"], self.config["circuit"] + self.removed)
+
+
+def kept_beside(file):
+    """What is kept beside this file, or None."""
+    path = config_of(file)
+    if not os.path.lexists(path):
+        return None
+    text = read(path)
+    try:
+        return Kept(path, text)
+    except (ValueError, KeyError, TypeError):
+        raise Refused(5, f"{path}: this is not what scripts/operate/serve wrote there: put its copy in its place") from None
+
+
+def text_to_keep(text, removed):
+    """A configuration's text and the circuits that were served before it."""
+    served = text.partition(MARK)[0]
+    if not removed:
+        return served
+    served = served if served.endswith(b"\n") else served + b"\n"
+    tables = "\n".join(table("[[removed]]", "circuit", circuit) for circuit in removed)
+    return served + MARK + tables.encode()
+
+
+def sync_folder(path):
+    folder = os.open(os.path.dirname(path) or ".", os.O_RDONLY)
+    try:
+        os.fsync(folder)
+    finally:
+        os.close(folder)
+
+
+def put(path, text, hold=False):
+    """Puts a file with this text in its place, or leaves what is there: it is written under another name, synced, and renamed.
+    With `hold`, returns it open and locked, as it is from the moment on when it has its name."""
+    new = path + ".new"
+    file = os.open(new, os.O_WRONLY | os.O_CREAT | os.O_TRUNC, 0o666)
+    try:
+        give_to_folder(file, path)
+        if hold:
+            fcntl.flock(file, fcntl.LOCK_EX | fcntl.LOCK_NB)
+        left = text
+        while left:
+            left = left[os.write(file, left):]
+        os.fsync(file)
+        os.rename(new, path)
+        sync_folder(path)
+    except OSError as error:
+        os.close(file)
+        if os.path.lexists(new):
+            os.unlink(new)
+        error.filename = path
+        raise
+    if hold:
+        return file
+    os.close(file)
+    return None
+
+
+def hold(file):
+    """Locks what is kept beside a file, and returns it open, or None where nothing is. A server holds it as long as it runs."""
+    path = config_of(file)
+    while True:
+        try:
+            held = os.open(path, os.O_RDONLY)
+        except FileNotFoundError:
+            return None
+        try:
+            fcntl.flock(held, fcntl.LOCK_EX | fcntl.LOCK_NB)
+        except BlockingIOError:
+            os.close(held)
+            raise Refused(5, f"{file} is served: stop the server first") from None
+        # another may have been put in its place meanwhile
+        if os.path.exists(path) and os.path.samestat(os.fstat(held), os.stat(path)):
+            return held
+        os.close(held)
+
+
+def mark_of(kept, text):
+    """What says that this text may follow what is kept, and nothing else may."""
+    parts = kept.text if kept else b"", text
+    return " ".join(hashlib.sha256(part).hexdigest() for part in parts).encode() + b"\n"
+
+
+def is_accepted(file, kept, text):
+    """Whether this text was accepted on purpose over what is kept now."""
+    path = accepted_of(file)
+    return os.path.exists(path) and read(path) == mark_of(kept, text)
+
+
+def accept(file, kept, text):
+    put(accepted_of(file), mark_of(kept, text))

@@ -1,0 +1,74 @@
+"""What the scripts for operators do alike: how they read their command line, and how a fault ends them, with the system's
+cause in words and a status, and never with a traceback.
+
+Statuses: 2 the command line or the configuration is refused; 4 a file is not what it has to be, or is written all the time;
+5 the system refuses a file, a socket or a program."""
+import argparse
+import os
+import signal
+import sys
+
+
+class Refused(Exception):
+    """Why a script ends without having done what it is for."""
+
+    def __init__(self, status, words):
+        super().__init__(words)
+        self.status, self.words = status, words
+
+
+def say(words):
+    """A line on standard error, where there is one."""
+    if sys.stderr:
+        print(words, file=sys.stderr, flush=True)
+
+
+def parser(text):
+    """A parser of arguments that shows this text as help."""
+    return argparse.ArgumentParser(description=text, formatter_class=argparse.RawDescriptionHelpFormatter, allow_abbrev=False)
+
+
+def number(least, most):
+    """What reads an argument that is a number within these limits, in digits alone."""
+    def read(word):
+        if not (word.isascii() and word.isdigit() and len(word) < 10 and least <= int(word) <= most):
+            raise argparse.ArgumentTypeError(f"'{word}' is no number from {least} to {most}")
+        return int(word)
+    return read
+
+
+def cause(error):
+    """A fault of the system in words, with the file that it is about."""
+    words = error.strerror or str(error)
+    return f"{error.filename}: {words}" if error.filename is not None else words
+
+
+def run(main):
+    """Calls a script's main function and ends with the status that it returns."""
+    for ending in (signal.SIGTERM, signal.SIGHUP):
+        # so that what it has begun is taken back
+        signal.signal(ending, lambda got, _: sys.exit(128 + got))
+    for stream in (sys.stdout, sys.stderr):
+        if stream:
+            # a path may have bytes that are no text
+            stream.reconfigure(errors="backslashreplace")
+    try:
+        status = main()
+        if sys.stdout:
+            sys.stdout.flush()
+    except Refused as refused:
+        say(refused.words)
+        status = refused.status
+    except KeyboardInterrupt:
+        status = 130
+    except BrokenPipeError:
+        # whoever reads standard output has gone; nothing more can be written to it
+        os.dup2(os.open(os.devnull, os.O_WRONLY), 1)
+        status = 6
+    except OSError as error:
+        say(cause(error))
+        status = 5
+    except MemoryError:
+        say("out of memory")
+        status = 4
+    sys.exit(status)

@@ -1,0 +1,150 @@
+"""Watches the calls of a program that write to a file, sync it, send a datagram or receive one, and makes some of them fail.
+It needs nothing but Linux: the program runs under a seccomp filter that asks this process about each such call
+(SECCOMP_RET_USER_NOTIF, seccomp_unotify(2)). And copies a program's sockets (pidfd_getfd(2)).
+    python3 system_calls.py NAMES DESCRIPTOR COMMAND..   installs the filter for the calls of these names, with commas between
+        them, sends its listener there, and becomes COMMAND"""
+import ctypes
+import errno
+import fcntl
+import os
+import select
+import socket
+import struct
+import subprocess
+import sys
+import threading
+import time
+
+# x86-64
+NUMBERS = {"write": 18, "lengthen": 77, "sync": 75, "sync all": 74, "send": 44, "receive": 45}
+# what is watched by default: a server receives in vain all the time
+OUTGOING = ("write", "lengthen", "sync", "sync all", "send")
+# more receives than a server of one circuit makes in two turns that take nothing: at its two sockets and at a relay's
+TURNS = 10
+SYS_SECCOMP, PR_SET_NO_NEW_PRIVS, SET_MODE_FILTER, NEW_LISTENER = 317, 38, 1, 8
+SYS_PIDFD_GETFD = 438
+ALLOW, ASK = 0x7FFF0000, 0x7FC00000
+LOAD, JUMP_IF_EQUAL, RETURN = 0x20, 0x15, 0x06
+RECEIVE, ANSWER, CONTINUE = 0xC0502100, 0xC0182101, 1
+
+
+def rule(code, value, if_equal=0):
+    return struct.pack("HBBI", code, if_equal, 0, value)
+
+
+def listener(names):
+    """Installs the filter for this process and what it becomes."""
+    numbers = [NUMBERS[name] for name in names]
+    rules = [rule(LOAD, 0)]
+    rules += [rule(JUMP_IF_EQUAL, number, len(numbers) - index) for index, number in enumerate(numbers)]
+    rules += [rule(RETURN, ALLOW), rule(RETURN, ASK)]
+    code = ctypes.create_string_buffer(b"".join(rules))
+    program = ctypes.create_string_buffer(struct.pack("HP", len(rules), ctypes.addressof(code)))
+    libc = ctypes.CDLL(None, use_errno=True)
+    if libc.prctl(PR_SET_NO_NEW_PRIVS, 1, 0, 0, 0) != 0:
+        raise OSError(ctypes.get_errno(), "prctl")
+    descriptor = libc.syscall(SYS_SECCOMP, SET_MODE_FILTER, NEW_LISTENER, program)
+    if descriptor < 0:
+        raise OSError(ctypes.get_errno(), "seccomp")
+    return descriptor
+
+
+def copies(process):
+    """A copy of each socket of a program that this one has started, by its descriptor there. It is the same socket: what is sent
+    from it comes from that program's address and port."""
+    folder, itself = f"/proc/{process.pid}/fd", os.pidfd_open(process.pid)
+    libc = ctypes.CDLL(None, use_errno=True)
+    found = {}
+    for name in os.listdir(folder):
+        if os.readlink(f"{folder}/{name}").startswith("socket:"):
+            copy = libc.syscall(SYS_PIDFD_GETFD, itself, int(name), 0)
+            if copy < 0:
+                raise OSError(ctypes.get_errno(), "pidfd_getfd")
+            found[int(name)] = socket.socket(fileno=copy)
+    os.close(itself)
+    return found
+
+
+def sockets_of(process):
+    """The same by their ports."""
+    return {end.getsockname()[1]: end for end in copies(process).values()}
+
+
+class Watch:
+    """The calls of one program, in order, by the names above, and the descriptor that each was made with."""
+
+    def __init__(self, names=OUTGOING):
+        self.names = names
+        self.calls, self.descriptors = [], []
+        self.left, self.failing, self.kills = 0, (), False
+        self.broken = []
+
+    def start(self, command, **how):
+        """Starts the program, as subprocess.Popen does."""
+        here, there = socket.socketpair()
+        words = [sys.executable, __file__, ",".join(self.names), str(there.fileno()), *command]
+        self.process = subprocess.Popen(words, pass_fds=[there.fileno()], **how)
+        there.close()
+        _, descriptors, _, _ = socket.recv_fds(here, 1, 1)
+        here.close()
+        threading.Thread(target=self.answer_all, args=descriptors, daemon=True).start()
+        return self.process
+
+    def fail(self, k, names=tuple(NUMBERS)):
+        """The k-th call of these names from now on fails with EIO."""
+        self.left, self.failing = k, names
+
+    def kill(self, k):
+        """Where it would make the k-th of its calls from now on, the program is killed."""
+        self.left, self.failing, self.kills = k, tuple(NUMBERS), True
+
+    def break_receives(self, port):
+        """From now on every receive from the socket with this port fails with EIO, and no other one. Waits for the first, since
+        one that was let through may not be done yet. A server makes none where the system has told of no datagram; then it has
+        made so many others that a turn is over."""
+        self.broken = [descriptor for descriptor, end in copies(self.process).items() if end.getsockname()[1] == port]
+        count = len(self.calls)
+        while "receive fails" not in self.calls[count:] and len(self.calls) < count + TURNS and self.process.poll() is None:
+            time.sleep(0.001)
+
+    def mend_receives(self):
+        self.broken = []
+
+    def since(self, count):
+        """The calls after the first so many."""
+        return ", ".join(self.calls[count:])
+
+    def answer_all(self, descriptor):
+        names = {number: name for name, number in NUMBERS.items()}
+        poll = select.poll()
+        poll.register(descriptor, select.POLLIN)
+        while poll.poll()[0][1] & select.POLLIN:
+            question = bytearray(80)
+            try:
+                fcntl.ioctl(descriptor, RECEIVE, question)
+            except OSError:
+                # the program ended
+                continue
+            number, _, _, call, _, _, first_argument = struct.unpack_from("QIIiIQQ", question)
+            counts = names[call] in self.failing
+            self.left -= counts
+            is_broken = names[call] == "receive" and first_argument in self.broken
+            fails = counts and self.left == 0 or is_broken
+            if fails and self.kills:
+                self.process.kill()
+            self.descriptors.append(first_argument)
+            self.calls.append(names[call] + (" fails" if fails else ""))
+            how = (-errno.EIO, 0) if fails else (0, CONTINUE)
+            try:
+                fcntl.ioctl(descriptor, ANSWER, struct.pack("QqiI", number, 0, *how))
+            except OSError:
+                continue
+        os.close(descriptor)
+
+
+if __name__ == "__main__":
+    with socket.socket(fileno=int(sys.argv[2])) as end:
+        own = listener(sys.argv[1].split(","))
+        socket.send_fds(end, [b"x"], [own])
+    os.close(own)
+    os.execvp(sys.argv[3], sys.argv[3:])
