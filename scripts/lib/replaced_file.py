@@ -35,7 +35,8 @@ def write_beside(path, parts, mode, owner=None):
     try:
         try:
             write_all(file, parts)
-            if owner:
+            # who is not root may give a file to nobody, and owns what it writes
+            if owner and os.geteuid() == 0:
                 os.fchown(file, *owner)
             os.fchmod(file, mode)
             os.fsync(file)
