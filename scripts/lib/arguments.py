@@ -53,7 +53,7 @@ def parsed_service(help_text, known, least=2):
 
 
 def run(main):
-    """Ends a script with its status, and with words in place of a traceback. Nobody who reads only its first lines makes it fail."""
+    """Ends a script with its status, and with words in place of a traceback. It may be read in part, and stopped by its user."""
     signal.signal(signal.SIGPIPE, signal.SIG_DFL)
     if signal.getsignal(signal.SIGINT) != signal.SIG_IGN:
         signal.signal(signal.SIGINT, signal.SIG_DFL)

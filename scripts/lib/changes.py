@@ -72,7 +72,7 @@ def has_in_common(new, gone):
 
 
 def conflicts(new, gone, leases):
-    """Which circuits have something of those that are not served any more."""
+    """Which circuits have something of those that are not served any more, in words."""
     for circuit in new:
         for other in gone:
             for words in has_in_common(circuit, other):

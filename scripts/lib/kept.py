@@ -8,8 +8,9 @@ from configurations import read_text, table, text_of
 from programs import Refused, read
 from regions import give_to_folder
 
-# after this line stand tables that no program reads
+# after this line stand tables of this name, which no program reads
 MARK = b"# No longer served, but FILE may have their leases:\n"
+TABLE = "no_longer_served"
 
 
 def config_of(file):
@@ -25,9 +26,9 @@ class Kept:
 
     def __init__(self, path, text):
         self.path, self.text = path, text
-        self.served = text.partition(MARK)[0]
-        self.config = read_text(text)
-        self.removed = self.config.get("removed", [])
+        served, _, tables = text.partition(MARK)
+        self.config = read_text(served)
+        self.removed = read_text(tables).get(TABLE, [])
         # each has what is read of it later
         text_of(self.config["server"], self.config["relay"], self.config["circuit"] + self.removed)
 
@@ -50,7 +51,7 @@ def text_to_keep(text, removed):
     if not removed:
         return served
     served = served if served.endswith(b"\n") else served + b"\n"
-    tables = "\n".join(table("[[removed]]", "circuit", circuit) for circuit in removed)
+    tables = "\n".join(table(f"[[{TABLE}]]", "circuit", circuit) for circuit in removed)
     return served + MARK + tables.encode()
 
 
