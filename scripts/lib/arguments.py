@@ -1,9 +1,7 @@
 """The command line of an operator's scripts: options that stand alone, and then words such as CONFIG, FILE and PORT."""
-import signal
 import sys
 
 from configurations import FIRST_PORT
-from programs import Refused
 
 
 def ended(help_text, fault):
@@ -50,18 +48,3 @@ def parsed_service(help_text, known, least=2):
     options, words = parsed(help_text, known, least, 3)
     port = number_of(help_text, "PORT", words[2], 65535) if len(words) > 2 else FIRST_PORT
     return options, words[0], words[1] if len(words) > 1 else None, port
-
-
-def run(main):
-    """Ends a script with its status, and with words in place of a traceback. It may be read in part, and stopped by its user."""
-    signal.signal(signal.SIGPIPE, signal.SIG_DFL)
-    if signal.getsignal(signal.SIGINT) != signal.SIG_IGN:
-        signal.signal(signal.SIGINT, signal.SIG_DFL)
-    try:
-        sys.exit(main())
-    except Refused as error:
-        print(error, file=sys.stderr)
-        sys.exit(error.status)
-    except OSError as error:
-        print(f"{error.filename}: {error.strerror}" if error.filename else error.strerror, file=sys.stderr)
-        sys.exit(5)

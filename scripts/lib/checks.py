@@ -6,7 +6,8 @@ import os
 from changes import Changes, name
 from configurations import faults, read_text, text_of, warnings
 from kept import config_of, is_accepted, kept_beside, text_to_keep
-from programs import Refused, read, refusal, run_over
+from operator_script import Refused
+from programs import read, refusal, run_over
 from regions import NotRegions, Regions
 
 SERVED, REFUSED, OTHER, DISK, SYSTEM = 0, 2, 3, 4, 5

@@ -5,8 +5,10 @@ import hashlib
 import os
 
 from configurations import read_text, table, text_of
-from programs import Refused, read
+from operator_script import Refused
+from programs import read
 from regions import give_to_folder
+from replaced_file import sync_folder
 
 # after this line stand tables of this name, which no program reads
 MARK = b"# No longer served, but FILE may have their leases:\n"
@@ -53,14 +55,6 @@ def text_to_keep(text, removed):
     served = served if served.endswith(b"\n") else served + b"\n"
     tables = "\n".join(table(f"[[{TABLE}]]", "circuit", circuit) for circuit in removed)
     return served + MARK + tables.encode()
-
-
-def sync_folder(path):
-    folder = os.open(os.path.dirname(path) or ".", os.O_RDONLY)
-    try:
-        os.fsync(folder)
-    finally:
-        os.close(folder)
 
 
 def put(path, text, hold=False):

@@ -10,7 +10,7 @@ import sys
 
 
 class Refused(Exception):
-    """Why a script ends without having done what it is for."""
+    """Why a script ends without having done what it is for: with which status, and in words."""
 
     def __init__(self, status, words):
         super().__init__(words)
@@ -46,8 +46,9 @@ def cause(error):
 def run(main):
     """Calls a script's main function and ends with the status that it returns."""
     for ending in (signal.SIGTERM, signal.SIGHUP):
-        # so that what it has begun is taken back
-        signal.signal(ending, lambda got, _: sys.exit(128 + got))
+        # so that what it has begun is taken back; nohup has one of them ignored
+        if signal.getsignal(ending) != signal.SIG_IGN:
+            signal.signal(ending, lambda got, _: sys.exit(128 + got))
     for stream in (sys.stdout, sys.stderr):
         if stream:
             # a path may have bytes that are no text

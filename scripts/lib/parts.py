@@ -10,9 +10,11 @@ from arguments import ended, number_of, parsed
 from changes import by_id, conflicts, key_changes
 from checks import used_lines
 from configurations import FIRST_PORT, LEAST_PORT, MOST, PORTS, read_text, text_of
-from kept import config_of, hold, kept_beside, put, sync_folder, text_to_keep
-from programs import Refused, read, refusal
+from kept import config_of, hold, kept_beside, put, text_to_keep
+from operator_script import Refused
+from programs import read, refusal
 from regions import NotRegions, Regions, add, count_in, give_to_folder
+from replaced_file import sync_folder
 
 # the ports of a part's circuits, and those of its server and relays, which come after the circuits' of all parts
 PARTS = 64

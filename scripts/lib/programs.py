@@ -1,27 +1,25 @@
 """Finds the programs that an operator's scripts run, and lets `accesslab` read configurations. Nothing is built here."""
+import functools
 import os
-import shutil
 import subprocess
 from pathlib import Path
 
-ROOT = Path(__file__).resolve().parent.parent.parent
+from operator_script import Refused, say
+
+BUILT = Path(__file__).resolve().parent / "built"
 
 
-class Refused(Exception):
-    """Why a script ends, in words, and with which status (docs/FORMATS.md, What the scripts of an operator end with)."""
-
-    def __init__(self, status, words):
-        super().__init__(words)
-        self.status = status
-
-
+@functools.cache
 def program(name):
-    """The path of this program: what was built in this clone, or else what is installed."""
-    built = ROOT / "crates" / name / "out" / name
-    found = str(built) if os.access(built, os.X_OK) else shutil.which(name)
-    if not found:
-        raise Refused(5, f"{name} is neither built nor installed: in a clone with the toolchain, scripts/start {name} --version")
-    return found
+    """The path of this program: what was built in this clone, or else what is installed. One that is older than its sources is
+    said to be."""
+    done = subprocess.run([BUILT, name], stdout=subprocess.PIPE, stderr=subprocess.PIPE, text=True, errors="surrogateescape")
+    words = done.stderr.rstrip("\n")
+    if done.returncode:
+        raise Refused(done.returncode, words)
+    if words:
+        say(words)
+    return done.stdout.rstrip("\n")
 
 
 def read(path):

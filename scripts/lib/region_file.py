@@ -6,17 +6,14 @@ import stat
 import time
 
 from operator_script import Refused
+from regions import FORMAT, FORMAT_AT, GATE_OPEN, MOST, REGION, SLOTS_AT, SLOT_LEN
 
-REGION = 32768
-MOST = 1024
 # a region is read at most so often, with a short rest after each hundred
 READINGS = 2000
 REST = 0.02
 POOL = 16
-FORMAT_AT, FORMAT2 = 8192, 2
-SLOTS_AT, SLOT, HALF = 16384, 512, 256
+HALF = 256
 BANK = 4096
-OPEN = 0xA5
 FREE, LEASED, BARRED = 0, 1, 2
 # the greatest clock; an end may be a lease of the longest kind later
 LAST_CLOCK = 2 ** 40 - 1
@@ -129,7 +126,7 @@ class Half:
 
     def counts_beside(self, other):
         is_next = other.sequence <= 2 and self.sequence == (other.sequence + 1) % 3
-        return self.gate == OPEN and self.sequence <= 2 and (other.gate != OPEN or is_next)
+        return self.gate == GATE_OPEN and self.sequence <= 2 and (other.gate != GATE_OPEN or is_next)
 
     def is_sound(self, slot):
         """Whether what it says is within its limits; a free slot has no end and no key."""
@@ -139,11 +136,11 @@ class Half:
 
 
 def is_format2(region):
-    return region[FORMAT_AT] == FORMAT2
+    return region[FORMAT_AT] == FORMAT
 
 
 def half_at(slot, which):
-    return SLOTS_AT + SLOT * slot + HALF * which
+    return SLOTS_AT + SLOT_LEN * slot + HALF * which
 
 
 def half_of(region, slot, which):
