@@ -1,5 +1,5 @@
 //! The server of all circuits, over a device that keeps their leases.
-ghost use Rattle.std.specs.Prelude.{◌≡◌, ◌<◌, ◌≤◌, ◌+◌, ◌*◌, ◌↔◌, ℕ, Option, length, map, slice_get, Some, true, false, is_some, nat_lt, count_by, All, IfOk, IfErr, OnErr};
+ghost use Rattle.std.specs.Prelude.{◌≡◌, ◌<◌, ◌≤◌, ◌+◌, ◌*◌, ◌↔◌, ℕ, Option, length, map, slice_get, Some, true, false, is_some, nat_lt, option_map, count_by, All, IfOk, IfErr, OnErr};
 ghost use Rattle.config.specs.CircuitPart.{parts_of};
 ghost use Rattle.config.specs.Topology.{IsTopology, plans_topology, reloaded, serves, topology_of};
 ghost use Rattle.requests.specs.Addressee as who;
@@ -12,7 +12,8 @@ ghost use Rattle.circuit_server.specs.Leases.{Leases, after_tick, found_leases, 
 ghost use Rattle.dispatch.specs.Regions.{AreBroughtUp, AreSynced, HasRegions, KeepsOthers};
 ghost use Rattle.dispatch.specs.Received.{received, received_leases, received_saves};
 ghost use Rattle.circuit_server.specs.Answered.{IsAnswer, fails_at};
-ghost use Rattle.circuit_server.specs.CircuitServerValue.{OpenCircuitValue};
+ghost use Rattle.circuit_server.specs.CircuitServerValue.{OpenCircuitValue, kept_slots};
+ghost use Rattle.circuit_server.specs.Ticked.{state_of};
 ghost use Rattle.dispatch.specs.declared.server.OpenFault.TheVariants as fault;
 ghost use Rattle.lease_disk.specs.Device.{WritesAt, has_failed};
 ghost use Rattle.types.specs.Delivery.{delivery};
@@ -30,7 +31,7 @@ use std::alloc::{AllocError, Global};
 use std::marker::Model;
 use thiserror::Error;
 use timers::Deadlines;
-use types::{Circuit, Delivery, Discard, Moment, Proto, Source};
+use types::{Circuit, Delivery, Discard, Moment, Proto, Slots, Source};
 use wire::PacketBuf;
 
 /// Why a server was not opened.
@@ -204,6 +205,31 @@ impl Server {
     {
         let index = circuit.index();
         index < self.servers.count() && self.servers.is_open(index)
+    }
+
+    /// What is kept of a circuit at its clock: the live bindings and bars of each address, and that clock, without offers;
+    /// `None` where the circuit is closed.
+    pub fn slots(&self, circuit: Circuit) -> Option<Slots>
+        requires { circuit < length self.now.topology.circuits }
+        ensures { result ≡ option_map kept_slots (state_of self.now.states circuit) }
+    {
+        self.servers.slots(circuit.index())
+    }
+
+    /// The circuit of a datagram of this protocol from this source, or the first reason why it is of none. Nothing is changed.
+    pub fn addressee(&self, proto: Proto, source: Source, datagram: &[u8]) -> Result<Circuit, Discard>
+        ensures { (now : ℕ) → result ≡ who.addressee self.now.topology (delivery proto source now datagram.now) }
+    {
+        let delivery = Delivery {
+            proto,
+            source,
+            moment: Moment::first(),
+            bytes: datagram,
+        };
+        match addressee(&self.circuits, &delivery) {
+            Ok((circuit, _)) => Ok(circuit),
+            Err(why) => Err(why),
+        }
     }
 
     /// Each open circuit has the slots of its pools. Nothing is done: this is called for its contract.
