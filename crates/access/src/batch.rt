@@ -21,7 +21,7 @@ use counts::{CircuitCounts, Counts, Outcome};
 use dispatch::{Answer, BatchAnswers, Server};
 use lease_disk::FileDisk;
 use sockets::Sockets;
-use types::{Discard, Moment, Proto, Source};
+use types::{Delivery, Discard, Moment, Proto, Source};
 use udp::{Attempt, DatagramSocket, History};
 use wire::PacketBuf;
 
@@ -278,8 +278,13 @@ fn count_dropped(
 )
     requires fits { datagram.now.len ≤ 1281 }
 {
-    let (proto, source, bytes) = (datagram.proto, datagram.source, datagram.bytes());
-    if let Ok(circuit) = server.addressee(proto, source, bytes) {
+    let delivery = Delivery {
+        proto: datagram.proto,
+        source: datagram.source,
+        moment: Moment::first(),
+        bytes: datagram.bytes(),
+    };
+    if let Ok(circuit) = server.addressee(&delivery) {
         by_circuit.count_for(circuit.index(), Outcome::Dropped(why));
     }
 }

@@ -68,10 +68,10 @@ pub record HasValues (given : List Row) (values : AccessWords) : Type 0 where
   pub leases_are : (values.leases ≡ true) ↔ (first_of (codes "leases") given ≡ Some (codes "true"))
 
 -- The words spell these values.
-pub record Spells (words : List Text) (values : AccessWords) : Type 0 where
+pub record Spells (words : List Text) (spelled : AccessWords) : Type 0 where
   -- clap finds no fault in them
   pub right : fault_of access_app words ≡ []
-  pub values : HasValues (matches_of access_app words) values
+  pub values : HasValues (matches_of access_app words) spelled
 
 -- The words spell values.
 abbrev pub SpellsSomething : List Text → Type 0

@@ -216,17 +216,11 @@ impl Server {
         self.servers.slots(circuit.index())
     }
 
-    /// The circuit of a datagram of this protocol from this source, or the first reason why it is of none. Nothing is changed.
-    pub fn addressee(&self, proto: Proto, source: Source, datagram: &[u8]) -> Result<Circuit, Discard>
-        ensures { (now : ℕ) → result ≡ who.addressee self.now.topology (delivery proto source now datagram.now) }
+    /// The circuit of a datagram, or the first reason why it is of none. Nothing is changed.
+    pub fn addressee(&self, delivery: &Delivery<'_>) -> Result<Circuit, Discard>
+        ensures { result ≡ who.addressee self.now.topology delivery.now }
     {
-        let delivery = Delivery {
-            proto,
-            source,
-            moment: Moment::first(),
-            bytes: datagram,
-        };
-        match addressee(&self.circuits, &delivery) {
+        match addressee(&self.circuits, delivery) {
             Ok((circuit, _)) => Ok(circuit),
             Err(why) => Err(why),
         }
