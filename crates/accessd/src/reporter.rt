@@ -181,7 +181,7 @@ fn write_change(rt: &HostRuntime, part: &CircuitPart, change: Option<Change>) {
     if let Some(change) = change {
         let line = Line {
             circuit: id_of(part),
-            change,
+            change: &change,
         };
         let _ = println!(rt; "{line}");
     }
