@@ -120,7 +120,9 @@ impl Batch {
             let Some(answer) = self.answers.get(index) else {
                 return;
             };
-            if let Answer::Dropped(why) = answer && *why != Discard::BatchTwice {
+            if let Answer::Dropped(why) = answer
+                && *why != Discard::BatchTwice
+            {
                 count_dropped(&taken[index], *why, server, by_circuit);
             }
         }
@@ -270,12 +272,7 @@ fn receive_alone(
 }
 
 /// Counts a datagram that the server dropped for the circuit that it is of, if it is of one.
-fn count_dropped(
-    datagram: &Datagram,
-    why: Discard,
-    server: &Server,
-    by_circuit: &mut CircuitCounts,
-)
+fn count_dropped(datagram: &Datagram, why: Discard, server: &Server, by_circuit: &mut CircuitCounts)
     requires fits { datagram.now.len ≤ 1281 }
 {
     let delivery = Delivery {

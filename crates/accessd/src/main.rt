@@ -252,7 +252,9 @@ fn run_with(rt: &HostRuntime, config: &Config, values: &AccessWords<'_>) -> u8
     requires few { values.now.batch ≤ 16 }
     ensures { IsExitStatus result }
 {
-    if values.format && let Err(status) = may_format(rt, config, values) {
+    if values.format
+        && let Err(status) = may_format(rt, config, values)
+    {
         return status;
     }
     match device(rt, config, values) {

@@ -112,11 +112,15 @@ impl Seen {
         let id = id_of(part);
         if is_full[0] && !self.was_full[0] {
             self.was_full[0] = true;
-            let _ = eprintln!(rt; "{id}: each of its {count4} DHCPv4 addresses is leased or declined");
+            let _ = eprintln!(rt;
+                "{id}: each of its {count4} DHCPv4 addresses is leased or declined"
+            );
         }
         if is_full[1] && !self.was_full[1] {
             self.was_full[1] = true;
-            let _ = eprintln!(rt; "{id}: each of its {count6} DHCPv6 addresses is leased or declined");
+            let _ = eprintln!(rt;
+                "{id}: each of its {count6} DHCPv6 addresses is leased or declined"
+            );
         }
     }
 
@@ -220,7 +224,10 @@ impl<'a> Reporter<'a> {
         self.faults = faults;
         let server = access.server();
         'circuits: for (index, seen) in self.seen.iter_mut().enumerate() {
-            if index < server.circuit_count() && seen.is_open && !access.is_open(Circuit::at(index)) {
+            if index < server.circuit_count()
+                && seen.is_open
+                && !access.is_open(Circuit::at(index))
+            {
                 seen.is_open = false;
                 let id = id_of(server.part(Circuit::at(index)));
                 let _ = eprintln!(self.rt;
