@@ -9,7 +9,7 @@ mod reporter;
 mod text;
 
 use crate::reporter::Reporter;
-use crate::text::{id_of, text_of};
+use crate::text::{circuit_at, id_of, text_of};
 use access::{
     Access, AccessFault, AccessWords, DeviceFault, History, device_of, try_sockets, warn,
 };
@@ -192,23 +192,30 @@ fn report_start(rt: &HostRuntime, config: &Config, access: &Access, values: &Acc
     );
 }
 
-/// Reports each open circuit whose clock is ahead of the system's, in a line of its own.
+/// Reports that a circuit's clock is ahead of the system's, which has this second, in a line of its own.
+fn report_clock(rt: &HostRuntime, access: &Access, index: usize, now: u64) {
+    let Some(circuit) = circuit_at(access, index) else {
+        return;
+    };
+    let Some(slots) = access.server().slots(circuit) else {
+        return;
+    };
+    let clock = slots.clock.seconds();
+    if now < clock {
+        let (id, ahead) = (id_of(access.server().part(circuit)), clock - now);
+        let _ = eprintln!(rt;
+            "{id}: its clock is {ahead} seconds ahead of the system's; see \"Clock\" in docs/OPERATING.md"
+        );
+    }
+}
+
+/// The same of each open circuit.
 fn report_clocks(rt: &HostRuntime, access: &Access) {
     let Ok(since) = rt.since_1970() else {
         return;
     };
-    let (server, now) = (access.server(), since.as_secs());
-    'circuits: for index in 0..server.circuit_count() {
-        let Some(slots) = server.slots(Circuit::at(index)) else {
-            continue 'circuits;
-        };
-        let clock = slots.clock.seconds();
-        if now < clock {
-            let (id, ahead) = (id_of(server.part(Circuit::at(index))), clock - now);
-            let _ = eprintln!(rt;
-                "{id}: its clock is {ahead} seconds ahead of the system's; see \"Clock\" in docs/OPERATING.md"
-            );
-        }
+    'circuits: for index in 0..access.server().circuit_count() {
+        report_clock(rt, access, index, since.as_secs());
     }
 }
 

@@ -1,12 +1,10 @@
 //! What is written while relay and server serve.
-ghost use Rattle.std.specs.Prelude.{◌<◌, length};
-
-use crate::text::id_of;
+use crate::text::{circuit_at, id_of};
 use access::{Access, Counts, REASONS, Watch};
 use config::CircuitPart;
 use lease_log::{Change, Line, end_of, start_of};
 use std::alloc::AllocError;
-use types::{Circuit, Discard, Moment, Slot4, Slot6, Slots};
+use types::{Discard, Moment, Slot4, Slot6, Slots};
 
 /// How many slots a circuit has, of both pools.
 const SLOTS: usize = 32;
@@ -77,8 +75,12 @@ fn is_declined(old: &Slots, new: &Slots, slot: usize) -> bool {
 }
 
 impl Seen {
-    /// Before the first turn, when the circuit keeps this.
-    fn begin(slots: Option<Slots>) -> Seen {
+    /// Before the first turn.
+    fn begin(access: &Access, index: usize) -> Seen {
+        let slots = match circuit_at(access, index) {
+            Some(circuit) => access.server().slots(circuit),
+            None => None,
+        };
         Seen {
             is_open: slots.is_some(),
             was_full: [false; 2],
@@ -199,11 +201,10 @@ impl<'a> Reporter<'a> {
         every: u32,
         lists_leases: bool,
     ) -> Result<Reporter<'a>, AllocError> {
-        let server = access.server();
-        let mut seen = Vec::new(rt.alloc());
-        'circuits: for index in 0..server.circuit_count() {
-            seen.push(Seen::begin(server.slots(Circuit::at(index))))?;
-        }
+        let circuits = 0..access.server().circuit_count();
+        let seen = circuits
+            .map(|index| Seen::begin(access, index))
+            .collect(rt.alloc())?;
         Ok(Reporter {
             rt,
             every: u64::from(every),
@@ -222,18 +223,23 @@ impl<'a> Reporter<'a> {
             return;
         }
         self.faults = faults;
-        let server = access.server();
-        'circuits: for (index, seen) in self.seen.iter_mut().enumerate() {
-            if index < server.circuit_count()
-                && seen.is_open
-                && !access.is_open(Circuit::at(index))
-            {
-                seen.is_open = false;
-                let id = id_of(server.part(Circuit::at(index)));
-                let _ = eprintln!(self.rt;
-                    "{id} closed: a save of its leases failed; a restart opens it with those from before or after that save"
-                );
-            }
+        'circuits: for index in 0..access.server().circuit_count() {
+            self.report_closing(access, index);
+        }
+    }
+
+    /// Writes that a circuit has closed, where it was open before.
+    fn report_closing(&mut self, access: &Access, index: usize) {
+        let (Some(seen), Some(circuit)) = (self.seen.get_mut(index), circuit_at(access, index))
+        else {
+            return;
+        };
+        if seen.is_open && !access.is_open(circuit) {
+            seen.is_open = false;
+            let id = id_of(access.server().part(circuit));
+            let _ = eprintln!(self.rt;
+                "{id} closed: a save of its leases failed; a restart opens it with those from before or after that save"
+            );
         }
     }
 
@@ -247,15 +253,12 @@ impl<'a> Reporter<'a> {
 
     /// Looks at what a circuit keeps, and writes what has changed.
     fn look(&mut self, access: &Access, index: usize, now: Moment) {
-        let server = access.server();
-        let Some(seen) = self.seen.get_mut(index) else {
+        let (Some(seen), Some(circuit)) = (self.seen.get_mut(index), circuit_at(access, index))
+        else {
             return;
         };
-        if index >= server.circuit_count() {
-            return;
-        }
-        let part = server.part(Circuit::at(index));
-        let slots = server.slots(Circuit::at(index));
+        let part = access.server().part(circuit);
+        let slots = access.server().slots(circuit);
         if let Some(new) = &slots {
             seen.count_declined(new);
             seen.report_full(self.rt, part, new);
@@ -284,14 +287,22 @@ impl<'a> Reporter<'a> {
 
     /// Writes what became of all datagrams, and a line for each circuit of whose own some were dropped.
     fn report(&self, access: &Access) {
-        let (server, counts) = (access.server(), *access.counts());
+        let counts = *access.counts();
         let _ = eprintln!(self.rt; "{counts}");
-        'circuits: for (index, seen) in self.seen.iter().enumerate() {
-            if index < server.circuit_count()
-                && let Some(own) = access.by_circuit().of(index)
-            {
-                seen.report(self.rt, server.part(Circuit::at(index)), own);
-            }
+        'circuits: for index in 0..access.server().circuit_count() {
+            self.report_circuit(access, index);
+        }
+    }
+
+    /// Writes a circuit's line of a report, if it has one.
+    fn report_circuit(&self, access: &Access, index: usize) {
+        let (seen, counts) = (self.seen.get(index), access.by_circuit().of(index));
+        if let (Some(seen), Some(counts), Some(circuit)) = (
+            seen,
+            counts,
+            circuit_at(access, index),
+        ) {
+            seen.report(self.rt, access.server().part(circuit), counts);
         }
     }
 

@@ -2,6 +2,7 @@
 #![tactic(auto)]
 
 mod change;
+pub mod laws;
 mod line;
 mod look;
 
