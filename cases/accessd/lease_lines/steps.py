@@ -21,7 +21,7 @@ for slot, key, iaid in ((0, "01020000000005", 0), (16, "00030001020000000005", 1
 with open("leases", "wb") as file:
     file.write(region)
 
-server = Server("accessd", "config.toml", "leases", "--leases", stdout=subprocess.PIPE)
+server = Server("accessd", "config.toml", "leases", "--leases", "--pause", "5", stdout=subprocess.PIPE)
 circuit = Circuit(20000)
 # until both have ended
 time.sleep(3.2)
