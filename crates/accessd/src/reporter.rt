@@ -154,7 +154,7 @@ impl Seen {
             let _ = eprint!(rt; "{declined} declined by DECLINE");
         }
         if before == Before::Something {
-            let _ = eprintln!(rt; "");
+            let _ = eprint!(rt; "\n");
         }
     }
 }
