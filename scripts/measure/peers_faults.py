@@ -26,9 +26,9 @@ CIRCUITS, CLIENTS = 16, 16
 ALL = {"circuits": CIRCUITS, "clients": CLIENTS}
 # the number of the first stranger
 STRANGER = 40000
-# of messages that may have no answer: how many wait at a time; seconds without any answer after which no more is awaited, for
-# strangers and for those who renew, who may wait for each other's syncs
-ASKED, SILENCE, LONG_SILENCE = 128, 0.7, 2
+# seconds without any answer after which no more is awaited, for strangers and for those who renew, who may wait for each
+# other's syncs; all of them ask at once, so that nobody waits for his turn after somebody who has no answer
+SILENCE, LONG_SILENCE = 0.7, 2
 # the size of a disk whose power fails
 DISK = 64 << 20
 SEED = 1
@@ -58,9 +58,9 @@ def outcome(bench, server, folder, protocol, path):
     except Refused:
         return None
     try:
-        given = once(bench, run, what="lease", first=STRANGER, outstanding=ASKED, silence=SILENCE, tries=20)
+        given = once(bench, run, what="lease", first=STRANGER, outstanding=CIRCUITS * CLIENTS, silence=SILENCE, tries=20)
         lost = len(set(acknowledged.values()) & set(given.values()))
-        served = once(bench, run, what="renew", leases=path, outstanding=ASKED, silence=LONG_SILENCE, tries=20)
+        served = once(bench, run, what="renew", leases=path, outstanding=CIRCUITS * CLIENTS, silence=LONG_SILENCE, tries=20)
         return lost, sum(1 for client, address in acknowledged.items() if served.get(client) != address)
     finally:
         run.kill()
@@ -145,10 +145,10 @@ def unplugged(bench, server, protocol):
 
 
 def changed(content, number, count):
-    """The file with one byte changed, at one of so many places that are spread over all bytes that are not 0."""
-    places = [at for at, byte in enumerate(content) if byte]
-    at = places[(2 * number + 1) * len(places) // (2 * count)]
-    # one that leaves a digit a digit, and one that does not
+    """The file with one bit changed in a byte that is not 0, which random.Random picks."""
+    pick = random.Random(number)
+    at = pick.choice([at for at, byte in enumerate(content) if byte])
+    # one that leaves most digits digits, and one that does not
     return content[:at] + bytes([content[at] ^ (0x01 if number % 2 else 0x80)]) + content[at + 1:]
 
 
@@ -214,11 +214,11 @@ def damages(bench):
 
     def measure(server, protocol, number=0):
         if (protocol, server.name) not in both:
-            both[protocol, server.name] = damaged(bench, server, protocol, ((changed, bench.changes), (cut, bench.changes // 2 or 1)))
+            both[protocol, server.name] = damaged(bench, server, protocol, ((changed, bench.changes), (cut, bench.shortenings)))
         return both[protocol, server.name][number]
 
     main = [server for server in bench.servers if server.is_main]
-    return {"changed": rows(bench, "A byte of the file of leases is changed", main, measure),
+    return {"changed": rows(bench, "A bit of the file of leases is changed", main, measure),
             "cut": rows(bench, "The file of leases is cut off", main, lambda server, protocol: measure(server, protocol, 1))}
 
 

@@ -357,7 +357,8 @@ static void write_leases(const struct load *load) {
     }
     for (int index = 0; index < load->total; index++) {
         const struct state *state = &load->states[index];
-        if (!state->holds) {
+        /* who had no answer in the round that everybody was to make does not know whether it still holds its lease */
+        if (!state->holds || state->rounds < load->rounds) {
             continue;
         }
         fprintf(file, "%d ", index);
@@ -443,43 +444,68 @@ static void attack(struct load *load) {
     printf("attack %ld %ld %ld\n", sent, asked, unanswered);
 }
 
-static void read_word(struct load *load, char *word) {
-    static const char *const kinds[] = {"offer", "lease", "fresh", "renew"};
-    char *value = strchr(word, '=');
-    if (value == NULL) {
-        fail("a word is no NAME=VALUE");
-    }
-    *value++ = '\0';
-    struct { const char *name; int *number; } numbers[] = {
+static bool read_number(struct load *load, const char *name, const char *value) {
+    const struct { const char *name; int *number; } known[] = {
         {"protocol", &load->dialect.protocol}, {"circuits", &load->circuits}, {"clients", &load->clients},
         {"outstanding", &load->outstanding}, {"first", &load->first}, {"rounds", &load->rounds}, {"tries", &load->tries},
         {"port", &load->port}};
-    struct { const char *name; double *number; } times[] = {
+    for (size_t at = 0; at < sizeof known / sizeof *known; at++) {
+        if (strcmp(name, known[at].name) == 0) {
+            *known[at].number = atoi(value);
+            return true;
+        }
+    }
+    return false;
+}
+
+static bool read_time(struct load *load, const char *name, const char *value) {
+    const struct { const char *name; double *seconds; } known[] = {
         {"warm", &load->warm}, {"seconds", &load->seconds}, {"patience", &load->patience}, {"silence", &load->silence}};
-    struct { const char *name; const char **text; } texts[] = {
+    for (size_t at = 0; at < sizeof known / sizeof *known; at++) {
+        if (strcmp(name, known[at].name) == 0) {
+            *known[at].seconds = atof(value);
+            return true;
+        }
+    }
+    return false;
+}
+
+static bool read_path(struct load *load, const char *name, const char *value) {
+    const struct { const char *name; const char **path; } known[] = {
         {"leases", &load->leases}, {"keep", &load->keep}, {"attack", &load->attack}};
-    for (size_t at = 0; at < sizeof numbers / sizeof *numbers; at++) {
-        if (strcmp(word, numbers[at].name) == 0) {
-            *numbers[at].number = atoi(value);
+    for (size_t at = 0; at < sizeof known / sizeof *known; at++) {
+        if (strcmp(name, known[at].name) == 0) {
+            *known[at].path = value;
+            return true;
         }
     }
-    for (size_t at = 0; at < sizeof times / sizeof *times; at++) {
-        if (strcmp(word, times[at].name) == 0) {
-            *times[at].number = atof(value);
-        }
+    return false;
+}
+
+static bool read_kind(struct load *load, const char *name, const char *value) {
+    static const char *const kinds[] = {"offer", "lease", "fresh", "renew"};
+    if (strcmp(name, "as") == 0) {
+        load->dialect.is_relay = strcmp(value, "relay") == 0;
+        return true;
     }
-    for (size_t at = 0; at < sizeof texts / sizeof *texts; at++) {
-        if (strcmp(word, texts[at].name) == 0) {
-            *texts[at].text = value;
-        }
-    }
-    for (int kind = 0; strcmp(word, "what") == 0 && kind < 4; kind++) {
+    for (int kind = 0; strcmp(name, "what") == 0 && kind < 4; kind++) {
         if (strcmp(value, kinds[kind]) == 0) {
             load->what = (enum what)kind;
+            return true;
         }
     }
-    if (strcmp(word, "as") == 0) {
-        load->dialect.is_relay = strcmp(value, "relay") == 0;
+    return false;
+}
+
+static void read_word(struct load *load, char *word) {
+    char *value = strchr(word, '=');
+    if (value == NULL) {
+        fail("an argument is not NAME=VALUE");
+    }
+    *value++ = '\0';
+    if (!read_number(load, word, value) && !read_time(load, word, value) && !read_path(load, word, value)
+        && !read_kind(load, word, value)) {
+        fail("an argument of no such name or value");
     }
 }
 
@@ -505,6 +531,33 @@ static void prepare(struct load *load) {
     }
 }
 
+/* What does not count yet: for a while, and until each client holds a lease where it has to. */
+static void warm_up(struct load *load) {
+    run(load, now() + load->warm);
+    while (load->what == RENEWALS && load->holders < load->total && !is_over) {
+        run(load, now() + 0.01);
+    }
+}
+
+static void measure(struct load *load) {
+    start(load);
+    if (load->rounds == 0) {
+        warm_up(load);
+    }
+    load->counts = true;
+    printf("begin\n");
+    fflush(stdout);
+    double began = now();
+    run(load, load->rounds > 0 || load->seconds == 0 ? FOR_EVER : began + load->seconds);
+    double seconds = now() - began;
+    /* what was answered until now was acknowledged */
+    take_all(load);
+    if (load->keep != NULL) {
+        write_leases(load);
+    }
+    report(load, seconds);
+}
+
 int main(int count, char **words) {
     static struct load load = {.dialect = {4, true}, .circuits = 1, .clients = 1, .outstanding = 1, .first = 1, .patience = 1};
     for (int at = 1; at < count; at++) {
@@ -517,26 +570,8 @@ int main(int count, char **words) {
     }
     if (load.attack != NULL) {
         attack(&load);
-        return 0;
+    } else {
+        measure(&load);
     }
-    start(&load);
-    double began = now() + load.warm;
-    if (load.rounds == 0) {
-        run(&load, began);
-        while (load.what == RENEWALS && load.holders < load.total && !is_over) {
-            run(&load, now() + 0.01);
-        }
-    }
-    load.counts = true;
-    began = now();
-    printf("begin\n");
-    fflush(stdout);
-    run(&load, load.rounds > 0 || load.seconds == 0 ? FOR_EVER : began + load.seconds);
-    double seconds = now() - began;
-    take_all(&load);
-    if (load.keep != NULL) {
-        write_leases(&load);
-    }
-    report(&load, seconds);
     return 0;
 }
