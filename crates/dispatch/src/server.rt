@@ -1,5 +1,5 @@
 //! The server of all circuits, over a device that keeps their leases.
-ghost use Rattle.std.specs.Prelude.{◌≡◌, ◌<◌, ◌≤◌, ◌+◌, ◌*◌, ◌↔◌, ℕ, Option, length, map, slice_get, Some, true, false, is_some, nat_lt, option_map, count_by, All, IfOk, IfErr, OnErr};
+ghost use Rattle.std.specs.Prelude.{◌≡◌, ◌<◌, ◌≤◌, ◌+◌, ◌*◌, ◌↔◌, ℕ, Option, length, map, replicate, slice_get, None, Some, true, false, is_some, nat_lt, option_map, count_by, All, IfOk, IfErr, OnErr};
 ghost use Rattle.config.specs.CircuitPart.{parts_of};
 ghost use Rattle.config.specs.Topology.{IsTopology, plans_topology, reloaded, serves, topology_of};
 ghost use Rattle.requests.specs.Addressee as who;
@@ -80,6 +80,20 @@ fn has_regions(parts: &[CircuitPart], count: u16) -> bool
         }
     }
     true
+}
+
+/// What a server of so many circuits holds beside them, while each is closed.
+fn rooms(alloc: Global, count: usize) -> Result<(CircuitServers, Deadlines, Vec<u8>), AllocError>
+    requires some { 1 ≤ count }
+    requires few { count ≤ 1024 }
+    ensures servers { IfOk result (λ made. made.0 ≡ replicate count None) }
+    ensures deadlines { IfOk result (λ made. made.1.slots ≡ replicate (32 * count) None) }
+    ensures buffer { IfOk result (λ made. length made.2.items ≡ 16384) }
+{
+    let servers = CircuitServers::closed(alloc, count)?;
+    let deadlines = Deadlines::new(alloc, SLOTS * count)?;
+    let buffer = Vec::from_elem(alloc, 0, HALVES_SIZE)?;
+    Ok((servers, deadlines, buffer))
 }
 
 impl Server {
@@ -171,15 +185,12 @@ impl Server {
         requires sound { IsTopology circuits }
         ensures { IfOk result (λ server. server.topology ≡ circuits) }
     {
-        let count = circuits.count();
-        let servers = CircuitServers::closed(alloc, count)?;
-        let deadlines = Deadlines::new(alloc, SLOTS * count)?;
-        let buffer = Vec::from_elem(alloc, 0, HALVES_SIZE)?;
+        let made = rooms(alloc, circuits.count())?;
         Ok(Server {
             circuits,
-            servers,
-            deadlines,
-            buffer,
+            servers: made.0,
+            deadlines: made.1,
+            buffer: made.2,
         })
     }
 
