@@ -5,6 +5,7 @@ import os
 import shutil
 import subprocess
 import tempfile
+import textwrap
 from pathlib import Path
 
 from elf import requirements
@@ -82,8 +83,9 @@ class Package:
 
     def changelog(self):
         date = self.origin.date("%a, %d %b %Y %H:%M:%S +0000")
-        return (f"higvaszte ({self.version}) local; urgency=medium\n\n  * Commit {self.origin.commit[:8]}: {self.origin.subject}\n\n"
-                f" -- {self.origin.author}  {date}\n")
+        words = f"Commit {self.origin.commit[:8]}: {self.origin.subject}"
+        change = textwrap.fill(words, 78, initial_indent="  * ", subsequent_indent="    ")
+        return f"higvaszte ({self.version}) local; urgency=medium\n\n{change}\n\n -- {self.origin.author}  {date}\n"
 
     def lay_programs(self, place):
         home = place / HOME[1:]

@@ -115,7 +115,8 @@ class Machine:
         """Ends all of its processes at once, as a loss of power would."""
         if not self.process:
             return
-        os.kill(int(self.first or self.process.pid), signal.SIGKILL)
+        if self.process.poll() is None:
+            os.kill(int(self.first or self.process.pid), signal.SIGKILL)
         self.process.wait()
         self.process = self.first = None
         with cgroups() as group:

@@ -10,6 +10,7 @@ LINE, INSET = 71, 4
 GAP = 2
 # a table whose rows are higher than that on average, or one of them is by so much, is a list of its rows
 HIGH, HIGHEST = 4, 9
+SHORT = 16
 PLAIN = {"\\": "\\e", "→": "\\(->", "…": "..."}
 CODE = {**PLAIN, "-": "\\-", "'": "\\(aq", "`": "\\(ga", "^": "\\(ha", "~": "\\(ti", '"': "\\(dq"}
 # terminals without UTF-8 lack these
@@ -148,8 +149,12 @@ def wider(table, widths, left):
 def layout(table):
     """The widths of a table's columns, or None where it is better read as a list."""
     table = [[seen(cell) for cell in row] for row in table]
+    room = LINE - GAP * (len(table[0]) - 1)
     widths = [max([4, *(len(word) for cell in column for word in cell.split())]) for column in zip(*table)]
-    left = LINE - GAP * (len(widths) - 1) - sum(widths)
+    # short cells stay whole where there is room
+    whole = [max([width, *(len(cell) for cell in column if len(cell) <= SHORT)]) for width, column in zip(widths, zip(*table))]
+    widths = whole if sum(whole) <= room else widths
+    left = room - sum(widths)
     while left > 0:
         step = wider(table, widths, left)
         if step is None:
