@@ -57,13 +57,11 @@ def outcome(bench, server, folder, protocol, path):
         run = Run(server, bench.network, folder, protocol, CIRCUITS)
     except Refused:
         return None
-    try:
+    with run:
         given = once(bench, run, what="lease", first=STRANGER, outstanding=CIRCUITS * CLIENTS, silence=SILENCE, tries=20)
         lost = len(set(acknowledged.values()) & set(given.values()))
         served = once(bench, run, what="renew", leases=path, outstanding=CIRCUITS * CLIENTS, silence=LONG_SILENCE, tries=20)
         return lost, sum(1 for client, address in acknowledged.items() if served.get(client) != address)
-    finally:
-        run.kill()
 
 
 class Sum:
@@ -100,10 +98,9 @@ def loaded(bench, run, path):
 def killed(bench, server, protocol, delay):
     """How many leases were acknowledged when it was killed after so long, and what came of them."""
     with tempfile.TemporaryDirectory(dir=bench.folder) as folder, tempfile.NamedTemporaryFile() as kept:
-        run = Run(server, bench.network, folder, protocol, CIRCUITS)
-        load = loaded(bench, run, kept.name)
-        time.sleep(delay)
-        run.kill()
+        with Run(server, bench.network, folder, protocol, CIRCUITS) as run:
+            load = loaded(bench, run, kept.name)
+            time.sleep(delay)
         load.process.terminate()
         load.end()
         return len(leases_in(kept.name)), outcome(bench, server, folder, protocol, kept.name)
@@ -131,14 +128,13 @@ def unplugged(bench, server, protocol):
             inside = f"{place}/run"
             pathlib.Path(inside).mkdir()
             subprocess.run(["sync", "-f", place], check=True)
-            run = Run(server, bench.network, inside, protocol, CIRCUITS)
-            load = loaded(bench, run, kept.name)
-            time.sleep(bench.before_power)
-            run.process.send_signal(signal.SIGSTOP)
-            shutil.copyfile(image, copy)
-            load.process.terminate()
-            load.end()
-            run.kill()
+            with Run(server, bench.network, inside, protocol, CIRCUITS) as run:
+                load = loaded(bench, run, kept.name)
+                time.sleep(bench.before_power)
+                run.process.send_signal(signal.SIGSTOP)
+                shutil.copyfile(image, copy)
+                load.process.terminate()
+                load.end()
         with mounted(copy, place):
             pathlib.Path(inside).mkdir(exist_ok=True)
             return len(leases_in(kept.name)), outcome(bench, server, inside, protocol, kept.name)
@@ -157,26 +153,28 @@ def cut(content, number, count):
     return content[:(len(content) - 1) * number // max(count - 1, 1)]
 
 
+def stopped(bench, server, protocol, kept):
+    """The file of leases of a server that was stopped with all pools leased, whose clients write their leases to `kept`."""
+    with tempfile.TemporaryDirectory(dir=bench.folder) as folder:
+        with Run(server, bench.network, folder, protocol, CIRCUITS) as run:
+            Load(bench.load, bench.network, server, protocol, what="renew", rounds=1, outstanding=16, keep=kept, tries=20, **ALL).end()
+            run.process.terminate()
+            with contextlib.suppress(subprocess.TimeoutExpired):
+                run.process.wait(timeout=5)
+        return server.leases(folder, protocol).read_bytes()
+
+
 def damaged(bench, server, protocol, ways):
-    """What comes of a file with each of these kinds of damage, by the number of tries of each. The file is that of a server with
-    all pools leased, which was stopped."""
-    with tempfile.TemporaryDirectory(dir=bench.folder) as folder, tempfile.NamedTemporaryFile() as kept:
-        run = Run(server, bench.network, folder, protocol, CIRCUITS)
-        load = Load(bench.load, bench.network, server, protocol, what="renew", rounds=1, outstanding=16, keep=kept.name, tries=20, **ALL)
-        load.end()
-        run.process.terminate()
-        try:
-            run.process.wait(timeout=5)
-        except subprocess.TimeoutExpired:
-            run.kill()
-        content, count = server.leases(folder, protocol).read_bytes(), len(leases_in(kept.name))
-        sums = []
+    """What comes of a file with each of these kinds of damage, by the number of tries of each."""
+    with tempfile.NamedTemporaryFile() as kept:
+        content = stopped(bench, server, protocol, kept.name)
+        count, sums = len(leases_in(kept.name)), []
         for way, tries in ways:
             sums.append(Sum())
             for number in range(tries):
-                with tempfile.TemporaryDirectory(dir=bench.folder) as other:
-                    server.leases(other, protocol).write_bytes(way(content, number, tries))
-                    sums[-1].add(count, outcome(bench, server, other, protocol, kept.name))
+                with tempfile.TemporaryDirectory(dir=bench.folder) as folder:
+                    server.leases(folder, protocol).write_bytes(way(content, number, tries))
+                    sums[-1].add(count, outcome(bench, server, folder, protocol, kept.name))
         return sums
 
 
@@ -235,15 +233,14 @@ def datagrams(path, protocol, count, is_relay):
 
 def attacked(bench, server, protocol, path):
     with tempfile.TemporaryDirectory(dir=bench.folder) as folder:
-        run = Run(server, bench.network, folder, protocol, 2)
-        before = run.memory()
-        words = Load(bench.load, bench.network, server, protocol, what="offer", circuits=2, clients=1, tries=3, attack=path).end()
-        if not run.is_alive():
-            return f"{words[1]:>9}   has ended: {run.said()[-100:]}", False
-        after = run.memory()
-        last = Load(bench.load, bench.network, server, protocol, what="lease", circuits=2, clients=1, outstanding=2, rounds=1,
-                    first=STRANGER, tries=3).end()
-        run.kill()
+        with Run(server, bench.network, folder, protocol, 2) as run:
+            before = run.memory()
+            words = Load(bench.load, bench.network, server, protocol, what="offer", circuits=2, clients=1, tries=3, attack=path).end()
+            if not run.is_alive():
+                return f"{words[1]:>9}   has ended: {run.said()[-100:]}", False
+            after = run.memory()
+            last = Load(bench.load, bench.network, server, protocol, what="lease", circuits=2, clients=1, outstanding=2, rounds=1,
+                        first=STRANGER, tries=3).end()
         text = f"{words[1]:>9} {words[2]:>9} {words[3]:>11} {'yes' if int(last[7]) else 'no':>9} {before:10} {after:8}"
         return text, int(last[7]) > 0
 

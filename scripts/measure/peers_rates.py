@@ -4,7 +4,7 @@ import statistics
 import subprocess
 import tempfile
 
-from bench import on_processor
+from bench import dying_with_us
 from operator_script import Refused
 from peers_network import Network
 from peers_servers import PORT, ROOMY_POOL, Run
@@ -29,7 +29,7 @@ class Load:
         where = network.relays if server.speaks == "relay" else network.server
         words = {"protocol": protocol, "as": server.speaks, "port": PORT, **words}
         command = Network.inside(where, [program, *(f"{name}={value}" for name, value in words.items())])
-        self.process = subprocess.Popen(command, stdout=subprocess.PIPE, stderr=subprocess.PIPE, text=True, preexec_fn=on_processor(1))
+        self.process = subprocess.Popen(command, stdout=subprocess.PIPE, stderr=subprocess.PIPE, text=True, preexec_fn=dying_with_us(1))
 
     def line(self):
         """The next line that it writes, in words."""
@@ -66,13 +66,10 @@ def measured(load, run):
 def measure(bench, server, protocol, work, cell):
     circuits, clients, outstanding = cell
     with tempfile.TemporaryDirectory(dir=bench.folder) as folder:
-        run = Run(server, bench.network, folder, protocol, circuits, ROOMY_POOL)
-        try:
+        with Run(server, bench.network, folder, protocol, circuits, ROOMY_POOL) as run:
             load = Load(bench.load, bench.network, server, protocol, what=work, circuits=circuits, clients=clients,
                         outstanding=outstanding, warm=bench.warm, seconds=bench.seconds)
             return measured(load, run)
-        finally:
-            run.kill()
 
 
 def summed(rows, of_first):

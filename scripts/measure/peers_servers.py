@@ -8,7 +8,7 @@ import shutil
 import subprocess
 import time
 
-from bench import on_processor
+from bench import dying_with_us
 from operator_script import Refused
 from peers_network import Network
 
@@ -198,7 +198,7 @@ def servers(accessd, relays):
 class Run:
     """A server that runs over a folder, from when it is ready to serve."""
 
-    def __init__(self, server, network, folder, protocol, circuits, size=POOL, is_pinned=True):
+    def __init__(self, server, network, folder, protocol, circuits, size=POOL):
         self.server, self.folder, self.protocol = server, str(folder), protocol
         if not server.leases(folder, protocol).exists():
             server.prepare(self.folder, protocol)
@@ -207,8 +207,14 @@ class Run:
         with self.log.open("w") as log:
             self.process = subprocess.Popen(command, stdin=subprocess.DEVNULL, stdout=log, stderr=log,
                                             env={**os.environ, **network.environment, **server.environment},
-                                            preexec_fn=on_processor(0) if is_pinned else None)
+                                            preexec_fn=dying_with_us(0))
         self.wait()
+
+    def __enter__(self):
+        return self
+
+    def __exit__(self, *_):
+        self.kill()
 
     def wait(self):
         end = time.monotonic() + READY

@@ -1,5 +1,6 @@
 """What each server writes and syncs for a lease, as strace sees it, for scripts/measure/peers: how many calls, and how many answers
 leave while something that was written to the file of leases is not synced."""
+import contextlib
 import re
 import shutil
 import signal
@@ -7,6 +8,7 @@ import subprocess
 import tempfile
 import time
 
+from bench import dying_with_us
 from operator_script import Refused
 from peers_rates import Load
 from peers_servers import Run
@@ -47,25 +49,30 @@ class Trace:
             self.is_dirty = not is_sync
 
 
+@contextlib.contextmanager
+def watched(run, output):
+    """Writes the calls of a server to this file meanwhile."""
+    words = ["strace", "-f", "-y", "-s", "0", "-e", f"trace={CALLS}", "-o", output, "-p", str(run.process.pid)]
+    watcher = subprocess.Popen(words, stderr=subprocess.PIPE, text=True, preexec_fn=dying_with_us(2))
+    try:
+        if "attached" not in watcher.stderr.readline():
+            raise Refused(5, "strace can't watch a server")
+        yield
+    finally:
+        # what it has begun is written
+        time.sleep(0.05)
+        watcher.send_signal(signal.SIGINT)
+        watcher.communicate(timeout=ATTACHED)
+
+
 def traced(bench, server, protocol, work):
     """How many writes and syncs an acknowledged lease has, and how many answers left before what was written was synced."""
     with tempfile.TemporaryDirectory(dir=bench.folder) as folder:
-        run = Run(server, bench.network, folder, protocol, CIRCUITS)
         output = f"{folder}/strace"
-        watcher = subprocess.Popen(["strace", "-f", "-y", "-s", "0", "-e", f"trace={CALLS}", "-o", output, "-p", str(run.process.pid)],
-                                   stderr=subprocess.PIPE, text=True)
-        try:
-            if "attached" not in watcher.stderr.readline():
-                raise Refused(5, "strace can't watch a server")
+        with Run(server, bench.network, folder, protocol, CIRCUITS) as run, watched(run, output):
             load = Load(bench.load, bench.network, server, protocol, what=work, circuits=CIRCUITS, clients=CLIENTS,
                         outstanding=CIRCUITS * CLIENTS, rounds=ROUNDS)
             acks = int(load.end()[7])
-        finally:
-            # what it has begun is written
-            time.sleep(0.05)
-            watcher.send_signal(signal.SIGINT)
-            watcher.communicate(timeout=ATTACHED)
-            run.kill()
         trace = Trace(server.leases(folder, protocol))
         with open(output, errors="replace") as lines:
             for line in lines:
