@@ -153,8 +153,10 @@ class Package:
             self.lay(place)
             self.lay_control(place)
             place.chmod(0o755)
-            words = ["dpkg-deb", "--build", "--root-owner-group", place, made]
-            done = subprocess.run(words, capture_output=True, text=True, env={**os.environ, "SOURCE_DATE_EPOCH": str(self.origin.seconds)})
+            # so that the package does not depend on when it is made
+            moment = {"SOURCE_DATE_EPOCH": str(self.origin.seconds)}
+            done = subprocess.run(["dpkg-deb", "--build", "--root-owner-group", place, made], capture_output=True, text=True,
+                                  env={**os.environ, **moment})
             if done.returncode:
                 raise Refused(5, f"dpkg-deb: {done.stderr.strip()}")
             package, = Path(made).glob("*.deb")

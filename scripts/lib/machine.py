@@ -45,7 +45,8 @@ SECONDS = 120
 
 def output(*words, **how):
     """What a command writes, and its status."""
-    done = subprocess.run(list(map(str, words)), stdout=subprocess.PIPE, stderr=subprocess.STDOUT, stdin=subprocess.DEVNULL, text=True, **how)
+    done = subprocess.run(list(map(str, words)), stdout=subprocess.PIPE, stderr=subprocess.STDOUT, stdin=subprocess.DEVNULL,
+                          text=True, **how)
     return done.stdout, done.returncode
 
 
@@ -89,8 +90,8 @@ class Machine:
 
     def boot(self):
         """Starts systemd."""
-        words = ["unshare", "--fork", "--pid", "--mount", "--uts", "--ipc", "--net", "--cgroup", "--kill-child", "bash", "-c", BEGIN, "bash",
-                 self.root, *ENVIRONMENT]
+        words = ["unshare", "--fork", "--pid", "--mount", "--uts", "--ipc", "--net", "--cgroup", "--kill-child",
+                 "bash", "-c", BEGIN, "bash", self.root, *ENVIRONMENT]
         with cgroups() as group, tempfile.TemporaryFile() as self.said:
             self.process = subprocess.Popen(words, stdin=subprocess.DEVNULL, stderr=self.said,
                                             preexec_fn=lambda: (group / "cgroup.procs").write_text("0"))
@@ -109,7 +110,8 @@ class Machine:
     def is_running(self):
         children = Path(f"/proc/{self.process.pid}/task/{self.process.pid}/children").read_text().split()
         self.first = children[0] if children else None
-        return self.first and self.run("systemctl", "is-system-running")[0].strip() == "running"
+        # degraded: a service that needs hardware, or the kernel's modules, has failed
+        return self.first and self.run("systemctl", "is-system-running")[0].strip() in ("running", "degraded")
 
     def stop(self):
         """Ends all of its processes at once, as a loss of power would."""

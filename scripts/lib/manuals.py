@@ -19,8 +19,8 @@ ABOUT = {
     "OPERATING": "install, start, stop, upgrade, back up, watch and change accessd",
     "TABLES": "what a DHCP client of Higvaszte is answered, row by row",
 }
-NOTES = ("What stands in scripts/gate, scripts/measure, cases, crates, or in another page of docs is in the sources of Higvaszte, "
-         "and not in the package. What a program calls docs/OPERATING.md is `higvaszte-operating`(7).")
+NOTES = ("What stands in scripts/gate, scripts/measure, cases, crates, or in another page of docs is in the sources of "
+         "Higvaszte, and not in the package. What a program calls docs/OPERATING.md is `higvaszte-operating`(7).")
 
 
 def heading(words):
@@ -48,7 +48,8 @@ def program_parts(text, called):
     about, _, rest = text.partition("\n\nUsage: ")
     usage, *lists = rest.split("\n\n")
     name, _, words = usage.strip().partition(" ")
-    parts = [heading("Synopsis"), ("fenced", ("sh", [f"{called} {words}"])), heading("Description"), ("paragraph", about.strip() + ".")]
+    parts = [heading("Synopsis"), ("fenced", ("sh", [f"{called} {words}"])),
+             heading("Description"), ("paragraph", about.strip() + ".")]
     for one in lists:
         title, _, lines = one.strip("\n").partition(":\n")
         parts.append(heading(title))
@@ -106,7 +107,7 @@ def command_page(scripts, text, formats, stamp):
 
 def page(title, text, stamp):
     name, number = PAGES[title]
-    parts = blocks(page_text(without_clone(text)))[1:]
+    parts = blocks(page_text(text))[1:]
     parts = ([heading("Description")] if parts[0][0] != "heading" else []) + parts
     parts += [heading("Notes"), ("paragraph", NOTES), ("paragraph", f"The examples are in `{EXAMPLES}`.")]
     return name, number, roff.page(name, number, ABOUT[title], *stamp, parts + see_also(name))
@@ -115,7 +116,7 @@ def page(title, text, stamp):
 def manuals(root, scripts, helps, date, version):
     """Each man page: its name, its section, and its text. `helps` has what each program prints for --help."""
     stamp = (date, version)
-    texts = {title: (root / f"docs/{title}.md").read_text() for title in PAGES}
+    texts = {title: without_clone((root / f"docs/{title}.md").read_text()) for title in PAGES}
     for program in PROGRAMS:
         yield program_page(program, helps[program], texts["FORMATS"], stamp)
     yield command_page(scripts, (root / "package/higvaszte.md").read_text(), texts["FORMATS"], stamp)
