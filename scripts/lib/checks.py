@@ -9,6 +9,7 @@ from kept import config_of, is_accepted, kept_beside, text_to_keep
 from operator_script import Refused
 from programs import read, refusal, run_over
 from regions import NotRegions, Regions
+from served_circuits import CLOSED
 
 SERVED, REFUSED, OTHER, DISK, SYSTEM = 0, 2, 3, 4, 5
 RESTORE = "docs/OPERATING.md, Back up and restore"
@@ -48,7 +49,7 @@ def leases_by_circuit(text, circuits, file):
     except Refused:
         return {}
     # with 4 some of them are listed, or none
-    is_listed = done.returncode == 0 or done.returncode == 4 and done.stdout
+    is_listed = done.returncode in (0, CLOSED) or done.returncode == 4 and done.stdout
     found = {circuit["id"]: [] for circuit in circuits} if is_listed else {}
     for line in map(json.loads, done.stdout.splitlines()):
         if line["state"] in ("closed", "busy"):

@@ -159,6 +159,10 @@ class Server:
         """Waits for its end, and returns what it reports then."""
         return self.process.communicate(timeout=60)[1]
 
+    def counts(self):
+        """The counts that it reports at its end, without what it says of circuits before that."""
+        return re.sub(r"\A(?s:.*?)^(?=\d+ datagrams received, )", "", self.report(), flags=re.M)
+
     def runs(self):
         return self.process.poll() is None
 

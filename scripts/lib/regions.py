@@ -2,6 +2,8 @@
 import os
 import stat
 
+from replaced_file import sync_folder
+
 REGION = 32768
 MOST = 1024
 FORMAT_AT, FORMAT = 8192, 2
@@ -65,6 +67,12 @@ def make(path, count):
     finally:
         os.close(file)
         os.unlink(new)
+
+
+def make_for(path, config):
+    """Makes the file of a configuration that was never served: a region for each number up to its greatest."""
+    make(path, max(circuit["region"] for circuit in config["circuit"]) + 1)
+    sync_folder(path)
 
 
 def count_in(file):

@@ -12,6 +12,8 @@ from operator_script import Refused, cause, say
 BUILT = pathlib.Path(__file__).resolve().parent / "built"
 # of a circuit, and circuits of an `accessd`
 PORTS, MOST_SERVED = 4, 16
+# the status of `leases` where a circuit is closed, and every other one is listed
+CLOSED = 3
 
 
 def built(name):
@@ -42,8 +44,8 @@ def why_unread(*paths):
 
 class Listing:
     """What `leases` says of a file by a configuration: a line for each lease and for each circuit that is closed or busy.
-    Its words are those that the program has on standard error, and its status is not 0 where it lists nothing or a circuit
-    is busy."""
+    Its words are those that the program has on standard error, and its status is 3 where a circuit is closed and none busy,
+    and otherwise not 0 where it lists nothing or a circuit is busy."""
 
     def __init__(self, config, file):
         # -- stands before a path that begins with a dash
@@ -54,6 +56,10 @@ class Listing:
             self.words = why_unread(config, file) or self.words
         self.lines = [json.loads(line) for line in done.stdout.splitlines()]
 
+    def is_done(self):
+        """Whether each circuit is listed or closed."""
+        return self.status in (0, CLOSED)
+
     def unread(self, state):
         """Why each circuit is not listed that is in this state, 'closed' or 'busy', by its id."""
         return {line["circuit"]: line["why"] for line in self.lines if line["state"] == state}
@@ -63,7 +69,7 @@ def listing(config, file, takes_busy=False):
     """The listing, where `leases` refuses nothing, and no circuit is busy unless that is taken too."""
     found = Listing(config, file)
     busy = [f"{circuit}: {why}" for circuit, why in found.unread("busy").items()]
-    if found.status and not (busy and takes_busy):
+    if not found.is_done() and not (busy and takes_busy):
         raise Refused(found.status if found.status > 0 else 5, "\n".join(busy) or found.words or "leases was stopped")
     return found
 

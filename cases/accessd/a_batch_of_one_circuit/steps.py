@@ -21,4 +21,4 @@ for words, listen in DATAGRAMS:
     relay.sendto(bytes.fromhex(expand(words)), listen)
 server.process.send_signal(signal.SIGCONT)
 print(circuit.receive(), circuit.receive(), circuit.receive6(), sep="\n")
-print(server.report(), end="")
+print(server.counts(), end="")

@@ -14,4 +14,4 @@ for port in (20004, 20000):
         print(circuit.exchange(DISCOVER, 1))
         print(circuit.exchange6("SOLICIT6", 1))
     print(circuit.receive(0.05), circuit.receive6(0.05))
-print(server.report(), end="")
+print(server.counts(), end="")

@@ -10,4 +10,4 @@ first, second = Circuit(20000), Circuit(20004)
 for circuit in (first, second):
     circuit.send(frame(DISCOVER, 1))
     print(circuit.receive(0.2))
-print(server.report(), end="")
+print(server.counts(), end="")

@@ -1,5 +1,5 @@
 """The system lets the server write no byte from 32768 on, where region 1 begins: circuit `a1` sends nothing and is
-closed for both protocols, and circuit `a` is served."""
+closed for both protocols, as a line says at once, and circuit `a` is served."""
 import resource
 
 from client import DISCOVER, REQUEST, Circuit, Server, frame, frame6, select
@@ -15,4 +15,5 @@ for circuit, offer in zip((second, first), offers[::-1]):
 for circuit in (second, first):
     circuit.send6(frame6("REQUEST6", 1, "ours"))
     print(circuit.receive6(0.2))
-print(server.report(), end="")
+said = server.report().splitlines()
+print(*(line for line in said if " closed: " in line), said[-3], said[-2], said[-1], sep="\n")

@@ -23,7 +23,8 @@ def show(server):
     lines = [server.first_line]
     while not lines[-1].startswith("serving "):
         lines.append(server.process.stderr.readline().rstrip("\n"))
-    print(*lines, sep="\n")
+    # the clock of the file is that of 2100
+    print(*(line for line in lines if ": its clock is " not in line), sep="\n")
     circuit.send(frame(REQUEST, 1, ciaddr=address("10.0.0.10")))
     print(circuit.receive(0.2 if "serving a (closed" in lines[-1] else 2))
 

@@ -8,7 +8,7 @@ from client import DISCOVER, Circuit, Server, frame
 
 began = time.monotonic()
 server = Server("accessd", "config.toml", "leases", "--format", "--pause", "500", turns=4)
-print(server.report().splitlines()[0])
+print(server.counts().splitlines()[0])
 print(time.monotonic() - began >= 2)
 print(resource.getrusage(resource.RUSAGE_CHILDREN).ru_utime < 1)
 server = Server("accessd", "config.toml", "leases", "--pause", "1000", turns=1000)

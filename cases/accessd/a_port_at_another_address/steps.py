@@ -18,4 +18,4 @@ for address, seconds in ("127.0.0.2", 0.1), ("127.0.0.1", 2):
     for port, datagram in DATAGRAMS.items():
         circuit.socket.sendto(datagram, (address, port))
     print(f"{address}: {circuit.receive(seconds)}, {circuit.receive6(seconds)}")
-print(server.report(), end="")
+print(server.counts(), end="")

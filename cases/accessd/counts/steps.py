@@ -9,4 +9,4 @@ for length in (0, 1, 1024, 1025, 1280, 1281, 60000):
         circuit.socket.sendto(bytes([1]) * length, ("127.0.0.1", port))
     print(circuit.exchange(DISCOVER, 1))
     print(circuit.exchange6("SOLICIT6", 1))
-print(server.report(), end="")
+print(server.counts(), end="")

@@ -21,6 +21,8 @@ for row in rows:
         region[int(at)] = int(byte, 16)
     Path("leases").write_bytes(region)
     lines = subprocess.run(COMMAND, capture_output=True, text=True).stderr.splitlines()[:-1]
+    # some regions' clocks are ahead of the system's
+    lines = [line for line in lines if ": its clock is " not in line]
     is_open = wanted.strip() == "open"
     is_moved = is_open and region[8192] != 2
     as_wanted = (len(lines) == 1 + is_moved and lines[-1].startswith("serving a")

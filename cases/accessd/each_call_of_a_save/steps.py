@@ -45,4 +45,4 @@ for k in range(1, 7):
         watch.fail(1 + k)
         print(request(proto, offer))
         circuit.send6(frame6("SOLICIT6", 1))
-        print(circuit.receive6(0.1), server.report().splitlines()[1:])
+        print(circuit.receive6(0.1), server.counts().splitlines()[1:])

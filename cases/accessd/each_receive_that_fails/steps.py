@@ -18,4 +18,4 @@ for port, silent in SOCKETS:
     print(port, "fails:", *(receives[protocol]() for protocol in others), *(receives[protocol](0.05) for protocol in silent))
     watch.mend_receives()
     print(port, "receives:", *(receives[protocol]() for protocol in silent))
-print(server.report(), end="")
+print(server.counts(), end="")

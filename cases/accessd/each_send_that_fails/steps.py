@@ -18,4 +18,4 @@ for k in range(1, 4):
             answer = circuit.receive6(0.2)
         print(f"{answer} after: {watch.since(count)}")
         print(circuit.exchange(DISCOVER, 1) if proto == 4 else circuit.exchange6("SOLICIT6", 1))
-        print(server.report(), end="")
+        print(server.counts(), end="")

@@ -11,4 +11,4 @@ WAYS = [(None, port) for port in (20000, 20001, 6767, 6547, 6801)] + [(6801, 676
 for sender, port in WAYS:
     own.get(sender, circuit.socket).sendto(b"", ("127.0.0.1", port))
     print(f"{port}: {circuit.exchange(DISCOVER, 1)}, {circuit.exchange6('SOLICIT6', 1)}")
-print(server.report(), end="")
+print(server.counts(), end="")

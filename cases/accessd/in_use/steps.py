@@ -1,4 +1,5 @@
 """A server that runs holds its file and its ports. After a kill both are free."""
+import os
 import subprocess
 from client import Server
 
@@ -14,6 +15,9 @@ server = Server("accessd", "config.toml", "leases", "--format", "--port", "23000
 refused("--disk", "leases", "--format", "--port", "23100")
 refused("--disk", "leases", "--port", "23100")
 refused("--disk", "other", "--format", "--port", "23000")
+print("made" if os.path.exists("other") else "no file")
+with open("other", "wb") as file:
+    file.truncate(32768)
 refused("--disk", "other", "--port", "23100")
 print(server.runs())
 server.kill()

@@ -8,4 +8,4 @@ circuits[0].socket.sendto(frame(DISCOVER, 1), ("127.0.0.1", 6767))
 for circuit in circuits[::-1]:
     print(circuit.exchange(DISCOVER, 1))
     print(circuit.exchange6("SOLICIT6", 1))
-print(server.report(), end="")
+print(server.counts(), end="")

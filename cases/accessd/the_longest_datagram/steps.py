@@ -43,4 +43,4 @@ for sender, port, words in DATAGRAMS:
         answers.append(f"{answer.xid}: {answer}, in {len(datagram)} bytes")
         seconds = 0.05
     print(f"{words} to {port}, {', '.join(answers)}")
-print(server.report(), end="")
+print(server.counts(), end="")

@@ -15,7 +15,7 @@ use crate::batch::Batch;
 use crate::clock::moment;
 use crate::sending::send_on;
 use config::Config;
-use counts::{Counts, Outcome};
+use counts::{CircuitCounts, Counts, Outcome};
 use dispatch::{OpenFault, Server};
 use lease_disk::{FORMAT, FileDisk, OLD_FORMAT};
 use opening::{Formats, open_server};
@@ -69,6 +69,9 @@ pub struct Access {
     /// The first of the circuits' ports.
     port: u16,
     counts: Counts,
+    /// The same of each circuit, as far as its own are known: frames from it, datagrams of it that the server dropped, and
+    /// answers to it.
+    by_circuit: CircuitCounts,
     history: History,
     turns: Count,
     /// What waits until one of the sockets has a datagram.
@@ -84,6 +87,37 @@ impl Model for Access {
 
     // each circuit and each relay has its sockets, which have their roles, addresses and history, each circuit a region, and each is served
     ghost invariant = { λ a. IsAccess a.relays.topology a.sockets a.server a.disk.regions a.port a.batch.most a.history.id a.listen4 a.listen6 };
+}
+
+/// Whether the system binds each socket of a configuration now; all are given back at once. More than 16 circuits are refused
+/// first.
+pub fn try_sockets<R: Net>(
+    net: &R,
+    alloc: Global,
+    config: &Config,
+    port: u16,
+) -> Result<(), AccessFault>
+    requires most { port ≤ 65472 }
+    ensures circuits { result ≡ Err fault.TooManyCircuits ↔ (16 < length config.now.circuits) }
+{
+    if config.circuit_count() > MAX_SERVED {
+        return Err(AccessFault::TooManyCircuits);
+    }
+    let Ok(mut waiter) = Waiter::new(net, alloc, MAX_SOCKETS) else {
+        return Err(AccessFault::Memory);
+    };
+    let mut opening = History::new();
+    match Sockets::bind(net, alloc, config, port, &mut waiter, &mut opening) {
+        Ok(_) => Ok(()),
+        Err(SocketFault::Memory) => Err(AccessFault::Memory),
+        Err(SocketFault::Bind(at)) => Err(AccessFault::Socket(at)),
+    }
+}
+
+/// What looks at relay and server while they serve.
+pub trait Watch {
+    /// A turn was made at this moment.
+    fn after_turn(&mut self, access: &Access, now: Moment);
 }
 
 impl Access {
@@ -159,6 +193,7 @@ impl Access {
             batch: Batch::new(usize::from(batch)),
             port,
             counts: Counts::new(),
+            by_circuit: CircuitCounts::new(),
             // the sockets were bound with it
             history: mem::replace(opening, History::new()),
             turns: Count::new(),
@@ -167,8 +202,8 @@ impl Access {
     }
 
     /// Makes so many turns, each at the moment that the system's clock then has. A turn that took no datagram is followed
-    /// by a wait for the next one, of at most so many milliseconds.
-    pub fn serve<R: Clock>(&mut self, rt: &R, turns: u32, pause: u16)
+    /// by a wait for the next one, of at most so many milliseconds. After each turn it is shown to `watch`.
+    pub fn serve<R: Clock, W: Watch>(&mut self, rt: &R, turns: u32, pause: u16, watch: &mut W)
         ensures turned { (now : ℕ) × HasServedTurns turns now self.old self.new }
         ensures turns { self.new.turns ≡ self.old.turns + turns }
         ensures topology { self.new.topology ≡ self.old.topology }
@@ -186,6 +221,7 @@ impl Access {
                 // the turn found each socket empty
                 self.waiter.wait(rt, pause);
             }
+            watch.after_turn(self, now);
         }
     }
 
@@ -268,6 +304,12 @@ impl Access {
         &self.counts
     }
 
+    /// What became of the datagrams of each circuit: the frames that it sent, what the server dropped of it, and what a relay
+    /// sent it.
+    pub fn by_circuit(&self) -> &CircuitCounts {
+        &self.by_circuit
+    }
+
     /// Where the server receives datagrams of a protocol.
     fn listen(&self, proto: Proto) -> Source
         ensures { result ≡ listen self.now.topology proto }
@@ -323,6 +365,7 @@ impl Access {
         let out = self.out.as_slice();
         let outcome = send_on(made, from, to, out, Outcome::Relayed, &mut self.history);
         self.counts.count(outcome);
+        self.by_circuit.count_for(index, outcome);
         1
     }
 
@@ -336,8 +379,10 @@ impl Access {
         self.batch.poll(sockets, history);
         self.batch.receive(now, server, disk);
         self.batch.reply(sockets, counts, history);
+        let by_circuit = &mut self.by_circuit;
+        self.batch.count_dropped(server, by_circuit);
         self.batch
-            .receive_again(now, sockets, server, disk, counts, history);
+            .receive_again(now, sockets, server, disk, counts, by_circuit, history);
         self.batch.len() as u32
     }
 
@@ -372,7 +417,10 @@ impl Access {
                 let from = self.sockets.circuits[sent.0.index()].socket(proto);
                 let to = client(self.port, sent.0, proto);
                 let (made, frame) = (Ok(()), self.frame.as_slice());
-                send_on(made, from, to, frame, Outcome::Delivered, &mut self.history)
+                let circuit = sent.0.index();
+                let outcome = send_on(made, from, to, frame, Outcome::Delivered, &mut self.history);
+                self.by_circuit.count_for(circuit, outcome);
+                outcome
             }
             Err(why) => Outcome::Dropped(why),
         };

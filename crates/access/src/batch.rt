@@ -17,11 +17,11 @@ use crate::datagrams::{Datagram, Datagrams, NOWHERE};
 use crate::polling::{Polling, Waiting};
 use crate::sending::send_on;
 use batch_saves::MAX_BATCH;
-use counts::{Counts, Outcome};
+use counts::{CircuitCounts, Counts, Outcome};
 use dispatch::{Answer, BatchAnswers, Server};
 use lease_disk::FileDisk;
 use sockets::Sockets;
-use types::{Discard, Moment, Proto, Source};
+use types::{Delivery, Discard, Moment, Proto, Source};
 use udp::{Attempt, DatagramSocket, History};
 use wire::PacketBuf;
 
@@ -113,6 +113,21 @@ impl Batch {
         }
     }
 
+    /// Counts those that the server dropped for the circuits that they are of, but for those that are repeated.
+    pub(crate) fn count_dropped(&self, server: &Server, by_circuit: &mut CircuitCounts) {
+        let taken = self.taken.as_slice();
+        'parts: for index in 0..taken.len() {
+            let Some(answer) = self.answers.get(index) else {
+                return;
+            };
+            if let Answer::Dropped(why) = answer
+                && *why != Discard::BatchTwice
+            {
+                count_dropped(&taken[index], *why, server, by_circuit);
+            }
+        }
+    }
+
     /// The server receives each of those that are repeated, alone, and its reply is sent.
     pub(crate) fn receive_again(
         &self,
@@ -121,6 +136,7 @@ impl Batch {
         server: &mut Server,
         disk: &mut FileDisk,
         counts: &mut Counts,
+        by_circuit: &mut CircuitCounts,
         history: &mut History,
     )
         requires count { length self.now.answers ≡ length self.now.taken }
@@ -139,7 +155,9 @@ impl Batch {
             if again {
                 let datagram = &taken[index];
                 let socket = sockets.server(datagram.proto);
-                receive_alone(datagram, now, socket, server, disk, counts, history);
+                receive_alone(
+                    datagram, now, socket, server, disk, counts, by_circuit, history,
+                );
             }
         }
     }
@@ -235,6 +253,7 @@ fn receive_alone(
     server: &mut Server,
     disk: &mut FileDisk,
     counts: &mut Counts,
+    by_circuit: &mut CircuitCounts,
     history: &mut History,
 )
     requires fits { datagram.now.len ≤ 1281 }
@@ -249,4 +268,34 @@ fn receive_alone(
     let reply = out.as_slice();
     let outcome = send_on(made, socket, from, reply, Outcome::Answered, history);
     counts.count(outcome);
+    count_if_dropped(datagram, outcome, server, by_circuit);
+}
+
+/// Counts a datagram that the server dropped for the circuit that it is of, if it is of one.
+fn count_dropped(datagram: &Datagram, why: Discard, server: &Server, by_circuit: &mut CircuitCounts)
+    requires fits { datagram.now.len ≤ 1281 }
+{
+    let delivery = Delivery {
+        proto: datagram.proto,
+        source: datagram.source,
+        moment: Moment::first(),
+        bytes: datagram.bytes(),
+    };
+    if let Ok(circuit) = server.addressee(&delivery) {
+        by_circuit.count_for(circuit.index(), Outcome::Dropped(why));
+    }
+}
+
+/// The same of one of which this became.
+fn count_if_dropped(
+    datagram: &Datagram,
+    outcome: Outcome,
+    server: &Server,
+    by_circuit: &mut CircuitCounts,
+)
+    requires fits { datagram.now.len ≤ 1281 }
+{
+    if let Outcome::Dropped(why) = outcome {
+        count_dropped(datagram, why, server, by_circuit);
+    }
 }

@@ -8,10 +8,10 @@ mod datagrams;
 mod polling;
 mod sending;
 
-pub use access::{Access, AccessFault};
+pub use access::{Access, AccessFault, Watch, try_sockets};
 pub use clock::moment_of;
 pub use command_line::accessd_words::{AccessWords, words};
-pub use counts::{Counts, Outcome};
+pub use counts::{CircuitCounts, Counts, Outcome, REASONS};
 pub use opening::{DeviceFault, device_of};
 pub use sockets::{Warning, warn};
 pub use udp::History;

@@ -5,14 +5,24 @@ ghost use Rattle.std.specs.Prelude.{◌≡◌, ◌≤◌, ◌⊎◌, ◌*◌, tr
 ghost use Rattle.lease_disk.specs.FileDisk.{uncalled};
 ghost use Rattle.accessd.specs.Status.{IsExitStatus, status_of, device_status};
 
-use access::{Access, AccessFault, AccessWords, DeviceFault, History, device_of, warn};
+mod reporter;
+mod text;
+
+use crate::reporter::Reporter;
+use crate::text::{circuit_at, id_of, text_of};
+use access::{
+    Access, AccessFault, AccessWords, DeviceFault, History, device_of, try_sockets, warn,
+};
 use command_line::{
     REFUSED, StandardStreams, UNOPENED, UNREADABLE, complain, given_words, read_configuration,
 };
 use config::Config;
 use dispatch::region_count;
-use lease_disk::FileDisk;
+use lease_disk::{FileDisk, REGION};
+use opening::open_device;
+use std::fs;
 use std::process::ExitCode;
+use std::rt::Clock;
 use types::{Addr4, Circuit, RelayNo, Source};
 
 /// The status of a device that does not serve.
@@ -36,6 +46,40 @@ fn report_device(rt: &HostRuntime, path: &str, fault: DeviceFault) {
         let _ = eprintln!(rt; "{line}");
     }
     let _ = eprintln!(rt; "{path}: {fault}");
+}
+
+/// Whether the file with this path may be formatted, if there is one: nobody else has it, and it has whole regions, as one with
+/// leases has. An error is the status.
+fn may_format_file(rt: &HostRuntime, path: &str) -> Result<(), u8>
+    ensures status { IfErr result (λ status. (status ≡ 4) ⊎ (status ≡ 5)) }
+{
+    let Ok(found) = fs::metadata(rt, path) else {
+        return Ok(());
+    };
+    if let Err(fault) = open_device(rt, path) {
+        report_device(rt, path, fault);
+        return Err(device_status(fault));
+    }
+    if found.len() % REGION as u64 != 0 {
+        let _ = eprintln!(rt;
+            "{path}: it is not a file of leases: its length is not a multiple of 32768 bytes"
+        );
+        return Err(UNREADABLE);
+    }
+    Ok(())
+}
+
+/// Whether nothing is in the way of formatting and of what is served afterwards, so that a refusal makes no file and leaves
+/// the one that there is. An error is the status.
+fn may_format(rt: &HostRuntime, config: &Config, values: &AccessWords<'_>) -> Result<(), u8>
+    requires most { values.now.port ≤ 65472 }
+    ensures status { IfErr result IsExitStatus }
+{
+    may_format_file(rt, values.disk)?;
+    match try_sockets(rt, rt.alloc(), config, values.port) {
+        Ok(()) => Ok(()),
+        Err(fault) => Err(refuse(rt, config, values.disk, fault)),
+    }
 }
 
 /// The device in the file with the leases, formatted where that is asked for.
@@ -148,9 +192,31 @@ fn report_start(rt: &HostRuntime, config: &Config, access: &Access, values: &Acc
     );
 }
 
-/// The text of an id, whose bytes are visible ASCII characters.
-fn text_of(id: &[u8]) -> &str {
-    std::str::from_utf8(id).unwrap_or("?")
+/// Reports that a circuit's clock is ahead of the system's, which has this second, in a line of its own.
+fn report_clock(rt: &HostRuntime, access: &Access, index: usize, now: u64) {
+    let Some(circuit) = circuit_at(access, index) else {
+        return;
+    };
+    let Some(slots) = access.server().slots(circuit) else {
+        return;
+    };
+    let clock = slots.clock.seconds();
+    if now < clock {
+        let (id, ahead) = (id_of(access.server().part(circuit)), clock - now);
+        let _ = eprintln!(rt;
+            "{id}: its clock is {ahead} seconds ahead of the system's; see \"Clock\" in docs/OPERATING.md"
+        );
+    }
+}
+
+/// The same of each open circuit.
+fn report_clocks(rt: &HostRuntime, access: &Access) {
+    let Ok(since) = rt.since_1970() else {
+        return;
+    };
+    'circuits: for index in 0..access.server().circuit_count() {
+        report_clock(rt, access, index, since.as_secs());
+    }
 }
 
 /// Reports what is served, takes the turns, and returns the status.
@@ -161,9 +227,14 @@ fn serve(rt: &HostRuntime, config: &Config, values: &AccessWords<'_>, access: &m
 {
     report_addresses(rt, config, values.port);
     report_moves(rt, config, access);
+    report_clocks(rt, access);
+    let Ok(mut reporter) = Reporter::new(rt, access, values.report, values.leases) else {
+        return complain(rt, "open memory", UNOPENED);
+    };
     report_start(rt, config, access, values);
-    access.serve(rt, values.turns, values.pause);
-    complain(rt, *access.counts(), 0)
+    access.serve(rt, values.turns, values.pause, &mut reporter);
+    reporter.end(access);
+    0
 }
 
 /// Opens relay and server over a device, and serves.
@@ -181,6 +252,24 @@ fn run_over(rt: &HostRuntime, config: &Config, values: &AccessWords<'_>, disk: F
     }
 }
 
+/// Runs over a configuration, and returns the status.
+fn run_with(rt: &HostRuntime, config: &Config, values: &AccessWords<'_>) -> u8
+    requires most { values.now.port ≤ 65472 }
+    requires some { 1 ≤ values.now.batch }
+    requires few { values.now.batch ≤ 16 }
+    ensures { IsExitStatus result }
+{
+    if values.format
+        && let Err(status) = may_format(rt, config, values)
+    {
+        return status;
+    }
+    match device(rt, config, values) {
+        Ok(disk) => run_over(rt, config, values, disk),
+        Err(status) => status,
+    }
+}
+
 /// Runs as the words say, and returns the status.
 fn run(rt: &HostRuntime, values: AccessWords<'_>) -> u8
     requires most { values.port ≤ 65472 }
@@ -192,10 +281,7 @@ fn run(rt: &HostRuntime, values: AccessWords<'_>) -> u8
         Ok(config) => config,
         Err(status) => return status,
     };
-    match device(rt, &config, &values) {
-        Ok(disk) => run_over(rt, &config, &values, disk),
-        Err(status) => status,
-    }
+    run_with(rt, &config, &values)
 }
 
 fn status(rt: &HostRuntime) -> u8

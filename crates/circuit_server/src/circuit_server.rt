@@ -8,7 +8,7 @@ ghost use Rattle.types.specs.Slots.{last_until};
 ghost use Rattle.circuit_server.specs.Answered.{IsAnswer, answered, circuit_saves, fails_at};
 ghost use Rattle.requests.specs.RelayedMessage.{IsRelayedMessage};
 ghost use Rattle.circuit_server.specs.Prepared.{IsDropped, IsPrepared, IsSettled, with_marks};
-ghost use Rattle.circuit_server.specs.CircuitServerValue.{HasPools, IsReadyFor, leases_of, open_book};
+ghost use Rattle.circuit_server.specs.CircuitServerValue.{HasPools, IsReadyFor, kept_slots, leases_of, open_book};
 ghost use Rattle.circuit_server.specs.SlotsOfPools.{HasSlots};
 ghost use Rattle.circuit_server.specs.Ticked.{IsLater, state_at};
 ghost use Rattle.circuit_server.specs.Unoffered.{state_unoffered};
@@ -23,7 +23,7 @@ use lease_disk::{Disk, Fault, Marks, migrate};
 use requests::RelayedMessage;
 use std::marker::Model;
 use timers::Deadlines;
-use types::{Delivery, Discard, Moment};
+use types::{Delivery, Discard, Moment, Slots};
 use wire::PacketBuf;
 
 /// The server of one circuit: what it has while the circuit is open. A part is the circuit's part of the
@@ -57,6 +57,14 @@ impl CircuitServer {
         ensures { result ≡ is_some (option_map open_book self.now) }
     {
         self.state.is_some()
+    }
+
+    /// What is kept of the circuit at this moment, or at its own clock where that is a later one: the live bindings and bars
+    /// of each address, and that clock, without offers; `None` where the circuit is closed.
+    pub fn slots_at(&self, now: Moment) -> Option<Slots>
+        ensures { result ≡ option_map kept_slots (state_at now self.now) }
+    {
+        self.state.as_ref().map(|circuit| circuit.slots_at(now))
     }
 
     /// An open circuit has slots of its books' pools. Nothing is done: this is called for its contract.

@@ -30,7 +30,7 @@ use config::CircuitPart;
 use lease_disk::{Content, Disk, Marks, recover};
 use requests::{RelayedMessage, request4_in, request6_in};
 use std::marker::Model;
-use types::{Discard, Moment};
+use types::{Discard, Moment, Slot4, Slot6, Slots};
 use v4_message::Message;
 use v6_message::Relay6;
 
@@ -121,6 +121,20 @@ impl OpenCircuit {
         } else {
             self.six.until(slot - SIX_SLOTS_FROM)
         }
+    }
+
+    /// What is kept of the circuit at this moment, or at its own clock where that is a later one: live bindings and bars.
+    pub(crate) fn slots_at(&self, now: Moment) -> Slots
+        ensures { result ≡ kept_slots (open_at now self.now) }
+    {
+        let mut slots = Slots {
+            four: [Slot4::Free; 16],
+            six: [Slot6::Free; 16],
+            clock: self.clock.later(now),
+        };
+        self.four.put(&mut slots);
+        self.six.put(&mut slots);
+        slots
     }
 
     /// What a client's message calls for, or why it calls for nothing. Nothing is changed.

@@ -1,10 +1,11 @@
 //! The command line of `accessd`.
-ghost use Rattle.std.specs.Prelude.{◌≡◌, ℕ, Bool, List, Some, false, true, map};
+ghost use Rattle.std.specs.Prelude.{◌≡◌, false, map};
 ghost use Rattle.std.specs.Prelude.{string_bytes, IfOk, IfErr, IfSome, IsNone};
 ghost use Rattle.clap.specs.Words.{app_of, rule_of, found_of, rows_of};
 ghost use Rattle.command_line.specs.CommandLine.{IsRefused};
-ghost use Rattle.command_line.specs.AccessdWords.{batch_rule, disk_rule, format_rule, pause_rule, port_rule, turns_rule};
-ghost use Rattle.command_line.specs.AccessdWords.{bare_app, base_app, access_app, HasValues, Spells, SpellsSomething};
+ghost use Rattle.command_line.specs.AccessdWords.{batch_rule, disk_rule, format_rule, leases_rule, pause_rule, port_rule, report_rule, turns_rule};
+ghost use Rattle.command_line.specs.AccessdWords.{bare_app, base_app, serving_app, access_app, HasValues, Spells, SpellsSomething};
+ghost use Rattle.command_line.specs.declared.accessd_words.AccessWords as access;
 
 use crate::arguments::{config_arg, is_set, number};
 use crate::refusal::Refusal;
@@ -20,6 +21,8 @@ const MAX_PORT: u32 = 65472;
 const MAX_PAUSE: u32 = 1000;
 
 const MAX_BATCH: u32 = 16;
+
+const MAX_REPORT: u32 = 86_400;
 
 /// The values of the words after the program's name.
 #[derive(Clone, Copy, Debug, PartialEq, Eq)]
@@ -38,6 +41,10 @@ pub struct AccessWords<'a> {
     pub pause: u16,
     /// How many datagrams the server takes at most in a turn, 1 to 16.
     pub batch: u8,
+    /// How many seconds there are between two reports of what became of datagrams, 0 to 86400; 0 is for none before the end.
+    pub report: u32,
+    /// Whether each lease that begins or ends is written to standard output.
+    pub leases: bool,
 }
 
 fn disk_arg<'a>(alloc: Global) -> Arg<'a>
@@ -114,6 +121,29 @@ fn batch_arg<'a>(alloc: Global) -> Arg<'a>
         .help("How many datagrams the server takes at most in a turn and saves together, 1 to 16")
 }
 
+fn report_arg<'a>(alloc: Global) -> Arg<'a>
+    ensures rule { rule_of result ≡ report_rule }
+    ensures local { result.global ≡ false }
+{
+    Arg::new(alloc, "report")
+        .long("report")
+        .value_name("S")
+        .action(ArgAction::Set)
+        .value_parser(clap::value_parser!(u32).range(0..=i64::from(MAX_REPORT)))
+        .default_value("0")
+        .help("Writes the counts every S seconds as well, 0 to 86400; 0 is never")
+}
+
+fn leases_arg<'a>(alloc: Global) -> Arg<'a>
+    ensures rule { rule_of result ≡ leases_rule }
+    ensures local { result.global ≡ false }
+{
+    Arg::new(alloc, "leases")
+        .long("leases")
+        .action(ArgAction::SetTrue)
+        .help("Writes a line to standard output for each lease that begins or ends")
+}
+
 fn named<'a>(alloc: Global) -> Command<'a>
     ensures { app_of result ≡ bare_app }
 {
@@ -138,8 +168,9 @@ fn base_command<'a>(alloc: Global) -> Result<Command<'a>, AllocError>
     with_disk.arg(turns)
 }
 
-fn command<'a>(alloc: Global) -> Result<Command<'a>, AllocError>
-    ensures { IfOk result (λ command. app_of command ≡ access_app) }
+/// With those that say how it serves.
+fn serving_command<'a>(alloc: Global) -> Result<Command<'a>, AllocError>
+    ensures { IfOk result (λ command. app_of command ≡ serving_app) }
 {
     let format = format_arg(alloc);
     let port = port_arg(alloc);
@@ -151,10 +182,19 @@ fn command<'a>(alloc: Global) -> Result<Command<'a>, AllocError>
     with_pause.arg(batch)
 }
 
+fn command<'a>(alloc: Global) -> Result<Command<'a>, AllocError>
+    ensures { IfOk result (λ command. app_of command ≡ access_app) }
+{
+    let report = report_arg(alloc);
+    let leases = leases_arg(alloc);
+    let with_report = serving_command(alloc)?.arg(report)?;
+    with_report.arg(leases)
+}
+
 /// The values that clap has read, where all are there and within their limits.
 fn values<'a>(matches: ArgMatches<'a>) -> Option<AccessWords<'a>>
-    ensures some { IfSome result (λ values. HasValues (rows_of (found_of matches.entry)) values.config.now values.disk.now values.turns values.format values.port values.pause values.batch) }
-    ensures none { IsNone result → (config disk : List ℕ) (turns : ℕ) (format : Bool) (port pause batch : ℕ) → ¬ HasValues (rows_of (found_of matches.entry)) config disk turns format port pause batch }
+    ensures some { IfSome result (HasValues (rows_of (found_of matches.entry))) }
+    ensures none { IsNone result → (values : access.AccessWords) → ¬ HasValues (rows_of (found_of matches.entry)) values }
 {
     let config = matches.get_str("CONFIG")?;
     let disk = matches.get_str("disk")?;
@@ -166,6 +206,8 @@ fn values<'a>(matches: ArgMatches<'a>) -> Option<AccessWords<'a>>
     let pause = u16::try_from(pause).ok()?;
     let batch = number(&matches, "batch", 1, MAX_BATCH)?;
     let batch = u8::try_from(batch).ok()?;
+    let report = number(&matches, "report", 0, MAX_REPORT)?;
+    let leases = is_set(&matches, "leases");
     Some(AccessWords {
         config,
         disk,
@@ -174,12 +216,14 @@ fn values<'a>(matches: ArgMatches<'a>) -> Option<AccessWords<'a>>
         port,
         pause,
         batch,
+        report,
+        leases,
     })
 }
 
 /// The values of the words after the program's name.
 pub fn words<'a>(alloc: Global, words: &'a [String]) -> Result<AccessWords<'a>, Refusal>
-    ensures values { IfOk result (λ values. Spells (map string_bytes words.entry.now) values.config.now values.disk.now values.turns values.format values.port values.pause values.batch) }
+    ensures values { IfOk result (Spells (map string_bytes words.entry.now)) }
     ensures refused { IfErr result (IsRefused access_app SpellsSomething (map string_bytes words.entry.now)) }
 {
     let Ok(command) = command(alloc) else {

@@ -11,7 +11,7 @@ use Rattle.config.specs.Pairs.{AreRelated}
 abbrev pub IsRefOf : List CircuitConfig → ℕ → CircuitRef → Type 0
 IsRefOf circuits index named = (named.number ≡ index + 1) × ((c : CircuitConfig) → slice_get circuits index ≡ Some c → named.id ≡ Some c.id)
 
-named_at : (s : Settings) (circuits : List CircuitConfig) (index : ℕ) (named : CircuitRef) (c : CircuitConfig) → s.circuits ≡ circuits → slice_get circuits index ≡ Some c → IsRefOf circuits index named → IsCircuitOf s named c
+pub named_at : (s : Settings) (circuits : List CircuitConfig) (index : ℕ) (named : CircuitRef) (c : CircuitConfig) → s.circuits ≡ circuits → slice_get circuits index ≡ Some c → IsRefOf circuits index named → IsCircuitOf s named c
 named_at s circuits index named c same is ref =
     let before : index ≡ index + 1 - 1 = omega arith in
     record {

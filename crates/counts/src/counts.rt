@@ -10,7 +10,7 @@ use std::fmt;
 use types::Discard;
 
 /// Every reason, in the order of the numbers.
-const REASONS: [Discard; 27] = [
+pub const REASONS: [Discard; 27] = [
     Discard::TooLong,
     Discard::MalformedUp,
     Discard::NotRequest,

@@ -1,7 +1,9 @@
 //! What became of the datagrams that `accessd` took.
 #![tactic(auto)]
 
+mod circuit_counts;
 mod counts;
 pub mod laws;
 
-pub use counts::{Counts, Outcome};
+pub use circuit_counts::{COUNTED_CIRCUITS, CircuitCounts};
+pub use counts::{Counts, Outcome, REASONS};

@@ -10,7 +10,7 @@ ghost use Rattle.circuit_server.specs.Leases.{after_datagram, found_leases};
 ghost use Rattle.dispatch.specs.Regions.{AreBroughtUp, AreSynced, HasRegions, KeepsOthers};
 ghost use Rattle.circuit_server.specs.Answered.{IsAnswer, answered, circuit_saves, fails_at};
 ghost use Rattle.requests.specs.RelayedMessage.{IsRelayedMessage};
-ghost use Rattle.circuit_server.specs.CircuitServerValue.{HasItsPools, HasPools, IsReady, IsReadyFor, leases_of, open_book};
+ghost use Rattle.circuit_server.specs.CircuitServerValue.{HasItsPools, HasPools, IsReady, IsReadyFor, kept_slots, leases_of, open_book};
 ghost use Rattle.circuit_server.specs.Prepared.{IsDropped, IsPrepared, IsSettled};
 ghost use Rattle.circuit_server.specs.SlotsOfPools.{HasSlots};
 ghost use Rattle.circuit_server.specs.Ticked.{state_at, state_of};
@@ -26,7 +26,7 @@ use requests::RelayedMessage;
 use std::alloc::{AllocError, Global};
 use std::marker::Model;
 use timers::Deadlines;
-use types::{Circuit, Delivery, Discard, Moment};
+use types::{Circuit, Delivery, Discard, Moment, Slots};
 use wire::PacketBuf;
 
 /// How many slots a circuit has, of both pools.
@@ -75,6 +75,14 @@ impl CircuitServers {
         ensures { result ≡ is_some (option_map open_book (state_of self.now index)) }
     {
         self.servers[index].is_open()
+    }
+
+    /// What is kept of the circuit; `None` where it is closed.
+    pub(crate) fn slots(&self, index: usize) -> Option<Slots>
+        requires { index < length self.now }
+        ensures { result ≡ option_map kept_slots (state_of self.now index) }
+    {
+        self.servers[index].slots_at(self.ticked)
     }
 
     /// Each open circuit has slots of its books' pools.

@@ -1,5 +1,5 @@
 //! The server of all circuits, over a device that keeps their leases.
-ghost use Rattle.std.specs.Prelude.{◌≡◌, ◌<◌, ◌≤◌, ◌+◌, ◌*◌, ◌↔◌, ℕ, Option, length, map, slice_get, Some, true, false, is_some, nat_lt, count_by, All, IfOk, IfErr, OnErr};
+ghost use Rattle.std.specs.Prelude.{◌≡◌, ◌<◌, ◌≤◌, ◌+◌, ◌*◌, ◌↔◌, ℕ, Option, length, map, replicate, slice_get, None, Some, true, false, is_some, nat_lt, option_map, count_by, All, IfOk, IfErr, OnErr};
 ghost use Rattle.config.specs.CircuitPart.{parts_of};
 ghost use Rattle.config.specs.Topology.{IsTopology, plans_topology, reloaded, serves, topology_of};
 ghost use Rattle.requests.specs.Addressee as who;
@@ -12,7 +12,8 @@ ghost use Rattle.circuit_server.specs.Leases.{Leases, after_tick, found_leases, 
 ghost use Rattle.dispatch.specs.Regions.{AreBroughtUp, AreSynced, HasRegions, KeepsOthers};
 ghost use Rattle.dispatch.specs.Received.{received, received_leases, received_saves};
 ghost use Rattle.circuit_server.specs.Answered.{IsAnswer, fails_at};
-ghost use Rattle.circuit_server.specs.CircuitServerValue.{OpenCircuitValue};
+ghost use Rattle.circuit_server.specs.CircuitServerValue.{OpenCircuitValue, kept_slots};
+ghost use Rattle.circuit_server.specs.Ticked.{state_of};
 ghost use Rattle.dispatch.specs.declared.server.OpenFault.TheVariants as fault;
 ghost use Rattle.lease_disk.specs.Device.{WritesAt, has_failed};
 ghost use Rattle.types.specs.Delivery.{delivery};
@@ -30,7 +31,7 @@ use std::alloc::{AllocError, Global};
 use std::marker::Model;
 use thiserror::Error;
 use timers::Deadlines;
-use types::{Circuit, Delivery, Discard, Moment, Proto, Source};
+use types::{Circuit, Delivery, Discard, Moment, Proto, Slots, Source};
 use wire::PacketBuf;
 
 /// Why a server was not opened.
@@ -79,6 +80,20 @@ fn has_regions(parts: &[CircuitPart], count: u16) -> bool
         }
     }
     true
+}
+
+/// What a server of so many circuits holds beside them, while each is closed.
+fn rooms(alloc: Global, count: usize) -> Result<(CircuitServers, Deadlines, Vec<u8>), AllocError>
+    requires some { 1 ≤ count }
+    requires few { count ≤ 1024 }
+    ensures servers { IfOk result (λ made. made.0 ≡ replicate count None) }
+    ensures deadlines { IfOk result (λ made. made.1.slots ≡ replicate (32 * count) None) }
+    ensures buffer { IfOk result (λ made. length made.2.items ≡ 16384) }
+{
+    let servers = CircuitServers::closed(alloc, count)?;
+    let deadlines = Deadlines::new(alloc, SLOTS * count)?;
+    let buffer = Vec::from_elem(alloc, 0, HALVES_SIZE)?;
+    Ok((servers, deadlines, buffer))
 }
 
 impl Server {
@@ -170,15 +185,12 @@ impl Server {
         requires sound { IsTopology circuits }
         ensures { IfOk result (λ server. server.topology ≡ circuits) }
     {
-        let count = circuits.count();
-        let servers = CircuitServers::closed(alloc, count)?;
-        let deadlines = Deadlines::new(alloc, SLOTS * count)?;
-        let buffer = Vec::from_elem(alloc, 0, HALVES_SIZE)?;
+        let made = rooms(alloc, circuits.count())?;
         Ok(Server {
             circuits,
-            servers,
-            deadlines,
-            buffer,
+            servers: made.0,
+            deadlines: made.1,
+            buffer: made.2,
         })
     }
 
@@ -204,6 +216,25 @@ impl Server {
     {
         let index = circuit.index();
         index < self.servers.count() && self.servers.is_open(index)
+    }
+
+    /// What is kept of a circuit at its clock: the live bindings and bars of each address, and that clock, without offers;
+    /// `None` where the circuit is closed.
+    pub fn slots(&self, circuit: Circuit) -> Option<Slots>
+        requires { circuit < length self.now.topology.circuits }
+        ensures { result ≡ option_map kept_slots (state_of self.now.states circuit) }
+    {
+        self.servers.slots(circuit.index())
+    }
+
+    /// The circuit of a datagram, or the first reason why it is of none. Nothing is changed.
+    pub fn addressee(&self, delivery: &Delivery<'_>) -> Result<Circuit, Discard>
+        ensures { result ≡ who.addressee self.now.topology delivery.now }
+    {
+        match addressee(&self.circuits, delivery) {
+            Ok((circuit, _)) => Ok(circuit),
+            Err(why) => Err(why),
+        }
     }
 
     /// Each open circuit has the slots of its pools. Nothing is done: this is called for its contract.

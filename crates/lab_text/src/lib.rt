@@ -7,6 +7,7 @@ mod comebacks;
 mod digits;
 mod fields;
 mod form;
+mod forms;
 mod hexadecimal;
 pub mod parse_line;
 mod parting;

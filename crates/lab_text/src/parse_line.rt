@@ -1,28 +1,18 @@
 //! The parser of a line.
-ghost use Rattle.std.specs.Prelude.{◌≡◌, ◌≤◌, [], option_map, IfSome};
-ghost use Rattle.lab_text.specs.Fields.{number_to, proto_of};
-ghost use Rattle.lab_text.specs.FieldsAfter.{fields_after, texts};
-ghost use Rattle.lab_text.specs.Line.{form_of, line_of_form, line_of_found, restart_line, short_line};
+ghost use Rattle.std.specs.Prelude.{◌≡◌, [], option_map, IfSome};
+ghost use Rattle.lab_text.specs.FieldsAfter.{fields_after};
+ghost use Rattle.lab_text.specs.Line.{form_of, line_of_found, restart_line, short_line};
 ghost use Rattle.lab_text.specs.ParsedLine.{line_or_bad, IsRestartOrBad, IsWithin, Means, ParsedWithin};
 
 use crate::batches::{Parts, parse_batch};
-use crate::circuits::{circuit_named, is_relay, is_server, relay_named};
-use crate::comebacks::{clear_comebacks, clear_names, move_fault, named_comeback};
-use crate::digits::{datagram_number, fault_number, moment, number};
+use crate::comebacks::{clear_comebacks, clear_names, named_comeback};
 use crate::fields::{Fields, first_field, next_field};
-use crate::form::{Form, form_named};
-use crate::hexadecimal::{MAX_BYTES, byte, bytes_at};
-use crate::sources::source;
+use crate::form::form_named;
+use crate::forms::parse_form;
+use crate::hexadecimal::MAX_BYTES;
 use config::Config;
 use events::Comeback;
-use lease_disk::REGION;
 use types::{Circuit, MAX_CIRCUITS, Moment, Proto, RelayNo, Source};
-
-/// The greatest number that names a plan.
-const MAX_PLAN: u64 = 255;
-
-/// The length of a region.
-const MAX_OFFSET: u64 = 32768;
 
 /// What a line says. The bytes of a frame, and those that are loaded, are in a buffer of their own.
 #[derive(Clone, Copy, Debug, PartialEq, Eq)]
@@ -64,40 +54,6 @@ pub enum Parsed {
     Batch(Moment, u8),
 }
 
-/// The protocol, `4` or `6`.
-fn protocol(text: &[u8]) -> Option<Proto>
-    ensures { result ≡ proto_of text.now }
-{
-    if text == b"4".as_slice() {
-        return Some(Proto::V4);
-    }
-    if text == b"6".as_slice() {
-        return Some(Proto::V6);
-    }
-    None
-}
-
-/// An offset in a region, or its length.
-fn offset(text: &[u8]) -> Option<usize>
-    ensures value { result ≡ number_to 32768 text.now }
-    ensures most { IfSome result (λ at. at ≤ 32768) }
-{
-    match number(text, MAX_OFFSET) {
-        Some(at) => Some(at as usize),
-        None => None,
-    }
-}
-
-/// The number of a plan.
-fn plan_number(text: &[u8]) -> Option<u8>
-    ensures { result ≡ number_to 255 text.now }
-{
-    match number(text, MAX_PLAN) {
-        Some(number) => Some(number as u8),
-        None => None,
-    }
-}
-
 /// Parses the fields of a restart, `CID=HH`, `CID=HH:M` or `CID=unreadable`, to how the circuits' regions come
 /// back, in order, and returns whether they are good.
 fn parse_restart(
@@ -124,82 +80,6 @@ fn parse_restart(
         rest = after;
     }
     true
-}
-
-/// Parses a line of this form by its other fields.
-fn parse_form(
-    config: &Config,
-    plans: usize,
-    form: Form,
-    fields: &[&[u8]],
-    bytes: &mut [u8; MAX_BYTES],
-) -> Option<ParsedLine>
-    ensures value { line_or_bad result bytes.new ≡ line_of_form config.now plans form (texts fields.now) }
-    ensures within { IfSome result (IsWithin config.now plans) }
-{
-    match (form, fields) {
-        (Form::Fill, [circuit, digits]) => Some(ParsedLine::Fill(
-            circuit_named(config, circuit)?,
-            byte(digits)?,
-        )),
-        (Form::Old, [circuit]) => Some(ParsedLine::Old(circuit_named(config, circuit)?)),
-        (Form::Load, [circuit, at, digits]) => {
-            let circuit = circuit_named(config, circuit)?;
-            let at = offset(at)?;
-            let len = bytes_at(digits, bytes)?;
-            if at + len > REGION {
-                return None;
-            }
-            Some(ParsedLine::Load(circuit, at, len))
-        }
-        (Form::Move, [circuit, call]) => Some(ParsedLine::Move(
-            circuit_named(config, circuit)?,
-            move_fault(call)?,
-        )),
-        (Form::Frame, [circuit, proto, digits]) => Some(ParsedLine::Frame(
-            circuit_named(config, circuit)?,
-            protocol(proto)?,
-            bytes_at(digits, bytes)?,
-        )),
-        (Form::Up, [circuit, j, now, fault]) => Some(ParsedLine::Up(
-            circuit_named(config, circuit)?,
-            datagram_number(j)?,
-            moment(now)?,
-            fault_number(fault)?,
-        )),
-        (Form::Down, [circuit, j]) => Some(ParsedLine::Down(
-            circuit_named(config, circuit)?,
-            datagram_number(j)?,
-        )),
-        (Form::Tick, [now]) => Some(ParsedLine::Tick(moment(now)?)),
-        (Form::Reload, [plan]) => {
-            let plan = plan_number(plan)?;
-            if usize::from(plan) >= plans {
-                return None;
-            }
-            Some(ParsedLine::Reload(plan))
-        }
-        (Form::StrayUp, [proto, from, digits, now]) => {
-            let proto = protocol(proto)?;
-            let source = source(from)?;
-            let len = bytes_at(digits, bytes)?;
-            let now = moment(now)?;
-            if is_relay(config, source) {
-                return None;
-            }
-            Some(ParsedLine::StrayUp(proto, source, len, now))
-        }
-        (Form::StrayDown, [relay, from, digits]) => {
-            let relay = relay_named(config, relay)?;
-            let source = source(from)?;
-            let len = bytes_at(digits, bytes)?;
-            if is_server(config, source) {
-                return None;
-            }
-            Some(ParsedLine::StrayDown(relay, source, len))
-        }
-        _ => None,
-    }
 }
 
 /// Parses a line that is no restart and no batch by its first field and what follows it.

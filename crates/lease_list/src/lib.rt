@@ -14,6 +14,6 @@ pub use clock::moment_of;
 pub use command_line::leases_words::{Form, LeaseWords, words};
 pub use lease::{Lease, leases};
 pub use line::{Closed, closed_line, lease_line};
-pub use listing::{circuit_lines, region_lines};
+pub use listing::{circuit_lines, circuit_slots};
 pub use region_file::{FileFault, RegionFile};
 pub use steady::{READINGS, RegionReader, Unsteady, read_steadily};

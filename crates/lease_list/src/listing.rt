@@ -1,10 +1,10 @@
-//! The lines of a circuit, by the bytes of its region.
-ghost use Rattle.std.specs.Prelude.{◌≡◌, ◌≢◌, ◌≤◌, ◌+◌, IfOk, Some, length, map, slice_index, string_bytes, ◌∷◌, []};
+//! What a circuit's region says, and the lines for it.
+ghost use Rattle.std.specs.Prelude.{◌≡◌, ◌≢◌, ◌≤◌, ◌+◌, IfOk, Err, length, map, string_bytes, ◌∷◌, []};
 ghost use Rattle.std.specs.List.{AllZip};
-ghost use Rattle.lease_disk.specs.Recovered.{recovered};
-ghost use Rattle.lease_list.specs.declared.steady.Unsteady.TheVariants as unsteady;
+ghost use Rattle.lease_list.specs.declared.line.Closed.TheVariants as closed;
+ghost use Rattle.lease_list.specs.Lease.{leases_at};
 ghost use Rattle.lease_list.specs.Line.{IsLeaseLine, closed_written};
-ghost use Rattle.lease_list.specs.Listing.{AreLines, AreCircuitLines, closed_as};
+ghost use Rattle.lease_list.specs.Listing.{AreLines, AreCircuitSlots};
 
 use crate::lease::{Lease, leases};
 use crate::line::{Closed, closed_line, lease_line};
@@ -13,7 +13,7 @@ use command_line::leases_words::Form;
 use config::CircuitPart;
 use lease_disk::{REGION, slots_in};
 use std::alloc::{AllocError, Global};
-use types::CircuitId;
+use types::{CircuitId, Slots};
 
 /// The id as text: its bytes are ASCII.
 fn text_of(id: &CircuitId) -> &str
@@ -43,14 +43,18 @@ fn lease_lines(
     Ok(lines)
 }
 
-/// Why a circuit is closed whose region was not read.
-fn closed_as(why: Unsteady) -> Closed
-    ensures { result ≡ closed_as why }
+/// The line of each lease of these slots that is live at a moment, in seconds.
+fn live_lines(
+    alloc: Global,
+    part: &CircuitPart,
+    slots: &Slots,
+    at: u64,
+    form: Form,
+) -> Result<Vec<String>, AllocError>
+    ensures { IfOk result (λ lines. AllZip (λ lease line. IsLeaseLine part.now.id lease at form (string_bytes line)) (leases_at at part.now slots.now) lines.items) }
 {
-    match why {
-        Unsteady::Busy => Closed::Busy,
-        Unsteady::Unreadable => Closed::Unreadable,
-    }
+    let found = leases(alloc, part, slots, at)?;
+    lease_lines(alloc, text_of(part.id()), &found, at, form)
 }
 
 /// The one line of a circuit whose leases are not known.
@@ -68,49 +72,39 @@ fn closed_lines(
     Ok(lines)
 }
 
-/// The lines of a circuit whose region has these bytes, of either format: one for each of its leases that is
-/// live at a moment, in seconds, by address, DHCPv4 before DHCPv6; or one that says that it is damaged. They
-/// have no line feeds.
-pub fn region_lines(
-    alloc: Global,
-    part: &CircuitPart,
-    bytes: &[u8; REGION],
-    at: u64,
-    form: Form,
-) -> Result<Vec<String>, AllocError>
-    ensures { IfOk result (λ lines. AreLines part.now at form (recovered (part.now.count4 ∷ part.now.count6 ∷ []) (slice_index bytes.now)) lines.items) }
-{
-    if let Some(slots) = slots_in(bytes, part.counts()) {
-        let found = leases(alloc, part, &slots, at)?;
-        return lease_lines(alloc, text_of(part.id()), &found, at, form);
-    }
-    closed_lines(alloc, part, Closed::Damaged, form)
-}
-
-/// The lines of a circuit by the region that a reader has of it, and why that was not read, if it was not. `bytes`
-/// then has those of the region if it was read, and any if not.
-pub fn circuit_lines<R: RegionReader>(
-    alloc: Global,
+/// The slots that a circuit's region means, of either format, by a reader; or why they are not known. `bytes` then has
+/// those of the region if it was read, and any if not.
+pub fn circuit_slots<R: RegionReader>(
     part: &CircuitPart,
     reader: &mut R,
     bytes: &mut [u8; REGION],
-    at: u64,
-    form: Form,
-) -> Result<(Vec<String>, Option<Unsteady>), AllocError>
-    ensures lines { IfOk result (λ listed. AreCircuitLines part.now at form bytes.new (R.readings reader.old) (R.readings reader.new) listed.1 listed.0.items) }
+) -> Result<Slots, Closed>
+    ensures slots { AreCircuitSlots part.now bytes.new (R.readings reader.old) (R.readings reader.new) result }
     ensures most { length (R.readings reader.new) + R.failures reader.new ≤ length (R.readings reader.old) + R.failures reader.old + 100 }
-    ensures busy { IfOk result (λ listed. listed.1 ≡ Some unsteady.Busy → length (R.readings reader.new) ≡ length (R.readings reader.old) + 100) }
-    ensures quiet { IfOk result (λ listed. listed.1 ≢ Some unsteady.Unreadable → R.failures reader.new ≡ R.failures reader.old) }
-    ensures cause { IfOk result (λ listed. listed.1 ≡ Some unsteady.Unreadable → R.failures reader.new ≡ R.failures reader.old + 1) }
+    ensures busy { result ≡ Err closed.Busy → length (R.readings reader.new) ≡ length (R.readings reader.old) + 100 }
+    ensures quiet { result ≢ Err closed.Unreadable → R.failures reader.new ≡ R.failures reader.old }
+    ensures cause { result ≡ Err closed.Unreadable → R.failures reader.new ≡ R.failures reader.old + 1 }
 {
     match read_steadily(reader, part.region(), bytes) {
-        Ok(()) => {
-            let lines = region_lines(alloc, part, bytes, at, form)?;
-            Ok((lines, None))
-        }
-        Err(why) => {
-            let lines = closed_lines(alloc, part, closed_as(why), form)?;
-            Ok((lines, Some(why)))
-        }
+        Ok(()) => slots_in(bytes, part.counts()).ok_or(Closed::Damaged),
+        Err(Unsteady::Busy) => Err(Closed::Busy),
+        Err(Unsteady::Unreadable) => Err(Closed::Unreadable),
+    }
+}
+
+/// The lines of a circuit whose slots are these: one for each of its leases that is live at a moment, in seconds, by
+/// address, DHCPv4 before DHCPv6; or one that says why they are not known. They have no line feeds.
+pub fn circuit_lines(
+    alloc: Global,
+    part: &CircuitPart,
+    found: &Result<Slots, Closed>,
+    at: u64,
+    form: Form,
+) -> Result<Vec<String>, AllocError>
+    ensures { IfOk result (λ lines. AreLines part.now at form found.now lines.items) }
+{
+    match found {
+        Ok(slots) => live_lines(alloc, part, slots, at, form),
+        Err(why) => closed_lines(alloc, part, *why, form),
     }
 }

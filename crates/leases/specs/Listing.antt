@@ -1,19 +1,29 @@
 -- What one circuit adds to a listing.
-use Rattle.std.specs.Prelude.{◌≡◌, ℕ, List, Option, Some, None, Bool, true, false, ◌||◌, String}
+use Rattle.std.specs.Prelude.{◌≡◌, ℕ, List, Result, Ok, Err, true, String}
 use Rattle.std.specs.declared.alloc.Global.{Global}
+use Rattle.types.specs.declared.slots.Slots.{Slots}
 use Rattle.config.specs.CircuitPart.{CircuitPart}
 use Rattle.command_line.specs.declared.leases_words.Form.{Form}
-use Rattle.lease_list.specs.declared.steady.Unsteady.{Unsteady}
-use Rattle.lease_list.specs.declared.steady.Unsteady.TheVariants.{Busy, Unreadable}
-use Rattle.lease_list.specs.Listing.{AreCircuitLines}
+use Rattle.lease_list.specs.declared.line.Closed.{Closed}
+use Rattle.lease_list.specs.declared.line.Closed.TheVariants.{Damaged, Unreadable, Busy}
+use Rattle.lease_list.specs.Listing.{AreCircuitSlots, AreLines}
+use Rattle.leases.specs.declared.Noted.{Noted}
 
-abbrev pub is_busy : Option Unsteady → Bool
-is_busy (Some Busy) = true
-is_busy (Some Unreadable) = false
-is_busy None = false
+-- what is noted after one circuit more: whether a circuit was closed, and whether one was busy
+abbrev pub with_found : Noted → Result Slots Closed → Noted
+with_found noted (Ok slots) = noted
+with_found noted (Err Damaged) = record noted { is_closed = true }
+with_found noted (Err Unreadable) = record noted { is_closed = true }
+with_found noted (Err Busy) = record noted { is_busy = true }
 
--- The lines are the circuit's by the readings of its region; where it was busy, that is noted.
-pub record HasListed (part : CircuitPart) (at : ℕ) (form : Form) (bytes : List ℕ) (before after : List (ℕ × List ℕ)) (was_noted is_noted : Bool) (lines : List (String Global)) : Type 0 where
-  pub why : Option Unsteady
-  pub listed : AreCircuitLines part at form bytes before after why lines
-  pub noted : is_noted ≡ (was_noted || is_busy why)
+-- what was noted stays so
+pub record Keeps (old new : Noted) : Type 0 where
+  pub closed : old.is_closed ≡ true → new.is_closed ≡ true
+  pub busy : old.is_busy ≡ true → new.is_busy ≡ true
+
+-- The lines are the circuit's by the readings of its region; where it was closed or busy, that is noted.
+pub record HasListed (part : CircuitPart) (at : ℕ) (form : Form) (bytes : List ℕ) (before after : List (ℕ × List ℕ)) (was_noted is_noted : Noted) (lines : List (String Global)) : Type 0 where
+  pub found : Result Slots Closed
+  pub read : AreCircuitSlots part bytes before after found
+  pub listed : AreLines part at form found lines
+  pub noted : is_noted ≡ with_found was_noted found

@@ -1,9 +1,9 @@
 //! Lists the leases of all circuits in the file of an `accessd`, which may run meanwhile.
 #![tactic(auto)]
 
-ghost use Rattle.std.specs.Prelude.{◌≡◌, ◌⊎◌, IfErr, IfOk, true, false};
-ghost use Rattle.leases.specs.Listing.{HasListed};
-ghost use Rattle.leases.specs.Status.{IsExitStatus, file_status};
+ghost use Rattle.std.specs.Prelude.{◌≡◌, ◌⊎◌, IfErr, IfOk};
+ghost use Rattle.leases.specs.Listing.{HasListed, Keeps, with_found};
+ghost use Rattle.leases.specs.Status.{IsExitStatus, file_status, noted_status};
 
 use command_line::{
     FAILED, StandardStreams, UNOPENED, UNREADABLE, complain, given_words, read_configuration,
@@ -11,11 +11,16 @@ use command_line::{
 use config::{CircuitPart, Config};
 use dispatch::region_count;
 use lease_disk::REGION;
-use lease_list::{FileFault, Form, LeaseWords, RegionFile, Unsteady, circuit_lines, moment_of};
+use lease_list::{
+    Closed, FileFault, Form, LeaseWords, RegionFile, circuit_lines, circuit_slots, moment_of,
+};
 use std::alloc::AllocError;
 use std::process::ExitCode;
 use std::rt::Clock;
-use types::Circuit;
+use types::{Circuit, Slots};
+
+/// A circuit is closed.
+const CLOSED: u8 = 3;
 
 /// Reports that the file is not read, and returns the status.
 fn refuse_file(rt: &HostRuntime, path: &str, fault: FileFault) -> u8
@@ -47,6 +52,43 @@ fn open_file(rt: &HostRuntime, config: &Config, path: &str) -> Result<RegionFile
     Ok(file)
 }
 
+/// Whether a circuit was closed so far, and whether one was busy.
+#[derive(Clone, Copy, Debug)]
+struct Noted {
+    is_closed: bool,
+    is_busy: bool,
+}
+
+impl Noted {
+    /// With what was found of one circuit more.
+    fn with(self, found: &Result<Slots, Closed>) -> Noted
+        ensures { result ≡ with_found self found.now }
+    {
+        match found {
+            Ok(_) => self,
+            Err(Closed::Damaged | Closed::Unreadable) => Noted {
+                is_closed: true,
+                is_busy: self.is_busy,
+            },
+            Err(Closed::Busy) => Noted {
+                is_closed: self.is_closed,
+                is_busy: true,
+            },
+        }
+    }
+
+    /// The status after every circuit's lines were written.
+    fn status(self) -> u8
+        ensures { result ≡ noted_status self }
+    {
+        match (self.is_busy, self.is_closed) {
+            (true, _) => UNOPENED,
+            (false, true) => CLOSED,
+            (false, false) => 0,
+        }
+    }
+}
+
 /// What lists a file's regions one after the other.
 #[derive(Drop)]
 struct Lister<'a> {
@@ -55,34 +97,27 @@ struct Lister<'a> {
     bytes: [u8; REGION],
     at: u64,
     form: Form,
-    is_busy: bool,
+    noted: Noted,
 }
 
 impl Lister<'_> {
     /// The lines of a circuit.
     fn lines(&mut self, part: &CircuitPart) -> Result<Vec<String>, AllocError>
-        ensures listed { IfOk result (λ lines. HasListed part.now self.old.at self.old.form self.new.bytes self.old.file.readings.items self.new.file.readings.items self.old.is_busy self.new.is_busy lines.items) }
+        ensures listed { IfOk result (λ lines. HasListed part.now self.old.at self.old.form self.new.bytes self.old.file.readings.items self.new.file.readings.items self.old.noted self.new.noted lines.items) }
         ensures at { self.new.at ≡ self.old.at }
         ensures form { self.new.form ≡ self.old.form }
-        ensures busy { self.old.is_busy ≡ true → self.new.is_busy ≡ true }
+        ensures noted { Keeps self.old.noted self.new.noted }
     {
-        let (lines, why) = circuit_lines(
-            self.rt.alloc(),
-            part,
-            &mut self.file,
-            &mut self.bytes,
-            self.at,
-            self.form,
-        )?;
-        self.is_busy = self.is_busy || why == Some(Unsteady::Busy);
-        Ok(lines)
+        let found = circuit_slots(part, &mut self.file, &mut self.bytes);
+        self.noted = self.noted.with(&found);
+        circuit_lines(self.rt.alloc(), part, &found, self.at, self.form)
     }
 
     /// Writes the lines of a circuit.
     fn list(&mut self, part: &CircuitPart) -> Result<(), u8>
         ensures at { self.new.at ≡ self.old.at }
         ensures form { self.new.form ≡ self.old.form }
-        ensures busy { self.old.is_busy ≡ true → self.new.is_busy ≡ true }
+        ensures noted { Keeps self.old.noted self.new.noted }
         ensures status { IfErr result (λ status. (status ≡ 4) ⊎ (status ≡ 6)) }
     {
         let Ok(lines) = self.lines(part) else {
@@ -100,8 +135,8 @@ impl Lister<'_> {
     fn list_all(&mut self, config: &Config) -> u8
         ensures at { self.new.at ≡ self.old.at }
         ensures form { self.new.form ≡ self.old.form }
-        ensures busy { result ≡ 0 → self.new.is_busy ≡ false }
-        ensures status { (result ≡ 0) ⊎ (result ≡ 4) ⊎ (result ≡ 6) }
+        ensures noted { Keeps self.old.noted self.new.noted }
+        ensures status { (result ≡ noted_status self.new.noted) ⊎ (result ≡ 4) ⊎ (result ≡ 6) }
     {
         'circuits: for index in 0..config.circuit_count() {
             let circuit = Circuit::at(index);
@@ -109,7 +144,7 @@ impl Lister<'_> {
                 return status;
             }
         }
-        if self.is_busy { UNOPENED } else { 0 }
+        self.noted.status()
     }
 }
 
@@ -134,7 +169,10 @@ fn run(rt: &HostRuntime, values: LeaseWords<'_>) -> u8
         bytes: [0; REGION],
         at,
         form: values.form,
-        is_busy: false,
+        noted: Noted {
+            is_closed: false,
+            is_busy: false,
+        },
     };
     lister.list_all(&config)
 }

@@ -10,28 +10,32 @@ not_there : (o : Option (List ℕ)) (a : List ℕ) → None ≡ o → o ≡ Some
 not_there o a none some = let h : None ≡ Some a = none ∙ some in absurd cc
 
 pub returns-in_err-config-clause-none : goal.returns-in_err-config-clause-none
-returns-in_err-config-clause-none c = λ _ config disk turns format port pause batch has.
-    not_there _ config (c.in_err-config.ensures ∙ first_value-rows (found_of c.args.matches) (codes "CONFIG")) has.config_is
+returns-in_err-config-clause-none c = λ _ values has.
+    not_there _ values.config.now (c.in_err-config.ensures ∙ first_value-rows (found_of c.args.matches) (codes "CONFIG")) has.config_is
 
 pub returns-in_err-disk-clause-none : goal.returns-in_err-disk-clause-none
-returns-in_err-disk-clause-none c = λ _ config disk turns format port pause batch has.
-    not_there _ disk (c.in_err-disk.ensures ∙ first_value-rows (found_of c.args.matches) (codes "disk")) has.disk_is
+returns-in_err-disk-clause-none c = λ _ values has.
+    not_there _ values.disk.now (c.in_err-disk.ensures ∙ first_value-rows (found_of c.args.matches) (codes "disk")) has.disk_is
 
 pub returns-in_err-turns-clause-none : goal.returns-in_err-turns-clause-none
-returns-in_err-turns-clause-none c = λ _ config disk turns format port pause batch has.
-    c.in_err-turns.ensures.none refl turns (subst (λ t. IsNumber t 1 1000000 turns) (sym (first_value-rows (found_of c.args.matches) (codes "turns"))) has.turns_are)
+returns-in_err-turns-clause-none c = λ _ values has.
+    c.in_err-turns.ensures.none refl values.turns (subst (λ t. IsNumber t 1 1000000 values.turns) (sym (first_value-rows (found_of c.args.matches) (codes "turns"))) has.turns_are)
 
 pub returns-in_err-port-clause-none : goal.returns-in_err-port-clause-none
-returns-in_err-port-clause-none c = λ _ config disk turns format port pause batch has.
-    c.in_err-port.ensures.none refl port (subst (λ t. IsNumber t 1024 65472 port) (sym (first_value-rows (found_of c.args.matches) (codes "port"))) has.port_is)
+returns-in_err-port-clause-none c = λ _ values has.
+    c.in_err-port.ensures.none refl values.port (subst (λ t. IsNumber t 1024 65472 values.port) (sym (first_value-rows (found_of c.args.matches) (codes "port"))) has.port_is)
 
 pub returns-in_err-pause-clause-none : goal.returns-in_err-pause-clause-none
-returns-in_err-pause-clause-none c = λ _ config disk turns format port pause batch has.
-    c.in_err-pause.ensures.none refl pause (subst (λ t. IsNumber t 0 1000 pause) (sym (first_value-rows (found_of c.args.matches) (codes "pause"))) has.pause_is)
+returns-in_err-pause-clause-none c = λ _ values has.
+    c.in_err-pause.ensures.none refl values.pause (subst (λ t. IsNumber t 0 1000 values.pause) (sym (first_value-rows (found_of c.args.matches) (codes "pause"))) has.pause_is)
 
 pub returns-in_err-batch-clause-none : goal.returns-in_err-batch-clause-none
-returns-in_err-batch-clause-none c = λ _ config disk turns format port pause batch has.
-    c.in_err-batch.ensures.none refl batch (subst (λ t. IsNumber t 1 16 batch) (sym (first_value-rows (found_of c.args.matches) (codes "batch"))) has.batch_is)
+returns-in_err-batch-clause-none c = λ _ values has.
+    c.in_err-batch.ensures.none refl values.batch (subst (λ t. IsNumber t 1 16 values.batch) (sym (first_value-rows (found_of c.args.matches) (codes "batch"))) has.batch_is)
+
+pub returns-in_err-report-clause-none : goal.returns-in_err-report-clause-none
+returns-in_err-report-clause-none c = λ _ values has.
+    c.in_err-report.ensures.none refl values.report (subst (λ t. IsNumber t 0 86400 values.report) (sym (first_value-rows (found_of c.args.matches) (codes "report"))) has.report_is)
 
 pub returns-clause-some : goal.returns-clause-some
 returns-clause-some c =
@@ -47,4 +51,6 @@ returns-clause-some c =
       port_is = subst (λ t. IsNumber t 1024 65472 c.in_ok-port-2.port) (first_value-rows found (codes "port")) (subst (λ n. IsNumber (first_value found (codes "port")) 1024 65472 n) same c.in_ok-port.ensures.some);
       pause_is = subst (λ t. IsNumber t 0 1000 c.in_ok-pause-2.pause) (first_value-rows found (codes "pause")) (subst (λ n. IsNumber (first_value found (codes "pause")) 0 1000 n) same_pause c.in_ok-pause.ensures.some);
       batch_is = subst (λ t. IsNumber t 1 16 c.in_ok-batch-2.batch) (first_value-rows found (codes "batch")) (subst (λ n. IsNumber (first_value found (codes "batch")) 1 16 n) same_batch c.in_ok-batch.ensures.some);
+      report_is = subst (λ t. IsNumber t 0 86400 c.in_ok-report.report) (first_value-rows found (codes "report")) c.in_ok-report.ensures.some;
+      leases_are = subst (λ t. (c.is_set-leases.result ≡ true) ↔ (t ≡ Some (codes "true"))) (first_value-rows found (codes "leases")) c.is_set-leases.ensures;
     }

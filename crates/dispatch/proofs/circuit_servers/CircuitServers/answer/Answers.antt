@@ -1,10 +1,10 @@
 use Rattle.std.proofs.Common.{◌≡◌, ◌<◌, ◌*◌, List, map, set, length, sym, ap, subst, ◌∙◌}
-use Rattle.std.specs.Prelude.{Option, option_map}
+use Rattle.std.specs.Prelude.{Option, Some, option_map}
 use Rattle.std.proofs.lemmas.List.{length-map}
-use Rattle.lease_disk.specs.Device.{has_failed}
+use Rattle.lease_disk.specs.Device.{WritesAt, has_failed}
 use Rattle.circuit_server.specs.Deadlines.{AreOldOrHeld, HasDeadlines}
 use Rattle.circuit_server.specs.Leases.{after_datagram}
-use Rattle.circuit_server.specs.Answered.{answered}
+use Rattle.circuit_server.specs.Answered.{IsAnswer, answered, circuit_saves, fails_at}
 use Rattle.circuit_server.specs.CircuitServerValue.{HasPools, IsReadyFor, OpenCircuitValue, leases_of, open_book}
 use Rattle.circuit_server.specs.Ticked.{IsLater, state_at, state_of}
 use Rattle.dispatch.proofs.TickLemmas.{at_is_later, shown_at, shown_new, shown_others}
@@ -48,11 +48,26 @@ returns-clause-deadlines g c = subst (HasDeadlines c.answer.new.table (32 * c.ar
 pub returns-clause-own : goal.returns-clause-own
 returns-clause-own g c = subst (AreOldOrHeld (32 * c.args.index) c.args.table.now c.answer.new.table) (sym (left g c)) c.answer.ensures.own
 
+pub returns-clause-beside : goal.returns-clause-beside
+returns-clause-beside g c = c.answer.ensures.beside
+
+pub returns-clause-answer : goal.returns-clause-answer
+returns-clause-answer g c =
+    let fails = has_failed (g.D.Disk.device c.args.disk.now) (g.D.Disk.device c.answer.new.disk) c.args.part.now.region in
+    subst (λ (state : Option OpenCircuitValue). IsAnswer (answered c.args.part.now c.args.delivery.now fails (option_map open_book state)).answer c.answer.result c.answer.new.out) (sym (shown g c)) c.answer.ensures.answer
+
 pub returns-clause-book : goal.returns-clause-book
 returns-clause-book g c =
     let fails = has_failed (g.D.Disk.device c.args.disk.now) (g.D.Disk.device c.answer.new.disk) c.args.part.now.region in
     ap (λ (state : Option OpenCircuitValue). option_map open_book state) (left g c) ∙ c.answer.ensures.book
     ∙ ap (λ state. (answered c.args.part.now c.args.delivery.now fails (option_map open_book state)).book) (sym (shown g c))
+
+pub returns-clause-fails : goal.returns-clause-fails
+returns-clause-fails g c tells r =
+    let old = g.D.Disk.device c.args.disk.now in
+    let new = g.D.Disk.device c.answer.new.disk in
+    c.answer.ensures.fails tells r
+    ∙ ap (λ (state : Option OpenCircuitValue). fails_at old.fuse (circuit_saves c.args.delivery.now (Some c.args.part.now) (Some (option_map open_book state))) r) (sym (shown g c))
 
 pub returns-clause-leases : goal.returns-clause-leases
 returns-clause-leases g c tells =
@@ -64,3 +79,12 @@ returns-clause-leases g c tells =
 
 pub returns-clause-ready : goal.returns-clause-ready
 returns-clause-ready g c tells = subst (IsReadyFor ((g.D.Disk.device c.answer.new.disk).region c.args.part.now.region)) (sym (left g c)) (c.answer.ensures.ready tells)
+
+pub returns-clause-writes : goal.returns-clause-writes
+returns-clause-writes g c =
+    let old = g.D.Disk.device c.args.disk.now in
+    let new = g.D.Disk.device c.answer.new.disk in
+    subst (λ (state : Option OpenCircuitValue). WritesAt g.D.Disk.tells (circuit_saves c.args.delivery.now (Some c.args.part.now) (Some (option_map open_book state))) old new) (sym (shown g c)) c.answer.ensures.writes
+
+pub returns-clause-frame : goal.returns-clause-frame
+returns-clause-frame g c = c.answer.ensures.frame

@@ -1,0 +1,10 @@
+use Rattle.std.proofs.Common.{◌≡◌, length, arith}
+use Rattle.std.proofs.lemmas.List.{length-map}
+use Rattle.lab_text.specs.FieldsAfter.{texts}
+use Rattle.lab_text.specs.declared.form.Form.TheVariants as form
+use Rattle.lab_text.proofs.FormLemmas.{count_of, other_count}
+use Rattle.lab_text.proofs.forms.parse_tick.Goals as goal
+
+pub returns-in_default-clause-value : goal.returns-in_default-clause-value
+returns-in_default-clause-value c = λ settings plans bytes.
+    other_count settings plans form.Tick (texts c.args.fields.now) (λ (same : length (texts c.args.fields.now) ≡ count_of form.Tick). grind (arith, length-map))

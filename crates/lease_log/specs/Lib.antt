@@ -1,0 +1,4 @@
+pub mod Change
+pub mod Line
+pub mod Look
+pub mod Told
