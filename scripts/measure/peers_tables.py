@@ -1,4 +1,4 @@
-"""The tables of docs/BENCHMARKS.md that change from machine to machine, in Markdown, from what scripts/measure/peers found."""
+"""The tables that change from machine to machine, in Markdown, from what scripts/measure/peers found."""
 import pathlib
 
 from peers_rates import WORKS
