@@ -67,7 +67,7 @@ def make_root(place, suite):
     """A root with the least of this suite of Debian, from the network."""
     if not shutil.which("debootstrap"):
         raise Refused(5, "debootstrap is not installed (the Debian package debootstrap)")
-    text, status = output("debootstrap", "--variant=minbase", suite, f"{place}.new", "http://deb.debian.org/debian")
+    text, status = output("debootstrap", "--variant=minbase", suite, f"{place}.new")
     if status:
         raise Refused(5, f"debootstrap ends with status {status}:\n{text}")
     os.rename(f"{place}.new", place)
