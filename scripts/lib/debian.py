@@ -2,6 +2,7 @@
 import gzip
 import hashlib
 import os
+import re
 import shutil
 import subprocess
 import tempfile
@@ -40,7 +41,9 @@ def zipped(text):
 
 
 def operators_scripts(root):
-    return sorted(path for path in (root / "scripts/operate").iterdir() if path.is_file() and path.name not in NOT_INSTALLED)
+    """Those that are installed: what an editor leaves beside them has no such name."""
+    found = [path for path in (root / "scripts/operate").iterdir() if re.fullmatch("[a-z][a-z-]*", path.name)]
+    return sorted(path for path in found if path.name not in NOT_INSTALLED)
 
 
 def help_of(program):
@@ -52,8 +55,8 @@ def help_of(program):
 
 
 class Package:
-    """What a package is made of: a clone, the paths of built programs by their names, a commit, a version, and what the clone's
-    toolchain calls itself, or None."""
+    """What a package is made of: a clone, the built programs by their names, a commit, a version, and what the toolchain of this
+    machine calls itself, or None."""
 
     def __init__(self, root, programs, origin, version, toolchain):
         self.root, self.programs, self.origin, self.version, self.toolchain = root, programs, origin, version, toolchain

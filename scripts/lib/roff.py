@@ -76,13 +76,13 @@ def breaks(line):
 
 def continued(line, room):
     """A command as lines that are not too long, where it may be broken."""
+    indent = " " * (len(line) - len(line.lstrip()) + INSET)
     while len(line) > room:
         places = [place for place in breaks(line) if place <= room - 2]
         if not places:
             break
-        indent = " " * (len(line) - len(line.lstrip()))
         yield line[:places[-1]] + " \\"
-        line = indent + "    " + line[places[-1] + 1:].lstrip()
+        line = indent + line[places[-1] + 1:].lstrip()
     yield line
 
 
