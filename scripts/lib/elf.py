@@ -1,10 +1,13 @@
-"""What a program for Linux says of itself, by its sections: which libraries it needs, in which versions, and its comments."""
+"""What a program for Linux says of itself, by its sections: which libraries it needs, in which versions, where it has the addresses
+of their functions, and its comments."""
 import struct
 
 from operator_script import Refused
 
-DYNAMIC, VERNEED = 6, 0x6FFFFFFE
+RELOCATIONS, DYNAMIC, VERNEED = 4, 6, 0x6FFFFFFE
 NEEDED = 1
+# relocations of x86-64 that are filled with the address of what they name
+ADDRESS_OF = (6, 7)
 # the Debian package of each library that the toolchain's programs may need, and how the versions of its symbols begin
 PACKAGES = {
     "libc.so.6": ("libc6", "GLIBC_"),
@@ -63,6 +66,23 @@ class Program:
             _, _, _, name, more = struct.unpack_from("<IHHII", self.data, at)
             yield text_at(self.data, texts + name)
             at += more
+
+    def slots(self):
+        """Where the program, once it is loaded, has the address of each function of a library: its distance from the program's
+        beginning, by the function's name."""
+        found = {}
+        for _, kind, at, length, link in self.sections:
+            if kind == RELOCATIONS:
+                _, _, symbols, _, texts = self.sections[link]
+                for place, what, _ in struct.iter_unpack("<QQq", self.data[at:at + length]):
+                    name, = struct.unpack_from("<I", self.data, symbols + 24 * (what >> 32))
+                    if what & 0xFFFFFFFF in ADDRESS_OF:
+                        found[text_at(self.data, self.sections[texts][2] + name)] = place
+        return found
+
+    def entry(self):
+        """Where the program begins to run, as a distance from its beginning."""
+        return struct.unpack_from("<Q", self.data, 0x18)[0]
 
     def comments(self):
         """What the tools that made it left in it."""

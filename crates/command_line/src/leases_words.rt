@@ -3,7 +3,7 @@ ghost use Rattle.std.specs.Prelude.{◌≡◌, ◌↔◌, ℕ, List, Option, Som
 ghost use Rattle.std.specs.Prelude.{codes, string_bytes, IfOk, IfErr, IfSome, IsNone};
 ghost use Rattle.clap.specs.Words.{app_of, rule_of, found_of, first_value, rows_of};
 ghost use Rattle.command_line.specs.CommandLine.{IsRefused};
-ghost use Rattle.command_line.specs.LeasesWords.{at_rule, disk_rule, json_rule};
+ghost use Rattle.command_line.specs.LeasesWords.{at_rule, disk_rule, json_rule, pools_rule};
 ghost use Rattle.command_line.specs.LeasesWords.{bare_app, leases_app, HasValues, IsMoment, Spells, SpellsSomething};
 
 use crate::arguments::{config_arg, is_set};
@@ -11,6 +11,14 @@ use crate::refusal::Refusal;
 use clap::{Arg, ArgAction, ArgMatches, Command};
 use std::alloc::{AllocError, Global};
 use types::LAST_MOMENT;
+
+/// What is listed.
+#[derive(Clone, Copy, Debug, PartialEq, Eq)]
+pub enum What {
+    Leases,
+    /// What the leases take of each pool.
+    Pools,
+}
 
 /// How the lines are written.
 #[derive(Clone, Copy, Debug, PartialEq, Eq)]
@@ -28,6 +36,7 @@ pub struct LeaseWords<'a> {
     pub disk: &'a str,
     /// The moment at which the leases are listed, in seconds, 0 to 1099511627775; now where there is none.
     pub at: Option<u64>,
+    pub what: What,
     pub form: Form,
 }
 
@@ -53,6 +62,16 @@ fn at_arg<'a>(alloc: Global) -> Arg<'a>
         .action(ArgAction::Set)
         .value_parser(clap::value_parser!(i64).range(0..=1_099_511_627_775))
         .help("List what is leased at this moment, in seconds since 1970; now by default")
+}
+
+fn pools_arg<'a>(alloc: Global) -> Arg<'a>
+    ensures rule { rule_of result ≡ pools_rule }
+    ensures local { result.global ≡ false }
+{
+    Arg::new(alloc, "pools")
+        .long("pools")
+        .action(ArgAction::SetTrue)
+        .help("List how many addresses of each pool are leased, declined and free")
 }
 
 fn json_arg<'a>(alloc: Global) -> Arg<'a>
@@ -83,11 +102,13 @@ fn command<'a>(alloc: Global) -> Result<Command<'a>, AllocError>
     let config = config_arg(alloc);
     let disk = disk_arg(alloc);
     let at = at_arg(alloc);
+    let pools = pools_arg(alloc);
     let json = json_arg(alloc);
     let with_config = named(alloc).arg(config)?;
     let with_disk = with_config.arg(disk)?;
     let with_at = with_disk.arg(at)?;
-    with_at.arg(json)
+    let with_pools = with_at.arg(pools)?;
+    with_pools.arg(json)
 }
 
 /// The number of a text, where it is a moment.
@@ -116,6 +137,17 @@ fn moment<'a>(matches: &ArgMatches<'a>, id: &str) -> Option<Option<u64>>
     }
 }
 
+/// What is asked for, by a flag.
+fn what_of<'a>(matches: &ArgMatches<'a>, id: &str) -> What
+    ensures { (result ≡ What.Pools) ↔ (first_value (found_of matches.now) id.now ≡ Some (codes "true")) }
+{
+    if is_set(matches, id) {
+        What::Pools
+    } else {
+        What::Leases
+    }
+}
+
 /// How the lines are asked for, by a flag.
 fn form_of<'a>(matches: &ArgMatches<'a>, id: &str) -> Form
     ensures { (result ≡ Form.Json) ↔ (first_value (found_of matches.now) id.now ≡ Some (codes "true")) }
@@ -129,24 +161,26 @@ fn form_of<'a>(matches: &ArgMatches<'a>, id: &str) -> Form
 
 /// The values that clap has read, where all are there and within their limits.
 fn values<'a>(matches: ArgMatches<'a>) -> Option<LeaseWords<'a>>
-    ensures some { IfSome result (λ values. HasValues (rows_of (found_of matches.entry)) values.config.now values.disk.now values.at values.form) }
-    ensures none { IsNone result → (config disk : List ℕ) (at : Option ℕ) (form : Form) → ¬ HasValues (rows_of (found_of matches.entry)) config disk at form }
+    ensures some { IfSome result (λ values. HasValues (rows_of (found_of matches.entry)) values.config.now values.disk.now values.at values.what values.form) }
+    ensures none { IsNone result → (config disk : List ℕ) (at : Option ℕ) (what : What) (form : Form) → ¬ HasValues (rows_of (found_of matches.entry)) config disk at what form }
 {
     let config = matches.get_str("CONFIG")?;
     let disk = matches.get_str("disk")?;
     let at = moment(&matches, "at")?;
+    let what = what_of(&matches, "pools");
     let form = form_of(&matches, "json");
     Some(LeaseWords {
         config,
         disk,
         at,
+        what,
         form,
     })
 }
 
 /// The values of the words after the program's name.
 pub fn words<'a>(alloc: Global, words: &'a [String]) -> Result<LeaseWords<'a>, Refusal>
-    ensures values { IfOk result (λ values. Spells (map string_bytes words.entry.now) values.config.now values.disk.now values.at values.form) }
+    ensures values { IfOk result (λ values. Spells (map string_bytes words.entry.now) values.config.now values.disk.now values.at values.what values.form) }
     ensures refused { IfErr result (IsRefused leases_app SpellsSomething (map string_bytes words.entry.now)) }
 {
     let Ok(command) = command(alloc) else {

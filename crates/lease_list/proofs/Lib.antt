@@ -1,3 +1,4 @@
 pub mod LeaseLemmas
 pub mod LineLemmas
+pub mod PoolLemmas
 pub mod SteadyLemmas

@@ -4,12 +4,14 @@ ghost use Rattle.std.specs.List.{AllZip};
 ghost use Rattle.lease_list.specs.declared.line.Closed.TheVariants as closed;
 ghost use Rattle.lease_list.specs.Lease.{leases_at};
 ghost use Rattle.lease_list.specs.Line.{IsLeaseLine, closed_written};
-ghost use Rattle.lease_list.specs.Listing.{AreLines, AreCircuitSlots};
+ghost use Rattle.lease_list.specs.Listing.{AreLines, AreCircuitSlots, pool_texts};
 
 use crate::lease::{Lease, leases};
 use crate::line::{Closed, closed_line, lease_line};
+use crate::pool_line::pool_line;
+use crate::pool_row::PoolRow;
 use crate::steady::{RegionReader, Unsteady, read_steadily};
-use command_line::leases_words::Form;
+use command_line::leases_words::{Form, What};
 use config::CircuitPart;
 use lease_disk::{REGION, slots_in};
 use std::alloc::{AllocError, Global};
@@ -40,6 +42,26 @@ fn lease_lines(
         let line = lease_line(alloc, circuit, lease, at, form)?;
         lines.push(line)?;
     }
+    Ok(lines)
+}
+
+/// The line of each pool, by the leases of these slots that are live at a moment, in seconds; DHCPv4 before DHCPv6.
+fn pool_lines(
+    alloc: Global,
+    part: &CircuitPart,
+    slots: &Slots,
+    at: u64,
+    form: Form,
+) -> Result<Vec<String>, AllocError>
+    ensures { IfOk result (λ lines. map string_bytes lines.items ≡ pool_texts part.now form (leases_at at part.now slots.now)) }
+{
+    let found = leases(alloc, part, slots, at)?;
+    let circuit = text_of(part.id());
+    let four = PoolRow::four(alloc, circuit, part.pool4(), &found)?;
+    let six = PoolRow::six(alloc, circuit, part.pool6(), &found)?;
+    let mut lines = Vec::new(alloc);
+    lines.push(pool_line(alloc, four, form)?)?;
+    lines.push(pool_line(alloc, six, form)?)?;
     Ok(lines)
 }
 
@@ -93,18 +115,21 @@ pub fn circuit_slots<R: RegionReader>(
 }
 
 /// The lines of a circuit whose slots are these: one for each of its leases that is live at a moment, in seconds, by
-/// address, DHCPv4 before DHCPv6; or one that says why they are not known. They have no line feeds.
+/// address, or one for each of its pools, DHCPv4 before DHCPv6; or one that says why the slots are not known. They have
+/// no line feeds.
 pub fn circuit_lines(
     alloc: Global,
     part: &CircuitPart,
     found: &Result<Slots, Closed>,
     at: u64,
+    what: What,
     form: Form,
 ) -> Result<Vec<String>, AllocError>
-    ensures { IfOk result (λ lines. AreLines part.now at form found.now lines.items) }
+    ensures { IfOk result (λ lines. AreLines part.now at what form found.now lines.items) }
 {
-    match found {
-        Ok(slots) => live_lines(alloc, part, slots, at, form),
-        Err(why) => closed_lines(alloc, part, *why, form),
+    match (found, what) {
+        (Ok(slots), What::Leases) => live_lines(alloc, part, slots, at, form),
+        (Ok(slots), What::Pools) => pool_lines(alloc, part, slots, at, form),
+        (Err(why), _) => closed_lines(alloc, part, *why, form),
     }
 }

@@ -1,5 +1,7 @@
 //! The texts of a lease.
 ghost use Rattle.std.specs.Prelude.{◌≡◌, Some, IfOk, option_map, string_bytes};
+ghost use Rattle.std.specs.Net.Addr.{segments_of};
+ghost use Rattle.std.specs.Net.Text.{ipv4_text, ipv6_text};
 ghost use Rattle.lease_list.specs.Row.{IsDate, IsRow, address_text, client_text, iaid_text, state_text, or_dash, line_text};
 
 use crate::lease::Lease;
@@ -8,6 +10,7 @@ use std::alloc::{AllocError, Global};
 use std::fmt;
 use std::marker::Model;
 use std::net::{Ipv4Addr, Ipv6Addr};
+use types::{Addr4, Addr6};
 
 /// What a line says of a lease.
 #[derive(Drop)]
@@ -36,12 +39,26 @@ impl<'a> Model for Row<'a> {
     ghost view = { λ r. record { circuit = r.circuit.now; address = string_bytes r.address; state = r.state.now; client = option_map string_bytes r.client; iaid = option_map string_bytes r.iaid; until = r.until; date = option_map string_bytes r.date; left = r.left } };
 }
 
+/// Four decimal numbers.
+pub fn text4(alloc: Global, address: Addr4) -> Result<String, AllocError>
+    ensures { IfOk result (λ text. string_bytes text ≡ ipv4_text address.0) }
+{
+    Ipv4Addr::from_octets(address.0).to_string(alloc)
+}
+
+/// Groups of hexadecimal digits (RFC 5952).
+pub fn text6(alloc: Global, address: Addr6) -> Result<String, AllocError>
+    ensures { IfOk result (λ text. string_bytes text ≡ ipv6_text (segments_of address.0)) }
+{
+    Ipv6Addr::from_octets(address.0).to_string(alloc)
+}
+
 fn address_text(alloc: Global, lease: &Lease) -> Result<String, AllocError>
     ensures { IfOk result (λ text. string_bytes text ≡ address_text lease.now) }
 {
     match *lease {
-        Lease::V4(address, _, _) => Ipv4Addr::from_octets(address.0).to_string(alloc),
-        Lease::V6(address, _, _) => Ipv6Addr::from_octets(address.0).to_string(alloc),
+        Lease::V4(address, _, _) => text4(alloc, address),
+        Lease::V6(address, _, _) => text6(alloc, address),
     }
 }
 

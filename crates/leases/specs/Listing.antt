@@ -4,6 +4,7 @@ use Rattle.std.specs.declared.alloc.Global.{Global}
 use Rattle.types.specs.declared.slots.Slots.{Slots}
 use Rattle.config.specs.CircuitPart.{CircuitPart}
 use Rattle.command_line.specs.declared.leases_words.Form.{Form}
+use Rattle.command_line.specs.declared.leases_words.What.{What}
 use Rattle.lease_list.specs.declared.line.Closed.{Closed}
 use Rattle.lease_list.specs.declared.line.Closed.TheVariants.{Damaged, Unreadable, Busy}
 use Rattle.lease_list.specs.Listing.{AreCircuitSlots, AreLines}
@@ -22,8 +23,8 @@ pub record Keeps (old new : Noted) : Type 0 where
   pub busy : old.is_busy ≡ true → new.is_busy ≡ true
 
 -- The lines are the circuit's by the readings of its region; where it was closed or busy, that is noted.
-pub record HasListed (part : CircuitPart) (at : ℕ) (form : Form) (bytes : List ℕ) (before after : List (ℕ × List ℕ)) (was_noted is_noted : Noted) (lines : List (String Global)) : Type 0 where
+pub record HasListed (part : CircuitPart) (at : ℕ) (what : What) (form : Form) (bytes : List ℕ) (before after : List (ℕ × List ℕ)) (was_noted is_noted : Noted) (lines : List (String Global)) : Type 0 where
   pub found : Result Slots Closed
   pub read : AreCircuitSlots part bytes before after found
-  pub listed : AreLines part at form found lines
+  pub listed : AreLines part at what form found lines
   pub noted : is_noted ≡ with_found was_noted found

@@ -12,7 +12,7 @@ use config::{CircuitPart, Config};
 use dispatch::region_count;
 use lease_disk::REGION;
 use lease_list::{
-    Closed, FileFault, Form, LeaseWords, RegionFile, circuit_lines, circuit_slots, moment_of,
+    Closed, FileFault, Form, LeaseWords, RegionFile, What, circuit_lines, circuit_slots, moment_of,
 };
 use std::alloc::AllocError;
 use std::process::ExitCode;
@@ -96,6 +96,7 @@ struct Lister<'a> {
     file: RegionFile,
     bytes: [u8; REGION],
     at: u64,
+    what: What,
     form: Form,
     noted: Noted,
 }
@@ -103,19 +104,21 @@ struct Lister<'a> {
 impl Lister<'_> {
     /// The lines of a circuit.
     fn lines(&mut self, part: &CircuitPart) -> Result<Vec<String>, AllocError>
-        ensures listed { IfOk result (λ lines. HasListed part.now self.old.at self.old.form self.new.bytes self.old.file.readings.items self.new.file.readings.items self.old.noted self.new.noted lines.items) }
+        ensures listed { IfOk result (λ lines. HasListed part.now self.old.at self.old.what self.old.form self.new.bytes self.old.file.readings.items self.new.file.readings.items self.old.noted self.new.noted lines.items) }
         ensures at { self.new.at ≡ self.old.at }
+        ensures what { self.new.what ≡ self.old.what }
         ensures form { self.new.form ≡ self.old.form }
         ensures noted { Keeps self.old.noted self.new.noted }
     {
         let found = circuit_slots(part, &mut self.file, &mut self.bytes);
         self.noted = self.noted.with(&found);
-        circuit_lines(self.rt.alloc(), part, &found, self.at, self.form)
+        circuit_lines(self.rt.alloc(), part, &found, self.at, self.what, self.form)
     }
 
     /// Writes the lines of a circuit.
     fn list(&mut self, part: &CircuitPart) -> Result<(), u8>
         ensures at { self.new.at ≡ self.old.at }
+        ensures what { self.new.what ≡ self.old.what }
         ensures form { self.new.form ≡ self.old.form }
         ensures noted { Keeps self.old.noted self.new.noted }
         ensures status { IfErr result (λ status. (status ≡ 4) ⊎ (status ≡ 6)) }
@@ -134,6 +137,7 @@ impl Lister<'_> {
     /// Writes the lines of all circuits, and returns the status.
     fn list_all(&mut self, config: &Config) -> u8
         ensures at { self.new.at ≡ self.old.at }
+        ensures what { self.new.what ≡ self.old.what }
         ensures form { self.new.form ≡ self.old.form }
         ensures noted { Keeps self.old.noted self.new.noted }
         ensures status { (result ≡ noted_status self.new.noted) ⊎ (result ≡ 4) ⊎ (result ≡ 6) }
@@ -168,6 +172,7 @@ fn run(rt: &HostRuntime, values: LeaseWords<'_>) -> u8
         file,
         bytes: [0; REGION],
         at,
+        what: values.what,
         form: values.form,
         noted: Noted {
             is_closed: false,

@@ -3,6 +3,7 @@ use Rattle.std.specs.Prelude.{Option, Some, None, ◌↔◌}
 use Rattle.clap.specs.Words.{found_of}
 use Rattle.clap.proofs.WalkLemmas.{first_value-rows}
 use Rattle.command_line.specs.declared.leases_words.Form.TheVariants.{Json}
+use Rattle.command_line.specs.declared.leases_words.What.TheVariants.{Pools}
 use Rattle.command_line.specs.LeasesWords.{IsMoment}
 use Rattle.command_line.proofs.leases_words.values.Goals as goal
 
@@ -11,15 +12,15 @@ not_there : (o : Option (List ℕ)) (a : List ℕ) → None ≡ o → o ≡ Some
 not_there o a none some = let h : None ≡ Some a = none ∙ some in absurd cc
 
 pub returns-in_err-config-clause-none : goal.returns-in_err-config-clause-none
-returns-in_err-config-clause-none c = λ _ config disk moment form has.
+returns-in_err-config-clause-none c = λ _ config disk moment what form has.
     not_there _ config (c.in_err-config.ensures ∙ first_value-rows (found_of c.args.matches) (codes "CONFIG")) has.config_is
 
 pub returns-in_err-disk-clause-none : goal.returns-in_err-disk-clause-none
-returns-in_err-disk-clause-none c = λ _ config disk moment form has.
+returns-in_err-disk-clause-none c = λ _ config disk moment what form has.
     not_there _ disk (c.in_err-disk.ensures ∙ first_value-rows (found_of c.args.matches) (codes "disk")) has.disk_is
 
 pub returns-in_err-at-clause-none : goal.returns-in_err-at-clause-none
-returns-in_err-at-clause-none c = λ _ config disk moment form has.
+returns-in_err-at-clause-none c = λ _ config disk moment what form has.
     c.in_err-at.ensures.none refl moment (subst (λ t. IsMoment t moment) (sym (first_value-rows (found_of c.args.matches) (codes "at"))) has.at_is)
 
 pub returns-clause-some : goal.returns-clause-some
@@ -29,5 +30,6 @@ returns-clause-some c =
       config_is = sym (c.in_ok-config.ensures ∙ first_value-rows found (codes "CONFIG"));
       disk_is = sym (c.in_ok-disk.ensures ∙ first_value-rows found (codes "disk"));
       at_is = subst (λ t. IsMoment t c.in_ok-at.at) (first_value-rows found (codes "at")) c.in_ok-at.ensures.some;
+      what_is = subst (λ t. (c.what_of-what.result ≡ Pools) ↔ (t ≡ Some (codes "true"))) (first_value-rows found (codes "pools")) c.what_of-what.ensures;
       form_is = subst (λ t. (c.form_of-form.result ≡ Json) ↔ (t ≡ Some (codes "true"))) (first_value-rows found (codes "json")) c.form_of-form.ensures;
     }

@@ -20,7 +20,7 @@ returns-in-Some-clause-values c =
     let rows = (parsed.matches (ap is_simple c.in-Ok.ensures ∙ simple)).0 ∙ ap (λ a. matches_of a words) c.in-Ok.ensures in
     record {
       right = ap (λ a. fault_of a words) (sym c.in-Ok.ensures) ∙ parsed.kinds (ap is_simple_and_free c.in-Ok.ensures ∙ free);
-      values = subst (λ given. HasValues given c.in-Some.values.config.now c.in-Some.values.disk.now c.in-Some.values.at c.in-Some.values.form) rows c.in-Some.ensures.some;
+      values = subst (λ given. HasValues given c.in-Some.values.config.now c.in-Some.values.disk.now c.in-Some.values.at c.in-Some.values.what c.in-Some.values.form) rows c.in-Some.ensures.some;
     }
 
 pub returns-in-Err-clause-refused : goal.returns-in-Err-clause-refused
@@ -29,8 +29,8 @@ returns-in-Err-clause-refused c =
     subst (λ a. HasKind (fault_of a words) c.in-Err.error) c.in-Ok.ensures (c.in-Err.ensures.kinds (ap is_simple_and_free c.in-Ok.ensures ∙ free))
 
 pub returns-in-None-clause-refused : goal.returns-in-None-clause-refused
-returns-in-None-clause-refused c = λ (config, disk, moment, form, spells).
+returns-in-None-clause-refused c = λ (config, disk, moment, what, form, spells).
     let words = map string_bytes c.args.words.now in
     let parsed = c.in-Ok-try_get_matches_from.ensures in
     let rows = (parsed.matches (ap is_simple c.in-Ok.ensures ∙ simple)).0 ∙ ap (λ a. matches_of a words) c.in-Ok.ensures in
-    c.in-None.ensures.none refl config disk moment form (subst (λ given. HasValues given config disk moment form) (sym rows) spells.values)
+    c.in-None.ensures.none refl config disk moment what form (subst (λ given. HasValues given config disk moment what form) (sym rows) spells.values)
