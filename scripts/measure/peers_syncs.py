@@ -21,7 +21,6 @@ CIRCUITS, CLIENTS = 16, 1
 ATTACHED = 10
 
 CALL = re.compile(r"^(?:\[pid +\d+\] )?(\w+)\((\d+)<([^>]*)>")
-ANSWERED = re.compile(r"= (\d+)$")
 
 
 class Trace:

@@ -4,10 +4,9 @@ in a second or two; an address that is declined is given to nobody for an hour."
 import subprocess
 import time
 
-from client import DISCOVER, REQUEST, RELEASE, Circuit, Server, address, frame, frame6, select
+from client import DISCOVER, REQUEST, RELEASE, Circuit, Server, frame, select
 
 DECLINE = 4
-IDENTIFIER = "00030001020000000001"
 began = int(time.time())
 # docs/FORMATS.md, The disk: half 0 of slots 0 and 16 is bound until then, all others are free
 region = bytearray(32768)
