@@ -16,11 +16,12 @@ import threading
 import time
 
 # x86-64
-NUMBERS = {"write": 18, "lengthen": 77, "sync": 75, "sync all": 74, "send": 44, "receive": 45}
-# what is watched by default: a server receives in vain all the time
+NUMBERS = {"write": 18, "lengthen": 77, "sync": 75, "sync all": 74, "send": 44, "receive": 45, "look": 232}
+# what is watched by default: a server looks for datagrams all the time
 OUTGOING = ("write", "lengthen", "sync", "sync all", "send")
-# more receives than a server of one circuit makes in two turns that take nothing: at its two sockets and at a relay's
-TURNS = 10
+# more looks and receives than a server of one circuit makes in two turns that take nothing: each of them looks where datagrams wait,
+# may find the sockets empty at which some waited before, and then waits for the next one
+TURNS = 20
 SYS_SECCOMP, PR_SET_NO_NEW_PRIVS, SET_MODE_FILTER, NEW_LISTENER = 317, 38, 1, 8
 SYS_PIDFD_GETFD = 438
 ALLOW, ASK = 0x7FFF0000, 0x7FC00000
@@ -101,7 +102,7 @@ class Watch:
     def break_receives(self, port):
         """From now on every receive from the socket with this port fails with EIO, and no other one. Waits for the first, since
         one that was let through may not be done yet. A server makes none where the system has told of no datagram; then it has
-        made so many others that a turn is over."""
+        made so many other calls, of which its looks have to be watched as well, that a turn is over."""
         self.broken = [descriptor for descriptor, end in copies(self.process).items() if end.getsockname()[1] == port]
         count = len(self.calls)
         while "receive fails" not in self.calls[count:] and len(self.calls) < count + TURNS and self.process.poll() is None:

@@ -5,8 +5,8 @@
    relays: only the numbers of its circuits and relays are read. FILE is always formatted. Ends after N turns. Nothing is checked
    that comes in, and every client gets the address of its number.
 
-   A turn tries sockets, and waits for none: those of the circuits of which the system has told since they were last found empty,
-   the server's two, the relays'.
+   A turn tries sockets, and waits for none: the circuits', the server's two, the relays', each where the system has told of it, or
+   something was sent to it, since it was last found empty.
    A frame goes from its circuit to the relay, which sends it on to the server with an option more; the server's answer goes back to
    the relay, and from there to the client's port of the circuit, after one byte. A REQUEST is a save: three writes to FILE, each
    with a sync, before the answer leaves (docs/FORMATS.md, "The disk"). */
@@ -31,7 +31,11 @@ enum {
     MOST_CIRCUITS = 16,
     /* each circuit has a socket for DHCPv4 and one for DHCPv6 */
     CIRCUIT_SOCKETS = 2 * MOST_CIRCUITS,
-    MOST_SOCKETS = CIRCUIT_SOCKETS + 2 + MOST_CIRCUITS,
+    /* the numbers of the server's sockets, and of the first relay's */
+    SERVER4 = CIRCUIT_SOCKETS,
+    SERVER6,
+    RELAYS,
+    MOST_SOCKETS = RELAYS + MOST_CIRCUITS,
     PORTS = 4,
     BUFFER = 1281,
     /* the addresses of scripts/lib/configuration */
@@ -73,8 +77,8 @@ struct standin {
     int relays[MOST_CIRCUITS];
     struct sockaddr_in server_address;
     struct circuit circuits[MOST_CIRCUITS];
-    /* which of the circuits' sockets may have a datagram */
-    bool ready[CIRCUIT_SOCKETS];
+    /* which sockets may have a datagram */
+    bool ready[MOST_SOCKETS];
     /* the datagram that came in, and what is made of it */
     unsigned char in[BUFFER], out[BUFFER + 64];
 };
@@ -117,10 +121,10 @@ static void bind_all(struct standin *all, int port) {
         circuit->socket6 = bound(all, first + 1, 2 * (uint32_t)index + 1);
         circuit->client = local(first + 2);
     }
-    all->listen4 = bound(all, LISTEN4, CIRCUIT_SOCKETS);
-    all->listen6 = bound(all, LISTEN6, CIRCUIT_SOCKETS);
+    all->listen4 = bound(all, LISTEN4, SERVER4);
+    all->listen6 = bound(all, LISTEN6, SERVER6);
     for (int index = 0; index < all->relay_count; index++) {
-        all->relays[index] = bound(all, FIRST_RELAY + index, CIRCUIT_SOCKETS);
+        all->relays[index] = bound(all, FIRST_RELAY + index, RELAYS + (uint32_t)index);
     }
     all->server_address = local(LISTEN4);
 }
@@ -189,13 +193,11 @@ static void look(struct standin *all) {
     struct epoll_event events[MOST_SOCKETS];
     int count = epoll_wait(all->watched, events, MOST_SOCKETS, 0);
     for (int index = 0; index < count; index++) {
-        if (events[index].data.u32 < CIRCUIT_SOCKETS) {
-            all->ready[events[index].data.u32] = true;
-        }
+        all->ready[events[index].data.u32] = true;
     }
 }
 
-/* The same from a circuit's socket, if it may have a datagram. The clients send none that is too short. */
+/* The same, if the socket of this number may have a datagram. Nobody sends one that is too short. */
 static size_t taken_if_ready(struct standin *all, int end, int number, struct sockaddr_in *from) {
     size_t length = all->ready[number] ? taken(all, end, from) : 0;
     if (length == 0) {
@@ -229,6 +231,7 @@ static void take_frame(struct standin *all, int index) {
     if (length > 0) {
         size_t made = relayed_up(all, length, index);
         send_on(all->relays[index % all->relay_count], all->out, made, &all->server_address);
+        all->ready[SERVER4] = true;
     }
     /* no client of DHCPv6 sends */
     (void)taken_if_ready(all, all->circuits[index].socket6, 2 * index + 1, &from);
@@ -251,7 +254,7 @@ static void make_reply(struct standin *all, unsigned char kind, int index, int s
 
 static void take_at_server(struct standin *all) {
     struct sockaddr_in from;
-    if (taken(all, all->listen4, &from) > 0) {
+    if (taken_if_ready(all, all->listen4, SERVER4, &from) > 0) {
         int index = all->in[CIRCUIT] % MOST_CIRCUITS;
         int slot = (all->in[CLIENT] + SLOTS - 1) % SLOTS;
         bool asks = all->in[KIND] == DISCOVER;
@@ -260,13 +263,15 @@ static void take_at_server(struct standin *all) {
         }
         make_reply(all, asks ? OFFER : ACK, index, slot);
         send_on(all->listen4, all->out, REPLY, &from);
+        memset(all->ready + RELAYS, true, (size_t)all->relay_count);
+    } else {
+        (void)taken_if_ready(all, all->listen6, SERVER6, &from);
     }
-    (void)taken(all, all->listen6, &from);
 }
 
 static void take_from_relay(struct standin *all, int relay) {
     struct sockaddr_in from;
-    size_t length = taken(all, all->relays[relay], &from);
+    size_t length = taken_if_ready(all, all->relays[relay], RELAYS + relay, &from);
     if (length > 0) {
         struct circuit *circuit = &all->circuits[all->in[CIRCUIT] % MOST_CIRCUITS];
         all->out[0] = 1;

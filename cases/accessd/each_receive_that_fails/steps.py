@@ -6,7 +6,7 @@ from system_calls import Watch
 # the sockets by their ports, and the protocols that need them
 SOCKETS = ((20000, "4"), (20001, "6"), (6767, "4"), (6547, "6"), (6801, "46"))
 
-watch = Watch(("receive",))
+watch = Watch(("receive", "look"))
 server = Server("accessd", "config.toml", "leases", "--format", "--pause", "10", turns=200, start=watch.start)
 circuit = Circuit(20000)
 receives = {"4": circuit.receive, "6": circuit.receive6}

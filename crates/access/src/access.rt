@@ -28,7 +28,7 @@ use std::net::Net;
 use std::rt::Clock;
 use thiserror::Error;
 use types::{Circuit, Count, Moment, Proto, RelayNo, Source};
-use udp::{Attempt, BUFFER_LEN, History, Waiter};
+use udp::{Attempt, BUFFER_LEN, DatagramSocket, History, Waiter};
 use wire::PacketBuf;
 
 /// Why relay and server were not opened.
@@ -341,8 +341,21 @@ impl Access {
         taken
     }
 
-    /// Takes a frame from a circuit's socket to its relay, and sends what that makes of it on to the server.
+    /// Takes a frame from a circuit's socket to its relay, unless the system has told of none.
     fn take_frame(&mut self, index: usize, proto: Proto) -> u32
+        requires { index < length self.old.topology.circuits }
+        ensures most { result ≤ 1 }
+        ensures carried { HasCarried (CircuitSocket self.old.topology index proto) result self.old self.new }
+    {
+        let socket = self.sockets.circuits[index].socket(proto);
+        if socket.is_idle(&self.waiter, &mut self.history) {
+            return 0;
+        }
+        self.take_waiting_frame(index, proto)
+    }
+
+    /// Takes a frame from a circuit's socket to its relay, and sends what that makes of it on to the server.
+    fn take_waiting_frame(&mut self, index: usize, proto: Proto) -> u32
         requires { index < length self.old.topology.circuits }
         ensures most { result ≤ 1 }
         ensures carried { HasCarried (CircuitSocket self.old.topology index proto) result self.old self.new }
@@ -364,6 +377,7 @@ impl Access {
         let from = &self.sockets.relays[self.sockets.circuits[index].relay];
         let out = self.out.as_slice();
         let outcome = send_on(made, from, to, out, Outcome::Relayed, &mut self.history);
+        self.waiter.expect(self.sockets.server(proto));
         self.counts.count(outcome);
         self.by_circuit.count_for(index, outcome);
         1
@@ -376,13 +390,14 @@ impl Access {
     {
         let (sockets, counts, history) = (&self.sockets, &mut self.counts, &mut self.history);
         let (server, disk) = (&mut self.server, &mut self.disk);
-        self.batch.poll(sockets, history);
+        self.batch.poll(sockets, &mut self.waiter, history);
         self.batch.receive(now, server, disk);
         self.batch.reply(sockets, counts, history);
         let by_circuit = &mut self.by_circuit;
         self.batch.count_dropped(server, by_circuit);
         self.batch
             .receive_again(now, sockets, server, disk, counts, by_circuit, history);
+        expect_answers(&self.batch, &sockets.relays, &mut self.waiter);
         self.batch.len() as u32
     }
 
@@ -405,7 +420,8 @@ impl Access {
         ensures carried { HasCarried (RelaySocket self.old.topology self.old.port index) result self.old self.new }
     {
         let socket = &self.sockets.relays[index];
-        let Attempt::Took(len, from) = socket.take(&mut self.buffer, &mut self.history) else {
+        let (buffer, waiter, history) = (&mut self.buffer, &mut self.waiter, &mut self.history);
+        let Attempt::Took(len, from) = socket.take_if_ready(buffer, waiter, history) else {
             return 0;
         };
         let datagram = &self.buffer[..len];
@@ -426,5 +442,15 @@ impl Access {
         };
         self.counts.count(outcome);
         1
+    }
+}
+
+/// Where the server took a datagram, each relay's socket may have an answer.
+fn expect_answers(batch: &Batch, relays: &[DatagramSocket], waiter: &mut Waiter) {
+    if batch.len() == 0 {
+        return;
+    }
+    'relays: for relay in relays {
+        waiter.expect(relay);
     }
 }

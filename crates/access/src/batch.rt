@@ -22,7 +22,7 @@ use dispatch::{Answer, BatchAnswers, Server};
 use lease_disk::FileDisk;
 use sockets::Sockets;
 use types::{Delivery, Discard, Moment, Proto, Source};
-use udp::{Attempt, DatagramSocket, History};
+use udp::{Attempt, DatagramSocket, History, Waiter};
 use wire::PacketBuf;
 
 /// The datagrams of a turn, and the answers to them. The room for sixteen lies in the value.
@@ -57,7 +57,7 @@ impl Batch {
     }
 
     /// Takes datagrams from the server's two sockets by turns, until there are as many as a turn takes or none waits.
-    pub(crate) fn poll(&mut self, sockets: &Sockets, history: &mut History)
+    pub(crate) fn poll(&mut self, sockets: &Sockets, waiter: &mut Waiter, history: &mut History)
         requires most { self.old.most ≤ 16 }
         requires listen4 { IsBound sockets.now.listen4 (role.Server Proto.V4) sockets.now.listen4.at history.old.id }
         requires listen6 { IsBound sockets.now.listen6 (role.Server Proto.V6) sockets.now.listen6.at history.old.id }
@@ -70,7 +70,14 @@ impl Batch {
         let mut polling = Polling::begin(self.most, self.first);
         'sockets: while let Some(proto) = polling.next() {
             let socket = sockets.server(proto);
-            try_next(socket, proto, &mut polling, &mut self.taken, history);
+            try_next(
+                socket,
+                proto,
+                &mut polling,
+                &mut self.taken,
+                waiter,
+                history,
+            );
         }
         self.first = polling.first;
     }
@@ -169,6 +176,7 @@ fn try_next(
     proto: Proto,
     polling: &mut Polling,
     taken: &mut Datagrams,
+    waiter: &mut Waiter,
     history: &mut History,
 )
     requires next { next_of polling.old ≡ Some proto }
@@ -178,7 +186,7 @@ fn try_next(
     ensures room { length taken.new + polling.new.left ≤ length taken.old + polling.old.left }
     ensures tried { HasTriedNext proto polling.old polling.new taken.old taken.new history.old.entries history.new.entries }
 {
-    match taken.receive(socket, proto, history) {
+    match taken.receive(socket, proto, waiter, history) {
         Attempt::Took(..) => polling.took(proto),
         Attempt::Empty => polling.passed(proto, Waiting::No),
         Attempt::Failed => polling.passed(proto, Waiting::Lost),

@@ -6,7 +6,7 @@ ghost use Rattle.udp.specs.History.{attempt_entry, with_entry};
 use batch_saves::MAX_BATCH;
 use std::marker::Model;
 use types::{Addr4, Proto, Source};
-use udp::{Attempt, BUFFER_LEN, DatagramSocket, History};
+use udp::{Attempt, BUFFER_LEN, DatagramSocket, History, Waiter};
 
 /// The source of nothing.
 pub(crate) const NOWHERE: Source = Source {
@@ -93,6 +93,7 @@ impl Datagrams {
         &mut self,
         socket: &DatagramSocket,
         proto: Proto,
+        waiter: &mut Waiter,
         history: &mut History,
     ) -> Attempt
         requires room { length self.old < 16 }
@@ -101,7 +102,7 @@ impl Datagrams {
         ensures received { (buffer : List ℕ) × (history.new.entries ≡ with_entry (attempt_entry socket.now.role buffer result) history.old.entries) × (self.new ≡ self.old ++ attempt_datagrams proto buffer result) }
     {
         let slot = &mut self.slots[self.count];
-        let attempt = socket.take(&mut slot.buffer, history);
+        let attempt = socket.take_if_ready(&mut slot.buffer, waiter, history);
         if let Attempt::Took(len, from) = attempt {
             slot.proto = proto;
             slot.source = from;

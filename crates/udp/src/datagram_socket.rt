@@ -1,9 +1,9 @@
 //! A UDP socket that never waits. What the system does with it is in three functions, `bind`, `take` and `send`, and each
 //! says in the history what it did; `take_if_ready` says that nothing waited where the system has told of nothing.
-ghost use Rattle.std.specs.Prelude.{◌≡◌, ◌≤◌, Err, IfOk, IfSome, IfNone};
+ghost use Rattle.std.specs.Prelude.{◌≡◌, ◌≤◌, Err, IfOk, IfSome, IfNone, true, false};
 ghost use Rattle.types.specs.declared.addr.Source.{Source};
 ghost use Rattle.udp.specs.Address.{IsSystemForm};
-ghost use Rattle.udp.specs.History.{IsWithin, Refused, Sent, attempt_entry, with_entry};
+ghost use Rattle.udp.specs.History.{Empty, IsWithin, Refused, Sent, attempt_entry, with_entry};
 ghost use Rattle.udp.specs.declared.datagram_socket.BindFault.TheVariants as fault;
 
 use crate::history::{Happened, History, Role};
@@ -137,6 +137,20 @@ impl DatagramSocket {
         }
     }
 
+    /// Whether none waits at a socket that is watched, as far as the system has told: it has told of no datagram since a receive
+    /// found the socket empty.
+    pub fn is_idle(&self, waiter: &Waiter, history: &mut History) -> bool
+        ensures same { history.new.id ≡ history.old.id }
+        ensures idle { result ≡ true → history.new.entries ≡ with_entry (Empty self.now.role) history.old.entries }
+        ensures unknown { result ≡ false → history.new ≡ history.old }
+    {
+        let is_idle = !waiter.is_ready(self.number);
+        if is_idle {
+            history.add(&Happened::Empty(self.role));
+        }
+        is_idle
+    }
+
     /// The same for a socket that is watched. Where the system has told of no datagram since a receive found the socket
     /// empty, none waits, and it isn't asked again.
     pub fn take_if_ready(
@@ -150,8 +164,7 @@ impl DatagramSocket {
         ensures len { IsWithin 1281 result }
         ensures entries { history.new.entries ≡ with_entry (attempt_entry self.now.role buffer.new result) history.old.entries }
     {
-        if !waiter.is_ready(self.number) {
-            history.add(&Happened::Empty(self.role));
+        if self.is_idle(waiter, history) {
             return Attempt::Empty;
         }
         let attempt = self.take(buffer, history);

@@ -57,6 +57,13 @@ impl Waiter {
         }
     }
 
+    /// A datagram was sent to this socket, which may have one now, whether the system has told of it or not.
+    pub fn expect(&mut self, socket: &DatagramSocket) {
+        if let Some(ready) = self.ready.get_mut(socket.number) {
+            *ready = true;
+        }
+    }
+
     /// A receive found this socket empty.
     pub(crate) fn found_empty(&mut self, number: usize) {
         if let Some(ready) = self.ready.get_mut(number) {
