@@ -144,9 +144,11 @@ def roomy(text):
 class Server:
     """A run of `accessd` over a configuration and a file of leases, from when it is ready to serve."""
 
-    def __init__(self, program, config, leases, *words, turns=1_000_000, start=subprocess.Popen, **how):
-        """Started by `start`, with these words more."""
-        command = [program, config, "--disk", leases, "--turns", str(turns), *words]
+    def __init__(self, program, config, leases, *words, turns=None, start=subprocess.Popen, **how):
+        """Started by `start`, with these words more. Where no turns are given it serves until it is killed: without a pause the most
+        turns that there are would be over in less than a second in which nobody sends."""
+        pause = () if turns or "--pause" in words else ("--pause", "1")
+        command = [program, config, "--disk", leases, "--turns", str(turns or 1_000_000), *pause, *words]
         self.process = start(command, stderr=subprocess.PIPE, text=True, **how)
         self.first_line = self.process.stderr.readline().rstrip("\n")
 

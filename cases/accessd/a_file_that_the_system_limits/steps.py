@@ -5,7 +5,7 @@ import resource
 from client import DISCOVER, REQUEST, Circuit, Server, frame, frame6, select
 
 # without it the signal of a file that may not grow ends the server
-server = Server("accessd", "config.toml", "leases", "--format", restore_signals=False)
+server = Server("accessd", "config.toml", "leases", "--format", "--pause", "10", turns=150, restore_signals=False)
 first, second = Circuit(20000), Circuit(20004)
 offers = [circuit.exchange(DISCOVER, 1) for circuit in (first, second)]
 resource.prlimit(server.process.pid, resource.RLIMIT_FSIZE, (32768, 32768))

@@ -2,7 +2,7 @@
 served after them. The relay takes frames of at most 1024 bytes; the server and the relay have no such sender."""
 from client import DISCOVER, Circuit, Server
 
-server = Server("accessd", "config.toml", "leases", "--format", turns=1_000_000)
+server = Server("accessd", "config.toml", "leases", "--format", "--pause", "10", turns=150)
 circuit = Circuit(20000)
 for length in (0, 1, 1024, 1025, 1280, 1281, 60000):
     for port in (20000, 20001, 6767, 6547, 6801):

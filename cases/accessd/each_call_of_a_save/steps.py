@@ -11,7 +11,7 @@ circuit = Circuit(20000)
 
 def started():
     watch = Watch()
-    return watch, Server("accessd", "config.toml", "leases", "--format", turns=500_000, start=watch.start)
+    return watch, Server("accessd", "config.toml", "leases", "--format", "--pause", "10", turns=150, start=watch.start)
 
 
 def request(proto, offer):
