@@ -18,7 +18,7 @@ of4, of6 = circuits[:2], circuits[2:]
 
 def answered():
     """The names of the circuits whose clients receive something in a while."""
-    time.sleep(0.2)
+    time.sleep(0.5)
     answers = [circuit.receive(0.01) for circuit in of4] + [circuit.receive6(0.01) for circuit in of6]
     return " ".join(f"c{index}" for index, answer in enumerate(answers) if answer) or "none"
 
