@@ -8,7 +8,7 @@ from random_frames import frame, network4
 # where a DHCPv4 frame's options begin; before them, what is read: op, htype, hlen, hops, flags, ciaddr, giaddr, chaddr, cookie
 OPTIONS4 = 240
 FIELDS4 = [*range(4), 10, 11, *range(12, 16), *range(24, 34), *range(236, 240)]
-# where a DHCPv6 frame's options begin: behind the client's address, the type and the transaction id
+# where a DHCPv6 frame's options begin: after the client's address, the type and the transaction id
 OPTIONS6 = 20
 # where the options in an IA_NA and in an IA Address begin (RFC 8415, sections 21.4 and 21.6)
 NESTED6 = {3: 12, 5: 24}

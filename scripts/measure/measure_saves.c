@@ -4,7 +4,7 @@
    FOLDER, the current one by default, gets a file of 16 regions, which is removed at the end; it decides what is measured: in
    memory (/dev/shm) a sync costs nothing. ROUNDS is 100 by default. Each round makes 16 saves one by one, and a batch of 16.
 
-   A save writes to the half of a slot that does not count: a 0 closes its gate, then come the 255 bytes behind the gate, and a
+   A save writes to the half of a slot that does not count: a 0 closes its gate, then come the 255 bytes after the gate, and a
    byte that opens it (docs/FORMATS.md, "The disk"). After each of these three writes there is a sync of the file's data. A
    batch makes the first write of all its saves, then one sync, and so on: 51 calls, where saves one by one make 96. */
 #define _GNU_SOURCE
