@@ -24,6 +24,8 @@ enum {
     OPTIONS6 = 4,
     /* where the options in an IA_NA begin */
     IN_IA = 12,
+    /* the addresses of the largest pool that a server has here */
+    LARGEST_POOL = 64,
 };
 
 static const unsigned char cookie[] = {99, 130, 83, 99};
@@ -290,10 +292,20 @@ static enum meaning read6(const unsigned char *message, size_t length, struct cl
     return message[0] == 2 ? OFFERED : LEASED;
 }
 
+/* Whether the client's address is one of its circuit's pool, as scripts/measure/peers_servers.py has it. */
+static bool is_in_pool(struct dialect dialect, const struct client *client) {
+    if (dialect.protocol == 4) {
+        return number_at(client->address, 4) - (0x0a00000a | (uint64_t)client->circuit << 8) < LARGEST_POOL;
+    }
+    return number_at(client->address, 8) == (0x20010db800000000 | (uint64_t)client->circuit)
+        && number_at(client->address + 8, 8) - 0x100 < LARGEST_POOL;
+}
+
 enum meaning read_answer(const unsigned char *answer, size_t length, struct dialect dialect, struct client *client) {
     const unsigned char *message = inner(answer, &length, dialect);
     if (message == NULL) {
         return NOTHING;
     }
-    return (dialect.protocol == 4 ? read4 : read6)(message, length, client);
+    enum meaning meaning = (dialect.protocol == 4 ? read4 : read6)(message, length, client);
+    return (meaning == OFFERED || meaning == LEASED) && !is_in_pool(dialect, client) ? REFUSED : meaning;
 }

@@ -40,7 +40,7 @@ size_t write_message(unsigned char *message, struct dialect dialect, enum kind k
 /* The transaction number of an answer, or -1 where it is none. */
 long transaction_of(const unsigned char *answer, size_t length, struct dialect dialect);
 
-/* What the answer means, of which the client keeps address and server. */
+/* What the answer means, of which the client keeps address and server. An address outside its circuit's pool is as good as none. */
 enum meaning read_answer(const unsigned char *answer, size_t length, struct dialect dialect, struct client *client);
 
 #endif
