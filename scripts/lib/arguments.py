@@ -2,6 +2,7 @@
 import sys
 
 from configurations import FIRST_PORT
+from operator_script import say
 
 
 def ended(help_text, fault):
@@ -9,7 +10,7 @@ def ended(help_text, fault):
     if fault is None:
         print(help_text)
         sys.exit(0)
-    print(f"error: {fault}", help_text, sep="\n", file=sys.stderr)
+    say(f"error: {fault}\n{help_text}")
     sys.exit(2)
 
 

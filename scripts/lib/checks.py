@@ -4,7 +4,7 @@ import json
 import os
 
 from changes import Changes, name
-from configurations import faults, read_text, text_of, warnings
+from configurations import faults, read_config, text_of, warnings
 from kept import config_of, is_accepted, kept_beside, text_to_keep
 from operator_script import Refused
 from programs import read, refusal, run_over
@@ -136,7 +136,7 @@ def judge(path, file, port, is_new=False, accepting=False):
         refused = refusal([path], [verdict.source])
         if refused:
             raise refused
-        verdict.config = read_text(verdict.source)
+        verdict.config = read_config(path, verdict.source)
         verdict.refuse(REFUSED, [f"{path}: {line}" for line in faults(verdict.config, port)])
         if file and not verdict.status:
             judge_file(verdict, is_new)

@@ -4,6 +4,8 @@ import ipaddress
 import json
 import tomllib
 
+from operator_script import Refused
+
 # how many circuits an `accessd` serves, how many ports a circuit has, and the first of the first one
 MOST = 16
 PORTS = 4
@@ -37,6 +39,14 @@ RESERVED6 = [(0, 0), (0x02005EFFFE000000, 0x02005EFFFEFFFFFF), (0xFDFFFFFFFFFFFF
 def read_text(text):
     """The values of a text that `accesslab` accepts, which may begin with a byte order mark."""
     return tomllib.loads(text.decode("utf-8-sig"))
+
+
+def read_config(path, text):
+    """The same of the configuration at this path. `accesslab` accepts TOML 1.1 too."""
+    try:
+        return read_text(text)
+    except (ValueError, RecursionError) as error:
+        raise Refused(2, f"{path}: {error}: accesslab accepts it, and the scripts of operators read TOML 1.0 alone") from None
 
 
 def value(entry):

@@ -4,6 +4,7 @@ cause in words and a status, and never with a traceback.
 Statuses: 2 the command line or the configuration is refused; 4 a file is not what it has to be, or is written all the time;
 5 the system refuses a file, a socket or a program."""
 import argparse
+import contextlib
 import os
 import signal
 import sys
@@ -18,9 +19,10 @@ class Refused(Exception):
 
 
 def say(words):
-    """A line on standard error, where there is one."""
+    """A line on standard error, where there is one and it has room."""
     if sys.stderr:
-        print(words, file=sys.stderr, flush=True)
+        with contextlib.suppress(OSError):
+            print(words, file=sys.stderr, flush=True)
 
 
 def parser(text):
@@ -43,28 +45,48 @@ def cause(error):
     return f"{error.filename}: {words}" if error.filename is not None else words
 
 
+def status_of(main):
+    """The status that a script's main function returns or ends with, once standard output has taken what was written to it."""
+    try:
+        status = main()
+    except SystemExit as ending:
+        status = ending.code
+    if sys.stdout:
+        sys.stdout.flush()
+    return status
+
+
+def drop_unwritten():
+    """What the system has not taken by now goes nowhere, so that the interpreter does not try it again and complain."""
+    for number, stream in (1, sys.stdout), (2, sys.stderr):
+        try:
+            if stream:
+                stream.flush()
+        except OSError:
+            os.dup2(os.open(os.devnull, os.O_WRONLY), number)
+
+
 def run(main):
     """Calls a script's main function and ends with the status that it returns."""
     for ending in (signal.SIGTERM, signal.SIGHUP):
         # so that what it has begun is taken back; nohup has one of them ignored
         if signal.getsignal(ending) != signal.SIG_IGN:
             signal.signal(ending, lambda got, _: sys.exit(128 + got))
+    # argparse writes to it, closed or not
+    sys.stderr = sys.stderr or open(os.devnull, "w")
     for stream in (sys.stdout, sys.stderr):
         if stream:
             # a path may have bytes that are no text
             stream.reconfigure(errors="backslashreplace")
     try:
-        status = main()
-        if sys.stdout:
-            sys.stdout.flush()
+        status = status_of(main)
     except Refused as refused:
         say(refused.words)
         status = refused.status
     except KeyboardInterrupt:
         status = 130
     except BrokenPipeError:
-        # whoever reads standard output has gone; nothing more can be written to it
-        os.dup2(os.open(os.devnull, os.O_WRONLY), 1)
+        # whoever reads standard output has gone
         status = 6
     except OSError as error:
         say(cause(error))
@@ -72,4 +94,5 @@ def run(main):
     except MemoryError:
         say("out of memory")
         status = 4
+    drop_unwritten()
     sys.exit(status)

@@ -1,4 +1,5 @@
 """The parts of a configuration of many circuits, for scripts/operate/split: which circuits each has, and its ports."""
+import contextlib
 import fcntl
 import os
 import re
@@ -9,7 +10,7 @@ from pathlib import Path
 from arguments import ended, number_of, parsed
 from changes import by_id, conflicts, key_changes
 from checks import used_lines
-from configurations import FIRST_PORT, LEAST_PORT, MOST, PORTS, read_text, text_of
+from configurations import FIRST_PORT, LEAST_PORT, MOST, PORTS, read_config, read_text, text_of
 from kept import config_of, hold, kept_beside, put, text_to_keep
 from operator_script import Refused
 from programs import read, refusal
@@ -62,7 +63,7 @@ class Places:
         refused = refusal([str(path)], [text])
         if refused:
             raise refused
-        circuits = by_id(read_text(text)["circuit"])
+        circuits = by_id(read_config(path, text)["circuit"])
         self.circuits.update(circuits)
         return list(circuits)
 
@@ -105,16 +106,21 @@ def copy_leases(file, folder, part, text, removed):
     if os.path.lexists(path):
         return
     new = path + ".new"
-    with open(new, "w+b", buffering=0) as copy:
-        shutil.copyfileobj(file, copy)
-        number = count_in(copy.fileno())
-        while number <= max(circuit["region"] for circuit in read_text(text)["circuit"]):
-            add(copy.fileno(), number)
-            number += 1
-        give_to_folder(copy.fileno(), path)
-        os.fsync(copy.fileno())
-    put(config_of(path), text_to_keep(text, removed))
-    os.rename(new, path)
+    try:
+        with open(new, "w+b", buffering=0) as copy:
+            shutil.copyfileobj(file, copy)
+            number = count_in(copy.fileno())
+            while number <= max(circuit["region"] for circuit in read_text(text)["circuit"]):
+                add(copy.fileno(), number)
+                number += 1
+            give_to_folder(copy.fileno(), path)
+            os.fsync(copy.fileno())
+        put(config_of(path), text_to_keep(text, removed))
+        os.rename(new, path)
+    except OSError as error:
+        with contextlib.suppress(OSError):
+            os.unlink(new)
+        raise Refused(5, f"{error.filename or new}: {error.strerror}") from None
     sync_folder(path)
 
 
@@ -158,8 +164,9 @@ def write_parts(folder, texts, parts, first):
     lines = []
     for part, names in parts.items():
         port = circuits_port(part, first)
-        put(str(folder / f"part{part}.toml"), texts[part])
+        # a part is there once its configuration is
         put(str(folder / f"part{part}.env"), f"PORT={port}\n".encode())
+        put(str(folder / f"part{part}.toml"), texts[part])
         lines += [f"{name} part{part} {port + PORTS * at}\n" for at, name in enumerate(names)]
     put(str(folder / "circuits.txt"), "".join(lines).encode())
 
@@ -195,7 +202,7 @@ def main(help_text):
     refused = refusal([path], [text])
     if refused:
         raise refused
-    config = read_text(text)
+    config = read_config(path, text)
     places = Places(folder)
     if first is not None and places.first not in (None, first):
         raise Refused(2, f"{folder}: its circuits have their ports from {places.first} on, and not from {first} on")
