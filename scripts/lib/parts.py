@@ -3,7 +3,6 @@ import contextlib
 import fcntl
 import os
 import re
-import shutil
 import sys
 from pathlib import Path
 
@@ -14,8 +13,8 @@ from configurations import FIRST_PORT, LEAST_PORT, MOST, PORTS, read_config, rea
 from kept import config_of, hold, kept_beside, put, text_to_keep
 from operator_script import Refused
 from programs import read, refusal
-from regions import NotRegions, Regions, add, count_in, give_to_folder
-from replaced_file import sync_folder
+from regions import REGION, NotRegions, Regions, add, count_in, give_to_folder
+from replaced_file import sync_folder, write_all
 
 # the ports of a part's circuits, and those of its server and relays, which come after the circuits' of all parts
 PARTS = 64
@@ -108,7 +107,7 @@ def copy_leases(file, folder, part, text, removed):
     new = path + ".new"
     try:
         with open(new, "w+b", buffering=0) as copy:
-            shutil.copyfileobj(file, copy)
+            write_all(copy.fileno(), iter(lambda: file.read(REGION), b""))
             number = count_in(copy.fileno())
             while number <= max(circuit["region"] for circuit in read_text(text)["circuit"]):
                 add(copy.fileno(), number)
