@@ -7,6 +7,7 @@ STEPS = {"received": "datagrams received", "relayed": "sent on to the server", "
          "delivered": "sent on to a circuit", "unsent": "not sent"}
 TOTALS = re.compile(", ".join(rf"(?P<{step}>\d+) {re.escape(words)}" for step, words in STEPS.items()))
 DROPPED = re.compile(r"(\d+) dropped \((\d+)\): (.*)")
+CLOSED = re.compile(r"(\S+) closed: a save of its leases failed; .*")
 
 
 class Counts:
@@ -17,12 +18,18 @@ class Counts:
         self.runs = 0
         self.steps = collections.Counter({step: 0 for step in STEPS})
         self.dropped = collections.Counter()
-        # of the run that the lines are of
+        # of the run that the lines are of; and the circuits that a failed save closed in it
         self.last_steps, self.last_dropped = {}, {}
+        self.closed = set()
 
     def line(self, text):
+        closed = CLOSED.fullmatch(text)
+        if closed:
+            self.closed.add(closed[1])
+            return
         if text.startswith(BEGINNING):
             self.end_run()
+            self.closed.clear()
             self.runs += 1
             return
         totals = TOTALS.fullmatch(text)
