@@ -4,8 +4,10 @@ import textwrap
 
 from markdown import WORDS
 
-# what `man` leaves of 80 columns for text, and what a text that is set in has of it
-LINE, INSET = 71, 4
+# what `man` leaves of 80 columns for text, what a text that is set in has of it, and how far an entry of a list is set in
+LINE, INSET, ENTRY = 71, 4, 7
+# what stands at the left of a page's foot, at most, where the date has room in the midst of it
+FOOT = 32
 # between two columns of a table
 GAP = 2
 # a table whose rows are higher than that on average, or one of them is by so much, is a list of its rows
@@ -186,8 +188,8 @@ def as_list(rows):
     entries = [f".PP\n{filled(' / '.join(f'*{head}*' for head in rows[0] if head))}"]
     for row in rows[1:]:
         rest = [f"*{head}*: {text}" if head else text for head, text in zip(rows[0][1:], row[1:]) if text]
-        lines = [f".TP\n{guarded(words(row[0], font='R')) or chr(92) + '&'}", *("\n.br\n".join(map(filled, rest)),)]
-        entries.append("\n".join(lines))
+        # not .TP, which has what follows a short head in the head's line
+        entries.append(f".PP\n{filled(row[0]) or chr(92) + '&'}\n.RS {ENTRY}\n" + "\n.br\n".join(map(filled, rest)) + "\n.RE")
     return "\n".join(entries)
 
 
@@ -217,10 +219,12 @@ def part(kind, content):
 
 
 def page(name, section, about, date, version, parts):
-    """A man page with these parts."""
+    """A man page with these parts. A version that leaves the date no room in the foot is that of a commit, with a date in it."""
+    left = f"Higvaszte {version}"
+    date = date if len(left) <= FOOT else ""
     head = [
         "'\\\" t",
-        f'.TH {escaped(name, CODE)} {section} {escaped(date, CODE)} "Higvaszte {escaped(version, CODE)}" Higvaszte',
+        f'.TH {escaped(name, CODE)} {section} "{escaped(date, CODE)}" "{escaped(left, CODE)}" Higvaszte',
         ".nr HY 0\n.nh\n.ad l\n.ss 12 0",
         f".SH NAME\n{escaped(name, CODE)} \\- {words(about)}",
     ]
