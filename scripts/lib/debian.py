@@ -107,6 +107,7 @@ class Package:
         for path in modules([*self.scripts, self.root / "package/higvaszte"], library):
             put(home / "lib" / path.name, script_text(path.read_text()))
         put(home / "lib/built", script_text((library / "built").read_text()), 0o755)
+        put(home / "lib/namespaces", script_text((library / "namespaces").read_text()))
 
     def lay_pages(self, place):
         for name, number, text in manuals(self.root, self.scripts, self.helps, self.origin.date(), self.version):

@@ -19,7 +19,9 @@ NAMES = "|".join(PAGES)
 INTERPRETERS = {"#!/usr/bin/env python3": "#!/usr/bin/python3", "#!/usr/bin/env bash": "#!/bin/bash"}
 # what a clone has elsewhere
 PLACES = (
-    (r"(?:new/|\./)?scripts/operate/([a-z][a-z-]*)", r"higvaszte \1"),
+    (r"\$scripts/\.\./examples/", EXAMPLES + "/"),
+    # `$scripts` is HOME there
+    (r"(?<!\$)(?:new/|\./)?scripts/operate/([a-z][a-z-]*)", r"higvaszte \1"),
     (r"(?<![\w/.-])\./(accesslab|accessd)\b", r"\1"),
     (r"(?<![\w/.-])examples/(?=\w)", EXAMPLES + "/"),
 )
