@@ -71,12 +71,29 @@ def has_in_common(new, gone):
         yield "a gateway or link address in a pool"
 
 
-def conflicts(new, gone, leases):
-    """Which circuits have something of those that are not served any more, in words."""
+def conflicts(new, gone, leases, known=()):
+    """Which circuits have something of those that are not served any more, or not so any more, in words. What a circuit had
+    itself it may have again, where it is known."""
     for circuit in new:
         for other in gone:
-            for words in has_in_common(circuit, other):
-                yield f"{name(circuit)} has what {name(other)} had, {words}; {last_words(other, leases)}"
+            if circuit["id"] != other["id"] or circuit["id"] not in known:
+                for words in has_in_common(circuit, other):
+                    yield f"{name(circuit)} has what {name(other)} had, {words}; {last_words(other, leases, ' of it')}"
+
+
+def has_all_of(one, other):
+    """Whether a circuit has all that it had as it was another time."""
+    return (one["id"], one["region"]) == (other["id"], other["region"]) and all(
+        set(pool(other)) <= set(pool(one)) for pool in (pool4, pool6))
+
+
+def had_before(circuits, now):
+    """Of circuits as they were, the oldest first, those that had more than they have now, each once."""
+    found = []
+    for circuit in circuits:
+        if not any(has_all_of(other, circuit) for other in now + found):
+            found.append(circuit)
+    return found
 
 
 def port_changes(old, new, port):
@@ -88,12 +105,12 @@ def port_changes(old, new, port):
                    "client at the old ones would be another circuit's")
 
 
-def last_words(circuit, leases):
+def last_words(circuit, leases, of=""):
     """What is leased of a circuit, where that is known: how many leases there are, and when the last ends."""
     if circuit["id"] not in leases:
-        return f"what {name(circuit)} has leased is not known"
+        return f"what {name(circuit)} has leased{of} is not known"
     count, date = leases[circuit["id"]]
-    leased = f"{count} lease{'s' if count > 1 else ''} until {date}" if count else "no lease"
+    leased = f"{count} lease{'s' if count > 1 else ''}{of} until {date}" if count else f"no lease{of}"
     return f"{name(circuit)} has {leased}"
 
 
@@ -102,22 +119,29 @@ def by_id(circuits):
 
 
 class Changes:
-    """A configuration over what is kept: what a start does not do by itself, the circuits that are new, and those that are not
-    served any more. `leases` has for circuits, by id, what is leased of them."""
+    """A configuration over what is kept: what a start does not do by itself, the circuits that are new, those that are not
+    served any more, and those that had another pool or region, as they were then. `leases` has for circuits, by id, what is
+    leased of them."""
 
     def __init__(self, kept, new, port, leases):
         old, now, before = (by_id(circuits) for circuits in (kept.config["circuit"], new["circuit"], kept.removed))
-        self.added = [circuit for key, circuit in now.items() if key not in old and key not in before]
+        known = {**before, **old}
+        self.added = [circuit for key, circuit in now.items() if key not in known]
         self.gone = [circuit for key, circuit in old.items() if key not in now]
         idle = self.gone + [circuit for key, circuit in before.items() if key not in now and key not in old]
         self.refused = [*server_changes(kept.config, new), *relay_changes(kept.config, new)]
         for key, circuit in now.items():
-            if key in old or key in before:
-                self.refused += key_changes(old.get(key) or before[key], circuit)
+            if key in known:
+                self.refused += key_changes(known[key], circuit)
         leased = leases(idle) if idle else {}
         self.refused += [f"{name(circuit)} is gone: its leases stay in region {circuit['region']}, and nobody serves them; "
                          f"{last_words(circuit, leased)}" for circuit in self.gone]
         self.refused += conflicts(new["circuit"], idle, leased)
+        former = had_before(kept.former + [known[key] for key in now if key in known], new["circuit"])
+        given = [circuit for circuit in former if any(conflicts(new["circuit"], [circuit], {}, known))]
+        for circuit in given:
+            self.refused += conflicts(new["circuit"], [circuit], leases([circuit]), known)
         self.refused += port_changes(kept.config["circuit"], new["circuit"], port)
         # of what another circuit is given, nothing is known any more
         self.removed = [circuit for circuit in idle if not any(conflicts(new["circuit"], [circuit], leased))]
+        self.former = [circuit for circuit in former if circuit not in given]

@@ -3,8 +3,8 @@ changes."""
 import json
 import os
 
-from changes import Changes, name
-from configurations import faults, read_config, text_of, warnings
+from changes import Changes, by_id, name
+from configurations import faults, has_address, read_config, text_of, warnings
 from kept import config_of, is_accepted, kept_beside, text_to_keep
 from operator_script import Refused
 from programs import read, refusal, run_over
@@ -42,19 +42,26 @@ def plan_of(config, circuits):
     return text_of(config["server"], config["relay"], circuits).encode()
 
 
-def leases_by_circuit(text, circuits, file):
-    """How many leases each of these circuits has now and when the last ends, by id; nothing of those that can't be read."""
+def is_served(now, before, address):
+    """Whether a circuit serves a lease of this address still, which it had as it was before."""
+    return now is not None and now["region"] == before["region"] and has_address(now, address)
+
+
+def leases_by_circuit(config, circuits, file):
+    """How many leases each of these circuits, which were served before, has now without those that it serves still, and when the
+    last ends, by id; nothing of those that can't be read."""
     try:
-        done, _ = run_over("leases", [text], "--disk", file, "--json")
+        done, _ = run_over("leases", [plan_of(config, circuits)], "--disk", file, "--json")
     except Refused:
         return {}
     # with 4 some of them are listed, or none
     is_listed = done.returncode in (0, CLOSED) or done.returncode == 4 and done.stdout
-    found = {circuit["id"]: [] for circuit in circuits} if is_listed else {}
+    now, before = by_id(config["circuit"]), by_id(circuits)
+    found = {key: [] for key in before} if is_listed else {}
     for line in map(json.loads, done.stdout.splitlines()):
         if line["state"] in ("closed", "busy"):
             found.pop(line["circuit"], None)
-        elif line["circuit"] in found:
+        elif line["circuit"] in found and not is_served(now.get(line["circuit"]), before[line["circuit"]], line["address"]):
             found[line["circuit"]].append((line["until"], line["date"]))
     return {key: (len(ends), max(ends)[1] if ends else None) for key, ends in found.items()}
 
@@ -88,14 +95,13 @@ def judge_without(verdict, regions):
     lines = [] if all(regions.unused) else [
         f"{verdict.path} is served over {verdict.file} as it is: its leases are those of the circuits with their regions"]
     verdict.change(f"{verdict.file} may have leases, and no {config_of(verdict.file)} says of which circuits:", lines)
-    verdict.text = text_to_keep(verdict.source, [])
+    verdict.text = text_to_keep(verdict.source)
 
 
 def judge_after(verdict, regions):
     """Over a file beside which is kept what was served over it last."""
     kept, config = verdict.kept, verdict.config
-    changes = Changes(kept, config, verdict.port,
-                      lambda circuits: leases_by_circuit(plan_of(config, circuits), circuits, verdict.file))
+    changes = Changes(kept, config, verdict.port, lambda circuits: leases_by_circuit(config, circuits, verdict.file))
     lines = changes.refused + list(used_lines(changes.added, regions))
     if not lines and verdict.source != kept.text:
         # the rules for configurations that follow each other are those of `accesslab`
@@ -104,7 +110,7 @@ def judge_after(verdict, regions):
         words = refusal(names, [kept.text, *before, verdict.source])
         lines = [str(words)] if words else []
     verdict.change(f"{verdict.path} differs from {kept.path}, which was served last:", lines)
-    verdict.text = text_to_keep(verdict.source, changes.removed)
+    verdict.text = text_to_keep(verdict.source, changes.removed, changes.former)
 
 
 def judge_file(verdict, is_new):
@@ -115,7 +121,7 @@ def judge_file(verdict, is_new):
         lost = f"{file} is missing, and {config_of(file)} is there: the leases were lost; put their copy in its place ({RESTORE})"
         first = f"{file} is missing: where it is to be made, say --new; where it was lost, put its copy in its place"
         verdict.refuse(OTHER, [lost] if kept else [] if is_new else [first])
-        verdict.text = text_to_keep(verdict.source, [])
+        verdict.text = text_to_keep(verdict.source)
         return
     try:
         regions = Regions(file)

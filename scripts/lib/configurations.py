@@ -83,6 +83,12 @@ def pool6(circuit):
     return range(first, first + circuit["count6"])
 
 
+def has_address(circuit, text):
+    """Whether an address, as a text, is in the circuit's pool."""
+    address = ipaddress.ip_address(text)
+    return int(address) in (pool4 if address.version == 4 else pool6)(circuit)
+
+
 def gateway4(circuit):
     return int(ipaddress.IPv4Address(circuit["gateway4"]))
 

@@ -1,5 +1,6 @@
 """What `scripts/operate/serve` keeps beside the file of its leases, FILE: in FILE.config the configuration that it serves, and
-after it the circuits that it served before, whose leases FILE may still have; in FILE.accepted, what was accepted on purpose."""
+after it the circuits that it served before, whose leases FILE may still have, and what circuits had before their pool or region
+changed; in FILE.accepted, what was accepted on purpose."""
 import fcntl
 import hashlib
 import os
@@ -10,9 +11,9 @@ from programs import read
 from regions import give_to_folder
 from replaced_file import sync_folder
 
-# after this line stand tables of this name, which no program reads
+# after this line stand tables of these names, which no program reads
 MARK = b"# No longer served, but FILE may have their leases:\n"
-TABLE = "no_longer_served"
+REMOVED, FORMER = "no_longer_served", "had_before"
 
 
 def config_of(file):
@@ -24,15 +25,16 @@ def accepted_of(file):
 
 
 class Kept:
-    """What is kept beside FILE: the text as it is, the configuration that is served, and the circuits that no longer are."""
+    """What is kept beside FILE: the text as it is, the configuration that is served, the circuits that no longer are, and those
+    that had another pool or region, as they were then."""
 
     def __init__(self, path, text):
         self.path, self.text = path, text
         served, _, tables = text.partition(MARK)
         self.config = read_text(served)
-        self.removed = read_text(tables).get(TABLE, [])
+        self.removed, self.former = (read_text(tables).get(name, []) for name in (REMOVED, FORMER))
         # each has what is read of it later
-        text_of(self.config["server"], self.config["relay"], self.config["circuit"] + self.removed)
+        text_of(self.config["server"], self.config["relay"], self.config["circuit"] + self.removed + self.former)
 
 
 def kept_beside(file):
@@ -47,14 +49,15 @@ def kept_beside(file):
         raise Refused(5, f"{path}: this is not what scripts/operate/serve wrote there: put its copy in its place") from None
 
 
-def text_to_keep(text, removed):
-    """A configuration's text and the circuits that were served before it."""
+def text_to_keep(text, removed=(), former=()):
+    """A configuration's text, the circuits that were served before it, and those that had another pool or region, as they were."""
     served = text.partition(MARK)[0]
-    if not removed:
+    if not removed and not former:
         return served
     served = served if served.endswith(b"\n") else served + b"\n"
-    tables = "\n".join(table(f"[[{TABLE}]]", "circuit", circuit) for circuit in removed)
-    return served + MARK + tables.encode()
+    tables = [*(table(f"[[{REMOVED}]]", "circuit", circuit) for circuit in removed),
+              *(table(f"[[{FORMER}]]", "circuit", circuit) for circuit in former)]
+    return served + MARK + "\n".join(tables).encode()
 
 
 def put(path, text, hold=False):

@@ -7,7 +7,7 @@ import sys
 from pathlib import Path
 
 from arguments import ended, number_of, parsed
-from changes import by_id, conflicts, key_changes
+from changes import by_id, conflicts, had_before, key_changes
 from checks import used_lines
 from configurations import FIRST_PORT, LEAST_PORT, MOST, PORTS, read_config, read_text, text_of
 from kept import config_of, hold, kept_beside, put, text_to_keep
@@ -98,9 +98,9 @@ def without_gone(names, there):
     return names
 
 
-def copy_leases(file, folder, part, text, removed):
-    """A copy of the leases for a part that has none, as long as it requires. Its configuration is kept beside it, and the
-    circuits that were served before."""
+def copy_leases(file, folder, part, text, before):
+    """A copy of the leases for a part that has none, as long as it requires. Its configuration is kept beside it, and what was
+    served before."""
     path = str(folder / f"part{part}.leases")
     if os.path.lexists(path):
         return
@@ -114,7 +114,7 @@ def copy_leases(file, folder, part, text, removed):
                 number += 1
             give_to_folder(copy.fileno(), path)
             os.fsync(copy.fileno())
-        put(config_of(path), text_to_keep(text, removed))
+        put(config_of(path), text_to_keep(text, *before))
         os.rename(new, path)
     except OSError as error:
         with contextlib.suppress(OSError):
@@ -124,20 +124,20 @@ def copy_leases(file, folder, part, text, removed):
 
 
 def checked(file, circuits):
-    """The circuits that were served over a file, and no longer are. It has to be the file of these circuits, where something says
-    of which ones it is."""
+    """The circuits that were served over a file, and no longer are, and those that had another pool or region, as they were. It
+    has to be the file of these circuits, where something says of which ones it is."""
     kept, regions = kept_beside(file), Regions(file)
     if kept is None:
-        return []
+        return [], []
     known, now = by_id(kept.config["circuit"] + kept.removed), by_id(circuits)
     gone = [circuit for key, circuit in known.items() if key not in now]
     added = [circuit for key, circuit in now.items() if key not in known]
     lines = [line for key in now if key in known for line in key_changes(known[key], now[key])]
-    lines += [*conflicts(circuits, gone, {}), *used_lines(added, regions)]
+    lines += [*conflicts(circuits, gone + kept.former, {}, known), *used_lines(added, regions)]
     if lines:
         raise Refused(3, "\n".join([f"it differs from {kept.path}, which was served last:", *lines,
                                     "make this change before the split, or after it"]))
-    return gone
+    return gone, kept.former
 
 
 def copy_all(file, folder, texts, circuits):
@@ -146,14 +146,14 @@ def copy_all(file, folder, texts, circuits):
     with open(file, "rb", buffering=0) as source:
         try:
             fcntl.flock(source, fcntl.LOCK_EX | fcntl.LOCK_NB)
-            removed = checked(file, circuits)
+            before = checked(file, circuits)
         except BlockingIOError:
             raise Refused(5, f"{file} is in use: stop the server first") from None
         except NotRegions as error:
             raise Refused(4, f"{file}: {error}") from None
         for part, text in texts.items():
             source.seek(0)
-            copy_leases(source, folder, part, text, removed)
+            copy_leases(source, folder, part, text, before)
     if held is not None:
         os.close(held)
 
@@ -209,10 +209,10 @@ def main(help_text):
     if not LEAST_PORT <= first <= MOST_PORT:
         raise Refused(2, f"there is no room for the ports of {PARTS} parts from {first} on: PORT is {LEAST_PORT} to {MOST_PORT}")
     circuits = by_id(config["circuit"])
-    gone = [circuit for key, circuit in places.circuits.items() if key not in circuits]
-    lines = list(conflicts(config["circuit"], gone, {}))
+    before = had_before(places.circuits.values(), config["circuit"])
+    lines = list(conflicts(config["circuit"], before, {}, places.circuits))
     if lines:
-        raise Refused(3, "\n".join([*lines, "remove the one first, and add the other once its last lease has ended"]))
+        raise Refused(3, "\n".join([*lines, "take it from the one first, and give it to the other once its last lease has ended"]))
     parts = places.placed(config["circuit"])
     texts = {part: text_of_part(config, [circuits[name] for name in names], part, first).encode() for part, names in parts.items()}
     folder.mkdir(parents=True, exist_ok=True)
