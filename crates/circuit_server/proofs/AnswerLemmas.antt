@@ -76,7 +76,7 @@ fails_where : (fuses : ℕ → ℕ) (region q : ℕ) (is_kept : Bool) → (regio
 fails_where fuses region q true = refl
 fails_where fuses region q false = and_false (region == q)
 
-either_way : (r q : ℕ) → (q == r) ≡ (r == q)
+pub either_way : (r q : ℕ) → (q == r) ≡ (r == q)
 either_way r q = by (q == r) (r == q) refl refl where
   by : (a b : Bool) → (q == r) ≡ a → (r == q) ≡ b → (q == r) ≡ (r == q)
   by true true one other = one ∙ sym other

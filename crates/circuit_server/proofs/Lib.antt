@@ -1,4 +1,5 @@
 pub mod AnswerLemmas
+pub mod CalledLemmas
 pub mod ComeBackLemmas
 pub mod DeadlineLemmas
 pub mod PreparedLemmas

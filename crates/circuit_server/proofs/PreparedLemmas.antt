@@ -15,7 +15,8 @@ use Rattle.lease_disk.specs.Save.{IsSaveOf}
 use Rattle.lease_disk.proofs.Frames.{touches_none}
 use Rattle.batch_saves.specs.Batch.{IsReady}
 use Rattle.batch_saves.specs.declared.saving.Saving.{Saving}
-use Rattle.circuit_server.specs.Answered.{IsAnswer, answered}
+use Rattle.circuit_server.specs.Answered.{IsAnswer, answered, saves}
+use Rattle.circuit_server.specs.Calls.{IsCalledToSaveAt}
 use Rattle.circuit_server.specs.CircuitDecision.{IsToSave, is_kept, kept_in, served_by}
 use Rattle.circuit_server.specs.CircuitServerValue.{HasPools, IsReadyFor, OpenCircuitValue, open_book}
 use Rattle.circuit_server.specs.Leases.{Leases, after_datagram, formats_of, restarts_of}
@@ -28,6 +29,7 @@ use Rattle.circuit_server.specs.declared.decision.CircuitDecision.{CircuitDecisi
 use Rattle.circuit_server.specs.declared.decision.CircuitDecision.TheVariants.{V4, V6}
 use Rattle.circuit_server.specs.declared.prepared.Prepared.{Prepared}
 use Rattle.circuit_server.proofs.AnswerLemmas.{IsServed, as_served, asked, failed, fails_by, held, leases_as, none_fails, saves_so}
+use Rattle.circuit_server.proofs.CalledLemmas.{called_none, called_one}
 use Rattle.circuit_server.proofs.SaveLemmas.{is_fit, is_to_save, still_ready}
 use Rattle.circuit_server.proofs.SavedLemmas.{saved_formats, saved_ready, saved_restarts}
 
@@ -217,6 +219,14 @@ module _ (part : CircuitPart) (d : DeliveryValue) (old new : Option OpenCircuitV
       by : (kept : Option (ℕ × Content)) → kept_in prepared.decision ≡ kept → Touches tells part.region was later
       by None is = subst (Touches tells part.region was) (sym (none_is is).1) (touches_none tells part.region was)
       by (Some kept) is = (some_is kept is).frame
+
+    pub alone_called : IsCalledToSaveAt (saves part (done part d old new prepared p)) was later
+    alone_called = by (kept_in prepared.decision) refl where
+      by : (kept : Option (ℕ × Content)) → kept_in prepared.decision ≡ kept → IsCalledToSaveAt (saves part (done part d old new prepared p)) was later
+      by None is = subst (λ b. IsCalledToSaveAt (if b then Some part.region else None) was later) (sym (keeps_none prepared.decision is)) (called_none was later (none_is is).1)
+      by (Some kept) is =
+          let one = some_is kept is in
+          subst (λ b. IsCalledToSaveAt (if b then Some part.region else None) was later) (sym (keeps_some prepared.decision kept is)) (called_one tells part.region saved was later one.frame one.writes one.most one.failures)
 
     module _ (told : tells ≡ true) where
       pub alone_ok : not (is_ok saved) ≡ (is_kept prepared.decision && not (effective 6 (was.fuse part.region) == 0))

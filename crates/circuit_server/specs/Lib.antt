@@ -1,4 +1,5 @@
 pub mod Answered
+pub mod Calls
 pub mod CircuitDecision
 pub mod CircuitServerValue
 pub mod Deadlines

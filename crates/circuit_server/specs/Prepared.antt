@@ -1,5 +1,5 @@
 -- What is made of a datagram of an open circuit before it is saved, and what comes of it then. Only proofs need this.
-use Rattle.std.specs.Prelude.{◌≡◌, ◌==◌, ℕ, Bool, true, List, [], Option, Some, None, option_map, Result, Ok, Err, IfOk, is_ok, is_some}
+use Rattle.std.specs.Prelude.{◌≡◌, ◌==◌, ◌+◌, ◌≤◌, ℕ, Bool, true, List, [], Option, Some, None, option_map, Result, Ok, Err, IfOk, OnOk, is_ok, is_some}
 use Rattle.types.specs.Delivery.{DeliveryValue}
 use Rattle.types.specs.declared.discard.Discard.{Discard}
 use Rattle.types.specs.declared.discard.Discard.TheVariants.{DiskFault}
@@ -60,6 +60,8 @@ pub record IsSavedAlone (tells : Bool) (result : Result (Option Marks) Fault) (o
   pub answer : tells ≡ true → is_ok result ≡ (effective 6 (old.fuse s.region) == 0)
   pub marks : IfOk result (λ marks. is_some marks ≡ true)
   pub frame : Touches tells s.region old new
+  pub writes : OnOk result (new.writes ≡ old.writes + 6)
+  pub most : new.writes ≤ old.writes + 6
   pub failures : new.failures ≡ faults_after s.region result old.failures
 
 -- an open circuit with these marks

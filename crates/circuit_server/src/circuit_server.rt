@@ -8,6 +8,7 @@ ghost use Rattle.types.specs.Slots.{last_until};
 ghost use Rattle.circuit_server.specs.Answered.{IsAnswer, answered, circuit_saves, fails_at};
 ghost use Rattle.requests.specs.RelayedMessage.{IsRelayedMessage};
 ghost use Rattle.circuit_server.specs.Prepared.{IsDropped, IsPrepared, IsSettled, with_marks};
+ghost use Rattle.circuit_server.specs.Calls.{IsCalledToSaveAt};
 ghost use Rattle.circuit_server.specs.CircuitServerValue.{HasPools, IsReadyFor, kept_slots, leases_of, open_book};
 ghost use Rattle.circuit_server.specs.SlotsOfPools.{HasSlots};
 ghost use Rattle.circuit_server.specs.Ticked.{IsLater, state_at};
@@ -220,6 +221,7 @@ impl CircuitServer {
         ensures ready { D.tells ≡ true → IsReadyFor ((D.device disk.new).region part.now.region) self.new }
         ensures writes { WritesAt D.tells (circuit_saves delivery.now (Some part.now) (Some (option_map open_book self.old))) (D.device disk.old) (D.device disk.new) }
         ensures frame { Touches D.tells part.now.region (D.device disk.old) (D.device disk.new) }
+        ensures calls { IsCalledToSaveAt (circuit_saves delivery.now (Some part.now) (Some (option_map open_book self.old))) (D.device disk.old) (D.device disk.new) }
     {
         let prepared = match self.prepare(part, delivery, relayed, table, first) {
             Ok(prepared) => prepared,

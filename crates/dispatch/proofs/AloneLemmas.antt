@@ -13,6 +13,7 @@ use Rattle.config.specs.CircuitPart.{CircuitPart}
 use Rattle.config.specs.Topology.{Topology}
 use Rattle.requests.specs.Addressee.{addressee}
 use Rattle.circuit_server.specs.Answered.{IsAnswer, circuit_saves, fails_at}
+use Rattle.circuit_server.specs.Calls.{IsCalledToSave, IsCalledToSaveAt}
 use Rattle.circuit_server.specs.CircuitServerValue.{CircuitServerValue, book_of, leases_of}
 use Rattle.circuit_server.specs.Leases.{Leases, after_datagram, after_saving, kept, served_leases}
 use Rattle.circuit_server.specs.Server.{Book, Served, served}
@@ -178,8 +179,8 @@ pub received_batch_of_one : (tells : Bool) (d : DeliveryValue) (s later_s : Serv
     → IsAnswer (received s.topology d (has_failed was later) (books_in s)).answer result out → books_in later_s ≡ (received s.topology d (has_failed was later) (books_in s)).books
     → (tells ≡ true → (r : ℕ) → has_failed was later r ≡ fails_at was.fuse (received_saves s.topology d (books_in s)) r)
     → (tells ≡ true → leases_in later.region later_s ≡ received_leases s.topology d was.fuse (leases_in was.region s)) → (tells ≡ true → AreReady later.region later_s)
-    → WritesAt tells (received_saves s.topology d (books_in s)) was later → given ≡ answer_by result out ∷ [] → IsReceivedBatch tells (d ∷ []) given s later_s was later
-received_batch_of_one tells d s later_s was later result out given answer books fails leases ready frame is =
+    → WritesAt tells (received_saves s.topology d (books_in s)) was later → IsCalledToSaveAt (received_saves s.topology d (books_in s)) was later → given ≡ answer_by result out ∷ [] → IsReceivedBatch tells (d ∷ []) given s later_s was later
+received_batch_of_one tells d s later_s was later result out given answer books fails leases ready frame calls is =
     let t = s.topology in
     let saves = received_saves t d (books_in s) in
     let its : batch_saves t (d ∷ []) (books_in s) ≡ alone saves = saves_alone t d (books_in s) in
@@ -188,6 +189,7 @@ received_batch_of_one tells d s later_s was later result out given answer books 
           batch_back t (has_failed was later) (d ∷ []) (books_in s) (books_in later_s) given (of_others t d)
           (is ∙ ap (λ a. a ∷ []) (sym (answer_is (received t d (has_failed was later) (books_in s)).answer result out answer))) books;
       frame = subst (λ regions. IsWrittenTogether tells regions was later) (sym its) (written_alone tells saves was later frame);
+      calls = subst (λ regions. IsCalledToSave regions was later) (sym its) calls;
       fails = λ told r. fails told r ∙ fails_alone was.fuse saves r ∙ ap (λ regions. is_in regions r && not (batch_fault was.fuse regions r == 0)) (sym its);
       leases = λ told.
           subst (λ regions. IsBatchOfLeases t (d ∷ []) (batch_fault was.fuse regions) (leases_in was.region s) (leases_in later.region later_s)) (sym its)

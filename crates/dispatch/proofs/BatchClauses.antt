@@ -1,5 +1,5 @@
 -- What the server's value says after a batch.
-use Rattle.std.proofs.Common.{◌≡◌, ◌∙◌, ◌<◌, ◌==◌, ◌&&◌, nat_lt, not, ℕ, Bool, true, false, List, [], ◌∷◌, length, map, refl, sym, ap, subst, arith}
+use Rattle.std.proofs.Common.{◌≡◌, ◌∙◌, ◌+◌, ◌<◌, ◌==◌, ◌&&◌, nat_lt, not, ℕ, Bool, true, false, List, [], ◌∷◌, length, map, refl, sym, ap, subst, arith}
 use Rattle.std.specs.Prelude.{Option, Some, None, option_map, Result, slice_get}
 use Rattle.std.proofs.lemmas.List.{length-map}
 use Rattle.std.proofs.lemmas.Option.{get_or_from_slice_get, slice_get-map, slice_get_past}
@@ -7,11 +7,12 @@ use Rattle.types.specs.Delivery.{DeliveryValue}
 use Rattle.types.specs.declared.discard.Discard.{Discard}
 use Rattle.lease_disk.specs.Device.{Device, is_in}
 use Rattle.lease_disk.specs.Region.{effective}
-use Rattle.batch_saves.specs.Batch.{AreApart, first_of, fuses_of, regions_of, shared_fault}
+use Rattle.batch_saves.specs.Batch.{AreApart, batch_calls, failed_of, first_of, fuses_of, regions_of, shared_fault}
 use Rattle.batch_saves.specs.Batch as saves
 use Rattle.batch_saves.specs.declared.saving.Saving.{Saving}
 use Rattle.config.specs.CircuitPart.{CircuitPart}
 use Rattle.config.specs.Topology.{IsTopology}
+use Rattle.circuit_server.specs.Calls.{IsCalledToSave}
 use Rattle.circuit_server.specs.CircuitServerValue.{CircuitServerValue, IsReady, IsReadyFor, OpenCircuitValue, book_of, leases_of}
 use Rattle.circuit_server.specs.Ticked.{state_of}
 use Rattle.circuit_server.specs.declared.prepared.Prepared.{Prepared}
@@ -20,6 +21,7 @@ use Rattle.dispatch.specs.Parts.{AreAnswered, AreDecided, AreSavedTogether, IsRe
 use Rattle.dispatch.specs.Regions.{HasRegions}
 use Rattle.dispatch.specs.ServerValue.{AreReady, ServerValue, books_in, circuits_in, leases_in}
 use Rattle.dispatch.proofs.BatchLemmas.{batch_answered, batch_failed, batch_leased, batch_ready, batch_written}
+use Rattle.dispatch.proofs.CalledLemmas.{saved_called}
 use Rattle.dispatch.proofs.SaverLemmas.{apart_savings, ready_savings, saves_are}
 use Rattle.dispatch.proofs.TickLemmas.{own_state}
 use Rattle.dispatch.proofs.WithStates.{at_index, server, size_with, there_is, there_with}
@@ -70,7 +72,7 @@ module _ (s : ServerValue) (ds : List DeliveryValue) (i : ℕ) (named : List ℕ
   -- ---- after all
 
   module _ (later_s : ServerValue) (same : later_s.topology ≡ s.topology) (savings : List Saving) (tells : Bool) (was later : Device) (saved : AreSavedTogether tells (savings_of parts) savings was later)
-      (given : List (Result (List ℕ) Discard)) (ended : AreAnswered s.topology parts savings (length parts) middle later_s.states given) (ready : tells ≡ true → AreReady was.region s) where
+      (calls : later.writes ≡ was.writes + batch_calls (failed_of savings)) (given : List (Result (List ℕ) Discard)) (ended : AreAnswered s.topology parts savings (length parts) middle later_s.states given) (ready : tells ≡ true → AreReady was.region s) where
     later_size : length later_s.states ≡ length later_s.topology.circuits
     later_size = ended.size ∙ made.size ∙ size ∙ sym (ap (λ t. length t.circuits) same)
 
@@ -98,6 +100,7 @@ module _ (s : ServerValue) (ds : List DeliveryValue) (i : ℕ) (named : List ℕ
       frame =
           subst (λ regions. IsWrittenTogether tells regions was later) (sym regions_are)
           (batch_written s.topology ds i named s.states middle later_s.states parts whole made sound savings tells was later saved given ended (ready_in tells s was size ready));
+      calls = subst (λ regions. IsCalledToSave regions was later) (sym regions_are) (saved_called tells (savings_of parts) savings was later saved calls);
       fails = λ told r.
           batch_failed s.topology ds i named s.states middle later_s.states parts whole made sound savings tells was later saved given ended (ready_in tells s was size ready) told
           (batch_fault was.fuse (batch_saves s.topology ds (books_in s))) faults_are r

@@ -71,7 +71,7 @@ marks_there : (b : Bool) (marks : Marks) (fault : Fault) → IfOk (if b then Ok 
 marks_there true marks fault = refl
 marks_there false marks fault = tt
 
-raised : (b : Bool) (n : ℕ) → nat_lt n (n + (if b then 0 else 1)) ≡ not b
+pub raised : (b : Bool) (n : ℕ) → nat_lt n (n + (if b then 0 else 1)) ≡ not b
 raised true n = le-ltb n (n + 0) (omega arith)
 raised false n = lt-ltb n (n + 1) (omega arith)
 

@@ -2,6 +2,7 @@ pub mod AloneLemmas
 pub mod AnsweredLemmas
 pub mod BatchClauses
 pub mod BatchLemmas
+pub mod CalledLemmas
 pub mod ClosedLemmas
 pub mod HeldDeadlines
 pub mod OneByOne

@@ -12,6 +12,7 @@ use Rattle.batch_saves.specs.declared.saving.Saving.{Saving}
 use Rattle.config.specs.CircuitPart.{CircuitPart}
 use Rattle.config.specs.Topology.{Topology}
 use Rattle.requests.specs.Addressee.{addressee}
+use Rattle.circuit_server.specs.Calls.{IsCalledToSave}
 use Rattle.circuit_server.specs.CircuitServerValue.{OpenCircuitValue}
 use Rattle.circuit_server.specs.Prepared.{IsDropped, IsPrepared, IsSettled}
 use Rattle.circuit_server.specs.Ticked.{state_of}
@@ -143,6 +144,7 @@ pub record AreAnswered (topology : Topology) (parts : List (Option (Result (ℕ 
 pub record IsReceivedBatch (tells : Bool) (ds : List DeliveryValue) (given : List (Result (List ℕ) Discard)) (server later_server : ServerValue) (device later_device : Device) : Type 0 where
   pub answers : IsBatch server.topology ds (has_failed device later_device) (books_in server) (books_in later_server) given
   pub frame : IsWrittenTogether tells (batch_saves server.topology ds (books_in server)) device later_device
+  pub calls : IsCalledToSave (batch_saves server.topology ds (books_in server)) device later_device
   pub fails : tells ≡ true → (r : ℕ) → has_failed device later_device r ≡ (is_in (batch_saves server.topology ds (books_in server)) r && not (batch_fault device.fuse (batch_saves server.topology ds (books_in server)) r == 0))
   pub leases : tells ≡ true → IsBatchOfLeases server.topology ds (batch_fault device.fuse (batch_saves server.topology ds (books_in server))) (leases_in device.region server) (leases_in later_device.region later_server)
   pub ready : tells ≡ true → AreReady later_device.region later_server

@@ -10,6 +10,7 @@ ghost use Rattle.circuit_server.specs.Leases.{after_datagram, found_leases};
 ghost use Rattle.dispatch.specs.Regions.{AreBroughtUp, AreSynced, HasRegions, KeepsOthers};
 ghost use Rattle.circuit_server.specs.Answered.{IsAnswer, answered, circuit_saves, fails_at};
 ghost use Rattle.requests.specs.RelayedMessage.{IsRelayedMessage};
+ghost use Rattle.circuit_server.specs.Calls.{IsCalledToSaveAt};
 ghost use Rattle.circuit_server.specs.CircuitServerValue.{HasItsPools, HasPools, IsReady, IsReadyFor, kept_slots, leases_of, open_book};
 ghost use Rattle.circuit_server.specs.Prepared.{IsDropped, IsPrepared, IsSettled};
 ghost use Rattle.circuit_server.specs.SlotsOfPools.{HasSlots};
@@ -126,6 +127,7 @@ impl CircuitServers {
         ensures ready { D.tells ≡ true → IsReadyFor ((D.device disk.new).region part.now.region) (state_of self.new index) }
         ensures writes { WritesAt D.tells (circuit_saves delivery.now (Some part.now) (Some (option_map open_book (state_of self.old index)))) (D.device disk.old) (D.device disk.new) }
         ensures frame { Touches D.tells part.now.region (D.device disk.old) (D.device disk.new) }
+        ensures calls { IsCalledToSaveAt (circuit_saves delivery.now (Some part.now) (Some (option_map open_book (state_of self.old index)))) (D.device disk.old) (D.device disk.new) }
     {
         let ticked = self.ticked;
         let server = &mut self.servers[index];

@@ -12,6 +12,7 @@ ghost use Rattle.circuit_server.specs.Leases.{Leases, after_tick, found_leases, 
 ghost use Rattle.dispatch.specs.Regions.{AreBroughtUp, AreSynced, HasRegions, KeepsOthers};
 ghost use Rattle.dispatch.specs.Received.{received, received_leases, received_saves};
 ghost use Rattle.circuit_server.specs.Answered.{IsAnswer, fails_at};
+ghost use Rattle.circuit_server.specs.Calls.{IsCalledToSaveAt};
 ghost use Rattle.circuit_server.specs.CircuitServerValue.{OpenCircuitValue, kept_slots};
 ghost use Rattle.circuit_server.specs.Ticked.{state_of};
 ghost use Rattle.dispatch.specs.declared.server.OpenFault.TheVariants as fault;
@@ -287,6 +288,9 @@ impl Server {
 
         // What is written: nothing, over every device, where nothing is saved; else the circuit's region, alone over one that tells its bytes.
         ensures frame { WritesAt D.tells (received_saves self.old.topology (delivery proto source now datagram.now) (books_in self.old)) (D.device disk.old) (D.device disk.new) }
+
+        // Over every device: how often it is called.
+        ensures calls { IsCalledToSaveAt (received_saves self.old.topology (delivery proto source now datagram.now) (books_in self.old)) (D.device disk.old) (D.device disk.new) }
     {
         out.clear();
         let delivery = Delivery {

@@ -13,6 +13,7 @@ ghost use Rattle.dispatch.specs.Regions.{HasRegions};
 ghost use Rattle.dispatch.specs.ServerValue.{AreReady, books_in, leases_in};
 ghost use Rattle.config.specs.CircuitPart as parts;
 ghost use Rattle.requests.specs.RelayedMessage.{IsRelayedMessage};
+ghost use Rattle.circuit_server.specs.Calls.{IsCalledToSave};
 ghost use Rattle.circuit_server.specs.Prepared.{IsDropped, IsPrepared, IsSettled};
 ghost use Rattle.circuit_server.specs.Ticked.{state_of};
 
@@ -177,6 +178,9 @@ impl Server {
             (leases_in (D.device disk.old).region self.old) (leases_in (D.device disk.new).region self.new) }
         ensures ready { D.tells ≡ true → AreReady (D.device disk.new).region self.new }
         ensures frame { IsWrittenTogether D.tells (batch_saves self.old.topology (map (λ part. delivery part.0 part.1 now part.2.now) parts.now) (books_in self.old)) (D.device disk.old) (D.device disk.new) }
+
+        // Over every device: how often it is called.
+        ensures calls { IsCalledToSave (batch_saves self.old.topology (map (λ part. delivery part.0 part.1 now part.2.now) parts.now) (books_in self.old)) (D.device disk.old) (D.device disk.new) }
     {
         answers.clear();
         match parts {

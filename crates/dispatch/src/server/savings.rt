@@ -1,7 +1,7 @@
 //! What the parts of a batch save.
 ghost use Rattle.std.specs.Prelude.{◌≡◌, ◌<◌, ◌≤◌, ◌+◌, ◌++◌, [], length};
 ghost use Rattle.std.specs.List.{cons_option};
-ghost use Rattle.batch_saves.specs.Batch.{AreApart, AreReady, part_at};
+ghost use Rattle.batch_saves.specs.Batch.{AreApart, AreReady, batch_calls, failed_of, part_at};
 ghost use Rattle.dispatch.specs.Parts.{AreSavedTogether, saved_by};
 
 use batch_saves::{MAX_BATCH, Saving, save_many};
@@ -85,7 +85,8 @@ impl Savings {
     pub(super) fn save<D: Disk>(&mut self, disk: &mut D)
         requires apart { AreApart self.old }
         requires ready { AreReady D.tells (D.device disk.old) self.old }
-        ensures { AreSavedTogether D.tells self.old self.new (D.device disk.old) (D.device disk.new) }
+        ensures saved { AreSavedTogether D.tells self.old self.new (D.device disk.old) (D.device disk.new) }
+        ensures calls { (D.device disk.new).writes ≡ (D.device disk.old).writes + batch_calls (failed_of self.new) }
     {
         if let Some(places) = &mut self.places {
             save_many(&mut places[..self.count], disk);

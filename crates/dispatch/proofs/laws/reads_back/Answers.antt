@@ -4,7 +4,6 @@ use Rattle.std.specs.Result.{result_map_both}
 use Rattle.types.specs.Delivery.{DeliveryValue}
 use Rattle.types.specs.declared.addr.Addr6.{Addr6}
 use Rattle.types.specs.declared.dest.Proto.{Proto}
-use Rattle.types.specs.declared.dest.Proto.TheVariants.{V6}
 use Rattle.types.specs.declared.discard.Discard.{Discard}
 use Rattle.types.specs.declared.request6.Reply6.{Reply6}
 use Rattle.types.specs.declared.request6.ReplyIa.{ReplyIa}

@@ -1,6 +1,9 @@
-use Rattle.std.proofs.Common.{◌∙◌, ◌==◌, ◌&&◌, not, ap, sym}
-use Rattle.circuit_server.proofs.AnswerLemmas.{fails_as, writes_as}
-use Rattle.circuit_server.proofs.PreparedLemmas.{alone_cause, alone_fails, alone_here, alone_ok, alone_saved, alone_stays, alone_touches, answered_own, came, case, not_not, prepared_ready, settled}
+use Rattle.std.proofs.Common.{◌∙◌, ◌==◌, ◌&&◌, ℕ, not, ap, refl, subst, sym}
+use Rattle.std.specs.Prelude.{Option}
+use Rattle.circuit_server.specs.Calls.{IsCalledToSaveAt}
+use Rattle.circuit_server.proofs.AnswerLemmas.{fails_as, saves_so, writes_as}
+use Rattle.circuit_server.proofs.CalledLemmas.{called_none}
+use Rattle.circuit_server.proofs.PreparedLemmas.{alone_called, alone_cause, alone_fails, alone_here, alone_ok, alone_saved, alone_stays, alone_touches, answered_own, came, case, not_not, prepared_ready, settled}
 use Rattle.circuit_server.proofs.circuit_server.CircuitServer.answer.Goals as goal
 
 -- ---- the datagram is dropped
@@ -12,6 +15,11 @@ returns-in-Err-clause-leases g c tells =
 
 pub returns-in-Err-clause-ready : goal.returns-in-Err-clause-ready
 returns-in-Err-clause-ready g c tells = c.in-Err.ensures.dropped.ready ((g.D.Disk.device c.args.disk.now).region c.args.part.now.region) (c.requires.ready tells)
+
+pub returns-in-Err-clause-calls : goal.returns-in-Err-clause-calls
+returns-in-Err-clause-calls g c =
+    let device = g.D.Disk.device c.args.disk.now in
+    subst (λ (region : Option ℕ). IsCalledToSaveAt region device device) (sym c.in-Err.ensures.dropped.saves) (called_none device device refl)
 
 -- ---- it is prepared, saved and settled
 
@@ -80,6 +88,14 @@ returns-clause-writes g c =
     writes_as (case c.args.part.now c.args.delivery.now c.args.self.now c.prepare.new.self c.in-Ok.prepared p) g.D.Disk.tells was later
     (alone_stays c.args.part.now c.args.delivery.now c.args.self.now c.prepare.new.self c.in-Ok.prepared p g.D.Disk.tells was later c.save_alone-saved.result c.save_alone-saved.ensures.nothing c.save_alone-saved.ensures.saved)
     (alone_touches c.args.part.now c.args.delivery.now c.args.self.now c.prepare.new.self c.in-Ok.prepared p g.D.Disk.tells was later c.save_alone-saved.result c.save_alone-saved.ensures.nothing c.save_alone-saved.ensures.saved)
+
+pub returns-clause-calls : goal.returns-clause-calls
+returns-clause-calls g c =
+    let p = c.in-Ok.ensures.prepared in
+    let was = g.D.Disk.device c.args.disk.now in
+    let later = g.D.Disk.device c.save_alone-saved.new.disk in
+    subst (λ (region : Option ℕ). IsCalledToSaveAt region was later) (sym (saves_so (case c.args.part.now c.args.delivery.now c.args.self.now c.prepare.new.self c.in-Ok.prepared p)))
+    (alone_called c.args.part.now c.args.delivery.now c.args.self.now c.prepare.new.self c.in-Ok.prepared p g.D.Disk.tells was later c.save_alone-saved.result c.save_alone-saved.ensures.nothing c.save_alone-saved.ensures.saved)
 
 pub returns-clause-own : goal.returns-clause-own
 returns-clause-own g c =

@@ -5,6 +5,7 @@ use Rattle.lease_disk.specs.Device.{WritesAt, has_failed}
 use Rattle.circuit_server.specs.Deadlines.{AreOldOrHeld, HasDeadlines}
 use Rattle.circuit_server.specs.Leases.{after_datagram}
 use Rattle.circuit_server.specs.Answered.{IsAnswer, answered, circuit_saves, fails_at}
+use Rattle.circuit_server.specs.Calls.{IsCalledToSaveAt}
 use Rattle.circuit_server.specs.CircuitServerValue.{HasPools, IsReadyFor, OpenCircuitValue, leases_of, open_book}
 use Rattle.circuit_server.specs.Ticked.{IsLater, state_at, state_of}
 use Rattle.dispatch.proofs.TickLemmas.{at_is_later, shown_at, shown_new, shown_others}
@@ -85,6 +86,12 @@ returns-clause-writes g c =
     let old = g.D.Disk.device c.args.disk.now in
     let new = g.D.Disk.device c.answer.new.disk in
     subst (λ (state : Option OpenCircuitValue). WritesAt g.D.Disk.tells (circuit_saves c.args.delivery.now (Some c.args.part.now) (Some (option_map open_book state))) old new) (sym (shown g c)) c.answer.ensures.writes
+
+pub returns-clause-calls : goal.returns-clause-calls
+returns-clause-calls g c =
+    let old = g.D.Disk.device c.args.disk.now in
+    let new = g.D.Disk.device c.answer.new.disk in
+    subst (λ (state : Option OpenCircuitValue). IsCalledToSaveAt (circuit_saves c.args.delivery.now (Some c.args.part.now) (Some (option_map open_book state))) old new) (sym (shown g c)) c.answer.ensures.calls
 
 pub returns-clause-frame : goal.returns-clause-frame
 returns-clause-frame g c = c.answer.ensures.frame

@@ -16,10 +16,12 @@ use Rattle.dispatch.specs.Batch.{is_circuit}
 use Rattle.dispatch.specs.Deadlines.{KeepsDeadlines}
 use Rattle.dispatch.specs.Received.{Received, addressee_answered, addressee_leases, addressee_saves, received, received_leases, received_saves}
 use Rattle.circuit_server.specs.Answered.{IsAnswer, fails_at}
+use Rattle.circuit_server.specs.Calls.{IsCalledToSaveAt}
 use Rattle.circuit_server.specs.CircuitServerValue.{CircuitServerValue, HasItsPools, IsReady, IsReadyFor, OpenCircuitValue, book_of, leases_of, part_of}
 use Rattle.dispatch.specs.ServerValue.{HoldsDeadlines, ServerValue, books_in, circuits_in, leases_in, with_states}
 use Rattle.circuit_server.specs.Ticked.{state_of}
 use Rattle.circuit_server.proofs.AnswerLemmas.{because_err, because_ok, not_more}
+use Rattle.circuit_server.proofs.CalledLemmas.{called_none}
 use Rattle.dispatch.proofs.HeldDeadlines.{aside, kept_all, kept_beside, one_held}
 use Rattle.dispatch.proofs.PartLemmas.{not_both, same_number}
 use Rattle.dispatch.proofs.ReceivedLemmas.{received_at, leases_at, saves_at}
@@ -60,6 +62,12 @@ returns-in-Err-clause-leases g c tells =
     let s = c.args.self.now in
     let device = g.D.Disk.device c.args.disk.now in
     ap (addressee_leases s.topology (refused g c) device.fuse (leases_in device.region s)) (sym (none_of g c))
+
+pub returns-in-Err-clause-calls : goal.returns-in-Err-clause-calls
+returns-in-Err-clause-calls g c =
+    let s = c.args.self.now in
+    let device = g.D.Disk.device c.args.disk.now in
+    subst (λ r. IsCalledToSaveAt (addressee_saves s.topology (refused g c) (books_in s) r) device device) (sym (none_of g c)) (called_none device device refl)
 
 pub returns-in-Err-clause-deadlines : goal.returns-in-Err-clause-deadlines
 returns-in-Err-clause-deadlines g c = kept_all _ c.args.self.now.deadlines
@@ -214,6 +222,18 @@ returns-clause-frame g c =
     subst P c.self.view_is
     (subst Q (sym (saves_at (topology g c) (asks g c) c.index-index.result x.part (found g c) (there_in g c) (map book_of items) (book_of x) (its book_of g c)))
     c.answer.ensures.writes)
+
+pub returns-clause-calls : goal.returns-clause-calls
+returns-clause-calls g c =
+    let old = g.D.Disk.device c.args.disk.now in
+    let new = g.D.Disk.device c.answer.new.disk in
+    let x = asked g c in
+    let items = before g c in
+    let P : ServerValue → Type 0 = λ s. IsCalledToSaveAt (received_saves s.topology (asks g c) (books_in s)) old new in
+    let Q : Option ℕ → Type 0 = λ region. IsCalledToSaveAt region old new in
+    subst P c.self.view_is
+    (subst Q (sym (saves_at (topology g c) (asks g c) c.index-index.result x.part (found g c) (there_in g c) (map book_of items) (book_of x) (its book_of g c)))
+    c.answer.ensures.calls)
 
 pub returns-clause-leases : goal.returns-clause-leases
 returns-clause-leases g c tells =

@@ -15,7 +15,7 @@ returns-clause-received g c =
     let part = c.args.part.now in
     let made = c.receive-made in
     received_batch_of_one g.D.Disk.tells (delivery part.0 part.1 c.args.now part.2.now) c.args.self.now made.new.self (g.D.Disk.device c.args.disk.now) (g.D.Disk.device made.new.disk) made.result made.new.out c.push.new.self
-    made.ensures.answer made.ensures.books made.ensures.fails made.ensures.leases made.ensures.ready made.ensures.frame
+    made.ensures.answer made.ensures.books made.ensures.fails made.ensures.leases made.ensures.ready made.ensures.frame made.ensures.calls
     (c.push.ensures ∙ ap (λ (xs : List (Result (List ℕ) Discard)). xs ++ answer_of c.of.result ∷ []) c.requires.none ∙ ap (λ a. a ∷ []) c.of.ensures)
 
 pub returns-clause-deadlines : goal.returns-clause-deadlines

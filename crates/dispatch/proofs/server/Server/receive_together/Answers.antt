@@ -50,7 +50,7 @@ done g c =
     let parts = c.prepare_all.new.batch.parts.items in
     received_batch c.args.self.now (map (λ part. delivery part.0 part.1 c.args.now part.2.now) c.args.parts.now) (length c.args.parts.now) c.prepare_all.new.batch.named.items c.prepare_all.new.self.states parts
     (length-map c.args.parts.now _) made.made sound size c.answer_all.new.self (c.answer_all.ensures.topology ∙ made.topology) c.save.new.self g.D.Disk.tells (g.D.Disk.device c.args.disk.now) (g.D.Disk.device c.save.new.disk)
-    (subst (λ (ss : List Saving). AreSavedTogether g.D.Disk.tells ss c.save.new.self (g.D.Disk.device c.args.disk.now) (g.D.Disk.device c.save.new.disk)) made.savings c.save.ensures)
+    (subst (λ (ss : List Saving). AreSavedTogether g.D.Disk.tells ss c.save.new.self (g.D.Disk.device c.args.disk.now) (g.D.Disk.device c.save.new.disk)) made.savings c.save.ensures.saved) c.save.ensures.calls
     c.answer_all.new.answers (subst (λ (t : Topology). AreAnswered t parts c.save.new.self (length parts) c.prepare_all.new.self.states c.answer_all.new.self.states c.answer_all.new.answers) made.topology ended) c.requires.ready
 
 pub returns-clause-received : goal.returns-clause-received
