@@ -1,14 +1,22 @@
 -- That the table has the deadlines of all circuits.
 use Rattle.std.proofs.Common.{◌≡◌, ℕ, zero, suc, ◌+◌, ◌*◌, ◌<◌, ◌≤◌, ◌==◌, nat_le, nat_lt, Bool, true, false, List, [], ◌∷◌, length, map, set, get_or, refl, sym, ap, subst, ◌∙◌, arith, inl, inr}
-use Rattle.std.specs.Prelude.{Option, Some, None, slice_get, if◌then◌else◌, ◌⊎◌}
+use Rattle.std.specs.Prelude.{Option, Some, None, Result, slice_get, slice_set, if◌then◌else◌, ◌⊎◌}
 use Rattle.std.proofs.lemmas.List.{length-set}
 use Rattle.timers.specs.Deadlines.{DeadlinesValue, deadline, entry_after_sweep}
-use Rattle.circuit_server.specs.Deadlines.{HasDeadlines, SameBeside, held_in}
+use Rattle.types.specs.declared.discard.Discard.{Discard}
+use Rattle.lease_disk.specs.declared.device.Fault.{Fault}
+use Rattle.lease_disk.specs.declared.marks.Marks.{Marks}
+use Rattle.config.specs.CircuitPart.{CircuitPart}
+use Rattle.circuit_server.specs.Deadlines.{AreOldOrHeld, HasDeadlines, SameBeside, held_in}
+use Rattle.circuit_server.specs.Prepared.{IsSettled}
+use Rattle.circuit_server.specs.Ticked.{state_of}
+use Rattle.circuit_server.specs.declared.prepared.Prepared.{Prepared}
 use Rattle.circuit_server.proofs.DeadlineLemmas.{after_sweep_at}
-use Rattle.dispatch.specs.Deadlines.{AreSetAnew, KeepsDeadlines}
+use Rattle.circuit_server.proofs.PreparedLemmas.{answered_own}
+use Rattle.dispatch.specs.Deadlines.{AllAreOldOrHeld, AreSetAnew, KeepsDeadlines}
 use Rattle.dispatch.specs.ServerValue.{HoldsDeadlines}
 use Rattle.circuit_server.specs.CircuitServerValue.{OpenCircuitValue}
-use Rattle.std.proofs.lemmas.Option.{same_Some, slice_get_within}
+use Rattle.std.proofs.lemmas.Option.{get_or_from_slice_get, same_Some, slice_get-get_or, slice_get_within}
 
 get_set_same : {X : Type 0} (xs : List X) (i : ℕ) (y : X) → i < length xs → slice_get (set xs i y) i ≡ Some y
 get_set_same [] i y within = absurd (omega (arith, within))
@@ -59,6 +67,42 @@ kept_both among old middle new one other = record { looks = other.looks ∙ one.
 
 pub kept_all : (among : ℕ → Bool) (table : DeadlinesValue) → KeepsDeadlines among table table
 kept_all among table = record { looks = refl; others = λ c s is below. refl }
+
+-- ---- what was so before, or is held now
+
+-- one circuit's are so, and those of the others stay
+pub held_all : (k : ℕ) (states : List (Option OpenCircuitValue)) (own : Option OpenCircuitValue) (old new : DeadlinesValue) → own ≡ state_of states k → SameBeside (32 * k) old new → AreOldOrHeld (32 * k) old new own
+    → AllAreOldOrHeld old new states
+held_all k states own old new is same one c state there s below = by (c == k) refl where
+  by : (b : Bool) → (c == k) ≡ b → (deadline new (32 * c + s) ≡ deadline old (32 * c + s)) ⊎ (deadline new (32 * c + s) ≡ held_in state s)
+  by true e =
+      let at : c ≡ k = grind arith in
+      let own_is : own ≡ state = is ∙ ap (state_of states) (sym at) ∙ get_or_from_slice_get states c state None there in
+      subst (λ n. (deadline new (32 * n + s) ≡ deadline old (32 * n + s)) ⊎ (deadline new (32 * n + s) ≡ held_in state s)) (sym at)
+      (subst (λ (x : Option OpenCircuitValue). (deadline new (32 * k + s) ≡ deadline old (32 * k + s)) ⊎ (deadline new (32 * k + s) ≡ held_in x s)) own_is (one s below))
+  by false e = let other : c ≡ k → ⊥ = λ at. grind arith in inl (same.beside (32 * c + s) (aside c k s other below))
+
+pub then_held : (before middle later held : Option ℕ) → (middle ≡ before) ⊎ (middle ≡ held) → (later ≡ middle) ⊎ (later ≡ held) → (later ≡ before) ⊎ (later ≡ held)
+then_held before middle later held first (inr is) = inr is
+then_held before middle later held (inl same) (inl still) = inl (still ∙ same)
+then_held before middle later held (inr was) (inl still) = inr (still ∙ was)
+
+-- one circuit is settled, and the others stay
+pub settled_all : (k : ℕ) (states left : List (Option OpenCircuitValue)) (own : Option OpenCircuitValue) (before old new : DeadlinesValue) (part : CircuitPart) (prepared : Prepared) (saved : Result (Option Marks) Fault)
+    (result : Result (Unit {0}) Discard) (out : List ℕ) → left ≡ slice_set states k own → k < length states → SameBeside (32 * k) old new → IsSettled part prepared saved (state_of states k) own result out → AreOldOrHeld (32 * k) old new own
+    → HasDeadlines new (32 * k) own → AllAreOldOrHeld before old states → AllAreOldOrHeld before new left
+settled_all k states left own before old new part prepared saved result out is within same settled one has was c state there = by (c == k) refl where
+  by : (b : Bool) → (c == k) ≡ b → AreOldOrHeld (32 * c) before new state
+  by true e =
+      let at : c ≡ k = grind arith in
+      let own_is : own ≡ state = same_Some own state (sym (get_set_same states k own within) ∙ ap (λ (xs : List (Option OpenCircuitValue)). slice_get xs k) (sym is) ∙ ap (slice_get left) (sym at) ∙ there) in
+      let its = was k (state_of states k) (slice_get-get_or states k None within) in
+      subst (λ n. AreOldOrHeld (32 * n) before new state) (sym at)
+      (subst (AreOldOrHeld (32 * k) before new) own_is (answered_own part prepared saved (32 * k) before old new (state_of states k) own result out settled its one has))
+  by false e =
+      let other : c ≡ k → ⊥ = λ at. grind arith in
+      let still = sym (get_set_other states k c own other) ∙ ap (λ (xs : List (Option OpenCircuitValue)). slice_get xs c) (sym is) ∙ there in
+      λ s below. then_held (deadline before (32 * c + s)) (deadline old (32 * c + s)) (deadline new (32 * c + s)) (held_in state s) (was c state still s below) (inl (same.beside (32 * c + s) (aside c k s other below)))
 
 -- ---- all circuits anew, one after the other
 

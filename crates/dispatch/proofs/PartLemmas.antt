@@ -1,11 +1,11 @@
 -- One part of a batch more.
-use Rattle.std.proofs.Common.{inl, inr, ◌≡◌, ◌∙◌, ◌+◌, ◌<◌, ◌≤◌, ◌==◌, ◌||◌, ℕ, zero, suc, Bool, true, false, List, [], ◌∷◌, ◌++◌, length, take, refl, sym, ap, subst, arith}
+use Rattle.std.proofs.Common.{inl, inr, ◌≡◌, ◌∙◌, ◌+◌, ◌*◌, ◌<◌, ◌≤◌, ◌==◌, ◌||◌, ℕ, zero, suc, Bool, true, false, List, [], ◌∷◌, ◌++◌, length, take, refl, sym, ap, subst, arith}
 use Rattle.std.specs.Prelude.{◌⊎◌, Option, Some, None, Result, Ok, Err, slice_get}
 use Rattle.std.specs.List.{list_any}
 use Rattle.std.proofs.lemmas.Bool.{or_right}
 use Rattle.std.proofs.lemmas.List.{get_or-set_other, length-set}
 use Rattle.std.proofs.lemmas.List.Folds.{list_any_more}
-use Rattle.std.proofs.lemmas.Option.{get_or_from_slice_get, same_Some, slice_get_within}
+use Rattle.std.proofs.lemmas.Option.{get_or_from_slice_get, same_Some, slice_get-get_or, slice_get_within}
 use Rattle.types.specs.Delivery.{DeliveryValue}
 use Rattle.types.specs.declared.discard.Discard.{Discard}
 use Rattle.config.specs.Topology.{Topology}
@@ -14,11 +14,12 @@ use Rattle.circuit_server.specs.CircuitServerValue.{OpenCircuitValue}
 use Rattle.circuit_server.specs.Prepared.{IsDropped, IsPrepared}
 use Rattle.circuit_server.specs.Ticked.{state_of}
 use Rattle.circuit_server.specs.declared.prepared.Prepared.{Prepared}
-use Rattle.timers.specs.Deadlines.{DeadlinesValue}
+use Rattle.timers.specs.Deadlines.{DeadlinesValue, deadline}
+use Rattle.circuit_server.specs.Deadlines.{held_in}
 use Rattle.dispatch.specs.Batch.{is_circuit, is_named}
-use Rattle.dispatch.specs.Deadlines.{KeepsDeadlines}
+use Rattle.dispatch.specs.Deadlines.{AllAreOldOrHeld, KeepsDeadlines}
 use Rattle.dispatch.specs.Parts.{AreDecided, IsDecided, IsOf, IsPart, has_named}
-use Rattle.dispatch.proofs.HeldDeadlines.{kept_both, kept_wider}
+use Rattle.dispatch.proofs.HeldDeadlines.{kept_both, kept_wider, then_held}
 
 module _ {A : Type 0} (f : A → Bool) where
   -- one place more of a list
@@ -156,6 +157,20 @@ module _ (topology : Topology) (ds : List DeliveryValue) (i : ℕ) (d : Delivery
         let so = sym (any_more (λ x. is_circuit c (addressee topology x)) ds i d here) ∙ none in
         keeps part is c (inr (right_false (is_named topology (take i ds) c) (is_circuit c (addressee topology d)) so)) ∙ made.others c (left_false (is_named topology (take i ds) c) (is_circuit c (addressee topology d)) so);
   }
+
+  -- the deadlines of a circuit that no part before was of are those from before the batch
+  pub held_more : (start middle later : DeadlinesValue) → KeepsDeadlines (is_named topology (take i ds)) start middle → AllAreOldOrHeld start middle now → AllAreOldOrHeld middle later new → AllAreOldOrHeld start later new
+  held_more start middle later kept before step k state there s below = by (is_named topology (take i ds) k) refl where
+    by : (b : Bool) → is_named topology (take i ds) k ≡ b → (deadline later (32 * k + s) ≡ deadline start (32 * k + s)) ⊎ (deadline later (32 * k + s) ≡ held_in state s)
+    by true e =
+        let inside = slice_get_within new k state there in
+        let size = sizes part is in
+        let at = slice_get-get_or now k None (omega (arith, inside, size)) in
+        let same : state_of now k ≡ state = sym (keeps part is k (inl e)) ∙ get_or_from_slice_get new k state None there in
+        then_held (deadline start (32 * k + s)) (deadline middle (32 * k + s)) (deadline later (32 * k + s)) (held_in state s)
+        (subst (λ (x : Option OpenCircuitValue). (deadline middle (32 * k + s) ≡ deadline start (32 * k + s)) ⊎ (deadline middle (32 * k + s) ≡ held_in x s)) same (before k (state_of now k) at s below)) (step k state there s below)
+    by false e =
+        then_held (deadline start (32 * k + s)) (deadline middle (32 * k + s)) (deadline later (32 * k + s)) (held_in state s) (inl (kept.others k s e below)) (step k state there s below)
 
 -- before the first part
 pub made_none : (topology : Topology) (ds : List DeliveryValue) (states : States) → AreDecided topology ds 0 [] states states []

@@ -154,6 +154,7 @@ impl CircuitServers {
         ensures pools { HasPools part.now (state_of self.new index) }
         ensures deadlines { HasDeadlines table.new (32 * index) (state_of self.new index) }
         ensures beside { SameBeside (32 * index) table.old table.new }
+        ensures own { AreOldOrHeld (32 * index) table.old table.new (state_of self.new index) }
         ensures prepared { IfOk result (IsPrepared part.now delivery.now (state_of self.old index) (state_of self.new index)) }
         ensures dropped { IfErr result (IsDropped part.now delivery.now (state_of self.old index) (state_of self.new index)) }
     {
@@ -183,6 +184,7 @@ impl CircuitServers {
         ensures pools { HasPools part.now (state_of self.new index) }
         ensures deadlines { HasDeadlines table.new (32 * index) (state_of self.new index) }
         ensures beside { SameBeside (32 * index) table.old table.new }
+        ensures own { AreOldOrHeld (32 * index) table.old table.new (state_of self.new index) }
         ensures settled { IsSettled part.now prepared.now saved (state_of self.old index) (state_of self.new index) result out.new }
     {
         let ticked = self.ticked;

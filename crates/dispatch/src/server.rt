@@ -3,10 +3,10 @@ ghost use Rattle.std.specs.Prelude.{◌≡◌, ◌<◌, ◌≤◌, ◌+◌, ◌*
 ghost use Rattle.config.specs.CircuitPart.{parts_of};
 ghost use Rattle.config.specs.Topology.{IsTopology, plans_topology, reloaded, serves, topology_of};
 ghost use Rattle.requests.specs.Addressee as who;
-ghost use Rattle.circuit_server.specs.Deadlines.{AreOldOrHeld, held_in};
+ghost use Rattle.circuit_server.specs.Deadlines.{held_in};
 ghost use Rattle.circuit_server.specs.SlotsOfPools.{HasItsSlots};
 ghost use Rattle.dispatch.specs.Batch.{is_circuit};
-ghost use Rattle.dispatch.specs.Deadlines.{AreSetAnew, KeepsDeadlines};
+ghost use Rattle.dispatch.specs.Deadlines.{AllAreOldOrHeld, AreSetAnew, KeepsDeadlines};
 ghost use Rattle.dispatch.specs.ServerValue.{AreReady, HoldsDeadlines, books_in, circuits_in, leases_in};
 ghost use Rattle.circuit_server.specs.Leases.{Leases, after_tick, found_leases, turned};
 ghost use Rattle.dispatch.specs.Regions.{AreBroughtUp, AreSynced, HasRegions, KeepsOthers};
@@ -279,7 +279,7 @@ impl Server {
 
         // No deadline is looked at, and those of every other circuit stay. Each is what it was, or until when its slot is held now.
         ensures deadlines { KeepsDeadlines (λ c. is_circuit c (who.addressee self.old.topology (delivery proto source now datagram.now))) self.old.deadlines self.new.deadlines }
-        ensures held { (c : ℕ) (state : Option OpenCircuitValue) → slice_get self.new.states c ≡ Some state → AreOldOrHeld (32 * c) self.old.deadlines self.new.deadlines state }
+        ensures held { AllAreOldOrHeld self.old.deadlines self.new.deadlines self.new.states }
 
         // Over a device that tells its bytes: when the save fails, and what restarts then find.
         ensures fails { D.tells ≡ true → (r : ℕ) → has_failed (D.device disk.old) (D.device disk.new) r ≡ fails_at (D.device disk.old).fuse (received_saves self.old.topology (delivery proto source now datagram.now) (books_in self.old)) r }

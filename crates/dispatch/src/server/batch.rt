@@ -4,7 +4,8 @@ ghost use Rattle.types.specs.Delivery.{delivery};
 ghost use Rattle.types.specs.declared.discard.Discard as discard;
 ghost use Rattle.lease_disk.specs.Device.{has_failed, is_in};
 ghost use Rattle.dispatch.specs.Batch.{IsBatch, IsBatchOfLeases, IsWrittenTogether, batch_fault, batch_saves, is_circuit, is_named};
-ghost use Rattle.dispatch.specs.Deadlines.{KeepsDeadlines};
+ghost use Rattle.dispatch.specs.Deadlines.{AllAreOldOrHeld, KeepsDeadlines};
+ghost use Rattle.timers.specs.Deadlines.{DeadlinesValue};
 ghost use Rattle.requests.specs.Addressee as who;
 ghost use Rattle.dispatch.specs.Parts.{AreAnswered, AreDecided, AreToSettle, IsAnswered, IsPart, IsReceivedBatch, IsSettledSo, is_of, has_named, saved_by, saving_in, savings_of};
 ghost use Rattle.batch_saves.specs.Batch.{part_at};
@@ -55,6 +56,7 @@ impl Server {
         ensures topology { self.new.topology ≡ self.old.topology }
         ensures others { self.new.states ≡ slice_set self.old.states circuit (state_of self.new.states circuit) }
         ensures deadlines { KeepsDeadlines (λ c. circuit == c) self.old.deadlines self.new.deadlines }
+        ensures held { AllAreOldOrHeld self.old.deadlines self.new.deadlines self.new.states }
         ensures prepared { (part : parts.CircuitPart) → slice_get self.old.topology.circuits circuit ≡ Some part → IfOk result (IsPrepared part delivery.now (state_of self.old.states circuit) (state_of self.new.states circuit)) }
         ensures dropped { (part : parts.CircuitPart) → slice_get self.old.topology.circuits circuit ≡ Some part → IfErr result (IsDropped part delivery.now (state_of self.old.states circuit) (state_of self.new.states circuit)) }
     {
@@ -76,6 +78,7 @@ impl Server {
         ensures topology { self.new.topology ≡ self.old.topology }
         ensures others { self.new.states ≡ slice_set self.old.states circuit (state_of self.new.states circuit) }
         ensures deadlines { KeepsDeadlines (λ c. circuit == c) self.old.deadlines self.new.deadlines }
+        ensures held { (before : DeadlinesValue) → AllAreOldOrHeld before self.old.deadlines self.old.states → AllAreOldOrHeld before self.new.deadlines self.new.states }
         ensures settled { (part : parts.CircuitPart) → slice_get self.old.topology.circuits circuit ≡ Some part → IsSettled part prepared.now saved (state_of self.old.states circuit) (state_of self.new.states circuit) result out.new }
     {
         out.clear();
@@ -95,6 +98,7 @@ impl Server {
         requires room { length named.old.items < 16 }
         ensures topology { self.new.topology ≡ self.old.topology }
         ensures deadlines { KeepsDeadlines (λ c. is_circuit c (who.addressee self.old.topology delivery.now)) self.old.deadlines self.new.deadlines }
+        ensures held { AllAreOldOrHeld self.old.deadlines self.new.deadlines self.new.states }
         ensures part { IsPart self.old.topology named.old.items delivery.now self.old.states self.new.states result }
         ensures named { (c : ℕ) → has_named named.new.items c ≡ (has_named named.old.items c || is_circuit c (who.addressee self.old.topology delivery.now)) }
         ensures few { length named.new.items ≤ length named.old.items + 1 }
@@ -127,6 +131,7 @@ impl Server {
         requires savings { batch.old.savings ≡ [] }
         ensures topology { self.new.topology ≡ self.old.topology }
         ensures deadlines { KeepsDeadlines (is_named self.old.topology (map (λ part. delivery part.0 part.1 now part.2.now) parts.now)) self.old.deadlines self.new.deadlines }
+        ensures held { AllAreOldOrHeld self.old.deadlines self.new.deadlines self.new.states }
         ensures made { AreDecided self.old.topology (map (λ part. delivery part.0 part.1 now part.2.now) parts.now) (length parts.now) batch.new.named.items self.old.states self.new.states batch.new.parts.items }
         ensures savings { batch.new.savings ≡ savings_of batch.new.parts.items }
     {
@@ -166,8 +171,9 @@ impl Server {
         // Over every device: a save fails where the device counts a failure of the circuit's region.
         ensures answers { IsBatch self.old.topology (map (λ part. delivery part.0 part.1 now part.2.now) parts.now) (has_failed (D.device disk.old) (D.device disk.new)) (books_in self.old) (books_in self.new) answers.new }
 
-        // No deadline is looked at, and those of every circuit that no part is of stay.
+        // No deadline is looked at, and those of every circuit that no part is of stay. Each is what it was, or until when its slot is held now.
         ensures deadlines { KeepsDeadlines (is_named self.old.topology (map (λ part. delivery part.0 part.1 now part.2.now) parts.now)) self.old.deadlines self.new.deadlines }
+        ensures held { AllAreOldOrHeld self.old.deadlines self.new.deadlines self.new.states }
 
         // Over a device that tells its bytes: which saves fail, and what restarts then find.
         ensures fails { D.tells ≡ true → (r : ℕ) → has_failed (D.device disk.old) (D.device disk.new) r
@@ -202,6 +208,7 @@ impl Server {
         requires ready { D.tells ≡ true → AreReady (D.device disk.old).region self.old }
         ensures topology { self.new.topology ≡ self.old.topology }
         ensures deadlines { KeepsDeadlines (is_named self.old.topology (delivery part.now.0 part.now.1 now part.now.2.now ∷ [])) self.old.deadlines self.new.deadlines }
+        ensures held { AllAreOldOrHeld self.old.deadlines self.new.deadlines self.new.states }
         ensures received { IsReceivedBatch D.tells (delivery part.now.0 part.now.1 now part.now.2.now ∷ []) answers.new self.old self.new (D.device disk.old) (D.device disk.new) }
     {
         let mut out = PacketBuf::new();
@@ -223,6 +230,7 @@ impl Server {
         requires ready { D.tells ≡ true → AreReady (D.device disk.old).region self.old }
         ensures topology { self.new.topology ≡ self.old.topology }
         ensures deadlines { KeepsDeadlines (is_named self.old.topology (map (λ part. delivery part.0 part.1 now part.2.now) parts.now)) self.old.deadlines self.new.deadlines }
+        ensures held { AllAreOldOrHeld self.old.deadlines self.new.deadlines self.new.states }
         ensures received { IsReceivedBatch D.tells (map (λ part. delivery part.0 part.1 now part.2.now) parts.now) answers.new self.old self.new (D.device disk.old) (D.device disk.new) }
     {
         let _ = &self.circuits;
@@ -251,6 +259,7 @@ impl Server {
         ensures topology { self.new.topology ≡ self.old.topology }
         ensures others { self.new.states ≡ slice_set self.old.states circuit (state_of self.new.states circuit) }
         ensures deadlines { KeepsDeadlines (λ c. circuit == c) self.old.deadlines self.new.deadlines }
+        ensures held { (before : DeadlinesValue) → AllAreOldOrHeld before self.old.deadlines self.old.states → AllAreOldOrHeld before self.new.deadlines self.new.states }
         ensures answered { (answer : Result (List ℕ) discard.Discard) × (answers.new ≡ answers.old ++ answer ∷ []) × IsSettledSo self.old.topology prepared.now (saved_by prepared.now.saving (part_at savings.now place)) circuit self.old.states self.new.states answer }
     {
         let saved = savings.outcome(prepared.saving, place);
@@ -274,6 +283,7 @@ impl Server {
         ensures size { length self.new.states ≡ length self.old.states }
         ensures keeps { (k : ℕ) → is_of k (Some part.now) ≡ false → state_of self.new.states k ≡ state_of self.old.states k }
         ensures deadlines { KeepsDeadlines (λ c. is_of c (Some part.now)) self.old.deadlines self.new.deadlines }
+        ensures held { (before : DeadlinesValue) → AllAreOldOrHeld before self.old.deadlines self.old.states → AllAreOldOrHeld before self.new.deadlines self.new.states }
         ensures answered { (answer : Result (List ℕ) discard.Discard) × (answers.new ≡ answers.old ++ answer ∷ []) × IsAnswered self.old.topology (part_at savings.now place) self.old.states self.new.states answer part.now }
     {
         match part {
@@ -292,6 +302,7 @@ impl Server {
         requires none { answers.old ≡ [] }
         ensures topology { self.new.topology ≡ self.old.topology }
         ensures deadlines { KeepsDeadlines (λ c. list_any (is_of c) (take (length batch.now.parts.items) batch.now.parts.items)) self.old.deadlines self.new.deadlines }
+        ensures held { (before : DeadlinesValue) → AllAreOldOrHeld before self.old.deadlines self.old.states → AllAreOldOrHeld before self.new.deadlines self.new.states }
         ensures answered { AreAnswered self.old.topology batch.now.parts.items batch.now.savings (length batch.now.parts.items) self.old.states self.new.states answers.new }
     {
         let mut place = 0;

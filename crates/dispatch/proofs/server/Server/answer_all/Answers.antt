@@ -80,6 +80,7 @@ parts-preserved c =
       savings = was.savings;
       place = c.place_after-place.ensures ∙ ap (λ n. n + length (cons_option (saving_in (Some c.in-Some.part)) [])) was.place ∙ sym (place_more parts i (Some c.in-Some.part) there);
       deadlines = kept_answered parts i (Some c.in-Some.part) c.args.self.now.deadlines c.parts.self.deadlines c.answer_part.new.self.deadlines there was.deadlines next.deadlines;
+      held = λ past so. next.held past (was.held past so);
       answered =
           subst (λ (given : List (Result (List ℕ) Discard)). AreAnswered c.args.self.now.topology parts c.args.batch.now.savings (i + 1) c.args.self.now.states c.answer_part.new.self.states given) (sym next.answered.1)
           (answered_more c.args.self.now.topology parts c.args.batch.now.savings i c.args.self.now.states c.parts.self.states c.answer_part.new.self.states c.parts.answers c.in-Some.part there was.settles before next.size next.keeps next.answered.0

@@ -1,13 +1,13 @@
-use Rattle.std.proofs.Common.{◌≡◌, ◌<◌, ◌==◌, List, set, length, sym, ap, subst, ◌∙◌, arith}
+use Rattle.std.proofs.Common.{◌≡◌, ◌<◌, ◌==◌, List, set, length, refl, sym, ap, subst, ◌∙◌, arith}
 use Rattle.std.specs.Prelude.{All, Option, Some, slice_get}
 use Rattle.std.proofs.lemmas.List.{length-set}
 use Rattle.std.proofs.lemmas.List.Elements.{All-set}
 use Rattle.std.proofs.lemmas.Option.{slice_get_within}
 use Rattle.circuit_server.specs.CircuitServerValue.{HasItsPools, OpenCircuitValue}
 use Rattle.circuit_server.specs.Ticked.{state_of}
-use Rattle.dispatch.specs.Deadlines.{KeepsDeadlines}
+use Rattle.dispatch.specs.Deadlines.{AllAreOldOrHeld, KeepsDeadlines}
 use Rattle.dispatch.specs.ServerValue.{HoldsDeadlines, ServerValue, with_states}
-use Rattle.dispatch.proofs.HeldDeadlines.{kept_beside, one_held}
+use Rattle.dispatch.proofs.HeldDeadlines.{held_all, kept_beside, one_held}
 use Rattle.dispatch.proofs.PartLemmas.{not_same}
 use Rattle.dispatch.proofs.TickLemmas.{own_state}
 use Rattle.dispatch.proofs.WithStates.{at_index, server, set_with, there_with}
@@ -41,6 +41,12 @@ invariant_of-self c =
           (one_held index c.self.inside.deadlines c.prepare.new.table states new inside c.self.invariant.1 c.prepare.ensures.deadlines c.prepare.ensures.beside),
       c.self.invariant.2,
     )
+
+pub returns-clause-held : goal.returns-clause-held
+returns-clause-held c =
+    let P : ServerValue → Type 0 = λ s. AllAreOldOrHeld s.deadlines c.prepare.new.table c.prepare.new.self in
+    subst P c.self.view_is
+    (held_all c.index-index.result c.prepare.new.self (state_of c.prepare.new.self c.index-index.result) c.self.inside.deadlines c.prepare.new.table refl c.prepare.ensures.beside c.prepare.ensures.own)
 
 pub returns-clause-deadlines : goal.returns-clause-deadlines
 returns-clause-deadlines c =

@@ -1,10 +1,8 @@
-use Rattle.std.proofs.Common.{◌≡◌, ◌⊎◌, inl, ◌+◌, ◌*◌, ◌<◌, ◌==◌, ℕ, Bool, true, false, List, map, set, length, sym, ap, subst, ◌∙◌, arith, Err, refl}
-use Rattle.std.specs.Prelude.{Option, Some, None, Result, Ok, slice_get, option_map, All}
+use Rattle.std.proofs.Common.{◌≡◌, inl, ◌<◌, ◌==◌, ℕ, false, List, map, set, length, sym, ap, subst, ◌∙◌, arith, Err, refl}
+use Rattle.std.specs.Prelude.{Option, Some, Result, Ok, slice_get, option_map, All}
 use Rattle.std.proofs.lemmas.List.{length-set, map-set}
 use Rattle.std.proofs.lemmas.List.Elements.{All-set}
-use Rattle.std.proofs.lemmas.Option.{get_or_from_slice_get, slice_get-map, slice_get_within}
-use Rattle.timers.specs.Deadlines.{DeadlinesValue, deadline}
-use Rattle.circuit_server.specs.Deadlines.{AreOldOrHeld, SameBeside, held_in}
+use Rattle.std.proofs.lemmas.Option.{slice_get-map, slice_get_within}
 use Rattle.types.specs.Delivery.{DeliveryValue, delivery}
 use Rattle.types.specs.declared.discard.Discard.{Discard}
 use Rattle.config.specs.CircuitPart.{CircuitPart}
@@ -13,7 +11,7 @@ use Rattle.lease_disk.specs.Device.{WritesAt, has_failed}
 use Rattle.requests.specs.Addressee.{addressee}
 use Rattle.circuit_server.specs.Leases.{formats_of, restarts_of}
 use Rattle.dispatch.specs.Batch.{is_circuit}
-use Rattle.dispatch.specs.Deadlines.{KeepsDeadlines}
+use Rattle.dispatch.specs.Deadlines.{AllAreOldOrHeld, KeepsDeadlines}
 use Rattle.dispatch.specs.Received.{Received, addressee_answered, addressee_leases, addressee_saves, received, received_leases, received_saves}
 use Rattle.circuit_server.specs.Answered.{IsAnswer, fails_at}
 use Rattle.circuit_server.specs.Calls.{IsCalledToSaveAt}
@@ -22,7 +20,7 @@ use Rattle.dispatch.specs.ServerValue.{HoldsDeadlines, ServerValue, books_in, ci
 use Rattle.circuit_server.specs.Ticked.{state_of}
 use Rattle.circuit_server.proofs.AnswerLemmas.{because_err, because_ok, not_more}
 use Rattle.circuit_server.proofs.CalledLemmas.{called_none}
-use Rattle.dispatch.proofs.HeldDeadlines.{aside, kept_all, kept_beside, one_held}
+use Rattle.dispatch.proofs.HeldDeadlines.{held_all, kept_all, kept_beside, one_held}
 use Rattle.dispatch.proofs.PartLemmas.{not_both, same_number}
 use Rattle.dispatch.proofs.ReceivedLemmas.{received_at, leases_at, saves_at}
 use Rattle.dispatch.proofs.ServerLemmas.{all_moved, one_moved}
@@ -272,23 +270,11 @@ returns-clause-deadlines g c =
     (kept_beside k (λ n. is_circuit n (addressee (topology g c) (asks g c))) c.self.inside.deadlines c.answer.new.table
     (λ n none. not_named k n (addressee (topology g c) (asks g c)) (found g c) none) c.answer.ensures.beside)
 
--- one circuit's are so, and those of the others stay
-held_all : (k : ℕ) (states : List (Option OpenCircuitValue)) (own : Option OpenCircuitValue) (old new : DeadlinesValue) → own ≡ state_of states k → SameBeside (32 * k) old new → AreOldOrHeld (32 * k) old new own
-    → (c : ℕ) (state : Option OpenCircuitValue) → slice_get states c ≡ Some state → AreOldOrHeld (32 * c) old new state
-held_all k states own old new is same one c state there s below = by (c == k) refl where
-  by : (b : Bool) → (c == k) ≡ b → (deadline new (32 * c + s) ≡ deadline old (32 * c + s)) ⊎ (deadline new (32 * c + s) ≡ held_in state s)
-  by true e =
-      let at : c ≡ k = grind arith in
-      let own_is : own ≡ state = is ∙ ap (state_of states) (sym at) ∙ get_or_from_slice_get states c state None there in
-      subst (λ n. (deadline new (32 * n + s) ≡ deadline old (32 * n + s)) ⊎ (deadline new (32 * n + s) ≡ held_in state s)) (sym at)
-      (subst (λ (x : Option OpenCircuitValue). (deadline new (32 * k + s) ≡ deadline old (32 * k + s)) ⊎ (deadline new (32 * k + s) ≡ held_in x s)) own_is (one s below))
-  by false e = let other : c ≡ k → ⊥ = λ at. grind arith in inl (same.beside (32 * c + s) (aside c k s other below))
-
 pub returns-in-Err-clause-held : goal.returns-in-Err-clause-held
 returns-in-Err-clause-held g c = λ k state there s below. inl refl
 
 pub returns-clause-held : goal.returns-clause-held
 returns-clause-held g c =
     let k = c.index-index.result in
-    let P : ServerValue → Type 0 = λ v. (n : ℕ) (state : Option OpenCircuitValue) → slice_get c.answer.new.self n ≡ Some state → AreOldOrHeld (32 * n) v.deadlines c.answer.new.table state in
+    let P : ServerValue → Type 0 = λ v. AllAreOldOrHeld v.deadlines c.answer.new.table c.answer.new.self in
     subst P c.self.view_is (held_all k c.answer.new.self (answered_state g c) c.self.inside.deadlines c.answer.new.table refl c.answer.ensures.beside c.answer.ensures.own)

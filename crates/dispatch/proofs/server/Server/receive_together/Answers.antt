@@ -56,6 +56,9 @@ done g c =
 pub returns-clause-received : goal.returns-clause-received
 returns-clause-received g c = done g c
 
+pub returns-clause-held : goal.returns-clause-held
+returns-clause-held g c = c.answer_all.ensures.held c.args.self.now.deadlines c.prepare_all.ensures.held
+
 pub returns-clause-deadlines : goal.returns-clause-deadlines
 returns-clause-deadlines g c =
     let made = c.prepare_all.ensures in

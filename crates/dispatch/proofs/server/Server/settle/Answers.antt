@@ -5,9 +5,9 @@ use Rattle.std.proofs.lemmas.List.Elements.{All-set}
 use Rattle.std.proofs.lemmas.Option.{slice_get_within}
 use Rattle.circuit_server.specs.CircuitServerValue.{HasItsPools, OpenCircuitValue}
 use Rattle.circuit_server.specs.Ticked.{state_of}
-use Rattle.dispatch.specs.Deadlines.{KeepsDeadlines}
+use Rattle.dispatch.specs.Deadlines.{AllAreOldOrHeld, KeepsDeadlines}
 use Rattle.dispatch.specs.ServerValue.{HoldsDeadlines, ServerValue, with_states}
-use Rattle.dispatch.proofs.HeldDeadlines.{kept_beside, one_held}
+use Rattle.dispatch.proofs.HeldDeadlines.{kept_beside, one_held, settled_all}
 use Rattle.dispatch.proofs.PartLemmas.{not_same}
 use Rattle.dispatch.proofs.TickLemmas.{own_state}
 use Rattle.dispatch.proofs.WithStates.{at_index, server, set_with, there_with}
@@ -41,6 +41,19 @@ invariant_of-self c =
           (one_held index c.self.inside.deadlines c.settle.new.table states new inside c.self.invariant.1 c.settle.ensures.deadlines c.settle.ensures.beside),
       c.self.invariant.2,
     )
+
+pub returns-clause-held : goal.returns-clause-held
+returns-clause-held c = λ before.
+    let parts = c.self.inside.circuits.circuits in
+    let states = c.self.inside.servers in
+    let index = c.index-index.result in
+    let part = c.part-part.result.now in
+    let there : slice_get parts index ≡ Some part = ap (slice_get parts) c.index-index.ensures.value ∙ c.part-part.ensures in
+    let inside : index < length states = omega (arith, c.self.invariant.0.size, slice_get_within parts index part there) in
+    let P : ServerValue → Type 0 = λ s. AllAreOldOrHeld before s.deadlines s.states → AllAreOldOrHeld before c.settle.new.table c.settle.new.self in
+    subst P c.self.view_is
+    (settled_all index states c.settle.new.self (state_of c.settle.new.self index) before c.self.inside.deadlines c.settle.new.table part c.args.prepared.now c.args.saved c.settle.result c.settle.new.out
+    c.settle.ensures.others inside c.settle.ensures.beside c.settle.ensures.settled c.settle.ensures.own c.settle.ensures.deadlines)
 
 pub returns-clause-deadlines : goal.returns-clause-deadlines
 returns-clause-deadlines c =
