@@ -5,8 +5,9 @@ use Rattle.types.specs.declared.discard.Discard.{Discard}
 use Rattle.types.specs.declared.discard.Discard.TheVariants.{BatchTwice}
 use Rattle.lease_disk.specs.FileDisk.{FileDiskValue, device_of}
 use Rattle.lease_disk.specs.Device.{has_failed}
-use Rattle.dispatch.specs.Batch.{IsBatch}
-use Rattle.dispatch.specs.Received.{Received, received}
+use Rattle.circuit_server.specs.Calls.{IsCalledToSave, IsCalledToSaveAt}
+use Rattle.dispatch.specs.Batch.{IsBatch, batch_saves}
+use Rattle.dispatch.specs.Received.{Received, received, received_saves}
 use Rattle.dispatch.specs.ServerValue.{ServerValue, books_in}
 use Rattle.udp.specs.History.{Entry}
 use Rattle.udp.specs.declared.history.Role.TheVariants as role
@@ -37,9 +38,11 @@ pub record StaysServing (old new : Serving) : Type 0 where
   pub topology : new.server.topology ≡ old.server.topology
   pub regions : new.disk.regions ≡ old.disk.regions
 
--- The server receives all that were taken as one batch, and answers nothing yet.
+-- The server receives all that were taken as one batch, and answers nothing yet. Its device is called for what the batch saves, and for
+-- nothing else.
 pub record IsReceived (taken : List DeliveryValue) (answers : List (Result (List ℕ) Discard)) (old new : Serving) : Type 0 where
   pub batch : IsBatch old.server.topology taken (failed_in old new) (books_in old.server) (books_in new.server) answers
+  pub calls : IsCalledToSave (batch_saves old.server.topology taken (books_in old.server)) (device_of old.disk) (device_of new.disk)
   pub rest : new ≡ record old { server = new.server; disk = new.disk }
   pub stays : StaysServing old new
 
@@ -88,11 +91,12 @@ abbrev pub made_of : DeliveryValue → Serving → Serving → Received
 made_of d old new = received old.server.topology d (failed_in old new) (books_in old.server)
 
 -- The answer goes from the server's socket to where the datagram came from, and the books are those after it, where the save failed
--- or not.
+-- or not. The device is called for that save, and for nothing else.
 pub record IsAnswered (d : DeliveryValue) (old new : Serving) : Type 0 where
   pub rest : List Entry
   pub became : Outcome
   pub books : books_in new.server ≡ (made_of d old new).books
+  pub calls : IsCalledToSaveAt (received_saves old.server.topology d (books_in old.server)) (device_of old.disk) (device_of new.disk)
   pub goes_on : GoesOn (role.Server d.proto) d.source outcome.Answered (made_of d old new).answer rest became
   pub counts : new.counts ≡ counted became old.counts
   pub history : new.history ≡ old.history ++ rest
