@@ -1,24 +1,13 @@
 -- What the server receives: all datagrams of a turn at once, and those that are repeated alone.
-use Rattle.std.proofs.Common.{◌≡◌, ◌+◌, ◌<◌, ◌≤◌, ℕ, suc, true, false, List, [], ◌∷◌, length, refl, sym, subst, arith}
+use Rattle.std.proofs.Common.{◌≡◌, ◌+◌, ◌<◌, ℕ, suc, true, false, List, length, refl, sym, subst, arith}
 use Rattle.std.specs.Prelude.{Some, Result, slice_get}
 use Rattle.std.proofs.lemmas.List.{length-map}
 use Rattle.types.specs.Delivery.{DeliveryValue}
 use Rattle.types.specs.declared.discard.Discard.{Discard}
-use Rattle.access.specs.Batch.{AreReceived, AreReceivedAgain, IsAnswered, IsReceived, IsReceivedAgain, IsReceivedAgainAt, Serving, is_repeated}
+use Rattle.access.specs.Batch.{AreReceivedAgain, IsAnswered, IsReceivedAgain, IsReceivedAgainAt, Serving, is_repeated}
 use Rattle.access.specs.Taken.{all_delivered, delivered}
 use Rattle.access.specs.declared.datagrams.Datagram.{Datagram}
 use Rattle.access.proofs.UpLemmas.{is_there}
-
--- ---- all at once
-
-pub none_received : (now : ℕ) (taken : List Datagram) (answers : List (Result (List ℕ) Discard)) (old : Serving) → length taken ≡ 0 → AreReceived (all_delivered now taken) answers old old
-none_received now [] answers old none = refl
-none_received now (d ∷ taken) answers old none = absurd (omega (arith, none))
-
-pub some_received : (now : ℕ) (taken : List Datagram) (answers : List (Result (List ℕ) Discard)) (old new : Serving) → 1 ≤ length taken → IsReceived (all_delivered now taken) answers old new
-    → AreReceived (all_delivered now taken) answers old new
-some_received now [] answers old new some received = absurd (omega (arith, some))
-some_received now (d ∷ taken) answers old new some received = received
 
 -- ---- those that are repeated
 

@@ -27,9 +27,6 @@ carried_topology Try n a b carried = ap (λ (s : AccessValue). s.topology) carri
 pub carried_port : (Try : Tries) (n : ℕ) (a b : AccessValue) → HasCarried Try n a b → b.port ≡ a.port
 carried_port Try n a b carried = ap (λ (s : AccessValue). s.port) carried.after
 
-pub carried_batch : (Try : Tries) (n : ℕ) (a b : AccessValue) → HasCarried Try n a b → b.batch ≡ a.batch
-carried_batch Try n a b carried = ap (λ (s : AccessValue). s.batch) carried.after
-
 pub carried_then : (First Second : Tries) (m n : ℕ) (a b c : AccessValue) → HasCarried First m a b → HasCarried Second n b c → HasCarried (Both First Second) (m + n) a c
 carried_then First Second m n a b c first second = record {
   entries = first.entries ++ second.entries;

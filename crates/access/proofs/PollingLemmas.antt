@@ -7,7 +7,7 @@ use Rattle.types.specs.declared.dest.Proto.{Proto}
 use Rattle.types.specs.declared.dest.Proto.TheVariants.{V4, V6}
 use Rattle.udp.specs.History.{Entry, Took, Empty, Failed, Sent, Ticked, Refused, Read}
 use Rattle.udp.specs.declared.history.Role.TheVariants.{Circuit, Server, Relay}
-use Rattle.access.specs.Taken.{HasTaken, HasTriedNext, all_delivered}
+use Rattle.access.specs.Taken.{HasTriedNext, all_delivered}
 use Rattle.access.specs.Polling.{AreTries, IsNext, after_tries, after_try, again, begun, deliveries_in, delivery_in, may_wait, next_of, other, server_socket, waiting_at}
 use Rattle.access.specs.declared.datagrams.Datagram.{Datagram}
 use Rattle.access.specs.declared.polling.Polling.{Polling}
@@ -32,9 +32,6 @@ after_more : (p : Polling) (entries : List Entry) (entry : Entry) → after_trie
 after_more p [] entry = refl
 after_more p (e ∷ entries) entry = after_more (after_try e p) entries entry
 
-pub polled_none : (most : ℕ) (first : Proto) (history : List Entry) → history ≡ history ++ [] → HasPolled most first (begun most first) [] history history
-polled_none most first history same = record { entries = []; tries = tt; state_is = refl; history = same; datagrams = λ now. refl }
-
 pub polled_more : (most : ℕ) (first proto : Proto) (before after : Polling) (taken more : List Datagram) (old middle new : List Entry)
     → HasPolled most first before taken old middle → HasTriedNext proto before after taken more middle new → HasPolled most first after more old new
 polled_more most first proto before after taken more old middle new polled tried = record {
@@ -43,14 +40,6 @@ polled_more most first proto before after taken more old middle new polled tried
   state_is = tried.state ∙ ap (after_try tried.entry) polled.state_is ∙ sym (after_more (begun most first) polled.entries tried.entry);
   history = tried.history ∙ ap (λ h. h ++ tried.entry ∷ []) polled.history ∙ append_assoc old polled.entries (tried.entry ∷ []);
   datagrams = λ now. tried.datagrams now ∙ ap (λ ds. ds ++ deliveries_in now (tried.entry ∷ [])) (polled.datagrams now) ∙ sym (filter_map-append (delivery_in now) polled.entries (tried.entry ∷ []));
-}
-
-pub polled_all : (most : ℕ) (first : Proto) (state : Polling) (taken : List Datagram) (old new : List Entry) → HasPolled most first state taken old new → None ≡ next_of state → HasTaken most first state.first taken old new
-polled_all most first state taken old new polled none = record {
-  entries = polled.entries;
-  polled = record { tries = polled.tries; done = sym (none ∙ ap next_of polled.state_is); next_first = ap (λ (p : Polling). p.first) (sym polled.state_is) };
-  history = polled.history;
-  datagrams = polled.datagrams;
 }
 
 -- ---- the tries come to an end
@@ -91,9 +80,6 @@ next_is p proto is = by (chosen (p.left == 0) (may_wait (waiting_at p.first p)) 
       → (0 < p.left) × (may_wait (waiting_at proto p) ≡ true)
   by (some, inl (same, may)) = (some_left p.left some, subst (λ t. may_wait (waiting_at t p) ≡ true) same may)
   by (some, inr (same, may)) = (some_left p.left some, subst (λ t. may_wait (waiting_at t p) ≡ true) same may)
-
-pub next_left : (p : Polling) (proto : Proto) → next_of p ≡ Some proto → 0 < p.left
-next_left p proto is = (next_is p proto is).0
 
 -- a try of a socket at which a datagram may wait
 fewer_by : (p : Polling) (entry : Entry) (proto : Proto) → 0 < p.left → may_wait (waiting_at proto p) ≡ true → server_socket entry ≡ Some proto → tries_left (after_try entry p) < tries_left p

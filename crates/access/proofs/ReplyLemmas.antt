@@ -89,9 +89,6 @@ replied_at taken answers j d answer before after old new there its tried = recor
 
 -- ---- all
 
-pub tried_none : (Try : ℕ → Tries) (counts : Counts) (history : List Entry) → HasTried (InOrder Try 0) counts counts history history
-tried_none Try counts history = record { entries = []; outcomes = []; tried = (refl, refl); counts = refl; history = sym (append-nil history) }
-
 tried_next : (Try : ℕ → Tries) (n : ℕ) (a b c : Counts) (old middle new : List Entry) → HasTried (InOrder Try n) a b old middle → HasTried (Try n) b c middle new → HasTried (InOrder Try (suc n)) a c old new
 tried_next Try n a b c old middle new first second = record {
   entries = first.entries ++ second.entries;

@@ -7,7 +7,7 @@ use Rattle.types.specs.declared.dest.Proto.{Proto}
 use Rattle.types.specs.declared.dest.Proto.TheVariants.{V4, V6}
 use Rattle.types.specs.declared.discard.Discard.{Discard}
 use Rattle.config.specs.CircuitPart.{CircuitPart}
-use Rattle.config.specs.Topology.{Topology, listen}
+use Rattle.config.specs.Topology.{Topology}
 use Rattle.circuit_server.specs.Answered.{IsAnswer}
 use Rattle.relay.specs.Relays.{relayed_up}
 use Rattle.udp.specs.Socket.{SocketValue}
@@ -59,9 +59,3 @@ relays_own topology port history sockets bound r within there found is =
     let one = is_there topology.relays r within in
     let at : slice_get sockets.relays.items r ≡ Some found = slice_get-get_or sockets.relays.items r found there ∙ ap Some (sym is) in
     (one.0, bound.relays r one.0 found one.1 at)
-
--- the server's socket of a protocol is its own
-pub servers_own : (topology : Topology) (port history : ℕ) (sockets : Sockets) → AreBound topology port history sockets → (proto : Proto) (socket : SocketValue)
-    → (proto ≡ V4 → socket ≡ sockets.listen4) → (proto ≡ V6 → socket ≡ sockets.listen6) → IsBound socket (role.Server proto) (listen topology proto) history
-servers_own topology port history sockets bound V4 socket four six = subst (λ s. IsBound s (role.Server V4) topology.listen4 history) (sym (four refl)) bound.listen4
-servers_own topology port history sockets bound V6 socket four six = subst (λ s. IsBound s (role.Server V6) topology.listen6 history) (sym (six refl)) bound.listen6

@@ -51,14 +51,6 @@ was_saving tells step c was now old new write zero = by (was == 0) refl where
       let some : was ≢ 0 = λ z. absurd (grind (arith, e, z)) in
       absurd (some (sym (write.out some).0 ∙ zero))
 
-pub was_unsynced : (tells : Bool) (step : SaveStep) (fails : Bool) (was now : ℕ) (old new : Seen) → IsSyncOf tells step fails was now old new → now ≡ 0 → was ≡ 0
-was_unsynced tells step fails was now old new sync zero = by (was == 0) refl where
-  by : (b : Bool) → (was == 0) ≡ b → was ≡ 0
-  by true e = grind (arith, e)
-  by false e =
-      let some : was ≢ 0 = λ z. absurd (grind (arith, e, z)) in
-      absurd (some (sym (sync.out some).0 ∙ zero))
-
 -- ---- the whole step
 
 module _ (tells : Bool) (step : SaveStep) (was mid now : List Saving) (old between new : Device)

@@ -1,5 +1,5 @@
 -- The sync of a step, for every part that is still saving.
-use Rattle.std.proofs.Common.{Result, Ok, Err, is_ok, OnOk, OnErr, not, ◌≡◌, ◌≢◌, ℕ, ◌+◌, ◌-◌, ◌<◌, ◌==◌, if◌then◌else◌, Bool, true, false, ◌||◌, List, [], ◌∷◌, ◌++◌, length, eq-eqb, refl, sym, ap, ◌∙◌, subst, arith}
+use Rattle.std.proofs.Common.{Result, Ok, Err, is_ok, OnOk, OnErr, not, ◌≡◌, ◌≢◌, ℕ, ◌+◌, ◌-◌, ◌<◌, ◌==◌, if◌then◌else◌, Bool, true, false, ◌||◌, List, [], ◌∷◌, length, eq-eqb, refl, sym, ap, ◌∙◌, subst, arith}
 use Rattle.std.specs.List.{list_any}
 use Rattle.std.proofs.lemmas.Bool.{false≢true}
 use Rattle.std.proofs.lemmas.List.Folds.{list_any_at}
@@ -22,19 +22,6 @@ or_true false = refl
 pub record AreBelow (parts : List Saving) (n : ℕ) (regions : List ℕ) : Type 0 where
   pub each : (i : ℕ) → i < n → (part_at parts i).failed ≡ 0 → is_in regions (part_at parts i).region ≡ true
   pub only : (q : ℕ) → is_in regions q ≡ true → (i : ℕ) × ((i < n) × ((part_at parts i).failed ≡ 0) × ((part_at parts i).region ≡ q))
-
-pub below_none : (parts : List Saving) → AreBelow parts 0 []
-below_none parts = record { each = λ i below. absurd (omega (arith, below)); only = λ q there. absurd cc }
-
-in_push : (xs : List ℕ) (x q : ℕ) → is_in (xs ++ x ∷ []) q ≡ (is_in xs q || (x == q))
-in_push [] x q = by (x == q) where
-  by : (b : Bool) → (b || false) ≡ b
-  by true = refl
-  by false = refl
-in_push (y ∷ ys) x q = ap (λ b. (y == q) || b) (in_push ys x q) ∙ by (y == q) (is_in ys q) (x == q) where
-  by : (a b c : Bool) → (a || (b || c)) ≡ ((a || b) || c)
-  by true b c = refl
-  by false b c = refl
 
 -- ---- one of a list
 

@@ -1,5 +1,5 @@
 //! The sync of a step, one for all parts that are still saving.
-ghost use Rattle.std.specs.Prelude.{◌≡◌, ◌≢◌, ℕ, ◌<◌, ◌≤◌, ◌+◌, ◌==◌, if◌then◌else◌, length};
+ghost use Rattle.std.specs.Prelude.{◌≡◌, ℕ, ◌<◌, ◌≤◌, ◌+◌, ◌==◌, if◌then◌else◌, length};
 ghost use Rattle.std.specs.List.{list_any};
 ghost use Rattle.batch_saves.specs.Batch.{AreApart, part_at};
 ghost use Rattle.batch_saves.specs.Steps.{AreSaving, AreSynced, KeepsOthers, is_saving};

@@ -1,5 +1,5 @@
 //! The writes of a step, one for each part that is still saving.
-ghost use Rattle.std.specs.Prelude.{◌≡◌, ◌<◌, ◌≤◌, ◌+◌, ◌==◌, if◌then◌else◌, count_by};
+ghost use Rattle.std.specs.Prelude.{◌≡◌, ◌<◌, ◌+◌, ◌==◌, if◌then◌else◌, count_by};
 ghost use Rattle.batch_saves.specs.Seen.{KeepsBeside, seen};
 ghost use Rattle.batch_saves.specs.Batch.{AreApart};
 ghost use Rattle.batch_saves.specs.Steps.{AreWritable, AreWritten, IsWritable, IsWrittenPart, KeepsOthers, call_of, is_saving};

@@ -240,11 +240,6 @@ kept6_aside : {K : Type 0} (keep : Option KeptSlot6) (table : DeadlinesValue) (f
 kept6_aside None table first clock ss has = has
 kept6_aside (Some kept) table first clock ss has = put_others table first clock (first + (16 + kept.slot)) (option_map until_of (slots6.holder_of kept.content)) ss (inr (omega arith)) has
 
--- a decision moves no clock
-pub clock_of_decision : (d : CircuitDecision) (o : OpenCircuitValue) → (with_decision d o).clock ≡ o.clock
-clock_of_decision (V4 m d) o = refl
-clock_of_decision (V6 forward m client d) o = refl
-
 offer_inside : (change : Option OfferChange) (clock count : ℕ) → count ≤ 16 → IfSome change (IsOffer clock count) → IfSome change IsOfferIn
 offer_inside None clock count few its = tt
 offer_inside (Some (offer.Made i k u)) clock count few its = omega (arith, few, its.0)

@@ -4,7 +4,6 @@ use Rattle.std.specs.Prelude.{Option, Some, None, option_map, is_some, Result, O
 use Rattle.std.proofs.lemmas.Bool.{eq-eqb, eqb-true, leb-true}
 use Rattle.types.specs.Delivery.{DeliveryValue}
 use Rattle.types.specs.declared.discard.Discard.{Discard}
-use Rattle.types.specs.declared.discard.Discard.TheVariants.{CircuitClosed}
 use Rattle.config.specs.CircuitPart.{CircuitPart}
 use Rattle.lease_disk.specs.declared.content.Content.{Content}
 use Rattle.lease_disk.specs.declared.device.Fault.{Fault}
@@ -242,9 +241,6 @@ module _ (part : CircuitPart) (d : DeliveryValue) (old new : Option OpenCircuitV
         by (Some kept) is = let one = some_is kept is in (one.saved told, one.answer told, one.marks)
 
 -- ---- datagrams that are dropped
-
-pub closed_dropped : (part : CircuitPart) (d : DeliveryValue) (old : Option OpenCircuitValue) → old ≡ None → IsDropped part d old old CircuitClosed
-closed_dropped part d old is = subst (λ (state : Option OpenCircuitValue). IsDropped part d state state CircuitClosed) (sym is) (record { answers = λ fails. refl; saves = refl; leases = λ region fault. refl; ready = λ region ready. ready })
 
 pub refused_dropped : (part : CircuitPart) (d : DeliveryValue) (old : Option OpenCircuitValue) (o later : OpenCircuitValue) (why : Discard) → old ≡ Some o → open_book later ≡ book_at d.moment (open_book o)
     → datagram_served part d.proto d.bytes (open_book later) ≡ drop why (open_book later) → ((region : Region) → IsReadyFor region (Some o) → IsReadyFor region (Some later)) → IsDropped part d old (Some later) why

@@ -133,13 +133,6 @@ kept_fits : (d : CircuitDecision) (o : OpenCircuitValue) → KeepsItsSlot d o �
 kept_fits (V4 m decision) o keeps = fits4 decision.keep o.four.pool.count keeps.1 keeps.2
 kept_fits (V6 forward m client decision) o keeps = fits6 decision.keep o.six.pool.count keeps.1 keeps.2
 
-first_part : {A : Type 0} → (P Q : A → Type 0) (x : Option A) → IfSome x (λ y. P y × Q y) → IfSome x P
-first_part P Q None h = tt
-first_part P Q (Some y) h = h.0
-
-pub few_kept : (d : CircuitDecision) (o : OpenCircuitValue) → KeepsItsSlot d o → IfSome (kept_in d) (λ kept. kept.0 < 32)
-few_kept d o keeps = first_part (λ (kept : ℕ × Content). kept.0 < 32) (λ kept. Fits kept.0 kept.1) (kept_in d) (kept_fits d o keeps)
-
 pub is_fit : (d : CircuitDecision) (o : OpenCircuitValue) (s : ℕ) (changed : Content) → KeepsItsSlot d o → kept_in d ≡ Some (s, changed) → Fits s changed
 is_fit d o s changed keeps e = (subst (λ (x : Option (ℕ × Content)). IfSome x (λ kept. (kept.0 < 32) × Fits kept.0 kept.1)) e (kept_fits d o keeps)).1
 

@@ -1,5 +1,5 @@
 //! What a circuit's server makes of a datagram before anything is saved.
-ghost use Rattle.std.specs.Prelude.{◌≡◌, true, Ok, None, IfSome};
+ghost use Rattle.std.specs.Prelude.{◌≡◌, Ok, None, IfSome};
 ghost use Rattle.batch_saves.specs.Batch.{IsReady};
 ghost use Rattle.circuit_server.specs.Prepared.{IsSavedAlone};
 

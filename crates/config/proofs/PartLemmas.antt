@@ -1,5 +1,5 @@
 -- A circuit's part, from the values that a configuration keeps.
-use Rattle.std.proofs.Common.{◌≡◌, ◌<◌, ◌+◌, ◌-◌, ◌%◌, ◌^◌, ℕ, zero, suc, Bool, true, false, List, [], ◌∷◌, ◌++◌, length, take, refl, sym, ap, subst, ◌∙◌, arith}
+use Rattle.std.proofs.Common.{◌≡◌, ◌+◌, ◌-◌, ◌%◌, ◌^◌, ℕ, zero, suc, Bool, true, false, List, [], ◌∷◌, ◌++◌, length, take, refl, sym, ap, subst, ◌∙◌, arith}
 use Rattle.std.specs.Prelude.{Option, None, Some, All, slice_get, option_map}
 use Rattle.std.specs.Int.{w32, from_be_bytes}
 use Rattle.std.proofs.Math.Nat.{zero-mod}
@@ -22,12 +22,6 @@ use Rattle.settings.specs.declared.settings.ServerConfig.{ServerConfig}
 -- what holds of each element holds of the one at an index
 pub all_at : {X : Type 0} (P : X → Type 0) (xs : List X) (i : ℕ) (x : X) → slice_get xs i ≡ Some x → All P xs → P x
 all_at P xs i x there each = subst P (get_or_from_slice_get xs i x x there) (All-get_or P xs i x (slice_get_within xs i x there) each)
-
--- within a list there is an element
-pub some_within : {X : Type 0} (xs : List X) (i : ℕ) → i < length xs → slice_get xs i ≡ None → ⊥
-some_within [] i within none = omega (arith, within)
-some_within (x ∷ xs) zero within none = cc
-some_within (x ∷ xs) (suc i) within none = some_within xs i (omega (arith, within)) none
 
 -- 0.0.0.0 is the number 0
 unspecified_is_zero : (address : Addr4) → is_unspecified address.0 ≡ true → number4 address ≡ 0

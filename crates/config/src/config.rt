@@ -1,8 +1,8 @@
 //! A configuration that keeps every rule.
-ghost use Rattle.std.specs.Prelude.{◌≡◌, ◌<◌, ◌≤◌, length, All, IfOk, IfErr, IfSome, IfNone, slice_get, ℕ, Some};
+ghost use Rattle.std.specs.Prelude.{◌≡◌, ◌<◌, length, All, IfOk, IfErr, IfSome, IfNone, slice_get, ℕ, Some};
 ghost use Rattle.toml.specs.Parse.{parse_document};
 ghost use Rattle.toml.specs.View.{table_view};
-ghost use Rattle.config.specs.Rules.{IsSound, IsIdAt, KeepsRules};
+ghost use Rattle.config.specs.Rules.{IsSound, IsIdAt};
 ghost use Rattle.settings.specs.Settings.{IsServerWithinLimits, IsRelayWithinLimits, IsWithinLimits};
 ghost use Rattle.config.specs.Union.{has_circuit};
 ghost use Rattle.config.specs.Valid.{IsConfig, IsFaultOf};

@@ -1,5 +1,5 @@
 //! What differs between configurations of one server.
-ghost use Rattle.std.specs.Prelude.{◌≡◌, ◌↔◌, ◌<◌, ◌≤◌, ℕ, List, length, slice_index_or, All, AllPairs, IfSome, IfNone, IsTrue};
+ghost use Rattle.std.specs.Prelude.{◌≡◌, ◌↔◌, ◌<◌, ℕ, length, slice_index_or, All, AllPairs, IfSome, IfNone, IsTrue};
 ghost use Rattle.settings.specs.Settings.{Settings};
 ghost use Rattle.config.specs.Differences.{SharesServer, CircuitsAgree, ServerKeyDiffers, RelayKeyDiffers, CircuitKeyDiffers, RelayDiffers, PartDiffers, IsServerDifference, IsDifferentIn, CircuitDiffers, IsCircuitDifference};
 

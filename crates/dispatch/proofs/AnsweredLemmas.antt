@@ -1,9 +1,8 @@
 -- One part of a batch more is answered.
 use Rattle.std.proofs.Common.{◌≡◌, ◌∙◌, ◌+◌, ◌<◌, ◌==◌, ◌||◌, ℕ, Bool, true, false, List, [], ◌∷◌, ◌++◌, length, take, refl, sym, ap, subst, arith}
-use Rattle.std.specs.Prelude.{Option, Some, None, Result, Ok, Err, slice_get, slice_set}
+use Rattle.std.specs.Prelude.{Option, Some, Result, Ok, Err, slice_get}
 use Rattle.std.specs.List.{list_any}
 use Rattle.std.proofs.lemmas.Bool.{eqb-true}
-use Rattle.std.proofs.lemmas.List.{get_or-set_other, length-set}
 use Rattle.std.proofs.lemmas.Option.{same_Some}
 use Rattle.types.specs.declared.discard.Discard.{Discard}
 use Rattle.lease_disk.specs.declared.device.Fault.{Fault}
@@ -96,18 +95,6 @@ module _ (topology : Topology) (parts : List (Option Part)) (savings : List Savi
         let so = sym (any_more (is_of c) parts i (Some part) here) ∙ none in
         keeps c (right_false (list_any (is_of c) (take i parts)) (is_of c (Some part)) so) ∙ was.others c (left_false (list_any (is_of c) (take i parts)) (is_of c (Some part)) so);
   }
-
-pub answered_none : (topology : Topology) (parts : List (Option Part)) (savings : List Saving) (states : States) → AreAnswered topology parts savings 0 states states []
-answered_none topology parts savings states = record { size = refl; count = refl; each = λ j part less there. absurd (omega (arith, less)); others = λ c none. refl }
-
--- one circuit's state was set
-pub set_keeps : (c : ℕ) (now new : States) (prepared : Prepared) → new ≡ slice_set now c (state_of new c) → (k : ℕ) → is_of k (Some (Ok (c, prepared))) ≡ false → state_of new k ≡ state_of now k
-set_keeps c now new prepared set_so k none =
-    let apart : k ≡ c → ⊥ = λ same. not_both (ap (λ n. c == n) same ∙ same_number c) none in
-    ap (λ (s : States). state_of s k) set_so ∙ get_or-set_other now c k (state_of new c) None apart
-
-pub set_size : (c : ℕ) (now new : States) → new ≡ slice_set now c (state_of new c) → length new ≡ length now
-set_size c now new set_so = ap (λ (s : States). length s) set_so ∙ length-set now c (state_of new c)
 
 -- the deadlines of every circuit of which nothing is to be settled stay
 pub kept_answered : (parts : List (Option Part)) (i : ℕ) (x : Option Part) (old now new : DeadlinesValue) → slice_get parts i ≡ Some x → KeepsDeadlines (λ k. list_any (is_of k) (take i parts)) old now

@@ -1,6 +1,6 @@
 -- Lists of circuits' servers.
-use Rattle.std.proofs.Common.{◌≡◌, ℕ, zero, suc, ◌+◌, ◌<◌, ◌≤◌, ◌↔◌, Bool, true, not, cond, List, [], ◌∷◌, ◌++◌, map, length, take, drop, get_or, set, refl, sym, ap, subst, ◌∙◌, arith}
-use Rattle.std.specs.List.{All, position_or_len}
+use Rattle.std.proofs.Common.{◌≡◌, ℕ, zero, suc, ◌+◌, ◌<◌, ◌≤◌, ◌↔◌, Bool, true, List, [], ◌∷◌, ◌++◌, map, length, take, drop, get_or, set, refl, sym, ap, subst, ◌∙◌, arith}
+use Rattle.std.specs.List.{All}
 use Rattle.std.specs.Prelude.{Some, None, is_some, option_map, nat_lt, slice_get, slice_index_or}
 use Rattle.std.proofs.lemmas.Bool.{ltb-true}
 use Rattle.std.proofs.lemmas.Option.{same_Some, none-some, slice_get-map, slice_get_past, slice_get_read}
@@ -11,10 +11,6 @@ use Rattle.circuit_server.specs.Leases.{Leases}
 use Rattle.circuit_server.specs.CircuitServerValue.{CircuitServerValue, book_of, leases_of, part_of}
 use Rattle.std.proofs.lemmas.List.{length-map, length-take-le, map-append, get_or-map, take_more}
 use Rattle.std.proofs.Math.Seq.{take-append_seam, drop-cons, get_or-append_seam}
-
-first_of_map : {A B : Type 0} (p : B → Bool) (f : A → B) (xs : List A) → position_or_len p (map f xs) ≡ position_or_len (λ x. p (f x)) xs
-first_of_map p f [] = refl
-first_of_map p f (x ∷ xs) = ap (λ n. cond (not (p (f x))) (1 + n) 0) (first_of_map p f xs)
 
 -- One more element of a list is changed, as f sees it, by t.
 module _ {A B : Type 0} (f : A → B) (t : B → B) (old : List B) (xs : List A) (i : ℕ) (x y : A) (within : i < length xs) (size : length xs ≡ length old)

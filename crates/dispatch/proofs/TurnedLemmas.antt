@@ -1,7 +1,7 @@
 -- What is left of circuits that turn off, and that every other one stays as it is.
-use Rattle.std.proofs.Common.{◌≡◌, ℕ, zero, suc, ◌+◌, ◌*◌, ◌<◌, ◌≤◌, ◌==◌, nat_lt, Bool, true, false, List, [], ◌∷◌, length, map, set, refl, sym, ap, subst, ◌∙◌, arith}
+use Rattle.std.proofs.Common.{◌≡◌, ℕ, zero, suc, ◌+◌, ◌*◌, ◌<◌, ◌==◌, nat_lt, Bool, true, false, List, [], ◌∷◌, length, map, set, refl, sym, ap, subst, ◌∙◌, arith}
 use Rattle.std.specs.Prelude.{◌&&◌, All, if◌then◌else◌, not, Option, Some, None, option_map, slice_get}
-use Rattle.std.proofs.lemmas.List.{get_or_past, get_or-set_other, get_or-set_same, length-set}
+use Rattle.std.proofs.lemmas.List.{get_or-set_other, get_or-set_same, length-set}
 use Rattle.std.proofs.lemmas.Option.{none-some, same_Some, slice_get-map, slice_get_within}
 use Rattle.types.specs.declared.dest.Proto.{Proto}
 use Rattle.types.specs.declared.dest.Proto.TheVariants.{V4, V6}
@@ -13,7 +13,7 @@ use Rattle.timers.specs.Deadlines.{DeadlinesValue, deadline}
 use Rattle.bindings_v4.proofs.OfferLemmas.{same_kept, shown_without}
 use Rattle.bindings_v6.specs.Slots6 as slots6
 use Rattle.circuit_server.specs.Deadlines.{HasDeadlines, SameBeside, held_in}
-use Rattle.dispatch.specs.ServerValue.{HoldsDeadlines, with_states}
+use Rattle.dispatch.specs.ServerValue.{with_states}
 use Rattle.circuit_server.specs.Leases.{Leases, formats_of, restarts_of, turned}
 use Rattle.circuit_server.specs.Server.{kept_book}
 use Rattle.circuit_server.specs.CircuitServerValue.{CircuitServerValue, HasItsPools, IsReady, IsReadyFor, OpenCircuitValue, leases_of, open_book}
@@ -54,11 +54,6 @@ leases_turned true true regions part state = refl
 leases_turned true false regions part state =
     λ i. record { book = book_unoffered state i; restarts = restarts_of part (regions part.region); is_new = formats_of (regions part.region) }
 
--- a closed circuit stays closed
-none_turned : (off : Bool) → state_turned off None ≡ None
-none_turned true = refl
-none_turned false = refl
-
 -- a circuit that is served as before does not turn off
 pub as_before : (before now : Bool) → before ≡ now → (before && not now) ≡ false
 as_before false now same = refl
@@ -98,16 +93,6 @@ after_all off n c below = let less : nat_lt c n ≡ true = grind (arith, below) 
 and_false : (b : Bool) → (b && false) ≡ false
 and_false true = refl
 and_false false = refl
-
-pub none_off : (off : ℕ → Bool) (states : List (Option OpenCircuitValue)) (table : DeadlinesValue) → HoldsDeadlines table states → AreTurned (so_far off 0) states states table table
-none_off off states table holds = record {
-  count = refl;
-  states = λ c. sym (ap (λ b. state_turned b (state_of states c)) (at_first off c));
-  left = λ c s within is below. absurd (let both = sym is ∙ at_first off c in cc);
-  others = λ c s is below. refl;
-  looks = refl;
-  held = holds;
-}
 
 -- one more that stays
 pub one_stays : (off : ℕ → Bool) (n : ℕ) (old new : List (Option OpenCircuitValue)) (before after : DeadlinesValue) → off n ≡ false
@@ -175,24 +160,6 @@ module _ (off : ℕ → Bool) (n : ℕ) (old mid : List (Option OpenCircuitValue
     looks = same.looks ∙ are.looks;
     held = one_held n table after mid its within are.held has same;
   }
-
-pub all_turned : (off : ℕ → Bool) (n : ℕ) (old new : List (Option OpenCircuitValue)) (before after : DeadlinesValue) → length old ≤ n
-    → AreTurned (so_far off n) old new before after → AreTurned off old new before after
-all_turned off n old new before after whole are =
-    record {
-      count = are.count;
-      states = λ c. at c (nat_lt c n) refl;
-      left = λ c s inside is below. are.left c s inside (after_all off n c (omega (arith, inside, are.count, whole)) ∙ is) below;
-      others = λ c s is below. are.others c s (ap (λ b. nat_lt c n && b) is ∙ and_false (nat_lt c n)) below;
-      looks = are.looks;
-      held = are.held;
-    } where
-      at : (c : ℕ) (b : Bool) → nat_lt c n ≡ b → state_of new c ≡ state_turned (off c) (state_of old c)
-      at c true e = are.states c ∙ ap (λ b. state_turned (b && off c) (state_of old c)) e
-      at c false e =
-          let past : n ≤ c = grind arith in
-          let none : state_of old c ≡ None = get_or_past old c None (omega (arith, past, whole)) in
-          get_or_past new c None (omega (arith, past, whole, are.count)) ∙ sym (none_turned (off c)) ∙ ap (state_turned (off c)) (sym none)
 
 -- ---- what shows of all circuits
 

@@ -25,16 +25,14 @@ use Rattle.world.specs.Headline.{CircuitState}
 use Rattle.world.specs.Start.{Opening, begins_on, setup_in}
 use Rattle.world.proofs.SetupLemmas.{its_part, setup_at}
 use Rattle.lab_text.specs.declared.parse_line.ParsedLine.{ParsedLine}
-use Rattle.lab_text.specs.declared.parse_line.ParsedLine.TheVariants as parsed_line
-use Rattle.events.specs.declared.comeback.Comeback.{Comeback}
 use Rattle.streams.specs.declared.line.LineEnd.TheVariants.{Newline, EndOfInput, TooLong}
 use Rattle.lab.specs.Preparations.{IsReady, AreReady, IsOpening, AreOver, ArePrepared, PreparedSoFar}
 use Rattle.lab.specs.Follows.{AllRepresent, SoFar}
 use Rattle.lab.specs.Lab.{first_machines, first_openings, lab_from, lab_output, loaded, or_begin, output_from, prepared, with_opening}
-use Rattle.lab_text.specs.Line.{Line, line_of_text}
+use Rattle.lab_text.specs.Line.{line_of_text}
 use Rattle.streams.specs.LineEnd.{Fits, HoldsLine, HoldsLast, HoldsLong, IsLast, IsLine}
 use Rattle.streams.specs.Lines.{lacks, lines_of}
-use Rattle.lab_text.specs.ParsedLine.{IsRestart, line_of}
+use Rattle.lab_text.specs.ParsedLine.{line_of}
 use Rattle.streams.proofs.CutLemmas.{line_before, line_begins, line_last}
 use Rattle.lab.proofs.LineResultLemmas.{long_is}
 use Rattle.streams.proofs.ReadLemmas.{consumes_none, consumes_more}
@@ -66,13 +64,6 @@ Changes region old new = ChangesOne true region (device_of old) (device_of new)
 
 pub but_one : (region : ℕ) (old new : ModelDiskValue) → SameBut region old new → Changes region old new
 but_one region old new others = record { count = others.count; region = λ tells q apart. ap region_of (others.others q apart); fuse = λ tells q apart. others.fuses q apart }
-
-pub change_twice : (region : ℕ) (old mid new : ModelDiskValue) → Changes region old mid → Changes region mid new → Changes region old new
-change_twice region old mid new first second = record {
-  count = second.count ∙ first.count;
-  region = λ tells q apart. second.region tells q apart ∙ first.region tells q apart;
-  fuse = λ tells q apart. second.fuse tells q apart ∙ first.fuse tells q apart;
-}
 
 pub ready_after : (region : ℕ) (old new : ModelDiskValue) → Changes region old new → (IsReady (state_of old region) → IsReady (state_of new region))
     → AreReady (length old.regions) (state_of old) → AreReady (length new.regions) (state_of new)
@@ -170,28 +161,6 @@ module _ (plans : PlansValue) (sound : IsSound plans.union) (c : ℕ) (circuit :
 pub prepared_as : (plans : PlansValue) (quota : ℕ) (device : Device) (parsed : ParsedLine) (is : ParsedLine) (bytes : List ℕ) (openings : ℕ → Opening) → parsed ≡ is
     → ArePrepared plans quota device (prepared (line_of is bytes) openings) → ArePrepared plans quota device (prepared (line_of parsed bytes) openings)
 prepared_as plans quota device parsed is bytes openings e h = subst (λ p. ArePrepared plans quota device (prepared (line_of p bytes) openings)) (sym e) h
-
--- ---- a line that was parsed
-
-pub restart_begins : (comebacks : List Comeback) (line : Line) (openings : ℕ → Opening) → IsRestart comebacks line → prepared line openings ≡ None
-restart_begins comebacks line openings h = ap (λ l. prepared l openings) h.is
-
-pub others_begin : (parsed : ParsedLine) (bytes : List ℕ) (openings : ℕ → Opening) → (parsed ≡ parsed_line.Ignored → ⊥) → ((c byte : ℕ) → parsed ≡ parsed_line.Fill c byte → ⊥)
-    → ((c : ℕ) → parsed ≡ parsed_line.Old c → ⊥) → ((c at len : ℕ) → parsed ≡ parsed_line.Load c at len → ⊥) → ((c fault : ℕ) → parsed ≡ parsed_line.Move c fault → ⊥)
-    → prepared (line_of parsed bytes) openings ≡ None
-others_begin parsed_line.Ignored bytes openings ignored fill old load move = absurd (ignored refl)
-others_begin parsed_line.Bad bytes openings ignored fill old load move = refl
-others_begin (parsed_line.Fill c byte) bytes openings ignored fill old load move = absurd (fill c byte refl)
-others_begin (parsed_line.Old c) bytes openings ignored fill old load move = absurd (old c refl)
-others_begin (parsed_line.Load c at len) bytes openings ignored fill old load move = absurd (load c at len refl)
-others_begin (parsed_line.Move c fault) bytes openings ignored fill old load move = absurd (move c fault refl)
-others_begin (parsed_line.Frame c proto len) bytes openings ignored fill old load move = refl
-others_begin (parsed_line.Up c j now fault) bytes openings ignored fill old load move = refl
-others_begin (parsed_line.Down c j) bytes openings ignored fill old load move = refl
-others_begin (parsed_line.Tick now) bytes openings ignored fill old load move = refl
-others_begin (parsed_line.Reload plan) bytes openings ignored fill old load move = refl
-others_begin (parsed_line.StrayUp proto source len now) bytes openings ignored fill old load move = refl
-others_begin (parsed_line.StrayDown relay source len) bytes openings ignored fill old load move = refl
 
 -- ---- the text
 

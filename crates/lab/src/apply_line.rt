@@ -20,7 +20,7 @@ use crate::status::{BAD_LINE, DONE, FAILED};
 use config::Plans;
 use events::{BatchPart, Comeback};
 use lab_text::parse_line::{Parsed, ParsedLine};
-use streams::{ByteWriter, MAX_LINE};
+use streams::ByteWriter;
 use types::{Circuit, Moment};
 use wire::PacketBuf;
 use world::{Event, Machine};

@@ -1,5 +1,5 @@
 //! The line of the output for a batch.
-ghost use Rattle.std.specs.Prelude.{◌≡◌, ◌+◌, ◌≤◌, ◌++◌, codes, decimal, map, OnOk, OnErr};
+ghost use Rattle.std.specs.Prelude.{◌≡◌, ◌+◌, ◌≤◌, ◌++◌, decimal, map, OnOk, OnErr};
 ghost use Rattle.std.specs.Io.KnownBytes.{Appends};
 ghost use Rattle.streams.specs.Writing.{AppendsPrefix};
 ghost use Rattle.lab.specs.Output.{batch_text, with_marks, part_text, with_newline};

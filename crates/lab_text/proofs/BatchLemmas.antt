@@ -21,13 +21,6 @@ pub record PartsSoFar (settings : Settings) (all left : List (List ℕ)) (parts 
   pub spelled : after parts (each_part settings left) ≡ each_part settings all
   pub known : AreKnown settings parts
 
-none_before : (more : Option (List BatchPart)) → after [] more ≡ more
-none_before None = refl
-none_before (Some parts) = refl
-
-pub no_parts : (settings : Settings) (all : List (List ℕ)) → PartsSoFar settings all all []
-no_parts settings all = record { spelled = none_before (each_part settings all); known = λ i p h. absurd (cc) }
-
 one_field : (settings : Settings) (field : List ℕ) (left : List (List ℕ)) → each_part settings (field ∷ left) ≡ (batch_part settings field >>= (λ part. each_part settings left >>= (λ parts. Some (part ∷ parts))))
 unfolding each_part
 one_field settings field left = refl

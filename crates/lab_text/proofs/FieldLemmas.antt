@@ -1,6 +1,6 @@
 -- The fields of a line in an array, one more at a time.
 use Rattle.std.proofs.Common.{◌≡◌, ℕ, ◌+◌, ◌<◌, ◌≤◌, List, [], ◌∷◌, ◌++◌, length, take, set, sym, ap, ◌∙◌, arith, append_assoc, append-nil, take_all, length-take}
-use Rattle.std.proofs.lemmas.List.{take_more_set, map-append, length-map, length-take-le, take-append-le}
+use Rattle.std.proofs.lemmas.List.{take_more_set, map-append, length-map}
 use Rattle.std.specs.Borrow.{Bor}
 use Rattle.lab_text.specs.FieldsAfter.{texts}
 
@@ -21,13 +21,3 @@ all_split xs n left all few none so_far =
     let whole : texts (take n xs) ≡ all = sym (ap (λ rest. texts (take n xs) ++ rest) none ∙ append-nil (texts (take n xs))) ∙ so_far in
     let size : length all ≤ 5 = omega (arith, ap length whole, length-map (take n xs) text, length-take n xs) in
     whole ∙ sym (take_all 5 all size)
-
--- there are five, whatever is left
-pub five_split : (xs : List (Bor (List ℕ))) (n : ℕ) (left all : List (List ℕ)) → n ≡ 5 → length xs ≡ 5 → texts (take n xs) ++ left ≡ all → texts (take 5 xs) ≡ take 5 all
-five_split xs n left all five places so_far =
-    let first = texts (take 5 xs) in
-    let size : length first ≡ 5 = length-map (take 5 xs) text ∙ length-take-le 5 xs (omega (arith, places)) in
-    sym (take_all 5 first (omega (arith, size)))
-    ∙ sym (take-append-le 5 first left (omega (arith, size)))
-    ∙ ap (λ k. take 5 (texts (take k xs) ++ left)) (sym five)
-    ∙ ap (take 5) so_far

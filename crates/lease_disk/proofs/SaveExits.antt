@@ -1,5 +1,5 @@
 -- What a save makes of one region, at each of its exits, by what its steps leave there.
-use Rattle.std.proofs.Common.{◌≡◌, ◌≢◌, ℕ, ◌+◌, ◌-◌, ◌<◌, ◌≤◌, ◌==◌, ◌||◌, Bool, true, false, List, [], ◌∷◌, length, set, slice_index, nat_le, Some, Ok, Err, Result, is_ok, OnOk, OnErr, refl, sym, ap, ◌∙◌, subst, arith}
+use Rattle.std.proofs.Common.{◌≡◌, ◌≢◌, ℕ, ◌+◌, ◌-◌, ◌<◌, ◌≤◌, ◌==◌, ◌||◌, Bool, true, false, List, [], ◌∷◌, length, set, slice_index, Some, Ok, Err, Result, is_ok, OnOk, refl, sym, ap, ◌∙◌, subst, arith}
 use Rattle.std.specs.Prelude.{if◌then◌else◌, drop, ◌%◌}
 use Rattle.types.specs.declared.slots.Slots.{Slots}
 use Rattle.lease_disk.specs.declared.content.Content.{Content}
@@ -189,14 +189,3 @@ module _ (s : ℕ) (known : Marks) (at n clock : ℕ) (content : Content) (whole
 pub when_saved : {T E P : Type 0} (result : Result T E) (k : ℕ) → is_ok result ≡ (k == 0) → (k ≡ 0 → P) → OnOk result P
 when_saved (Ok x) k answer holds = holds (grind (arith, answer))
 when_saved (Err e) k answer holds = tt
-
-pub when_failed : {T E P : Type 0} (result : Result T E) (k : ℕ) → is_ok result ≡ (k == 0) → (k ≢ 0 → P) → OnErr result P
-when_failed (Ok x) k answer holds = tt
-when_failed (Err e) k answer holds = holds (λ none. absurd (grind (arith, answer, none)))
-
--- the call that failed is the one that the fuse names
-pub failed_at : (fuse : ℕ) → effective 6 fuse ≢ 0 → effective 6 fuse ≡ fuse
-failed_at fuse some = by (nat_le fuse 6) refl where
-  by : (b : Bool) → nat_le fuse 6 ≡ b → effective 6 fuse ≡ fuse
-  by true e = ap (λ b. if b then fuse else 0) e
-  by false e = absurd (some (ap (λ b. if b then fuse else 0) e))

@@ -1,5 +1,5 @@
 //! How many addresses of a pool are leased, declined or free.
-ghost use Rattle.std.specs.Prelude.{◌≡◌, ◌+◌, ◌-◌, count_by};
+ghost use Rattle.std.specs.Prelude.{◌≡◌, ◌+◌, ◌-◌};
 ghost use Rattle.types.specs.Addr.{number4, addr4, number6, addr6};
 ghost use Rattle.lease_list.specs.Pool.{declined, is_declined, is_leased, leased, usage_of};
 

@@ -1,6 +1,6 @@
 -- What a circuit is sent does not depend on the addresses of its relay and of the server.
 use Rattle.std.proofs.Common.{◌≡◌, ◌∙◌, ℕ, List, [], ◌∷◌, ◌++◌, refl, ap}
-use Rattle.std.specs.Prelude.{not, nat_lt, nat_le, length, take, drop, slice_get, slice_index, Option, Some, None, Result, Ok, Err, if◌then◌else◌}
+use Rattle.std.specs.Prelude.{not, nat_lt, nat_le, length, take, drop, slice_get, Option, Some, None, Result, Ok, Err, if◌then◌else◌}
 use Rattle.std.specs.Result.{result_map_both}
 use Rattle.types.specs.Key6.{Key6Value}
 use Rattle.types.specs.declared.addr.Source.{Source}
@@ -16,10 +16,8 @@ use Rattle.types.specs.declared.request6.Request6.{Request6}
 use Rattle.v4_message.specs.declared.fault.MessageFault.{MessageFault}
 use Rattle.v4_message.specs.Reading.{message_of}
 use Rattle.v4_message.specs.Spelling.{MessageValue, message_bytes}
-use Rattle.v6_message.specs.declared.fault.MessageFault.{MessageFault as MessageFault6}
 use Rattle.v6_message.specs.declared.fault.RelayFault.{RelayFault}
 use Rattle.v6_message.specs.Message as v6
-use Rattle.v6_message.specs.MessageReading as reading6
 use Rattle.v6_message.specs.Relay.{RelayValue}
 use Rattle.v6_message.specs.RelayReading.{relay_of}
 use Rattle.v6_options.specs.Codes.{RELAY_MESSAGE}

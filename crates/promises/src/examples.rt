@@ -13,7 +13,7 @@ ghost use Rattle.lease_disk.specs.HalfBytes.{half_bytes};
 ghost use Rattle.lease_disk.specs.Recovered.{recovered};
 ghost use Rattle.lease_disk.specs.declared.content.Content.TheVariants.{Four, Six};
 ghost use Rattle.relay.specs.Relays.{relayed_up};
-ghost use Rattle.world.specs.Alone.{alone_step, after_all, frames, Dropped, Gone, SentDown, start, New, Old, Moving};
+ghost use Rattle.world.specs.Alone.{alone_step, after_all, frames, Dropped, Gone, SentDown, start, Old, Moving};
 ghost use Rattle.promises.specs.Examples.{part_a, with_relays, setup_a, setup_a1, at_port, client_message, discover, discover_up, peer, solicit, solicit_up, relayed_message, relayed_discover, offer, client, offers_at, one_offer, lease_until, datagram, with_up, begun, no_leases, begun_off, asked, leased, closed, ack, begun_in_format_1, turned_off, unreadable, release_up, decline_up, reboot_up, nak, barred_at, saved_silently};
 ghost use Rattle.promises.specs.Examples6.{message6, server_id6, ia6, timed_ia6, listed6, leased6, status6, relayed6, book6, bound6, barred6, replied6, client6};
 ghost use Rattle.promises.specs.ExampleDisk.{bound_half, bound_half6, free_half, barred_half, laid, both_bound, both_bound_in_format_1, two_slots};

@@ -14,7 +14,7 @@ ghost use Rattle.replies.specs.Reply6.{IsReplyIa, address_option, ia_options, ia
 use crate::laws::reply6_is_read;
 use arrayvec::ArrayVec;
 use config::CircuitPart;
-use types::{Addr6, Key6, MAX_LISTED, Reply6, ReplyIa, ReplyKind6, Status6};
+use types::{Addr6, Key6, MAX_LISTED, Reply6, ReplyIa, Status6};
 use v6_message::{IaAddress, IaHeader, Message6, MessageHeader, RELAY_REPLY, Relay6, RelayHeader};
 use v6_options::code;
 use wire::PacketBuf;

@@ -1,10 +1,10 @@
 -- What a DHCPv6 message asks keeps the limits of its parts, since reading it tested them.
-use Rattle.std.proofs.Common.{◌≡◌, ℕ, ◌+◌, ◌≤◌, ◌==◌, Bool, true, false, leb, List, [], ◌∷◌, length, map, drop, refl, sym, ap, subst, ◌∙◌, arith}
+use Rattle.std.proofs.Common.{◌≡◌, ℕ, ◌≤◌, ◌==◌, Bool, true, false, leb, List, [], ◌∷◌, length, map, drop, refl, ap, subst, arith}
 use Rattle.std.specs.Prelude.{All, Option, Some, None, Result, Ok, Err, slice_index, nat_lt, if◌then◌else◌, ◌&&◌}
 use Rattle.std.specs.Option.{option_and_then}
 use Rattle.std.specs.Result.{result_map_both}
 use Rattle.std.proofs.lemmas.Bool.{leb-true}
-use Rattle.std.proofs.lemmas.List.{length-drop, length-map, length-take-le}
+use Rattle.std.proofs.lemmas.List.{length-map}
 use Rattle.std.proofs.lemmas.List.Elements.{All-cons, All-nil}
 use Rattle.types.specs.Kind6.{kind6_of_code}
 use Rattle.types.specs.declared.addr.Addr6.{Addr6}
@@ -16,12 +16,11 @@ use Rattle.v6_options.specs.Codes.{CLIENT_ID, IA_ADDRESS, IA_NA}
 use Rattle.v6_options.specs.Reading.{cut_from, listed}
 use Rattle.v6_options.specs.Spelling.{look_up}
 use Rattle.v6_message.specs.declared.fault.MessageFault.{MessageFault}
-use Rattle.v6_message.specs.Ia.{AddressValue, IaValue, address_at, addresses_in, ia_at, ia_of}
+use Rattle.v6_message.specs.Ia.{AddressValue, address_at, addresses_in, ia_at, ia_of}
 use Rattle.v6_message.specs.Message.{MessageValue}
 use Rattle.v6_message.specs.MessageReading.{message_of}
 use Rattle.v6_message.specs.Reading.{are_long, is_ia}
 use Rattle.v6_message.proofs.ReadLimits.{IsReadMessage, is_read_message, part_size}
-use Rattle.wire.specs.Part.{part}
 use Rattle.requests.specs.Request6.{client_request, is_duid, kind_request, read_request, request6_in, request6_of}
 use Rattle.requests.proofs.RequestLemmas6.{length_addresses}
 

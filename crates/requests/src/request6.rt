@@ -6,7 +6,6 @@ ghost use Rattle.v6_options.specs.Spelling.{look_up};
 ghost use Rattle.v6_message.specs.Ia.{addresses_in, ia_of};
 ghost use Rattle.v6_message.specs.Lists.{count};
 ghost use Rattle.requests.specs.Request6.{client_request, request6_in, server_in};
-ghost use Rattle.types.specs.declared.discard.Discard.TheVariants as reason;
 
 use arrayvec::ArrayVec;
 use config::CircuitPart;

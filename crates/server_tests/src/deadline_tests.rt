@@ -1,5 +1,5 @@
 //! When the slot of a client's address is due, from its offer to the end of its lease.
-ghost use Rattle.std.specs.Prelude.{IfOk, ◌≡◌, ℕ, length, true};
+ghost use Rattle.std.specs.Prelude.{IfOk, ℕ};
 ghost use Rattle.lease_disk.specs.Model.{device_of, state_of};
 ghost use Rattle.lease_disk.specs.Region.{IsClean};
 ghost use Rattle.dispatch.specs.Regions.{HasRegions};

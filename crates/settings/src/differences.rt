@@ -1,6 +1,6 @@
 //! What differs between two configurations of one server.
 ghost use Rattle.std.specs.Prelude.{◌≡◌, Some};
-ghost use Rattle.settings.specs.Differences.{relay_word, part_words, server_difference_words, circuit_difference_words};
+ghost use Rattle.settings.specs.Differences.{relay_word, server_difference_words, circuit_difference_words};
 
 use crate::names::{CircuitKey, RelayKey, ServerKey, text_of};
 use std::fmt;

@@ -5,7 +5,7 @@ ghost use Rattle.config.specs.Topology.{topology_of};
 ghost use Rattle.sockets.specs.Sockets.{AreBound, AreCircuitSockets, AreOwnSockets, AreRelaySockets, IsBound, IsCircuitSocket, IsRelaySocket, IsSocket, Refuses, WasRefused, client_port, local_port};
 
 use config::Config;
-use std::alloc::{AllocError, Global};
+use std::alloc::Global;
 use std::net::Net;
 use thiserror::Error;
 use types::{Addr4, Circuit, Proto, RelayNo, Source};

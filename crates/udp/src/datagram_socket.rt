@@ -1,6 +1,6 @@
 //! A UDP socket that never waits. What the system does with it is in three functions, `bind`, `take` and `send`, and each
 //! says in the history what it did; `take_if_ready` says that nothing waited where the system has told of nothing.
-ghost use Rattle.std.specs.Prelude.{◌≡◌, ◌≤◌, Err, IfOk, IfSome, IfNone, true, false};
+ghost use Rattle.std.specs.Prelude.{◌≡◌, Err, IfOk, IfSome, IfNone, true, false};
 ghost use Rattle.types.specs.declared.addr.Source.{Source};
 ghost use Rattle.udp.specs.Address.{IsSystemForm};
 ghost use Rattle.udp.specs.History.{Empty, IsWithin, Refused, Sent, attempt_entry, with_entry};

@@ -14,7 +14,7 @@ use crate::field;
 use crate::header::{Header, OP_REPLY, OP_REQUEST};
 use crate::parts::{addr_of, array_at};
 use std::marker::Model;
-use types::{Addr4, Kind4, MAX_DATAGRAM};
+use types::{Addr4, Kind4};
 use v4_options::{Options, code};
 use wire::{Full, PacketBuf};
 

@@ -3,7 +3,7 @@ ghost use Rattle.std.specs.Prelude.{◌≡◌, ◌≤◌, ◌<◌, ◌+◌};
 ghost use Rattle.lease_disk.specs.Halves.{place};
 ghost use Rattle.lease_disk.specs.Layout.{bank_place, in_bank};
 
-use crate::half::{CLOCK_AT, HALF_SIZE, IAID_AT, KEY_AT, SEQUENCE_AT, SLOT_SIZE, UNTIL_AT};
+use crate::half::{CLOCK_AT, HALF_SIZE, SEQUENCE_AT, SLOT_SIZE, UNTIL_AT};
 
 /// The number of bytes of a bank, and of both.
 pub const BANK_SIZE: usize = 4096;

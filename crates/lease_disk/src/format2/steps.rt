@@ -1,6 +1,5 @@
 //! The three writes of a save, each by itself and without its sync.
 ghost use Rattle.std.specs.Prelude.{◌≡◌, ◌<◌, ◌≤◌, ◌+◌, true, length};
-ghost use Rattle.lease_disk.specs.Device.{Touches};
 ghost use Rattle.lease_disk.specs.Keys.{HasKey};
 ghost use Rattle.lease_disk.specs.Save.{Fits, mark_at};
 ghost use Rattle.lease_disk.specs.SaveSteps.{IsWrite, bytes_of, place_of, saved_half};

@@ -3,7 +3,6 @@ use Rattle.settings.specs.Settings.{Settings}
 use Rattle.lab_text.specs.FieldsAfter.{texts}
 use Rattle.lab_text.specs.Line.{Line, line_of_form}
 use Rattle.lab_text.specs.declared.form.Form.{Form}
-use Rattle.lab_text.specs.declared.form.Form.TheVariants as form
 use Rattle.lab_text.proofs.forms.parse_form.Goals as goal
 
 by_form : {known this : Form} (settings : Settings) (plans : ℕ) (fields : List (List ℕ)) {line : Line} → known ≡ this → line ≡ line_of_form settings plans this fields → line ≡ line_of_form settings plans known fields

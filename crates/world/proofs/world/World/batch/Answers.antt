@@ -1,4 +1,4 @@
-use Rattle.std.proofs.Common.{All, ◌<◌, ◌≡◌, List, length, map, refl, sym, ap, subst, ◌∙◌}
+use Rattle.std.proofs.Common.{All, ◌<◌, ◌≡◌, List, length, refl, sym, ap, subst, ◌∙◌}
 use Rattle.std.specs.Prelude.{Some, slice_get}
 use Rattle.dispatch.specs.Regions.{KeepsOthers}
 use Rattle.events.specs.declared.event.Event.{Event}

@@ -1,5 +1,5 @@
-use Rattle.std.proofs.Common.{map, drop, ◌+◌, sym, ap, ◌∙◌}
-use Rattle.std.specs.Prelude.{if◌then◌else◌, option_map, slice_get}
+use Rattle.std.proofs.Common.{drop, ◌+◌, sym, ap, ◌∙◌}
+use Rattle.std.specs.Prelude.{if◌then◌else◌, slice_get}
 use Rattle.world.specs.Batch.{answer_outcome, outcome_for}
 use Rattle.world.proofs.BatchLoops.{outcome_step}
 use Rattle.world.proofs.world.batch.outcome_for.Goals as goal

@@ -1,4 +1,4 @@
-use Rattle.std.proofs.Common.{◌≡◌, drop, map}
+use Rattle.std.proofs.Common.{◌≡◌, drop}
 use Rattle.world.specs.Batch.{outcome_for}
 use Rattle.world.proofs.world.batch.outcome_for.Given as goal
 

@@ -1,4 +1,4 @@
-use Rattle.std.proofs.Common.{map, set, ◌<◌, ap, length, length-set, ◌∙◌, arith}
+use Rattle.std.proofs.Common.{set, ◌<◌, ap, length, length-set, ◌∙◌, arith}
 use Rattle.std.specs.Prelude.{Some, Option, slice_get}
 use Rattle.std.proofs.lemmas.Option.{slice_get_within}
 use Rattle.events.specs.declared.batch.PartOutcome.{PartOutcome}

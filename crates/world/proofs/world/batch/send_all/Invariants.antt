@@ -1,4 +1,4 @@
-use Rattle.std.proofs.Common.{◌≡◌, ℕ, drop, length, map}
+use Rattle.std.proofs.Common.{◌≡◌, ℕ, drop, length}
 use Rattle.lossy_net.specs.Net.{datagrams}
 use Rattle.lossy_net.specs.declared.dir.Dir.TheVariants as dir
 use Rattle.world.specs.Batch.{downs_after}
