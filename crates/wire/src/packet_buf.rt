@@ -7,6 +7,9 @@ use std::marker::Model;
 use thiserror::Error;
 use types::MAX_DATAGRAM;
 
+/// What padding is taken from.
+static ZEROS: [u8; MAX_DATAGRAM] = [0; MAX_DATAGRAM];
+
 /// The bytes would be more than a datagram may have.
 #[derive(Clone, Copy, Debug, PartialEq, Eq, Error)]
 #[error("more than 1280 bytes")]
@@ -71,7 +74,7 @@ impl PacketBuf {
             return Err(Full);
         }
         let missing = n.saturating_sub(self.len());
-        self.extend(&[0; MAX_DATAGRAM][..missing])
+        self.extend(&ZEROS[..missing])
     }
 
     pub fn len(&self) -> usize
