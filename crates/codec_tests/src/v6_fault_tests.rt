@@ -99,7 +99,7 @@ fn messages_fail() -> bool {
     fails(b"", MessageFault::Short) && fails(b"\x01\x00\x00", MessageFault::Short)
 }
 
-/// A Solicit whose IA_NA, of 152 bytes, has five addresses, or one more IA_NA behind that.
+/// A Solicit whose IA_NA, of 152 bytes, has five addresses, or one more IA_NA after that.
 fn write_five(with_another: bool, out: &mut PacketBuf) -> Result<(), Full> {
     write(
         b"\x00\x03\x00\x98\x00\x00\x00\x01\x00\x00\x00\x00\x00\x00\x00\x00",

@@ -5,7 +5,7 @@ use Rattle.std.specs.Prelude.{◌≡◌, ℕ, ◌≤◌, List, slice_get, Some}
 pub record IsRelated {A : Type 0} (P : A → Type 0) (entries : List A) (from index : ℕ) : Type 0 where
   pub entry : A
   pub is : slice_get entries index ≡ Some entry
-  pub behind : from ≤ index
+  pub above : from ≤ index
   pub related : P entry
 
 -- two entries of which this holds

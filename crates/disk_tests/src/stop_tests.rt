@@ -202,7 +202,7 @@ fn change6(clock: u16, slot: usize, content: Slot6) -> Change
     }
 }
 
-/// Whether this change, behind two saves of slot 16 at 100 and 101, leaves the slots that it should where it
+/// Whether this change, after two saves of slot 16 at 100 and 101, leaves the slots that it should where it
 /// stops there.
 fn is_kept6(
     alloc: Global,

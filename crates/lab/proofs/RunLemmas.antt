@@ -159,7 +159,7 @@ ends_at plans quota number output given left left2 held holds holds2 states stat
       (front_behind held holds holds2 s.written (written ++ (f [] machines).text) s.appended (front_longer holds holds2 written (f [] machines).text wrote));
 }
 
--- where the lines of a text end, however it goes on, behind what was read ahead
+-- where the lines of a text end, however it goes on, after what was read ahead
 pub ends_feed : (plans : PlansValue) (quota number : ℕ) (output : List ℕ → Output) (given left left2 held holds holds2 : Option (List ℕ)) (states states2 : List CircuitState) (Known : List ℕ → Type 0) (line ahead : List ℕ) (status : ℕ)
     → SoFar plans quota number output given left held holds states Known → IsLine left (prepend_known ahead left2) line → ((rest : List ℕ) → Known ((line ++ 10 ∷ []) ++ rest))
     → ((machines : ℕ → Alone) → AllRepresent plans quota states machines → Follows plans quota number (line_result plans quota machines (line_of_text plans.union plans.count line)) states2 holds holds2 (Some status))

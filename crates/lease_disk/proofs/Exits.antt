@@ -138,11 +138,11 @@ module _ (s : ℕ) (mark : Mark) (at n clock : ℕ) (content : Content) (whole b
         mark_elsewhere t m ne was =
             let same : SameBut s (other mark.half) r0.byte r3.byte = record { each = λ i h. beside3 i (rw (← given.at_is) at h) } in
             let own : half2 r3.byte t m.half ≡ half2 r0.byte t m.half = same_elsewhere s (other mark.half) r0.byte r3.byte same t m.half ne in
-            let rival : half2 r3.byte t (other m.half) ≡ half2 r0.byte t (other m.half) = same_elsewhere s (other mark.half) r0.byte r3.byte same t (other m.half) ne in
+            let opposite : half2 r3.byte t (other m.half) ≡ half2 r0.byte t (other m.half) = same_elsewhere s (other mark.half) r0.byte r3.byte same t (other m.half) ne in
             record {
-              counting = (λ j. is_counting (own j) (rival j)) ∙ was.counting;
+              counting = (λ j. is_counting (own j) (opposite j)) ∙ was.counting;
               sequence = was.sequence ∙ ap sequence_of (sym own);
-              other_open = was.other_open ∙ ap is_open (sym rival);
+              other_open = was.other_open ∙ ap is_open (sym opposite);
             }
 
         mark_by : (marks : Marks) (o : Half) → o ≡ other mark.half → s < length marks.slots → (t : ℕ) (b : Bool) → (t == s) ≡ b → IsMark r0.byte t (mark_at marks t)

@@ -123,8 +123,8 @@ false_of true h = absurd (h refl)
 false_of false h = refl
 
 -- not both halves count
-pub only_one : (own rival : ℕ → ℕ) → is_counting own rival ≡ true → is_counting rival own ≡ false
-only_one own rival p = false_of (is_counting rival own) (λ q. both_count (is_open own) (is_open rival) (sequence own) (sequence rival) p q)
+pub only_one : (own opposite : ℕ → ℕ) → is_counting own opposite ≡ true → is_counting opposite own ≡ false
+only_one own opposite p = false_of (is_counting opposite own) (λ q. both_count (is_open own) (is_open opposite) (sequence own) (sequence opposite) p q)
 
 pub first_of : {B : Type 0} → (a b : Bool) (x y z : B) → a ≡ true → (if a then x else if b then y else z) ≡ x
 first_of true b x y z e = refl
@@ -171,8 +171,8 @@ by_shut v w false x h e = counting_valid v w x h
 by_shut v w true x h e = cc
 
 -- a half counts while the other's gate is closed
-pub while_shut : (own rival shut : ℕ → ℕ) → is_counting own rival ≡ true → is_open shut ≡ false → is_counting own shut ≡ true
-while_shut own rival shut p e = by_shut (is_valid own) _ (is_open shut) _ p e
+pub while_shut : (own opposite shut : ℕ → ℕ) → is_counting own opposite ≡ true → is_open shut ≡ false → is_counting own shut ≡ true
+while_shut own opposite shut p e = by_shut (is_valid own) _ (is_open shut) _ p e
 
 by_gate : (v p q : Bool) (a b : ℕ) → (q ≡ false → p ≡ false)
     → (v && (not q || ((q && nat_le b 2) && a == next b))) ≡ true
@@ -182,10 +182,10 @@ by_gate v true false a b e h = absurd (let x = e refl in cc)
 by_gate v false q a b e h = counting_valid v (not q || ((q && nat_le b 2) && a == next b)) false h
 
 -- while the other's gate is in doubt, if it was open, the half counts: the other, if open, is as it was
-pub while_closing : (own rival closing : ℕ → ℕ) → is_counting own rival ≡ true → sequence closing ≡ sequence rival → (is_open rival ≡ false → is_open closing ≡ false) → is_counting own closing ≡ true
-while_closing own rival closing p e gate =
+pub while_closing : (own opposite closing : ℕ → ℕ) → is_counting own opposite ≡ true → sequence closing ≡ sequence opposite → (is_open opposite ≡ false → is_open closing ≡ false) → is_counting own closing ≡ true
+while_closing own opposite closing p e gate =
     ap (λ b. is_valid own && (not (is_open closing) || ((is_open closing && nat_le b 2) && sequence own == next b))) e
-    ∙ by_gate (is_valid own) (is_open closing) (is_open rival) (sequence own) (sequence rival) gate p
+    ∙ by_gate (is_valid own) (is_open closing) (is_open opposite) (sequence own) (sequence opposite) gate p
 
 counted : (o : Bool) (a : ℕ) (w : Bool) → ((o && nat_le a 2) && w) ≡ true → (o ≡ true) × (nat_le a 2 ≡ true)
 counted true a true h = (refl, grind arith)
@@ -201,15 +201,15 @@ opened o true a b w h e f = counts_open o b a (counted o a w h).1 f
 opened o false a b w h e f = cc
 
 -- a half that is open with the next sequence counts
-pub when_open : (own rival new : ℕ → ℕ) → is_counting own rival ≡ true → is_open new ≡ true → sequence new ≡ next (sequence own) → is_counting new own ≡ true
-when_open own rival new p o e = opened (is_open own) (is_open new) (sequence own) (sequence new) _ p o e
+pub when_open : (own opposite new : ℕ → ℕ) → is_counting own opposite ≡ true → is_open new ≡ true → sequence new ≡ next (sequence own) → is_counting new own ≡ true
+when_open own opposite new p o e = opened (is_open own) (is_open new) (sequence own) (sequence new) _ p o e
 
 is_le_two : (a : ℕ) → nat_le a 2 ≡ true → a ≤ 2
 is_le_two a h = grind arith
 
 -- the sequence of a half that counts is from 0 to 2
-pub counting_sequence : (own rival : ℕ → ℕ) → is_counting own rival ≡ true → sequence own ≤ 2
-counting_sequence own rival p = is_le_two (sequence own) (counted (is_open own) (sequence own) _ p).1
+pub counting_sequence : (own opposite : ℕ → ℕ) → is_counting own opposite ≡ true → sequence own ≤ 2
+counting_sequence own opposite p = is_le_two (sequence own) (counted (is_open own) (sequence own) _ p).1
 
-pub counting_open : (own rival : ℕ → ℕ) → is_counting own rival ≡ true → is_open own ≡ true
-counting_open own rival p = (counted (is_open own) (sequence own) _ p).0
+pub counting_open : (own opposite : ℕ → ℕ) → is_counting own opposite ≡ true → is_open own ≡ true
+counting_open own opposite p = (counted (is_open own) (sequence own) _ p).0

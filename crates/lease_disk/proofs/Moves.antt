@@ -76,7 +76,7 @@ pub record IsMove (counts : List ℕ) (slots : Slots) (halves : List ℕ) (old :
   pub whole : (s : ℕ) → s < 32 → length (half_bytes 0 slots.clock (content_at slots s)) ≡ 256
 
 module _ (counts : List ℕ) (slots : Slots) (halves : List ℕ) (old : Region) (m : IsMove counts slots halves old) where
-  -- the region behind the first two calls
+  -- the region after the first two calls
   abbrev pub first : Region
   first = synced (written 16384 halves old)
 

@@ -217,18 +217,18 @@ counted_as region halves two are s mark few m =
       other_open = m.other_open ∙ ap is_open b;
     }
 
-module _ {A : Type 0} (read : (ℕ → ℕ) → Option A) (own rival : ℕ → ℕ) where
-  pub entry_first : (f g : ℕ → ℕ) → f ≡ own → g ≡ rival → true ≡ is_counting f g → held read f ≡ entry_of read own rival
+module _ {A : Type 0} (read : (ℕ → ℕ) → Option A) (own opposite : ℕ → ℕ) where
+  pub entry_first : (f g : ℕ → ℕ) → f ≡ own → g ≡ opposite → true ≡ is_counting f g → held read f ≡ entry_of read own opposite
   entry_first f g e h p =
-      ap (held read) e ∙ sym (first_of (is_counting own rival) (is_counting rival own) (held read own) (held read rival) None (sym (p ∙ (λ j. is_counting (e j) (h j)))))
+      ap (held read) e ∙ sym (first_of (is_counting own opposite) (is_counting opposite own) (held read own) (held read opposite) None (sym (p ∙ (λ j. is_counting (e j) (h j)))))
 
-  pub entry_second : (f g : ℕ → ℕ) → f ≡ own → g ≡ rival → false ≡ is_counting f g → true ≡ is_counting g f → held read g ≡ entry_of read own rival
+  pub entry_second : (f g : ℕ → ℕ) → f ≡ own → g ≡ opposite → false ≡ is_counting f g → true ≡ is_counting g f → held read g ≡ entry_of read own opposite
   entry_second f g e h p q =
-      ap (held read) h ∙ sym (second_of (is_counting own rival) (is_counting rival own) (held read own) (held read rival) None (sym (p ∙ (λ j. is_counting (e j) (h j)))) (sym (q ∙ (λ j. is_counting (h j) (e j)))))
+      ap (held read) h ∙ sym (second_of (is_counting own opposite) (is_counting opposite own) (held read own) (held read opposite) None (sym (p ∙ (λ j. is_counting (e j) (h j)))) (sym (q ∙ (λ j. is_counting (h j) (e j)))))
 
-  pub entry_none : (f g : ℕ → ℕ) → f ≡ own → g ≡ rival → false ≡ is_counting f g → false ≡ is_counting g f → None ≡ entry_of read own rival
+  pub entry_none : (f g : ℕ → ℕ) → f ≡ own → g ≡ opposite → false ≡ is_counting f g → false ≡ is_counting g f → None ≡ entry_of read own opposite
   entry_none f g e h p q =
-      sym (neither_of (is_counting own rival) (is_counting rival own) (held read own) (held read rival) None (sym (p ∙ (λ j. is_counting (e j) (h j)))) (sym (q ∙ (λ j. is_counting (h j) (e j)))))
+      sym (neither_of (is_counting own opposite) (is_counting opposite own) (held read own) (held read opposite) None (sym (p ∙ (λ j. is_counting (e j) (h j)))) (sym (q ∙ (λ j. is_counting (h j) (e j)))))
 
 -- the clock of what counts
 
@@ -245,25 +245,25 @@ clock_new None n within is = by (nat_le n last_clock) refl where
   by true e = absurd (let there = within.1 (grind (arith, e)) in cc)
   by false e = refl
 
-module _ (own rival : ℕ → ℕ) where
-  pub clock_first : (f g : ℕ → ℕ) → f ≡ own → g ≡ rival → true ≡ is_counting f g → clock_within f ≡ counting_clock own rival
+module _ (own opposite : ℕ → ℕ) where
+  pub clock_first : (f g : ℕ → ℕ) → f ≡ own → g ≡ opposite → true ≡ is_counting f g → clock_within f ≡ counting_clock own opposite
   clock_first f g e h p =
-      ap clock_within e ∙ sym (first_of (is_counting own rival) (is_counting rival own) (clock_within own) (clock_within rival) None (sym (p ∙ (λ j. is_counting (e j) (h j)))))
+      ap clock_within e ∙ sym (first_of (is_counting own opposite) (is_counting opposite own) (clock_within own) (clock_within opposite) None (sym (p ∙ (λ j. is_counting (e j) (h j)))))
 
-  pub clock_second : (f g : ℕ → ℕ) → f ≡ own → g ≡ rival → false ≡ is_counting f g → true ≡ is_counting g f → clock_within g ≡ counting_clock own rival
+  pub clock_second : (f g : ℕ → ℕ) → f ≡ own → g ≡ opposite → false ≡ is_counting f g → true ≡ is_counting g f → clock_within g ≡ counting_clock own opposite
   clock_second f g e h p q =
-      ap clock_within h ∙ sym (second_of (is_counting own rival) (is_counting rival own) (clock_within own) (clock_within rival) None (sym (p ∙ (λ j. is_counting (e j) (h j)))) (sym (q ∙ (λ j. is_counting (h j) (e j)))))
+      ap clock_within h ∙ sym (second_of (is_counting own opposite) (is_counting opposite own) (clock_within own) (clock_within opposite) None (sym (p ∙ (λ j. is_counting (e j) (h j)))) (sym (q ∙ (λ j. is_counting (h j) (e j)))))
 
-  pub clock_none : (f g : ℕ → ℕ) → f ≡ own → g ≡ rival → false ≡ is_counting f g → false ≡ is_counting g f → None ≡ counting_clock own rival
+  pub clock_none : (f g : ℕ → ℕ) → f ≡ own → g ≡ opposite → false ≡ is_counting f g → false ≡ is_counting g f → None ≡ counting_clock own opposite
   clock_none f g e h p q =
-      sym (neither_of (is_counting own rival) (is_counting rival own) (clock_within own) (clock_within rival) None (sym (p ∙ (λ j. is_counting (e j) (h j)))) (sym (q ∙ (λ j. is_counting (h j) (e j)))))
+      sym (neither_of (is_counting own opposite) (is_counting opposite own) (clock_within own) (clock_within opposite) None (sym (p ∙ (λ j. is_counting (e j) (h j)))) (sym (q ∙ (λ j. is_counting (h j) (e j)))))
 
 -- A region of format 1
 
-gates_closed : (own rival : ℕ → ℕ) → is_open own ≡ false → is_open rival ≡ false → counting_clock own rival ≡ None
-gates_closed own rival a b = λ j.
-    if (a j && nat_le (sequence own) 2) && (not (b j) || ((b j && nat_le (sequence rival) 2) && sequence own == next (sequence rival))) then clock_within own
-    else if (b j && nat_le (sequence rival) 2) && (not (a j) || ((a j && nat_le (sequence own) 2) && sequence rival == next (sequence own))) then clock_within rival
+gates_closed : (own opposite : ℕ → ℕ) → is_open own ≡ false → is_open opposite ≡ false → counting_clock own opposite ≡ None
+gates_closed own opposite a b = λ j.
+    if (a j && nat_le (sequence own) 2) && (not (b j) || ((b j && nat_le (sequence opposite) 2) && sequence own == next (sequence opposite))) then clock_within own
+    else if (b j && nat_le (sequence opposite) 2) && (not (a j) || ((a j && nat_le (sequence own) 2) && sequence opposite == next (sequence own))) then clock_within opposite
     else None
 
 -- with both banks closed it is damaged

@@ -1,4 +1,4 @@
--- A write and the sync behind it.
+-- A write and the sync after it.
 use Rattle.std.proofs.Common.{◌≡◌, ℕ, ◌+◌, ◌-◌, Bool, true, false, not, List, length, Result, Ok, Err, OnOk, OnErr, refl, sym, ap, ◌∙◌, subst, arith}
 use Rattle.std.specs.Prelude.{◌==◌, is_ok, IsErr}
 use Rattle.lease_disk.specs.Device.{Device, Touches, IsWritten}

@@ -37,8 +37,8 @@ abbrev pub device_of : ModelDiskValue → Device
 device_of disk = record { count = length disk.regions; region = state_of disk; fuse = fuse_of disk; reads = disk.reads; writes = disk.writes; failures = count_in disk.failures }
 
 -- a region after a write of n bytes that failed
-abbrev pub spoilt : ℕ → ℕ → Region → Region
-spoilt at n r = record { byte = r.byte; unsynced = λ i. is_within at n i || r.unsynced i; readable = r.readable }
+abbrev pub left_in_doubt : ℕ → ℕ → Region → Region
+left_in_doubt at n r = record { byte = r.byte; unsynced = λ i. is_within at n i || r.unsynced i; readable = r.readable }
 
 -- the same device but for one region's contents and fuse
 pub record SameBut (region : ℕ) (old new : ModelDiskValue) : Type 0 where

@@ -49,7 +49,7 @@ one_more_at r failures q = if q == r then failures q + 1 else failures q
 abbrev pub faults_after : {T E : Type 0} → ℕ → Result T E → (ℕ → ℕ) → ℕ → ℕ
 faults_after r result failures = if is_ok result then failures else one_more_at r failures
 
--- a region after a write of n bytes failed, or the sync behind it: the range is in doubt
+-- a region after a write of n bytes failed, or the sync after it: the range is in doubt
 pub record IsTorn (at n : ℕ) (old new : Region) : Type 0 where
   pub byte : (i : ℕ) → is_within at n i ≡ false → new.byte i ≡ old.byte i
   pub unsynced : (i : ℕ) → new.unsynced i ≡ (is_within at n i || old.unsynced i)

@@ -74,7 +74,7 @@ in_doubt k s mark i =
     else is_within (gate_at s mark) 1 i
 
 -- A byte after a save whose k-th call failed, with its last write as if that was made: a gate that stood open is 0, from the
--- third call on what is behind the gate is saved, and from the fifth on the gate is open. All else is as it was.
+-- third call on what follows the gate is saved, and from the fifth on the gate is open. All else is as it was.
 abbrev pub left_byte : ℕ → ℕ → Mark → ℕ → Content → (ℕ → ℕ) → ℕ → ℕ
 left_byte k s mark clock content region i =
     if nat_le 5 k then saved_byte s mark clock content region i

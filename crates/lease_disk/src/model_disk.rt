@@ -211,7 +211,7 @@ impl ModelDisk {
 impl Disk for ModelDisk {
     ghost use Rattle.std.specs.Prelude.{◌≡◌, ◌+◌, ◌-◌, ◌==◌, ◌<◌, ◌≤◌, not, true, length, is_ok, OnOk, OnErr};
     ghost use Rattle.lease_disk.specs.Device.{Touches};
-    ghost use Rattle.lease_disk.specs.Model.{device_of, spoilt, state_of};
+    ghost use Rattle.lease_disk.specs.Model.{device_of, left_in_doubt, state_of};
     ghost use Rattle.lease_disk.specs.Region.{IsTorn, faults_after, written};
 
     ghost tells = { true };
@@ -244,7 +244,7 @@ impl Disk for ModelDisk {
         ensures writes { (device_of self.new).writes ≡ (device_of self.old).writes + 1 }
         ensures failures { (device_of self.new).failures ≡ faults_after region result (device_of self.old).failures }
         // and the bytes stay after a fault
-        ensures spoilt { OnErr result (state_of self.new region ≡ spoilt at (length bytes.now) (state_of self.old region)) }
+        ensures left_in_doubt { OnErr result (state_of self.new region ≡ left_in_doubt at (length bytes.now) (state_of self.old region)) }
     {
         self.writes.tick();
         let fails = burn(&mut self.fuses[usize::from(region)]);

@@ -40,19 +40,19 @@ fn number4(bytes: &[u8], at: usize) -> u32
 }
 
 /// Whether a half counts before the other half of its slot.
-pub fn counts_before(own: &[u8], rival: &[u8]) -> bool
+pub fn counts_before(own: &[u8], opposite: &[u8]) -> bool
     requires own { length own.now ≡ 256 }
-    requires rival { length rival.now ≡ 256 }
-    ensures { result ≡ is_counting (slice_index own.now) (slice_index rival.now) }
+    requires opposite { length opposite.now ≡ 256 }
+    ensures { result ≡ is_counting (slice_index own.now) (slice_index opposite.now) }
 {
-    let (sequence, rival_sequence) = (own[SEQUENCE_AT], rival[SEQUENCE_AT]);
+    let (sequence, opposite_sequence) = (own[SEQUENCE_AT], opposite[SEQUENCE_AT]);
     if own[0] != GATE_OPEN || sequence > 2 {
         return false;
     }
-    if rival[0] != GATE_OPEN {
+    if opposite[0] != GATE_OPEN {
         return true;
     }
-    rival_sequence <= 2 && sequence == sequence_after(rival_sequence)
+    opposite_sequence <= 2 && sequence == sequence_after(opposite_sequence)
 }
 
 /// The DHCPv4 slot that a half holds; `None` where it is damaged.

@@ -5,7 +5,7 @@ use Rattle.std.specs.Prelude.{ℕ, ◌-◌, ◌*◌, ◌==◌, if◌then◌else�
 abbrev pub before : ℕ → ℕ → ℕ
 before q h = if h == 0 then q - 1 else h - 1
 
--- n items from position k on; behind the last item is the first
+-- n items from position k on; after the last item comes the first
 abbrev pub window : {X : Type 0} → ℕ → ℕ → List X → List X
 window k n xs = take n (drop k xs ++ take k xs)
 

@@ -28,7 +28,7 @@ impl Head {
 #[derive(Drop)]
 pub(crate) struct Packets {
     heads: Vec<Head>,
-    // `MAX_DATAGRAM` for each head; what lies behind the end of a datagram is never read, so no call
+    // `MAX_DATAGRAM` for each head; what lies after the end of a datagram is never read, so no call
     // clears it
     bytes: Vec<u8>,
 }

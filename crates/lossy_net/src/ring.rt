@@ -2,8 +2,8 @@
 ghost use Rattle.std.specs.Prelude.{◌≡◌, ◌+◌, ◌≤◌, ◌<◌, ◌%◌, min};
 ghost use Rattle.lossy_net.specs.Ring.{before};
 
-/// The newest lies in place `newest`, and each older one in the place behind; behind the last place
-/// is the first.
+/// The newest lies in place `newest`, and each older one in the next place; after the last place
+/// comes the first.
 #[derive(Clone, Copy)]
 pub(crate) struct Ring {
     pub(crate) newest: usize,

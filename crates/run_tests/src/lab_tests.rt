@@ -119,7 +119,7 @@ fn all_give(alloc: Global, text: &str, rows: &[Row]) -> bool {
     true
 }
 
-/// The text is 17 bytes long, and a read behind them finds its end. Nothing is written before the first
+/// The text is 17 bytes long, and a read after them finds its end. Nothing is written before the first
 /// event; then each line is, and the writer is flushed before a read.
 #[rattlefmt::skip]
 const FAILING: [Row; 17] = [
@@ -179,7 +179,7 @@ fn long_line(alloc: Global, length: usize) -> Result<String, AllocError> {
     Ok(text)
 }
 
-/// Whether a run over a long line that comes byte by byte, each behind interruptions, some 100,000 in all, does so.
+/// Whether a run over a long line that comes byte by byte, each after interruptions, some 100,000 in all, does so.
 fn a_long_line_gives(alloc: Global, length: usize, status: u8, lines: &'static str) -> bool {
     let row = Row {
         reads: (1, 10_000),

@@ -83,7 +83,7 @@ read_past texts i d found h read all are =
     let next = next_of texts i d rest h behind in
     omega (arith, ap length next.whole, read.count)
 
--- behind the last text all are read
+-- after the last text all are read
 pub read_all : (texts : List Value) (i : ℕ) (found : List Addr4) → length texts ≤ i → HasRead texts i found → AreAddresses (each text_of (items_view texts)) found
 read_all texts i found past read =
     let none_left = at_drop_all (λ vs. each text_of (items_view vs)) texts i past in

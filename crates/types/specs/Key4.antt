@@ -1,4 +1,4 @@
--- How a key's bytes lie in its 64: first, and zeros behind them.
+-- How a key's bytes lie in its 64: first, and zeros after them.
 use Rattle.std.specs.Prelude.{◌≡◌, ℕ, ◌-◌, ◌≤◌, List, ◌++◌, length, take, replicate}
 use Rattle.types.specs.declared.key4.Key4.TheInside.{Inside}
 

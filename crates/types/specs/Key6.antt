@@ -1,4 +1,4 @@
--- A DHCPv6 client, and how its DUID lies in 130 bytes: first, and zeros behind it.
+-- A DHCPv6 client, and how its DUID lies in 130 bytes: first, and zeros after it.
 use Rattle.std.specs.Prelude.{◌≡◌, ℕ, Bool, ◌&&◌, ◌==◌, ◌-◌, ◌≤◌, List, ◌++◌, length, take, replicate}
 use Rattle.std.specs.Str.{bytes_eq}
 use Rattle.types.specs.declared.key6.Key6.TheInside.{Inside}

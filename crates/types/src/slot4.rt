@@ -4,8 +4,8 @@ ghost use Rattle.types.specs.Slots.{live4};
 
 use crate::key4::Key4;
 
-/// What a region keeps of one address. A moment is in seconds; what it stands behind is live while
-/// it is greater than the circuit's clock.
+/// What a region keeps of one address. A moment is in seconds; what has one is live while
+/// that is greater than the circuit's clock.
 #[derive(Clone, Copy, Debug, PartialEq, Eq)]
 pub enum Slot4 {
     Free,

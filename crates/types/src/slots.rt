@@ -6,8 +6,8 @@ use crate::key6::Key6;
 use crate::moment::Moment;
 use crate::slot4::Slot4;
 
-/// What a region keeps of one address of a DHCPv6 pool. A moment is in seconds; what it stands
-/// behind is live while it is greater than the circuit's clock.
+/// What a region keeps of one address of a DHCPv6 pool. A moment is in seconds; what has one
+/// is live while that is greater than the circuit's clock.
 #[derive(Clone, Copy, Debug, PartialEq, Eq)]
 pub enum Slot6 {
     Free,

@@ -13,7 +13,7 @@ use Rattle.wire.specs.Part.{part}
 use Rattle.v4_message.specs.Header.{header_at}
 use Rattle.v4_message.specs.Spelling.{MessageValue}
 
--- The cookie stands behind the 236 bytes of the header, and the options from 240 on.
+-- The cookie stands after the 236 bytes of the header, and the options from 240 on.
 abbrev pub has_cookie : List ℕ → Bool
 has_cookie bytes = bytes_eq (part bytes 236 4) MAGIC_COOKIE
 

@@ -18,7 +18,7 @@ pub enum SaveStep {
     /// Closes the gate of the half that does not count. A gate that reads closed already is not written
     /// to: while its byte is in doubt, it could become an open gate before a half that must not count.
     Close,
-    /// Writes what is behind this gate.
+    /// Writes what follows this gate.
     Fill,
     /// Opens the gate.
     Open,
