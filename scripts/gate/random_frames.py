@@ -1,10 +1,9 @@
 """Frames of both protocols that a client of a circuit of scripts/lib/configuration could send, as random.Random picks them. And
 what scripts/gate/random-lines and scripts/gate/mutated-lines do with their words."""
 import random
-import sys
-from pathlib import Path
 
 from messages import message, message6
+from operator_script import number, parser, run
 
 CLIENTS = 20
 POOL = 16
@@ -45,11 +44,16 @@ def is_event(line):
     return not line.startswith(("old ", "move "))
 
 
-def write(lines):
-    """Writes the lines that the command line asks for, of those that `lines` gives for so many circuits."""
-    words = sys.argv[1:]
-    if len(words) not in (2, 3) or not all(word.isdecimal() for word in words):
-        raise SystemExit(f"usage: scripts/gate/{Path(sys.argv[0]).name} LINES CIRCUITS [SEED]")
-    count, circuits, seed = [*map(int, words), 1][:3]
-    for _, line in zip(range(count), lines(random.Random(seed), circuits)):
-        print(line)
+def write(help_text, lines):
+    """Writes the lines that the command line asks for, of those that `lines` gives for so many circuits, and ends the script."""
+    reader = parser(help_text)
+    reader.add_argument("count", type=number(0, 999_999_999), metavar="LINES")
+    reader.add_argument("circuits", type=number(1, 1024), metavar="CIRCUITS")
+    reader.add_argument("seed", type=number(0, 999_999_999), nargs="?", default=1, metavar="SEED")
+
+    def main():
+        words = reader.parse_args()
+        for _, line in zip(range(words.count), lines(random.Random(words.seed), words.circuits)):
+            print(line)
+
+    run(main)
