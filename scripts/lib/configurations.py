@@ -25,8 +25,8 @@ NO_HOST4 = [(ipaddress.ip_network(text), words) for text, words in (
     ("224.0.0.0/4", "a multicast address"), ("240.0.0.0/4", "a reserved address"))]
 # nor a relay or the server; theirs may be loopback
 NO_SOURCE4 = [(ipaddress.ip_network(text), words) for text, words in (
-    ("0.0.0.0/8", "no address of a machine"), ("224.0.0.0/4", "a multicast address"), ("255.255.255.255/32", "the broadcast address"),
-    ("240.0.0.0/4", "a reserved address"))]
+    ("0.0.0.0/8", "no address of a machine"), ("127.255.255.255/32", "the broadcast address of loopback"),
+    ("224.0.0.0/4", "a multicast address"), ("255.255.255.255/32", "the broadcast address"), ("240.0.0.0/4", "a reserved address"))]
 LINK_LOCAL4 = ipaddress.ip_network("169.254.0.0/16")
 # the same (RFC 4291, sections 2.4 and 2.5)
 NO_HOST6 = [(ipaddress.ip_network(text), words) for text, words in (
