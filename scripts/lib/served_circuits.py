@@ -54,8 +54,6 @@ class Listing:
         self.status, self.words = done.returncode, done.stderr.decode("utf-8", "replace").rstrip("\n")
         if self.status == 5:
             self.words = why_unread(config, file) or self.words
-        if self.words.startswith("config "):
-            self.words = f"{config}: {self.words}"
         self.lines = [json.loads(line) for line in done.stdout.splitlines()]
 
     def is_done(self):

@@ -14,13 +14,15 @@ use access::{
     Access, AccessFault, AccessWords, DeviceFault, History, device_of, try_sockets, warn,
 };
 use command_line::{
-    REFUSED, StandardStreams, UNOPENED, UNREADABLE, complain, given_words, read_configuration,
+    REFUSED, StandardStreams, UNOPENED, UNREADABLE, complain, complain_of, given_words,
+    read_configuration, socket_cause, writing_cause,
 };
 use config::Config;
 use dispatch::region_count;
 use lease_disk::{FileDisk, REGION};
 use opening::open_device;
 use std::fs;
+use std::net::{IpAddr, Ipv4Addr, SocketAddr, UdpSocket};
 use std::process::ExitCode;
 use std::rt::Clock;
 use types::{Addr4, Circuit, RelayNo, Source};
@@ -35,17 +37,25 @@ fn device_status(fault: DeviceFault) -> u8
     }
 }
 
-/// Reports that the device does not serve.
-fn report_device(rt: &HostRuntime, path: &str, fault: DeviceFault) {
-    let opening = match fault {
-        DeviceFault::File => None,
-        DeviceFault::Memory => Some("open memory"),
-        DeviceFault::Format => Some("open disk"),
-    };
-    if let Some(line) = opening {
-        let _ = eprintln!(rt; "{line}");
+/// Reports that the file can't be opened, which was to be made where `makes` says so, with the system's cause if it says that
+/// once more.
+fn report_file(rt: &HostRuntime, path: &str, makes: bool) {
+    let cause = writing_cause(rt, path, makes);
+    if cause.is_some() {
+        let _ = complain_of(rt, path, "the file can't be opened", cause);
+    } else {
+        let _ = complain_of(rt, path, DeviceFault::File, None);
     }
-    let _ = eprintln!(rt; "{path}: {fault}");
+}
+
+/// Reports that the device does not serve, whose file was to be made where `makes` says so.
+fn report_device(rt: &HostRuntime, path: &str, fault: DeviceFault, makes: bool) {
+    let opening = match fault {
+        DeviceFault::File => return report_file(rt, path, makes),
+        DeviceFault::Memory => "open memory",
+        DeviceFault::Format => "open disk",
+    };
+    let _ = eprintln!(rt; "{opening}\n{path}: {fault}");
 }
 
 /// Whether the file with this path may be formatted, if there is one: nobody else has it, and it has whole regions, as one with
@@ -57,7 +67,7 @@ fn may_format_file(rt: &HostRuntime, path: &str) -> Result<(), u8>
         return Ok(());
     };
     if let Err(fault) = open_device(rt, path) {
-        report_device(rt, path, fault);
+        report_device(rt, path, fault, false);
         return Err(device_status(fault));
     }
     if found.len() % REGION as u64 != 0 {
@@ -91,9 +101,19 @@ fn device(rt: &HostRuntime, config: &Config, values: &AccessWords<'_>) -> Result
     match device_of(rt, values, config) {
         Ok(disk) => Ok(disk),
         Err(fault) => {
-            report_device(rt, values.disk, fault);
+            report_device(rt, values.disk, fault, values.format);
             Err(device_status(fault))
         }
+    }
+}
+
+/// Why the system binds no socket to this address, if it says that once more.
+fn bind_cause(rt: &HostRuntime, at: Source) -> Option<&'static str> {
+    let Addr4([a, b, c, d]) = at.addr;
+    let address = SocketAddr::new(IpAddr::V4(Ipv4Addr::new(a, b, c, d)), at.port);
+    match UdpSocket::bind(rt, address) {
+        Ok(_) => None,
+        Err(error) => socket_cause(error.kind()),
     }
 }
 
@@ -111,10 +131,10 @@ fn refuse(rt: &HostRuntime, config: &Config, disk: &str, fault: AccessFault) -> 
             );
             UNOPENED
         }
-        AccessFault::Socket(Source { addr, port }) => {
-            let Addr4([a, b, c, d]) = addr;
-            let _ = eprintln!(rt; "{a}.{b}.{c}.{d}:{port}: {fault}");
-            UNREADABLE
+        AccessFault::Socket(at) => {
+            let (Addr4([a, b, c, d]), port) = (at.addr, at.port);
+            let _ = eprint!(rt; "{a}.{b}.{c}.{d}:");
+            complain_of(rt, port, fault, bind_cause(rt, at))
         }
         AccessFault::TooManyCircuits => {
             let count = config.circuit_count();

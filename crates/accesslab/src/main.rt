@@ -9,7 +9,7 @@ ghost use Rattle.lab.specs.Lab.{lab_output};
 
 use command_line::{FAILED, StandardStreams, UNOPENED, complain, given_words, read_plans};
 use config::Plans;
-use lab::{LabWords, StdReader, StdWriter};
+use lab::{BAD_LINE, BadLine, LabWords, StdReader, StdWriter};
 use std::alloc::Global;
 use std::io::{self, BufWriter, Read, Write};
 use std::process::ExitCode;
@@ -24,13 +24,14 @@ fn flushed<W: Write + Drop>(writer: BufWriter<W>) -> Option<W>
 }
 
 /// Runs over a reader and a writer as the words say. Returns the status and the writer, which has the whole output,
-/// or none where memory ran out or one of the two failed.
+/// or none where memory ran out or one of the two failed; `bad` has the bad line that has ended it.
 fn run_over<R: Read + Drop, W: Write + Drop>(
     alloc: Global,
     plans: &Plans,
     values: &LabWords<'_>,
     reader: R,
     writer: W,
+    bad: &mut BadLine,
 ) -> (u8, Option<W>)
     requires least { 1 ≤ values.now.quota }
     requires most { values.now.quota ≤ 256 }
@@ -44,7 +45,7 @@ fn run_over<R: Read + Drop, W: Write + Drop>(
     };
     let mut reader = StdReader::new(reader);
     let mut writer = StdWriter::new(writer);
-    let status = lab::run(alloc, plans, values.quota, &mut reader, &mut writer);
+    let status = lab::run_explained(alloc, plans, values.quota, &mut reader, &mut writer, bad);
     if status == UNOPENED || status == FAILED {
         return (status, None);
     }
@@ -66,7 +67,13 @@ fn run(rt: &HostRuntime, values: LabWords<'_>) -> u8
         Ok(plans) => plans,
         Err(status) => return status,
     };
-    let (status, _) = run_over(rt.alloc(), &plans, &values, rt.reader(), io::writer(rt));
+    let mut bad = BadLine::new();
+    let (reader, writer) = (rt.reader(), io::writer(rt));
+    let (status, _) = run_over(rt.alloc(), &plans, &values, reader, writer, &mut bad);
+    if status == BAD_LINE {
+        let (number, why) = (bad.number(), bad.why(&plans));
+        let _ = eprintln!(rt; "line {number}: {why}");
+    }
     if status == UNOPENED {
         return complain(rt, "open memory", UNOPENED);
     }

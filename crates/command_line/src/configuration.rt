@@ -3,7 +3,8 @@ ghost use Rattle.std.specs.Prelude.{◌≡◌, ◌⊎◌, ℕ, ◌≤◌, List, 
 ghost use Rattle.config.specs.Plans.{ArePlans};
 ghost use Rattle.config.specs.Valid.{IsConfig};
 
-use crate::status::{REFUSED, UNREADABLE, complain};
+use crate::causes::{complain_of, file_cause};
+use crate::status::{REFUSED, complain};
 use config::{Config, ConfigFault, Plans};
 use std::alloc::{AllocError, Global};
 use std::fmt::Display;
@@ -30,21 +31,21 @@ fn refuse<D: Display + Drop>(rt: &HostRuntime, number: u8, path: Option<&str>, w
 }
 
 /// The text in a file. If that can't be read or is not UTF-8, reports why on standard error and returns the
-/// status. `shown` is the path where it is to be reported.
-fn text_in(rt: &HostRuntime, path: &str, shown: Option<&str>) -> Result<String, u8>
+/// status.
+fn text_in(rt: &HostRuntime, path: &str) -> Result<String, u8>
     ensures status { IfErr result (λ status. (status ≡ 2) ⊎ (status ≡ 5)) }
 {
     let bytes = match fs::read(rt, path) {
         Ok(bytes) => bytes,
         Err(error) if error.kind() == ErrorKind::OutOfMemory => return Err(out_of_memory(rt)),
-        Err(_) => {
-            let _ = eprint!(rt; "{path}: ");
-            return Err(complain(rt, "the file can't be read", UNREADABLE));
+        Err(error) => {
+            let cause = file_cause(error.kind());
+            return Err(complain_of(rt, path, "the file can't be read", cause));
         }
     };
     match String::from_utf8(bytes) {
         Ok(text) => Ok(text),
-        Err(_) => Err(refuse(rt, 41, shown, "the file is not UTF-8")),
+        Err(_) => Err(refuse(rt, 41, Some(path), "the file is not UTF-8")),
     }
 }
 
@@ -54,18 +55,19 @@ pub fn read_configuration(rt: &HostRuntime, path: &str) -> Result<Config, u8>
     ensures value { IfOk result (λ config. (text : List ℕ) × IsConfig text config) }
     ensures status { IfErr result (λ status. (status ≡ 2) ⊎ (status ≡ 5)) }
 {
-    let text = match text_in(rt, path, None) {
+    let text = match text_in(rt, path) {
         Ok(text) => text,
         Err(status) => return Err(status),
     };
     match Config::read(rt.alloc(), text.as_str()) {
         Ok(config) => Ok(config),
-        Err(fault) => Err(refuse(rt, fault.number(), None, fault)),
+        Err(ConfigFault::Memory) => Err(out_of_memory(rt)),
+        Err(fault) => Err(refuse(rt, fault.number(), Some(path), fault)),
     }
 }
 
 /// The texts in the files of these paths, in order. If one can't be read or is not UTF-8, reports why on standard
-/// error, with its path where there are several, and returns the status.
+/// error, with its path, and returns the status.
 fn texts_in(rt: &HostRuntime, paths: &[&str]) -> Result<Vec<String>, u8>
     ensures count { IfOk result (λ texts. length texts.items ≡ length paths.now) }
     ensures status { IfErr result (λ status. (status ≡ 2) ⊎ (status ≡ 5)) }
@@ -74,8 +76,7 @@ fn texts_in(rt: &HostRuntime, paths: &[&str]) -> Result<Vec<String>, u8>
         return Err(out_of_memory(rt));
     };
     for path in paths {
-        let shown = if paths.len() == 1 { None } else { Some(*path) };
-        let text = match text_in(rt, path, shown) {
+        let text = match text_in(rt, path) {
             Ok(text) => text,
             Err(status) => return Err(status),
         };
@@ -97,10 +98,10 @@ fn lend<'a>(alloc: Global, texts: &'a [String]) -> Result<Vec<&'a str>, AllocErr
     Ok(lent)
 }
 
-/// The path of the first text that is refused by itself, where there are several.
+/// The path of the first text that is refused by itself; of one alone that is refused.
 fn refused_path<'a>(alloc: Global, paths: &[&'a str], texts: &[&str]) -> Option<&'a str> {
     if texts.len() == 1 {
-        return None;
+        return paths.first().copied();
     }
     for (n, text) in texts.iter().enumerate() {
         match Config::read(alloc, text) {
@@ -114,7 +115,7 @@ fn refused_path<'a>(alloc: Global, paths: &[&'a str], texts: &[&str]) -> Option<
 
 /// The plans of the configurations in 1 to 8 files, in order. All files are read before any is taken for a
 /// configuration. If one can't be read or they are refused, reports why on standard error, with the path of a file
-/// that is refused by itself where there are several, and returns the status.
+/// that is refused by itself, and returns the status.
 pub fn read_plans(rt: &HostRuntime, paths: &[&str]) -> Result<Plans, u8>
     requires least { 1 ≤ length paths.now }
     requires most { length paths.now ≤ 8 }
@@ -131,6 +132,7 @@ pub fn read_plans(rt: &HostRuntime, paths: &[&str]) -> Result<Plans, u8>
     };
     match Plans::read(alloc, &lent) {
         Ok(plans) => Ok(plans),
+        Err(ConfigFault::Memory) => Err(out_of_memory(rt)),
         Err(fault) => {
             let path = refused_path(alloc, paths, &lent);
             Err(refuse(rt, fault.number(), path, fault))

@@ -5,6 +5,7 @@
 pub mod accessd_words;
 pub mod accesslab_words;
 mod arguments;
+mod causes;
 mod configuration;
 pub mod leases_words;
 mod refusal;
@@ -13,6 +14,7 @@ mod status;
 mod words;
 
 pub use arguments::{config_arg, number};
+pub use causes::{complain_of, reading_cause, socket_cause, writing_cause};
 pub use configuration::{read_configuration, read_plans};
 pub use refusal::Refusal;
 pub use standard_streams::StandardStreams;

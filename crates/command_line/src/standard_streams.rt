@@ -3,7 +3,7 @@ ghost use Rattle.std.specs.Prelude.{◌≡◌, IfOk, IfErr, IfSome};
 ghost use Rattle.std.specs.Fd.{file_raw_fd};
 ghost use Rattle.command_line.specs.StandardStreams.{AreInPlace, AreTaken};
 
-use crate::status::{UNREADABLE, complain};
+use crate::causes::{complain_of, file_cause};
 use std::fs::File;
 use std::io;
 use std::os::fd::{AsRawFd, RawFd};
@@ -49,9 +49,10 @@ impl StandardStreams {
     {
         match StandardStreams::opened(rt) {
             Ok(streams) if 2 < streams.last.as_raw_fd() => Ok(streams),
-            _ => {
-                let _ = eprint!(rt; "{NULL}: ");
-                Err(complain(rt, "the file can't be opened", UNREADABLE))
+            Ok(_) => Err(complain_of(rt, NULL, "the file can't be opened", None)),
+            Err(error) => {
+                let cause = file_cause(error.kind());
+                Err(complain_of(rt, NULL, "the file can't be opened", cause))
             }
         }
     }

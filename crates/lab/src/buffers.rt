@@ -23,6 +23,8 @@ pub(crate) struct Buffers {
     pub(crate) out: PacketBuf,
     /// The digits of what leaves.
     pub(crate) row: [u8; MAX_DIGITS],
+    /// The number of the last line that was applied, or is bad.
+    pub(crate) line: u64,
 }
 
 impl Buffers {
@@ -33,6 +35,7 @@ impl Buffers {
             parts: Parts::new(),
             out: PacketBuf::new(),
             row: [0; MAX_DIGITS],
+            line: 0,
         }
     }
 

@@ -47,6 +47,7 @@ pub(crate) fn apply_lines<M: Machine, R: ByteReader, W: ByteWriter>(
     // each line before the last has a byte at least, its line feed
     'lines: for earlier in next.earlier..MAX_TEXT {
         let number = earlier + 1;
+        buffers.line = number;
         let len = match end {
             LineEnd::Newline(len) => len,
             LineEnd::TooLong => return refuse(number, writer),

@@ -2,6 +2,7 @@
 #![tactic(auto)]
 
 mod apply_line;
+mod bad_line;
 mod batch_output;
 mod buffers;
 mod engine;
@@ -11,8 +12,9 @@ mod output;
 mod preparations;
 mod status;
 
+pub use bad_line::BadLine;
 pub use command_line::accesslab_words::{LabWords, words};
 pub use engine::lab;
-pub use opening::run;
+pub use opening::{run, run_explained};
 pub use status::{BAD_LINE, DONE};
 pub use streams::{ByteReader, ByteWriter, Failed, MAX_LINE, MAX_TEXT, StdReader, StdWriter};

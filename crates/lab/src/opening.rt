@@ -11,6 +11,7 @@ ghost use Rattle.lease_disk.specs.Model.{device_of, state_of};
 ghost use Rattle.world.specs.Start.{Opening};
 ghost use Rattle.world.specs.World.{states};
 
+use crate::bad_line::BadLine;
 use crate::buffers::Buffers;
 use crate::engine::apply_lines;
 use crate::preparations::prepare_all;
@@ -40,13 +41,14 @@ fn opened(alloc: Global, plans: &Plans, disk: ModelDisk, quota: u16) -> Result<W
 /// status: 0 at the end of the text, 3 at a bad line, 4 where the world was not opened, 6 exactly where
 /// the reader or the writer fails or 2^64 - 1 bytes were read.
 ///
-/// The contract does not say that 4 is returned only when out of memory.
-pub fn run<R: ByteReader, W: ByteWriter>(
+/// The contract does not say that 4 is returned only when out of memory, nor that `bad` has the line at 3.
+pub fn run_explained<R: ByteReader, W: ByteWriter>(
     alloc: Global,
     plans: &Plans,
     quota: u16,
     reader: &mut R,
     writer: &mut W,
+    bad: &mut BadLine,
 ) -> u8
     requires some { 1 ≤ quota }
     requires most { quota ≤ 256 }
@@ -80,7 +82,7 @@ pub fn run<R: ByteReader, W: ByteWriter>(
     let Ok(mut world) = opened(alloc, plans, disk, quota) else {
         return UNOPENED;
     };
-    apply_lines(
+    let status = apply_lines(
         &mut world,
         plans,
         next,
@@ -88,5 +90,41 @@ pub fn run<R: ByteReader, W: ByteWriter>(
         &mut buffers,
         reader,
         writer,
-    )
+    );
+    // a bad line is not consumed
+    bad.keep(buffers.line, ahead.as_slice());
+    status
+}
+
+/// `run_explained`, without the bad line.
+pub fn run<R: ByteReader, W: ByteWriter>(
+    alloc: Global,
+    plans: &Plans,
+    quota: u16,
+    reader: &mut R,
+    writer: &mut W,
+) -> u8
+    requires some { 1 ≤ quota }
+    requires most { quota ≤ 256 }
+
+    // The output is that of the whole text.
+    ensures written { (text : List ℕ) → R.remaining reader.old ≡ Some text → ¬ (result ≡ 4) → ¬ (result ≡ 6)
+        → Appends (W.contents writer.old) (W.contents writer.new) (lab_output plans.now quota text).text
+        × (result ≡ (lab_output plans.now quota text).status) }
+
+    // Without a world nothing is written.
+    ensures unwritten { result ≡ 4 → W.contents writer.new ≡ W.contents writer.old }
+
+    // The status is 4 or one of `lab`'s.
+    ensures status { (result ≡ 4) ⊎ IsStatus result }
+
+    // Where the reader or the writer failed, a prefix of the output for what was read is written.
+    ensures partial { result ≡ 6 → IsPartial (lab_output plans.now quota) (R.remaining reader.old) (R.remaining reader.new) (W.contents writer.old) (W.contents writer.new) }
+
+    // A failure has a cause, and nothing else comes of one.
+    ensures cause { result ≡ 6 → HasCause (R.remaining reader.old) (R.remaining reader.new) (R.failures reader.old) (R.failures reader.new) (W.failures writer.old) (W.failures writer.new) }
+    ensures quiet { ¬ (result ≡ 6) → HasNoCause (R.remaining reader.old) (R.remaining reader.new) (R.failures reader.old) (R.failures reader.new) (W.failures writer.old) (W.failures writer.new) }
+{
+    let mut bad = BadLine::new();
+    run_explained(alloc, plans, quota, reader, writer, &mut bad)
 }

@@ -80,7 +80,7 @@ impl Parts {
 }
 
 /// The number of the shared sync that fails, as calls of a save count, 0 for none.
-fn sync_fault(text: &[u8]) -> Option<u8>
+pub(crate) fn sync_fault(text: &[u8]) -> Option<u8>
     ensures { result ≡ sync_fault_of text.now }
 {
     match fault_number(text) {
@@ -90,7 +90,7 @@ fn sync_fault(text: &[u8]) -> Option<u8>
 }
 
 /// The number of the write of a part that fails, as calls of a save count, 0 for none.
-fn write_fault(text: &[u8]) -> Option<u8>
+pub(crate) fn write_fault(text: &[u8]) -> Option<u8>
     ensures { result ≡ write_fault_of text.now }
 {
     match fault_number(text) {

@@ -25,7 +25,7 @@ const MAX_PLAN: u64 = 255;
 const MAX_OFFSET: u64 = 32768;
 
 /// The protocol, `4` or `6`.
-fn protocol(text: &[u8]) -> Option<Proto>
+pub(crate) fn protocol(text: &[u8]) -> Option<Proto>
     ensures { result ≡ proto_of text.now }
 {
     if text == b"4".as_slice() {
@@ -38,7 +38,7 @@ fn protocol(text: &[u8]) -> Option<Proto>
 }
 
 /// An offset in a region, or its length.
-fn offset(text: &[u8]) -> Option<usize>
+pub(crate) fn offset(text: &[u8]) -> Option<usize>
     ensures value { result ≡ number_to 32768 text.now }
     ensures most { IfSome result (λ at. at ≤ 32768) }
 {
@@ -49,7 +49,7 @@ fn offset(text: &[u8]) -> Option<usize>
 }
 
 /// The number of a plan.
-fn plan_number(text: &[u8]) -> Option<u8>
+pub(crate) fn plan_number(text: &[u8]) -> Option<u8>
     ensures { result ≡ number_to 255 text.now }
 {
     match number(text, MAX_PLAN) {

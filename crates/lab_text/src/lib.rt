@@ -11,8 +11,10 @@ mod forms;
 mod hexadecimal;
 pub mod parse_line;
 mod parting;
+mod reasons;
 mod sources;
 
 pub use batches::Parts;
 pub use comebacks::ZEROED;
 pub use hexadecimal::MAX_BYTES;
+pub use reasons::{WhyBad, why_bad};

@@ -6,7 +6,8 @@ ghost use Rattle.leases.specs.Listing.{HasListed, Keeps, with_found};
 ghost use Rattle.leases.specs.Status.{IsExitStatus, file_status, noted_status};
 
 use command_line::{
-    FAILED, StandardStreams, UNOPENED, UNREADABLE, complain, given_words, read_configuration,
+    FAILED, StandardStreams, UNOPENED, complain, complain_of, given_words, read_configuration,
+    reading_cause,
 };
 use config::{CircuitPart, Config};
 use dispatch::region_count;
@@ -26,12 +27,13 @@ const CLOSED: u8 = 3;
 fn refuse_file(rt: &HostRuntime, path: &str, fault: FileFault) -> u8
     ensures { result ≡ file_status fault }
 {
-    let status = match fault {
-        FileFault::File => UNREADABLE,
-        FileFault::Memory => UNOPENED,
-    };
-    let _ = eprint!(rt; "{path}: ");
-    complain(rt, fault, status)
+    match fault {
+        FileFault::File => complain_of(rt, path, fault, reading_cause(rt, path)),
+        FileFault::Memory => {
+            let _ = eprint!(rt; "{path}: ");
+            complain(rt, fault, UNOPENED)
+        }
+    }
 }
 
 /// The file with the leases, which has the region of each circuit.

@@ -4,29 +4,29 @@ use Rattle.lab.proofs.CauseLemmas.{cause_from, has_read, none_from}
 use Rattle.lab.proofs.PreparationLemmas.{opened_so_far}
 use Rattle.lab.proofs.RunLemmas.{ended_written}
 use Rattle.lab.proofs.StartLemmas.{known_at_first}
-use Rattle.lab.proofs.opening.run.Goals as goal
+use Rattle.lab.proofs.opening.run_explained.Goals as goal
 
 pub returns-clause-written : goal.returns-clause-written
 returns-clause-written g c = λ text is opened fine.
-    ended_written (lab_output c.args.plans.now c.args.quota) text _ _ _ _ c.apply_lines.result
-    (c.apply_lines.ensures.ends c.args.quota (lab_output c.args.plans.now c.args.quota) _ _
+    ended_written (lab_output c.args.plans.now c.args.quota) text _ _ _ _ c.apply_lines-status.result
+    (c.apply_lines-status.ensures.ends c.args.quota (lab_output c.args.plans.now c.args.quota) _ _
     (opened_so_far c.args.plans.now c.args.quota (c.in-Ok-prepare_all.next.earlier + 1) _ _ _ _ _ _ (c.in-Ok-prepare_all.ensures.prepared c.args.quota) c.in-Ok-opened.ensures.represents)
     (known_at_first c.args.plans.now c.in-Ok-opened.world c.in-Ok-opened.ensures.topology)) is fine
 
 pub returns-clause-partial : goal.returns-clause-partial
 returns-clause-partial g c = λ failed.
-    let ends = c.apply_lines.ensures.ends c.args.quota (lab_output c.args.plans.now c.args.quota) _ _
+    let ends = c.apply_lines-status.ensures.ends c.args.quota (lab_output c.args.plans.now c.args.quota) _ _
     (opened_so_far c.args.plans.now c.args.quota (c.in-Ok-prepare_all.next.earlier + 1) _ _ _ _ _ _ (c.in-Ok-prepare_all.ensures.prepared c.args.quota) c.in-Ok-opened.ensures.represents)
     (known_at_first c.args.plans.now c.in-Ok-opened.world c.in-Ok-opened.ensures.topology) in
     record { read = ends.read; consumed = ends.consumed; partial = ends.partial failed }
 
 pub returns-clause-cause : goal.returns-clause-cause
 returns-clause-cause g c = λ failed.
-    cause_from _ _ _ _ _ _ _ _ c.in-Ok-prepare_all.ensures.quiet refl (c.apply_lines.ensures.cause _ c.prepare_all.ensures.counted failed)
+    cause_from _ _ _ _ _ _ _ _ c.in-Ok-prepare_all.ensures.quiet refl (c.apply_lines-status.ensures.cause _ c.prepare_all.ensures.counted failed)
 
 pub returns-clause-quiet : goal.returns-clause-quiet
 returns-clause-quiet g c = λ fine.
-    none_from _ _ _ _ _ _ _ _ c.in-Ok-prepare_all.ensures.quiet refl (c.apply_lines.ensures.quiet _ c.prepare_all.ensures.counted fine)
+    none_from _ _ _ _ _ _ _ _ c.in-Ok-prepare_all.ensures.quiet refl (c.apply_lines-status.ensures.quiet _ c.prepare_all.ensures.counted fine)
 
 -- the world was not opened: nothing more was read, and nothing written
 pub returns-in_default-opened-clause-quiet : goal.returns-in_default-opened-clause-quiet
@@ -39,4 +39,4 @@ returns-in_default-opened-clause-quiet g c = λ fine. record {
 }
 
 pub returns-clause-status : goal.returns-clause-status
-returns-clause-status g c = inr c.apply_lines.ensures.status
+returns-clause-status g c = inr c.apply_lines-status.ensures.status
