@@ -43,20 +43,32 @@ pub enum WhyBad<'a> {
     /// A field by its name, and what it may be.
     Value(&'static str, &'static str, &'a [u8]),
     NoByte(&'a [u8]),
-    NoDigits,
-    NoDigit(&'a [u8]),
-    OddDigits,
-    TooManyBytes,
-    PastRegion,
-    NoSource(&'a [u8]),
-    OfRelay(&'a [u8]),
-    OfServer(&'a [u8]),
+    Bytes(BytesFault<'a>),
+    Source(SourceFault<'a>),
     /// A field of several parts, and how it is spelled.
     Unlike(&'a [u8], &'static str),
     Twice(&'a [u8]),
     TooManyParts,
     /// The first field of a line that stands before all events.
     Late(&'a [u8]),
+}
+
+/// What is wrong with bytes in hexadecimal digits.
+#[derive(Clone, Copy, Debug)]
+pub enum BytesFault<'a> {
+    Empty,
+    NoDigit(&'a [u8]),
+    Odd,
+    TooMany,
+    PastRegion,
+}
+
+/// What is wrong with the source of a stray.
+#[derive(Clone, Copy, Debug)]
+pub enum SourceFault<'a> {
+    NoAddress(&'a [u8]),
+    OfRelay(&'a [u8]),
+    OfServer(&'a [u8]),
 }
 
 /// A text in quotation marks. Of a long one its beginning is shown; a byte that is no visible ASCII character as `\xHH`.
@@ -86,6 +98,51 @@ fn has_leading_zero(text: &[u8]) -> bool {
     text.len() > 1 && text[0] == b'0' && text.iter().all(|byte| byte.is_ascii_digit())
 }
 
+impl fmt::Display for BytesFault<'_> {
+    fn fmt<W: fmt::Write>(&self, f: &mut fmt::Formatter<W>) -> fmt::Result {
+        match self {
+            BytesFault::Empty => f.write_str("HEX is empty; - is for no bytes"),
+            BytesFault::NoDigit(byte) => {
+                write!(f, "HEX has {}, which is no hexadecimal digit", Quoted(byte))
+            }
+            BytesFault::Odd => f.write_str("HEX has an odd number of digits"),
+            BytesFault::TooMany => f.write_str("HEX has more than 2048 bytes"),
+            BytesFault::PastRegion => f.write_str("HEX goes past the 32768 bytes of a region"),
+        }
+    }
+}
+
+impl fmt::Display for SourceFault<'_> {
+    fn fmt<W: fmt::Write>(&self, f: &mut fmt::Formatter<W>) -> fmt::Result {
+        let (whose, text) = match self {
+            SourceFault::NoAddress(text) => {
+                return write!(f, "SRC is an address and port, and not {}", Quoted(text));
+            }
+            SourceFault::OfRelay(text) => ("a relay's", text),
+            SourceFault::OfServer(text) => ("the server's", text),
+        };
+        write!(
+            f,
+            "SRC is {whose}, {}, so that this is no stray",
+            Quoted(text)
+        )
+    }
+}
+
+/// Writes what is wrong with a field of this name, which is one of these values.
+fn write_value<W: fmt::Write>(
+    f: &mut fmt::Formatter<W>,
+    name: &str,
+    values: &str,
+    text: &[u8],
+) -> fmt::Result {
+    write!(f, "{name} is {values}, and not {}", Quoted(text))?;
+    if has_leading_zero(text) {
+        f.write_str(": no number begins with a zero")?;
+    }
+    Ok(())
+}
+
 impl fmt::Display for WhyBad<'_> {
     fn fmt<W: fmt::Write>(&self, f: &mut fmt::Formatter<W>) -> fmt::Result {
         match self {
@@ -99,40 +156,12 @@ impl fmt::Display for WhyBad<'_> {
             WhyBad::NoPlan(text, last) => {
                 write!(f, "K is 0 to {last}, and not {}", Quoted(text))
             }
-            WhyBad::Value(name, values, text) => {
-                write!(f, "{name} is {values}, and not {}", Quoted(text))?;
-                if has_leading_zero(text) {
-                    f.write_str(": no number begins with a zero")?;
-                }
-                Ok(())
-            }
+            WhyBad::Value(name, values, text) => write_value(f, name, values, text),
             WhyBad::NoByte(text) => {
                 write!(f, "HH is two hexadecimal digits, and not {}", Quoted(text))
             }
-            WhyBad::NoDigits => f.write_str("HEX is empty; - is for no bytes"),
-            WhyBad::NoDigit(byte) => {
-                write!(f, "HEX has {}, which is no hexadecimal digit", Quoted(byte))
-            }
-            WhyBad::OddDigits => f.write_str("HEX has an odd number of digits"),
-            WhyBad::TooManyBytes => f.write_str("HEX has more than 2048 bytes"),
-            WhyBad::PastRegion => f.write_str("HEX goes past the 32768 bytes of a region"),
-            WhyBad::NoSource(text) => {
-                write!(f, "SRC is an address and port, and not {}", Quoted(text))
-            }
-            WhyBad::OfRelay(text) => {
-                write!(
-                    f,
-                    "SRC is a relay's, {}, so that this is no stray",
-                    Quoted(text)
-                )
-            }
-            WhyBad::OfServer(text) => {
-                write!(
-                    f,
-                    "SRC is the server's, {}, so that this is no stray",
-                    Quoted(text)
-                )
-            }
+            WhyBad::Bytes(fault) => write!(f, "{fault}"),
+            WhyBad::Source(fault) => write!(f, "{fault}"),
             WhyBad::Unlike(field, form) => write!(f, "{} is not {form}", Quoted(field)),
             WhyBad::Twice(id) => write!(f, "circuit {} stands in it twice", Quoted(id)),
             WhyBad::TooManyParts => f.write_str("a batch has at most 16 parts"),
@@ -197,21 +226,21 @@ fn byte_fault<'a>(text: &'a [u8]) -> Result<(), WhyBad<'a>> {
 /// How many bytes a text spells.
 fn length_of<'a>(text: &'a [u8]) -> Result<usize, WhyBad<'a>> {
     if text.is_empty() {
-        return Err(WhyBad::NoDigits);
+        return Err(WhyBad::Bytes(BytesFault::Empty));
     }
     if text == b"-".as_slice() {
         return Ok(0);
     }
     if text.len() > 2 * MAX_BYTES {
-        return Err(WhyBad::TooManyBytes);
+        return Err(WhyBad::Bytes(BytesFault::TooMany));
     }
     'digits: for at in 0..text.len() {
         if !text[at].is_ascii_hexdigit() {
-            return Err(WhyBad::NoDigit(&text[at..at + 1]));
+            return Err(WhyBad::Bytes(BytesFault::NoDigit(&text[at..at + 1])));
         }
     }
     if text.len() % 2 == 1 {
-        return Err(WhyBad::OddDigits);
+        return Err(WhyBad::Bytes(BytesFault::Odd));
     }
     Ok(text.len() / 2)
 }
@@ -244,7 +273,7 @@ fn load_fault<'a>(config: &Config, fields: &[&'a [u8]]) -> Result<(), WhyBad<'a>
                 return value_fault(false, "AT", "0 to 32768", *at);
             };
             if length_of(*digits)? > REGION.saturating_sub(start) {
-                return Err(WhyBad::PastRegion);
+                return Err(WhyBad::Bytes(BytesFault::PastRegion));
             }
             Ok(())
         }
@@ -318,14 +347,13 @@ fn stray_up_fault<'a>(config: &Config, fields: &[&'a [u8]]) -> Result<(), WhyBad
         [proto, from, digits, now] => {
             protocol_fault(*proto)?;
             let Some(sender) = source(*from) else {
-                return Err(WhyBad::NoSource(*from));
+                return Err(WhyBad::Source(SourceFault::NoAddress(*from)));
             };
-            length_of(*digits)?;
-            moment_fault(*now)?;
             if is_relay(config, sender) {
-                return Err(WhyBad::OfRelay(*from));
+                return Err(WhyBad::Source(SourceFault::OfRelay(*from)));
             }
-            Ok(())
+            length_of(*digits)?;
+            moment_fault(*now)
         }
         _ => Err(count_fault("strayup PROTO SRC HEX NOW", 4, fields.len())),
     }
@@ -338,12 +366,12 @@ fn stray_down_fault<'a>(config: &Config, fields: &[&'a [u8]]) -> Result<(), WhyB
                 return Err(WhyBad::NoRelay(*relay));
             }
             let Some(sender) = source(*from) else {
-                return Err(WhyBad::NoSource(*from));
+                return Err(WhyBad::Source(SourceFault::NoAddress(*from)));
             };
-            length_of(*digits)?;
             if is_server(config, sender) {
-                return Err(WhyBad::OfServer(*from));
+                return Err(WhyBad::Source(SourceFault::OfServer(*from)));
             }
+            length_of(*digits)?;
             Ok(())
         }
         _ => Err(count_fault("straydown RELAY SRC HEX", 3, fields.len())),
@@ -445,11 +473,11 @@ fn batch_fault<'a>(config: &Config, rest: Option<&'a [u8]>) -> Result<(), WhyBad
     let Some((sync, rest)) = next_field(rest) else {
         return Err(WhyBad::TooFew(BATCH));
     };
-    moment_fault(now)?;
-    value_fault(sync_fault(sync).is_some(), "SYNC", "0, 2, 4 or 6", sync)?;
     if rest.is_none() {
         return Err(WhyBad::TooFew(BATCH));
     }
+    moment_fault(now)?;
+    value_fault(sync_fault(sync).is_some(), "SYNC", "0, 2, 4 or 6", sync)?;
     let mut named = [false; MAX_CIRCUITS];
     let mut rest = rest;
     'parts: for count in 0..MAX_BATCH + 1 {
