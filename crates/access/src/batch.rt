@@ -127,10 +127,10 @@ impl Batch {
             let Some(answer) = self.answers.get(index) else {
                 return;
             };
-            if let Answer::Dropped(why) = answer
-                && *why != Discard::BatchTwice
+            if let Err(why) = answer.reply()
+                && why != Discard::BatchTwice
             {
-                count_dropped(&taken[index], *why, server, by_circuit);
+                count_dropped(&taken[index], why, server, by_circuit);
             }
         }
     }
@@ -212,7 +212,7 @@ fn parts_of<'a>(taken: &'a [Datagram]) -> [(Proto, Source, &'a [u8]); MAX_BATCH]
 fn is_repeated(answer: &Answer) -> bool
     ensures { result ≡ is_repeated (answer_of answer.now) }
 {
-    matches!(answer, Answer::Dropped(Discard::BatchTwice))
+    matches!(answer.reply(), Err(Discard::BatchTwice))
 }
 
 /// Sends an answer from this socket to there, or nothing where the datagram was dropped.
@@ -226,11 +226,9 @@ fn send_answer(
     ensures sent { HasSentOn socket.now.role to outcome.Answered (answer_of answer.now) history.old.entries history.new.entries result }
     ensures same { history.new.id ≡ history.old.id }
 {
-    match answer {
-        Answer::Reply(reply) => {
-            Outcome::Answered.if_sent(socket.send(reply.as_slice(), to, history))
-        }
-        Answer::Dropped(why) => Outcome::Dropped(*why),
+    match answer.reply() {
+        Ok(reply) => Outcome::Answered.if_sent(socket.send(reply.as_slice(), to, history)),
+        Err(why) => Outcome::Dropped(why),
     }
 }
 

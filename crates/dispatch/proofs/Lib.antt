@@ -7,6 +7,7 @@ pub mod ClosedLemmas
 pub mod HeldDeadlines
 pub mod OneByOne
 pub mod PartLemmas
+pub mod PlaceLemmas
 pub mod ReceivedLemmas
 pub mod RegionLemmas
 pub mod RestartLemmas

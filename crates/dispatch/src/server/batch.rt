@@ -20,7 +20,7 @@ ghost use Rattle.circuit_server.specs.Ticked.{state_of};
 
 use super::Server;
 use super::savings::Savings;
-use crate::batch_answers::{Answer, BatchAnswers};
+use crate::batch_answers::BatchAnswers;
 use arrayvec::ArrayVec;
 use batch_saves::{MAX_BATCH, Saving};
 use circuit_server::Prepared;
@@ -66,8 +66,8 @@ impl Server {
         self.servers.prepare(index, part, delivery, relayed, table)
     }
 
-    /// Answers what was prepared, by its save. One that failed closes the circuit.
-    fn settle(
+    /// Answers what was prepared, by its save. One that failed closes the circuit. At `Ok` the reply's datagram is in `out`.
+    pub(crate) fn settle(
         &mut self,
         circuit: Circuit,
         prepared: &Prepared<'_>,
@@ -190,30 +190,9 @@ impl Server {
     {
         answers.clear();
         match parts {
-            [part] => self.receive_alone(part, now, disk, answers),
+            [part] => answers.receive_alone(self, part, now, disk),
             _ => self.receive_together(parts, now, disk, answers),
         }
-    }
-
-    /// Receives the only datagram of a batch, which needs nothing of what a batch keeps between its steps.
-    fn receive_alone<D: Disk>(
-        &mut self,
-        part: &(Proto, Source, &[u8]),
-        now: Moment,
-        disk: &mut D,
-        answers: &mut BatchAnswers,
-    )
-        requires none { answers.old ≡ [] }
-        requires regions { HasRegions self.old.topology.circuits (D.device disk.old).count }
-        requires ready { D.tells ≡ true → AreReady (D.device disk.old).region self.old }
-        ensures topology { self.new.topology ≡ self.old.topology }
-        ensures deadlines { KeepsDeadlines (is_named self.old.topology (delivery part.now.0 part.now.1 now part.now.2.now ∷ [])) self.old.deadlines self.new.deadlines }
-        ensures held { AllAreOldOrHeld self.old.deadlines self.new.deadlines self.new.states }
-        ensures received { IsReceivedBatch D.tells (delivery part.now.0 part.now.1 now part.now.2.now ∷ []) answers.new self.old self.new (D.device disk.old) (D.device disk.new) }
-    {
-        let mut out = PacketBuf::new();
-        let made = self.receive(part.0, part.1, part.2, now, disk, &mut out);
-        answers.push(Answer::of(made, out));
     }
 
     /// Decides on all parts of a batch, saves them together, and answers them.
@@ -263,9 +242,7 @@ impl Server {
         ensures answered { (answer : Result (List ℕ) discard.Discard) × (answers.new ≡ answers.old ++ answer ∷ []) × IsSettledSo self.old.topology prepared.now (saved_by prepared.now.saving (part_at savings.now place)) circuit self.old.states self.new.states answer }
     {
         let saved = savings.outcome(prepared.saving, place);
-        let mut out = PacketBuf::new();
-        let made = self.settle(circuit, prepared, saved, &mut out);
-        answers.push(Answer::of(made, out));
+        answers.add_settled(self, circuit, prepared, saved);
     }
 
     /// Answers a part of a batch, where this is the place of its save among those of the batch.
@@ -290,7 +267,7 @@ impl Server {
             Ok((circuit, prepared)) => {
                 self.settle_part(*circuit, prepared, savings, place, answers);
             }
-            Err(why) => answers.push(Answer::Dropped(*why)),
+            Err(why) => answers.add_dropped(*why),
         }
     }
 

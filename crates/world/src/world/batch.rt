@@ -196,11 +196,11 @@ fn send_answer(net: &mut Net, part: Waiting, answer: Option<&Answer>)
     ensures circuits { length net.new.circuits ≡ length net.old.circuits }
     ensures quota { net.new.quota ≡ net.old.quota }
 {
-    match answer {
-        Some(Answer::Reply(reply)) => {
-            net.send(part.circuit, Dir::Down, part.proto, reply);
-        }
-        _ => {}
+    let Some(answer) = answer else {
+        return;
+    };
+    if let Ok(reply) = answer.reply() {
+        net.send(part.circuit, Dir::Down, part.proto, reply);
     }
 }
 
@@ -221,10 +221,12 @@ fn send_all(net: &mut Net, waiting: &[Waiting], answers: &BatchAnswers)
 fn answer_outcome(answer: Option<&Answer>) -> PartOutcome
     ensures value { result ≡ answer_outcome (option_map (λ a. answer_of a.now) answer.entry) }
 {
-    match answer {
-        Some(Answer::Reply(reply)) => PartOutcome::SentDown(reply.len() as u16),
-        Some(Answer::Dropped(why)) => PartOutcome::Dropped(*why),
-        None => PartOutcome::Gone,
+    let Some(answer) = answer else {
+        return PartOutcome::Gone;
+    };
+    match answer.reply() {
+        Ok(reply) => PartOutcome::SentDown(reply.len() as u16),
+        Err(why) => PartOutcome::Dropped(why),
     }
 }
 

@@ -1,4 +1,4 @@
-use Rattle.std.proofs.Common.{◌≡◌, ◌∙◌, ◌<◌, ◌++◌, ◌∷◌, [], ℕ, List, length, refl, ap, subst}
+use Rattle.std.proofs.Common.{◌≡◌, ◌<◌, ℕ, List, length, refl, subst}
 use Rattle.std.specs.Prelude.{Option, Some, Result, slice_get}
 use Rattle.types.specs.declared.discard.Discard.{Discard}
 use Rattle.lease_disk.specs.declared.device.Fault.{Fault}
@@ -31,9 +31,10 @@ settled_so topology prepared c old new saved by_it result out answer inside is g
 
 pub returns-clause-answered : goal.returns-clause-answered
 returns-clause-answered c =
-    let answer = answer_by c.settle-made.result c.settle-made.new.out in (
+    let answered = c.add_settled.ensures.answered in
+    let answer = answer_by answered.0 answered.1 in (
       answer,
-      c.push.ensures ∙ ap (λ a. c.args.answers.now ++ a ∷ []) c.of.ensures,
-      settled_so c.args.self.now.topology c.args.prepared.now c.args.circuit c.args.self.now.states c.settle-made.new.self.states c.outcome-saved.result _ c.settle-made.result c.settle-made.new.out answer c.requires.circuit c.outcome-saved.ensures refl
-          c.settle-made.ensures.settled,
+      answered.2,
+      settled_so c.args.self.now.topology c.args.prepared.now c.args.circuit c.args.self.now.states c.add_settled.new.server.states c.outcome-saved.result _ answered.0 answered.1 answer c.requires.circuit c.outcome-saved.ensures refl
+          answered.3,
     )
