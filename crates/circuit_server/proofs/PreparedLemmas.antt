@@ -1,6 +1,6 @@
 -- What comes of a datagram that was prepared, once its save is done or has failed.
 use Rattle.std.proofs.Common.{◌≡◌, ◌⊎◌, inl, inr, ◌+◌, ◌∙◌, ◌≤◌, ◌==◌, ◌&&◌, ◌<◌, nat_le, nat_lt, not, ℕ, Bool, true, false, List, refl, sym, ap, subst, arith}
-use Rattle.std.specs.Prelude.{Option, Some, None, option_map, is_some, Result, Ok, Err, is_ok, IfOk, IfSome, if◌then◌else◌}
+use Rattle.std.specs.Prelude.{Option, Some, None, option_map, is_some, Result, Ok, Err, is_ok, IfErr, IfOk, IfSome, if◌then◌else◌}
 use Rattle.std.proofs.lemmas.Bool.{eq-eqb, eqb-true, leb-true}
 use Rattle.types.specs.Delivery.{DeliveryValue}
 use Rattle.types.specs.declared.discard.Discard.{Discard}
@@ -16,10 +16,10 @@ use Rattle.batch_saves.specs.Batch.{IsReady}
 use Rattle.batch_saves.specs.declared.saving.Saving.{Saving}
 use Rattle.circuit_server.specs.Answered.{IsAnswer, answered, saves}
 use Rattle.circuit_server.specs.Calls.{IsCalledToSaveAt}
-use Rattle.circuit_server.specs.CircuitDecision.{IsToSave, is_kept, kept_in, served_by}
+use Rattle.circuit_server.specs.CircuitDecision.{IsToSave, IsWithin, KeepsItsSlot, LosesNoOther, is_kept, kept_in, served_by}
 use Rattle.circuit_server.specs.CircuitServerValue.{HasPools, IsReadyFor, OpenCircuitValue, open_book}
 use Rattle.circuit_server.specs.Leases.{Leases, after_datagram, formats_of, restarts_of}
-use Rattle.circuit_server.specs.Prepared.{IsDropped, IsPrepared, IsSavedAlone, IsSettled, marks_by, saving_of, with_marks}
+use Rattle.circuit_server.specs.Prepared.{IsDecided, IsDropped, IsMade, IsPrepared, IsSavedAlone, IsSettled, marks_by, saving_of, with_marks}
 use Rattle.circuit_server.specs.Server.{Served, book_at, datagram_served, drop}
 use Rattle.circuit_server.specs.Deadlines.{AreOldOrHeld, HasDeadlines, held_in}
 use Rattle.circuit_server.specs.Ticked.{IsLater, open_at}
@@ -253,6 +253,57 @@ refused_dropped part d old o later why is ticked refused ready =
       leases = λ region fault. leases_as its (λ r. region) (λ r. region) (λ r. fault) (open_book later) true refl (λ keeps. absurd cc) (λ changes. refl) refl refl;
       ready = λ region was. ready region (subst (IsReadyFor region) is was);
     }
+
+-- ---- what is decided, and made
+
+pub refused_all : (part : CircuitPart) (d : DeliveryValue) (old : Option OpenCircuitValue) (o later : OpenCircuitValue) (result : Result CircuitDecision Discard) → old ≡ Some o → open_book later ≡ book_at d.moment (open_book o)
+    → IfErr result (λ why. datagram_served part d.proto d.bytes (open_book later) ≡ drop why (open_book later)) → ((region : Region) → IsReadyFor region (Some o) → IsReadyFor region (Some later)) → IfErr result (IsDropped part d old (Some later))
+refused_all part d old o later (Ok decision) is ticked refused ready = tt
+refused_all part d old o later (Err why) is ticked refused ready = refused_dropped part d old o later why is ticked refused ready
+
+pub decided_all : (part : CircuitPart) (d : DeliveryValue) (old : Option OpenCircuitValue) (o later : OpenCircuitValue) (result : Result CircuitDecision Discard) → old ≡ Some o → later ≡ open_at d.moment o → open_book later ≡ book_at d.moment (open_book o)
+    → IfOk result (λ decision. datagram_served part d.proto d.bytes (open_book later) ≡ served_by part later decision) → IfOk result (λ decision. KeepsItsSlot decision later) → IfOk result (λ decision. LosesNoOther decision later)
+    → IfOk result IsWithin → ((region : Region) → IsReadyFor region (Some o) → IsReadyFor region (Some later)) → IfOk result (IsDecided part d old (Some later))
+decided_all part d old o later (Err why) was at ticked serves keeps others within ready = tt
+decided_all part d old o later (Ok decision) was at ticked serves keeps others within ready = record {
+  before = o;
+  was = was;
+  is = ap Some at;
+  serves = asked part d (open_book o) (open_book later) _ ticked serves ∙ ap (λ x. served_by part x decision) at;
+  keeps = subst (KeepsItsSlot decision) at keeps;
+  others = subst (LosesNoOther decision) at others;
+  within = within;
+  ready = λ region kept. subst (λ x. IsReadyFor region (Some x)) at (ready region (subst (IsReadyFor region) was kept));
+}
+
+module _ (part : CircuitPart) (d : DeliveryValue) (old middle new : Option OpenCircuitValue) (decision : CircuitDecision) (saving : Option Saving) (decided : IsDecided part d old middle decision)
+    (made : (before : OpenCircuitValue) → middle ≡ Some before → IsMade part decision before new saving) (pools : HasPools part new) where
+  pub prepared_of : IsPrepared part d old new (record { decision = decision; saving = saving })
+  prepared_of =
+      let m = made (open_at d.moment decided.before) decided.is in
+      record {
+        before = decided.before;
+        after = m.after;
+        was = decided.was;
+        is = m.is;
+        decided = m.decided;
+        serves = decided.serves;
+        saving = m.saving_is;
+        keeps = decided.keeps;
+        within = decided.within;
+        pools = pools;
+        ready = decided.ready;
+        book = m.book;
+        means = m.means;
+      }
+
+-- of a result that was looked at
+pub prepared_by : (part : CircuitPart) (d : DeliveryValue) (old middle new : Option OpenCircuitValue) (result : Result CircuitDecision Discard) (decision : CircuitDecision) (saving : Option Saving) → result ≡ Ok decision → IfOk result (IsDecided part d old middle)
+    → ((before : OpenCircuitValue) → middle ≡ Some before → IsMade part decision before new saving) → HasPools part new → IsPrepared part d old new (record { decision = decision; saving = saving })
+prepared_by part d old middle new result decision saving is decided made pools = prepared_of part d old middle new decision saving (subst (λ r. IfOk r (IsDecided part d old middle)) is decided) made pools
+
+pub dropped_by : (part : CircuitPart) (d : DeliveryValue) (old new : Option OpenCircuitValue) (result : Result CircuitDecision Discard) (why : Discard) → result ≡ Err why → IfErr result (IsDropped part d old new) → IsDropped part d old new why
+dropped_by part d old new result why is dropped = subst (λ r. IfErr r (IsDropped part d old new)) is dropped
 
 -- ---- marks alone change nothing else
 

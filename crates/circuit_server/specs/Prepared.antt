@@ -13,16 +13,39 @@ use Rattle.lease_disk.specs.Region.{Region, effective, faults_after}
 use Rattle.lease_disk.specs.Save.{IsSaveOf}
 use Rattle.batch_saves.specs.declared.saving.Saving.{Saving}
 use Rattle.circuit_server.specs.Answered.{IsAnswer, answered, circuit_saves}
-use Rattle.circuit_server.specs.CircuitDecision.{IsWithin, KeepsItsSlot, answer_of, kept_in, served_by, with_decision}
+use Rattle.circuit_server.specs.CircuitDecision.{IsWithin, KeepsItsSlot, LosesNoOther, answer_of, kept_in, served_by, with_decision}
 use Rattle.circuit_server.specs.CircuitServerValue.{HasPools, IsReadyFor, OpenCircuitValue, counts_in, kept_slots, leases_of, open_book}
 use Rattle.circuit_server.specs.Leases.{after_datagram, book_in}
 use Rattle.circuit_server.specs.Server.{kept_book, served}
 use Rattle.circuit_server.specs.Ticked.{open_at}
+use Rattle.circuit_server.specs.declared.decision.CircuitDecision.{CircuitDecision}
 use Rattle.circuit_server.specs.declared.prepared.Prepared.{Prepared}
 
 -- the save of a slot that is to hold this
 abbrev pub saving_of : CircuitPart → OpenCircuitValue → ℕ × Content → Saving
 saving_of part o kept = record { region = part.region; clock = o.clock; slot = kept.0; content = kept.1; marks = o.marks; failed = 0 }
+
+-- An open circuit decided on a datagram at its moment, and nothing else is changed yet.
+pub record IsDecided (part : CircuitPart) (d : DeliveryValue) (old new : Option OpenCircuitValue) (decision : CircuitDecision) : Type 0 where
+  pub before : OpenCircuitValue
+  pub was : old ≡ Some before
+  pub is : new ≡ Some (open_at d.moment before)
+  pub serves : served part d (open_book before) ≡ served_by part (open_at d.moment before) decision
+  pub keeps : KeepsItsSlot decision (open_at d.moment before)
+  pub others : LosesNoOther decision (open_at d.moment before)
+  pub within : IsWithin decision
+  -- its region is as ready at the datagram's moment as it was before
+  pub ready : (region : Region) → IsReadyFor region old → IsReadyFor region (Some (open_at d.moment before))
+
+-- A decision's changes of the books are made, and this is to be saved.
+pub record IsMade (part : CircuitPart) (decision : CircuitDecision) (before : OpenCircuitValue) (new : Option OpenCircuitValue) (saving : Option Saving) : Type 0 where
+  pub after : OpenCircuitValue
+  pub is : new ≡ Some after
+  pub decided : after ≡ with_decision decision before
+  pub saving_is : saving ≡ option_map (saving_of part after) (kept_in decision)
+  -- what is saved is a book, its own
+  pub book : (kept : ℕ × Content) → kept_in decision ≡ Some kept → IsBook (counts_in after) (kept_slots after)
+  pub means : (kept : ℕ × Content) → kept_in decision ≡ Some kept → book_in part (kept_slots after) ≡ kept_book (open_book after)
 
 -- An open circuit decided on a datagram: its books have the decision's changes, and this is to be saved.
 pub record IsPrepared (part : CircuitPart) (d : DeliveryValue) (old new : Option OpenCircuitValue) (prepared : Prepared) : Type 0 where
@@ -70,6 +93,9 @@ with_marks None state = state
 with_marks (Some marks) state = option_map (λ (o : OpenCircuitValue). record o { marks = marks }) state
 
 -- After the save, done or not: the reply, or the circuit is closed.
+abbrev pub IsDecisionSettled : CircuitPart → CircuitDecision → Result (Option Marks) Fault → Option OpenCircuitValue → Option OpenCircuitValue → Result (Unit {0}) Discard → List ℕ → Type 0
+IsDecisionSettled part decision (Ok marks) old new result out = (new ≡ with_marks marks old) × IsAnswer (answer_of part decision) result out
+IsDecisionSettled part decision (Err fault) old new result out = (new ≡ None) × (result ≡ Err DiskFault) × (out ≡ [])
+
 abbrev pub IsSettled : CircuitPart → Prepared → Result (Option Marks) Fault → Option OpenCircuitValue → Option OpenCircuitValue → Result (Unit {0}) Discard → List ℕ → Type 0
-IsSettled part prepared (Ok marks) old new result out = (new ≡ with_marks marks old) × IsAnswer (answer_of part prepared.decision) result out
-IsSettled part prepared (Err fault) old new result out = (new ≡ None) × (result ≡ Err DiskFault) × (out ≡ [])
+IsSettled part prepared = IsDecisionSettled part prepared.decision

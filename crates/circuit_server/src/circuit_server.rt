@@ -3,22 +3,24 @@ ghost use Rattle.std.specs.Prelude.{◌≡◌, ◌<◌, ◌≤◌, ◌+◌, ℕ,
 ghost use Rattle.config.specs.CircuitPart.{IsPart};
 ghost use Rattle.circuit_server.specs.Deadlines.{AreOldOrHeld, HasDeadlines, SameBeside, held_in};
 ghost use Rattle.circuit_server.specs.Leases.{IsBroughtUp, after_datagram, counts_of, found_leases};
-ghost use Rattle.timers.specs.Deadlines.{deadline};
+ghost use Rattle.timers.specs.Deadlines.{DeadlinesValue, deadline};
 ghost use Rattle.types.specs.Slots.{last_until};
 ghost use Rattle.circuit_server.specs.Answered.{IsAnswer, answered, circuit_saves, fails_at};
 ghost use Rattle.requests.specs.RelayedMessage.{IsRelayedMessage};
-ghost use Rattle.circuit_server.specs.Prepared.{IsDropped, IsPrepared, IsSettled, with_marks};
+ghost use Rattle.circuit_server.specs.Prepared.{IsDecided, IsDecisionSettled, IsDropped, IsMade, IsPrepared, IsSettled, with_marks};
 ghost use Rattle.circuit_server.specs.Calls.{IsCalledToSaveAt};
-ghost use Rattle.circuit_server.specs.CircuitServerValue.{HasPools, IsReadyFor, kept_slots, leases_of, open_book};
+ghost use Rattle.circuit_server.specs.CircuitDecision.{IsWithin, KeepsItsSlot, LosesNoOther};
+ghost use Rattle.circuit_server.specs.CircuitServerValue.{HasPools, IsReadyFor, OpenCircuitValue, kept_slots, leases_of, open_book};
 ghost use Rattle.circuit_server.specs.SlotsOfPools.{HasSlots};
 ghost use Rattle.circuit_server.specs.Ticked.{IsLater, state_at};
 ghost use Rattle.circuit_server.specs.Unoffered.{state_unoffered};
 ghost use Rattle.lease_disk.specs.Device.{ChangesOne, Touches, WritesAt, has_failed};
 ghost use Rattle.lease_disk.specs.Region.{IsClean};
 
-use crate::decision::put;
+use crate::decision::{CircuitDecision, put};
 use crate::open_circuit::OpenCircuit;
 use crate::prepared::{Prepared, save_alone};
+use batch_saves::Saving;
 use config::CircuitPart;
 use lease_disk::{Disk, Fault, Marks, migrate};
 use requests::RelayedMessage;
@@ -100,6 +102,63 @@ impl CircuitServer {
         self.state = OpenCircuit::recover(part, disk);
     }
 
+    /// Moves the clock of an open circuit to the moment of a datagram of it, of which this was read, and decides on that. The
+    /// error is the reason for which the datagram is dropped.
+    fn decide<'a>(
+        &mut self,
+        part: &CircuitPart,
+        delivery: &Delivery<'_>,
+        relayed: RelayedMessage<'a>,
+    ) -> Result<CircuitDecision<'a>, Discard>
+        requires read { IsRelayedMessage delivery.now.proto delivery.now.bytes relayed }
+        requires pools { HasPools part.now self.old }
+        ensures later { (moment : ℕ) → IsLater moment self.old → IsLater moment self.new }
+        ensures pools { HasPools part.now self.new }
+        ensures deadlines { (table : DeadlinesValue) (first : ℕ) → HasDeadlines table first self.old → HasDeadlines table first self.new }
+        ensures decided { IfOk result (IsDecided part.now delivery.now self.old self.new) }
+        ensures dropped { IfErr result (IsDropped part.now delivery.now self.old self.new) }
+    {
+        let Some(circuit) = &mut self.state else {
+            return Err(Discard::CircuitClosed);
+        };
+        circuit.tick(delivery.moment);
+        circuit.decide(part, relayed)
+    }
+
+    /// Makes what a decision of an open circuit changes of the books and the deadlines. Returns what has to be saved before its
+    /// reply leaves, if anything.
+    fn make(
+        &mut self,
+        part: &CircuitPart,
+        decision: &CircuitDecision<'_>,
+        table: &mut Deadlines,
+        first: usize,
+    ) -> Option<Saving>
+        requires room { first + 32 ≤ length table.old.slots }
+        requires most { first ≤ 32736 }
+        requires deadlines { HasDeadlines table.old first self.old }
+        requires pools { HasPools part.now self.old }
+        requires keeps { IfSome self.old (KeepsItsSlot decision.now) }
+        requires others { IfSome self.old (LosesNoOther decision.now) }
+        requires within { IsWithin decision.now }
+        ensures later { (moment : ℕ) → IsLater moment self.old → IsLater moment self.new }
+        ensures pools { HasPools part.now self.new }
+        ensures deadlines { HasDeadlines table.new first self.new }
+        ensures beside { SameBeside first table.old table.new }
+        ensures own { AreOldOrHeld first table.old table.new self.new }
+        ensures made { (before : OpenCircuitValue) → self.old ≡ Some before → IsMade part.now decision.now before self.new result }
+    {
+        let Some(circuit) = &mut self.state else {
+            return None;
+        };
+        circuit.commit(decision);
+        decision.set_deadlines(table, first);
+        match decision.kept() {
+            Some((slot, content)) => Some(circuit.saving(part, slot, content)),
+            None => None,
+        }
+    }
+
     /// Decides on a datagram of the circuit, of which this was read, at the moment of its delivery, and makes what it changes
     /// of the books and the deadlines. Nothing is saved yet, and nothing sent: what is prepared has to be settled once its
     /// save is done, before any other call. The error is the reason for which the datagram is dropped.
@@ -124,20 +183,11 @@ impl CircuitServer {
         ensures prepared { IfOk result (IsPrepared part.now delivery.now self.old self.new) }
         ensures dropped { IfErr result (IsDropped part.now delivery.now self.old self.new) }
     {
-        let Some(circuit) = &mut self.state else {
-            return Err(Discard::CircuitClosed);
-        };
-        circuit.tick(delivery.moment);
-        let decision = match circuit.decide(part, relayed) {
+        let decision = match self.decide(part, delivery, relayed) {
             Ok(decision) => decision,
             Err(why) => return Err(why),
         };
-        circuit.commit(&decision);
-        decision.set_deadlines(table, first);
-        let saving = match decision.kept() {
-            Some((slot, content)) => Some(circuit.saving(part, slot, content)),
-            None => None,
-        };
+        let saving = self.make(part, &decision, table, first);
         Ok(Prepared { decision, saving })
     }
 
@@ -164,10 +214,35 @@ impl CircuitServer {
         ensures own { AreOldOrHeld first table.old table.new self.new }
         ensures settled { IsSettled part.now prepared.now saved self.old self.new result out.new }
     {
+        self.settle_decision(part, &prepared.decision, saved, out, table, first)
+    }
+
+    /// The same of a decision whose changes are made.
+    fn settle_decision(
+        &mut self,
+        part: &CircuitPart,
+        decision: &CircuitDecision<'_>,
+        saved: Result<Option<Marks>, Fault>,
+        out: &mut PacketBuf,
+        table: &mut Deadlines,
+        first: usize,
+    ) -> Result<(), Discard>
+        requires empty { out.old ≡ [] }
+        requires room { first + 32 ≤ length table.old.slots }
+        requires most { first ≤ 32736 }
+        requires deadlines { HasDeadlines table.old first self.old }
+        requires pools { HasPools part.now self.old }
+        ensures later { (moment : ℕ) → IsLater moment self.old → IsLater moment self.new }
+        ensures pools { HasPools part.now self.new }
+        ensures deadlines { HasDeadlines table.new first self.new }
+        ensures beside { SameBeside first table.old table.new }
+        ensures own { AreOldOrHeld first table.old table.new self.new }
+        ensures settled { IsDecisionSettled part.now decision.now saved self.old self.new result out.new }
+    {
         match saved {
             Ok(marks) => {
                 self.set_marks(marks);
-                prepared.decision.reply(part, out)
+                decision.reply(part, out)
             }
             Err(_) => {
                 self.state = None;
@@ -223,12 +298,16 @@ impl CircuitServer {
         ensures frame { Touches D.tells part.now.region (D.device disk.old) (D.device disk.new) }
         ensures calls { IsCalledToSaveAt (circuit_saves delivery.now (Some part.now) (Some (option_map open_book self.old))) (D.device disk.old) (D.device disk.new) }
     {
-        let prepared = match self.prepare(part, delivery, relayed, table, first) {
-            Ok(prepared) => prepared,
-            Err(why) => return Err(why),
-        };
-        let saved = save_alone(&prepared.saving, disk);
-        self.settle(part, &prepared, saved, out, table, first)
+        // what is decided stays where it is: to move it costs more than the rest of a short answer
+        let decided = self.decide(part, delivery, relayed);
+        match &decided {
+            Ok(decision) => {
+                let saving = self.make(part, decision, table, first);
+                let saved = save_alone(&saving, disk);
+                self.settle_decision(part, decision, saved, out, table, first)
+            }
+            Err(why) => Err(*why),
+        }
     }
 
     /// Until when a slot of the circuit is held, live or expired, in seconds; `None` where the circuit is closed.

@@ -3,7 +3,7 @@ use Rattle.circuit_server.specs.CircuitServerValue.{HasPools}
 use Rattle.circuit_server.specs.Deadlines.{HasDeadlines}
 use Rattle.circuit_server.specs.Ticked.{IsLater}
 use Rattle.circuit_server.proofs.PreparedLemmas.{marked_deadlines, marked_later, marked_pools}
-use Rattle.circuit_server.proofs.circuit_server.CircuitServer.settle.Goals as goal
+use Rattle.circuit_server.proofs.circuit_server.CircuitServer.settle_decision.Goals as goal
 
 pub returns-in-Ok-clause-later : goal.returns-in-Ok-clause-later
 returns-in-Ok-clause-later c moment was = subst (IsLater moment) (sym c.set_marks.ensures) (marked_later moment c.in-Ok.marks c.args.self.now was)
