@@ -21,8 +21,9 @@ use config::Config;
 use dispatch::region_count;
 use lease_disk::{FileDisk, REGION};
 use opening::open_device;
-use std::fs;
+use std::fs::{self, Metadata};
 use std::net::{IpAddr, Ipv4Addr, SocketAddr, UdpSocket};
+use std::os::unix::fs::MetadataExt;
 use std::process::ExitCode;
 use std::rt::Clock;
 use types::{Addr4, Circuit, RelayNo, Source};
@@ -58,9 +59,23 @@ fn report_device(rt: &HostRuntime, path: &str, fault: DeviceFault, makes: bool) 
     let _ = eprintln!(rt; "{opening}\n{path}: {fault}");
 }
 
-/// Whether the file with this path may be formatted, if there is one: nobody else has it, and it has whole regions, as one with
-/// leases has. An error is the status.
-fn may_format_file(rt: &HostRuntime, path: &str) -> Result<(), u8>
+/// Why the file found at this path is none of leases, if anything says so: it is the configuration by whatever path, or has
+/// other than whole regions.
+fn other_file(rt: &HostRuntime, found: &Metadata, config: &str) -> Option<&'static str> {
+    if let Ok(other) = fs::metadata(rt, config)
+        && (found.dev(), found.ino()) == (other.dev(), other.ino())
+    {
+        return Some("it is the configuration");
+    }
+    if found.len() % REGION as u64 != 0 {
+        return Some("its length is not a multiple of 32768 bytes");
+    }
+    None
+}
+
+/// Whether the file with this path may be formatted, if there is one: nobody else has it, and it may be one of leases. An error
+/// is the status.
+fn may_format_file(rt: &HostRuntime, path: &str, config: &str) -> Result<(), u8>
     ensures status { IfErr result (λ status. (status ≡ 4) ⊎ (status ≡ 5)) }
 {
     let Ok(found) = fs::metadata(rt, path) else {
@@ -70,10 +85,8 @@ fn may_format_file(rt: &HostRuntime, path: &str) -> Result<(), u8>
         report_device(rt, path, fault, false);
         return Err(device_status(fault));
     }
-    if found.len() % REGION as u64 != 0 {
-        let _ = eprintln!(rt;
-            "{path}: it is not a file of leases: its length is not a multiple of 32768 bytes"
-        );
+    if let Some(why) = other_file(rt, &found, config) {
+        let _ = eprintln!(rt; "{path}: it is not a file of leases: {why}");
         return Err(UNREADABLE);
     }
     Ok(())
@@ -85,7 +98,7 @@ fn may_format(rt: &HostRuntime, config: &Config, values: &AccessWords<'_>) -> Re
     requires most { values.now.port ≤ 65472 }
     ensures status { IfErr result IsExitStatus }
 {
-    may_format_file(rt, values.disk)?;
+    may_format_file(rt, values.disk, values.config)?;
     match try_sockets(rt, rt.alloc(), config, values.port) {
         Ok(()) => Ok(()),
         Err(fault) => Err(refuse(rt, config, values.disk, fault)),
@@ -127,7 +140,7 @@ fn refuse(rt: &HostRuntime, config: &Config, disk: &str, fault: AccessFault) -> 
             let needed = region_count(config);
             let _ = eprintln!(rt; "open disk");
             let _ = eprintln!(rt;
-                "{disk}: {fault}, {needed}; see \"Add a circuit\" in docs/OPERATING.md"
+                "{disk}: {fault}, {needed}; scripts/operate/add-regions lengthens it, see \"Add a circuit\" in docs/OPERATING.md"
             );
             UNOPENED
         }

@@ -69,7 +69,7 @@ fn turns_arg<'a>(alloc: Global) -> Arg<'a>
         .action(ArgAction::Set)
         .required(true)
         .value_parser(clap::value_parser!(u32).range(1..=i64::from(MAX_TURNS)))
-        .help("How many turns to make, 1 to 1000000; a turn tries each socket")
+        .help("How many turns to make, 1 to 1000000; a turn takes what waits at the sockets")
 }
 
 fn format_arg<'a>(alloc: Global) -> Arg<'a>

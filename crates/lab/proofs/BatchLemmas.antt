@@ -20,7 +20,7 @@ use Rattle.world.specs.Start.{setup_in}
 use Rattle.lab_text.specs.Line.{Batch}
 use Rattle.lab_text.specs.ParsedLine.{IsBatchWithin}
 use Rattle.streams.specs.Writing.{AppendsPrefix}
-use Rattle.lab.specs.Follows.{AllRepresent, Follows}
+use Rattle.lab.specs.Progress.{AllRepresent, HasResult}
 use Rattle.lab.specs.Lab.{batched, text_of_part, line_result, part_seen}
 use Rattle.lab.specs.Output.{batch_text, effect_text, joined, outcome_effect, part_text, with_newline}
 use Rattle.lab.proofs.LineResultLemmas.{effect_is, found_at}
@@ -158,7 +158,7 @@ module _ (plans : PlansValue) (quota now sync : ℕ) (parts : Bor (List BatchPar
 
   -- a batch whose output was written
   pub batch_applied : (number : ℕ) (o : Outcome) (held holds : Option (List ℕ)) → Steps (event.Batch now sync parts) states new o out → Appends held holds (with_newline (batch_text o (length parts.now)))
-      → Follows plans quota number (line_result plans quota machines (Batch now sync parts.now)) new held holds None
+      → HasResult plans quota number (line_result plans quota machines (Batch now sync parts.now)) new held holds None
   batch_applied number o held holds steps written = record {
     appended = subst (λ line. Appends held holds (with_newline line)) (line_is o ((steps.batched parts.now refl).listed within.batch) steps) written;
     represents = each_is o steps;
@@ -166,6 +166,6 @@ module _ (plans : PlansValue) (quota now sync : ℕ) (parts : Bor (List BatchPar
 
   -- and one where the writer failed
   pub batch_not_written : (number : ℕ) (o : Outcome) (held holds : Option (List ℕ)) → Steps (event.Batch now sync parts) states new o out → AppendsPrefix held holds (with_newline (batch_text o (length parts.now)))
-      → Follows plans quota number (line_result plans quota machines (Batch now sync parts.now)) new held holds (Some 6)
+      → HasResult plans quota number (line_result plans quota machines (Batch now sync parts.now)) new held holds (Some 6)
   batch_not_written number o held holds steps written =
       (refl, subst (λ line. AppendsPrefix held holds (with_newline line)) (line_is o ((steps.batched parts.now refl).listed within.batch) steps) written)

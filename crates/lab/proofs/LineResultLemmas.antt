@@ -32,7 +32,7 @@ use Rattle.lab_text.specs.ParsedLine.{IsRestart}
 use Rattle.lab.specs.Lab.{named_result, line_result, with_machine, reloaded, ticked, restarted}
 use Rattle.lab_text.specs.Line.{Line, Bad, line_of_text, short_line}
 use Rattle.streams.specs.Writing.{AppendsPrefix}
-use Rattle.lab.specs.Follows.{AllRepresent, Follows, KnowsPlans, Names}
+use Rattle.lab.specs.Progress.{AllRepresent, HasResult, KnowsPlans, Names}
 use Rattle.lab.specs.Output.{effect_text, outcome_effect, with_newline}
 
 -- the effect of the outcome
@@ -105,9 +105,9 @@ named_sees c seen e states names = names.sees (plans_at c states) c (is_on_at c 
 pub event_applied : (plans : PlansValue) (quota number c : ℕ) (id : List ℕ) (seen : Seen) (e : Event) (states new : List CircuitState) (o : Outcome) (out : List ℕ) (machines : ℕ → Alone) (held holds : Option (List ℕ))
     → SetupAt plans quota c id → Names c seen e → Steps e states new o out → AllRepresent plans quota states machines
     → Appends held holds (with_newline (effect_text id (outcome_effect o out)))
-    → Follows plans quota number (named_result c seen machines (setup_in plans quota c)) new held holds None
+    → HasResult plans quota number (named_result c seen machines (setup_in plans quota c)) new held holds None
 event_applied plans quota number c id seen e states new o out machines held holds at names steps represents h =
-    subst (λ s. Follows plans quota number (named_result c seen machines s) new held holds None) (sym at.is) (record {
+    subst (λ s. HasResult plans quota number (named_result c seen machines s) new held holds None) (sym at.is) (record {
       appended = subst (Appends held holds) (text_is c at.setup id seen e states new o out (machines c) at.same names.named (named_sees c seen e states names) steps (represents.each c at.setup at.is)) h;
       represents = represents_named plans quota c at.setup seen e states new o out machines at.is names steps represents;
     })
@@ -116,9 +116,9 @@ event_applied plans quota number c id seen e states new o out machines held hold
 pub event_not_written : (plans : PlansValue) (quota number c : ℕ) (id : List ℕ) (seen : Seen) (e : Event) (states new : List CircuitState) (o : Outcome) (out : List ℕ) (machines : ℕ → Alone) (held holds : Option (List ℕ))
     → SetupAt plans quota c id → Names c seen e → Steps e states new o out → AllRepresent plans quota states machines
     → AppendsPrefix held holds (with_newline (effect_text id (outcome_effect o out)))
-    → Follows plans quota number (named_result c seen machines (setup_in plans quota c)) new held holds (Some 6)
+    → HasResult plans quota number (named_result c seen machines (setup_in plans quota c)) new held holds (Some 6)
 event_not_written plans quota number c id seen e states new o out machines held holds at names steps represents h =
-    subst (λ s. Follows plans quota number (named_result c seen machines s) new held holds (Some 6)) (sym at.is)
+    subst (λ s. HasResult plans quota number (named_result c seen machines s) new held holds (Some 6)) (sym at.is)
     (refl, subst (AppendsPrefix held holds) (text_is c at.setup id seen e states new o out (machines c) at.same names.named (named_sees c seen e states names) steps (represents.each c at.setup at.is)) h)
 
 -- a moment that passes
@@ -148,9 +148,9 @@ represents_reloaded plans quota plan states new o out machines steps represents 
 -- the server and the disk start again
 pub restart_applied : (plans : PlansValue) (quota number : ℕ) (comebacks : Bor (List Comeback)) (line : Line) (states new : List CircuitState) (o : Outcome) (out : List ℕ) (machines : ℕ → Alone) (held holds : Option (List ℕ))
     → IsRestart comebacks.now line → Steps (event.Restart comebacks) states new o out → AllRepresent plans quota states machines → Appends held holds (with_newline (effect_text [] Done))
-    → Follows plans quota number (line_result plans quota machines line) new held holds None
+    → HasResult plans quota number (line_result plans quota machines line) new held holds None
 restart_applied plans quota number comebacks line states new o out machines held holds is steps represents written =
-    subst (λ l. Follows plans quota number (line_result plans quota machines l) new held holds None) (sym is.is) (record {
+    subst (λ l. HasResult plans quota number (line_result plans quota machines l) new held holds None) (sym is.is) (record {
       appended = written;
       represents = record {
         each = λ c setup h.
@@ -162,9 +162,9 @@ restart_applied plans quota number comebacks line states new o out machines held
     })
 
 pub restart_not_written : (plans : PlansValue) (quota number : ℕ) (comebacks : List Comeback) (line : Line) (states : List CircuitState) (machines : ℕ → Alone) (held holds : Option (List ℕ))
-    → IsRestart comebacks line → AppendsPrefix held holds (with_newline (effect_text [] Done)) → Follows plans quota number (line_result plans quota machines line) states held holds (Some 6)
+    → IsRestart comebacks line → AppendsPrefix held holds (with_newline (effect_text [] Done)) → HasResult plans quota number (line_result plans quota machines line) states held holds (Some 6)
 restart_not_written plans quota number comebacks line states machines held holds is written =
-    subst (λ l. Follows plans quota number (line_result plans quota machines l) states held holds (Some 6)) (sym is.is) (refl, written)
+    subst (λ l. HasResult plans quota number (line_result plans quota machines l) states held holds (Some 6)) (sym is.is) (refl, written)
 
 -- whichever plan is in force after an event, relays and server are those of these plans
 knows_reloaded : (plans : PlansValue) (plan : ℕ) (t : Topology) → KnowsPlans plans t → KnowsPlans plans (topology.reloaded plan t)

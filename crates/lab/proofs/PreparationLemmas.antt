@@ -27,7 +27,7 @@ use Rattle.world.proofs.SetupLemmas.{its_part, setup_at}
 use Rattle.lab_text.specs.declared.parse_line.ParsedLine.{ParsedLine}
 use Rattle.streams.specs.declared.line.LineEnd.TheVariants.{Newline, EndOfInput, TooLong}
 use Rattle.lab.specs.Preparations.{IsReady, AreReady, IsOpening, AreOver, ArePrepared, PreparedSoFar}
-use Rattle.lab.specs.Follows.{AllRepresent, SoFar}
+use Rattle.lab.specs.Progress.{AllRepresent, SoFar}
 use Rattle.lab.specs.Lab.{first_machines, first_openings, lab_from, lab_output, loaded, or_begin, output_from, prepared, with_opening}
 use Rattle.lab_text.specs.Line.{line_of_text}
 use Rattle.streams.specs.LineEnd.{Fits, HoldsLine, HoldsLast, HoldsLong, IsLast, IsLine}

@@ -15,7 +15,7 @@ use Rattle.lab_text.specs.Line.{line_of_text}
 use Rattle.streams.specs.Lines.{lacks, lines_of}
 use Rattle.lab.specs.Run.{IsPartial}
 use Rattle.streams.specs.Writing.{AppendsPrefix}
-use Rattle.lab.specs.Follows.{AllRepresent, IsRefusal, Follows, FollowsLast, SoFar, Ends, after}
+use Rattle.lab.specs.Progress.{AllRepresent, IsRefusal, HasResult, HasLastResult, SoFar, Ends, after}
 use Rattle.lab.specs.Output.{bad_text}
 use Rattle.streams.proofs.AheadLemmas.{all_consumed, held_consumed}
 use Rattle.streams.proofs.CutLemmas.{line_before, line_begins, line_last}
@@ -99,7 +99,7 @@ line_on plans quota number machines line rest plain =
 
 next_at : (plans : PlansValue) (quota number : ℕ) (output : List ℕ → Output) (given left left2 held holds holds2 : Option (List ℕ)) (states states2 : List CircuitState) (Known : List ℕ → Type 0) (line : List ℕ) (t : LineResult)
     → (s : SoFar plans quota number output given left held holds states Known) → IsLine left left2 line → ((rest : List ℕ) → Known ((line ++ 10 ∷ []) ++ rest)) → line_result plans quota s.machines (line_of_text plans.union plans.count line) ≡ t
-    → Follows plans quota number t states2 holds holds2 None → SoFar plans quota (number + 1) output given left2 held holds2 states2 (λ rest. ⊤)
+    → HasResult plans quota number t states2 holds holds2 None → SoFar plans quota (number + 1) output given left2 held holds2 states2 (λ rest. ⊤)
 next_at plans quota number output given left left2 held holds holds2 states states2 Known line Refused s read fits is follows = absurd follows
 next_at plans quota number output given left left2 held holds holds2 states states2 Known line (Applied written machines) s read fits is follows = record {
   machines = machines;
@@ -117,7 +117,7 @@ next_at plans quota number output given left left2 held holds holds2 states stat
 -- one line more
 pub next_line : (plans : PlansValue) (quota number : ℕ) (output : List ℕ → Output) (given left left2 held holds holds2 : Option (List ℕ)) (states states2 : List CircuitState) (Known : List ℕ → Type 0) (line : List ℕ)
     → SoFar plans quota number output given left held holds states Known → IsLine left left2 line → ((rest : List ℕ) → Known ((line ++ 10 ∷ []) ++ rest))
-    → ((machines : ℕ → Alone) → AllRepresent plans quota states machines → Follows plans quota number (line_result plans quota machines (line_of_text plans.union plans.count line)) states2 holds holds2 None)
+    → ((machines : ℕ → Alone) → AllRepresent plans quota states machines → HasResult plans quota number (line_result plans quota machines (line_of_text plans.union plans.count line)) states2 holds holds2 None)
     → SoFar plans quota (number + 1) output given left2 held holds2 states2 (λ rest. ⊤)
 next_line plans quota number output given left left2 held holds holds2 states states2 Known line s read fits follows =
     next_at plans quota number output given left left2 held holds holds2 states states2 Known line (line_result plans quota s.machines (line_of_text plans.union plans.count line)) s read fits refl (follows s.machines s.represents)
@@ -131,7 +131,7 @@ ends_at : (plans : PlansValue) (quota number : ℕ) (output : List ℕ → Outpu
     → (s : SoFar plans quota number output given left held holds states Known) → Consumes left left2 part → ((rest : List ℕ) → Left left2 rest → Known (part ++ rest))
     → (f : List ℕ → (ℕ → Alone) → Output)
     → ((rest : List ℕ) → Left left2 rest → lab_from plans quota number s.machines (lines_of (part ++ rest)) ≡ and_then number t (f rest))
-    → Follows plans quota number t states2 holds holds2 (Some status)
+    → HasResult plans quota number t states2 holds holds2 (Some status)
     → Ends output given left2 held holds2 status
 ends_at plans quota number output given left left2 held holds holds2 states states2 Known part status Refused s read fits f comes (inl (is, wrote)) = record {
   read = s.read ++ part;
@@ -162,7 +162,7 @@ ends_at plans quota number output given left left2 held holds holds2 states stat
 -- where the lines of a text end, however it goes on, after what was read ahead
 pub ends_feed : (plans : PlansValue) (quota number : ℕ) (output : List ℕ → Output) (given left left2 held holds holds2 : Option (List ℕ)) (states states2 : List CircuitState) (Known : List ℕ → Type 0) (line ahead : List ℕ) (status : ℕ)
     → SoFar plans quota number output given left held holds states Known → IsLine left (prepend_known ahead left2) line → ((rest : List ℕ) → Known ((line ++ 10 ∷ []) ++ rest))
-    → ((machines : ℕ → Alone) → AllRepresent plans quota states machines → Follows plans quota number (line_result plans quota machines (line_of_text plans.union plans.count line)) states2 holds holds2 (Some status))
+    → ((machines : ℕ → Alone) → AllRepresent plans quota states machines → HasResult plans quota number (line_result plans quota machines (line_of_text plans.union plans.count line)) states2 holds holds2 (Some status))
     → Ends output given left2 held holds2 status
 ends_feed plans quota number output given left left2 held holds holds2 states states2 Known line ahead status s read fits follows =
     ends_at plans quota number output given left left2 held holds holds2 states states2 Known ((line ++ 10 ∷ []) ++ ahead) status (line_result plans quota s.machines (line_of_text plans.union plans.count line)) s
@@ -225,7 +225,7 @@ ends_done output given left held holds read written consumed end wrote all = rec
 
 last_done : (plans : PlansValue) (quota number : ℕ) (output : List ℕ → Output) (given left left2 held holds holds2 : Option (List ℕ)) (states states2 : List CircuitState) (Known : List ℕ → Type 0) (line : List ℕ) (t : LineResult)
     → (s : SoFar plans quota number output given left held holds states Known) → IsLast left left2 line → Known line → (length line ≡ 0 → ⊥) → line_result plans quota s.machines (line_of_text plans.union plans.count line) ≡ t
-    → Follows plans quota number t states2 holds holds2 None → Ends output given left2 held holds2 0
+    → HasResult plans quota number t states2 holds holds2 None → Ends output given left2 held holds2 0
 last_done plans quota number output given left left2 held holds holds2 states states2 Known line Refused s read fits some is follows = absurd follows
 last_done plans quota number output given left left2 held holds holds2 states states2 Known line (Applied written machines) s read fits some is follows =
     ends_done output given left2 held holds2 (s.read ++ line) (s.written ++ written) (consumes_more given left left2 s.read line s.consumed read.part.read) read.end
@@ -255,7 +255,7 @@ last_empty plans quota number output given left left2 held holds holds2 states K
 
 last_ended : (plans : PlansValue) (quota number : ℕ) (output : List ℕ → Output) (given left left2 held holds holds2 : Option (List ℕ)) (states states2 : List CircuitState) (Known : List ℕ → Type 0) (line : List ℕ) (status : ℕ)
     → (s : SoFar plans quota number output given left held holds states Known) → IsLast left left2 line → Known line
-    → FollowsLast plans quota number line (line_result plans quota s.machines (line_of_text plans.union plans.count line)) states2 holds holds2 status
+    → HasLastResult plans quota number line (line_result plans quota s.machines (line_of_text plans.union plans.count line)) states2 holds holds2 status
     → Ends output given left2 held holds2 status
 last_ended plans quota number output given left left2 held holds holds2 states states2 Known line status s read fits (inl (none, is, kept)) =
     last_empty plans quota number output given left left2 held holds holds2 states Known line status s read fits none is kept
@@ -270,7 +270,7 @@ last_ended plans quota number output given left left2 held holds holds2 states s
 
 pub ends_last : (plans : PlansValue) (quota number : ℕ) (output : List ℕ → Output) (given left left2 held holds holds2 : Option (List ℕ)) (states states2 : List CircuitState) (Known : List ℕ → Type 0) (line : List ℕ) (status : ℕ)
     → SoFar plans quota number output given left held holds states Known → IsLast left left2 line → Known line
-    → ((machines : ℕ → Alone) → AllRepresent plans quota states machines → FollowsLast plans quota number line (line_result plans quota machines (line_of_text plans.union plans.count line)) states2 holds holds2 status)
+    → ((machines : ℕ → Alone) → AllRepresent plans quota states machines → HasLastResult plans quota number line (line_result plans quota machines (line_of_text plans.union plans.count line)) states2 holds holds2 status)
     → Ends output given left2 held holds2 status
 ends_last plans quota number output given left left2 held holds holds2 states states2 Known line status s read fits follows =
     last_ended plans quota number output given left left2 held holds holds2 states states2 Known line status s read fits (follows s.machines s.represents)

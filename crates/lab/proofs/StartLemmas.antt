@@ -19,7 +19,7 @@ use Rattle.world.proofs.SetupLemmas.{its_part}
 use Rattle.lab.specs.Lab.{first_machine, first_machines}
 use Rattle.lab.specs.Preparations.{AreOver, AreReady, AreWithin, IsOpening}
 use Rattle.lab.proofs.OpeningLemmas.{same_opened}
-use Rattle.lab.specs.Follows.{AllRepresent, KnowsPlans}
+use Rattle.lab.specs.Progress.{AllRepresent, KnowsPlans}
 
 within_at : (settings : Settings) (count c : ℕ) (part : CircuitPart) (o : Option CircuitConfig) → AreWithin settings count → slice_get settings.circuits c ≡ o
     → option_map (λ (x : CircuitConfig). part_of x (source_at settings.relays x.relay) settings.server.listen4 settings.server.listen6 settings.server.duid.items) o ≡ Some part → part.region < count

@@ -1,5 +1,5 @@
-pub mod Follows
 pub mod Lab
 pub mod Output
 pub mod Preparations
+pub mod Progress
 pub mod Run

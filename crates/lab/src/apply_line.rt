@@ -10,7 +10,7 @@ ghost use Rattle.events.specs.declared.outcome.Outcome.TheVariants as outcome;
 ghost use Rattle.lab.specs.Lab.{named_result, line_result};
 ghost use Rattle.lab_text.specs.Line.{Line, line_of_text, Batch, Tick, Reload, Stray};
 ghost use Rattle.lab_text.specs.ParsedLine.{line_of, IsBatchWithin, IsRestart, IsWithin};
-ghost use Rattle.lab.specs.Follows.{AllRepresent, KnowsPlans, Names, IsRefusal, Says, Follows, FollowsLast};
+ghost use Rattle.lab.specs.Progress.{AllRepresent, KnowsPlans, Names, IsRefusal, IsParsed, HasResult, HasLastResult};
 ghost use Rattle.lab.specs.Run.{IsEnd, IsStatus};
 
 use crate::batch_output::write_batch;
@@ -51,7 +51,7 @@ fn apply_event<M: Machine, W: ByteWriter>(
 ) -> Option<u8>
     requires { circuit < length plans.now.union.circuits }
     ensures follows { (quota number : ℕ) (machines : ℕ → Alone) (seen : Seen) → Names circuit seen event.now → AllRepresent plans.now quota (M.states machine.old) machines
-        → Follows plans.now quota number (named_result circuit seen machines (setup_in plans.now quota circuit)) (M.states machine.new) (W.contents writer.old) (W.contents writer.new) result }
+        → HasResult plans.now quota number (named_result circuit seen machines (setup_in plans.now quota circuit)) (M.states machine.new) (W.contents writer.old) (W.contents writer.new) result }
     ensures known { (set : PlansValue) → KnowsPlans set (M.topology machine.old) → KnowsPlans set (M.topology machine.new) }
     ensures status { IfSome result IsEnd }
     ensures quiet { ¬ (result ≡ Some 6) → W.failures writer.new ≡ W.failures writer.old }
@@ -73,7 +73,7 @@ fn apply_tick<M: Machine, W: ByteWriter>(
     writer: &mut W,
 ) -> Option<u8>
     ensures follows { (plans : PlansValue) (quota number : ℕ) (machines : ℕ → Alone) → AllRepresent plans quota (M.states machine.old) machines
-        → Follows plans quota number (line_result plans quota machines (Tick now)) (M.states machine.new) (W.contents writer.old) (W.contents writer.new) result }
+        → HasResult plans quota number (line_result plans quota machines (Tick now)) (M.states machine.new) (W.contents writer.old) (W.contents writer.new) result }
     ensures known { (set : PlansValue) → KnowsPlans set (M.topology machine.old) → KnowsPlans set (M.topology machine.new) }
     ensures status { IfSome result IsEnd }
     ensures quiet { ¬ (result ≡ Some 6) → W.failures writer.new ≡ W.failures writer.old }
@@ -94,7 +94,7 @@ fn apply_reload<M: Machine, W: ByteWriter>(
     writer: &mut W,
 ) -> Option<u8>
     ensures follows { (plans : PlansValue) (quota number : ℕ) (machines : ℕ → Alone) → plan < plans.count → AllRepresent plans quota (M.states machine.old) machines
-        → Follows plans quota number (line_result plans quota machines (Reload plan)) (M.states machine.new) (W.contents writer.old) (W.contents writer.new) result }
+        → HasResult plans quota number (line_result plans quota machines (Reload plan)) (M.states machine.new) (W.contents writer.old) (W.contents writer.new) result }
     ensures known { (set : PlansValue) → KnowsPlans set (M.topology machine.old) → KnowsPlans set (M.topology machine.new) }
     ensures status { IfSome result IsEnd }
     ensures quiet { ¬ (result ≡ Some 6) → W.failures writer.new ≡ W.failures writer.old }
@@ -115,7 +115,7 @@ fn apply_restart<M: Machine, W: ByteWriter>(
     writer: &mut W,
 ) -> Option<u8>
     ensures follows { (plans : PlansValue) (quota number : ℕ) (line : Line) (machines : ℕ → Alone) → IsRestart comebacks.now line → AllRepresent plans quota (M.states machine.old) machines
-        → Follows plans quota number (line_result plans quota machines line) (M.states machine.new) (W.contents writer.old) (W.contents writer.new) result }
+        → HasResult plans quota number (line_result plans quota machines line) (M.states machine.new) (W.contents writer.old) (W.contents writer.new) result }
     ensures known { (set : PlansValue) → KnowsPlans set (M.topology machine.old) → KnowsPlans set (M.topology machine.new) }
     ensures status { IfSome result IsEnd }
     ensures quiet { ¬ (result ≡ Some 6) → W.failures writer.new ≡ W.failures writer.old }
@@ -140,7 +140,7 @@ fn apply_batch<M: Machine, W: ByteWriter>(
     requires some { 1 ≤ length parts.now }
     requires most { length parts.now ≤ 16 }
     ensures follows { (plans : PlansValue) (quota number : ℕ) (machines : ℕ → Alone) → IsBatchWithin plans.union parts.now → AllRepresent plans quota (M.states machine.old) machines
-        → Follows plans quota number (line_result plans quota machines (Batch now sync parts.now)) (M.states machine.new) (W.contents writer.old) (W.contents writer.new) result }
+        → HasResult plans quota number (line_result plans quota machines (Batch now sync parts.now)) (M.states machine.new) (W.contents writer.old) (W.contents writer.new) result }
     ensures known { (set : PlansValue) → KnowsPlans set (M.topology machine.old) → KnowsPlans set (M.topology machine.new) }
     ensures status { IfSome result IsEnd }
     ensures quiet { ¬ (result ≡ Some 6) → W.failures writer.new ≡ W.failures writer.old }
@@ -164,7 +164,7 @@ fn apply_stray<M: Machine, W: ByteWriter>(
     requires { is_stray event.now ≡ true }
     ensures follows { (plans : PlansValue) (quota number : ℕ) (why : Discard) (machines : ℕ → Alone) → AllRepresent plans quota (M.states machine.old) machines
         → stray_outcome (M.topology machine.old) event.now ≡ Some (outcome.Dropped why)
-        → Follows plans quota number (line_result plans quota machines (Stray why)) (M.states machine.new) (W.contents writer.old) (W.contents writer.new) result }
+        → HasResult plans quota number (line_result plans quota machines (Stray why)) (M.states machine.new) (W.contents writer.old) (W.contents writer.new) result }
     ensures known { (set : PlansValue) → KnowsPlans set (M.topology machine.old) → KnowsPlans set (M.topology machine.new) }
     ensures status { IfSome result IsEnd }
     ensures quiet { ¬ (result ≡ Some 6) → W.failures writer.new ≡ W.failures writer.old }
@@ -189,7 +189,7 @@ fn apply<M: Machine, W: ByteWriter>(
 ) -> Option<u8>
     requires { IsWithin plans.now.union plans.now.count parsed }
     ensures follows { (quota : ℕ) (machines : ℕ → Alone) → AllRepresent plans.now quota (M.states machine.old) machines → KnowsPlans plans.now (M.topology machine.old)
-        → Follows plans.now quota number (line_result plans.now quota machines (line_of parsed buffers.old.bytes)) (M.states machine.new) (W.contents writer.old) (W.contents writer.new) result }
+        → HasResult plans.now quota number (line_result plans.now quota machines (line_of parsed buffers.old.bytes)) (M.states machine.new) (W.contents writer.old) (W.contents writer.new) result }
     ensures known { (set : PlansValue) → KnowsPlans set (M.topology machine.old) → KnowsPlans set (M.topology machine.new) }
     ensures status { IfSome result IsEnd }
     ensures quiet { ¬ (result ≡ Some 6) → W.failures writer.new ≡ W.failures writer.old }
@@ -236,8 +236,8 @@ fn apply<M: Machine, W: ByteWriter>(
 /// What the line says, where it was not parsed before.
 fn parsed_line(plans: &Plans, line: &[u8], known: Option<Parsed>, buffers: &mut Buffers) -> Parsed
     requires short { length line.now ≤ 8192 }
-    requires known { IfSome known (Says plans.now buffers.old.bytes buffers.old.comebacks buffers.old.parts line.now) }
-    ensures { Says plans.now buffers.new.bytes buffers.new.comebacks buffers.new.parts line.now result }
+    requires known { IfSome known (IsParsed plans.now buffers.old.bytes buffers.old.comebacks buffers.old.parts line.now) }
+    ensures { IsParsed plans.now buffers.new.bytes buffers.new.comebacks buffers.new.parts line.now result }
 {
     match known {
         Some(parsed) => parsed,
@@ -257,9 +257,9 @@ pub(crate) fn apply_line<M: Machine, W: ByteWriter>(
     writer: &mut W,
 ) -> Option<u8>
     requires short { length line.now ≤ 8192 }
-    requires known { IfSome known (Says plans.now buffers.old.bytes buffers.old.comebacks buffers.old.parts line.now) }
+    requires known { IfSome known (IsParsed plans.now buffers.old.bytes buffers.old.comebacks buffers.old.parts line.now) }
     ensures follows { (quota : ℕ) (machines : ℕ → Alone) → AllRepresent plans.now quota (M.states machine.old) machines → KnowsPlans plans.now (M.topology machine.old)
-        → Follows plans.now quota number (line_result plans.now quota machines (line_of_text plans.now.union plans.now.count line.now)) (M.states machine.new) (W.contents writer.old) (W.contents writer.new) result }
+        → HasResult plans.now quota number (line_result plans.now quota machines (line_of_text plans.now.union plans.now.count line.now)) (M.states machine.new) (W.contents writer.old) (W.contents writer.new) result }
     ensures known { (set : PlansValue) → KnowsPlans set (M.topology machine.old) → KnowsPlans set (M.topology machine.new) }
     ensures status { IfSome result IsEnd }
     ensures quiet { ¬ (result ≡ Some 6) → W.failures writer.new ≡ W.failures writer.old }
@@ -287,9 +287,9 @@ pub(crate) fn apply_last_line<M: Machine, W: ByteWriter>(
     writer: &mut W,
 ) -> u8
     requires short { length line.now ≤ 8192 }
-    requires known { IfSome known (Says plans.now buffers.old.bytes buffers.old.comebacks buffers.old.parts line.now) }
+    requires known { IfSome known (IsParsed plans.now buffers.old.bytes buffers.old.comebacks buffers.old.parts line.now) }
     ensures follows { (quota : ℕ) (machines : ℕ → Alone) → AllRepresent plans.now quota (M.states machine.old) machines → KnowsPlans plans.now (M.topology machine.old)
-        → FollowsLast plans.now quota number line.now (line_result plans.now quota machines (line_of_text plans.now.union plans.now.count line.now)) (M.states machine.new) (W.contents writer.old) (W.contents writer.new) result }
+        → HasLastResult plans.now quota number line.now (line_result plans.now quota machines (line_of_text plans.now.union plans.now.count line.now)) (M.states machine.new) (W.contents writer.old) (W.contents writer.new) result }
     ensures status { IsStatus result }
     ensures quiet { ¬ (result ≡ 6) → W.failures writer.new ≡ W.failures writer.old }
     ensures cause { result ≡ 6 → W.failures writer.new ≡ W.failures writer.old + 1 }

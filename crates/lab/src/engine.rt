@@ -3,7 +3,7 @@ ghost use Rattle.std.specs.Prelude.{◌≡◌, ◌+◌, ◌<◌, ◌≤◌, ℕ,
 ghost use Rattle.std.specs.Io.KnownBytes.{Appends, prepend_known};
 ghost use Rattle.world.specs.Alone.{Alone};
 ghost use Rattle.lab.specs.Lab.{Output, events_output};
-ghost use Rattle.lab.specs.Follows.{AllRepresent, Ends, KnowsPlans, Says, SoFar};
+ghost use Rattle.lab.specs.Progress.{AllRepresent, Ends, KnowsPlans, IsParsed, SoFar};
 ghost use Rattle.streams.specs.LineEnd.{Fits, IsCounted, IsLineEnd, len_of, feeds_of};
 ghost use Rattle.streams.specs.ReadAhead.{held};
 ghost use Rattle.lab.specs.Run.{IsPartial, IsStatus, HasCause, HasNoCause};
@@ -29,7 +29,7 @@ pub(crate) fn apply_lines<M: Machine, R: ByteReader, W: ByteWriter>(
     requires end { IsLineEnd (held ahead.old) (R.remaining reader.old) next.end }
     requires within { len_of next.end ≤ 8192 }
     requires inside { len_of next.end + feeds_of next.end ≤ length (held ahead.old) }
-    requires parsed { IfSome next.parsed (Says plans.now buffers.old.bytes buffers.old.comebacks buffers.old.parts (take (len_of next.end) (held ahead.old))) }
+    requires parsed { IfSome next.parsed (IsParsed plans.now buffers.old.bytes buffers.old.comebacks buffers.old.parts (take (len_of next.end) (held ahead.old))) }
     requires lines { next.earlier + length (held ahead.old) ≤ ahead.old.count }
     requires below { ahead.old.count < 18446744073709551615 }
     ensures ends { (quota : ℕ) (output : List ℕ → Output) (given holds : Option (List ℕ))

@@ -6,7 +6,7 @@ ghost use Rattle.lab.specs.Lab.{first_machines, lab_output};
 ghost use Rattle.lab.specs.Run.{IsPartial, IsStatus, HasCause, HasNoCause};
 ghost use Rattle.config.specs.Topology.{plans_topology};
 ghost use Rattle.lab.specs.Preparations.{AreOver, AreReady, AreWithin};
-ghost use Rattle.lab.specs.Follows.{AllRepresent};
+ghost use Rattle.lab.specs.Progress.{AllRepresent};
 ghost use Rattle.lease_disk.specs.Model.{device_of, state_of};
 ghost use Rattle.world.specs.Start.{Opening};
 ghost use Rattle.world.specs.World.{states};

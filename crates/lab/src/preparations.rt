@@ -5,7 +5,7 @@ ghost use Rattle.lease_disk.specs.Crash.{formatted_region, IsFormattedOld};
 ghost use Rattle.lease_disk.specs.Device.{ChangesOne};
 ghost use Rattle.lease_disk.specs.Model.{device_of, fuse_of, state_of};
 ghost use Rattle.world.specs.Start.{Opening};
-ghost use Rattle.lab.specs.Follows.{Says};
+ghost use Rattle.lab.specs.Progress.{IsParsed};
 ghost use Rattle.lab.specs.Lab.{prepared};
 ghost use Rattle.lab.specs.Preparations.{AreOver, ArePrepared, AreReady, AreWithin, PreparedSoFar};
 ghost use Rattle.lab_text.specs.Line.{line_of_text};
@@ -89,7 +89,7 @@ fn prepare(
     requires regions { AreWithin plans.now.union (length disk.old.regions) }
     requires ready { AreReady (length disk.old.regions) (state_of disk.old) }
     ensures event { IfSome result (λ _. (openings : ℕ → Opening) → prepared (line_of_text plans.now.union plans.now.count line.now) openings ≡ None) }
-    ensures parsed { IfSome result (Says plans.now buffers.new.bytes buffers.new.comebacks buffers.new.parts line.now) }
+    ensures parsed { IfSome result (IsParsed plans.now buffers.new.bytes buffers.new.comebacks buffers.new.parts line.now) }
     ensures prepared { IfNone result ((quota : ℕ) (openings : ℕ → Opening) → AreOver plans.now quota (device_of disk.old) openings
         → ArePrepared plans.now quota (device_of disk.new) (prepared (line_of_text plans.now.union plans.now.count line.now) openings)) }
     ensures same { IfSome result (λ _. disk.new ≡ disk.old) }
@@ -123,7 +123,7 @@ fn prepare_last(
     ensures end { (left : Option (List ℕ)) → HoldsLast (held ahead.old) left len → IsLineEnd (held ahead.new) left result.0 }
     ensures within { len_of result.0 ≤ 8192 }
     ensures inside { len_of result.0 + feeds_of result.0 ≤ length (held ahead.new) }
-    ensures parsed { IfSome result.1 (Says plans.now buffers.new.bytes buffers.new.comebacks buffers.new.parts (take (len_of result.0) (held ahead.new))) }
+    ensures parsed { IfSome result.1 (IsParsed plans.now buffers.new.bytes buffers.new.comebacks buffers.new.parts (take (len_of result.0) (held ahead.new))) }
     ensures shorter { length (held ahead.new) ≤ length (held ahead.old) }
     ensures count { ahead.new.count ≡ ahead.old.count }
     ensures regions { length disk.new.regions ≡ length disk.old.regions }
@@ -156,7 +156,7 @@ pub(crate) fn prepare_all<R: ByteReader>(
     ensures end { IfOk result (λ next. IsLineEnd (held ahead.new) (R.remaining reader.new) next.end) }
     ensures within { IfOk result (λ next. len_of next.end ≤ 8192) }
     ensures inside { IfOk result (λ next. len_of next.end + feeds_of next.end ≤ length (held ahead.new)) }
-    ensures parsed { IfOk result (λ next. IfSome next.parsed (Says plans.now buffers.new.bytes buffers.new.comebacks buffers.new.parts (take (len_of next.end) (held ahead.new)))) }
+    ensures parsed { IfOk result (λ next. IfSome next.parsed (IsParsed plans.now buffers.new.bytes buffers.new.comebacks buffers.new.parts (take (len_of next.end) (held ahead.new)))) }
     ensures lines { IfOk result (λ next. next.earlier + length (held ahead.new) ≤ ahead.new.count) }
     ensures below { OnOk result (ahead.new.count < 18446744073709551615) }
     ensures regions { length disk.new.regions ≡ length disk.old.regions }

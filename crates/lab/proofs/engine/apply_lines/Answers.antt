@@ -1,7 +1,7 @@
 use Rattle.std.proofs.Common.{◌≡◌, ◌+◌, ◌++◌, ◌∷◌, [], ◌∙◌, length, refl, take, drop, arith, length-drop, ap, sym, subst}
 use Rattle.std.specs.Prelude.{Some, IfSome}
 use Rattle.std.proofs.KnownBytes.{Keeps-refl}
-use Rattle.lab.specs.Follows.{Says}
+use Rattle.lab.specs.Progress.{IsParsed}
 use Rattle.streams.specs.ReadAhead.{held}
 use Rattle.streams.proofs.AheadLemmas.{line_consumed, last_consumed, cut_consumed}
 use Rattle.lab.proofs.CauseLemmas.{read_failed, still_none_failed, write_failed}
@@ -41,12 +41,12 @@ returns-in-TooLong-clause-quiet g c = λ given counted fine.
 pub apply_last_line-requires-clause-known : goal.apply_last_line-requires-clause-known
 apply_last_line-requires-clause-known g c =
     let known = rw c.in-EndOfInput.is at c.lines.invariant.known in
-    subst (λ text. IfSome c.lines.known (Says c.args.plans.now c.lines.buffers.bytes c.lines.buffers.comebacks c.lines.buffers.parts (take c.in-EndOfInput.len text))) (sym c.as_slice.ensures) known
+    subst (λ text. IfSome c.lines.known (IsParsed c.args.plans.now c.lines.buffers.bytes c.lines.buffers.comebacks c.lines.buffers.parts (take c.in-EndOfInput.len text))) (sym c.as_slice.ensures) known
 
 pub apply_line-ended-requires-clause-known : goal.apply_line-ended-requires-clause-known
 apply_line-ended-requires-clause-known g c =
     let known = rw c.in-Newline.is at c.lines.invariant.known in
-    subst (λ text. IfSome c.lines.known (Says c.args.plans.now c.lines.buffers.bytes c.lines.buffers.comebacks c.lines.buffers.parts (take c.in-Newline.len text))) (sym c.as_slice-in-lines.ensures) known
+    subst (λ text. IfSome c.lines.known (IsParsed c.args.plans.now c.lines.buffers.bytes c.lines.buffers.comebacks c.lines.buffers.parts (take c.in-Newline.len text))) (sym c.as_slice-in-lines.ensures) known
 
 pub returns-in-EndOfInput-clause-ends : goal.returns-in-EndOfInput-clause-ends
 returns-in-EndOfInput-clause-ends g c = λ quota output given holds start knows.

@@ -3,7 +3,7 @@ use Rattle.std.proofs.KnownBytes.{Keeps-refl}
 use Rattle.std.specs.Io.KnownBytes.{prepend_known}
 use Rattle.lease_disk.specs.Model.{device_of, state_of}
 use Rattle.lab.specs.Preparations.{PreparedSoFar}
-use Rattle.lab.specs.Follows.{Says}
+use Rattle.lab.specs.Progress.{IsParsed}
 use Rattle.streams.specs.declared.line.LineEnd.TheVariants.{Newline}
 use Rattle.lab.specs.Lab.{prepared}
 use Rattle.lab_text.specs.Line.{line_of_text}
@@ -84,7 +84,7 @@ returns-in-Some-clause-counted g c = counted_more _ _ _ _ _ _ c.lines.invariant.
 pub returns-in-Some-clause-parsed : goal.returns-in-Some-clause-parsed
 returns-in-Some-clause-parsed g c =
     rw c.new-in-Some.ensures
-    (subst (λ text. Says c.args.plans.now c.prepare.new.buffers.bytes c.prepare.new.buffers.comebacks c.prepare.new.buffers.parts (take c.in-Newline.len text) c.in-Some.event) c.as_slice.ensures c.in-Some.ensures.parsed)
+    (subst (λ text. IsParsed c.args.plans.now c.prepare.new.buffers.bytes c.prepare.new.buffers.comebacks c.prepare.new.buffers.parts (take c.in-Newline.len text) c.in-Some.event) c.as_slice.ensures c.in-Some.ensures.parsed)
 
 pub lines-preserved : goal.lines-preserved
 lines-preserved g c =

@@ -3,7 +3,7 @@ use Rattle.std.proofs.KnownBytes.{Keeps-refl}
 use Rattle.std.specs.Io.KnownBytes.{prepend_known}
 use Rattle.lease_disk.specs.Model.{device_of}
 use Rattle.lab.specs.Preparations.{PreparedSoFar}
-use Rattle.lab.specs.Follows.{Says}
+use Rattle.lab.specs.Progress.{IsParsed}
 use Rattle.streams.specs.declared.line.LineEnd.TheVariants.{EndOfInput}
 use Rattle.lab.specs.Lab.{prepared}
 use Rattle.lab_text.specs.Line.{line_of_text}
@@ -23,7 +23,7 @@ returns-in-Some-clause-prepared c = λ quota number given left last so_far.
 
 pub returns-in-Some-clause-parsed : goal.returns-in-Some-clause-parsed
 returns-in-Some-clause-parsed c =
-    subst (λ text. Says c.args.plans.now c.prepare.new.buffers.bytes c.prepare.new.buffers.comebacks c.prepare.new.buffers.parts (take c.args.len text) c.in-Some.parsed) c.as_slice.ensures c.in-Some.ensures.parsed
+    subst (λ text. IsParsed c.args.plans.now c.prepare.new.buffers.bytes c.prepare.new.buffers.comebacks c.prepare.new.buffers.parts (take c.args.len text) c.in-Some.parsed) c.as_slice.ensures c.in-Some.ensures.parsed
 
 pub returns-clause-prepared : goal.returns-clause-prepared
 returns-clause-prepared c = λ quota number given left last so_far.

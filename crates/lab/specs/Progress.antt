@@ -34,7 +34,7 @@ pub record Names (circuit : ℕ) (seen : Seen) (event : Event) : Type 0 where
   pub sees : (plans : List Bool) (c : ℕ) (on : Bool) → seen_of plans c on event ≡ (if circuit == c then Some seen else None)
 
 -- This line was parsed to this, with its bytes, its comebacks and its parts in these buffers.
-pub record Says (plans : PlansValue) (bytes : List ℕ) (comebacks : List Comeback) (parts : List BatchPart) (line : List ℕ) (parsed : Parsed) : Type 0 where
+pub record IsParsed (plans : PlansValue) (bytes : List ℕ) (comebacks : List Comeback) (parts : List BatchPart) (line : List ℕ) (parsed : Parsed) : Type 0 where
   pub means : Means parsed bytes comebacks parts (line_of_text plans.union plans.count line)
   pub within : ParsedWithin plans.union plans.count parts parsed
 
@@ -50,18 +50,18 @@ IsRefusal number held holds status =
 
 -- World and writer follow the result of a line: the run goes on where no status is returned, and else
 -- it ends.
-abbrev pub Follows : PlansValue → ℕ → ℕ → LineResult → List CircuitState → Option (List ℕ) → Option (List ℕ) → Option ℕ → Type 0
-Follows plans quota number (Applied written machines) states held holds None = IsApplied plans quota written machines states held holds
-Follows plans quota number (Applied written machines) states held holds (Some status) = (status ≡ 6) × AppendsPrefix held holds written
-Follows plans quota number Refused states held holds None = ⊥
-Follows plans quota number Refused states held holds (Some status) = IsRefusal number held holds status
+abbrev pub HasResult : PlansValue → ℕ → ℕ → LineResult → List CircuitState → Option (List ℕ) → Option (List ℕ) → Option ℕ → Type 0
+HasResult plans quota number (Applied written machines) states held holds None = IsApplied plans quota written machines states held holds
+HasResult plans quota number (Applied written machines) states held holds (Some status) = (status ≡ 6) × AppendsPrefix held holds written
+HasResult plans quota number Refused states held holds None = ⊥
+HasResult plans quota number Refused states held holds (Some status) = IsRefusal number held holds status
 
 -- The line that lacks its line feed: an empty one ends the run with status 0, and so does one that is
 -- not bad.
-abbrev pub FollowsLast : PlansValue → ℕ → ℕ → List ℕ → LineResult → List CircuitState → Option (List ℕ) → Option (List ℕ) → ℕ → Type 0
-FollowsLast plans quota number line result states held holds status =
+abbrev pub HasLastResult : PlansValue → ℕ → ℕ → List ℕ → LineResult → List CircuitState → Option (List ℕ) → Option (List ℕ) → ℕ → Type 0
+HasLastResult plans quota number line result states held holds status =
     ((length line ≡ 0) × (status ≡ 0) × (holds ≡ held))
-    ⊎ ((length line ≡ 0 → ⊥) × (((status ≡ 0) × Follows plans quota number result states held holds None) ⊎ Follows plans quota number result states held holds (Some status)))
+    ⊎ ((length line ≡ 0 → ⊥) × (((status ≡ 0) × HasResult plans quota number result states held holds None) ⊎ HasResult plans quota number result states held holds (Some status)))
 
 -- the output that follows what was written
 abbrev pub after : List ℕ → Output → Output
