@@ -72,7 +72,9 @@ impl PartialEq for Key4 {
     ghost laws = { Prim.search (comparing, rules) };
 
     fn eq(&self, other: &Key4) -> bool {
-        self.as_bytes() == other.as_bytes()
+        let (bytes, others) = (self.as_bytes(), other.as_bytes());
+        // hardware addresses of one manufacturer differ at the end
+        bytes.last() == others.last() && bytes == others
     }
 }
 
