@@ -13,7 +13,7 @@ use Rattle.bindings_v4.specs.Table4.{Lookup}
 
 -- a row as a decision, for the client of a case
 abbrev pub decision_in : Case4 → Row Reply4 → Decision4
-decision_in case row = decision_of (number4 case.pool.first) case.clock case.client row
+decision_in case row = decision_of (number4 case.pool.first) case.clock case.client.now row
 
 -- a slot with its address
 pub record IsAt (pool : PoolValue) (found : SlotAddress) : Type 0 where

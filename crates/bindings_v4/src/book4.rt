@@ -93,7 +93,7 @@ impl Book4 {
         let case = Case4 {
             pool: self.pool(),
             clock,
-            client: request.key,
+            client: &request.key,
         };
         decision_for(&case, &found, request)
     }
@@ -105,8 +105,8 @@ impl Book4 {
         ensures within { AreWithin self.old.slots → IfSome decision.now.keep (λ kept. IsWithin4 kept.content) → AreWithin self.new.slots }
         ensures offers { AreOffersWithin self.old.slots → IfSome decision.now.offer IsOfferWithin → AreOffersWithin self.new.slots }
     {
-        write_offer(&mut self.slots, decision.offer);
-        write_kept(&mut self.slots, decision.keep);
+        write_offer(&mut self.slots, &decision.offer);
+        write_kept(&mut self.slots, &decision.keep);
     }
 
     /// Drops every offer, live or expired. Bindings and bars stay.
@@ -139,8 +139,7 @@ impl Book4 {
         ensures slots { AreSlots self.now.pool self.now.slots }
     {
         let (slots, key, seconds) = (&self.slots, &request.key, clock.seconds());
-        let bound = slots.bound_slot(key, seconds);
-        let offered = slots.offered_slot(key, seconds);
+        let (bound, offered) = slots.held_slots(key, seconds);
         let wanted = self.slot_of(request.wanted);
         let picked = slots.picked_slot(bound.or(offered), wanted, seconds);
         Lookup4 {

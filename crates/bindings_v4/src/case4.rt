@@ -25,13 +25,13 @@ pub struct SlotAddress {
 
 /// What a decision is about: a pool, the clock and the client.
 #[derive(Clone, Copy)]
-pub struct Case4 {
+pub struct Case4<'a> {
     pub pool: Pool4,
     pub clock: Moment,
-    pub client: Key4,
+    pub client: &'a Key4,
 }
 
-impl Case4 {
+impl Case4<'_> {
     /// No answer and no change.
     pub fn drops(&self, why: Discard) -> Decision4
         ensures { result ≡ decision_in self.now (drops why Unchanged) }
@@ -71,8 +71,10 @@ impl Case4 {
     {
         let until = self.clock.seconds() + OFFER_TIME;
         Decision4 {
-            offer: Some(OfferChange::Made(free.slot, self.client, until)),
-            ..self.replies(Reply4::Offer(free.address))
+            clock: self.clock,
+            answer: Ok(Reply4::Offer(free.address)),
+            offer: Some(OfferChange::Made(free.slot, *self.client, until)),
+            keep: None,
         }
     }
 
@@ -94,11 +96,13 @@ impl Case4 {
     {
         let until = self.clock.seconds() + u64::from(self.pool.lease());
         Decision4 {
+            clock: self.clock,
+            answer: Ok(Reply4::Ack(held.address)),
+            offer: None,
             keep: Some(KeptSlot {
                 slot: held.slot,
-                content: Slot4::Bound(self.client, until),
+                content: Slot4::Bound(*self.client, until),
             }),
-            ..self.replies(Reply4::Ack(held.address))
         }
     }
 

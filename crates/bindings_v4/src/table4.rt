@@ -30,7 +30,11 @@ fn where_specified(address: Addr4) -> Option<Addr4>
 }
 
 /// The address that a client has, where it is the one that it names.
-fn where_is(case: &Case4, held: Option<SlotAddress>, named: Option<Addr4>) -> Option<SlotAddress>
+fn where_is(
+    case: &Case4<'_>,
+    held: Option<SlotAddress>,
+    named: Option<Addr4>,
+) -> Option<SlotAddress>
     requires { IfSome held (λ found. IsAt case.now.pool found) }
     ensures address { number_of result ≡ where_is (number_of held) (option_map number4 named) }
     ensures at { IfSome result (λ found. IsAt case.now.pool found) }
@@ -49,7 +53,7 @@ fn where_is(case: &Case4, held: Option<SlotAddress>, named: Option<Addr4>) -> Op
 
 /// DHCPDISCOVER (RFC 2131, section 4.3.1).
 #[rattlefmt::skip]
-fn discover_row(case: &Case4, found: &Lookup4) -> Decision4
+fn discover_row(case: &Case4<'_>, found: &Lookup4) -> Decision4
     requires { IsLookup case.now.pool found.now }
     ensures { result ≡ decision_in case.now (discover_row case.now.clock (lookup_of found.now).pick (lookup_of found.now).binding) }
 {
@@ -62,7 +66,7 @@ fn discover_row(case: &Case4, found: &Lookup4) -> Decision4
 }
 
 /// DHCPREQUEST to another server, which the client chose (RFC 2131, section 3.1, step 3).
-fn other_server_row(case: &Case4, found: &Lookup4) -> Decision4
+fn other_server_row(case: &Case4<'_>, found: &Lookup4) -> Decision4
     requires { IsLookup case.now.pool found.now }
     ensures { result ≡ decision_in case.now (other_server_row (lookup_of found.now).offer) }
 {
@@ -75,7 +79,7 @@ fn other_server_row(case: &Case4, found: &Lookup4) -> Decision4
 /// DHCPREQUEST to this server: SELECTING (RFC 2131, section 4.3.2). What the client has is its binding
 /// or offer, where option 50 names it.
 #[rattlefmt::skip]
-fn selecting_row(case: &Case4, wanted: Option<Addr4>, held: Option<SlotAddress>) -> Decision4
+fn selecting_row(case: &Case4<'_>, wanted: Option<Addr4>, held: Option<SlotAddress>) -> Decision4
     requires { IfSome held (λ found. IsAt case.now.pool found) }
     ensures { result ≡ decision_in case.now (selecting_row (case.now.clock + case.now.pool.lease) (option_map number4 wanted) (number_of held)) }
 {
@@ -89,7 +93,7 @@ fn selecting_row(case: &Case4, wanted: Option<Addr4>, held: Option<SlotAddress>)
 
 /// A client that names the address that it has.
 #[rattlefmt::skip]
-fn known_address_row(case: &Case4, found: &Lookup4, address: Addr4) -> Decision4
+fn known_address_row(case: &Case4<'_>, found: &Lookup4, address: Addr4) -> Decision4
     requires { IsLookup case.now.pool found.now }
     ensures { result ≡ decision_in case.now (known_address_row (case.now.clock + case.now.pool.lease) (in_pool case.now.pool (number4 address))
         (lookup_of found.now).binding (number4 address)) }
@@ -106,7 +110,7 @@ fn known_address_row(case: &Case4, found: &Lookup4, address: Addr4) -> Decision4
 
 /// DHCPREQUEST without option 54 (RFC 2131, section 4.3.2).
 #[rattlefmt::skip]
-fn no_server_row(case: &Case4, found: &Lookup4, request: &Request4) -> Decision4
+fn no_server_row(case: &Case4<'_>, found: &Lookup4, request: &Request4) -> Decision4
     requires { IsLookup case.now.pool found.now }
     ensures { result ≡ decision_in case.now (no_server_row case.now.pool (case.now.clock + case.now.pool.lease) (lookup_of found.now).binding
         (option_map number4 request.now.wanted) (where_specified request.now.ciaddr)) }
@@ -123,7 +127,7 @@ fn no_server_row(case: &Case4, found: &Lookup4, request: &Request4) -> Decision4
 }
 
 /// DHCPDECLINE (RFC 2131, section 4.3.3), by the binding that option 50 names.
-fn decline_row(case: &Case4, bound: Option<SlotAddress>) -> Decision4
+fn decline_row(case: &Case4<'_>, bound: Option<SlotAddress>) -> Decision4
     requires { IfSome bound (λ found. IsAt case.now.pool found) }
     ensures { result ≡ decision_in case.now (decline_row case.now.clock (number_of bound)) }
 {
@@ -134,7 +138,7 @@ fn decline_row(case: &Case4, bound: Option<SlotAddress>) -> Decision4
 }
 
 /// DHCPRELEASE (RFC 2131, section 4.3.4), by the binding that ciaddr names.
-fn release_row(case: &Case4, bound: Option<SlotAddress>) -> Decision4
+fn release_row(case: &Case4<'_>, bound: Option<SlotAddress>) -> Decision4
     requires { IfSome bound (λ found. IsAt case.now.pool found) }
     ensures { result ≡ decision_in case.now (release_row (number_of bound)) }
 {
@@ -145,7 +149,7 @@ fn release_row(case: &Case4, bound: Option<SlotAddress>) -> Decision4
 }
 
 /// DHCPINFORM (RFC 2131, section 4.3.5).
-fn inform_row(case: &Case4, ciaddr: Addr4) -> Decision4
+fn inform_row(case: &Case4<'_>, ciaddr: Addr4) -> Decision4
     ensures { result ≡ decision_in case.now (inform_row (where_specified ciaddr)) }
 {
     match where_specified(ciaddr) {
@@ -156,7 +160,7 @@ fn inform_row(case: &Case4, ciaddr: Addr4) -> Decision4
 
 /// What a message calls for, by its type and by whom it is for.
 #[rattlefmt::skip]
-pub fn decision_for(case: &Case4, found: &Lookup4, request: &Request4) -> Decision4
+pub fn decision_for(case: &Case4<'_>, found: &Lookup4, request: &Request4) -> Decision4
     requires { IsLookup case.now.pool found.now }
     ensures { result ≡ decision_in case.now (row_of case.now.pool case.now.clock (lookup_of found.now) request.now request.now.kind
         (server_of case.now.pool request.now.server)) }

@@ -108,7 +108,7 @@ module _ {K : Type 0} {eqk : K → K → Bool} {cmpk : K → K → Ordering} (la
   place_from k j (suc i) (s ∷ ss) d own =
       ap (λ b. cond b (Some j) (position_from (is_clients eqk k) (j + 1) ss)) (first_other lawk k i s ss d own) ∙ place_from k (j + 1) i ss d.1 own ∙ ap Some (omega arith)
 
-  place_is : (k : K) (i : ℕ) (ss : Slots K) → AreDistinct eqk ss → is_clients eqk k (get_or ss i None) ≡ true → position (is_clients eqk k) ss ≡ Some i
+  pub place_is : (k : K) (i : ℕ) (ss : Slots K) → AreDistinct eqk ss → is_clients eqk k (get_or ss i None) ≡ true → position (is_clients eqk k) ss ≡ Some i
   place_is k i ss d own = position_from-zero (is_clients eqk k) ss ∙ place_from k 0 i ss d own ∙ ap Some (omega arith)
 
   -- ---- a client gets a slot

@@ -5,4 +5,5 @@ pub mod FreeLemmas
 pub mod FitLemmas
 pub mod KeptLemmas
 pub mod KeptWrites
+pub mod OwnLemmas
 pub mod FormLemmas

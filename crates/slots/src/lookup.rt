@@ -1,10 +1,10 @@
 //! The first slot of a list that passes a test.
 ghost use Rattle.std.specs.Prelude.{◌≡◌, ◌<◌, length, IfSome};
 ghost use Rattle.std.specs.List.{position};
-ghost use Rattle.slots.specs.Lookup.{is_vacant, is_bound_to, is_offered_to};
+ghost use Rattle.slots.specs.Lookup.{is_vacant, is_bound_to};
 ghost use Rattle.slots.specs.Slots.{is_clients};
 
-use crate::holder::{Holder, is_bound_to, is_clients, is_offered_to, is_vacant};
+use crate::holder::{Holder, is_bound_to, is_clients, is_vacant};
 
 /// The slot that this client has a live binding of.
 pub(crate) fn first_bound<K: PartialEq>(
@@ -18,20 +18,6 @@ pub(crate) fn first_bound<K: PartialEq>(
     slots
         .iter()
         .position(|slot| is_bound_to(slot, client, clock))
-}
-
-/// The slot that this client has a live offer of.
-pub(crate) fn first_offered<K: PartialEq>(
-    slots: &[Option<Holder<K>>],
-    client: &K,
-    clock: u64,
-) -> Option<usize>
-    ensures slot { result ≡ position (is_offered_to K.eq clock client.now) slots.now }
-    ensures below { IfSome result (λ slot. slot < length slots.now) }
-{
-    slots
-        .iter()
-        .position(|slot| is_offered_to(slot, client, clock))
 }
 
 /// The first vacant slot.

@@ -5,10 +5,10 @@ ghost use Rattle.slots.specs.Lookup.{is_vacant, is_bound_to, is_offered_to, pick
 ghost use Rattle.slots.specs.Slots.{AreDistinct, with_slot};
 ghost use Rattle.slots.specs.Used.{IsUsed, used_after};
 
-use crate::holder::{Holder, is_vacant};
+use crate::holder::{Holder, is_bound_to, is_offered_to, is_vacant};
 use crate::key::SlotKey;
-use crate::lookup::{first_bound, first_offered, first_vacant};
-use crate::write::write_slot;
+use crate::lookup::{first_bound, first_vacant};
+use crate::write::{clients_slot, write_slot};
 use arrayvec::ArrayVec;
 use std::marker::Model;
 use types::MAX_POOL;
@@ -60,12 +60,23 @@ impl<K: SlotKey> SlotTable<K> {
         first_bound(&self.slots.as_slice()[..self.used], client, clock)
     }
 
-    /// The slot that this client has a live offer of.
-    pub fn offered_slot(&self, client: &K, clock: u64) -> Option<usize>
-        ensures slot { result ≡ position (is_offered_to K.eq clock client.now) self.now }
-        ensures below { IfSome result (λ slot. slot < length self.now) }
+    /// The slots that this client has a live binding and a live offer of. It has one of the two at most, since no client has two
+    /// slots.
+    pub fn held_slots(&self, client: &K, clock: u64) -> (Option<usize>, Option<usize>)
+        ensures bound { result.0 ≡ position (is_bound_to K.eq clock client.now) self.now }
+        ensures offered { result.1 ≡ position (is_offered_to K.eq clock client.now) self.now }
+        ensures bound_below { IfSome result.0 (λ slot. slot < length self.now) }
+        ensures offered_below { IfSome result.1 (λ slot. slot < length self.now) }
     {
-        first_offered(&self.slots.as_slice()[..self.used], client, clock)
+        let slots = self.slots.as_slice();
+        let Some(slot) = clients_slot(slots, self.used, client) else {
+            return (None, None);
+        };
+        let held = &slots[slot];
+        (
+            is_bound_to(held, client, clock).then_some(slot),
+            is_offered_to(held, client, clock).then_some(slot),
+        )
     }
 
     /// The slot for a client: the one that it has, the one that it asks for where that is vacant, the first

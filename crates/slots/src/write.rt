@@ -8,7 +8,11 @@ use crate::holder::{Holder, client_of};
 use crate::lookup::first_of_client;
 
 /// The client's slot, expired or not, of which so many may be held.
-fn clients_slot<K: PartialEq>(slots: &[Option<Holder<K>>], used: usize, client: &K) -> Option<usize>
+pub(crate) fn clients_slot<K: PartialEq>(
+    slots: &[Option<Holder<K>>],
+    used: usize,
+    client: &K,
+) -> Option<usize>
     requires { IsUsed used slots.now }
     ensures slot { result ≡ position (is_clients K.eq client.now) slots.now }
     ensures below { IfSome result (λ slot. slot < length slots.now) }
