@@ -36,19 +36,23 @@ length-front h s = omega (arith, length-append (header_bytes h) MAGIC_COOKIE, le
 regroup : (header cookie options last end : List ℕ) → (((header ++ cookie) ++ options) ++ last) ++ end ≡ header ++ (cookie ++ ((options ++ (last ++ [])) ++ end))
 regroup header cookie options last end = simp (append_assoc, append-nil)
 
+-- The header as it goes up.
+pub forwarded_sized : (h : HeaderValue) (hops : ℕ) (giaddr : List ℕ) → IsSized h → length giaddr ≡ 4 → IsSized (record h { hops = hops; giaddr = giaddr })
+forwarded_sized h hops giaddr s four = record { xid = s.xid; secs = s.secs; flags = s.flags; ciaddr = s.ciaddr; yiaddr = s.yiaddr; siaddr = s.siaddr; giaddr = four; chaddr = s.chaddr; sname = s.sname; file = s.file }
+
 -- The message with agent information, written piece by piece.
-pub written_pieces : (part : CircuitPart) (m : MessageValue) (h : HeaderValue) (gateway : Addr4) (old front listed marked out : List ℕ)
-    → gateway ≡ part.gateway4 → h ≡ m.header → old ≡ []
-    → front ≡ old ++ (header_bytes (record h { hops = h.hops + 1; giaddr = gateway.0 }) ++ MAGIC_COOKIE)
+pub written_pieces : (part : CircuitPart) (m : MessageValue) (hops : ℕ) (gateway : Addr4) (old front listed marked out : List ℕ)
+    → gateway ≡ part.gateway4 → hops ≡ m.header.hops → old ≡ []
+    → front ≡ old ++ (header_bytes (record m.header { hops = hops + 1; giaddr = gateway.0 }) ++ MAGIC_COOKIE)
     → listed ≡ front ++ spelling m.options
     → marked ≡ listed ++ option RELAY_AGENT_INFORMATION (agent_information part)
     → out ≡ marked ++ END ∷ []
     → out ≡ message_bytes (with_agent_information part m)
-written_pieces part m h gateway old front listed marked out same_gateway same_header none is_front is_listed is_marked is_out =
+written_pieces part m hops gateway old front listed marked out same_gateway same_hops none is_front is_listed is_marked is_out =
     let header : List ℕ = header_bytes (with_agent_information part m).header in
     let information : List ℕ = option RELAY_AGENT_INFORMATION (agent_information part) in
-    let by_header : header_bytes (record h { hops = h.hops + 1; giaddr = gateway.0 }) ≡ header =
-    λ i. header_bytes (record (same_header i) { hops = (same_header i).hops + 1; giaddr = (same_gateway i).0 }) in
+    let by_header : header_bytes (record m.header { hops = hops + 1; giaddr = gateway.0 }) ≡ header =
+    λ i. header_bytes (record m.header { hops = same_hops i + 1; giaddr = (same_gateway i).0 }) in
     let at_front : front ≡ header ++ MAGIC_COOKIE = is_front ∙ λ i. none i ++ (by_header i ++ MAGIC_COOKIE) in
     let at_listed : listed ≡ (header ++ MAGIC_COOKIE) ++ spelling m.options = is_listed ∙ ap (λ (t : List ℕ). t ++ spelling m.options) at_front in
     let at_marked : marked ≡ ((header ++ MAGIC_COOKIE) ++ spelling m.options) ++ information = is_marked ∙ λ i. at_listed i ++ information in

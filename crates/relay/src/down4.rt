@@ -72,7 +72,7 @@ fn write_without_agent_information(reply: &Message<'_>, out: &mut PacketBuf) -> 
     ensures ok { OnOk result (out.new ≡ (without_agent_information reply.now).bytes) }
     ensures room { length (message_bytes reply.now) ≤ 1280 → IsOk result }
 {
-    reply.header().write(out)?;
+    reply.write_header(out)?;
     reply
         .options()
         .write_without(code::RELAY_AGENT_INFORMATION, out)?;

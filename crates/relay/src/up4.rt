@@ -85,10 +85,7 @@ fn write_with_agent_information(
     ensures ok { OnOk result (out.new ≡ message_bytes (with_agent_information part.now message.now)) }
     ensures room { length (message_bytes message.now) ≤ 1024 → IsOk result }
 {
-    let mut header = message.header();
-    header.hops += 1;
-    header.giaddr = part.gateway4();
-    header.write(out)?;
+    message.write_forwarded_header(message.hops() + 1, part.gateway4(), out)?;
     message.options().write(out)?;
     put_agent_information(part, out)?;
     out.push(code::END)

@@ -1,5 +1,5 @@
 -- A header's bytes have its fields, and the fields of bytes are written as those bytes.
-use Rattle.std.proofs.Common.{◌≡◌, ℕ, ◌+◌, ◌^◌, ◌≤◌, ◌<◌, List, [], ◌∷◌, ◌++◌, length, take, drop, get_or, refl, sym, ap, ◌∙◌, append_assoc, arith, inl, inr, lit<}
+use Rattle.std.proofs.Common.{◌≡◌, ℕ, ◌+◌, ◌≤◌, ◌<◌, List, [], ◌∷◌, ◌++◌, length, take, drop, get_or, refl, sym, ap, ◌∙◌, append_assoc, arith, inl, inr, lit<}
 use Rattle.std.proofs.Math.Seq.{drop-cons}
 use Rattle.std.proofs.lemmas.Bool.{cases_lt}
 use Rattle.std.proofs.lemmas.List.{append-nil, take_at, drop_at, take-append-drop, drop-drop, length-append, length-take, length-take-le, length-drop, get_or-drop, get_or-take, get_or_past}
@@ -140,11 +140,11 @@ part_fits bytes at len i fits =
         rw (get_or_past (take len bytes) i 0 short) (lit< tt)
 
 -- The fields of bytes are sized.
-pub sized_from_flags : (bytes : List ℕ) → 240 ≤ length bytes → from_be_bytes w16 (part bytes 10 2) < 2 ^ 16 → IsSized (header_at bytes)
-sized_from_flags bytes long flags = record {
+pub sized_at : (bytes : List ℕ) → AreBytes bytes → 240 ≤ length bytes → IsSized (header_at bytes)
+sized_at bytes fits long = record {
   xid = length-part bytes 4 4 (omega arith);
   secs = length-part bytes 8 2 (omega arith);
-  flags = flags;
+  flags = omega (arith, part_fits bytes 10 2 0 fits, part_fits bytes 10 2 1 fits);
   ciaddr = length-part bytes 12 4 (omega arith);
   yiaddr = length-part bytes 16 4 (omega arith);
   siaddr = length-part bytes 20 4 (omega arith);
@@ -154,8 +154,9 @@ sized_from_flags bytes long flags = record {
   file = length-part bytes 108 128 (omega arith);
 }
 
-pub sized_at : (bytes : List ℕ) → AreBytes bytes → 240 ≤ length bytes → IsSized (header_at bytes)
-sized_at bytes fits long = sized_from_flags bytes long (omega (arith, part_fits bytes 10 2 0 fits, part_fits bytes 10 2 1 fits))
+-- The bytes of the flags are those of their number.
+flag_bytes : (bytes : List ℕ) → AreBytes bytes → 240 ≤ length bytes → to_be_bytes w16 (from_be_bytes w16 (part bytes 10 2)) ≡ part bytes 10 2
+flag_bytes bytes fits long = be_bytes_2 (part bytes 10 2) _ (length-part bytes 10 2 (omega arith)) (λ i. part_fits bytes 10 2 i fits) refl
 
 -- Bytes with a cookie are their header, the cookie, and the bytes after it.
 pub whole : (bytes : List ℕ) → AreBytes bytes → 240 ≤ length bytes → HasCookie bytes → IsEthernet bytes → bytes ≡ header_bytes (header_at bytes) ++ (MAGIC_COOKIE ++ drop 240 bytes)
@@ -164,8 +165,7 @@ whole bytes fits long cookie ethernet =
     let htype : part bytes 1 1 ≡ 1 ∷ [] = one_byte bytes 1 (omega arith) ∙ ap (λ (n : ℕ). n ∷ []) ethernet.0 in
     let hlen : part bytes 2 1 ≡ 6 ∷ [] = one_byte bytes 2 (omega arith) ∙ ap (λ (n : ℕ). n ∷ []) ethernet.1 in
     let hops : part bytes 3 1 ≡ get_or bytes 3 0 ∷ [] = one_byte bytes 3 (omega arith) in
-    let flags : to_be_bytes w16 (from_be_bytes w16 (part bytes 10 2)) ≡ part bytes 10 2 =
-    be_bytes_2 (part bytes 10 2) _ (length-part bytes 10 2 (omega arith)) (λ i. part_fits bytes 10 2 i fits) refl in
+    let flags = flag_bytes bytes fits long in
     let parts : cut 0 sizes bytes ≡ fields_of (header_at bytes) =
     λ i. op i ∷ htype i ∷ hlen i ∷ hops i ∷ part bytes 4 4 ∷ part bytes 8 2 ∷ sym flags i
     ∷ part bytes 12 4 ∷ part bytes 16 4 ∷ part bytes 20 4 ∷ part bytes 24 4
@@ -177,3 +177,43 @@ whole bytes fits long cookie ethernet =
     sym (joined-cut 0 sizes bytes)
     ∙ ap (λ (fields : List (List ℕ)). concat fields ++ drop 236 bytes) parts
     ∙ ap (λ (t : List ℕ). header_bytes (header_at bytes) ++ t) tail
+
+-- ---- a header that is written as it was read
+
+-- Bytes with a cookie begin with their header and the cookie.
+pub front : (bytes : List ℕ) → AreBytes bytes → 240 ≤ length bytes → HasCookie bytes → IsEthernet bytes → take 240 bytes ≡ header_bytes (header_at bytes) ++ MAGIC_COOKIE
+front bytes fits long cookie ethernet =
+    let header : List ℕ = header_bytes (header_at bytes) in
+    let len : length (header ++ MAGIC_COOKIE) ≡ 240 = omega (arith, length-append header MAGIC_COOKIE, length-header_bytes (header_at bytes) (sized_at bytes fits long)) in
+    ap (take 240) (whole bytes fits long cookie ethernet ∙ sym (append_assoc header MAGIC_COOKIE (drop 240 bytes)))
+    ∙ take_at (header ++ MAGIC_COOKIE) (drop 240 bytes) 240 len
+
+-- A part is the smaller parts in it, concatenated.
+part-cut : (at n : ℕ) (ns : List ℕ) (bytes : List ℕ) → at + n ≡ end at ns → at + n ≤ length bytes → part bytes at n ≡ concat (cut at ns bytes)
+part-cut at n ns bytes e fits =
+    let pieces : List ℕ = concat (cut at ns bytes) in
+    let len : length pieces ≡ n = omega (arith, e, fits, ap length (joined-cut at ns bytes), length-append pieces (drop (end at ns) bytes), length-drop at bytes, length-drop (end at ns) bytes) in
+    ap (take n) (sym (joined-cut at ns bytes)) ∙ take_at pieces (drop (end at ns) bytes) n len
+
+forwarded_pieces : (out op htype hlen hops xid secs flags ciaddr yiaddr siaddr giaddr chaddr sname file cookie : List ℕ)
+    → ((((out ++ (op ++ (htype ++ (hlen ++ [])))) ++ hops) ++ (xid ++ (secs ++ (flags ++ (ciaddr ++ (yiaddr ++ (siaddr ++ []))))))) ++ giaddr) ++ (chaddr ++ (sname ++ (file ++ (cookie ++ []))))
+    ≡ out ++ ((op ++ (htype ++ (hlen ++ (hops ++ (xid ++ (secs ++ (flags ++ (ciaddr ++ (yiaddr ++ (siaddr ++ (giaddr ++ (chaddr ++ (sname ++ (file ++ [])))))))))))))) ++ cookie)
+forwarded_pieces out op htype hlen hops xid secs flags ciaddr yiaddr siaddr giaddr chaddr sname file cookie = simp (append_assoc, append-nil)
+
+-- With another hop count and giaddr between them, its bytes are the header with these.
+pub forwarded : (out bytes : List ℕ) (hops : ℕ) (giaddr : List ℕ) → AreBytes bytes → 240 ≤ length bytes → HasCookie bytes → IsEthernet bytes
+    → ((((out ++ part bytes 0 3) ++ hops ∷ []) ++ part bytes 4 20) ++ giaddr) ++ part bytes 28 212
+    ≡ out ++ (header_bytes (record (header_at bytes) { hops = hops; giaddr = giaddr }) ++ MAGIC_COOKIE)
+forwarded out bytes hops giaddr fits long cookie ethernet =
+    let op : part bytes 0 1 ≡ get_or bytes 0 0 ∷ [] = one_byte bytes 0 (omega arith) in
+    let htype : part bytes 1 1 ≡ 1 ∷ [] = one_byte bytes 1 (omega arith) ∙ ap (λ (n : ℕ). n ∷ []) ethernet.0 in
+    let hlen : part bytes 2 1 ≡ 6 ∷ [] = one_byte bytes 2 (omega arith) ∙ ap (λ (n : ℕ). n ∷ []) ethernet.1 in
+    let flags = sym (flag_bytes bytes fits long) in
+    let first = part-cut 0 3 (1 ∷ 1 ∷ 1 ∷ []) bytes refl (omega arith) ∙ λ i. op i ++ (htype i ++ (hlen i ++ [])) in
+    let middle = part-cut 4 20 (4 ∷ 2 ∷ 2 ∷ 4 ∷ 4 ∷ 4 ∷ []) bytes refl (omega arith)
+    ∙ λ i. part bytes 4 4 ++ (part bytes 8 2 ++ (flags i ++ (part bytes 12 4 ++ (part bytes 16 4 ++ (part bytes 20 4 ++ []))))) in
+    let last = part-cut 28 212 (16 ∷ 64 ∷ 128 ∷ 4 ∷ []) bytes refl (omega arith)
+    ∙ λ i. part bytes 28 16 ++ (part bytes 44 64 ++ (part bytes 108 128 ++ (cookie i ++ []))) in
+    (λ i. ((((out ++ first i) ++ hops ∷ []) ++ middle i) ++ giaddr) ++ last i)
+    ∙ forwarded_pieces out (get_or bytes 0 0 ∷ []) (1 ∷ []) (6 ∷ []) (hops ∷ []) (part bytes 4 4) (part bytes 8 2) (to_be_bytes w16 (from_be_bytes w16 (part bytes 10 2)))
+    (part bytes 12 4) (part bytes 16 4) (part bytes 20 4) giaddr (part bytes 28 16) (part bytes 44 64) (part bytes 108 128) MAGIC_COOKIE

@@ -65,7 +65,7 @@ impl<'a> Header<'a> {
 }
 
 /// Appends bytes that fit.
-fn append(out: &mut PacketBuf, bytes: &[u8])
+pub(crate) fn append(out: &mut PacketBuf, bytes: &[u8])
     requires { length out.old + length bytes.now ≤ 1280 }
     ensures bytes { out.new ≡ out.old ++ bytes.now }
     ensures len { length out.new ≡ length out.old + length bytes.now }

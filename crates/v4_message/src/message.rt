@@ -1,20 +1,20 @@
 //! Whole messages (RFC 2131, section 2).
 ghost use Rattle.std.specs.Prelude.{◌≡◌, ◌≤◌, ◌<◌, ◌+◌, ◌↔◌, ℕ, List, [], ◌∷◌, ◌++◌, ◌==◌, ◌||◌, length, Some, Ok, Err, IsOk, OnOk, OnErr, IfSome, option_map};
-ghost use Rattle.std.specs.Option.{option_or};
+ghost use Rattle.std.specs.Bool.{OnTrue};
 ghost use Rattle.types.specs.Kind4.{code_of_kind};
 ghost use Rattle.v4_options.specs.Codes.{REQUESTED_ADDRESS, OPTION_OVERLOAD, MESSAGE_TYPE, SERVER_IDENTIFIER, CLIENT_IDENTIFIER, RELAY_AGENT_INFORMATION};
 ghost use Rattle.v4_options.specs.Spelling.{look_up};
-ghost use Rattle.v4_message.specs.Header.{IsSized};
+ghost use Rattle.v4_message.specs.Header.{IsSized, header_bytes};
+ghost use Rattle.v4_message.specs.Layout.{MAGIC_COOKIE};
 ghost use Rattle.v4_message.specs.Reading.{are_allowed, has_cookie, is_ethernet, kind_in, may_be_addr, message_of};
 ghost use Rattle.v4_message.specs.Spelling.{MessageValue, IsValid, Spells, Fails, message_bytes};
-ghost use Rattle.v4_message.specs.Written.{header_value};
 
 use crate::fault::MessageFault;
 use crate::field;
-use crate::header::{Header, OP_REPLY, OP_REQUEST};
+use crate::header::{OP_REPLY, OP_REQUEST, append};
 use crate::parts::{addr_of, array_at};
 use std::marker::Model;
-use types::{Addr4, Kind4};
+use types::{Addr4, Kind4, MAX_DATAGRAM};
 use v4_options::{Options, code};
 use wire::{Full, PacketBuf};
 
@@ -24,6 +24,8 @@ pub struct Message<'a> {
     bytes: &'a [u8],
     options: Options<'a>,
     kind: Kind4,
+    requested: Option<Addr4>,
+    server: Option<Addr4>,
 }
 
 impl<'a> Model for Message<'a> {
@@ -35,7 +37,7 @@ impl<'a> Model for Message<'a> {
 
     ghost view = { λ m. record { header = header_at m.bytes.now; options = m.options } };
 
-    ghost invariant = { λ m. IsRead m.bytes.now m.options m.kind };
+    ghost invariant = { λ m. IsRead m.bytes.now m.options m.kind m.requested m.server };
 }
 
 impl<'a> Message<'a> {
@@ -140,20 +142,14 @@ impl<'a> Message<'a> {
     pub fn requested_address(&self) -> Option<Addr4>
         ensures { option_map (λ addr. addr.0) result ≡ look_up REQUESTED_ADDRESS self.now.options }
     {
-        match self.options.get(code::REQUESTED_ADDRESS) {
-            None => None,
-            Some(value) => Some(addr_of(value)),
-        }
+        self.requested
     }
 
     /// Option 54, the server that the message names.
     pub fn server_identifier(&self) -> Option<Addr4>
         ensures { option_map (λ addr. addr.0) result ≡ look_up SERVER_IDENTIFIER self.now.options }
     {
-        match self.options.get(code::SERVER_IDENTIFIER) {
-            None => None,
-            Some(value) => Some(addr_of(value)),
-        }
+        self.server
     }
 
     /// Option 61, of any length.
@@ -171,26 +167,47 @@ impl<'a> Message<'a> {
         self.options.get(code::RELAY_AGENT_INFORMATION)
     }
 
-    /// The header's fields as values.
-    pub fn header(&self) -> Header<'a>
-        ensures value { header_value result ≡ self.now.header }
+    /// Appends the header and the cookie, 240 bytes, as they were read. Where they do not fit, `out` is
+    /// left empty.
+    pub fn write_header(&self, out: &mut PacketBuf) -> Result<(), Full>
+        ensures full { IsOk result ↔ (length out.old + 240 ≤ 1280) }
+        ensures ok { OnOk result (out.new ≡ out.old ++ (header_bytes self.now.header ++ MAGIC_COOKIE)) }
+        ensures err { OnErr result (out.new ≡ []) }
+        ensures sized { IsSized self.now.header }
+    {
+        let front = &self.bytes[..field::OPTIONS];
+        if out.len() + field::OPTIONS > MAX_DATAGRAM {
+            out.clear();
+            return Err(Full);
+        }
+        append(out, front);
+        Ok(())
+    }
+
+    /// Appends the header as a relay agent forwards it, with another hop count and giaddr (RFC 1542,
+    /// section 4.1.1), and the cookie. Where they do not fit, `out` is left empty.
+    pub fn write_forwarded_header(
+        &self,
+        hops: u8,
+        giaddr: Addr4,
+        out: &mut PacketBuf,
+    ) -> Result<(), Full>
+        ensures full { IsOk result ↔ (length out.old + 240 ≤ 1280) }
+        ensures ok { OnOk result (out.new ≡ out.old ++ (header_bytes (record self.now.header { hops = hops; giaddr = giaddr.0 }) ++ MAGIC_COOKIE)) }
+        ensures err { OnErr result (out.new ≡ []) }
         ensures sized { IsSized self.now.header }
     {
         let bytes = self.bytes;
-        Header {
-            op: bytes[field::OP],
-            hops: self.hops(),
-            xid: self.xid(),
-            secs: self.secs(),
-            flags: self.flags(),
-            ciaddr: self.ciaddr(),
-            yiaddr: self.yiaddr(),
-            siaddr: self.siaddr(),
-            giaddr: self.giaddr(),
-            chaddr: self.chaddr(),
-            sname: self.sname(),
-            file: self.file(),
+        if out.len() + field::OPTIONS > MAX_DATAGRAM {
+            out.clear();
+            return Err(Full);
         }
+        append(out, &bytes[..field::HOPS]);
+        append(out, &[hops]);
+        append(out, &bytes[field::XID..field::GIADDR]);
+        append(out, &giaddr.0);
+        append(out, &bytes[field::CHADDR..field::OPTIONS]);
+        Ok(())
     }
 
     /// Appends the message: its options in order, without pads, and nothing after the end option. Where
@@ -200,7 +217,7 @@ impl<'a> Message<'a> {
         ensures ok { OnOk result (out.new ≡ out.old ++ message_bytes self.now) }
         ensures err { OnErr result (out.new ≡ []) }
     {
-        self.header().write(out)?;
+        self.write_header(out)?;
         self.options.write(out)?;
         if out.push(code::END).is_err() {
             out.clear();
@@ -240,6 +257,8 @@ fn message_in(bytes: &[u8]) -> Result<Message<'_>, MessageFault>
             bytes,
             options,
             kind,
+            requested: check.requested,
+            server: check.server,
         }),
     }
 }
@@ -264,16 +283,21 @@ fn is_op(op: u8) -> bool
     op == OP_REQUEST || op == OP_REPLY
 }
 
-/// Whether a message with these options is read, and its kind.
+/// Whether a message with these options is read and its kind, and if it may be read, the addresses in
+/// options 50 and 54.
 #[derive(Drop)]
 struct OptionsCheck {
     are_allowed: bool,
     kind: Option<Kind4>,
+    requested: Option<Addr4>,
+    server: Option<Addr4>,
 }
 
 fn check_options(options: &Options<'_>) -> OptionsCheck
     ensures allowed { result.are_allowed ≡ are_allowed options.now }
     ensures kind { option_map code_of_kind result.kind ≡ kind_in (look_up MESSAGE_TYPE options.now) }
+    ensures requested { OnTrue result.are_allowed (option_map (λ addr. addr.0) result.requested ≡ look_up REQUESTED_ADDRESS options.now) }
+    ensures server { OnTrue result.are_allowed (option_map (λ addr. addr.0) result.server ≡ look_up SERVER_IDENTIFIER options.now) }
 {
     let values = validity_options(options);
     let has_overload = values.overload.is_some();
@@ -281,6 +305,8 @@ fn check_options(options: &Options<'_>) -> OptionsCheck
     OptionsCheck {
         are_allowed: !has_overload && are_addrs,
         kind: kind_of(values.kind),
+        requested: addr_in(values.requested),
+        server: addr_in(values.server),
     }
 }
 
@@ -293,7 +319,7 @@ struct ValidityOptions<'a> {
     server: Option<&'a [u8]>,
 }
 
-/// Finds them all in one walk over the options.
+/// Finds the first of each in one walk over the options.
 fn validity_options<'a>(options: &Options<'a>) -> ValidityOptions<'a>
     ensures requested { option_map (λ value. value.now) result.requested ≡ look_up REQUESTED_ADDRESS options.now }
     ensures overload { option_map (λ value. value.now) result.overload ≡ look_up OPTION_OVERLOAD options.now }
@@ -305,36 +331,19 @@ fn validity_options<'a>(options: &Options<'a>) -> ValidityOptions<'a>
     let mut kind = None;
     let mut server = None;
     'row: for (number, value) in options.iter() {
-        // all four codes are between these two
-        if number < code::REQUESTED_ADDRESS || number > code::SERVER_IDENTIFIER {
-            continue;
+        match number {
+            code::REQUESTED_ADDRESS => requested = requested.or(Some(value)),
+            code::OPTION_OVERLOAD => overload = overload.or(Some(value)),
+            code::MESSAGE_TYPE => kind = kind.or(Some(value)),
+            code::SERVER_IDENTIFIER => server = server.or(Some(value)),
+            _ => {}
         }
-        requested = first_of(requested, code::REQUESTED_ADDRESS, number, value);
-        overload = first_of(overload, code::OPTION_OVERLOAD, number, value);
-        kind = first_of(kind, code::MESSAGE_TYPE, number, value);
-        server = first_of(server, code::SERVER_IDENTIFIER, number, value);
     }
     ValidityOptions {
         requested,
         overload,
         kind,
         server,
-    }
-}
-
-/// The value that was found before, else that of the option with this number where it is the one wanted.
-fn first_of<'a>(
-    before: Option<&'a [u8]>,
-    wanted: u8,
-    number: u8,
-    value: &'a [u8],
-) -> Option<&'a [u8]>
-    ensures { (rest : List (ℕ × List ℕ)) → option_or (option_map (λ value. value.now) result) (look_up wanted rest) ≡ option_or (option_map (λ value. value.now) before.entry) (look_up wanted ((number, value.now) ∷ rest)) }
-{
-    match before {
-        Some(_) => before,
-        None if number == wanted => Some(value),
-        None => None,
     }
 }
 
@@ -345,6 +354,16 @@ fn is_addr_or_none(found: Option<&[u8]>) -> bool
     match found {
         None => true,
         Some(value) => value.len() == field::ADDR_LEN,
+    }
+}
+
+/// The address of an option that is an address or absent.
+fn addr_in(found: Option<&[u8]>) -> Option<Addr4>
+    ensures { OnTrue (may_be_addr (option_map (λ value. value.now) found.entry)) (option_map (λ addr. addr.0) result ≡ option_map (λ value. value.now) found.entry) }
+{
+    match found {
+        Some(value) if value.len() == field::ADDR_LEN => Some(addr_of(value)),
+        _ => None,
     }
 }
 

@@ -5,7 +5,6 @@ use Rattle.v4_options.specs.Spelling.{spelling, without}
 use Rattle.v4_options.proofs.Lengths.{length-without}
 use Rattle.v4_message.specs.Layout.{MAGIC_COOKIE}
 use Rattle.v4_message.specs.Header.{header_bytes}
-use Rattle.v4_message.specs.Written.{header_value}
 use Rattle.v4_message.proofs.Lengths.{length-message_bytes}
 use Rattle.relay.proofs.Relay4Lemmas.{length-front}
 use Rattle.relay.proofs.down4.write_without_agent_information.Goals as goal
@@ -14,14 +13,14 @@ pub returns-in_err-write_without-clause-room : goal.returns-in_err-write_without
 returns-in_err-write_without-clause-room c = λ fits.
     let options = c.options.result.now in
     let same : length (spelling options) ≡ length (spelling c.args.reply.now.options) = ap (λ (os : List (ℕ × List ℕ)). length (spelling os)) c.options.ensures in
-    let room : length c.write.new.out + length (spelling (without RELAY_AGENT_INFORMATION options)) ≤ 1280 =
+    let room : length c.write_header.new.out + length (spelling (without RELAY_AGENT_INFORMATION options)) ≤ 1280 =
     omega (
       arith,
       ap length c.requires.empty,
-      ap length c.in_ok-write.ensures.ok,
-      length-append c.args.out.now (header_bytes (header_value c.header.result) ++ MAGIC_COOKIE),
-      length-front (header_value c.header.result) c.in_ok-write.ensures.sized,
-      length-message_bytes c.args.reply.now c.header.ensures.sized,
+      ap length c.in_ok-write_header.ensures.ok,
+      length-append c.args.out.now (header_bytes c.args.reply.now.header ++ MAGIC_COOKIE),
+      length-front c.args.reply.now.header c.write_header.ensures.sized,
+      length-message_bytes c.args.reply.now c.write_header.ensures.sized,
       length-without RELAY_AGENT_INFORMATION options,
     ) in
     absurd (cc (c.in_err-write_without.ensures.full.1 room))
@@ -34,12 +33,12 @@ returns-in_err-push-clause-room c = λ fits.
     omega (
       arith,
       ap length c.requires.empty,
-      ap length c.in_ok-write.ensures.ok,
-      length-append c.args.out.now (header_bytes (header_value c.header.result) ++ MAGIC_COOKIE),
-      length-front (header_value c.header.result) c.in_ok-write.ensures.sized,
+      ap length c.in_ok-write_header.ensures.ok,
+      length-append c.args.out.now (header_bytes c.args.reply.now.header ++ MAGIC_COOKIE),
+      length-front c.args.reply.now.header c.write_header.ensures.sized,
       ap length c.in_ok-write_without.ensures.ok,
-      length-append c.write.new.out (spelling (without RELAY_AGENT_INFORMATION options)),
-      length-message_bytes c.args.reply.now c.header.ensures.sized,
+      length-append c.write_header.new.out (spelling (without RELAY_AGENT_INFORMATION options)),
+      length-message_bytes c.args.reply.now c.write_header.ensures.sized,
       length-without RELAY_AGENT_INFORMATION options,
     ) in
     absurd (cc (c.in_err-push.ensures.full.1 room))
