@@ -1,11 +1,11 @@
 //! The datagrams of DHCPv4 replies (RFC 2131, section 4.3.1, table 3).
-ghost use Rattle.std.specs.Prelude.{◌≡◌, ◌≤◌, ◌+◌, ◌<◌, [], ◌∷◌, ◌++◌, length};
-ghost use Rattle.std.specs.Int.{w32, to_be_bytes};
+ghost use Rattle.std.specs.Prelude.{◌≡◌, ◌≤◌, ◌+◌, ◌<◌, [], ◌∷◌, ◌++◌, length, take};
 ghost use Rattle.std.specs.List.{flat_map};
 ghost use Rattle.types.specs.Kind4.{code_of_kind};
 ghost use Rattle.v4_options.specs.Spelling.{option, spelling, look_up};
 ghost use Rattle.v4_message.specs.Header.{header_bytes};
 ghost use Rattle.v4_message.specs.Layout.{MAGIC_COOKIE};
+ghost use Rattle.v4_message.specs.Spelling.{MessageValue};
 ghost use Rattle.wire.specs.Padding.{padded_to};
 ghost use Rattle.replies.specs.Reply4.{ciaddr_in, echo, flags_in, inform_options, lease_options, mask, nak_options, name_servers, reply4_bytes, reply_header, reply_options, yiaddr_in};
 
@@ -106,16 +106,30 @@ fn put_lease_options(kind: Kind4, part: &CircuitPart, request: &Message<'_>, out
     ensures bytes { out.new ≡ out.old ++ spelling (lease_options (code_of_kind kind) part.now request.now) }
     ensures len { length out.new ≤ length out.old + 314 }
 {
-    let lease = part.lease();
-    put(code::MESSAGE_TYPE, &[kind.code()], out);
-    put(code::SERVER_IDENTIFIER, &part.gateway4().0, out);
-    put_number(code::LEASE_TIME, lease, out);
-    put_number(code::RENEWAL_TIME, lease / 2, out);
-    put_number(code::REBINDING_TIME, (7 * u64::from(lease) / 8) as u32, out);
-    put_number(code::SUBNET_MASK, mask(part.prefix4()), out);
-    put(code::ROUTER, &part.gateway4().0, out);
+    let _ = out.extend(&lease_option_bytes(kind, part));
     put_name_servers(part, out);
     put_echo(request, out);
+}
+
+/// The first seven of these options, whose lengths are fixed, in one array.
+#[rattlefmt::skip]
+fn lease_option_bytes(kind: Kind4, part: &CircuitPart) -> [u8; 39]
+    ensures { (m : MessageValue) → result ≡ spelling (take 7 (lease_options (code_of_kind kind) part.now m)) }
+{
+    let server = part.gateway4().0;
+    let lease = part.lease().to_be_bytes();
+    let t1 = (part.lease() / 2).to_be_bytes();
+    let t2 = ((7 * u64::from(part.lease()) / 8) as u32).to_be_bytes();
+    let mask = mask(part.prefix4()).to_be_bytes();
+    [
+        code::MESSAGE_TYPE,      1, kind.code(),
+        code::SERVER_IDENTIFIER, 4, server[0], server[1], server[2], server[3],
+        code::LEASE_TIME,        4, lease[0],  lease[1],  lease[2],  lease[3],
+        code::RENEWAL_TIME,      4, t1[0],     t1[1],     t1[2],     t1[3],
+        code::REBINDING_TIME,    4, t2[0],     t2[1],     t2[2],     t2[3],
+        code::SUBNET_MASK,       4, mask[0],   mask[1],   mask[2],   mask[3],
+        code::ROUTER,            4, server[0], server[1], server[2], server[3],
+    ]
 }
 
 /// The options of an ACK to an INFORM: at most 296 bytes.
@@ -126,7 +140,7 @@ fn put_inform_options(part: &CircuitPart, request: &Message<'_>, out: &mut Packe
 {
     put(code::MESSAGE_TYPE, &[Kind4::Ack.code()], out);
     put(code::SERVER_IDENTIFIER, &part.gateway4().0, out);
-    put_number(code::SUBNET_MASK, mask(part.prefix4()), out);
+    put(code::SUBNET_MASK, &mask(part.prefix4()).to_be_bytes(), out);
     put(code::ROUTER, &part.gateway4().0, out);
     put_name_servers(part, out);
     put_echo(request, out);
@@ -193,15 +207,6 @@ fn put_end(out: &mut PacketBuf)
 {
     let _ = out.push(code::END);
     let _ = out.pad_to(MIN_REPLY);
-}
-
-/// Appends an option of 4 bytes.
-fn put_number(code: u8, number: u32, out: &mut PacketBuf)
-    requires { length out.old + 6 ≤ 1280 }
-    ensures bytes { out.new ≡ out.old ++ option code (to_be_bytes w32 number) }
-    ensures len { length out.new ≡ length out.old + 6 }
-{
-    put(code, &number.to_be_bytes(), out);
 }
 
 /// Appends an option for which there is room.

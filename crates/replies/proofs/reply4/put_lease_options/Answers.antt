@@ -1,18 +1,19 @@
-use Rattle.std.proofs.Common.{◌≡◌, ℕ, ◌*◌, ◌/◌, List, [], ◌∷◌, ◌++◌, append_assoc}
-use Rattle.std.specs.Int.{w32, to_be_bytes}
+use Rattle.std.proofs.Common.{◌≡◌, ℕ, List, ◌++◌, append_assoc, take, arith}
 use Rattle.types.specs.Kind4.{code_of_kind}
-use Rattle.v4_options.specs.Spelling.{option, spelling, look_up}
+use Rattle.v4_options.specs.Spelling.{spelling, look_up}
 use Rattle.v4_options.proofs.Left.{spelling-append}
-use Rattle.replies.specs.Reply4.{echo, mask, name_servers}
+use Rattle.replies.specs.Reply4.{echo, lease_options, name_servers}
 use Rattle.replies.proofs.reply4.put_lease_options.Goals as goal
 
--- Seven options and two lists of options, appended one after the other.
-parts-append : (out a b c d e f g : List ℕ) (servers agent : List (ℕ × List ℕ))
-    → ((((((((out ++ a) ++ b) ++ c) ++ d) ++ e) ++ f) ++ g) ++ spelling servers) ++ spelling agent ≡ out ++ (a ++ (b ++ (c ++ (d ++ (e ++ (f ++ (g ++ spelling (servers ++ agent))))))))
-parts-append out a b c d e f g servers agent = rw (spelling-append servers agent) (simp append_assoc)
+-- Three lists of options, appended one after the other.
+parts-append : (out : List ℕ) (fixed servers agent : List (ℕ × List ℕ))
+    → ((out ++ spelling fixed) ++ spelling servers) ++ spelling agent ≡ out ++ spelling (fixed ++ (servers ++ agent))
+parts-append out fixed servers agent = rw (spelling-append fixed (servers ++ agent)) (rw (spelling-append servers agent) (simp append_assoc))
 
 pub returns-clause-bytes : goal.returns-clause-bytes
 returns-clause-bytes c =
     let p = c.args.part.now in
-    simp (c.put_echo.ensures.bytes, c.put_name_servers.ensures.bytes, c.put-3.ensures.bytes, c.put_number-4.ensures.bytes, c.put_number-3.ensures.bytes, c.put_number-2.ensures.bytes, c.put_number.ensures.bytes, c.put-2.ensures.bytes, c.put.ensures.bytes, c.gateway4-2.ensures.value, c.mask.ensures, c.prefix4.ensures, c.from.ensures, c.lease-lease.ensures, c.gateway4.ensures.value, c.code.ensures)
-    (parts-append c.args.out.now (option 53 (code_of_kind c.args.kind ∷ [])) (option 54 p.gateway4.0) (option 51 (to_be_bytes w32 p.lease)) (option 58 (to_be_bytes w32 (p.lease / 2))) (option 59 (to_be_bytes w32 (7 * p.lease / 8))) (option 1 (to_be_bytes w32 (mask p.prefix4))) (option 3 p.gateway4.0) (name_servers p.dns) (echo (look_up 82 c.args.request.now.options)))
+    let m = c.args.request.now in
+    let fixed = take 7 (lease_options (code_of_kind c.args.kind) p m) in
+    let front : c.extend.new.self ≡ c.args.out.now ++ spelling fixed = grind (arith, c.lease_option_bytes.ensures m) in
+    simp (c.put_echo.ensures.bytes, c.put_name_servers.ensures.bytes, front) (parts-append c.args.out.now fixed (name_servers p.dns) (echo (look_up 82 m.options)))
