@@ -1,21 +1,19 @@
 -- Circuits by their ids.
-use Rattle.std.proofs.Common.{◌≡◌, ◌≢◌, ℕ, zero, suc, ◌+◌, ◌<◌, ◌≤◌, nat_lt, Bool, true, false, not, ◌||◌, if◌then◌else◌, List, [], ◌∷◌, ◌++◌, length, get_or, take, map, refl, sym, ap, ◌∙◌, subst, arith}
-use Rattle.std.specs.Prelude.{AllPairs, All, Option, None, Some, slice_get}
+use Rattle.std.proofs.Common.{◌≡◌, ◌≢◌, ℕ, zero, suc, ◌+◌, ◌<◌, ◌≤◌, nat_lt, Bool, true, false, not, ◌||◌, if◌then◌else◌, List, [], ◌∷◌, ◌++◌, length, get_or, take, map, refl, sym, ap, ◌∙◌, arith}
+use Rattle.std.specs.Prelude.{AllPairs, None, Some, slice_get}
 use Rattle.std.specs.List.{list_any, position, position_or_len}
 use Rattle.std.specs.Str.{bytes_eq}
 use Rattle.std.proofs.lemmas.Bool.{false≢true}
 use Rattle.std.proofs.lemmas.Grind.{common_steps}
 use Rattle.std.proofs.lemmas.List.{length-map, take_more}
-use Rattle.std.proofs.lemmas.List.Elements.{All-get_or}
 use Rattle.std.proofs.lemmas.List.Quantifiers.{position-Some}
 use Rattle.std.proofs.lemmas.List.Sums.{fails_before_first}
 use Rattle.std.proofs.lemmas.Option.{slice_get-map, slice_get-get_or, slice_get_within, get_or_from_slice_get}
 use Rattle.std.proofs.lemmas.Slice.Eq.{bytes_eq-Decides}
 use Rattle.indexmap.specs.IndexSet.{insert_key}
-use Rattle.types.specs.CircuitId.{IsCircuitId}
 use Rattle.settings.specs.Settings.{Settings}
 use Rattle.settings.specs.declared.settings.CircuitConfig.{CircuitConfig}
-use Rattle.config.specs.CircuitPart.{CircuitPart, IsPart, parts_of}
+use Rattle.config.specs.CircuitPart.{CircuitPart, parts_of}
 use Rattle.config.specs.Rules.{IsIdAt}
 
 -- an id that is not among these
@@ -79,18 +77,6 @@ position_of parts id =
     let first = first_of (bytes_eq id) (λ (part : CircuitPart). part.id) parts in
     let size : length (map (λ part. part.id) parts) ≡ length parts = length-map parts (λ part. part.id) in
     λ j. if nat_lt (first j) (size j) then Some (first j) else None
-
--- bytes that are no id are no part's id
-pub no_part : (parts : List CircuitPart) (id : List ℕ) → All IsPart parts → (IsCircuitId id → ⊥) → position (λ part. bytes_eq id part.id) parts ≡ None
-no_part [] id each invalid = refl
-no_part (x ∷ xs) id each invalid = by_result (position (λ part. bytes_eq id part.id) (x ∷ xs)) refl
-  where
-    by_result : (r : Option ℕ) → position (λ part. bytes_eq id part.id) (x ∷ xs) ≡ r → r ≡ None
-    by_result None same = refl
-    by_result (Some i) same =
-        let at = position-Some (λ part. bytes_eq id part.id) (x ∷ xs) i x same in
-        let part = All-get_or IsPart (x ∷ xs) i x at.0 each in
-        absurd (invalid (subst IsCircuitId (sym ((bytes_eq-Decides id (get_or (x ∷ xs) i x).id).0 at.1)) part.id))
 
 -- the parts of a configuration have the ids of its circuits
 same_ids : (f : CircuitConfig → CircuitPart) → ((c : CircuitConfig) → (f c).id ≡ c.id) → (circuits : List CircuitConfig) → map (λ c. c.id) circuits ≡ map (λ part. part.id) (map f circuits)

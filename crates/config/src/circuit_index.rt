@@ -4,7 +4,7 @@ ghost use Rattle.indexmap.specs.IndexSet.{insert_key};
 ghost use Rattle.std.specs.List.{list_any, position};
 ghost use Rattle.std.specs.Str.{bytes_eq};
 
-use indexmap::IndexSet;
+use indexmap::{Equivalent, IndexSet};
 use settings::CircuitConfig;
 use std::alloc::{AllocError, Global};
 use std::marker::Model;
@@ -66,11 +66,32 @@ impl CircuitIndex {
         self.ids.contains(id)
     }
 
-    /// Where the circuit with exactly this id stands.
-    pub fn find(&self, id: &CircuitId) -> Option<usize>
+    /// Where the circuit with exactly these bytes as its id stands. They need not be an id's.
+    pub fn find(&self, id: &[u8]) -> Option<usize>
         ensures found { result ≡ position (bytes_eq id.now) self.now }
         ensures within { IfSome result (λ place. place < length self.now) }
     {
-        self.ids.get_index_of(id)
+        self.ids.get_index_of(IdBytes(id))
+    }
+}
+
+/// Bytes by which an id is looked up without a copy of them.
+#[derive(Clone, Copy, PartialEq, Eq, Hash)]
+struct IdBytes<'a>(&'a [u8]);
+
+impl Equivalent<CircuitId> for IdBytes<'_> {
+    ghost use Rattle.std.proofs.Common.{ap};
+    ghost use Rattle.std.specs.Cmp.Lexicographic.{bytes_decides, nat_list_eq_equiv};
+    ghost use Rattle.std.specs.Hash as fed;
+    ghost use Rattle.std.specs.Str.{bytes_eq};
+
+    ghost equivalent = { λ bytes id. bytes_eq bytes.0.now id };
+
+    ghost respects_hash = { λ bytes id same. ap (fed.slice fed.u8) ((bytes_decides bytes.0.now id).0 same) };
+
+    ghost respects_eq = { λ bytes one other. nat_list_eq_equiv.congr bytes.0.now one other };
+
+    fn equivalent(&self, id: &CircuitId) -> bool {
+        self.0 == id.as_bytes()
     }
 }

@@ -17,7 +17,7 @@ use crate::plans::Plans;
 use settings::copy_of;
 use std::alloc::{AllocError, Global};
 use std::marker::Model;
-use types::{Circuit, CircuitId, RelayNo, Source};
+use types::{Circuit, RelayNo, Source};
 
 /// The server's addresses, where each relay's datagrams come from, the parts of all circuits, and which of them are
 /// served. It is a copy, made once, in which circuits and relays are found.
@@ -89,14 +89,12 @@ impl Circuits {
     }
 
     /// The circuit with exactly these bytes as its id.
-    #[tactic(auto, using(crate::proofs::IndexLemmas::no_part, crate::proofs::IndexLemmas::position_of))]
+    #[tactic(auto, using(crate::proofs::IndexLemmas::position_of))]
     fn find(&self, id: &[u8]) -> Option<Circuit>
         ensures found { result ≡ position (λ part. bytes_eq id.now part.id) self.now.circuits }
         ensures within { IfSome result (λ circuit. circuit < length self.now.circuits) }
     {
-        let index = &self.index;
-        let id = CircuitId::new(id)?;
-        Circuit::new(index.find(&id)?)
+        Circuit::new(self.index.find(id)?)
     }
 
     /// The circuit with exactly this id, which has to be served, and one of the relay that sends from this source.

@@ -164,7 +164,7 @@ impl Config {
         ensures within { IfSome result (λ circuit. circuit < length self.now.circuits) }
         ensures none { IfNone result ((index : ℕ) → ¬ IsIdAt self.now.circuits index id.now) }
     {
-        Circuit::new(self.index.find(id)?)
+        Circuit::new(self.index.find(id.as_bytes())?)
     }
     /// Whether there is a circuit with exactly this id.
     pub(crate) fn has_circuit(&self, id: &CircuitId) -> bool
