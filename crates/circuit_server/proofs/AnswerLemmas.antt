@@ -1,15 +1,22 @@
 -- What a circuit answers to a message, by what its open circuit decides.
 use Rattle.std.proofs.Common.{◌≡◌, ℕ, ◌+◌, ◌==◌, ◌&&◌, nat_lt, Bool, true, false, not, refl, sym, ap, ap₂, subst, ◌∙◌, Ok, Err, Result, is_ok, arith}
-use Rattle.std.specs.Prelude.{Option, Some, None, IfErr, if◌then◌else◌}
+use Rattle.std.specs.Prelude.{List, Option, Some, None, IfErr, IfOk, if◌then◌else◌}
 use Rattle.std.proofs.lemmas.Bool.{eq-eqb, lt-ltb, le-ltb}
 use Rattle.types.specs.Delivery.{DeliveryValue}
+use Rattle.types.specs.declared.dest.Proto.{Proto}
+use Rattle.types.specs.declared.dest.Proto.TheVariants.{V4, V6}
+use Rattle.types.specs.declared.discard.Discard.{Discard}
 use Rattle.types.specs.declared.discard.Discard.TheVariants.{DiskFault}
+use Rattle.v4_message.specs.Spelling.{MessageValue}
+use Rattle.requests.specs.declared.relayed_message.RelayedMessage.TheVariants as relayed
+use Rattle.requests.specs.RelayedMessage.{IsRelayedMessage}
+use Rattle.requests.specs.Request4.{request4_in}
 use Rattle.config.specs.CircuitPart.{CircuitPart}
 use Rattle.lease_disk.specs.Device.{Device, Touches, WritesAt}
 use Rattle.lease_disk.specs.Region.{Region, effective, faults_after}
 use Rattle.circuit_server.specs.Leases.{Leases, after_datagram, formats_of, kept, restarts_of, restarts_after}
 use Rattle.circuit_server.specs.Answered.{after_save, answered, circuit_saves, fails_at, saves}
-use Rattle.circuit_server.specs.Server.{Book, Served, book_at, datagram_served, served}
+use Rattle.circuit_server.specs.Server.{Book, Served, book_at, datagram_served, message4_served, request4_served, served}
 use Rattle.circuit_server.specs.CircuitServerValue.{CircuitServerValue, OpenCircuitValue, book_of, leases_of, open_book}
 
 -- ---- by whom a datagram is for
@@ -19,6 +26,18 @@ because_err P r why e holds = subst (λ x. IfErr x P) (sym e) holds
 
 pub because_ok : {T E : Type 0} (P : E → Type 0) (r : Result T E) (x : T) → r ≡ Ok x → IfErr r P
 because_ok P r x e = subst (λ y. IfErr y P) (sym e) tt
+
+-- ---- what was read
+
+-- what was read says which protocol the datagram has
+pub by_message4 : (part : CircuitPart) (b : Book) (proto : Proto) (bytes : List ℕ) (m : MessageValue) → IsRelayedMessage proto bytes (relayed.V4 m)
+    → datagram_served part proto bytes b ≡ request4_served part m b (request4_in m)
+by_message4 part b V4 bytes m read = ap (message4_served part b) read
+by_message4 part b V6 bytes m read = absurd read
+
+pub served_alike : {T : Type 0} (one other : Served) (by : T → Served) (result : Result T Discard) → one ≡ other → IfOk result (λ made. other ≡ by made) → IfOk result (λ made. one ≡ by made)
+served_alike one other by (Ok made) same is = same ∙ is
+served_alike one other by (Err why) same is = is
 
 -- ---- what is served
 

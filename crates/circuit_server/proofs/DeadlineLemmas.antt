@@ -254,29 +254,29 @@ keep6_inside None count few its = tt
 keep6_inside (Some kept) count few its = omega (arith, few, its)
 
 pub slots_inside : (d : CircuitDecision) (o : OpenCircuitValue) → KeepsItsSlot d o → HasItsSlots d
-slots_inside (V4 m d) o keeps = (keep4_inside d.keep o.four.pool.count keeps.2 keeps.1, offer_inside d.offer o.clock o.four.pool.count keeps.2 keeps.3)
-slots_inside (V6 forward m client d) o keeps = keep6_inside d.keep o.six.pool.count keeps.2 keeps.1
+slots_inside (V4 made) o keeps = (keep4_inside made.decision.keep o.four.pool.count keeps.2 keeps.1, offer_inside made.decision.offer o.clock o.four.pool.count keeps.2 keeps.3)
+slots_inside (V6 made) o keeps = keep6_inside made.decision.keep o.six.pool.count keeps.2 keeps.1
 
 -- the table after a decision
 pub after_decision : (d : CircuitDecision) (table : DeadlinesValue) (first : ℕ) (o : OpenCircuitValue) → first + 32 ≤ length table.slots → KeepsItsSlot d o → LosesNoOther d o → HasDeadlines table first (Some o)
     → HasDeadlines (with_deadlines d first table) first (Some (with_decision d o))
-after_decision (V4 m d) table first o room keeps others has =
-    let its = slots_inside (V4 m d) o keeps in
-    let offered = with_offered first d.offer table in
-    let after = with_kept4 first d.keep offered in
-    let more : first + 32 ≤ length offered.slots = omega (arith, room, size_offered d.offer table first) in
-    let size : length (slots4.with_written_offer d.offer o.four.slots) ≡ o.four.pool.count = size_written d.offer o.four.slots ∙ others.1 in
-    both after first (with_decision (V4 m d) o)
-    (with_live after first o.clock (slots4.with_written d o.four.slots) (slots4.with_decision d o.four).slots others.0
-    (after_keep4 d.keep offered first o.clock o.four.pool.count (slots4.with_written_offer d.offer o.four.slots) more keeps.2 size keeps.1
-    (after_offer d.offer table first o.clock o.four.pool.count o.four.slots room keeps.2 others.1 keeps.3 (four_of table first o has))))
-    (kept4_aside d.keep offered first o.clock o.six.slots its.0 (offered_aside d.offer table first o.clock o.six.slots its.1 (six_of table first o has)))
-after_decision (V6 forward m client d) table first o room keeps others has =
-    let after = with_kept6 first d.keep table in
-    both after first (with_decision (V6 forward m client d) o)
-    (kept6_aside d.keep table first o.clock o.four.slots (four_of table first o has))
-    (with_live after (first + 16) o.clock (slots6.with_written d o.six.slots) (slots6.with_decision d o.six).slots others.0
-    (after_keep6 d.keep table first o.clock o.six.pool.count o.six.slots room keeps.2 others.1 keeps.1 (six_of table first o has)))
+after_decision (V4 made) table first o room keeps others has =
+    let its = slots_inside (V4 made) o keeps in
+    let offered = with_offered first made.decision.offer table in
+    let after = with_kept4 first made.decision.keep offered in
+    let more : first + 32 ≤ length offered.slots = omega (arith, room, size_offered made.decision.offer table first) in
+    let size : length (slots4.with_written_offer made.decision.offer o.four.slots) ≡ o.four.pool.count = size_written made.decision.offer o.four.slots ∙ others.1 in
+    both after first (with_decision (V4 made) o)
+    (with_live after first o.clock (slots4.with_written made.decision o.four.slots) (slots4.with_decision made.decision o.four).slots others.0
+    (after_keep4 made.decision.keep offered first o.clock o.four.pool.count (slots4.with_written_offer made.decision.offer o.four.slots) more keeps.2 size keeps.1
+    (after_offer made.decision.offer table first o.clock o.four.pool.count o.four.slots room keeps.2 others.1 keeps.3 (four_of table first o has))))
+    (kept4_aside made.decision.keep offered first o.clock o.six.slots its.0 (offered_aside made.decision.offer table first o.clock o.six.slots its.1 (six_of table first o has)))
+after_decision (V6 made) table first o room keeps others has =
+    let after = with_kept6 first made.decision.keep table in
+    both after first (with_decision (V6 made) o)
+    (kept6_aside made.decision.keep table first o.clock o.four.slots (four_of table first o has))
+    (with_live after (first + 16) o.clock (slots6.with_written made.decision o.six.slots) (slots6.with_decision made.decision o.six).slots others.0
+    (after_keep6 made.decision.keep table first o.clock o.six.pool.count o.six.slots room keeps.2 others.1 keeps.1 (six_of table first o has)))
 
 -- what a decision does not change stays
 put_old_or : (table : DeadlinesValue) (first i : ℕ) (until : Option ℕ) (state : Option OpenCircuitValue) → first + 32 ≤ length table.slots → i < 32 → until ≡ held_in state i
@@ -335,8 +335,8 @@ by_change6 (Some k) table first count o room few size kept =
 
 pub old_or_decided : (d : CircuitDecision) (table : DeadlinesValue) (first : ℕ) (o : OpenCircuitValue) → first + 32 ≤ length table.slots → KeepsItsSlot d o → LosesNoOther d o
     → AreOldOrHeld first table (with_deadlines d first table) (Some (with_decision d o))
-old_or_decided (V4 m d) table first o room keeps others = by_change4 d.offer d.keep table first o.clock o.four.pool.count o room keeps.2 others.1 keeps.3 keeps.1 others.2
-old_or_decided (V6 forward m client d) table first o room keeps others = by_change6 d.keep table first o.six.pool.count o room keeps.2 others.1 keeps.1
+old_or_decided (V4 made) table first o room keeps others = by_change4 made.decision.offer made.decision.keep table first o.clock o.four.pool.count o room keeps.2 others.1 keeps.3 keeps.1 others.2
+old_or_decided (V6 made) table first o room keeps others = by_change6 made.decision.keep table first o.six.pool.count o room keeps.2 others.1 keeps.1
 
 -- nothing beside the circuit's slots
 beside_one : (first n : ℕ) (until : Option ℕ) (old table : DeadlinesValue) → first ≤ n → n < first + 32 → SameBeside first old table → SameBeside first old (with_until n until table)
@@ -366,5 +366,5 @@ pub unchanged : (first : ℕ) (table : DeadlinesValue) → SameBeside first tabl
 unchanged first table = record { size = refl; looks = refl; beside = λ n out. refl }
 
 pub beside_decision : (d : CircuitDecision) (table : DeadlinesValue) (first : ℕ) → HasItsSlots d → SameBeside first table (with_deadlines d first table)
-beside_decision (V4 m d) table first its = beside_kept4 d.keep first table (with_offered first d.offer table) its.0 (beside_offered d.offer first table table its.1 (unchanged first table))
-beside_decision (V6 forward m client d) table first its = beside_kept6 d.keep first table table its (unchanged first table)
+beside_decision (V4 made) table first its = beside_kept4 made.decision.keep first table (with_offered first made.decision.offer table) its.0 (beside_offered made.decision.offer first table table its.1 (unchanged first table))
+beside_decision (V6 made) table first its = beside_kept6 made.decision.keep first table table its (unchanged first table)

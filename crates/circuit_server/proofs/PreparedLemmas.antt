@@ -42,12 +42,12 @@ none_kept f None e = refl
 none_kept f (Some k) e = absurd cc
 
 pub keeps_some : (decision : CircuitDecision) (kept : ℕ × Content) → kept_in decision ≡ Some kept → is_kept decision ≡ true
-keeps_some (V4 m decision) kept e = some_kept _ decision.keep kept e
-keeps_some (V6 forward m client decision) kept e = some_kept _ decision.keep kept e
+keeps_some (V4 made) kept e = some_kept _ made.decision.keep kept e
+keeps_some (V6 made) kept e = some_kept _ made.decision.keep kept e
 
 pub keeps_none : (decision : CircuitDecision) → kept_in decision ≡ None → is_kept decision ≡ false
-keeps_none (V4 m decision) e = none_kept _ decision.keep e
-keeps_none (V6 forward m client decision) e = none_kept _ decision.keep e
+keeps_none (V4 made) e = none_kept _ made.decision.keep e
+keeps_none (V6 made) e = none_kept _ made.decision.keep e
 
 -- what became of a save, whose effective fault this is
 abbrev pub WasSaved : Option Saving → Result (Option Marks) Fault → ℕ → Region → Region → Type 0
@@ -256,22 +256,22 @@ refused_dropped part d old o later why is ticked refused ready =
 
 -- ---- what is decided, and made
 
-pub refused_all : (part : CircuitPart) (d : DeliveryValue) (old : Option OpenCircuitValue) (o later : OpenCircuitValue) (result : Result CircuitDecision Discard) → old ≡ Some o → open_book later ≡ book_at d.moment (open_book o)
+pub refused_all : {T : Type 0} (part : CircuitPart) (d : DeliveryValue) (old : Option OpenCircuitValue) (o later : OpenCircuitValue) (result : Result T Discard) → old ≡ Some o → open_book later ≡ book_at d.moment (open_book o)
     → IfErr result (λ why. datagram_served part d.proto d.bytes (open_book later) ≡ drop why (open_book later)) → ((region : Region) → IsReadyFor region (Some o) → IsReadyFor region (Some later)) → IfErr result (IsDropped part d old (Some later))
 refused_all part d old o later (Ok decision) is ticked refused ready = tt
 refused_all part d old o later (Err why) is ticked refused ready = refused_dropped part d old o later why is ticked refused ready
 
-pub decided_all : (part : CircuitPart) (d : DeliveryValue) (old : Option OpenCircuitValue) (o later : OpenCircuitValue) (result : Result CircuitDecision Discard) → old ≡ Some o → later ≡ open_at d.moment o → open_book later ≡ book_at d.moment (open_book o)
-    → IfOk result (λ decision. datagram_served part d.proto d.bytes (open_book later) ≡ served_by part later decision) → IfOk result (λ decision. KeepsItsSlot decision later) → IfOk result (λ decision. LosesNoOther decision later)
-    → IfOk result IsWithin → ((region : Region) → IsReadyFor region (Some o) → IsReadyFor region (Some later)) → IfOk result (IsDecided part d old (Some later))
-decided_all part d old o later (Err why) was at ticked serves keeps others within ready = tt
-decided_all part d old o later (Ok decision) was at ticked serves keeps others within ready = record {
+pub decided_all : {T : Type 0} (decided : T → CircuitDecision) (part : CircuitPart) (d : DeliveryValue) (old : Option OpenCircuitValue) (o later : OpenCircuitValue) (result : Result T Discard) → old ≡ Some o → later ≡ open_at d.moment o → open_book later ≡ book_at d.moment (open_book o)
+    → IfOk result (λ made. datagram_served part d.proto d.bytes (open_book later) ≡ served_by part later (decided made)) → IfOk result (λ made. KeepsItsSlot (decided made) later) → IfOk result (λ made. LosesNoOther (decided made) later)
+    → IfOk result (λ made. IsWithin (decided made)) → ((region : Region) → IsReadyFor region (Some o) → IsReadyFor region (Some later)) → IfOk result (λ made. IsDecided part d old (Some later) (decided made))
+decided_all decided part d old o later (Err why) was at ticked serves keeps others within ready = tt
+decided_all decided part d old o later (Ok made) was at ticked serves keeps others within ready = record {
   before = o;
   was = was;
   is = ap Some at;
-  serves = asked part d (open_book o) (open_book later) _ ticked serves ∙ ap (λ x. served_by part x decision) at;
-  keeps = subst (KeepsItsSlot decision) at keeps;
-  others = subst (LosesNoOther decision) at others;
+  serves = asked part d (open_book o) (open_book later) _ ticked serves ∙ ap (λ x. served_by part x (decided made)) at;
+  keeps = subst (KeepsItsSlot (decided made)) at keeps;
+  others = subst (LosesNoOther (decided made)) at others;
   within = within;
   ready = λ region kept. subst (λ x. IsReadyFor region (Some x)) at (ready region (subst (IsReadyFor region) was kept));
 }
@@ -298,11 +298,11 @@ module _ (part : CircuitPart) (d : DeliveryValue) (old middle new : Option OpenC
       }
 
 -- of a result that was looked at
-pub prepared_by : (part : CircuitPart) (d : DeliveryValue) (old middle new : Option OpenCircuitValue) (result : Result CircuitDecision Discard) (decision : CircuitDecision) (saving : Option Saving) → result ≡ Ok decision → IfOk result (IsDecided part d old middle)
-    → ((before : OpenCircuitValue) → middle ≡ Some before → IsMade part decision before new saving) → HasPools part new → IsPrepared part d old new (record { decision = decision; saving = saving })
-prepared_by part d old middle new result decision saving is decided made pools = prepared_of part d old middle new decision saving (subst (λ r. IfOk r (IsDecided part d old middle)) is decided) made pools
+pub prepared_by : {T : Type 0} (decided : T → CircuitDecision) (part : CircuitPart) (d : DeliveryValue) (old middle new : Option OpenCircuitValue) (result : Result T Discard) (made : T) (saving : Option Saving) → result ≡ Ok made → IfOk result (λ made. IsDecided part d old middle (decided made))
+    → ((before : OpenCircuitValue) → middle ≡ Some before → IsMade part (decided made) before new saving) → HasPools part new → IsPrepared part d old new (record { decision = decided made; saving = saving })
+prepared_by decided part d old middle new result made saving is its makes pools = prepared_of part d old middle new (decided made) saving (subst (λ r. IfOk r (λ made. IsDecided part d old middle (decided made))) is its) makes pools
 
-pub dropped_by : (part : CircuitPart) (d : DeliveryValue) (old new : Option OpenCircuitValue) (result : Result CircuitDecision Discard) (why : Discard) → result ≡ Err why → IfErr result (IsDropped part d old new) → IsDropped part d old new why
+pub dropped_by : {T : Type 0} (part : CircuitPart) (d : DeliveryValue) (old new : Option OpenCircuitValue) (result : Result T Discard) (why : Discard) → result ≡ Err why → IfErr result (IsDropped part d old new) → IsDropped part d old new why
 dropped_by part d old new result why is dropped = subst (λ r. IfErr r (IsDropped part d old new)) is dropped
 
 -- ---- marks alone change nothing else

@@ -130,8 +130,8 @@ fits6 None count below few = tt
 fits6 (Some k) count below few = (omega (arith, below, few), (omega arith, omega (arith, below, few)))
 
 kept_fits : (d : CircuitDecision) (o : OpenCircuitValue) → KeepsItsSlot d o → IfSome (kept_in d) (λ kept. (kept.0 < 32) × Fits kept.0 kept.1)
-kept_fits (V4 m decision) o keeps = fits4 decision.keep o.four.pool.count keeps.1 keeps.2
-kept_fits (V6 forward m client decision) o keeps = fits6 decision.keep o.six.pool.count keeps.1 keeps.2
+kept_fits (V4 made) o keeps = fits4 made.decision.keep o.four.pool.count keeps.1 keeps.2
+kept_fits (V6 made) o keeps = fits6 made.decision.keep o.six.pool.count keeps.1 keeps.2
 
 pub is_fit : (d : CircuitDecision) (o : OpenCircuitValue) (s : ℕ) (changed : Content) → KeepsItsSlot d o → kept_in d ≡ Some (s, changed) → Fits s changed
 is_fit d o s changed keeps e = (subst (λ (x : Option (ℕ × Content)). IfSome x (λ kept. (kept.0 < 32) × Fits kept.0 kept.1)) e (kept_fits d o keeps)).1
@@ -159,10 +159,10 @@ kept6 decision o region (Some k) is kept below few ready s changed e =
 
 pub is_to_save : (d : CircuitDecision) (o n : OpenCircuitValue) (region : Region) (s : ℕ) (changed : Content) → n ≡ with_decision d o → KeepsItsSlot d o → IsReadyFor region (Some o) → kept_in d ≡ Some (s, changed)
     → IsToSave region s changed n
-is_to_save (V4 m decision) o n region s changed is keeps ready e =
-    subst (λ x. IsToSave region s changed x) (sym is) (kept4 decision o region decision.keep refl keeps.0 keeps.1 keeps.2 ready s changed e)
-is_to_save (V6 forward m client decision) o n region s changed is keeps ready e =
-    subst (λ x. IsToSave region s changed x) (sym is) (kept6 decision o region decision.keep refl keeps.0 keeps.1 keeps.2 ready s changed e)
+is_to_save (V4 made) o n region s changed is keeps ready e =
+    subst (λ x. IsToSave region s changed x) (sym is) (kept4 made.decision o region made.decision.keep refl keeps.0 keeps.1 keeps.2 ready s changed e)
+is_to_save (V6 made) o n region s changed is keeps ready e =
+    subst (λ x. IsToSave region s changed x) (sym is) (kept6 made.decision o region made.decision.keep refl keeps.0 keeps.1 keeps.2 ready s changed e)
 
 -- of a decision that keeps none
 
@@ -181,8 +181,8 @@ none6 decision o region None kept ready e =
 none6 decision o region (Some k) kept ready e = absurd cc
 
 pub still_ready : (d : CircuitDecision) (o n : OpenCircuitValue) (region : Region) → n ≡ with_decision d o → KeepsItsSlot d o → IsReadyFor region (Some o) → kept_in d ≡ None → IsReadyFor region (Some n)
-still_ready (V4 m decision) o n region is keeps ready e = subst (λ x. IsReadyFor region (Some x)) (sym is) (none4 decision o region decision.keep keeps.0 ready e)
-still_ready (V6 forward m client decision) o n region is keeps ready e = subst (λ x. IsReadyFor region (Some x)) (sym is) (none6 decision o region decision.keep keeps.0 ready e)
+still_ready (V4 made) o n region is keeps ready e = subst (λ x. IsReadyFor region (Some x)) (sym is) (none4 made.decision o region made.decision.keep keeps.0 ready e)
+still_ready (V6 made) o n region is keeps ready e = subst (λ x. IsReadyFor region (Some x)) (sym is) (none6 made.decision o region made.decision.keep keeps.0 ready e)
 
 -- at a later moment
 pub later_ready : (o n : OpenCircuitValue) (region : Region) → n.four ≡ o.four → n.six ≡ o.six → n.marks ≡ o.marks → o.clock ≤ n.clock

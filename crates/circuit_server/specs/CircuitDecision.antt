@@ -26,43 +26,43 @@ use Rattle.circuit_server.specs.CircuitServerValue.{OpenCircuitValue, counts_in,
 
 -- the reply's datagram, or why there is none
 abbrev pub answer_of : CircuitPart → CircuitDecision → Result (List ℕ) Discard
-answer_of part (V4 m decision) = result_map_both (reply4_bytes part m) (λ why. why) decision.answer
-answer_of part (V6 forward m client decision) = result_map_both (reply6_bytes part forward m client) (λ why. why) decision.answer
+answer_of part (V4 made) = result_map_both (reply4_bytes part made.message) (λ why. why) made.decision.answer
+answer_of part (V6 made) = result_map_both (reply6_bytes part made.forward made.message made.client) (λ why. why) made.decision.answer
 
 -- one protocol's slots change
 abbrev pub with_decision : CircuitDecision → OpenCircuitValue → OpenCircuitValue
-with_decision (V4 m decision) o = record o { four = slots4.with_decision decision o.four }
-with_decision (V6 forward m client decision) o = record o { six = slots6.with_decision decision o.six }
+with_decision (V4 made) o = record o { four = slots4.with_decision made.decision o.four }
+with_decision (V6 made) o = record o { six = slots6.with_decision made.decision o.six }
 
 abbrev pub is_kept : CircuitDecision → Bool
-is_kept (V4 m decision) = is_some decision.keep
-is_kept (V6 forward m client decision) = is_some decision.keep
+is_kept (V4 made) = is_some made.decision.keep
+is_kept (V6 made) = is_some made.decision.keep
 
 -- the slot of the region that is kept, and what it is to hold: those of the DHCPv6 pool begin at 16
 abbrev pub kept_in : CircuitDecision → Option (ℕ × Content)
-kept_in (V4 m decision) = option_map (λ kept. (kept.slot, content.Four kept.content)) decision.keep
-kept_in (V6 forward m client decision) = option_map (λ kept. (16 + kept.slot, content.Six kept.content)) decision.keep
+kept_in (V4 made) = option_map (λ kept. (kept.slot, content.Four kept.content)) made.decision.keep
+kept_in (V6 made) = option_map (λ kept. (16 + kept.slot, content.Six kept.content)) made.decision.keep
 
 -- of what a region keeps, a decision changes the slot that it keeps alone, which is one of the pool
 abbrev pub KeepsItsSlot : CircuitDecision → OpenCircuitValue → Type 0
-KeepsItsSlot (V4 m decision) o =
-    (kept4.kept_slots o.clock (slots4.with_decision decision o.four).slots ≡ kept4.keep_in decision.keep (kept4.kept_slots o.clock o.four.slots))
-    × IfSome decision.keep (λ kept. kept.slot < o.four.pool.count) × (o.four.pool.count ≤ 16) × IfSome decision.offer (IsOffer o.clock o.four.pool.count)
-KeepsItsSlot (V6 forward m client decision) o =
-    (kept6.kept_slots o.clock (slots6.with_decision decision o.six).slots ≡ kept6.keep_in decision.keep (kept6.kept_slots o.clock o.six.slots))
-    × IfSome decision.keep (λ kept. kept.slot < o.six.pool.count) × (o.six.pool.count ≤ 16)
+KeepsItsSlot (V4 made) o =
+    (kept4.kept_slots o.clock (slots4.with_decision made.decision o.four).slots ≡ kept4.keep_in made.decision.keep (kept4.kept_slots o.clock o.four.slots))
+    × IfSome made.decision.keep (λ kept. kept.slot < o.four.pool.count) × (o.four.pool.count ≤ 16) × IfSome made.decision.offer (IsOffer o.clock o.four.pool.count)
+KeepsItsSlot (V6 made) o =
+    (kept6.kept_slots o.clock (slots6.with_decision made.decision o.six).slots ≡ kept6.keep_in made.decision.keep (kept6.kept_slots o.clock o.six.slots))
+    × IfSome made.decision.keep (λ kept. kept.slot < o.six.pool.count) × (o.six.pool.count ≤ 16)
 
 -- by the clock a decision changes nothing but the slots that it writes, which are slots of the pool
 abbrev pub LosesNoOther : CircuitDecision → OpenCircuitValue → Type 0
-LosesNoOther (V4 m decision) o =
-    (map (live o.clock) (slots4.with_decision decision o.four).slots ≡ map (live o.clock) (slots4.with_written decision o.four.slots)) × (length o.four.slots ≡ o.four.pool.count) × ((decision.offer ≡ None) ⊎ (decision.keep ≡ None))
-LosesNoOther (V6 forward m client decision) o =
-    (map (live o.clock) (slots6.with_decision decision o.six).slots ≡ map (live o.clock) (slots6.with_written decision o.six.slots)) × (length o.six.slots ≡ o.six.pool.count)
+LosesNoOther (V4 made) o =
+    (map (live o.clock) (slots4.with_decision made.decision o.four).slots ≡ map (live o.clock) (slots4.with_written made.decision o.four.slots)) × (length o.four.slots ≡ o.four.pool.count) × ((made.decision.offer ≡ None) ⊎ (made.decision.keep ≡ None))
+LosesNoOther (V6 made) o =
+    (map (live o.clock) (slots6.with_decision made.decision o.six).slots ≡ map (live o.clock) (slots6.with_written made.decision o.six.slots)) × (length o.six.slots ≡ o.six.pool.count)
 
 -- a slot that is kept or offered is held within its limit
 abbrev pub IsWithin : CircuitDecision → Type 0
-IsWithin (V4 m decision) = IfSome decision.keep (λ kept. IsWithin4 kept.content) × IfSome decision.offer slots4.IsOfferWithin
-IsWithin (V6 forward m client decision) = IfSome decision.keep (λ kept. IsWithin6 kept.content)
+IsWithin (V4 made) = IfSome made.decision.keep (λ kept. IsWithin4 kept.content) × IfSome made.decision.offer slots4.IsOfferWithin
+IsWithin (V6 made) = IfSome made.decision.keep (λ kept. IsWithin6 kept.content)
 
 -- what an open circuit serves by a decision
 abbrev pub served_by : CircuitPart → OpenCircuitValue → CircuitDecision → Served

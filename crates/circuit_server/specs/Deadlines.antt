@@ -67,8 +67,8 @@ with_kept6 first None table = table
 with_kept6 first (Some kept) table = with_until (first + (16 + kept.slot)) (option_map until_of (slots6.holder_of kept.content)) table
 
 abbrev pub with_deadlines : CircuitDecision → ℕ → DeadlinesValue → DeadlinesValue
-with_deadlines (V4 m decision) first table = with_kept4 first decision.keep (with_offered first decision.offer table)
-with_deadlines (V6 forward m client decision) first table = with_kept6 first decision.keep table
+with_deadlines (V4 made) first table = with_kept4 first made.decision.keep (with_offered first made.decision.offer table)
+with_deadlines (V6 made) first table = with_kept6 first made.decision.keep table
 
 -- the slots that it keeps or offers are slots of a pool
 abbrev pub IsOfferIn : OfferChange → Type 0
@@ -76,5 +76,5 @@ IsOfferIn (offer.Made slot client until) = slot < 16
 IsOfferIn (offer.Withdrawn slot) = slot < 16
 
 abbrev pub HasItsSlots : CircuitDecision → Type 0
-HasItsSlots (V4 m decision) = IfSome decision.keep (λ kept. kept.slot < 16) × IfSome decision.offer IsOfferIn
-HasItsSlots (V6 forward m client decision) = IfSome decision.keep (λ kept. kept.slot < 16)
+HasItsSlots (V4 made) = IfSome made.decision.keep (λ kept. kept.slot < 16) × IfSome made.decision.offer IsOfferIn
+HasItsSlots (V6 made) = IfSome made.decision.keep (λ kept. kept.slot < 16)

@@ -17,7 +17,7 @@ ghost use Rattle.circuit_server.specs.Unoffered.{state_unoffered};
 ghost use Rattle.lease_disk.specs.Device.{ChangesOne, Touches, WritesAt, has_failed};
 ghost use Rattle.lease_disk.specs.Region.{IsClean};
 
-use crate::decision::{CircuitDecision, put};
+use crate::decision::{CircuitDecision, CircuitDecision4, CircuitDecision6, Decide, put};
 use crate::open_circuit::OpenCircuit;
 use crate::prepared::{Prepared, save_alone};
 use batch_saves::Saving;
@@ -104,33 +104,33 @@ impl CircuitServer {
 
     /// Moves the clock of an open circuit to the moment of a datagram of it, of which this was read, and decides on that. The
     /// error is the reason for which the datagram is dropped.
-    fn decide<'a>(
+    fn decide<C: Decide>(
         &mut self,
         part: &CircuitPart,
         delivery: &Delivery<'_>,
-        relayed: RelayedMessage<'a>,
-    ) -> Result<CircuitDecision<'a>, Discard>
-        requires read { IsRelayedMessage delivery.now.proto delivery.now.bytes relayed }
+        read: C::Read,
+    ) -> Result<C, Discard>
+        requires read { IsRelayedMessage delivery.now.proto delivery.now.bytes (C.relayed read) }
         requires pools { HasPools part.now self.old }
         ensures later { (moment : ℕ) → IsLater moment self.old → IsLater moment self.new }
         ensures pools { HasPools part.now self.new }
         ensures deadlines { (table : DeadlinesValue) (first : ℕ) → HasDeadlines table first self.old → HasDeadlines table first self.new }
-        ensures decided { IfOk result (IsDecided part.now delivery.now self.old self.new) }
+        ensures decided { IfOk result (λ made. IsDecided part.now delivery.now self.old self.new (C.decision made)) }
         ensures dropped { IfErr result (IsDropped part.now delivery.now self.old self.new) }
     {
         let Some(circuit) = &mut self.state else {
             return Err(Discard::CircuitClosed);
         };
         circuit.tick(delivery.moment);
-        circuit.decide(part, relayed)
+        C::decide(circuit, part, read)
     }
 
     /// Makes what a decision of an open circuit changes of the books and the deadlines. Returns what has to be saved before its
     /// reply leaves, if anything.
-    fn make(
+    fn make<C: Decide>(
         &mut self,
         part: &CircuitPart,
-        decision: &CircuitDecision<'_>,
+        decision: &C,
         table: &mut Deadlines,
         first: usize,
     ) -> Option<Saving>
@@ -138,20 +138,20 @@ impl CircuitServer {
         requires most { first ≤ 32736 }
         requires deadlines { HasDeadlines table.old first self.old }
         requires pools { HasPools part.now self.old }
-        requires keeps { IfSome self.old (KeepsItsSlot decision.now) }
-        requires others { IfSome self.old (LosesNoOther decision.now) }
-        requires within { IsWithin decision.now }
+        requires keeps { IfSome self.old (KeepsItsSlot (C.decision decision.now)) }
+        requires others { IfSome self.old (LosesNoOther (C.decision decision.now)) }
+        requires within { IsWithin (C.decision decision.now) }
         ensures later { (moment : ℕ) → IsLater moment self.old → IsLater moment self.new }
         ensures pools { HasPools part.now self.new }
         ensures deadlines { HasDeadlines table.new first self.new }
         ensures beside { SameBeside first table.old table.new }
         ensures own { AreOldOrHeld first table.old table.new self.new }
-        ensures made { (before : OpenCircuitValue) → self.old ≡ Some before → IsMade part.now decision.now before self.new result }
+        ensures made { (before : OpenCircuitValue) → self.old ≡ Some before → IsMade part.now (C.decision decision.now) before self.new result }
     {
         let Some(circuit) = &mut self.state else {
             return None;
         };
-        circuit.commit(decision);
+        decision.commit(circuit);
         decision.set_deadlines(table, first);
         match decision.kept() {
             Some((slot, content)) => Some(circuit.saving(part, slot, content)),
@@ -183,7 +183,7 @@ impl CircuitServer {
         ensures prepared { IfOk result (IsPrepared part.now delivery.now self.old self.new) }
         ensures dropped { IfErr result (IsDropped part.now delivery.now self.old self.new) }
     {
-        let decision = match self.decide(part, delivery, relayed) {
+        let decision: CircuitDecision<'a> = match self.decide(part, delivery, relayed) {
             Ok(decision) => decision,
             Err(why) => return Err(why),
         };
@@ -218,10 +218,10 @@ impl CircuitServer {
     }
 
     /// The same of a decision whose changes are made.
-    fn settle_decision(
+    fn settle_decision<C: Decide>(
         &mut self,
         part: &CircuitPart,
-        decision: &CircuitDecision<'_>,
+        decision: &C,
         saved: Result<Option<Marks>, Fault>,
         out: &mut PacketBuf,
         table: &mut Deadlines,
@@ -237,7 +237,7 @@ impl CircuitServer {
         ensures deadlines { HasDeadlines table.new first self.new }
         ensures beside { SameBeside first table.old table.new }
         ensures own { AreOldOrHeld first table.old table.new self.new }
-        ensures settled { IsDecisionSettled part.now decision.now saved self.old self.new result out.new }
+        ensures settled { IsDecisionSettled part.now (C.decision decision.now) saved self.old self.new result out.new }
     {
         match saved {
             Ok(marks) => {
@@ -298,8 +298,57 @@ impl CircuitServer {
         ensures frame { Touches D.tells part.now.region (D.device disk.old) (D.device disk.new) }
         ensures calls { IsCalledToSaveAt (circuit_saves delivery.now (Some part.now) (Some (option_map open_book self.old))) (D.device disk.old) (D.device disk.new) }
     {
+        match relayed {
+            RelayedMessage::V4(message) => {
+                self.answer_by::<CircuitDecision4<'_>, D>(
+                    part, delivery, message, disk, out, table, first,
+                )
+            }
+            RelayedMessage::V6(forward) => {
+                self.answer_by::<CircuitDecision6<'_>, D>(
+                    part, delivery, forward, disk, out, table, first,
+                )
+            }
+        }
+    }
+
+    /// The same, by a decision of one type: of either protocol alone.
+    fn answer_by<C: Decide, D: Disk>(
+        &mut self,
+        part: &CircuitPart,
+        delivery: &Delivery<'_>,
+        read: C::Read,
+        disk: &mut D,
+        out: &mut PacketBuf,
+        table: &mut Deadlines,
+        first: usize,
+    ) -> Result<(), Discard>
+        requires read { IsRelayedMessage delivery.now.proto delivery.now.bytes (C.relayed read) }
+        requires empty { out.old ≡ [] }
+        requires exists { part.now.region < (D.device disk.old).count }
+        requires room { first + 32 ≤ length table.old.slots }
+        requires most { first ≤ 32736 }
+        requires deadlines { HasDeadlines table.old first self.old }
+        requires pools { HasPools part.now self.old }
+        requires ready { D.tells ≡ true → IsReadyFor ((D.device disk.old).region part.now.region) self.old }
+        ensures later { (moment : ℕ) → IsLater moment self.old → IsLater moment self.new }
+        ensures pools { HasPools part.now self.new }
+        ensures deadlines { HasDeadlines table.new first self.new }
+        ensures beside { SameBeside first table.old table.new }
+        ensures own { AreOldOrHeld first table.old table.new self.new }
+        ensures answer { IsAnswer (answered part.now delivery.now (has_failed (D.device disk.old) (D.device disk.new) part.now.region) (option_map open_book self.old)).answer result out.new }
+        ensures book { option_map open_book self.new ≡ (answered part.now delivery.now (has_failed (D.device disk.old) (D.device disk.new) part.now.region) (option_map open_book self.old)).book }
+        ensures fails { D.tells ≡ true → (r : ℕ) → has_failed (D.device disk.old) (D.device disk.new) r ≡ fails_at (D.device disk.old).fuse (circuit_saves delivery.now (Some part.now) (Some (option_map open_book self.old))) r }
+        ensures leases { D.tells ≡ true
+            → leases_of (D.device disk.new).region (record { part = part.now; state = self.new })
+            ≡ after_datagram part.now delivery.now ((D.device disk.old).fuse part.now.region) (leases_of (D.device disk.old).region (record { part = part.now; state = self.old })) }
+        ensures ready { D.tells ≡ true → IsReadyFor ((D.device disk.new).region part.now.region) self.new }
+        ensures writes { WritesAt D.tells (circuit_saves delivery.now (Some part.now) (Some (option_map open_book self.old))) (D.device disk.old) (D.device disk.new) }
+        ensures frame { Touches D.tells part.now.region (D.device disk.old) (D.device disk.new) }
+        ensures calls { IsCalledToSaveAt (circuit_saves delivery.now (Some part.now) (Some (option_map open_book self.old))) (D.device disk.old) (D.device disk.new) }
+    {
         // what is decided stays where it is: to move it costs more than the rest of a short answer
-        let decided = self.decide(part, delivery, relayed);
+        let decided: Result<C, Discard> = self.decide(part, delivery, read);
         match &decided {
             Ok(decision) => {
                 let saving = self.make(part, decision, table, first);

@@ -1,21 +1,29 @@
 //! What a circuit's server decides on a client's message, in either protocol.
-ghost use Rattle.std.specs.Prelude.{◌≡◌, ◌<◌, ◌≤◌, ◌+◌, IfSome, [], length, option_map};
+ghost use Rattle.std.specs.Prelude.{◌≡◌, ◌<◌, ◌≤◌, ◌+◌, ℕ, List, IfErr, IfOk, IfSome, Some, [], length, option_map};
 ghost use Rattle.std.specs.Result.{result_map_both};
 ghost use Rattle.types.specs.Slots.{IsWithin4, IsWithin6, last_until};
 ghost use Rattle.slots.specs.Lookup.{until_of};
 ghost use Rattle.bindings_v4.specs.Slots4 as slots4;
 ghost use Rattle.bindings_v6.specs.Slots6 as slots6;
-ghost use Rattle.circuit_server.specs.CircuitDecision.{IsWithin, answer_of, kept_in};
+ghost use Rattle.types.specs.declared.dest.Proto.{Proto};
+ghost use Rattle.requests.specs.RelayedMessage.{IsRelayedMessage};
+ghost use Rattle.requests.specs.declared.relayed_message.RelayedMessage.{RelayedMessage};
+ghost use Rattle.circuit_server.specs.CircuitDecision.{IsWithin, KeepsItsSlot, LosesNoOther, answer_of, kept_in, served_by, with_decision};
+ghost use Rattle.circuit_server.specs.CircuitServerValue.{HasPools, open_book};
+ghost use Rattle.circuit_server.specs.Server.{datagram_served, drop};
+ghost use Rattle.circuit_server.specs.declared.decision.CircuitDecision.{CircuitDecision};
 ghost use Rattle.circuit_server.specs.Deadlines.{HasItsSlots, IsOfferIn, with_deadlines, with_kept4, with_kept6, with_offered, with_until};
 ghost use Rattle.circuit_server.specs.Answered.{IsAnswer};
 ghost use Rattle.replies.specs.Reply4.{reply4_bytes};
 ghost use Rattle.replies.specs.Reply6.{reply6_bytes};
 
+use crate::open_circuit::OpenCircuit;
 use bindings_v4::{Decision4, KeptSlot as KeptSlot4, OfferChange};
 use bindings_v6::{Decision6, KeptSlot as KeptSlot6};
 use config::CircuitPart;
 use lease_disk::Content;
 use replies::{write4, write6};
+use requests::RelayedMessage;
 use timers::Deadlines;
 use types::{Discard, Key6, Reply4, Reply6, Slot4, Slot6};
 use v4_message::Message;
@@ -25,90 +33,220 @@ use wire::PacketBuf;
 /// Of a circuit's slots, the first one of the DHCPv6 pool.
 pub(crate) const SIX_SLOTS_FROM: usize = 16;
 
-/// A decision of a circuit's book, and the message that it is on. Nothing is changed and nothing is sent
-/// before it is kept.
+/// What a circuit decides on a DHCPv4 message. It has no room for DHCPv6's keys, so that an answer moves little.
 #[derive(Debug, Drop)]
-pub(crate) enum CircuitDecision<'a> {
-    V4(Message<'a>, Decision4),
-    /// The Relay-forward, the message of this client in it, and the decision.
-    V6(Relay6<'a>, Message6<'a>, Key6, Decision6),
+pub(crate) struct CircuitDecision4<'a> {
+    pub(crate) message: Message<'a>,
+    pub(crate) decision: Decision4,
 }
 
-impl CircuitDecision<'_> {
+/// What a circuit decides on a Relay-forward with a message of this client in it.
+#[derive(Debug, Drop)]
+pub(crate) struct CircuitDecision6<'a> {
+    pub(crate) forward: Relay6<'a>,
+    pub(crate) message: Message6<'a>,
+    pub(crate) client: Key6,
+    pub(crate) decision: Decision6,
+}
+
+/// What a circuit decides on a message, in either protocol. Nothing is changed and nothing is sent before it is kept.
+#[derive(Debug, Drop)]
+pub(crate) enum CircuitDecision<'a> {
+    V4(CircuitDecision4<'a>),
+    V6(CircuitDecision6<'a>),
+}
+
+/// A decision of a circuit, in one protocol or in either: how it is made of what was read of a datagram, and what it changes.
+pub(crate) trait Decide: Drop + Sized {
+    /// What is read of a datagram.
+    type Read: Drop;
+
+    ghost relayed: { Self.Read → RelayedMessage };
+
+    ghost decision: { Self → CircuitDecision };
+
+    /// What a client's message calls for, or why it calls for nothing. Nothing is changed.
+    fn decide(circuit: &OpenCircuit, part: &CircuitPart, read: Self::Read) -> Result<Self, Discard>
+        requires { HasPools part.now (Some circuit.now) }
+        ensures ok { (proto : Proto) (bytes : List ℕ) → IsRelayedMessage proto bytes (relayed read) → IfOk result (λ made. datagram_served part.now proto bytes (open_book circuit.now) ≡ served_by part.now circuit.now (decision made)) }
+        ensures err { (proto : Proto) (bytes : List ℕ) → IsRelayedMessage proto bytes (relayed read) → IfErr result (λ why. datagram_served part.now proto bytes (open_book circuit.now) ≡ drop why (open_book circuit.now)) }
+        ensures within { IfOk result (λ made. IsWithin (decision made)) }
+        ensures keeps { IfOk result (λ made. KeepsItsSlot (decision made) circuit.now) }
+        ensures others { IfOk result (λ made. LosesNoOther (decision made) circuit.now) };
+
+    /// Makes its change of its protocol's book.
+    fn commit(&self, circuit: &mut OpenCircuit)
+        requires { IsWithin (decision self.now) }
+        ensures { circuit.new ≡ with_decision (decision self.now) circuit.old };
+
     /// The slot of the region that has to be saved before the reply leaves, and what it is to hold.
-    pub(crate) fn kept(&self) -> Option<(usize, Content)>
-        requires { IfSome (kept_in self.now) (λ kept. kept.0 < 32) }
-        ensures { result ≡ kept_in self.now }
-    {
-        match self {
-            CircuitDecision::V4(_, decision) => {
-                let kept = decision.keep?;
-                Some((kept.slot, Content::Four(kept.content)))
-            }
-            CircuitDecision::V6(_, _, _, decision) => {
-                let kept = decision.keep?;
-                Some((SIX_SLOTS_FROM + kept.slot, Content::Six(kept.content)))
-            }
-        }
-    }
+    fn kept(&self) -> Option<(usize, Content)>
+        requires { IfSome (kept_in (decision self.now)) (λ kept. kept.0 < 32) }
+        ensures { result ≡ kept_in (decision self.now) };
 
     /// Gives the slots that the decision changes their deadlines, where this is the number of the circuit's
     /// first slot. A slot that is free now because its client has another one may keep what it had until
     /// that is due.
-    pub(crate) fn set_deadlines(&self, table: &mut Deadlines, first: usize)
+    fn set_deadlines(&self, table: &mut Deadlines, first: usize)
         requires room { first + 32 ≤ length table.old.slots }
         requires most { first ≤ 32736 }
-        requires slots { HasItsSlots self.now }
-        requires within { IsWithin self.now }
-        ensures { table.new ≡ with_deadlines self.now first table.old }
-    {
+        requires slots { HasItsSlots (decision self.now) }
+        requires within { IsWithin (decision self.now) }
+        ensures { table.new ≡ with_deadlines (decision self.now) first table.old };
+
+    /// Writes the reply where there is one.
+    fn reply(&self, part: &CircuitPart, out: &mut PacketBuf) -> Result<(), Discard>
+        requires { out.old ≡ [] }
+        ensures { IsAnswer (answer_of part.now (decision self.now)) result out.new };
+}
+
+impl<'a> Decide for CircuitDecision4<'a> {
+    ghost use Rattle.requests.specs.declared.relayed_message.RelayedMessage.TheVariants as relayed_message;
+    ghost use Rattle.circuit_server.specs.declared.decision.CircuitDecision.TheVariants as either;
+
+    type Read = Message<'a>;
+
+    ghost relayed = { λ message. relayed_message.V4 message };
+
+    ghost decision = { λ made. either.V4 made };
+
+    fn decide(
+        circuit: &OpenCircuit,
+        _part: &CircuitPart,
+        message: Message<'a>,
+    ) -> Result<CircuitDecision4<'a>, Discard> {
+        circuit.decide4(message)
+    }
+
+    fn commit(&self, circuit: &mut OpenCircuit) {
+        circuit.commit4(&self.decision);
+    }
+
+    fn kept(&self) -> Option<(usize, Content)> {
+        let kept = self.decision.keep?;
+        Some((kept.slot, Content::Four(kept.content)))
+    }
+
+    fn set_deadlines(&self, table: &mut Deadlines, first: usize) {
+        set_offered(table, first, &self.decision.offer);
+        set_kept4(table, first, &self.decision.keep);
+    }
+
+    fn reply(&self, part: &CircuitPart, out: &mut PacketBuf) -> Result<(), Discard> {
+        reply4(part, &self.message, self.decision.answer, out)
+    }
+}
+
+impl<'a> Decide for CircuitDecision6<'a> {
+    ghost use Rattle.requests.specs.declared.relayed_message.RelayedMessage.TheVariants as relayed_message;
+    ghost use Rattle.circuit_server.specs.declared.decision.CircuitDecision.TheVariants as either;
+
+    type Read = Relay6<'a>;
+
+    ghost relayed = { λ forward. relayed_message.V6 forward };
+
+    ghost decision = { λ made. either.V6 made };
+
+    fn decide(
+        circuit: &OpenCircuit,
+        part: &CircuitPart,
+        forward: Relay6<'a>,
+    ) -> Result<CircuitDecision6<'a>, Discard> {
+        circuit.decide6(part, forward)
+    }
+
+    fn commit(&self, circuit: &mut OpenCircuit) {
+        circuit.commit6(&self.decision);
+    }
+
+    fn kept(&self) -> Option<(usize, Content)> {
+        let kept = self.decision.keep?;
+        Some((SIX_SLOTS_FROM + kept.slot, Content::Six(kept.content)))
+    }
+
+    fn set_deadlines(&self, table: &mut Deadlines, first: usize) {
+        set_kept6(table, first, &self.decision.keep);
+    }
+
+    fn reply(&self, part: &CircuitPart, out: &mut PacketBuf) -> Result<(), Discard> {
+        let answer = &self.decision.answer;
+        reply6(
+            part,
+            &self.forward,
+            &self.message,
+            &self.client,
+            answer,
+            out,
+        )
+    }
+}
+
+impl<'a> Decide for CircuitDecision<'a> {
+    type Read = RelayedMessage<'a>;
+
+    ghost relayed = { λ read. read };
+
+    ghost decision = { λ made. made };
+
+    fn decide(
+        circuit: &OpenCircuit,
+        part: &CircuitPart,
+        read: RelayedMessage<'a>,
+    ) -> Result<CircuitDecision<'a>, Discard> {
+        circuit.decide(part, read)
+    }
+
+    fn commit(&self, circuit: &mut OpenCircuit) {
         match self {
-            CircuitDecision::V4(_, decision) => {
-                set_offered(table, first, decision.offer);
-                set_kept4(table, first, decision.keep);
-            }
-            CircuitDecision::V6(_, _, _, decision) => set_kept6(table, first, decision.keep),
+            CircuitDecision::V4(made) => made.commit(circuit),
+            CircuitDecision::V6(made) => made.commit(circuit),
         }
     }
 
-    /// Writes the reply where there is one.
-    pub(crate) fn reply(&self, part: &CircuitPart, out: &mut PacketBuf) -> Result<(), Discard>
-        requires { out.old ≡ [] }
-        ensures { IsAnswer (answer_of part.now self.now) result out.new }
-    {
+    fn kept(&self) -> Option<(usize, Content)> {
         match self {
-            CircuitDecision::V4(message, decision) => {
-                reply4(part, message, decision.answer, out)
-            }
-            CircuitDecision::V6(forward, message, client, decision) => {
-                reply6(part, forward, message, client, &decision.answer, out)
-            }
+            CircuitDecision::V4(made) => made.kept(),
+            CircuitDecision::V6(made) => made.kept(),
+        }
+    }
+
+    fn set_deadlines(&self, table: &mut Deadlines, first: usize) {
+        match self {
+            CircuitDecision::V4(made) => made.set_deadlines(table, first),
+            CircuitDecision::V6(made) => made.set_deadlines(table, first),
+        }
+    }
+
+    fn reply(&self, part: &CircuitPart, out: &mut PacketBuf) -> Result<(), Discard> {
+        match self {
+            CircuitDecision::V4(made) => made.reply(part, out),
+            CircuitDecision::V6(made) => made.reply(part, out),
         }
     }
 }
 
 /// What a change of offers makes of the deadlines.
-fn set_offered(table: &mut Deadlines, first: usize, change: Option<OfferChange>)
+fn set_offered(table: &mut Deadlines, first: usize, change: &Option<OfferChange>)
     requires room { first + 32 ≤ length table.old.slots }
     requires most { first ≤ 32736 }
-    requires slot { IfSome change IsOfferIn }
-    requires within { IfSome change slots4.IsOfferWithin }
-    ensures { table.new ≡ with_offered first change table.old }
+    requires slot { IfSome change.now IsOfferIn }
+    requires within { IfSome change.now slots4.IsOfferWithin }
+    ensures { table.new ≡ with_offered first change.now table.old }
 {
     match change {
-        Some(OfferChange::Made(slot, _, until)) => table.set(first + slot, until),
-        Some(OfferChange::Withdrawn(slot)) => table.clear(first + slot),
+        Some(OfferChange::Made(slot, _, until)) => table.set(first + *slot, *until),
+        Some(OfferChange::Withdrawn(slot)) => table.clear(first + *slot),
         None => {}
     }
 }
 
 /// What a slot of the DHCPv4 pool that is kept makes of them.
-fn set_kept4(table: &mut Deadlines, first: usize, keep: Option<KeptSlot4>)
+fn set_kept4(table: &mut Deadlines, first: usize, keep: &Option<KeptSlot4>)
     requires room { first + 32 ≤ length table.old.slots }
     requires most { first ≤ 32736 }
-    requires slot { IfSome keep (λ kept. kept.slot < 16) }
-    requires within { IfSome keep (λ kept. IsWithin4 kept.content) }
-    ensures { table.new ≡ with_kept4 first keep table.old }
+    requires slot { IfSome keep.now (λ kept. kept.slot < 16) }
+    requires within { IfSome keep.now (λ kept. IsWithin4 kept.content) }
+    ensures { table.new ≡ with_kept4 first keep.now table.old }
 {
     if let Some(kept) = keep {
         put(table, first + kept.slot, until4(&kept.content));
@@ -116,12 +254,12 @@ fn set_kept4(table: &mut Deadlines, first: usize, keep: Option<KeptSlot4>)
 }
 
 /// The same of the DHCPv6 pool.
-fn set_kept6(table: &mut Deadlines, first: usize, keep: Option<KeptSlot6>)
+fn set_kept6(table: &mut Deadlines, first: usize, keep: &Option<KeptSlot6>)
     requires room { first + 32 ≤ length table.old.slots }
     requires most { first ≤ 32736 }
-    requires slot { IfSome keep (λ kept. kept.slot < 16) }
-    requires within { IfSome keep (λ kept. IsWithin6 kept.content) }
-    ensures { table.new ≡ with_kept6 first keep table.old }
+    requires slot { IfSome keep.now (λ kept. kept.slot < 16) }
+    requires within { IfSome keep.now (λ kept. IsWithin6 kept.content) }
+    ensures { table.new ≡ with_kept6 first keep.now table.old }
 {
     if let Some(kept) = keep {
         let slot = SIX_SLOTS_FROM + kept.slot;

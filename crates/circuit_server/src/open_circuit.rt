@@ -1,6 +1,9 @@
 //! What the server has of an open circuit.
 ghost use Rattle.std.specs.Prelude.{◌≡◌, ◌<◌, ◌≤◌, ◌+◌, ℕ, true, option_map, List, IfOk, IfErr, IfSome, Some, Err};
-ghost use Rattle.types.specs.Slots.{last_until};
+ghost use Rattle.types.specs.Slots.{IsWithin4, IsWithin6, last_until};
+ghost use Rattle.bindings_v4.specs.Slots4 as slots4;
+ghost use Rattle.bindings_v6.specs.Slots6 as slots6;
+ghost use Rattle.circuit_server.specs.declared.decision.CircuitDecision.TheVariants as either;
 ghost use Rattle.types.specs.declared.dest.Proto.{Proto};
 ghost use Rattle.slots.specs.Kept.{AreWithin};
 ghost use Rattle.v6_options.specs.Codes.{RELAY_MESSAGE};
@@ -22,10 +25,10 @@ ghost use Rattle.lease_disk.specs.Device.{TouchesNothing};
 ghost use Rattle.lease_disk.specs.Layout.{is_format2};
 ghost use Rattle.lease_disk.specs.Region.{IsClean, Region};
 
-use crate::decision::{CircuitDecision, SIX_SLOTS_FROM};
+use crate::decision::{CircuitDecision, CircuitDecision4, CircuitDecision6, SIX_SLOTS_FROM};
 use batch_saves::Saving;
-use bindings_v4::Book4;
-use bindings_v6::Book6;
+use bindings_v4::{Book4, Decision4};
+use bindings_v6::{Book6, Decision6};
 use config::CircuitPart;
 use lease_disk::{Content, Disk, Marks, recover};
 use requests::{RelayedMessage, request4_in, request6_in};
@@ -151,39 +154,45 @@ impl OpenCircuit {
         ensures others { IfOk result (λ decision. LosesNoOther decision self.now) }
     {
         match relayed {
-            RelayedMessage::V4(message) => self.decide4(message),
-            RelayedMessage::V6(forward) => self.decide6(part, forward),
+            RelayedMessage::V4(message) => match self.decide4(message) {
+                Ok(made) => Ok(CircuitDecision::V4(made)),
+                Err(why) => Err(why),
+            },
+            RelayedMessage::V6(forward) => match self.decide6(part, forward) {
+                Ok(made) => Ok(CircuitDecision::V6(made)),
+                Err(why) => Err(why),
+            },
         }
     }
 
     /// What a DHCPv4 message calls for.
-    fn decide4<'a>(&self, message: Message<'a>) -> Result<CircuitDecision<'a>, Discard>
-        ensures ok { (part : parts.CircuitPart) → HasPools part (Some self.now) → IfOk result (λ decision. request4_served part message.entry (open_book self.now) (request4_in message.entry) ≡ served_by part self.now decision) }
+    pub(crate) fn decide4<'a>(&self, message: Message<'a>) -> Result<CircuitDecision4<'a>, Discard>
+        ensures ok { (part : parts.CircuitPart) → HasPools part (Some self.now) → IfOk result (λ made. request4_served part message.entry (open_book self.now) (request4_in message.entry) ≡ served_by part self.now (either.V4 made)) }
         ensures err { IfErr result (λ why. request4_in message.entry ≡ Err why) }
-        ensures within { IfOk result IsWithin }
-        ensures keeps { IfOk result (λ decision. KeepsItsSlot decision self.now) }
-        ensures others { IfOk result (λ decision. LosesNoOther decision self.now) }
+        ensures within { IfOk result (λ made. IsWithin (either.V4 made)) }
+        ensures keeps { IfOk result (λ made. KeepsItsSlot (either.V4 made) self.now) }
+        ensures others { IfOk result (λ made. LosesNoOther (either.V4 made) self.now) }
     {
         let request = match request4_in(&message) {
             Ok(request) => request,
             Err(why) => return Err(why),
         };
         let decision = self.four.decide(&request, self.clock);
-        Ok(CircuitDecision::V4(message, decision))
+        Ok(CircuitDecision4 { message, decision })
     }
 
     /// What the message in a Relay-forward calls for.
-    fn decide6<'a>(
+    pub(crate) fn decide6<'a>(
         &self,
         part: &CircuitPart,
         forward: Relay6<'a>,
-    ) -> Result<CircuitDecision<'a>, Discard>
+    ) -> Result<CircuitDecision6<'a>, Discard>
         requires { HasPools part.now (Some self.now) }
-        ensures ok { IfOk result (λ decision. message6_served part.now forward.entry (open_book self.now) (look_up RELAY_MESSAGE forward.entry.options) ≡ served_by part.now self.now decision) }
+        ensures ok { IfOk result (λ made. message6_served part.now forward.entry (open_book self.now) (look_up RELAY_MESSAGE forward.entry.options) ≡ served_by part.now self.now (either.V6 made)) }
         ensures err { IfErr result (λ why. message6_served part.now forward.entry (open_book self.now) (look_up RELAY_MESSAGE forward.entry.options) ≡ drop why (open_book self.now)) }
-        ensures within { IfOk result IsWithin }
-        ensures keeps { IfOk result (λ decision. KeepsItsSlot decision self.now) }
-        ensures others { IfOk result (λ decision. LosesNoOther decision self.now) }
+        ensures within { IfOk result (λ made. IsWithin (either.V6 made)) }
+        ensures keeps { IfOk result (λ made. KeepsItsSlot (either.V6 made) self.now) }
+        ensures others { IfOk result (λ made. LosesNoOther (either.V6 made) self.now) }
     {
         let Some(bytes) = forward.relay_message() else {
             return Err(Discard::Malformed);
@@ -193,18 +202,28 @@ impl OpenCircuit {
             Err(why) => return Err(why),
         };
         let decision = self.six.decide(&request, self.clock);
-        Ok(CircuitDecision::V6(forward, message, request.key, decision))
+        Ok(CircuitDecision6 {
+            forward,
+            message,
+            client: request.key,
+            decision,
+        })
     }
 
-    /// Makes a decision's change of its protocol's book.
-    pub(crate) fn commit(&mut self, decision: &CircuitDecision<'_>)
-        requires { IsWithin decision.now }
-        ensures { self.new ≡ with_decision decision.now self.old }
+    /// Makes a decision's change of the DHCPv4 book.
+    pub(crate) fn commit4(&mut self, decision: &Decision4)
+        requires { IfSome decision.now.keep (λ kept. IsWithin4 kept.content) × IfSome decision.now.offer slots4.IsOfferWithin }
+        ensures { self.new ≡ record self.old { four = slots4.with_decision decision.now self.old.four } }
     {
-        match decision {
-            CircuitDecision::V4(_, change) => self.four.commit(change),
-            CircuitDecision::V6(_, _, _, change) => self.six.commit(change),
-        }
+        self.four.commit(decision);
+    }
+
+    /// The same of the DHCPv6 book.
+    pub(crate) fn commit6(&mut self, decision: &Decision6)
+        requires { IfSome decision.now.keep (λ kept. IsWithin6 kept.content) }
+        ensures { self.new ≡ record self.old { six = slots6.with_decision decision.now self.old.six } }
+    {
+        self.six.commit(decision);
     }
 
     /// What a save is to be given, where this slot of the region is to hold this from the circuit's clock on. What the region

@@ -9,20 +9,20 @@ use Rattle.circuit_server.proofs.PreparedLemmas.{decided_all, refused_all}
 use Rattle.circuit_server.proofs.circuit_server.CircuitServer.decide.Goals as goal
 
 pub returns-clause-deadlines : goal.returns-clause-deadlines
-returns-clause-deadlines c = λ table first has.
+returns-clause-deadlines g c = λ table first has.
     stays_at first table c.in-Some.circuit c.tick.new.self c.tick.ensures.four c.tick.ensures.six c.tick.ensures.later
     (subst (HasDeadlines table first) (sym c.self.view_is ∙ c.in-Some.is) has)
 
 pub returns-clause-dropped : goal.returns-clause-dropped
-returns-clause-dropped c =
+returns-clause-dropped g c =
     let d = c.args.delivery.now in
     let ticked = c.tick.ensures.book ∙ ap (λ (d : DeliveryValue). book_at d.moment (open_book c.in-Some.circuit)) c.delivery.view_is in
     refused_all c.args.part.now d c.args.self.now c.in-Some.circuit c.tick.new.self c.decide.result (sym c.self.view_is ∙ c.in-Some.is) ticked (c.decide.ensures.err d.proto d.bytes c.requires.read) c.tick.ensures.ready
 
 pub returns-clause-decided : goal.returns-clause-decided
-returns-clause-decided c =
+returns-clause-decided g c =
     let d = c.args.delivery.now in
     let ticked = c.tick.ensures.book ∙ ap (λ (d : DeliveryValue). book_at d.moment (open_book c.in-Some.circuit)) c.delivery.view_is in
     let at : c.tick.new.self ≡ open_at d.moment c.in-Some.circuit = c.tick.ensures.value ∙ ap (λ (d : DeliveryValue). open_at d.moment c.in-Some.circuit) c.delivery.view_is in
-    decided_all c.args.part.now d c.args.self.now c.in-Some.circuit c.tick.new.self c.decide.result (sym c.self.view_is ∙ c.in-Some.is) at ticked (c.decide.ensures.ok d.proto d.bytes c.requires.read)
+    decided_all g.C.Decide.decision c.args.part.now d c.args.self.now c.in-Some.circuit c.tick.new.self c.decide.result (sym c.self.view_is ∙ c.in-Some.is) at ticked (c.decide.ensures.ok d.proto d.bytes c.requires.read)
     c.decide.ensures.keeps c.decide.ensures.others c.decide.ensures.within c.tick.ensures.ready

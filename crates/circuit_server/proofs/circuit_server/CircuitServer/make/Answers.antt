@@ -8,52 +8,53 @@ use Rattle.circuit_server.specs.Deadlines.{AreOldOrHeld, HasDeadlines, SameBesid
 use Rattle.circuit_server.specs.Prepared.{saving_of}
 use Rattle.circuit_server.proofs.DeadlineLemmas.{after_decision, beside_decision, old_or_decided, slots_inside}
 use Rattle.circuit_server.proofs.circuit_server.CircuitServer.make.Goals.{in-Some-kept, in-None}
+use Rattle.circuit_server.proofs.circuit_server.CircuitServer.make.Given.{Over}
 use Rattle.circuit_server.proofs.circuit_server.CircuitServer.make.Goals as goal
 
-module _ (c : goal.Joined-kept) where
+module _ (g : Over) (c : goal.Joined-kept g) where
   was : c.args.self.now ≡ Some c.in-Some.circuit
   was = sym c.self.view_is ∙ c.in-Some.is
 
-  keeps : KeepsItsSlot c.args.decision.now c.in-Some.circuit
-  keeps = subst (λ s. IfSome s (KeepsItsSlot c.args.decision.now)) was c.requires.keeps
+  keeps : KeepsItsSlot (g.C.Decide.decision c.args.decision.now) c.in-Some.circuit
+  keeps = subst (λ s. IfSome s (KeepsItsSlot (g.C.Decide.decision c.args.decision.now))) was c.requires.keeps
 
-  others : LosesNoOther c.args.decision.now c.in-Some.circuit
-  others = subst (λ s. IfSome s (LosesNoOther c.args.decision.now)) was c.requires.others
+  others : LosesNoOther (g.C.Decide.decision c.args.decision.now) c.in-Some.circuit
+  others = subst (λ s. IfSome s (LosesNoOther (g.C.Decide.decision c.args.decision.now))) was c.requires.others
 
-  state : c.match-kept.self-inside.state ≡ Some c.commit.new.self
+  state : c.match-kept.self-inside.state ≡ Some c.commit.new.circuit
   state = elim c.match-kept.branch [ in-Some-kept w ↦ ap (λ x. x.state) w.self-inside-is | in-None w ↦ ap (λ x. x.state) w.self-inside-is ]
 
 pub returns-clause-deadlines : goal.returns-clause-deadlines
-returns-clause-deadlines c =
-    let d = c.args.decision.now in
+returns-clause-deadlines g c =
+    let d = (g.C.Decide.decision c.args.decision.now) in
     let table = c.args.table.now in
     let first = c.args.first in
-    let decided = after_decision d table first c.in-Some.circuit c.requires.room (keeps c) (others c) (subst (HasDeadlines table first) (was c) c.requires.deadlines) in
-    subst (HasDeadlines c.set_deadlines.new.table first) (sym (state c))
-    (subst (λ (t : DeadlinesValue). HasDeadlines t first (Some c.commit.new.self)) (sym c.set_deadlines.ensures) (subst (λ (o : OpenCircuitValue). HasDeadlines (with_deadlines d first table) first (Some o)) (sym c.commit.ensures) decided))
+    let decided = after_decision d table first c.in-Some.circuit c.requires.room (keeps g c) (others g c) (subst (HasDeadlines table first) (was g c) c.requires.deadlines) in
+    subst (HasDeadlines c.set_deadlines.new.table first) (sym (state g c))
+    (subst (λ (t : DeadlinesValue). HasDeadlines t first (Some c.commit.new.circuit)) (sym c.set_deadlines.ensures) (subst (λ (o : OpenCircuitValue). HasDeadlines (with_deadlines d first table) first (Some o)) (sym c.commit.ensures) decided))
 
 pub returns-clause-own : goal.returns-clause-own
-returns-clause-own c =
-    let d = c.args.decision.now in
+returns-clause-own g c =
+    let d = (g.C.Decide.decision c.args.decision.now) in
     let table = c.args.table.now in
     let first = c.args.first in
-    let decided = old_or_decided d table first c.in-Some.circuit c.requires.room (keeps c) (others c) in
-    subst (AreOldOrHeld first table c.set_deadlines.new.table) (sym (state c))
-    (subst (λ (t : DeadlinesValue). AreOldOrHeld first table t (Some c.commit.new.self)) (sym c.set_deadlines.ensures) (subst (λ (o : OpenCircuitValue). AreOldOrHeld first table (with_deadlines d first table) (Some o)) (sym c.commit.ensures) decided))
+    let decided = old_or_decided d table first c.in-Some.circuit c.requires.room (keeps g c) (others g c) in
+    subst (AreOldOrHeld first table c.set_deadlines.new.table) (sym (state g c))
+    (subst (λ (t : DeadlinesValue). AreOldOrHeld first table t (Some c.commit.new.circuit)) (sym c.set_deadlines.ensures) (subst (λ (o : OpenCircuitValue). AreOldOrHeld first table (with_deadlines d first table) (Some o)) (sym c.commit.ensures) decided))
 
 pub returns-clause-beside : goal.returns-clause-beside
-returns-clause-beside c =
-    let d = c.args.decision.now in
-    subst (SameBeside c.args.first c.args.table.now) (sym c.set_deadlines.ensures) (beside_decision d c.args.table.now c.args.first (slots_inside d c.in-Some.circuit (keeps c)))
+returns-clause-beside g c =
+    let d = (g.C.Decide.decision c.args.decision.now) in
+    subst (SameBeside c.args.first c.args.table.now) (sym c.set_deadlines.ensures) (beside_decision d c.args.table.now c.args.first (slots_inside d c.in-Some.circuit (keeps g c)))
 
 pub returns-clause-made : goal.returns-clause-made
-returns-clause-made c = λ before is.
-    let decision = c.args.decision.now in
-    let after = c.commit.new.self in
-    let same : before ≡ c.in-Some.circuit = same_Some before c.in-Some.circuit (sym is ∙ was c) in
+returns-clause-made g c = λ before is.
+    let decision = (g.C.Decide.decision c.args.decision.now) in
+    let after = c.commit.new.circuit in
+    let same : before ≡ c.in-Some.circuit = same_Some before c.in-Some.circuit (sym is ∙ was g c) in
     record {
       after = after;
-      is = state c;
+      is = state g c;
       decided = c.commit.ensures ∙ ap (with_decision decision) (sym same);
       saving_is = elim c.match-kept.branch [
         | in-Some-kept w ↦ w.result-is ∙ (ap Some w.saving.ensures.value ∙ ap (option_map (saving_of c.args.part.now after)) (sym w.in-Some-kept.is ∙ c.kept.ensures))

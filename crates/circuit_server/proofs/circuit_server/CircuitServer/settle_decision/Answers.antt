@@ -6,10 +6,10 @@ use Rattle.circuit_server.proofs.PreparedLemmas.{marked_deadlines, marked_later,
 use Rattle.circuit_server.proofs.circuit_server.CircuitServer.settle_decision.Goals as goal
 
 pub returns-in-Ok-clause-later : goal.returns-in-Ok-clause-later
-returns-in-Ok-clause-later c moment was = subst (IsLater moment) (sym c.set_marks.ensures) (marked_later moment c.in-Ok.marks c.args.self.now was)
+returns-in-Ok-clause-later g c moment was = subst (IsLater moment) (sym c.set_marks.ensures) (marked_later moment c.in-Ok.marks c.args.self.now was)
 
 pub returns-in-Ok-clause-pools : goal.returns-in-Ok-clause-pools
-returns-in-Ok-clause-pools c = subst (HasPools c.args.part.now) (sym c.set_marks.ensures) (marked_pools c.args.part.now c.in-Ok.marks c.args.self.now c.requires.pools)
+returns-in-Ok-clause-pools g c = subst (HasPools c.args.part.now) (sym c.set_marks.ensures) (marked_pools c.args.part.now c.in-Ok.marks c.args.self.now c.requires.pools)
 
 pub returns-in-Ok-clause-deadlines : goal.returns-in-Ok-clause-deadlines
-returns-in-Ok-clause-deadlines c = subst (HasDeadlines c.args.table.now c.args.first) (sym c.set_marks.ensures) (marked_deadlines c.args.table.now c.args.first c.in-Ok.marks c.args.self.now c.requires.deadlines)
+returns-in-Ok-clause-deadlines g c = subst (HasDeadlines c.args.table.now c.args.first) (sym c.set_marks.ensures) (marked_deadlines c.args.table.now c.args.first c.in-Ok.marks c.args.self.now c.requires.deadlines)
