@@ -341,7 +341,9 @@ impl Access {
         taken
     }
 
-    /// Takes a frame from a circuit's socket to its relay, unless the system has told of none.
+    /// Takes a frame from a circuit's socket to its relay, unless the system has told of none. Most sockets have none, so this
+    /// question is inlined and the rest is not.
+    #[inline(always)]
     fn take_frame(&mut self, index: usize, proto: Proto) -> u32
         requires { index < length self.old.topology.circuits }
         ensures most { result ≤ 1 }
@@ -355,6 +357,7 @@ impl Access {
     }
 
     /// Takes a frame from a circuit's socket to its relay, and sends what that makes of it on to the server.
+    #[inline(never)]
     fn take_waiting_frame(&mut self, index: usize, proto: Proto) -> u32
         requires { index < length self.old.topology.circuits }
         ensures most { result ≤ 1 }

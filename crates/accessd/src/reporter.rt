@@ -275,8 +275,11 @@ impl<'a> Reporter<'a> {
     /// Looks at all circuits in each new second, and at those of which datagrams were taken where leases are listed.
     fn look_at_all(&mut self, access: &Access, now: Moment) {
         let is_next = now.seconds() > self.second;
+        if !is_next && !self.lists_leases {
+            return;
+        }
         'circuits: for index in 0..access.server().circuit_count() {
-            if is_next || self.lists_leases && self.has_traffic(access, index) {
+            if is_next || self.has_traffic(access, index) {
                 self.look(access, index, now);
             }
         }
