@@ -17,7 +17,7 @@ def ended(help_text, fault):
 def number_of(help_text, name, word, most):
     """A word that is a number from 1 on."""
     if not (word.isascii() and word.isdecimal() and len(word) < 6 and 0 < int(word) <= most):
-        ended(help_text, f"{name} is 1 to {most}, and not {word}")
+        ended(help_text, f"{name} has to be 1 to {most}, not {word}")
     return int(word)
 
 
@@ -38,7 +38,7 @@ def parsed(help_text, known, least, most):
         else:
             words.append(word)
     if not least <= len(words) <= most:
-        ended(help_text, f"{len(words)} arguments, and not {least if least == most else f'{least} to {most}'}")
+        ended(help_text, f"{len(words)} arguments, not {least if least == most else f'{least} to {most}'}")
     if not all(words):
         ended(help_text, "an argument is empty")
     return options, words

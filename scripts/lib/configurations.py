@@ -143,7 +143,7 @@ def port_faults(config, port):
     """Where server or relays receive on ports that circuits have, which are of 127.0.0.1."""
     circuits = config["circuit"]
     if not LEAST_PORT <= port <= MOST_PORT:
-        yield f"the first port of the first circuit is {LEAST_PORT} to {MOST_PORT}, and not {port}"
+        yield f"the first port of the first circuit has to be {LEAST_PORT} to {MOST_PORT}, not {port}"
         return
     for what, source in sources(config):
         address, _, at = source.rpartition(":")

@@ -9,7 +9,7 @@ use std::io::{self, ErrorKind};
 
 const FOLDER: &str = "it is a folder";
 
-const NO_REGULAR_FILE: &str = "it is no regular file";
+const NOT_REGULAR: &str = "it is not a regular file";
 
 /// What an error of this kind says of a file, if there are words for it.
 pub(crate) fn file_cause(kind: ErrorKind) -> Option<&'static str> {
@@ -17,12 +17,12 @@ pub(crate) fn file_cause(kind: ErrorKind) -> Option<&'static str> {
         ErrorKind::NotFound => Some("no such file or folder"),
         ErrorKind::PermissionDenied => Some("permission denied"),
         ErrorKind::IsADirectory => Some(FOLDER),
-        ErrorKind::NotADirectory => Some("a part of its path is no folder"),
-        ErrorKind::InvalidInput => Some(NO_REGULAR_FILE),
+        ErrorKind::NotADirectory => Some("a part of its path is not a folder"),
+        ErrorKind::InvalidInput => Some(NOT_REGULAR),
         ErrorKind::InvalidFilename => Some("its name is too long"),
         ErrorKind::FilesystemLoop => Some("its path has too many symbolic links"),
         ErrorKind::WouldBlock => Some("another program has it"),
-        ErrorKind::ExecutableFileBusy => Some("it is a program that runs"),
+        ErrorKind::ExecutableFileBusy => Some("it is a program that is running"),
         ErrorKind::ReadOnlyFilesystem => Some("its file system is read-only"),
         ErrorKind::StorageFull => Some("no space is left"),
         ErrorKind::QuotaExceeded => Some("the quota of its owner is used up"),
@@ -35,7 +35,7 @@ pub(crate) fn file_cause(kind: ErrorKind) -> Option<&'static str> {
 pub fn socket_cause(kind: ErrorKind) -> Option<&'static str> {
     match kind {
         ErrorKind::AddrInUse => Some("another socket has it"),
-        ErrorKind::AddrNotAvailable => Some("it is no address of this machine"),
+        ErrorKind::AddrNotAvailable => Some("it is not an address of this machine"),
         ErrorKind::PermissionDenied => Some("permission denied"),
         _ => None,
     }
@@ -45,7 +45,7 @@ pub fn socket_cause(kind: ErrorKind) -> Option<&'static str> {
 pub fn reading_cause(rt: &HostRuntime, path: &str) -> Option<&'static str> {
     match fs::metadata(rt, path) {
         Ok(found) if found.is_dir() => Some(FOLDER),
-        Ok(found) if !found.is_file() => Some(NO_REGULAR_FILE),
+        Ok(found) if !found.is_file() => Some(NOT_REGULAR),
         Ok(_) => match File::open(rt, path) {
             Ok(_) => None,
             Err(error) => file_cause(error.kind()),
@@ -70,7 +70,7 @@ pub fn writing_cause(rt: &HostRuntime, path: &str, makes: bool) -> Option<&'stat
         return file_cause(io::Error::from(error).kind());
     }
     match file.metadata() {
-        Ok(found) if !found.is_file() => Some(NO_REGULAR_FILE),
+        Ok(found) if !found.is_file() => Some(NOT_REGULAR),
         _ => None,
     }
 }

@@ -1,4 +1,4 @@
-//! Why a line is bad, in words for whoever wrote it. That it is bad says `parse_line`; no contract says why.
+//! Why a line is bad, in words for whoever wrote it. `parse_line` decides whether it is bad; no contract says why.
 use crate::batches::{sync_fault, write_fault};
 use crate::circuits::{circuit_named, is_relay, is_server, relay_named};
 use crate::comebacks::move_fault;
@@ -103,7 +103,11 @@ impl fmt::Display for BytesFault<'_> {
         match self {
             BytesFault::Empty => f.write_str("HEX is empty; - is for no bytes"),
             BytesFault::NoDigit(byte) => {
-                write!(f, "HEX has {}, which is no hexadecimal digit", Quoted(byte))
+                write!(
+                    f,
+                    "HEX has {}, which is not a hexadecimal digit",
+                    Quoted(byte)
+                )
             }
             BytesFault::Odd => f.write_str("HEX has an odd number of digits"),
             BytesFault::TooMany => f.write_str("HEX has more than 2048 bytes"),
@@ -116,14 +120,14 @@ impl fmt::Display for SourceFault<'_> {
     fn fmt<W: fmt::Write>(&self, f: &mut fmt::Formatter<W>) -> fmt::Result {
         let (whose, text) = match self {
             SourceFault::NoAddress(text) => {
-                return write!(f, "SRC is an address and port, and not {}", Quoted(text));
+                return write!(f, "SRC has to be an address and port, not {}", Quoted(text));
             }
             SourceFault::OfRelay(text) => ("a relay's", text),
             SourceFault::OfServer(text) => ("the server's", text),
         };
         write!(
             f,
-            "SRC is {whose}, {}, so that this is no stray",
+            "SRC is {whose}, {}, so this is not a stray",
             Quoted(text)
         )
     }
@@ -136,9 +140,9 @@ fn write_value<W: fmt::Write>(
     values: &str,
     text: &[u8],
 ) -> fmt::Result {
-    write!(f, "{name} is {values}, and not {}", Quoted(text))?;
+    write!(f, "{name} has to be {values}, not {}", Quoted(text))?;
     if has_leading_zero(text) {
-        f.write_str(": no number begins with a zero")?;
+        f.write_str(": a number does not begin with a zero")?;
     }
     Ok(())
 }
@@ -154,18 +158,26 @@ impl fmt::Display for WhyBad<'_> {
             WhyBad::NoCircuit(id) => write!(f, "there is no circuit {}", Quoted(id)),
             WhyBad::NoRelay(name) => write!(f, "there is no relay {}", Quoted(name)),
             WhyBad::NoPlan(text, last) => {
-                write!(f, "K is 0 to {last}, and not {}", Quoted(text))
+                write!(f, "K has to be 0 to {last}, not {}", Quoted(text))
             }
             WhyBad::Value(name, values, text) => write_value(f, name, values, text),
             WhyBad::NoByte(text) => {
-                write!(f, "HH is two hexadecimal digits, and not {}", Quoted(text))
+                write!(
+                    f,
+                    "HH has to be two hexadecimal digits, not {}",
+                    Quoted(text)
+                )
             }
             WhyBad::Bytes(fault) => write!(f, "{fault}"),
             WhyBad::Source(fault) => write!(f, "{fault}"),
             WhyBad::Unlike(field, form) => write!(f, "{} is not {form}", Quoted(field)),
-            WhyBad::Twice(id) => write!(f, "circuit {} stands in it twice", Quoted(id)),
+            WhyBad::Twice(id) => write!(f, "circuit {} appears twice", Quoted(id)),
             WhyBad::TooManyParts => f.write_str("a batch has at most 16 parts"),
-            WhyBad::Late(word) => write!(f, "{} stands before all events alone", Quoted(word)),
+            WhyBad::Late(word) => write!(
+                f,
+                "{} is allowed only before the first event",
+                Quoted(word)
+            ),
         }
     }
 }
