@@ -1,6 +1,6 @@
 /* Stands in for `accessd` where its speed is measured: makes the same calls of the system for an exchange of DHCPv4, in the same
    order and with as many bytes, and does no DHCP. So what `accessd` takes beside it is what its own code takes.
-       standin CONFIG --disk FILE --turns N [--format] [--port P]
+       standin CONFIG --disk FILE --turns N [--format] [--port P] [--batch B]
    It takes the arguments of `accessd`. CONFIG is one that scripts/lib/configuration writes for 1 to 16 circuits behind at most as many
    relays: only the numbers of its circuits and relays are read. FILE is always formatted. Ends after N turns. Nothing is checked
    that comes in, and every client gets the address of its number.
@@ -9,7 +9,8 @@
    something was sent to it, since it was last found empty.
    A frame goes from its circuit to the relay, which sends it on to the server with an option more; the server's answer goes back to
    the relay, and from there to the client's port of the circuit, after one byte. A REQUEST is a save: three writes to FILE, each
-   with a sync, before the answer leaves (docs/FORMATS.md, "The disk"). */
+   with a sync, before the answer leaves (docs/FORMATS.md, "The disk"). With --batch a turn takes up to B datagrams at the server,
+   whose saves share the three syncs. */
 #define _GNU_SOURCE
 #include <arpa/inet.h>
 #include <errno.h>
@@ -62,6 +63,16 @@ enum {
     HALVES_AT = 16384,
     SLOTS = 16,
     HALF = 256,
+    MOST_BATCH = 16,
+};
+
+/* A datagram at the server: the circuit and the slot of its client, and how often that slot was saved before, if it is a REQUEST. */
+struct part {
+    unsigned char in[BUFFER];
+    struct sockaddr_in from;
+    int index, slot;
+    bool asks;
+    unsigned before;
 };
 
 struct circuit {
@@ -72,7 +83,7 @@ struct circuit {
 };
 
 struct standin {
-    int circuit_count, relay_count, file, watched;
+    int circuit_count, relay_count, file, watched, batch;
     int listen4, listen6;
     int relays[MOST_CIRCUITS];
     struct sockaddr_in server_address;
@@ -81,12 +92,13 @@ struct standin {
     bool ready[MOST_SOCKETS];
     /* the datagram that came in, and what is made of it */
     unsigned char in[BUFFER], out[BUFFER + 64];
+    struct part parts[MOST_BATCH];
 };
 
 struct words {
     const char *config, *disk;
     long turns;
-    int port;
+    int port, batch;
 };
 
 static void fail(const char *what) {
@@ -157,30 +169,48 @@ static int formatted(const char *path, int regions) {
     return file;
 }
 
-/* Writes to the half of the slot that does not count: closes its gate where that is open, fills it, opens the gate. After the
-   formatting the first half counts, and the other is closed. */
-static void save(struct standin *all, int index, int slot) {
+/* One of the three writes to the half of a slot that does not count: closes its gate where that is open, fills it, opens the gate.
+   After the formatting the first half counts, and the other is closed. */
+static void write_step(const struct standin *all, const struct part *part, int step) {
     static const unsigned char closed = 0, open_gate = 0xa5;
     unsigned char half[HALF];
-    unsigned before = all->circuits[index].saves[slot]++;
-    int other = before % 2 == 0;
-    off_t gate = (off_t)index * REGION + HALVES_AT + (2 * slot + other) * HALF;
-    memset(half, (int)before, sizeof half);
-    if (before > 0) {
+    int other = part->before % 2 == 0;
+    off_t gate = (off_t)part->index * REGION + HALVES_AT + (2 * part->slot + other) * HALF;
+    if (step == 0 && part->before > 0) {
         write_at(all->file, gate, &closed, 1);
+    } else if (step == 1) {
+        memset(half, (int)part->before, sizeof half);
+        write_at(all->file, gate + 1, half + 1, HALF - 1);
+    } else if (step == 2) {
+        write_at(all->file, gate, &open_gate, 1);
     }
-    sync_data(all->file);
-    write_at(all->file, gate + 1, half + 1, HALF - 1);
-    sync_data(all->file);
-    write_at(all->file, gate, &open_gate, 1);
-    sync_data(all->file);
+}
+
+/* Saves what the REQUESTs of a batch ask for, if there are any. */
+static void save(struct standin *all, int count) {
+    int saves = 0;
+    for (int at = 0; at < count; at++) {
+        struct part *part = &all->parts[at];
+        if (!part->asks) {
+            part->before = all->circuits[part->index].saves[part->slot]++;
+            saves++;
+        }
+    }
+    for (int step = 0; saves > 0 && step < 3; step++) {
+        for (int at = 0; at < count; at++) {
+            if (!all->parts[at].asks) {
+                write_step(all, &all->parts[at], step);
+            }
+        }
+        sync_data(all->file);
+    }
 }
 
 /* How many bytes came in, or 0 where nothing waits or what came is too short. */
-static size_t taken(struct standin *all, int end, struct sockaddr_in *from) {
+static size_t taken(int end, unsigned char *in, struct sockaddr_in *from) {
     struct sockaddr_storage address;
     socklen_t length = sizeof address;
-    ssize_t count = recvfrom(end, all->in, BUFFER, 0, (struct sockaddr *)&address, &length);
+    ssize_t count = recvfrom(end, in, BUFFER, 0, (struct sockaddr *)&address, &length);
     if (count < SHORTEST) {
         return 0;
     }
@@ -198,8 +228,8 @@ static void look(struct standin *all) {
 }
 
 /* The same, if the socket of this number may have a datagram. Nobody sends one that is too short. */
-static size_t taken_if_ready(struct standin *all, int end, int number, struct sockaddr_in *from) {
-    size_t length = all->ready[number] ? taken(all, end, from) : 0;
+static size_t taken_if_ready(struct standin *all, int end, int number, unsigned char *in, struct sockaddr_in *from) {
+    size_t length = all->ready[number] ? taken(end, in, from) : 0;
     if (length == 0) {
         all->ready[number] = false;
     }
@@ -227,51 +257,59 @@ static size_t relayed_up(struct standin *all, size_t length, int index) {
 
 static void take_frame(struct standin *all, int index) {
     struct sockaddr_in from;
-    size_t length = taken_if_ready(all, all->circuits[index].socket4, 2 * index, &from);
+    size_t length = taken_if_ready(all, all->circuits[index].socket4, 2 * index, all->in, &from);
     if (length > 0) {
         size_t made = relayed_up(all, length, index);
         send_on(all->relays[index % all->relay_count], all->out, made, &all->server_address);
         all->ready[SERVER4] = true;
     }
     /* no client of DHCPv6 sends */
-    (void)taken_if_ready(all, all->circuits[index].socket6, 2 * index + 1, &from);
+    (void)taken_if_ready(all, all->circuits[index].socket6, 2 * index + 1, all->in, &from);
 }
 
 /* A reply that has what a client reads in it: its number, its address, the server's, and the kind. */
-static void make_reply(struct standin *all, unsigned char kind, int index, int slot) {
+static void make_reply(struct standin *all, const struct part *part) {
     unsigned char *out = all->out;
     memset(out, 0, REPLY);
-    memcpy(out, all->in, SHORTEST);
+    memcpy(out, part->in, SHORTEST);
     out[0] = 2;
     out[HOPS] = 0;
-    memcpy(out + YIADDR, (unsigned char[]){10, 0, (unsigned char)index, (unsigned char)(FIRST_ADDRESS + slot)}, 4);
-    out[KIND] = kind;
+    memcpy(out + YIADDR, (unsigned char[]){10, 0, (unsigned char)part->index, (unsigned char)(FIRST_ADDRESS + part->slot)}, 4);
+    out[KIND] = part->asks ? OFFER : ACK;
     out[KIND + 1] = 54;
     out[KIND + 2] = 4;
-    memcpy(out + SERVER_ID, (unsigned char[]){10, 0, (unsigned char)index, 1}, 4);
+    memcpy(out + SERVER_ID, (unsigned char[]){10, 0, (unsigned char)part->index, 1}, 4);
     out[SERVER_ID + 4] = 255;
 }
 
 static void take_at_server(struct standin *all) {
-    struct sockaddr_in from;
-    if (taken_if_ready(all, all->listen4, SERVER4, &from) > 0) {
-        int index = all->in[CIRCUIT] % MOST_CIRCUITS;
-        int slot = (all->in[CLIENT] + SLOTS - 1) % SLOTS;
-        bool asks = all->in[KIND] == DISCOVER;
-        if (!asks) {
-            save(all, index, slot);
+    int count = 0;
+    while (count < all->batch) {
+        struct part *part = &all->parts[count];
+        if (taken_if_ready(all, all->listen4, SERVER4, part->in, &part->from) == 0) {
+            break;
         }
-        make_reply(all, asks ? OFFER : ACK, index, slot);
-        send_on(all->listen4, all->out, REPLY, &from);
-        memset(all->ready + RELAYS, true, (size_t)all->relay_count);
-    } else {
-        (void)taken_if_ready(all, all->listen6, SERVER6, &from);
+        part->index = part->in[CIRCUIT] % MOST_CIRCUITS;
+        part->slot = (part->in[CLIENT] + SLOTS - 1) % SLOTS;
+        part->asks = part->in[KIND] == DISCOVER;
+        count++;
     }
+    if (count == 0) {
+        struct sockaddr_in from;
+        (void)taken_if_ready(all, all->listen6, SERVER6, all->in, &from);
+        return;
+    }
+    save(all, count);
+    for (int at = 0; at < count; at++) {
+        make_reply(all, &all->parts[at]);
+        send_on(all->listen4, all->out, REPLY, &all->parts[at].from);
+    }
+    memset(all->ready + RELAYS, true, (size_t)all->relay_count);
 }
 
 static void take_from_relay(struct standin *all, int relay) {
     struct sockaddr_in from;
-    size_t length = taken_if_ready(all, all->relays[relay], RELAYS + relay, &from);
+    size_t length = taken_if_ready(all, all->relays[relay], RELAYS + relay, all->in, &from);
     if (length > 0) {
         struct circuit *circuit = &all->circuits[all->in[CIRCUIT] % MOST_CIRCUITS];
         all->out[0] = 1;
@@ -312,7 +350,7 @@ static bool is_from_1_to(int most, int count) {
 }
 
 static bool read_words(int count, char **words, struct words *values) {
-    *values = (struct words){.port = 20000};
+    *values = (struct words){.port = 20000, .batch = 1};
     for (int at = 1; at < count; at++) {
         const char *word = words[at], *value = at + 1 < count ? words[at + 1] : "";
         if (strcmp(word, "--format") == 0) {
@@ -329,18 +367,20 @@ static bool read_words(int count, char **words, struct words *values) {
             values->turns = atol(value);
         } else if (strcmp(word, "--port") == 0) {
             values->port = atoi(value);
+        } else if (strcmp(word, "--batch") == 0) {
+            values->batch = atoi(value);
         } else {
             return false;
         }
     }
-    return values->config != NULL && values->disk != NULL;
+    return values->config != NULL && values->disk != NULL && is_from_1_to(MOST_BATCH, values->batch);
 }
 
 int main(int count, char **words) {
     static struct standin all;
     struct words values;
     if (!read_words(count, words, &values)) {
-        fprintf(stderr, "usage: standin CONFIG --disk FILE --turns N [--format] [--port P]\n");
+        fprintf(stderr, "usage: standin CONFIG --disk FILE --turns N [--format] [--port P] [--batch B]\n");
         return 2;
     }
     read_config(&all, values.config);
@@ -348,6 +388,7 @@ int main(int count, char **words) {
         fprintf(stderr, "%s: not 1 to %d circuits behind at most as many relays\n", values.config, MOST_CIRCUITS);
         return 2;
     }
+    all.batch = values.batch;
     all.file = formatted(values.disk, all.circuit_count);
     bind_all(&all, values.port);
     fprintf(stderr, "serving %d circuits, leases in %s\n", all.circuit_count, values.disk);

@@ -2,8 +2,8 @@
    client that sleeps has to be woken by whoever answers it, which costs a server some 5 microseconds a message on a virtual
    machine, or nothing where the client happens to be awake, so that figures jump between two regimes.
        standin_load KIND CIRCUITS CLIENTS PORT WARM SECONDS
-   KIND is 'offer' (a DISCOVER and its OFFER), 'lease' (these, a REQUEST and its ACK) or 'renew' (the REQUEST and the ACK of a
-   client that has its address). CLIENTS is how many there are over all circuits, at most 16 on each. After WARM seconds, and
+   KIND is 'offer' (a DISCOVER and its OFFER), 'lease' (these, a REQUEST and its ACK), 'together' (the same, and nobody begins
+   again before everybody has an ACK, as after a power cut) or 'renew' (the REQUEST and the ACK of a client that has its address). CLIENTS is how many there are over all circuits, at most 16 on each. After WARM seconds, and
    once each client has a lease where KIND is 'renew', prints how many exchanges a second end in the next SECONDS. */
 #define _GNU_SOURCE
 #include <arpa/inet.h>
@@ -40,7 +40,7 @@ enum {
     ACK = 5,
 };
 
-enum what { WANTS_OFFERS, WANTS_LEASES, RENEWS };
+enum what { WANTS_OFFERS, WANTS_LEASES, WANT_LEASES_TOGETHER, RENEWS };
 
 struct client {
     unsigned char discover[BARE], request[SELECTING], renewal[BARE];
@@ -56,9 +56,9 @@ struct circuit {
 struct load {
     enum what what;
     int circuit_count, client_count;
-    /* how many exchanges ended, and how many clients hold a lease */
+    /* how many exchanges ended, how many of those that began together, and how many clients hold a lease */
     long done;
-    int holders;
+    int ended, holders;
     struct circuit circuits[MOST_CIRCUITS];
 };
 
@@ -132,6 +132,27 @@ static void renew(struct load *load, struct circuit *circuit, struct client *cli
     send_to(circuit, client->renewal, BARE);
 }
 
+/* Every client sends its DISCOVER. */
+static void discover(struct load *load) {
+    for (int index = 0; index < load->client_count; index++) {
+        struct circuit *circuit = &load->circuits[index % load->circuit_count];
+        send_to(circuit, circuit->clients[index / load->circuit_count].discover, BARE);
+    }
+}
+
+/* A client's exchange ended: what comes next. */
+static void begin_again(struct load *load, struct circuit *circuit, struct client *client, const unsigned char *answer) {
+    load->done++;
+    if (load->what == RENEWS) {
+        renew(load, circuit, client, answer);
+    } else if (load->what != WANT_LEASES_TOGETHER) {
+        send_to(circuit, client->discover, BARE);
+    } else if (++load->ended == load->client_count) {
+        load->ended = 0;
+        discover(load);
+    }
+}
+
 static void take(struct load *load, struct circuit *circuit, const unsigned char *answer) {
     int number = answer[CHADDR + 5];
     if (number < 1 || number > MOST_EACH) {
@@ -144,13 +165,8 @@ static void take(struct load *load, struct circuit *circuit, const unsigned char
     }
     if (is_offer && load->what != WANTS_OFFERS) {
         select_offer(circuit, client, answer);
-        return;
-    }
-    load->done++;
-    if (load->what == RENEWS) {
-        renew(load, circuit, client, answer);
     } else {
-        send_to(circuit, client->discover, BARE);
+        begin_again(load, circuit, client, answer);
     }
 }
 
@@ -199,13 +215,13 @@ static void begin(struct load *load, int port) {
         make_message(client->discover, DISCOVER, place + 1);
         make_message(client->request, REQUEST, place + 1);
         make_message(client->renewal, REQUEST, place + 1);
-        send_to(circuit, client->discover, BARE);
     }
+    discover(load);
 }
 
 static bool read_kind(const char *word, enum what *what) {
-    static const char *const kinds[] = {"offer", "lease", "renew"};
-    for (int kind = 0; kind < 3; kind++) {
+    static const char *const kinds[] = {"offer", "lease", "together", "renew"};
+    for (int kind = 0; kind < 4; kind++) {
         if (strcmp(word, kinds[kind]) == 0) {
             *what = (enum what)kind;
             return true;
@@ -217,7 +233,7 @@ static bool read_kind(const char *word, enum what *what) {
 int main(int count, char **words) {
     static struct load load;
     if (count != 7 || !read_kind(words[1], &load.what)) {
-        fprintf(stderr, "usage: standin_load offer|lease|renew CIRCUITS CLIENTS PORT WARM SECONDS\n");
+        fprintf(stderr, "usage: standin_load offer|lease|together|renew CIRCUITS CLIENTS PORT WARM SECONDS\n");
         return 2;
     }
     load.circuit_count = atoi(words[2]);
