@@ -24,8 +24,6 @@ pub struct Message<'a> {
     bytes: &'a [u8],
     options: Options<'a>,
     kind: Kind4,
-    requested: Option<Addr4>,
-    server: Option<Addr4>,
 }
 
 impl<'a> Model for Message<'a> {
@@ -37,7 +35,7 @@ impl<'a> Model for Message<'a> {
 
     ghost view = { λ m. record { header = header_at m.bytes.now; options = m.options } };
 
-    ghost invariant = { λ m. IsRead m.bytes.now m.options m.kind m.requested m.server };
+    ghost invariant = { λ m. IsRead m.bytes.now m.options m.kind };
 }
 
 impl<'a> Message<'a> {
@@ -142,14 +140,14 @@ impl<'a> Message<'a> {
     pub fn requested_address(&self) -> Option<Addr4>
         ensures { option_map (λ addr. addr.0) result ≡ look_up REQUESTED_ADDRESS self.now.options }
     {
-        self.requested
+        address_in(self.options.get(code::REQUESTED_ADDRESS))
     }
 
     /// Option 54, the server that the message names.
     pub fn server_identifier(&self) -> Option<Addr4>
         ensures { option_map (λ addr. addr.0) result ≡ look_up SERVER_IDENTIFIER self.now.options }
     {
-        self.server
+        address_in(self.options.get(code::SERVER_IDENTIFIER))
     }
 
     /// Option 61, of any length.
@@ -257,8 +255,6 @@ fn message_in(bytes: &[u8]) -> Result<Message<'_>, MessageFault>
             bytes,
             options,
             kind,
-            requested: check.requested,
-            server: check.server,
         }),
     }
 }
@@ -283,67 +279,24 @@ fn is_op(op: u8) -> bool
     op == OP_REQUEST || op == OP_REPLY
 }
 
-/// Whether a message with these options is read and its kind, and if it may be read, the addresses in
-/// options 50 and 54.
+/// Whether a message with these options is read, and its kind.
 #[derive(Drop)]
 struct OptionsCheck {
     are_allowed: bool,
     kind: Option<Kind4>,
-    requested: Option<Addr4>,
-    server: Option<Addr4>,
 }
 
 fn check_options(options: &Options<'_>) -> OptionsCheck
     ensures allowed { result.are_allowed ≡ are_allowed options.now }
     ensures kind { option_map code_of_kind result.kind ≡ kind_in (look_up MESSAGE_TYPE options.now) }
-    ensures requested { OnTrue result.are_allowed (option_map (λ addr. addr.0) result.requested ≡ look_up REQUESTED_ADDRESS options.now) }
-    ensures server { OnTrue result.are_allowed (option_map (λ addr. addr.0) result.server ≡ look_up SERVER_IDENTIFIER options.now) }
 {
-    let values = validity_options(options);
-    let has_overload = values.overload.is_some();
-    let are_addrs = is_addr_or_none(values.requested) && is_addr_or_none(values.server);
+    let has_overload = options.get(code::OPTION_OVERLOAD).is_some();
+    let requested = options.get(code::REQUESTED_ADDRESS);
+    let server = options.get(code::SERVER_IDENTIFIER);
+    let are_addrs = is_addr_or_none(requested) && is_addr_or_none(server);
     OptionsCheck {
         are_allowed: !has_overload && are_addrs,
-        kind: kind_of(values.kind),
-        requested: addr_in(values.requested),
-        server: addr_in(values.server),
-    }
-}
-
-/// The values of the options that decide whether a message is read.
-#[derive(Drop)]
-struct ValidityOptions<'a> {
-    requested: Option<&'a [u8]>,
-    overload: Option<&'a [u8]>,
-    kind: Option<&'a [u8]>,
-    server: Option<&'a [u8]>,
-}
-
-/// Finds the first of each in one walk over the options.
-fn validity_options<'a>(options: &Options<'a>) -> ValidityOptions<'a>
-    ensures requested { option_map (λ value. value.now) result.requested ≡ look_up REQUESTED_ADDRESS options.now }
-    ensures overload { option_map (λ value. value.now) result.overload ≡ look_up OPTION_OVERLOAD options.now }
-    ensures kind { option_map (λ value. value.now) result.kind ≡ look_up MESSAGE_TYPE options.now }
-    ensures server { option_map (λ value. value.now) result.server ≡ look_up SERVER_IDENTIFIER options.now }
-{
-    let mut requested = None;
-    let mut overload = None;
-    let mut kind = None;
-    let mut server = None;
-    'row: for (number, value) in options.iter() {
-        match number {
-            code::REQUESTED_ADDRESS => requested = requested.or(Some(value)),
-            code::OPTION_OVERLOAD => overload = overload.or(Some(value)),
-            code::MESSAGE_TYPE => kind = kind.or(Some(value)),
-            code::SERVER_IDENTIFIER => server = server.or(Some(value)),
-            _ => {}
-        }
-    }
-    ValidityOptions {
-        requested,
-        overload,
-        kind,
-        server,
+        kind: kind_of(options.get(code::MESSAGE_TYPE)),
     }
 }
 
@@ -358,12 +311,13 @@ fn is_addr_or_none(found: Option<&[u8]>) -> bool
 }
 
 /// The address of an option that is an address or absent.
-fn addr_in(found: Option<&[u8]>) -> Option<Addr4>
-    ensures { OnTrue (may_be_addr (option_map (λ value. value.now) found.entry)) (option_map (λ addr. addr.0) result ≡ option_map (λ value. value.now) found.entry) }
+fn address_in(found: Option<&[u8]>) -> Option<Addr4>
+    requires { IfSome found (λ value. length value.now ≡ 4) }
+    ensures { option_map (λ addr. addr.0) result ≡ option_map (λ value. value.now) found.entry }
 {
     match found {
-        Some(value) if value.len() == field::ADDR_LEN => Some(addr_of(value)),
-        _ => None,
+        None => None,
+        Some(value) => Some(addr_of(value)),
     }
 }
 

@@ -8,3 +8,6 @@ pub mod Left
 pub mod Subexact
 pub mod Lengths
 pub mod Ends
+pub mod Rows
+pub mod Heads
+pub mod Standing

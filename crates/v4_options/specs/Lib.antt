@@ -1,5 +1,7 @@
 pub mod Codes
+pub mod Front
 pub mod Next
+pub mod Places
 pub mod Reading
 pub mod Spelling
 pub mod Suboptions

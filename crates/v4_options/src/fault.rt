@@ -1,6 +1,7 @@
 //! Why bytes spell no list of options, or of suboptions.
 ghost use Rattle.std.specs.Prelude.{◌≡◌};
 ghost use Rattle.v4_options.specs.Reading.{fault_from, no_code};
+ghost use Rattle.v4_options.specs.declared.token.Syntax.TheVariants as syntax;
 
 use crate::seen_codes::SeenCodes;
 use crate::token::{Syntax, Token, next_token};
@@ -34,14 +35,14 @@ pub enum SuboptFault {
     Twice,
 }
 
-/// The first fault from the left. Among suboptions, which have no end, `NoEnd` is where the bytes stop.
-pub(crate) fn fault_in(bytes: &[u8], syntax: Syntax) -> Option<OptFault>
-    ensures { result ≡ fault_from syntax no_code 0 bytes.now }
+/// The first fault of suboptions from the left. They have no end: `NoEnd` is where the bytes stop.
+pub(crate) fn suboption_fault(bytes: &[u8]) -> Option<OptFault>
+    ensures { result ≡ fault_from syntax.Suboptions no_code 0 bytes.now }
 {
     let mut seen = SeenCodes::new();
     let mut left = Cursor::new(bytes);
     'row: loop {
-        match next_token(&mut left, syntax) {
+        match next_token(&mut left, Syntax::Suboptions) {
             Token::Nothing => return Some(OptFault::NoEnd),
             Token::Pad => {}
             Token::End => return None,

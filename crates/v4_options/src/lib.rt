@@ -4,9 +4,11 @@
 
 pub mod code;
 mod fault;
+mod front;
 mod iter;
 pub mod laws;
 mod options;
+mod places;
 mod seen_codes;
 mod suboptions;
 mod token;

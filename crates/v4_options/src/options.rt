@@ -1,12 +1,16 @@
 //! Lists of options (RFC 2132, section 2).
 ghost use Rattle.std.specs.Prelude.{◌≡◌, ◌≤◌, ◌<◌, ◌+◌, ◌↔◌, ℕ, List, ◌++◌, [], length, IsOk, OnOk, OnErr, IfSome, option_map};
 ghost use Rattle.v4_options.specs.Spelling.{spelling, look_up, without, Spells, Fails};
+ghost use Rattle.v4_options.specs.Places.{IsWithin, value_at};
 ghost use Rattle.v4_options.specs.Reading.{listed_from, options_of};
 ghost use Rattle.v4_options.specs.declared.token.Syntax.TheVariants as syntax;
 
-use crate::code::END;
-use crate::fault::{OptFault, fault_in};
+use crate::code::{self, END};
+use crate::fault::OptFault;
+use crate::front::Front;
 use crate::iter::Iter;
+use crate::places::Places;
+use crate::seen_codes::SeenCodes;
 use crate::token::{Syntax, Token, next_token};
 use std::marker::Model;
 use types::MAX_DATAGRAM;
@@ -16,6 +20,8 @@ use wire::{Cursor, Full, PacketBuf};
 #[derive(Debug, Drop)]
 pub struct Options<'a> {
     bytes: &'a [u8],
+    places: Places,
+    front: Front,
 }
 
 impl<'a> Model for Options<'a> {
@@ -26,6 +32,12 @@ impl<'a> Model for Options<'a> {
     ghost Value = { List (ℕ × List ℕ) };
 
     ghost view = { λ o. listed_from syntax.Options 0 o.bytes.now };
+
+    ghost use Rattle.std.specs.Prelude.{[]};
+    ghost use Rattle.v4_options.specs.Front.{HasFront};
+    ghost use Rattle.v4_options.specs.Places.{ArePlaced};
+
+    ghost invariant = { λ o. ArePlaced o.bytes.now o.places [] (listed_from syntax.Options 0 o.bytes.now) × HasFront o.front o.bytes.now };
 }
 
 impl<'a> Options<'a> {
@@ -35,10 +47,7 @@ impl<'a> Options<'a> {
         ensures spelled { (list : List (ℕ × List ℕ)) → result ≡ Ok list ↔ Spells bytes.now list }
         ensures fails { (fault : OptFault) → result ≡ Err fault ↔ Fails fault bytes.now }
     {
-        match fault_in(bytes, Syntax::Options) {
-            None => Ok(Options { bytes }),
-            Some(fault) => Err(fault),
-        }
+        read_list(bytes)
     }
 
     /// The value of the option with this code, `None` where there is none.
@@ -46,7 +55,16 @@ impl<'a> Options<'a> {
         ensures value { option_map (λ value. value.now) result ≡ look_up code self.now }
         ensures fits { IfSome result (λ value. length value.now < 256) }
     {
-        self.iter().value_of(code)
+        let places = &self.places;
+        match code {
+            code::REQUESTED_ADDRESS => value_at(self.bytes, places.requested),
+            code::OPTION_OVERLOAD => value_at(self.bytes, places.overload),
+            code::MESSAGE_TYPE => value_at(self.bytes, places.kind),
+            code::SERVER_IDENTIFIER => value_at(self.bytes, places.server),
+            code::CLIENT_IDENTIFIER => value_at(self.bytes, places.client),
+            code::RELAY_AGENT_INFORMATION => value_at(self.bytes, places.agent),
+            _ => self.iter().value_of(code),
+        }
     }
 
     /// All options, in order.
@@ -64,6 +82,11 @@ impl<'a> Options<'a> {
         ensures err { OnErr result (out.new ≡ []) }
     {
         prove!(out.len() <= MAX_DATAGRAM);
+        if self.places.agent == 0
+            && let Some(len) = self.front.len()
+        {
+            return append(&self.bytes[..len], out);
+        }
         // no option has the code of the end
         write_rows(self.bytes, END, out)
     }
@@ -75,8 +98,57 @@ impl<'a> Options<'a> {
         ensures err { OnErr result (out.new ≡ []) }
     {
         prove!(out.len() <= MAX_DATAGRAM);
+        if left_out == code::RELAY_AGENT_INFORMATION
+            && let Some(len) = self.front.len()
+        {
+            return append(&self.bytes[..len], out);
+        }
         write_rows(self.bytes, left_out, out)
     }
+}
+
+/// The list that these bytes spell, or the first fault from the left.
+fn read_list<'a>(bytes: &'a [u8]) -> Result<Options<'a>, OptFault>
+    ensures { result ≡ options_of bytes.now }
+{
+    let mut seen = SeenCodes::new();
+    let mut places = Places::none();
+    let mut front = Front::Open(0);
+    let mut left = Cursor::new(bytes);
+    'row: loop {
+        match next_token(&mut left, Syntax::Options) {
+            Token::Nothing => return Err(OptFault::NoEnd),
+            Token::Pad => front = Front::Apart,
+            Token::End => {
+                return Ok(Options {
+                    bytes,
+                    places,
+                    front,
+                });
+            }
+            Token::Cut => return Err(OptFault::Cut),
+            Token::Whole(code, _) if seen.has(code) => return Err(OptFault::Twice),
+            Token::Whole(code, value) => {
+                let end = bytes.len() - left.rest().len();
+                seen.add(code);
+                places.add(code, end - value.len() - 1);
+                front = front.after(code, end);
+            }
+        }
+    }
+}
+
+/// The value whose length stands here; none where that is place 0.
+fn value_at(bytes: &[u8], place: usize) -> Option<&[u8]>
+    requires { 0 < place → IsWithin bytes.now place }
+    ensures value { option_map (λ value. value.now) result ≡ value_at bytes.now place }
+    ensures fits { IfSome result (λ value. length value.now < 256) }
+{
+    if place == 0 {
+        return None;
+    }
+    let len = usize::from(bytes[place]);
+    Some(&bytes[place + 1..][..len])
 }
 
 /// Appends options without pads and without those of one code. Options that follow one another without either between them

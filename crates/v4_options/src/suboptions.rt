@@ -6,7 +6,7 @@ ghost use Rattle.v4_options.specs.Reading.{fault_from, no_code};
 ghost use Rattle.v4_options.specs.Subreading.{subfault, suboptions_of};
 ghost use Rattle.v4_options.specs.declared.token.Syntax.TheVariants as syntax;
 
-use crate::fault::{OptFault, SuboptFault, fault_in};
+use crate::fault::{OptFault, SuboptFault, suboption_fault};
 use crate::iter::Iter;
 use crate::token::Syntax;
 use std::marker::Model;
@@ -52,7 +52,7 @@ impl<'a> Suboptions<'a> {
 fn subfault_in(bytes: &[u8]) -> Option<SuboptFault>
     ensures { result ≡ subfault (fault_from syntax.Suboptions no_code 0 bytes.now) }
 {
-    match fault_in(bytes, Syntax::Suboptions) {
+    match suboption_fault(bytes) {
         None | Some(OptFault::NoEnd) => None,
         Some(OptFault::Cut) => Some(SuboptFault::Cut),
         Some(OptFault::Twice) => Some(SuboptFault::Twice),

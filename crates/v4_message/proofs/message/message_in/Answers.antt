@@ -1,5 +1,4 @@
 use Rattle.std.proofs.Common.{◌≡◌, Bool, true, false, not, arith, refl, sym, ◌∙◌}
-use Rattle.std.proofs.lemmas.Bool.{OnTrue_at}
 use Rattle.types.specs.Kind4.{code_of_kind}
 use Rattle.v4_options.specs.Codes.{MESSAGE_TYPE}
 use Rattle.v4_options.specs.Spelling.{look_up}
@@ -26,6 +25,4 @@ invariant_of-result c =
         allowed = (allowed c.in-Ok.options).0 (sym c.check_options-check.ensures.allowed ∙ are_allowed);
       };
       kind_is = found.1;
-      requested_is = OnTrue_at are_allowed c.check_options-check.ensures.requested;
-      server_is = OnTrue_at are_allowed c.check_options-check.ensures.server;
     }

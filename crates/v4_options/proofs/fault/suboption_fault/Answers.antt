@@ -1,7 +1,8 @@
 use Rattle.std.proofs.Common.{ℕ, Bool, ap, ◌∙◌}
+use Rattle.v4_options.specs.declared.token.Syntax.TheVariants as syntax
 use Rattle.v4_options.specs.Reading.{fault_from}
 use Rattle.v4_options.proofs.Tokens.{fault_is}
-use Rattle.v4_options.proofs.fault.fault_in.Goals as goal
+use Rattle.v4_options.proofs.fault.suboption_fault.Goals as goal
 
 pub returns-in-Nothing : goal.returns-in-Nothing
 returns-in-Nothing c = rw (fault_is _ _ _ _ _ c.in-Nothing.ensures) at c.row.invariant
@@ -21,4 +22,4 @@ returns-in-Whole c = rw (fault_is _ _ _ _ _ c.in-Whole.ensures, ← c.has.ensure
 pub row-preserved : goal.row-preserved
 row-preserved c =
     let e = rw (fault_is _ _ _ _ _ c.in-Whole.ensures, ← c.has.ensures, c.if-has.false) at c.row.invariant in
-    ap (λ (seen : ℕ → Bool). fault_from c.args.syntax seen 0 c.next_token.new.left) c.add.ensures ∙ e
+    ap (λ (seen : ℕ → Bool). fault_from syntax.Suboptions seen 0 c.next_token.new.left) c.add.ensures ∙ e
