@@ -8,7 +8,10 @@ use Rattle.udp.specs.declared.datagram_socket.Attempt.TheVariants as attempt
 use Rattle.udp.specs.declared.history.Role.{Role}
 use Rattle.access.specs.Access.{AccessValue, HasCarried}
 use Rattle.counts.specs.Counts.{counted, counted_all}
-use Rattle.access.specs.Turn.{Both, InOrder, IsTried, Tries}
+use Rattle.access.specs.Turn.{Both, CircuitSocket, InOrder, IsSentUp, IsTried, Tries}
+use Rattle.config.specs.Topology.{Topology}
+use Rattle.types.specs.declared.dest.Proto.TheVariants.{V4, V6}
+use Rattle.udp.specs.declared.history.Role.TheVariants as role
 use Rattle.counts.specs.declared.counts.Counts.{Counts}
 use Rattle.counts.specs.declared.counts.Outcome.{Outcome}
 
@@ -73,3 +76,13 @@ carried_taken role Made old taken history rest counts from bytes became took add
   many = refl;
   after = ap₂ (λ (c : Counts) (h : List Entry). record old { counts = c; history = h }) count (added ∙ ap (λ h. h ++ rest) took ∙ append_assoc old.history (Took role from bytes ∷ []) rest);
 }
+
+-- two sockets of a circuit, at neither of which a datagram waits
+pub carried_both_idle : (topology : Topology) (index : ℕ) (old : AccessValue) (history : List Entry)
+    → history ≡ with_entry (Empty (role.Circuit index V6)) (with_entry (Empty (role.Circuit index V4)) old.history)
+    → HasCarried (Both (CircuitSocket topology index V4) (CircuitSocket topology index V6)) 0 old (record old { history = history })
+carried_both_idle topology index old history empty =
+    let middle : AccessValue = record old { history = with_entry (Empty (role.Circuit index V4)) old.history } in
+    carried_then (CircuitSocket topology index V4) (CircuitSocket topology index V6) 0 0 old middle (record old { history = history })
+    (carried_idle (role.Circuit index V4) (λ from frame. IsSentUp topology index V4 frame) old (with_entry (Empty (role.Circuit index V4)) old.history) (inl refl))
+    (carried_idle (role.Circuit index V6) (λ from frame. IsSentUp topology index V6 frame) middle history (inl empty))

@@ -4,7 +4,8 @@ ghost use Rattle.access.specs.Access.{HasCarried, HasCounted, HasReached, HasSer
 ghost use Rattle.counts.specs.Counts.{more_by, none};
 ghost use Rattle.opening.specs.Opening.{found_format, was_old};
 ghost use Rattle.sockets.specs.Sockets.{IsSocket, WasRefused};
-ghost use Rattle.access.specs.Turn.{CircuitSocket, CircuitsSockets, RelaySocket, RelaysSockets};
+ghost use Rattle.access.specs.Turn.{Both, CircuitSocket, CircuitsSockets, RelaySocket, RelaysSockets};
+ghost use Rattle.types.specs.declared.dest.Proto.TheVariants.{V4, V6};
 ghost use Rattle.access.specs.declared.access.AccessFault.TheVariants as fault;
 ghost use Rattle.config.specs.CircuitPart.{parts_of};
 ghost use Rattle.dispatch.specs.Regions.{HasRegions};
@@ -335,15 +336,39 @@ impl Access {
         self.look();
         let mut taken = 0;
         'circuits: for index in 0..self.sockets.circuits.len() {
-            taken += self.take_frame(index, Proto::V4);
-            taken += self.take_frame(index, Proto::V6);
+            taken += self.take_frames(index);
         }
         taken
     }
 
-    /// Takes a frame from a circuit's socket to its relay, unless the system has told of none. Most sockets have none, so this
-    /// question is inlined and the rest is not.
+    /// Takes a frame from each of a circuit's two sockets to its relay, unless the system has told of none. Most circuits have
+    /// none, so this question is inlined and the rest is not.
     #[inline(always)]
+    fn take_frames(&mut self, index: usize) -> u32
+        requires { index < length self.old.topology.circuits }
+        ensures most { result ≤ 2 }
+        ensures carried { HasCarried (Both (CircuitSocket self.old.topology index V4) (CircuitSocket self.old.topology index V6)) result self.old self.new }
+    {
+        let sockets = &self.sockets.circuits[index];
+        let (socket4, socket6) = (&sockets.socket4, &sockets.socket6);
+        if socket4.is_idle_with(socket6, &self.waiter, &mut self.history) {
+            return 0;
+        }
+        self.take_waiting_frames(index)
+    }
+
+    /// Takes a frame from each of a circuit's two sockets to its relay.
+    #[inline(never)]
+    fn take_waiting_frames(&mut self, index: usize) -> u32
+        requires { index < length self.old.topology.circuits }
+        ensures most { result ≤ 2 }
+        ensures carried { HasCarried (Both (CircuitSocket self.old.topology index V4) (CircuitSocket self.old.topology index V6)) result self.old self.new }
+    {
+        let taken = self.take_frame(index, Proto::V4);
+        taken + self.take_frame(index, Proto::V6)
+    }
+
+    /// Takes a frame from a circuit's socket to its relay, unless the system has told of none.
     fn take_frame(&mut self, index: usize, proto: Proto) -> u32
         requires { index < length self.old.topology.circuits }
         ensures most { result ≤ 1 }

@@ -151,7 +151,26 @@ impl DatagramSocket {
         is_idle
     }
 
-    /// The same for a socket that is watched. Where the system has told of no datagram since a receive found the socket
+    /// The same of two sockets, first of this one and then of the other: whether none waits at either.
+    pub fn is_idle_with(
+        &self,
+        other: &DatagramSocket,
+        waiter: &Waiter,
+        history: &mut History,
+    ) -> bool
+        ensures same { history.new.id ≡ history.old.id }
+        ensures idle { result ≡ true → history.new.entries ≡ with_entry (Empty other.now.role) (with_entry (Empty self.now.role) history.old.entries) }
+        ensures unknown { result ≡ false → history.new ≡ history.old }
+    {
+        let are_idle = !waiter.is_either_ready(self.number, other.number);
+        if are_idle {
+            history.add(&Happened::Empty(self.role));
+            history.add(&Happened::Empty(other.role));
+        }
+        are_idle
+    }
+
+    /// As `take`, for a socket that is watched. Where the system has told of no datagram since a receive found the socket
     /// empty, none waits, and it isn't asked again.
     pub fn take_if_ready(
         &self,

@@ -9,6 +9,14 @@ use std::rt::Clock;
 use std::thread;
 use std::time::Duration;
 
+/// Every socket from this number on has one bit together, which is always set.
+const LAST: usize = 63;
+
+/// The bit of the socket of this number.
+fn bit(number: usize) -> u64 {
+    1 << number.min(LAST)
+}
+
 /// What the system tells of the sockets that it watches. It takes no memory after the sockets were bound.
 ///
 /// The system tells of a socket when a datagram arrives, once. So a socket may have one from then on until a receive finds it
@@ -18,8 +26,10 @@ pub struct Waiter {
     /// None where the system does not tell of a socket: then any may have a datagram, and waiting is sleeping.
     poll: Option<Poll>,
     events: Events<Global>,
-    /// Whether a socket may have a datagram, by its number.
-    ready: Vec<bool>,
+    /// How many sockets are watched.
+    count: usize,
+    /// Which sockets may have a datagram, a bit each by its number: most have none, and a turn asks of all.
+    ready: u64,
 }
 
 impl Waiter {
@@ -28,7 +38,8 @@ impl Waiter {
         Ok(Waiter {
             poll: Poll::new(net).ok(),
             events: Events::with_capacity(alloc, sockets)?,
-            ready: Vec::with_capacity(alloc, sockets)?,
+            count: 0,
+            ready: u64::MAX,
         })
     }
 
@@ -36,38 +47,45 @@ impl Waiter {
     pub fn watch(&mut self, socket: &mut DatagramSocket)
         ensures { socket.new ≡ socket.old }
     {
-        let number = self.ready.len();
+        let number = self.count;
         socket.number = number;
+        self.count = number.saturating_add(1);
         let Some(poll) = &self.poll else {
             return;
         };
         let watched = poll
             .registry()
             .register(&mut socket.socket, Token(number), Interest::READABLE);
-        if watched.is_err() || self.ready.push(true).is_err() {
-            self.poll = None;
+        if watched.is_err() {
+            self.lose_sight();
         }
+    }
+
+    /// The system tells of the sockets no longer.
+    fn lose_sight(&mut self) {
+        self.poll = None;
+        self.ready = u64::MAX;
     }
 
     /// Whether the socket of this number may have a datagram.
     pub(crate) fn is_ready(&self, number: usize) -> bool {
-        match self.ready.get(number) {
-            Some(ready) => *ready || self.poll.is_none(),
-            None => true,
-        }
+        self.ready & bit(number) != 0
+    }
+
+    /// Whether one of two sockets may have a datagram.
+    pub(crate) fn is_either_ready(&self, number: usize, other: usize) -> bool {
+        self.ready & (bit(number) | bit(other)) != 0
     }
 
     /// A datagram was sent to this socket, which may have one now, whether the system has told of it or not.
     pub fn expect(&mut self, socket: &DatagramSocket) {
-        if let Some(ready) = self.ready.get_mut(socket.number) {
-            *ready = true;
-        }
+        self.ready |= bit(socket.number);
     }
 
     /// A receive found this socket empty.
     pub(crate) fn found_empty(&mut self, number: usize) {
-        if let Some(ready) = self.ready.get_mut(number) {
-            *ready = false;
+        if self.poll.is_some() && number < LAST {
+            self.ready &= !bit(number);
         }
     }
 
@@ -77,14 +95,12 @@ impl Waiter {
             return false;
         };
         if poll.poll(&mut self.events, Some(most)).is_err() {
-            self.poll = None;
+            self.lose_sight();
             return false;
         }
         'events: for event in self.events.iter() {
             let Token(number) = event.token();
-            if let Some(ready) = self.ready.get_mut(number) {
-                *ready = true;
-            }
+            self.ready |= bit(number);
         }
         true
     }

@@ -3,7 +3,7 @@ use Rattle.config.specs.Topology.{Topology}
 use Rattle.types.specs.declared.dest.Proto.TheVariants.{V4, V6}
 use Rattle.access.specs.Access.{AccessValue, HasCarried}
 use Rattle.access.specs.Turn.{Both, CircuitSocket, InOrder, Tries}
-use Rattle.access.proofs.CarryLemmas.{carried_again, carried_none, carried_then, carried_topology}
+use Rattle.access.proofs.CarryLemmas.{carried_again, carried_none, carried_topology}
 use Rattle.access.proofs.access.Access.take_from_circuits.Goals as goal
 
 pub circuits-init : goal.circuits-init
@@ -19,21 +19,16 @@ circuits-init c = record {
 pub circuits-preserved : goal.circuits-preserved
 circuits-preserved c =
     let was = c.circuits.invariant in
-    let first = c.take_frame-taken in
-    let second = c.take_frame-taken-in-circuits in
+    let call = c.take_frames-taken in
     let topology = c.args.self.now.topology in
     let each : ℕ → Tries = λ k. Both (CircuitSocket topology k V4) (CircuitSocket topology k V6) in
-    let all : c.circuits.taken + (first.result + second.result) ≡ c.circuits.taken + first.result + second.result = omega arith in
-    let middle = carried_topology _ first.result _ _ first.ensures.carried in
-    let four = subst (λ (t : Topology). HasCarried (CircuitSocket t c.circuits.index V4) first.result c.circuits.self first.new.self) was.same first.ensures.carried in
-    let six = subst (λ (t : Topology). HasCarried (CircuitSocket t c.circuits.index V6) second.result first.new.self second.new.self) (middle ∙ was.same) second.ensures.carried in
+    let after = carried_topology _ call.result _ _ call.ensures.carried in
+    let these = subst (λ (t : Topology). HasCarried (Both (CircuitSocket t c.circuits.index V4) (CircuitSocket t c.circuits.index V6)) call.result c.circuits.self call.new.self) was.same call.ensures.carried in
     record {
       index = search rules;
-      end = was.end ∙ sym (ap (λ (t : Topology). length t.circuits) (carried_topology _ second.result _ _ second.ensures.carried ∙ middle));
+      end = was.end ∙ sym (ap (λ (t : Topology). length t.circuits) after);
       few = was.few;
       taken = search rules;
-      same = carried_topology _ second.result _ _ second.ensures.carried ∙ middle ∙ was.same;
-      so_far = subst (λ (n : ℕ). HasCarried (InOrder each (c.circuits.index + 1)) n c.args.self.now second.new.self) all
-          (carried_again each c.circuits.index c.circuits.taken (first.result + second.result) _ _ _ was.so_far
-          (carried_then (CircuitSocket topology c.circuits.index V4) (CircuitSocket topology c.circuits.index V6) first.result second.result _ _ _ four six));
+      same = after ∙ was.same;
+      so_far = carried_again each c.circuits.index c.circuits.taken call.result _ _ _ was.so_far these;
     }
