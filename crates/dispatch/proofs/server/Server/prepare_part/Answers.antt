@@ -1,4 +1,4 @@
-use Rattle.std.proofs.Common.{inr, ◌≡◌, ◌∙◌, ◌<◌, ◌==◌, ℕ, false, Ok, length, sym, ap, subst, rules}
+use Rattle.std.proofs.Common.{inr, ◌≡◌, ◌∙◌, ◌<◌, ◌==◌, ℕ, List, false, Ok, length, sym, ap, subst, rules}
 use Rattle.types.specs.Delivery.{DeliveryValue}
 use Rattle.config.specs.Topology.{Topology}
 use Rattle.requests.specs.Addressee.{addressee}
@@ -16,7 +16,9 @@ returns-in-Ok-prepare-clause-part c =
     let within : circuit < length topology.circuits = search rules in
     let part = there_is topology.circuits circuit within in
     let found : addressee topology c.args.delivery.now ≡ Ok circuit = subst (λ (s : ServerValue). addressee s.topology c.args.delivery.now ≡ Ok circuit) c.self.view_is c.in-Ok.ensures.circuit in
-    let fresh : has_named c.args.named.now.items circuit ≡ false = search rules in
+    let fresh : has_named c.args.named.now.items circuit ≡ false =
+    ap (has_named c.args.named.now.items) (sym c.index-index.ensures.value)
+    ∙ ap (λ (names : List ℕ). has_named names c.index-index.result) (sym c.deref.ensures.0) ∙ sym c.contains.ensures.value ∙ c.if-contains.false in
     (part.0, record { found = found; fresh = fresh; others = search rules }, part.1, c.in-Ok-prepare.ensures.prepared part.0 part.1)
 
 pub returns-in-Err-prepare-clause-part : goal.returns-in-Err-prepare-clause-part
@@ -26,7 +28,9 @@ returns-in-Err-prepare-clause-part c =
     let within : circuit < length topology.circuits = search rules in
     let part = there_is topology.circuits circuit within in
     let found : addressee topology c.args.delivery.now ≡ Ok circuit = subst (λ (s : ServerValue). addressee s.topology c.args.delivery.now ≡ Ok circuit) c.self.view_is c.in-Ok.ensures.circuit in
-    let fresh : has_named c.args.named.now.items circuit ≡ false = search rules in
+    let fresh : has_named c.args.named.now.items circuit ≡ false =
+    ap (has_named c.args.named.now.items) (sym c.index-index.ensures.value)
+    ∙ ap (λ (names : List ℕ). has_named names c.index-index.result) (sym c.deref.ensures.0) ∙ sym c.contains.ensures.value ∙ c.if-contains.false in
     inr (inr (circuit, part.0, record { found = found; fresh = fresh; others = search rules }, part.1, c.in-Err-prepare.ensures.dropped part.0 part.1))
 
 -- the circuit of the part, where it is found
