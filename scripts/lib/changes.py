@@ -14,6 +14,8 @@ EFFECTS = {
     "link6": "its leases stay",
     "first6": "each of its DHCPv6 leases moves to another address, and two clients may use one",
 }
+# which addresses a circuit has; its region says which of them are leased
+POOLS = ("first4", "count4", "first6", "count6")
 MORE = "its leases stay; where it was once as great before, the circuit may be closed as damaged"
 LESS = "leases past the new end are not served, and their addresses are leased to nobody"
 
@@ -48,11 +50,18 @@ def relay_changes(old, new):
         yield "the relays are in another order: no lease is lost"
 
 
+def effect_of(key, old, new):
+    """What becomes of a circuit's leases where this key has another value."""
+    if key in POOLS and old["region"] != new["region"]:
+        return f"its leases stay in region {old['region']}"
+    return EFFECTS.get(key) or (MORE if new[key] > old[key] else LESS)
+
+
 def key_changes(old, new):
     """Of one circuit."""
     for key in KEYS["circuit"]:
         if not is_same(key, old[key], new[key]):
-            effect = EFFECTS.get(key) or (MORE if new[key] > old[key] else LESS)
+            effect = effect_of(key, old, new)
             yield f"{name(new)}: {key} {shown(old[key])} becomes {shown(new[key])}: {effect}"
 
 

@@ -4,7 +4,7 @@ import json
 import os
 
 from changes import Changes, by_id, name
-from configurations import faults, has_address, read_config, text_of, warnings
+from configurations import FIRST_PORT, faults, has_address, read_config, text_of, warnings
 from kept import config_of, is_accepted, kept_beside, text_to_keep
 from operator_script import Refused
 from programs import read, refusal, run_over
@@ -32,7 +32,9 @@ class Verdict:
         """Refuses these changes, but where they are accepted, or about to be."""
         self.changes = lines
         if lines and not self.accepting and not is_accepted(self.file, self.kept, self.source):
-            self.refuse(OTHER, [head, *lines, f"to do this on purpose: scripts/operate/accept {self.path} {self.file}, then a start"])
+            port = "" if self.port == FIRST_PORT else f" {self.port}"
+            words = f"scripts/operate/accept {self.path} {self.file}{port}"
+            self.refuse(OTHER, [head, *lines, f"to do this on purpose: {words}, then a start"])
 
 
 def plan_of(config, circuits):

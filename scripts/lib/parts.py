@@ -7,7 +7,7 @@ import sys
 from pathlib import Path
 
 from arguments import ended, number_of, parsed
-from changes import by_id, conflicts, had_before, key_changes
+from changes import by_id, conflicts, had_before, key_changes, name
 from checks import used_lines
 from configurations import FIRST_PORT, LEAST_PORT, MOST, PORTS, read_config, read_text, text_of
 from kept import config_of, hold, kept_beside, put, text_to_keep
@@ -132,7 +132,9 @@ def checked(file, circuits):
     known, now = by_id(kept.config["circuit"] + kept.removed), by_id(circuits)
     gone = [circuit for key, circuit in known.items() if key not in now]
     added = [circuit for key, circuit in now.items() if key not in known]
-    lines = [line for key in now if key in known for line in key_changes(known[key], now[key])]
+    lines = [f"{name(circuit)} is gone: its leases stay in region {circuit['region']}, and nobody serves them"
+             for circuit in kept.config["circuit"] if circuit["id"] not in now]
+    lines += [line for key in now if key in known for line in key_changes(known[key], now[key])]
     lines += [*conflicts(circuits, gone + kept.former, {}, known), *used_lines(added, regions)]
     if lines:
         raise Refused(3, "\n".join([f"it differs from {kept.path}, which was served last:", *lines,
