@@ -7,7 +7,7 @@ ghost use Rattle.udp.specs.History.{Empty, IsWithin, Refused, Sent, attempt_entr
 ghost use Rattle.udp.specs.declared.datagram_socket.BindFault.TheVariants as fault;
 
 use crate::history::{Happened, History, Role};
-use crate::waiting::Waiter;
+use crate::waiting::{SHARED, Waiter};
 use mio::net::UdpSocket;
 use std::io::ErrorKind;
 use std::marker::Model;
@@ -46,8 +46,8 @@ pub struct DatagramSocket {
     at: Source,
     /// Which history says what happens at it.
     history: u8,
-    /// By which number the system tells of it, once it is watched.
-    pub(crate) number: usize,
+    /// The bit of the waiter that watches it.
+    pub(crate) bit: u64,
 }
 
 impl Model for DatagramSocket {
@@ -100,7 +100,7 @@ impl DatagramSocket {
                 role,
                 at,
                 history: history.id(),
-                number: usize::MAX,
+                bit: SHARED,
             }),
             Err(error) if error.kind() == ErrorKind::OutOfMemory => Err(BindFault::Memory),
             Err(_) => {
@@ -144,7 +144,7 @@ impl DatagramSocket {
         ensures idle { result ≡ true → history.new.entries ≡ with_entry (Empty self.now.role) history.old.entries }
         ensures unknown { result ≡ false → history.new ≡ history.old }
     {
-        let is_idle = !waiter.is_ready(self.number);
+        let is_idle = !waiter.is_ready(self.bit);
         if is_idle {
             history.add(&Happened::Empty(self.role));
         }
@@ -162,7 +162,7 @@ impl DatagramSocket {
         ensures idle { result ≡ true → history.new.entries ≡ with_entry (Empty other.now.role) (with_entry (Empty self.now.role) history.old.entries) }
         ensures unknown { result ≡ false → history.new ≡ history.old }
     {
-        let are_idle = !waiter.is_either_ready(self.number, other.number);
+        let are_idle = !waiter.is_ready(self.bit | other.bit);
         if are_idle {
             history.add(&Happened::Empty(self.role));
             history.add(&Happened::Empty(other.role));
@@ -188,7 +188,7 @@ impl DatagramSocket {
         }
         let attempt = self.take(buffer, history);
         if attempt == Attempt::Empty {
-            waiter.found_empty(self.number);
+            waiter.found_empty(self.bit);
         }
         attempt
     }

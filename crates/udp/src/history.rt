@@ -103,7 +103,7 @@ impl History {
         self.id
     }
 
-    /// This happened as well. Only what calls the system adds what that did.
+    /// This happened as well: whoever adds it has seen it happen.
     pub(crate) fn add(&mut self, what: &Happened<'_>)
         ensures entries { self.new.entries ≡ with_entry (entry_of what.now) self.old.entries }
         ensures same { self.new.id ≡ self.old.id }

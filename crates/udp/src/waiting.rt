@@ -9,8 +9,10 @@ use std::rt::Clock;
 use std::thread;
 use std::time::Duration;
 
-/// Every socket from this number on has one bit together, which is always set.
+/// Every socket from this number on has one bit together, and so has one that is not watched. It is always set.
 const LAST: usize = 63;
+
+pub(crate) const SHARED: u64 = 1 << LAST;
 
 /// The bit of the socket of this number.
 fn bit(number: usize) -> u64 {
@@ -33,7 +35,7 @@ pub struct Waiter {
 }
 
 impl Waiter {
-    /// Watches no socket yet, and has room for so many.
+    /// Watches no socket yet, and has room for so many; out of memory where there is none for that.
     pub fn new<R: Net>(net: &R, alloc: Global, sockets: usize) -> Result<Waiter, AllocError> {
         Ok(Waiter {
             poll: Poll::new(net).ok(),
@@ -48,7 +50,7 @@ impl Waiter {
         ensures { socket.new ≡ socket.old }
     {
         let number = self.count;
-        socket.number = number;
+        socket.bit = bit(number);
         self.count = number.saturating_add(1);
         let Some(poll) = &self.poll else {
             return;
@@ -67,25 +69,20 @@ impl Waiter {
         self.ready = u64::MAX;
     }
 
-    /// Whether the socket of this number may have a datagram.
-    pub(crate) fn is_ready(&self, number: usize) -> bool {
-        self.ready & bit(number) != 0
-    }
-
-    /// Whether one of two sockets may have a datagram.
-    pub(crate) fn is_either_ready(&self, number: usize, other: usize) -> bool {
-        self.ready & (bit(number) | bit(other)) != 0
+    /// Whether one of the sockets with these bits may have a datagram.
+    pub(crate) fn is_ready(&self, bits: u64) -> bool {
+        self.ready & bits != 0
     }
 
     /// A datagram was sent to this socket, which may have one now, whether the system has told of it or not.
     pub fn expect(&mut self, socket: &DatagramSocket) {
-        self.ready |= bit(socket.number);
+        self.ready |= socket.bit;
     }
 
-    /// A receive found this socket empty.
-    pub(crate) fn found_empty(&mut self, number: usize) {
-        if self.poll.is_some() && number < LAST {
-            self.ready &= !bit(number);
+    /// A receive found the socket of this bit empty.
+    pub(crate) fn found_empty(&mut self, bit: u64) {
+        if self.poll.is_some() && bit != SHARED {
+            self.ready &= !bit;
         }
     }
 
