@@ -91,7 +91,7 @@ impl Model for Access {
 }
 
 /// Whether the system binds each socket of a configuration now; all are given back at once. More than 16 circuits are refused
-/// first.
+/// first, then an address (`Socket`); `Memory` is out of memory.
 pub fn try_sockets<R: Net>(
     net: &R,
     alloc: Global,
@@ -219,7 +219,7 @@ impl Access {
         'turns: for _ in 0..turns {
             now = moment(rt, now, &mut self.history);
             if self.turn(now) == 0 && pause > 0 {
-                // the turn found each socket empty
+                // no socket gave a datagram
                 self.waiter.wait(rt, pause);
             }
             watch.after_turn(self, now);
@@ -229,7 +229,7 @@ impl Access {
     /// Tries sockets without waiting: those of the circuits once each, in order; the server's two by turns, until a batch
     /// is full or none waits; those of the relays once each. What comes in is carried on at once; a datagram that can't be
     /// received or sent is lost. Then moves all clocks to this moment. Returns how many datagrams were taken. The system is
-    /// asked once at which circuits' sockets datagrams arrived; where none did, none waits.
+    /// asked once at which sockets datagrams arrived; a socket of which it has told nothing is not tried.
     pub fn turn(&mut self, now: Moment) -> u32
         ensures most { result ≤ 40 + self.old.batch }
         ensures turned { HasTurned now result self.old self.new }

@@ -1,4 +1,4 @@
--- What is made of a datagram of an open circuit before it is saved, and what comes of it then. Only proofs need this.
+-- What is made of a datagram of an open circuit before it is saved, and what comes of it then. Only contracts between crates cite this.
 use Rattle.std.specs.Prelude.{◌≡◌, ◌==◌, ◌+◌, ◌≤◌, ℕ, Bool, true, List, [], Option, Some, None, option_map, Result, Ok, Err, IfOk, OnOk, is_ok, is_some}
 use Rattle.types.specs.Delivery.{DeliveryValue}
 use Rattle.types.specs.declared.discard.Discard.{Discard}

@@ -37,7 +37,7 @@ pub struct AccessWords<'a> {
     pub format: bool,
     /// The first port of the first circuit, 1024 to 65472.
     pub port: u16,
-    /// How long the program sleeps after a turn that took no datagram, in milliseconds, 0 to 1000.
+    /// The longest wait after a turn that took no datagram, in milliseconds, 0 to 1000.
     pub pause: u16,
     /// How many datagrams the server takes at most in a turn, 1 to 16.
     pub batch: u8,
@@ -105,7 +105,7 @@ fn pause_arg<'a>(alloc: Global) -> Arg<'a>
         .action(ArgAction::Set)
         .value_parser(clap::value_parser!(u16).range(0..=i64::from(MAX_PAUSE)))
         .default_value("0")
-        .help("How many milliseconds to sleep after a turn that took nothing, 0 to 1000")
+        .help("How many milliseconds to wait at most after a turn that took nothing, 0 to 1000")
 }
 
 fn batch_arg<'a>(alloc: Global) -> Arg<'a>

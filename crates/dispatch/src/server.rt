@@ -47,7 +47,7 @@ pub enum OpenFault {
 }
 
 /// The server of all circuits of a configuration. It holds all that it needs of it, and no call but
-/// `open` takes memory. Each of its calls has to be over the device that it was opened over, which
+/// `open` and `open_plans` takes memory. Each of its calls has to be over the device that it was opened over, which
 /// nobody else writes to meanwhile.
 #[derive(Drop)]
 pub struct Server {

@@ -1,4 +1,4 @@
--- What a line and a run of lines do to the world and to the writer. Only proofs need these.
+-- What a line and a run of lines do to the world and to the writer. Only contracts between crates cite these.
 use Rattle.std.specs.Prelude.{◌≡◌, ℕ, ◌⊎◌, ◌==◌, if◌then◌else◌, Bool, List, ◌++◌, length, Option, Some, None}
 use Rattle.std.specs.Io.KnownBytes.{Appends, Consumes}
 use Rattle.config.specs.Plans.{PlansValue}

@@ -1,4 +1,4 @@
--- What the parser of a line returns, as a line. Only proofs need these.
+-- What the parser of a line returns, as a line. Only contracts between crates cite these.
 use Rattle.std.specs.Prelude.{◌≡◌, ℕ, ◌+◌, ◌<◌, ◌≤◌, Bool, true, false, List, length, slice_get, take, Option, Some, None, ⊤}
 use Rattle.settings.specs.Settings.{Settings}
 use Rattle.types.specs.declared.discard.Discard.TheVariants.{UnknownSource, NotServer}

@@ -1,4 +1,4 @@
--- What was read of a datagram. Only proofs need this.
+-- What was read of a datagram. Only contracts between crates cite this.
 use Rattle.std.specs.Prelude.{◌≡◌, ℕ, List, Ok}
 use Rattle.types.specs.declared.dest.Proto.{Proto}
 use Rattle.types.specs.declared.dest.Proto.TheVariants.{V4, V6}

@@ -5,8 +5,6 @@ ghost use Rattle.slots.specs.Maps.{is_live};
 ghost use Rattle.slots.specs.Lookup.{until_of, live, is_vacant, is_bound_to, is_offered_to};
 ghost use Rattle.slots.specs.Slots.{client_of, is_clients};
 
-use crate::key::SlotKey;
-
 /// Who holds an address, and the moment until which it is held, in seconds.
 #[derive(Clone, Copy, Debug, PartialEq, Eq)]
 pub enum Holder<K> {

@@ -1,4 +1,4 @@
--- What a call that reads a line has consumed, by how the line ended. Only proofs need these.
+-- What a call that reads a line has consumed, by how the line ended. Only contracts between crates cite these.
 use Rattle.std.specs.Prelude.{◌≡◌, ℕ, ◌+◌, ◌<◌, ◌≤◌, true, List, [], ◌∷◌, ◌++◌, length, take, Option}
 use Rattle.std.proofs.Common.{get_or}
 use Rattle.std.specs.Io.KnownBytes.{Consumes, IsAtEnd}

@@ -1,4 +1,4 @@
--- The bytes that were read and not yet consumed. Only proofs need these.
+-- The bytes that were read and not yet consumed. Only contracts between crates cite these.
 use Rattle.std.specs.Prelude.{ℕ, List, slice_range}
 use Rattle.streams.specs.declared.read_ahead.ReadAhead.{ReadAhead}
 

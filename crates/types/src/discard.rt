@@ -6,7 +6,7 @@ use std::error::Error;
 use std::fmt;
 
 /// Why the relay or the server drops a frame or a datagram, in the order of the numbers: 1 to 8 the
-/// relay on the way up, 11 to 24 the server, 31 to 34 the relay on the way down.
+/// relay on the way up, 11 to 25 the server, 31 to 34 the relay on the way down.
 #[derive(Clone, Copy, Debug, PartialEq, Eq)]
 pub enum Discard {
     /// The frame has more than 1024 bytes.

@@ -12,7 +12,7 @@ use thiserror::Error;
 pub struct Length;
 
 /// A DUID in the bytes that it was read from: two bytes of type, then 1 to 128 bytes (RFC 8415, section 11.1). What
-/// they stand for is nobody's business: two DUIDs are the same exactly where their bytes are.
+/// they stand for is not looked at: two DUIDs are the same exactly where their bytes are.
 #[derive(Debug, Drop)]
 pub struct Duid<'a> {
     bytes: &'a [u8],

@@ -9,9 +9,10 @@ use std::rt::Clock;
 use std::thread;
 use std::time::Duration;
 
-/// Every socket from this number on has one bit together, and so has one that is not watched. It is always set.
+/// Every socket from this number on has one bit together.
 const LAST: usize = 63;
 
+/// That bit, which a socket that is not watched has too. It is always set.
 pub(crate) const SHARED: u64 = 1 << LAST;
 
 /// The bit of the socket of this number.

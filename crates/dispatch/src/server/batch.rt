@@ -1,5 +1,5 @@
 //! Several datagrams at one moment, whose saves share their syncs.
-ghost use Rattle.std.specs.Prelude.{◌≡◌, ◌<◌, ◌≤◌, ◌==◌, ◌&&◌, ◌||◌, ◌+◌, ◌∷◌, ◌++◌, not, ℕ, List, [], Result, Ok, Err, true, false, length, map, if◌then◌else◌, take, slice_get, slice_set, IfOk, IfErr, Some};
+ghost use Rattle.std.specs.Prelude.{◌≡◌, ◌<◌, ◌≤◌, ◌==◌, ◌&&◌, ◌||◌, ◌+◌, ◌∷◌, ◌++◌, not, ℕ, List, [], Result, Ok, Err, true, false, length, map, take, slice_get, slice_set, IfOk, IfErr, Some};
 ghost use Rattle.types.specs.Delivery.{delivery};
 ghost use Rattle.types.specs.declared.discard.Discard as discard;
 ghost use Rattle.lease_disk.specs.Device.{has_failed, is_in};
