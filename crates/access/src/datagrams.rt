@@ -15,7 +15,7 @@ pub(crate) const NOWHERE: Source = Source {
 };
 
 /// A datagram that was taken from one of the server's sockets.
-#[derive(Clone, Copy, Debug)]
+#[derive(Clone, Copy)]
 pub(crate) struct Datagram {
     pub(crate) proto: Proto,
     pub(crate) source: Source,

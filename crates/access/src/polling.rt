@@ -5,7 +5,7 @@ ghost use Rattle.access.specs.Polling.{after_take, again, begun, may_wait, next_
 use types::Proto;
 
 /// Whether a datagram may wait at one of the server's sockets, as far as a turn knows.
-#[derive(Clone, Copy, Debug, PartialEq, Eq)]
+#[derive(Clone, Copy, PartialEq, Eq)]
 pub enum Waiting {
     Perhaps,
     /// The socket was empty when it was tried last.
@@ -15,7 +15,7 @@ pub enum Waiting {
 }
 
 /// Where a turn stands that takes datagrams from the server's two sockets.
-#[derive(Clone, Copy, Debug, PartialEq, Eq)]
+#[derive(Clone, Copy, PartialEq, Eq)]
 pub struct Polling {
     /// How many more it takes.
     left: usize,

@@ -5,7 +5,7 @@ use lease_disk::{Content, Fault, Marks};
 use types::Moment;
 
 /// A slot of one region that is to be saved with others, and what came of it.
-#[derive(Clone, Copy, Debug, PartialEq, Eq)]
+#[derive(Clone, Copy, PartialEq, Eq)]
 pub struct Saving {
     pub region: u16,
     /// What the slot holds, and from which clock on.

@@ -2,7 +2,7 @@
 use types::{Discard, Key4, Moment, Reply4, Slot4};
 
 /// What a client is answered, and what the answer changes. Nothing is changed until `Book4::commit`.
-#[derive(Clone, Copy, Debug, PartialEq, Eq)]
+#[derive(Clone, Copy, PartialEq, Eq)]
 pub struct Decision4 {
     /// The clock by which it was decided.
     pub clock: Moment,
@@ -15,7 +15,7 @@ pub struct Decision4 {
 }
 
 /// A change of what is offered.
-#[derive(Clone, Copy, Debug, PartialEq, Eq)]
+#[derive(Clone, Copy, PartialEq, Eq)]
 pub enum OfferChange {
     /// This slot is offered to this client until this moment, in seconds, and no other slot is.
     Made(usize, Key4, u64),
@@ -24,7 +24,7 @@ pub enum OfferChange {
 }
 
 /// A slot of the pool, 0 the lowest, and what it holds from now on.
-#[derive(Clone, Copy, Debug, PartialEq, Eq)]
+#[derive(Clone, Copy, PartialEq, Eq)]
 pub struct KeptSlot {
     pub slot: usize,
     pub content: Slot4,

@@ -2,7 +2,7 @@
 use types::{Discard, Moment, Reply6, Slot6};
 
 /// What a client is answered, and what the answer changes. Nothing is changed until `Book6::commit`.
-#[derive(Debug, Drop)]
+#[derive(Drop)]
 pub struct Decision6 {
     /// The clock by which it was decided.
     pub clock: Moment,
@@ -13,7 +13,7 @@ pub struct Decision6 {
 }
 
 /// A slot of the pool, 0 the lowest, and what it holds from now on.
-#[derive(Clone, Copy, Debug, PartialEq, Eq)]
+#[derive(Clone, Copy, PartialEq, Eq)]
 pub struct KeptSlot {
     pub slot: usize,
     pub content: Slot6,

@@ -34,14 +34,14 @@ use wire::PacketBuf;
 pub(crate) const SIX_SLOTS_FROM: usize = 16;
 
 /// What a circuit decides on a DHCPv4 message. It has no room for DHCPv6's keys, so that an answer moves little.
-#[derive(Debug, Drop)]
+#[derive(Drop)]
 pub(crate) struct CircuitDecision4<'a> {
     pub(crate) message: Message<'a>,
     pub(crate) decision: Decision4,
 }
 
 /// What a circuit decides on a Relay-forward with a message of this client in it.
-#[derive(Debug, Drop)]
+#[derive(Drop)]
 pub(crate) struct CircuitDecision6<'a> {
     pub(crate) forward: Relay6<'a>,
     pub(crate) message: Message6<'a>,
@@ -50,7 +50,7 @@ pub(crate) struct CircuitDecision6<'a> {
 }
 
 /// What a circuit decides on a message, in either protocol. Nothing is changed and nothing is sent before it is kept.
-#[derive(Debug, Drop)]
+#[derive(Drop)]
 pub(crate) enum CircuitDecision<'a> {
     V4(CircuitDecision4<'a>),
     V6(CircuitDecision6<'a>),

@@ -8,7 +8,7 @@ use batch_saves::Saving;
 use lease_disk::{Disk, Fault, Marks, save};
 
 /// A decision whose changes of the circuit's books are made, and the save that has to be done before its reply leaves.
-#[derive(Debug, Drop)]
+#[derive(Drop)]
 pub struct Prepared<'a> {
     pub(crate) decision: CircuitDecision<'a>,
     /// None where nothing has to be saved.

@@ -25,7 +25,7 @@ const MAX_BATCH: u32 = 16;
 const MAX_REPORT: u32 = 86_400;
 
 /// The values of the words after the program's name.
-#[derive(Clone, Copy, Debug, PartialEq, Eq)]
+#[derive(Clone, Copy, PartialEq, Eq)]
 pub struct AccessWords<'a> {
     /// The path of the configuration.
     pub config: &'a str,

@@ -13,7 +13,7 @@ use std::alloc::{AllocError, Global};
 const MAX_QUOTA: u32 = 256;
 
 /// The values of the words after the program's name.
-#[derive(Debug, Drop)]
+#[derive(Drop)]
 pub struct LabWords<'a> {
     /// The paths of the configurations, 1 to 8, of which the first is in force at the start.
     pub configs: Vec<&'a str>,

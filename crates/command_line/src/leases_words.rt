@@ -13,7 +13,7 @@ use std::alloc::{AllocError, Global};
 use types::LAST_MOMENT;
 
 /// What is listed.
-#[derive(Clone, Copy, Debug, PartialEq, Eq)]
+#[derive(Clone, Copy, PartialEq, Eq)]
 pub enum What {
     Leases,
     /// What the leases take of each pool.
@@ -21,14 +21,14 @@ pub enum What {
 }
 
 /// How the lines are written.
-#[derive(Clone, Copy, Debug, PartialEq, Eq)]
+#[derive(Clone, Copy, PartialEq, Eq)]
 pub enum Form {
     Text,
     Json,
 }
 
 /// The values of the words after the program's name.
-#[derive(Clone, Copy, Debug, PartialEq, Eq)]
+#[derive(Clone, Copy, PartialEq, Eq)]
 pub struct LeaseWords<'a> {
     /// The path of the configuration.
     pub config: &'a str,

@@ -4,7 +4,7 @@ ghost use Rattle.command_line.specs.Status.{IsRefusedWith};
 use crate::status::{FAILED, REFUSED, complain, out_of_memory};
 
 /// Why the words of a command line are refused.
-#[derive(Debug, Drop)]
+#[derive(Drop)]
 pub enum Refusal {
     /// Out of memory.
     Memory,

@@ -15,7 +15,7 @@ use types::CircuitId;
 ///
 /// The hasher is the set's own: fast, with a fixed seed. Whoever picked a set's keys could make them collide, but
 /// these are the operator's, and looking up an id that isn't among them is at worst a walk over all of them.
-#[derive(Debug, Drop)]
+#[derive(Drop)]
 pub struct CircuitIndex {
     ids: IndexSet<CircuitId>,
 }

@@ -11,7 +11,7 @@ use types::{Addr4, Addr6, Circuit, CircuitId, MAX_DUID, Pool4, Pool6, Proto, Sou
 
 /// A circuit's values, with the source of its relay and the server's values. It is a copy, so that
 /// relay and server don't need the configuration once they are open.
-#[derive(Debug, Drop)]
+#[derive(Drop)]
 pub struct CircuitPart {
     circuit: CircuitConfig,
     relay: Source,

@@ -21,7 +21,7 @@ use types::{Circuit, RelayNo, Source};
 
 /// The server's addresses, where each relay's datagrams come from, the parts of all circuits, and which of them are
 /// served. It is a copy, made once, in which circuits and relays are found.
-#[derive(Debug, Drop)]
+#[derive(Drop)]
 pub struct Circuits {
     listen4: Source,
     listen6: Source,

@@ -18,7 +18,7 @@ use toml::Table;
 use types::{Circuit, CircuitId, RelayNo};
 
 /// A configuration: the server, its relays and its circuits, which keep every rule.
-#[derive(Debug, Drop)]
+#[derive(Drop)]
 pub struct Config {
     server: ServerConfig,
     relays: Vec<RelayConfig>,

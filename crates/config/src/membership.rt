@@ -11,7 +11,7 @@ use types::Circuit;
 pub type Members = ArrayVec<bool, MAX_PLANS>;
 
 /// Which circuits each of at most 8 plans has, and which plan is in force.
-#[derive(Debug, Drop)]
+#[derive(Drop)]
 pub struct Membership {
     /// One for each circuit, in order, with as many plans each as there are.
     members: Vec<Members>,

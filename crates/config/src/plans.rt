@@ -20,7 +20,7 @@ pub const MAX_PLANS: usize = 8;
 
 /// Several configurations of one server, the plans: each has the same server and the same relays, and any of
 /// the circuits. What they have together keeps every rule of a configuration.
-#[derive(Debug, Drop)]
+#[derive(Drop)]
 pub struct Plans {
     union: Config,
     members: Vec<Members>,

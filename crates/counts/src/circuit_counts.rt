@@ -9,7 +9,7 @@ use crate::counts::{Counts, Outcome};
 pub const COUNTED_CIRCUITS: usize = 16;
 
 /// What became of the datagrams of each of the first 16 circuits, by their indices.
-#[derive(Clone, Copy, Debug)]
+#[derive(Clone, Copy)]
 pub struct CircuitCounts {
     circuits: [Counts; COUNTED_CIRCUITS],
 }

@@ -41,7 +41,7 @@ pub const REASONS: [Discard; 27] = [
 ];
 
 /// What became of a datagram that was taken from a socket.
-#[derive(Clone, Copy, Debug, PartialEq, Eq)]
+#[derive(Clone, Copy, PartialEq, Eq)]
 pub enum Outcome {
     /// A relay sent the frame on to the server.
     Relayed,
@@ -68,7 +68,7 @@ const NUMBERS: usize = 35;
 
 /// What became of the datagrams that were received from the sockets. Each count stays at its greatest
 /// value.
-#[derive(Clone, Copy, Debug)]
+#[derive(Clone, Copy)]
 pub struct Counts {
     /// Datagrams that were received from a socket.
     pub received: u64,

@@ -58,7 +58,7 @@ fn batch(alloc: Global, n: usize, faults: [u8; 3]) -> Result<(ModelDisk, [Saving
 }
 
 /// How such a batch goes.
-#[derive(Clone, Copy, Debug)]
+#[derive(Clone, Copy)]
 struct Row {
     n: usize,
     /// Which call of each region fails; 0 for none.

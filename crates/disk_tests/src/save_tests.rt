@@ -10,7 +10,7 @@ use std::test::Fail;
 use types::{Key4, Key6, Moment, Slot4, Slot6, Slots};
 
 /// What a slot holds from a clock on.
-#[derive(Clone, Copy, Debug)]
+#[derive(Clone, Copy)]
 pub struct Change {
     pub clock: Moment,
     pub slot: usize,

@@ -13,7 +13,7 @@ use types::{Key6, Moment, Slot4, Slot6, Slots};
 
 /// Where the device stops: in its k-th call, or in none where k is 0; and what its unsynced bytes then
 /// become, which stay as they read where there is no byte, as by a stop between two calls.
-#[derive(Clone, Copy, Debug, PartialEq, Eq)]
+#[derive(Clone, Copy, PartialEq, Eq)]
 struct Cut {
     k: u8,
     byte: Option<u8>,

@@ -23,7 +23,7 @@ use types::{Circuit, Discard, Moment, Proto, Source};
 use wire::PacketBuf;
 
 /// The answer to one part.
-#[derive(Debug, Drop)]
+#[derive(Drop)]
 pub struct Answer {
     made: Result<(), Discard>,
     /// Where there is a reply, its datagram.

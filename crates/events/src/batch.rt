@@ -6,7 +6,7 @@ use batch_saves::MAX_BATCH;
 use types::{Circuit, Discard};
 
 /// The part of one circuit in a batch: a datagram of that circuit towards the server.
-#[derive(Clone, Copy, Debug, PartialEq, Eq)]
+#[derive(Clone, Copy, PartialEq, Eq)]
 pub struct BatchPart {
     pub circuit: Circuit,
     /// Which datagram of the circuit it is, 0 the newest.
@@ -16,7 +16,7 @@ pub struct BatchPart {
 }
 
 /// What came of one part of a batch.
-#[derive(Clone, Copy, Debug, PartialEq, Eq)]
+#[derive(Clone, Copy, PartialEq, Eq)]
 pub enum PartOutcome {
     /// There is no such circuit or datagram.
     Gone,

@@ -2,7 +2,7 @@
 use lease_disk::Image;
 
 /// How the region of one circuit comes back when server and disk start again.
-#[derive(Clone, Copy, Debug, PartialEq, Eq)]
+#[derive(Clone, Copy, PartialEq, Eq)]
 pub struct Comeback {
     /// What its unsynced bytes have become, or that it cannot be read.
     pub image: Image,

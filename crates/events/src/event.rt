@@ -4,7 +4,7 @@ use crate::comeback::Comeback;
 use types::{Circuit, Moment, Proto, RelayNo, Source};
 
 /// One thing that happens, taken whole before the next. It lends its bytes.
-#[derive(Clone, Copy, Debug)]
+#[derive(Clone, Copy)]
 pub enum Event<'a> {
     /// A client of the circuit sends a frame, and the relay gets it.
     Frame(Circuit, Proto, &'a [u8]),

@@ -4,7 +4,7 @@ use batch_saves::MAX_BATCH;
 use types::{Circuit, Dest, Discard};
 
 /// What came of an event.
-#[derive(Clone, Copy, Debug, PartialEq, Eq)]
+#[derive(Clone, Copy, PartialEq, Eq)]
 pub enum Outcome {
     /// A frame or a datagram was dropped.
     Dropped(Discard),

@@ -26,7 +26,7 @@ const PART: &str = "CID=J=FAULT";
 const COMEBACK: &str = "CID=HH, CID=HH:M or CID=unreadable";
 
 /// Why a line is bad. Of several reasons the first from the left, after the number of fields.
-#[derive(Clone, Copy, Debug)]
+#[derive(Clone, Copy)]
 pub enum WhyBad<'a> {
     TooLong,
     /// It begins with a space.
@@ -54,7 +54,7 @@ pub enum WhyBad<'a> {
 }
 
 /// What is wrong with bytes in hexadecimal digits.
-#[derive(Clone, Copy, Debug)]
+#[derive(Clone, Copy)]
 pub enum BytesFault<'a> {
     Empty,
     NoDigit(&'a [u8]),
@@ -64,7 +64,7 @@ pub enum BytesFault<'a> {
 }
 
 /// What is wrong with the source of a stray.
-#[derive(Clone, Copy, Debug)]
+#[derive(Clone, Copy)]
 pub enum SourceFault<'a> {
     NoAddress(&'a [u8]),
     OfRelay(&'a [u8]),

@@ -2,7 +2,7 @@
 use types::{Slot4, Slot6};
 
 /// What a slot of either protocol is to hold.
-#[derive(Clone, Copy, Debug, PartialEq, Eq)]
+#[derive(Clone, Copy, PartialEq, Eq)]
 pub enum Content {
     /// Of a slot below 16.
     Four(Slot4),

@@ -11,7 +11,7 @@ use crate::read_half::{counts_before, half_of, number8, read_slot4, read_slot6};
 use types::{Moment, Slot4, Slot6};
 
 /// What a slot holds, and the clock by which it was saved.
-#[derive(Clone, Copy, Debug)]
+#[derive(Clone, Copy)]
 pub struct Entry<S> {
     pub clock: Moment,
     pub content: S,

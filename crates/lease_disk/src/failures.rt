@@ -8,7 +8,7 @@ ghost use Rattle.std.specs.Coded.{coded_list, coded_ℕ};
 use std::marker::{Model, PhantomData};
 
 /// A call of this region failed.
-#[derive(Clone, Copy, Debug)]
+#[derive(Clone, Copy)]
 pub(crate) struct Failure {
     pub region: u16,
 }

@@ -31,7 +31,7 @@ pub const UNTIL_AT: usize = 16;
 pub const KEY_AT: usize = 32;
 
 /// Half of a slot. One counts; a save writes the other one.
-#[derive(Clone, Copy, Debug, PartialEq, Eq)]
+#[derive(Clone, Copy, PartialEq, Eq)]
 pub enum Half {
     First,
     Second,

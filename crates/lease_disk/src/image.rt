@@ -1,7 +1,7 @@
 //! What a crash leaves of a region.
 
 /// What a restart finds of a region.
-#[derive(Clone, Copy, Debug, PartialEq, Eq)]
+#[derive(Clone, Copy, PartialEq, Eq)]
 pub enum Image {
     /// Each byte that was not synced is this one.
     Byte(u8),

@@ -10,7 +10,7 @@ use crate::half::{GATE_OPEN, Half, SEQUENCE_AT, sequence_after};
 use crate::read_half::{counts_before, half_of};
 
 /// What a save has to know of a slot, so that it reads nothing.
-#[derive(Clone, Copy, Debug, PartialEq, Eq)]
+#[derive(Clone, Copy, PartialEq, Eq)]
 pub struct Mark {
     /// The half that counts.
     pub(crate) half: Half,
@@ -22,7 +22,7 @@ pub struct Mark {
 
 /// What saves have to know of a region's slots. `recover` makes the marks of a region, and only a save
 /// changes them.
-#[derive(Clone, Copy, Debug, PartialEq, Eq)]
+#[derive(Clone, Copy, PartialEq, Eq)]
 pub struct Marks {
     pub(crate) slots: [Mark; 32],
 }

@@ -8,7 +8,7 @@ use types::{Addr4, Addr6, Key4, Key6, Slot4, Slot6, Slots};
 
 /// A live lease, or an address that a client declined: the address, the client, unless it was declined, and
 /// when it ends, in seconds by the server's clock; `accessd`'s counts from 1970.
-#[derive(Clone, Copy, Debug)]
+#[derive(Clone, Copy)]
 pub enum Lease {
     V4(Addr4, Option<Key4>, u64),
     V6(Addr6, Option<Key6>, u64),

@@ -11,7 +11,7 @@ use serde_json::{Map, ToValue, Value, json, put};
 use std::alloc::{AllocError, Global};
 
 /// Why nothing is known of a circuit's leases.
-#[derive(Clone, Copy, Debug, PartialEq, Eq)]
+#[derive(Clone, Copy, PartialEq, Eq)]
 pub enum Closed {
     /// The bytes of its region are those of no book.
     Damaged,

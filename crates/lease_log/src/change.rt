@@ -6,14 +6,14 @@ ghost use Rattle.lease_log.specs.Change.{end4, end6, gone, start4, start6};
 use types::{Addr4, Addr6, Key4, Key6, Slot4, Slot6};
 
 /// An address, and the client that got it or lost it.
-#[derive(Clone, Copy, Debug)]
+#[derive(Clone, Copy)]
 pub enum Holder {
     V4(Addr4, Key4),
     V6(Addr6, Key6),
 }
 
 /// What happened to a client's lease.
-#[derive(Clone, Copy, Debug, PartialEq, Eq)]
+#[derive(Clone, Copy, PartialEq, Eq)]
 pub enum Happened {
     /// It began, and lasts until this moment, in seconds.
     Leased(u64),
@@ -26,7 +26,7 @@ pub enum Happened {
 }
 
 /// What happened to the lease of one address, and when, in seconds.
-#[derive(Clone, Copy, Debug)]
+#[derive(Clone, Copy)]
 pub struct Change {
     pub moment: u64,
     pub holder: Holder,

@@ -10,7 +10,7 @@ use std::{fmt, str};
 use types::MAX_DUID;
 
 /// The line of a change in the circuit with this id, without a line feed. To write it takes no memory.
-#[derive(Clone, Copy, Debug)]
+#[derive(Clone, Copy)]
 pub struct Line<'a> {
     pub circuit: &'a str,
     pub change: &'a Change,

@@ -55,7 +55,7 @@ fn open_file(rt: &HostRuntime, config: &Config, path: &str) -> Result<RegionFile
 }
 
 /// Whether a circuit was closed so far, and whether one was busy.
-#[derive(Clone, Copy, Debug)]
+#[derive(Clone, Copy)]
 struct Noted {
     is_closed: bool,
     is_busy: bool,

@@ -1,7 +1,7 @@
 //! Where a datagram goes.
 
 /// The direction of a datagram.
-#[derive(Clone, Copy, Debug, PartialEq, Eq)]
+#[derive(Clone, Copy, PartialEq, Eq)]
 pub enum Dir {
     /// Towards the server.
     Up,

@@ -18,7 +18,7 @@ use world::World;
 const MEMORY: u8 = 40;
 
 /// The steps in their order.
-#[derive(Clone, Copy, Debug, PartialEq, Eq)]
+#[derive(Clone, Copy, PartialEq, Eq)]
 pub enum Step {
     Config,
     Relays,
@@ -61,7 +61,7 @@ impl fmt::Display for Step {
 }
 
 /// Why a step did not give what it should.
-#[derive(Clone, Copy, Debug, PartialEq, Eq)]
+#[derive(Clone, Copy, PartialEq, Eq)]
 pub enum Trouble {
     /// It reported that memory ran out.
     Memory(Step),

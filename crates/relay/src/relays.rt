@@ -24,7 +24,7 @@ use wire::PacketBuf;
 pub struct Memory;
 
 /// The relays of a configuration: a copy of what they need of it, and a counter for each circuit.
-#[derive(Debug, Drop)]
+#[derive(Drop)]
 pub struct Relays {
     circuits: Circuits,
     discarded: Vec<u32>,

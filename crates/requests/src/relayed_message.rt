@@ -11,7 +11,7 @@ use v4_message::Message;
 use v6_message::Relay6;
 
 /// What a relay sent: a client's DHCPv4 message, or a Relay-forward around a client's DHCPv6 message.
-#[derive(Debug, Drop)]
+#[derive(Drop)]
 pub enum RelayedMessage<'a> {
     V4(Message<'a>),
     V6(Relay6<'a>),

@@ -7,7 +7,7 @@ use std::fmt;
 use types::CircuitId;
 
 /// Which part of the server and its relays differs. Relays are counted from 1.
-#[derive(Clone, Copy, Debug, PartialEq, Eq)]
+#[derive(Clone, Copy, PartialEq, Eq)]
 pub enum ServerPart {
     /// The value at this key of the server.
     Server(ServerKey),
@@ -18,7 +18,7 @@ pub enum ServerPart {
 }
 
 /// A configuration whose server or relays are not those of the first.
-#[derive(Clone, Copy, Debug, PartialEq, Eq)]
+#[derive(Clone, Copy, PartialEq, Eq)]
 pub struct ServerDifference {
     /// The number of the configuration: 2 to 8.
     pub number: usize,
@@ -26,7 +26,7 @@ pub struct ServerDifference {
 }
 
 /// A circuit whose value at a key differs between two configurations.
-#[derive(Debug, PartialEq, Eq, Drop)]
+#[derive(PartialEq, Eq, Drop)]
 pub struct CircuitDifference {
     pub id: CircuitId,
     pub key: CircuitKey,

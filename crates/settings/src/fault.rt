@@ -9,7 +9,7 @@ use std::error::Error;
 use std::fmt;
 
 /// A table or key that is missing or of the wrong type. Relays are counted from 1.
-#[derive(Debug, PartialEq, Eq, Drop)]
+#[derive(PartialEq, Eq, Drop)]
 pub enum Location {
     Table(TableName),
     Server(ServerKey),
@@ -18,7 +18,7 @@ pub enum Location {
 }
 
 /// Two names, or two addresses, that must differ but are the same. Relays are counted from 1.
-#[derive(Debug, PartialEq, Eq, Drop)]
+#[derive(PartialEq, Eq, Drop)]
 pub enum SameName {
     /// The ids of two circuits.
     Ids(CircuitRef, CircuitRef),
@@ -109,7 +109,7 @@ fn off_subnet(key: CircuitKey) -> &'static str
 
 /// Why a text is not a configuration, or several are not those of one server, in the order of the rules'
 /// numbers. Of several rules that a text breaks, the one with the lowest number is reported.
-#[derive(Debug, PartialEq, Eq, Drop)]
+#[derive(PartialEq, Eq, Drop)]
 pub enum ConfigFault {
     /// Out of memory, which says nothing about the text.
     Memory,
@@ -165,6 +165,15 @@ impl fmt::Display for ConfigFault {
             ConfigFault::ServerDiffers(difference) => write!(f, "{difference}"),
             ConfigFault::CircuitDiffers(difference) => write!(f, "{difference}"),
         }
+    }
+}
+
+// As the words, so that nothing that it names needs more.
+impl fmt::Debug for ConfigFault {
+    ghost debug_output = { λ fault. fault_words fault };
+
+    fn fmt<W: fmt::Write>(&self, f: &mut fmt::Formatter<W>) -> fmt::Result {
+        fmt::Display::fmt(self, f)
     }
 }
 

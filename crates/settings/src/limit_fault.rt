@@ -6,7 +6,7 @@ use crate::names::{CircuitKey, CircuitRef, RelayKey, ServerKey};
 use std::fmt;
 
 /// An integer outside its limits.
-#[derive(Clone, Copy, Debug, PartialEq, Eq)]
+#[derive(Clone, Copy, PartialEq, Eq)]
 pub struct Outside {
     pub found: i64,
     pub least: u32,
@@ -14,7 +14,7 @@ pub struct Outside {
 }
 
 /// What is wrong with a value of a circuit.
-#[derive(Clone, Copy, Debug, PartialEq, Eq)]
+#[derive(Clone, Copy, PartialEq, Eq)]
 pub enum CircuitLimit {
     /// A number is outside its limits.
     Number(CircuitKey, Outside),
@@ -28,7 +28,7 @@ pub enum CircuitLimit {
 
 /// A value, or a number of entries, that is outside its limits or malformed. Relays are counted
 /// from 1.
-#[derive(Debug, PartialEq, Eq, Drop)]
+#[derive(PartialEq, Eq, Drop)]
 pub enum LimitFault {
     /// This many relays, not 1 to 8.
     Relays(usize),

@@ -16,7 +16,7 @@ pub trait Key: Copy {
 }
 
 /// A table of the text, or an array of tables.
-#[derive(Clone, Copy, Debug, PartialEq, Eq)]
+#[derive(Clone, Copy, PartialEq, Eq)]
 pub enum TableName {
     Server,
     Relay,
@@ -24,7 +24,7 @@ pub enum TableName {
 }
 
 /// A key of the server.
-#[derive(Clone, Copy, Debug, PartialEq, Eq)]
+#[derive(Clone, Copy, PartialEq, Eq)]
 pub enum ServerKey {
     Listen4,
     Listen6,
@@ -32,14 +32,14 @@ pub enum ServerKey {
 }
 
 /// A key of a relay.
-#[derive(Clone, Copy, Debug, PartialEq, Eq)]
+#[derive(Clone, Copy, PartialEq, Eq)]
 pub enum RelayKey {
     Name,
     Source,
 }
 
 /// A key of a circuit.
-#[derive(Clone, Copy, Debug, PartialEq, Eq)]
+#[derive(Clone, Copy, PartialEq, Eq)]
 pub enum CircuitKey {
     Id,
     Relay,
@@ -56,7 +56,7 @@ pub enum CircuitKey {
 }
 
 /// A circuit of the text: its number among the circuits, counted from 1, and its id if that can be read.
-#[derive(Debug, PartialEq, Eq, Drop)]
+#[derive(PartialEq, Eq, Drop)]
 pub struct CircuitRef {
     pub number: usize,
     pub id: Option<CircuitId>,

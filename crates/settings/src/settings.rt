@@ -6,7 +6,7 @@ use arrayvec::ArrayVec;
 use types::{Addr4, Addr6, CircuitId, MAX_DUID, RelayNo, Source};
 
 /// The server, from the table `server`.
-#[derive(Debug, Drop)]
+#[derive(Drop)]
 pub struct ServerConfig {
     /// Where the server receives DHCPv4 datagrams.
     pub listen4: Source,
@@ -17,7 +17,7 @@ pub struct ServerConfig {
 }
 
 /// A relay, from one entry of `relay`.
-#[derive(Debug, Drop)]
+#[derive(Drop)]
 pub struct RelayConfig {
     /// 1 to 32 bytes.
     pub name: ArrayVec<u8, MAX_NAME>,
@@ -26,7 +26,7 @@ pub struct RelayConfig {
 }
 
 /// A circuit, from one entry of `circuit`.
-#[derive(Debug, Drop)]
+#[derive(Drop)]
 pub struct CircuitConfig {
     pub id: CircuitId,
     /// The relay that the circuit is behind.

@@ -6,7 +6,7 @@ ghost use Rattle.slots.specs.Lookup.{until_of, live, is_vacant, is_bound_to, is_
 ghost use Rattle.slots.specs.Slots.{client_of, is_clients};
 
 /// Who holds an address, and the moment until which it is held, in seconds.
-#[derive(Clone, Copy, Debug, PartialEq, Eq)]
+#[derive(Clone, Copy, PartialEq, Eq)]
 pub enum Holder<K> {
     /// Leased to this client.
     Bound(K, u64),

@@ -16,7 +16,7 @@ pub const MAX_LINE: usize = 8192;
 pub const MAX_TEXT: u64 = u64::MAX;
 
 /// How the first line of what was read ends, and its length in bytes.
-#[derive(Clone, Copy, Debug, PartialEq, Eq)]
+#[derive(Clone, Copy, PartialEq, Eq)]
 pub enum LineEnd {
     /// By a line feed.
     Newline(usize),

@@ -7,7 +7,7 @@ ghost use Rattle.types.specs.Addr.{number4, addr4, number6, addr6, is_unspecifie
 pub struct Addr4(pub [u8; 4]);
 
 /// An IPv6 address, its first byte first.
-#[derive(Clone, Copy, Debug, Default, PartialEq, Eq)]
+#[derive(Clone, Copy, Default, PartialEq, Eq)]
 pub struct Addr6(pub [u8; 16]);
 
 /// The address and UDP port that a datagram came from.

@@ -10,7 +10,7 @@ pub const MAX_CIRCUIT_ID: usize = 32;
 
 /// A circuit id: 1 to 32 bytes, each a visible ASCII character (0x21 to 0x7E). Two are equal where
 /// their bytes are.
-#[derive(Debug, PartialEq, Eq, Hash, Drop)]
+#[derive(PartialEq, Eq, Hash, Drop)]
 pub struct CircuitId {
     bytes: ArrayVec<u8, MAX_CIRCUIT_ID>,
 }

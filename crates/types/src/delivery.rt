@@ -5,7 +5,7 @@ use crate::moment::Moment;
 use std::marker::Model;
 
 /// A datagram that reaches the server, with where it came from and when. It lends its bytes.
-#[derive(Debug, Drop)]
+#[derive(Drop)]
 pub struct Delivery<'a> {
     pub proto: Proto,
     pub source: Source,

@@ -2,14 +2,14 @@
 use crate::addr::{Addr4, Addr6};
 
 /// The protocol of a frame or a datagram.
-#[derive(Clone, Copy, Debug, PartialEq, Eq)]
+#[derive(Clone, Copy, PartialEq, Eq)]
 pub enum Proto {
     V4,
     V6,
 }
 
 /// Where the relay sends a frame in its circuit.
-#[derive(Clone, Copy, Debug, PartialEq, Eq)]
+#[derive(Clone, Copy, PartialEq, Eq)]
 pub enum Dest {
     /// To every client of the circuit.
     Broadcast,

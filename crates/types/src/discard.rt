@@ -7,7 +7,7 @@ use std::fmt;
 
 /// Why the relay or the server drops a frame or a datagram, in the order of the numbers: 1 to 8 the
 /// relay on the way up, 11 to 25 the server, 31 to 34 the relay on the way down.
-#[derive(Clone, Copy, Debug, PartialEq, Eq)]
+#[derive(Clone, Copy, PartialEq, Eq)]
 pub enum Discard {
     /// The frame has more than 1024 bytes.
     TooLong,
@@ -148,6 +148,15 @@ impl fmt::Display for Discard {
 
     fn fmt<W: fmt::Write>(&self, f: &mut fmt::Formatter<W>) -> fmt::Result {
         f.write_str(self.words())
+    }
+}
+
+// As the words: derived, it would be a second table of them.
+impl fmt::Debug for Discard {
+    ghost debug_output = { λ why. Some (words_of why) };
+
+    fn fmt<W: fmt::Write>(&self, f: &mut fmt::Formatter<W>) -> fmt::Result {
+        fmt::Display::fmt(self, f)
     }
 }
 

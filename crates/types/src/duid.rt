@@ -13,7 +13,7 @@ pub struct Length;
 
 /// A DUID in the bytes that it was read from: two bytes of type, then 1 to 128 bytes (RFC 8415, section 11.1). What
 /// they stand for is not looked at: two DUIDs are the same exactly where their bytes are.
-#[derive(Debug, Drop)]
+#[derive(Drop)]
 pub struct Duid<'a> {
     bytes: &'a [u8],
 }

@@ -12,7 +12,7 @@ pub const MAX_KEY4: usize = 64;
 
 /// A DHCPv4 client: the 2 to 64 bytes of its client identifier (option 61), or the 7 bytes of its
 /// hardware type and address. Two are equal where their bytes are.
-#[derive(Clone, Copy, Debug)]
+#[derive(Clone, Copy)]
 pub struct Key4 {
     len: u8,
     // zeros past `len`

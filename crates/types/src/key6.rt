@@ -8,7 +8,7 @@ use std::marker::Model;
 
 /// A DHCPv6 client's association: the 3 to 130 bytes of the client's DUID and the IAID (RFC 8415,
 /// sections 11 and 21.4). Two are equal where both are.
-#[derive(Clone, Copy, Debug)]
+#[derive(Clone, Copy)]
 pub struct Key6 {
     iaid: u32,
     len: u8,

@@ -3,7 +3,7 @@ ghost use Rattle.std.specs.Prelude.{◌≡◌, ◌≤◌, ◌↔◌, IsSome, IfS
 ghost use Rattle.types.specs.Kind4.{code_of_kind, kind_of_code};
 
 /// A DHCPv4 message type: the value of option 53 (RFC 2132, section 9.6).
-#[derive(Clone, Copy, Debug, PartialEq, Eq)]
+#[derive(Clone, Copy, PartialEq, Eq)]
 pub enum Kind4 {
     Discover,
     Offer,

@@ -3,7 +3,7 @@ ghost use Rattle.std.specs.Prelude.{◌≡◌};
 ghost use Rattle.types.specs.Kind6.{code_of_kind6, kind6_of_code};
 
 /// The type of a DHCPv6 message that a client sends about its addresses (RFC 8415, section 7.3).
-#[derive(Clone, Copy, Debug, PartialEq, Eq)]
+#[derive(Clone, Copy, PartialEq, Eq)]
 pub enum Kind6 {
     Solicit,
     Request,

@@ -8,7 +8,7 @@ pub const LAST_MOMENT: u64 = 1_099_511_627_775;
 
 /// A moment or a clock, in whole seconds since an origin that the caller chooses, at most
 /// `LAST_MOMENT`.
-#[derive(Clone, Copy, Debug, PartialEq, Eq, PartialOrd, Ord)]
+#[derive(Clone, Copy, PartialEq, Eq, PartialOrd, Ord)]
 pub struct Moment {
     seconds: u64,
 }

@@ -17,7 +17,7 @@ pub const MAX_LEASE: u32 = 604_800;
 
 /// A circuit's DHCPv4 pool: 1 to 16 consecutive addresses, none past the last IPv4 address, its
 /// gateway, and the lease time, 60 to 604800 seconds.
-#[derive(Clone, Copy, Debug, PartialEq, Eq)]
+#[derive(Clone, Copy, PartialEq, Eq)]
 pub struct Pool4 {
     first: Addr4,
     count: u8,

@@ -9,7 +9,7 @@ use std::marker::Model;
 
 /// A circuit's DHCPv6 pool: 1 to 16 consecutive addresses, none past the last IPv6 address, and the
 /// lease time, 60 to 604800 seconds.
-#[derive(Clone, Copy, Debug, PartialEq, Eq)]
+#[derive(Clone, Copy, PartialEq, Eq)]
 pub struct Pool6 {
     first: Addr6,
     count: u8,

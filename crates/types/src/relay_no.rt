@@ -6,7 +6,7 @@ use std::marker::Model;
 
 /// A relay, by its index in the configuration: 0 is the first. A configuration with fewer relays has
 /// none of this index.
-#[derive(Clone, Copy, Debug, PartialEq, Eq)]
+#[derive(Clone, Copy, PartialEq, Eq)]
 pub struct RelayNo {
     index: u8,
 }

@@ -4,7 +4,7 @@ use crate::key4::Key4;
 use crate::kind4::Kind4;
 
 /// A client's message, as far as leases depend on it.
-#[derive(Clone, Copy, Debug, PartialEq, Eq)]
+#[derive(Clone, Copy, PartialEq, Eq)]
 pub struct Request4 {
     /// Option 53.
     pub kind: Kind4,
@@ -17,7 +17,7 @@ pub struct Request4 {
 }
 
 /// A reply, before it has bytes.
-#[derive(Clone, Copy, Debug, PartialEq, Eq)]
+#[derive(Clone, Copy, PartialEq, Eq)]
 pub enum Reply4 {
     /// A DHCPOFFER of this address.
     Offer(Addr4),

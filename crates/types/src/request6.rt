@@ -11,7 +11,7 @@ use arrayvec::ArrayVec;
 pub const MAX_LISTED: usize = 4;
 
 /// The server that a client speaks to (RFC 8415, section 21.3).
-#[derive(Clone, Copy, Debug, PartialEq, Eq)]
+#[derive(Clone, Copy, PartialEq, Eq)]
 pub enum ServerId {
     /// There is no server identifier.
     None,
@@ -21,7 +21,7 @@ pub enum ServerId {
 }
 
 /// A client's message, as far as leases depend on it.
-#[derive(Debug, Drop)]
+#[derive(Drop)]
 pub struct Request6 {
     /// The first byte of the message.
     pub kind: Kind6,
@@ -34,7 +34,7 @@ pub struct Request6 {
 }
 
 /// The type of a reply (RFC 8415, section 7.3).
-#[derive(Clone, Copy, Debug, PartialEq, Eq)]
+#[derive(Clone, Copy, PartialEq, Eq)]
 pub enum ReplyKind6 {
     Advertise,
     Reply,
@@ -53,7 +53,7 @@ impl ReplyKind6 {
 }
 
 /// A status code (RFC 8415, section 21.13).
-#[derive(Clone, Copy, Debug, PartialEq, Eq)]
+#[derive(Clone, Copy, PartialEq, Eq)]
 pub enum Status6 {
     Success,
     NoAddrsAvail,
@@ -76,7 +76,7 @@ impl Status6 {
 }
 
 /// The IA_NA of a reply.
-#[derive(Debug, Drop)]
+#[derive(Drop)]
 pub enum ReplyIa {
     /// There is none.
     None,
@@ -87,7 +87,7 @@ pub enum ReplyIa {
 }
 
 /// A reply, before it has bytes.
-#[derive(Debug, Drop)]
+#[derive(Drop)]
 pub struct Reply6 {
     pub kind: ReplyKind6,
     /// The status of the whole message, where it has one.

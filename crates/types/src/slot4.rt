@@ -6,7 +6,7 @@ use crate::key4::Key4;
 
 /// What a region keeps of one address. A moment is in seconds; what has one is live while
 /// that is greater than the circuit's clock.
-#[derive(Clone, Copy, Debug, PartialEq, Eq)]
+#[derive(Clone, Copy, PartialEq, Eq)]
 pub enum Slot4 {
     Free,
     /// Leased to this client until this moment.

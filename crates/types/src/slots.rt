@@ -8,7 +8,7 @@ use crate::slot4::Slot4;
 
 /// What a region keeps of one address of a DHCPv6 pool. A moment is in seconds; what has one
 /// is live while that is greater than the circuit's clock.
-#[derive(Clone, Copy, Debug, PartialEq, Eq)]
+#[derive(Clone, Copy, PartialEq, Eq)]
 pub enum Slot6 {
     Free,
     /// Leased to this client until this moment.
@@ -31,7 +31,7 @@ impl Slot6 {
 
 /// One circuit's leases and bars, by address: a slot for each address that a pool can have, in the
 /// pool's order, and the circuit's clock. Slots past a pool's count are free.
-#[derive(Clone, Copy, Debug)]
+#[derive(Clone, Copy)]
 pub struct Slots {
     pub four: [Slot4; 16],
     pub six: [Slot6; 16],

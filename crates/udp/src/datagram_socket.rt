@@ -19,7 +19,7 @@ use types::{Addr4, MAX_DATAGRAM, Source};
 pub const BUFFER_LEN: usize = MAX_DATAGRAM + 1;
 
 /// Why a socket was not bound.
-#[derive(Clone, Copy, Debug, PartialEq, Eq)]
+#[derive(Clone, Copy, PartialEq, Eq)]
 pub enum BindFault {
     /// The system is out of memory.
     Memory,
@@ -28,7 +28,7 @@ pub enum BindFault {
 }
 
 /// What came of an attempt to take a datagram.
-#[derive(Clone, Copy, Debug, PartialEq, Eq)]
+#[derive(Clone, Copy, PartialEq, Eq)]
 pub enum Attempt {
     /// One was taken: how many bytes of it are in the buffer, and where it came from.
     Took(usize, Source),

@@ -9,7 +9,7 @@ use std::time::Duration;
 use types::{Circuit, Moment, Proto, RelayNo, Source};
 
 /// A socket by what it is for.
-#[derive(Clone, Copy, Debug, PartialEq, Eq)]
+#[derive(Clone, Copy, PartialEq, Eq)]
 pub enum Role {
     /// One of a circuit's two sockets.
     Circuit(Circuit, Proto),
@@ -19,7 +19,7 @@ pub enum Role {
 }
 
 /// One thing that happened.
-#[derive(Clone, Copy, Debug)]
+#[derive(Clone, Copy)]
 pub enum Happened<'a> {
     /// A datagram was taken from this socket, which came from there. Of one that is longer than the buffer these are its
     /// first bytes.

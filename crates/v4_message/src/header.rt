@@ -16,7 +16,7 @@ pub const OP_REPLY: u8 = 2;
 pub const BROADCAST: u16 = 0x8000;
 
 /// The fields of a header, by the standard's names. The hardware is Ethernet.
-#[derive(Clone, Copy, Debug)]
+#[derive(Clone, Copy)]
 pub struct Header<'a> {
     pub op: u8,
     pub hops: u8,

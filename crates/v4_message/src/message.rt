@@ -18,7 +18,7 @@ use v4_options::{Options, code};
 use wire::{Full, PacketBuf};
 
 /// A message in the bytes that it was read from. Its fields are slices of those bytes, or small values.
-#[derive(Debug, Drop)]
+#[derive(Drop)]
 pub struct Message<'a> {
     bytes: &'a [u8],
     options: Options<'a>,

@@ -7,7 +7,7 @@ use crate::code;
 
 /// The bytes of a list's options but for option 82, the relay agent information: a relay appends that option as the last one
 /// (RFC 3046, section 2.1), so that whoever takes it away again, or writes a list that has none, finds all others together.
-#[derive(Clone, Copy, Debug)]
+#[derive(Clone, Copy)]
 pub(crate) enum Front {
     /// All bytes so far, so many: none is a pad's or that option's.
     Open(usize),

@@ -8,7 +8,7 @@ use std::marker::Model;
 use wire::Cursor;
 
 /// The options, or suboptions, of a list that are still to come.
-#[derive(Debug, Drop)]
+#[derive(Drop)]
 pub struct Iter<'a> {
     left: Cursor<'a>,
     syntax: Syntax,

@@ -17,7 +17,7 @@ use types::MAX_DATAGRAM;
 use wire::{Cursor, Full, PacketBuf};
 
 /// A list of options in the bytes that it was read from. Its values are slices of those bytes.
-#[derive(Debug, Drop)]
+#[derive(Drop)]
 pub struct Options<'a> {
     bytes: &'a [u8],
     places: Places,

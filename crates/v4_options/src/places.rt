@@ -6,7 +6,7 @@ use crate::code;
 
 /// Where the values of the options stand that relays and servers look for, so that whoever wants one does not walk over the list
 /// again: the place of the length before each value, 0 where there is no such option. Of each code it is the first.
-#[derive(Clone, Copy, Debug)]
+#[derive(Clone, Copy)]
 pub(crate) struct Places {
     pub(crate) requested: usize,
     pub(crate) overload: usize,

@@ -3,7 +3,7 @@ ghost use Rattle.std.specs.Prelude.{◌≡◌};
 ghost use Rattle.v4_options.specs.Reading.{has_code, no_code, with_code};
 
 /// A set of codes.
-#[derive(Debug, Drop)]
+#[derive(Drop)]
 pub(crate) struct SeenCodes {
     flags: [bool; 256],
 }

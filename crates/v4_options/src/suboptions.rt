@@ -12,7 +12,7 @@ use crate::token::Syntax;
 use std::marker::Model;
 
 /// A list of suboptions in the bytes that it was read from. Its values are slices of those bytes.
-#[derive(Debug, Drop)]
+#[derive(Drop)]
 pub struct Suboptions<'a> {
     bytes: &'a [u8],
 }

@@ -8,14 +8,14 @@ use wire::{Cursor, Short};
 
 /// What a list holds. Options have pads and an end (RFC 2132, section 2). Suboptions have neither:
 /// codes 0 and 255 are like any other there (RFC 3046, section 2.0).
-#[derive(Clone, Copy, Debug)]
+#[derive(Clone, Copy)]
 pub(crate) enum Syntax {
     Options,
     Suboptions,
 }
 
 /// The next item of a list.
-#[derive(Clone, Copy, Debug)]
+#[derive(Clone, Copy)]
 pub(crate) enum Token<'a> {
     /// No bytes are left.
     Nothing,

@@ -21,7 +21,7 @@ const IA_OPTIONS: usize = 12;
 const MAX_ADDRESSES: u8 = 4;
 
 /// An IA_NA in the value that it was read from. Its options are slices of that value.
-#[derive(Debug, Drop)]
+#[derive(Drop)]
 pub struct Ia6<'a> {
     value: &'a [u8],
     options: Options<'a>,

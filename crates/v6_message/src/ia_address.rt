@@ -16,7 +16,7 @@ use wire::{Full, PacketBuf};
 pub(crate) const IA_ADDRESS_OPTIONS: u16 = 24;
 
 /// An address in an IA_NA, by the standard's names. The lifetimes are seconds.
-#[derive(Clone, Copy, Debug, PartialEq, Eq)]
+#[derive(Clone, Copy, PartialEq, Eq)]
 pub struct IaAddress {
     pub address: Addr6,
     pub preferred_lifetime: u32,
@@ -46,7 +46,7 @@ impl IaAddress {
 
 /// The addresses of an IA_NA that are still to come, in order. Other options, and those inside an
 /// address, are ignored.
-#[derive(Debug, Drop)]
+#[derive(Drop)]
 pub struct Addresses<'a> {
     left: Iter<'a>,
 }

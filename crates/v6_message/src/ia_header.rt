@@ -11,7 +11,7 @@ use wire::{Full, PacketBuf};
 const NUMBERS: u16 = 12;
 
 /// The fields before the options, by the standard's names. T1 and T2 are seconds.
-#[derive(Clone, Copy, Debug)]
+#[derive(Clone, Copy)]
 pub struct IaHeader {
     pub iaid: u32,
     pub t1: u32,

@@ -24,7 +24,7 @@ const HEADER: usize = 4;
 
 /// A client's or server's message in the bytes that it was read from. Its fields are slices of those
 /// bytes, or small values. The type is not tested.
-#[derive(Debug, Drop)]
+#[derive(Drop)]
 pub struct Message6<'a> {
     bytes: &'a [u8],
     options: Options<'a>,

@@ -4,7 +4,7 @@ ghost use Rattle.std.specs.Prelude.{◌≡◌, ◌≤◌, ◌+◌, ◌↔◌, []
 use wire::{Full, PacketBuf};
 
 /// The fields by the standard's names. `kind` is the message type.
-#[derive(Clone, Copy, Debug)]
+#[derive(Clone, Copy)]
 pub struct MessageHeader {
     pub kind: u8,
     pub transaction_id: [u8; 3],

@@ -19,7 +19,7 @@ const HEADER: usize = 34;
 
 /// A Relay-forward or Relay-reply in the bytes that it was read from. Its fields are slices of those
 /// bytes, or small values. The type is not tested.
-#[derive(Debug, Drop)]
+#[derive(Drop)]
 pub struct Relay6<'a> {
     bytes: &'a [u8],
     options: Options<'a>,

@@ -12,7 +12,7 @@ pub const RELAY_FORWARD: u8 = 12;
 pub const RELAY_REPLY: u8 = 13;
 
 /// The fields by the standard's names. `kind` is the message type.
-#[derive(Clone, Copy, Debug)]
+#[derive(Clone, Copy)]
 pub struct RelayHeader {
     pub kind: u8,
     pub hop_count: u8,

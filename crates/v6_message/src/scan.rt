@@ -9,14 +9,14 @@ use v6_options::{Token, code, next_token};
 use wire::Cursor;
 
 /// Whose options they are: those of a client's or server's message, or of a relay's.
-#[derive(Clone, Copy, Debug)]
+#[derive(Clone, Copy)]
 pub(crate) enum Sender {
     Client,
     Relay,
 }
 
 /// Why the options are none of a message.
-#[derive(Clone, Copy, Debug)]
+#[derive(Clone, Copy)]
 pub(crate) enum ListFault {
     Cut,
     Twice,

@@ -5,7 +5,7 @@ ghost use Rattle.v6_message.specs.Reading.{is_again};
 
 use crate::scan::Sender;
 
-#[derive(Debug, Drop)]
+#[derive(Drop)]
 pub(crate) struct SeenCodes {
     sender: Sender,
     first: bool,

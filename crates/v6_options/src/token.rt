@@ -7,7 +7,7 @@ ghost use Rattle.v6_options.specs.Token.{Begins};
 use wire::{Cursor, Short};
 
 /// The next item of a list.
-#[derive(Clone, Copy, Debug)]
+#[derive(Clone, Copy)]
 pub enum Token<'a> {
     /// No bytes are left.
     Nothing,

@@ -13,7 +13,7 @@ pub struct Short;
 
 /// A place in a source of bytes. What it gives are slices of the source; after a refusal it stands
 /// where it stood.
-#[derive(Debug, Drop)]
+#[derive(Drop)]
 pub struct Cursor<'a> {
     left: &'a [u8],
 }

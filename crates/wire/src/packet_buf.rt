@@ -17,7 +17,7 @@ pub struct Full;
 
 /// The bytes of one datagram, at most 1280. They lie in the value itself, so it is made once and
 /// lent from then on.
-#[derive(Debug, Drop)]
+#[derive(Drop)]
 pub struct PacketBuf {
     bytes: ArrayVec<u8, 1280>,
 }

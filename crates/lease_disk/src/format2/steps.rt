@@ -13,7 +13,7 @@ use crate::marks::{Mark, Marks};
 use types::Moment;
 
 /// The three writes of a save. A sync of the region follows each.
-#[derive(Clone, Copy, Debug, PartialEq, Eq)]
+#[derive(Clone, Copy, PartialEq, Eq)]
 pub enum SaveStep {
     /// Closes the gate of the half that does not count. A gate that reads closed already is not written
     /// to: while its byte is in doubt, it could become an open gate before a half that must not count.

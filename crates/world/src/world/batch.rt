@@ -33,7 +33,7 @@ const NOWHERE: Source = Source {
 };
 
 /// A part of a batch whose datagram waits for the server.
-#[derive(Clone, Copy, Debug)]
+#[derive(Clone, Copy)]
 struct Waiting {
     circuit: Circuit,
     /// Which datagram of the circuit it is.
