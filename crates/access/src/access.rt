@@ -1,12 +1,13 @@
 //! Relay and server over sockets.
-ghost use Rattle.std.specs.Prelude.{◌≡◌, ◌≤◌, ◌<◌, ◌+◌, ◌*◌, ◌↔◌, ℕ, [], length, map, true, is_some, Some, slice_get, Err, IfOk, IfErr};
+ghost use Rattle.std.specs.Prelude.{◌≡◌, ◌≤◌, ◌<◌, ◌+◌, ◌*◌, ◌↔◌, ℕ, [], length, map, true, is_some, Some, slice_get, All, Err, IfOk, IfErr};
 ghost use Rattle.access.specs.Access.{HasCarried, HasCounted, HasReached, HasServed, HasServedTurns, HasTurned, RefusesSocket, StayClosed, books_at};
 ghost use Rattle.counts.specs.Counts.{more_by, none};
 ghost use Rattle.opening.specs.Opening.{found_format, was_old};
-ghost use Rattle.sockets.specs.Sockets.{IsSocket, WasRefused};
+ghost use Rattle.sockets.specs.Sockets.{AreBound, IsSocket, Refuses, WasRefused};
 ghost use Rattle.access.specs.Turn.{Both, CircuitSocket, CircuitsSockets, RelaySocket, RelaysSockets};
 ghost use Rattle.types.specs.declared.dest.Proto.TheVariants.{V4, V6};
 ghost use Rattle.access.specs.declared.access.AccessFault.TheVariants as fault;
+ghost use Rattle.dispatch.specs.declared.server.OpenFault.TheVariants as open_fault;
 ghost use Rattle.config.specs.CircuitPart.{parts_of};
 ghost use Rattle.dispatch.specs.Regions.{HasRegions};
 ghost use Rattle.dispatch.specs.ServerValue.{books_in};
@@ -90,6 +91,70 @@ impl Model for Access {
     ghost invariant = { λ a. IsAccess a.relays.topology a.sockets a.server a.disk.regions a.port a.batch.most a.history.id a.listen4 a.listen6 };
 }
 
+/// What is opened before the sockets.
+#[derive(Drop)]
+struct Engine {
+    relays: Relays,
+    server: Server,
+    disk: FileDisk,
+    formats: Formats,
+}
+
+/// Opens server and relays of a configuration of at most 16 circuits over a device.
+fn open_engine(alloc: Global, config: &Config, mut disk: FileDisk) -> Result<Engine, OpenFault>
+    requires few { length config.now.circuits ≤ 16 }
+    ensures topology { IfOk result (λ engine. engine.relays.topology ≡ topology_of config.now) }
+    ensures sound { IfOk result (λ engine. IsTopology (topology_of config.now)) }
+    ensures served { IfOk result (λ engine. engine.server.topology ≡ topology_of config.now) }
+    ensures large { IfOk result (λ engine. HasRegions (parts_of config.now) engine.disk.regions) }
+    ensures count { IfOk result (λ engine. engine.disk.regions ≡ disk.regions) }
+    ensures formats { IfOk result (λ engine. length engine.formats.items ≡ length config.now.circuits) }
+    ensures reads { IfOk result (λ engine. engine.disk.reads ≤ disk.reads + 6 * length config.now.circuits) }
+    ensures writes { IfOk result (λ engine. engine.disk.writes ≤ disk.writes + 4 * length config.now.circuits) }
+    ensures small { IfErr result (λ why. why ≡ open_fault.DiskTooSmall → ¬ HasRegions (parts_of config.now) disk.regions) }
+{
+    let (server, formats) = match open_server(alloc, config, &mut disk) {
+        Ok(opened) => opened,
+        Err(why) => return Err(why),
+    };
+    match Relays::new(alloc, config) {
+        Ok(relays) => Ok(Engine {
+            relays,
+            server,
+            disk,
+            formats,
+        }),
+        Err(_) => Err(OpenFault::Memory),
+    }
+}
+
+/// Binds the sockets of a configuration, and watches them by a new waiter.
+fn bind_sockets<R: Net>(
+    net: &R,
+    alloc: Global,
+    config: &Config,
+    port: u16,
+    history: &mut History,
+) -> Result<(Sockets, Waiter), SocketFault>
+    requires few { length config.now.circuits ≤ 16 }
+    requires most { port ≤ 65472 }
+    ensures circuits { IfOk result (λ made. length made.0.circuits.items ≡ length config.now.circuits) }
+    ensures relays { IfOk result (λ made. length made.0.relays.items ≡ length config.now.relays) }
+    ensures behind { IfOk result (λ made. All (λ circuit. circuit.relay < length config.now.relays) made.0.circuits.items) }
+    ensures bound { IfOk result (λ made. AreBound (topology_of config.now) port history.old.id made.0) }
+    ensures same { history.new.id ≡ history.old.id }
+    ensures silent { IfOk result (λ _. history.new.entries ≡ history.old.entries) }
+    ensures refused { IfErr result (Refuses (λ at. IsSocket config.now port at × WasRefused history.old.entries history.new.entries at)) }
+{
+    let Ok(mut waiter) = Waiter::new(net, alloc, MAX_SOCKETS) else {
+        return Err(SocketFault::Memory);
+    };
+    match Sockets::bind(net, alloc, config, port, &mut waiter, history) {
+        Ok(sockets) => Ok((sockets, waiter)),
+        Err(why) => Err(why),
+    }
+}
+
 /// Whether the system binds each socket of a configuration now; all are given back at once. More than 16 circuits are refused
 /// first, then an address (`Socket`); `Memory` is out of memory.
 pub fn try_sockets<R: Net>(
@@ -104,11 +169,8 @@ pub fn try_sockets<R: Net>(
     if config.circuit_count() > MAX_SERVED {
         return Err(AccessFault::TooManyCircuits);
     }
-    let Ok(mut waiter) = Waiter::new(net, alloc, MAX_SOCKETS) else {
-        return Err(AccessFault::Memory);
-    };
     let mut opening = History::new();
-    match Sockets::bind(net, alloc, config, port, &mut waiter, &mut opening) {
+    match bind_sockets(net, alloc, config, port, &mut opening) {
         Ok(_) => Ok(()),
         Err(SocketFault::Memory) => Err(AccessFault::Memory),
         Err(SocketFault::Bind(at)) => Err(AccessFault::Socket(at)),
@@ -135,7 +197,7 @@ impl Access {
         net: &R,
         alloc: Global,
         config: &Config,
-        mut disk: FileDisk,
+        disk: FileDisk,
         port: u16,
         batch: u8,
         opening: &mut History,
@@ -164,27 +226,21 @@ impl Access {
         if config.circuit_count() > MAX_SERVED {
             return Err(AccessFault::TooManyCircuits);
         }
-        let (server, formats) = match open_server(alloc, config, &mut disk) {
-            Ok(opened) => opened,
+        let engine = match open_engine(alloc, config, disk) {
+            Ok(engine) => engine,
             Err(OpenFault::Memory) => return Err(AccessFault::Memory),
             Err(OpenFault::DiskTooSmall) => return Err(AccessFault::Disk),
         };
-        let Ok(relays) = Relays::new(alloc, config) else {
-            return Err(AccessFault::Memory);
-        };
-        let Ok(mut waiter) = Waiter::new(net, alloc, MAX_SOCKETS) else {
-            return Err(AccessFault::Memory);
-        };
-        let sockets = match Sockets::bind(net, alloc, config, port, &mut waiter, opening) {
-            Ok(sockets) => sockets,
+        let (sockets, waiter) = match bind_sockets(net, alloc, config, port, opening) {
+            Ok(bound) => bound,
             Err(SocketFault::Memory) => return Err(AccessFault::Memory),
             Err(SocketFault::Bind(at)) => return Err(AccessFault::Socket(at)),
         };
         Ok(Access {
-            relays,
-            server,
-            disk,
-            formats,
+            relays: engine.relays,
+            server: engine.server,
+            disk: engine.disk,
+            formats: engine.formats,
             sockets,
             listen4: config.server().listen4,
             listen6: config.server().listen6,
