@@ -168,7 +168,7 @@ impl fmt::Display for ConfigFault {
     }
 }
 
-// As the words, so that nothing that it names needs more.
+// Writes the words, so that no type in it has to derive `Debug`.
 impl fmt::Debug for ConfigFault {
     ghost debug_output = { λ fault. fault_words fault };
 
