@@ -1,9 +1,11 @@
 """Clients of a circuit of `accessd`, of both protocols, for several scripts."""
 import ipaddress
+import os
 import re
 import socket
 import struct
 import subprocess
+import time
 
 from messages import expand, read_options4, read_options6
 
@@ -14,6 +16,13 @@ NAMES = {OFFER: "OFFER", ACK: "ACK", NAK: "NAK"}
 ADVERTISE6, REPLY6 = 2, 7
 NAMES6 = {ADVERTISE6: "ADVERTISE", REPLY6: "REPLY"}
 COOKIE = bytes([99, 130, 83, 99])
+# how many times as long as it says each wait is, on a machine that gives its time to others
+PATIENCE = int(os.environ.get("HIGVASZTE_PATIENCE", "1"))
+
+
+def wait(seconds):
+    """Sleeps, so that what was sent is taken."""
+    time.sleep(seconds * PATIENCE)
 
 
 def address(text):
@@ -107,7 +116,7 @@ class Circuit:
 
     @staticmethod
     def next_of(end, seconds):
-        end.settimeout(seconds)
+        end.settimeout(seconds * PATIENCE)
         try:
             return end.recv(2048)
         except socket.timeout:
@@ -146,8 +155,10 @@ class Server:
 
     def __init__(self, program, config, leases, *words, turns=None, start=subprocess.Popen, **how):
         """Started by `start`, with these words more. Where no turns are given it serves until it is killed: without a pause the most
-        turns that there are would be over in less than a second in which nobody sends."""
+        turns that there are would be over in less than a second in which nobody sends. With a pause they are a time."""
         pause = () if turns or "--pause" in words else ("--pause", "1")
+        if turns and "--pause" in words:
+            turns *= PATIENCE
         command = [program, config, "--disk", leases, "--turns", str(turns or 1_000_000), *pause, *words]
         self.process = start(command, stderr=subprocess.PIPE, text=True, **how)
         self.first_line = self.process.stderr.readline().rstrip("\n")
@@ -159,7 +170,7 @@ class Server:
 
     def report(self):
         """Waits for its end, and returns what it reports then."""
-        return self.process.communicate(timeout=60)[1]
+        return self.process.communicate(timeout=60 * PATIENCE)[1]
 
     def counts(self):
         """The counts that it reports at its end, without what it says of circuits before that."""

@@ -1,13 +1,10 @@
 """How many exchanges end in a second with each server, how long one waits, and what processor time and memory it takes, for
 scripts/measure/peers: the same work for each of them in turn, several times."""
-import os
-import pathlib
 import statistics
 import subprocess
 import tempfile
-import time
 
-from bench import dying_with_us
+from bench import dying_with_us, undisturbed
 from operator_script import Refused
 from peers_network import Network
 from peers_servers import PORT, ROOMY_POOL, Run
@@ -23,9 +20,6 @@ WORKS = {
 CELLS = ((1, 1, 1), (1, 16, 16), (16, 1, 1), (16, 16, 16))
 # a load that takes longer has failed
 LIMIT = 60
-# Seconds of processor time that a virtual machine's host may take from it during a run that counts, how often a run is made
-# again for that, and after how many seconds
-STOLEN, AGAIN, PAUSE = 0.02, 9, 2
 
 
 class Load:
@@ -69,20 +63,9 @@ def measured(load, run):
             "memory": run.memory(), "refused": refused, "silent": silent}
 
 
-def stolen():
-    """The seconds of processor time that this machine's host has taken from it so far."""
-    return int(pathlib.Path("/proc/stat").read_text().split()[8]) / os.sysconf("SC_CLK_TCK")
-
-
 def measure(bench, server, protocol, work, cell):
-    """A run in which the host took next to nothing, or of several the one in which it took least."""
-    tries = []
-    while not tries or tries[-1][0] > STOLEN and len(tries) <= AGAIN:
-        time.sleep(PAUSE if tries else 0)
-        before = stolen()
-        row = measured_once(bench, server, protocol, work, cell)
-        tries.append((stolen() - before, row))
-    return min(tries, key=lambda one: one[0])[1]
+    """A run in which the host took next to nothing away."""
+    return undisturbed(lambda: measured_once(bench, server, protocol, work, cell))
 
 
 def measured_once(bench, server, protocol, work, cell):

@@ -3,9 +3,8 @@ three syncs, and acknowledged after the last of them. Without `--batch` a turn t
 own and acknowledges it. The first save of a slot after the formatting has no gate to close, and no first write
 (docs/FORMATS.md, The disk)."""
 import signal
-import time
 
-from client import DISCOVER, REQUEST, Circuit, Server, frame, frame6, select
+from client import DISCOVER, REQUEST, Circuit, Server, frame, frame6, select, wait
 from system_calls import Watch
 
 circuits = [Circuit(23000 + 4 * index) for index in range(4)]
@@ -17,7 +16,7 @@ def leases(*words):
     server = Server("accessd", "config.toml", "leases", "--format", "--port", "23000", "--pause", "20", *words, start=watch.start)
     offers = [circuit.exchange(DISCOVER, 1) for circuit in circuits[:2]]
     # it waits for a datagram now
-    time.sleep(0.1)
+    wait(0.1)
     server.process.send_signal(signal.SIGSTOP)
     count = len(watch.calls)
     for circuit, offer in zip(circuits, offers):

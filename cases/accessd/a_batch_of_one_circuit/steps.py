@@ -2,9 +2,8 @@
 second client is offered the address after that of the first. Each is answered once, and none is counted as dropped. The server
 takes from its two sockets by turns, from that of DHCPv4 first."""
 import signal
-import time
 
-from client import Circuit, Server
+from client import Circuit, Server, wait
 from messages import expand
 from system_calls import sockets_of
 
@@ -15,7 +14,7 @@ server = Server("accessd", "config.toml", "leases", "--format", "--batch", "16",
 circuit = Circuit(20000)
 relay = sockets_of(server.process)[RELAY]
 # it waits for a datagram now
-time.sleep(0.1)
+wait(0.1)
 server.process.send_signal(signal.SIGSTOP)
 for words, listen in DATAGRAMS:
     relay.sendto(bytes.fromhex(expand(words)), listen)

@@ -7,9 +7,8 @@ answer afterwards, those with leases in the file."""
 import itertools
 import signal
 import subprocess
-import time
 
-from client import DISCOVER, REQUEST, Circuit, Server, frame, frame6, select
+from client import DISCOVER, REQUEST, Circuit, Server, frame, frame6, select, wait
 from system_calls import Watch
 
 circuits = [Circuit(23000 + 4 * index) for index in range(4)]
@@ -18,7 +17,7 @@ of4, of6 = circuits[:2], circuits[2:]
 
 def answered():
     """The names of the circuits whose clients receive something in a while."""
-    time.sleep(0.5)
+    wait(0.5)
     answers = [circuit.receive(0.01) for circuit in of4] + [circuit.receive6(0.01) for circuit in of6]
     return " ".join(f"c{index}" for index, answer in enumerate(answers) if answer) or "none"
 
@@ -29,7 +28,7 @@ def row(name, k):
                     start=watch.start)
     offers = [circuit.exchange(DISCOVER, 1) for circuit in of4]
     # it waits for a datagram now
-    time.sleep(0.1)
+    wait(0.1)
     server.process.send_signal(signal.SIGSTOP)
     watch.fail(k, (name,))
     count = len(watch.calls)

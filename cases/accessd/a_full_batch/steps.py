@@ -4,9 +4,8 @@ after the last. The first save of a slot after the formatting has no gate to clo
 a turn takes, the server sends as many acknowledgements as it saved leases, right after the third sync, and never more than 16."""
 import itertools
 import signal
-import time
 
-from client import DISCOVER, REQUEST, Circuit, Server, frame, frame6, select
+from client import DISCOVER, REQUEST, Circuit, Server, frame, frame6, select, wait
 from system_calls import Watch, copies
 
 ROUNDS = 20
@@ -34,7 +33,7 @@ def answers():
 def together(options, kind6):
     """The answers to messages that are sent while the program stands still, and its calls until then."""
     # it waits for a datagram now
-    time.sleep(0.1)
+    wait(0.1)
     server.process.send_signal(signal.SIGSTOP)
     count = len(watch.calls)
     ask(options, kind6)

@@ -3,7 +3,7 @@ protocol alone, from the port that it sent to: first one client after the other,
 one go."""
 import select
 
-from client import DISCOVER, Answer, Answer6, Circuit, Server, frame, frame6
+from client import DISCOVER, PATIENCE, Answer, Answer6, Circuit, Server, frame, frame6
 
 PORT = 23000
 server = Server("accessd", "config.toml", "leases", "--format", "--port", str(PORT), "--pause", "50", turns=300)
@@ -14,7 +14,7 @@ ENDS = {end: kind for circuit in circuits for end, kind in ((circuit.socket, Ans
 def show(count):
     """Shows what comes to any client, by port: so many answers, and whatever else comes soon after."""
     found = []
-    while ready := select.select(list(ENDS), [], [], 2 if len(found) < count else 0.1)[0]:
+    while ready := select.select(list(ENDS), [], [], PATIENCE * (2 if len(found) < count else 0.1))[0]:
         for end in ready:
             datagram, source = end.recvfrom(2048)
             answer = ENDS[end](datagram)

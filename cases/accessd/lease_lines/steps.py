@@ -4,7 +4,7 @@ in a second or two; an address that is declined is given to nobody for an hour."
 import subprocess
 import time
 
-from client import DISCOVER, REQUEST, RELEASE, Circuit, Server, frame, select
+from client import DISCOVER, REQUEST, RELEASE, Circuit, Server, frame, select, wait
 
 DECLINE = 4
 began = int(time.time())
@@ -23,7 +23,7 @@ with open("leases", "wb") as file:
 server = Server("accessd", "config.toml", "leases", "--leases", "--pause", "5", stdout=subprocess.PIPE)
 circuit = Circuit(20000)
 # until both have ended
-time.sleep(3.2)
+wait(3.2)
 lease = circuit.exchange(DISCOVER, 1)
 print(circuit.exchange(REQUEST, 1, select(lease)))
 # renewed
@@ -31,14 +31,14 @@ print(circuit.exchange(REQUEST, 1, select(lease)))
 second = circuit.exchange(DISCOVER, 2)
 print(circuit.exchange(REQUEST, 2, select(second)))
 circuit.send(frame(DECLINE, 2, bytes([50, 4]) + second.address))
-time.sleep(0.1)
+wait(0.1)
 circuit.send(frame(RELEASE, 1, ciaddr=lease.address))
-time.sleep(0.1)
+wait(0.1)
 circuit.exchange(REQUEST, 3, select(circuit.exchange(DISCOVER, 3)))
 six = circuit.exchange6("REQUEST6", 1, "ours")
 print(six)
 print(circuit.exchange6("RELEASE6", 1, "ours", str(six.address)))
-time.sleep(0.1)
+wait(0.1)
 ended = int(time.time())
 server.process.kill()
 lines, _ = server.process.communicate()

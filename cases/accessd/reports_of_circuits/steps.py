@@ -2,9 +2,8 @@
 whom it names, alone (18) and in a batch (24, 24; the program stands still while both are sent, so that one turn takes them), and one
 that a batch puts off (24 and 17 of one circuit). A circuit of which nothing was dropped has no line."""
 import signal
-import time
 
-from client import DISCOVER, RELEASE, REQUEST, Circuit, Server, frame, select
+from client import DISCOVER, RELEASE, REQUEST, Circuit, Server, frame, select, wait
 
 NOWHERE = bytes([10, 9, 9, 9])
 server = Server("accessd", "config.toml", "leases", "--format", "--report", "60", "--pause", "20", "--batch", "16", turns=150)
@@ -14,13 +13,13 @@ print(*offers, sep="\n")
 second.send(frame(DISCOVER, 2, bytes.fromhex("520401026131")))
 third.send6(bytes(16) + bytes.fromhex("0c000000"))
 third.send(frame(REQUEST, 1, bytes([54, 4]) + NOWHERE + bytes([50, 4]) + offers[2].address))
-time.sleep(0.2)
+wait(0.2)
 server.process.send_signal(signal.SIGSTOP)
 for circuit in (second, third):
     circuit.send(frame(RELEASE, 1))
 server.process.send_signal(signal.SIGCONT)
 print(first.exchange(REQUEST, 1, select(offers[0])))
-time.sleep(0.2)
+wait(0.2)
 server.process.send_signal(signal.SIGSTOP)
 third.send(frame(RELEASE, 1))
 third.send(frame(DISCOVER, 3, bytes([61, 1, 0])))
