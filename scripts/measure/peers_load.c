@@ -46,9 +46,10 @@ enum {
     BUFFER = 2048,
     /* of a transaction number's 24 bits these are the message's, and the others the client's */
     COUNT_BITS = 14,
-    /* the lease time that a client asks for, in seconds, and how many less it may be */
+    /* The lease time that a client asks for, in seconds, and how many less it is by turns. A prime, so that no number of clients that
+       take their turns has each ask for what it has: a server that finds a lease as it was may save nothing. */
     LEASE = 600,
-    LESS = 256,
+    LESS = 251,
     MOST_WAITS = 1 << 22,
     GROUP = 100,
 };
