@@ -14,7 +14,7 @@ LIMIT = 30
 SET_DEATH_SIGNAL = 1
 # Seconds of processor time that a virtual machine's host may take from it during a run that counts, how often a run is made
 # again for that, and after how many seconds
-STOLEN, AGAIN, PAUSE = 0.02, 9, 2
+MOST, AGAIN, PAUSE = 0.02, 9, 2
 
 
 def compile_c(name, folder, *options, parts=()):
@@ -45,17 +45,17 @@ def dying_with_us(number):
     return prepare
 
 
-def stolen():
+def host_seconds():
     """The seconds of processor time that this machine's host has taken from it so far."""
     return int(pathlib.Path("/proc/stat").read_text().split()[8]) / os.sysconf("SC_CLK_TCK")
 
 
-def undisturbed(run):
+def quietest(run):
     """What this gives when the host took next to nothing meanwhile, or of several runs the one in which it took least."""
     tries = []
-    while not tries or tries[-1][0] > STOLEN and len(tries) <= AGAIN:
+    while not tries or tries[-1][0] > MOST and len(tries) <= AGAIN:
         time.sleep(PAUSE if tries else 0)
-        before = stolen()
+        before = host_seconds()
         found = run()
-        tries.append((stolen() - before, found))
+        tries.append((host_seconds() - before, found))
     return min(tries, key=lambda one: one[0])[1]

@@ -1,11 +1,9 @@
 """Clients of a circuit of `accessd`, of both protocols, for several scripts."""
 import ipaddress
-import os
 import re
 import socket
 import struct
 import subprocess
-import time
 
 from messages import expand, read_options4, read_options6
 
@@ -16,13 +14,8 @@ NAMES = {OFFER: "OFFER", ACK: "ACK", NAK: "NAK"}
 ADVERTISE6, REPLY6 = 2, 7
 NAMES6 = {ADVERTISE6: "ADVERTISE", REPLY6: "REPLY"}
 COOKIE = bytes([99, 130, 83, 99])
-# how many times as long as it says each wait is, on a machine that gives its time to others
-PATIENCE = int(os.environ.get("HIGVASZTE_PATIENCE", "1"))
-
-
-def wait(seconds):
-    """Sleeps, so that what was sent is taken."""
-    time.sleep(seconds * PATIENCE)
+# how long an answer may take, in seconds: long, since a machine may give its time to others
+LIMIT = 30
 
 
 def address(text):
@@ -105,7 +98,7 @@ class Circuit:
     def bound(port):
         end = socket.socket(socket.AF_INET, socket.SOCK_DGRAM)
         end.bind((LOOPBACK, port))
-        end.settimeout(2)
+        end.settimeout(LIMIT)
         return end
 
     def send(self, datagram):
@@ -116,18 +109,18 @@ class Circuit:
 
     @staticmethod
     def next_of(end, seconds):
-        end.settimeout(seconds * PATIENCE)
+        end.settimeout(seconds)
         try:
             return end.recv(2048)
-        except socket.timeout:
+        except (socket.timeout, BlockingIOError):
             return None
 
-    def receive(self, seconds=2):
-        """The next answer, or None where none comes in this time."""
+    def receive(self, seconds=LIMIT):
+        """The next answer, or None where none comes in this time; in no time, where none has come."""
         datagram = self.next_of(self.socket, seconds)
         return None if datagram is None else Answer(datagram)
 
-    def receive6(self, seconds=2):
+    def receive6(self, seconds=LIMIT):
         datagram = self.next_of(self.socket6, seconds)
         return None if datagram is None else Answer6(datagram)
 
@@ -157,8 +150,6 @@ class Server:
         """Started by `start`, with these words more. Where no turns are given it serves until it is killed: without a pause the most
         turns that there are would be over in less than a second in which nobody sends. With a pause they are a time."""
         pause = () if turns or "--pause" in words else ("--pause", "1")
-        if turns and "--pause" in words:
-            turns *= PATIENCE
         command = [program, config, "--disk", leases, "--turns", str(turns or 1_000_000), *pause, *words]
         self.process = start(command, stderr=subprocess.PIPE, text=True, **how)
         self.first_line = self.process.stderr.readline().rstrip("\n")
@@ -170,7 +161,7 @@ class Server:
 
     def report(self):
         """Waits for its end, and returns what it reports then."""
-        return self.process.communicate(timeout=60 * PATIENCE)[1]
+        return self.process.communicate(timeout=60)[1]
 
     def counts(self):
         """The counts that it reports at its end, without what it says of circuits before that."""

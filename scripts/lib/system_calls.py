@@ -13,20 +13,20 @@ import struct
 import subprocess
 import sys
 import threading
-import time
 
 # x86-64
 NUMBERS = {"write": 18, "lengthen": 77, "sync": 75, "sync all": 74, "send": 44, "receive": 45, "look": 232}
 # what is watched by default: a server looks for datagrams all the time
 OUTGOING = ("write", "lengthen", "sync", "sync all", "send")
-# more looks and receives than a server of one circuit makes in two turns that take nothing: each of them looks where datagrams wait,
-# may find the sockets empty at which some waited before, and then waits for the next one
-TURNS = 20
+# the longest that a turn may last, in seconds
+LIMIT = 60
 SYS_SECCOMP, PR_SET_NO_NEW_PRIVS, SET_MODE_FILTER, NEW_LISTENER = 317, 38, 1, 8
 SYS_PIDFD_GETFD = 438
 ALLOW, ASK = 0x7FFF0000, 0x7FC00000
 LOAD, JUMP_IF_EQUAL, RETURN = 0x20, 0x15, 0x06
 RECEIVE, ANSWER, CONTINUE = 0xC0502100, 0xC0182101, 1
+# what a call returns: an error and flags, where it is not made
+GO_ON, FOUND_NOTHING = (0, CONTINUE), (0, 0)
 
 
 def rule(code, value, if_equal=0):
@@ -72,13 +72,18 @@ def sockets_of(process):
 
 
 class Watch:
-    """The calls of one program, in order, by the names above, and the descriptor that each was made with."""
+    """The calls of one program, in order, by the names above, and the descriptor that each was made with. A server's looks are no
+    part of them: they tell where its turns begin, and when it waits."""
 
     def __init__(self, names=OUTGOING):
         self.names = names
         self.calls, self.descriptors = [], []
         self.left, self.failing, self.kills = 0, (), False
         self.broken = []
+        # how many turns have begun, how many had when the server began to wait the last time, whether it still runs, and whether it
+        # no longer waits
+        self.turns, self.turns_at_rest, self.runs, self.is_hurried = 0, 0, True, False
+        self.changed = threading.Condition()
 
     def start(self, command, **how):
         """Starts the program, as subprocess.Popen does."""
@@ -99,14 +104,23 @@ class Watch:
         """Where it would make the k-th of its calls from now on, the program is killed."""
         self.left, self.failing, self.kills = k, tuple(NUMBERS), True
 
+    def settle(self):
+        """Waits until a turn that begins from now on has taken nothing, however long that lasts, or the server has ended: so
+        whatever was sent before has been taken and answered. Of the server's calls its looks have to be watched."""
+        with self.changed:
+            before = self.turns
+            if not self.changed.wait_for(lambda: self.turns_at_rest > before or not self.runs, LIMIT):
+                raise TimeoutError(f"no turn that takes nothing in {LIMIT} seconds")
+
+    def hurry(self):
+        """From now on the server waits for no datagram, so that its turns are soon over. Its looks have to be watched."""
+        self.is_hurried = True
+
     def break_receives(self, port):
-        """From now on every receive from the socket with this port fails with EIO, and no other one. Waits for the first, since
-        one that was let through may not be done yet. A server makes none where the system has told of no datagram; then it has
-        made so many other calls, of which its looks have to be watched as well, that a turn is over."""
+        """From now on every receive from the socket with this port fails with EIO, and no other one: once one that was let through
+        is done. Of the server's calls its looks have to be watched."""
         self.broken = [descriptor for descriptor, end in copies(self.process).items() if end.getsockname()[1] == port]
-        count = len(self.calls)
-        while "receive fails" not in self.calls[count:] and len(self.calls) < count + TURNS and self.process.poll() is None:
-            time.sleep(0.001)
+        self.settle()
 
     def mend_receives(self):
         self.broken = []
@@ -126,21 +140,37 @@ class Watch:
             except OSError:
                 # the program ended
                 continue
-            number, _, _, call, _, _, first_argument = struct.unpack_from("QIIiIQQ", question)
-            counts = names[call] in self.failing
-            self.left -= counts
-            is_broken = names[call] == "receive" and first_argument in self.broken
-            fails = counts and self.left == 0 or is_broken
-            if fails and self.kills:
-                self.process.kill()
-            self.descriptors.append(first_argument)
-            self.calls.append(names[call] + (" fails" if fails else ""))
-            how = (-errno.EIO, 0) if fails else (0, CONTINUE)
+            number, _, _, call, _, _, first_argument, _, _, fourth_argument = struct.unpack_from("QIIiIQQQQQ", question)
+            how = self.look(fourth_argument) if names[call] == "look" else self.call(names[call], first_argument)
             try:
                 fcntl.ioctl(descriptor, ANSWER, struct.pack("QqiI", number, 0, *how))
             except OSError:
                 continue
         os.close(descriptor)
+        with self.changed:
+            self.runs = False
+            self.changed.notify_all()
+
+    def look(self, milliseconds):
+        """A turn begins where the server looks and doesn't wait. It waits after a turn that took nothing."""
+        with self.changed:
+            if milliseconds == 0:
+                self.turns += 1
+            else:
+                self.turns_at_rest = self.turns
+                self.changed.notify_all()
+        return FOUND_NOTHING if milliseconds and self.is_hurried else GO_ON
+
+    def call(self, name, first_argument):
+        counts = name in self.failing
+        self.left -= counts
+        is_broken = name == "receive" and first_argument in self.broken
+        fails = counts and self.left == 0 or is_broken
+        if fails and self.kills:
+            self.process.kill()
+        self.descriptors.append(first_argument)
+        self.calls.append(name + (" fails" if fails else ""))
+        return (-errno.EIO, 0) if fails else GO_ON
 
 
 if __name__ == "__main__":

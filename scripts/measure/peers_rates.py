@@ -4,7 +4,7 @@ import statistics
 import subprocess
 import tempfile
 
-from bench import dying_with_us, undisturbed
+from bench import dying_with_us, quietest
 from operator_script import Refused
 from peers_network import Network
 from peers_servers import PORT, ROOMY_POOL, Run
@@ -65,7 +65,7 @@ def measured(load, run):
 
 def measure(bench, server, protocol, work, cell):
     """A run in which the host took next to nothing away."""
-    return undisturbed(lambda: measured_once(bench, server, protocol, work, cell))
+    return quietest(lambda: measured_once(bench, server, protocol, work, cell))
 
 
 def measured_once(bench, server, protocol, work, cell):

@@ -3,8 +3,10 @@
    machine, or nothing where the client happens to be awake, so that figures jump between two regimes.
        standin_load KIND CIRCUITS CLIENTS PORT WARM SECONDS
    KIND is 'offer' (a DISCOVER and its OFFER), 'lease' (these, a REQUEST and its ACK), 'together' (the same, and nobody begins
-   again before everybody has an ACK, as after a power cut) or 'renew' (the REQUEST and the ACK of a client that has its address). CLIENTS is how many there are over all circuits, at most 16 on each. After WARM seconds, and
-   once each client has a lease where KIND is 'renew', prints how many exchanges a second end in the next SECONDS. */
+   again before everybody has an ACK, as after a power cut), 'collect' (the same, and nobody asks for a lease before everybody has
+   an OFFER, as clients that wait for more offers) or 'renew' (the REQUEST and the ACK of a client that has its address). CLIENTS
+   is how many there are over all circuits, at most 16 on each. After WARM seconds, and once each client has a lease where KIND is
+   'renew', prints how many exchanges a second end in the next SECONDS. */
 #define _GNU_SOURCE
 #include <arpa/inet.h>
 #include <errno.h>
@@ -40,7 +42,7 @@ enum {
     ACK = 5,
 };
 
-enum what { WANTS_OFFERS, WANTS_LEASES, WANT_LEASES_TOGETHER, RENEWS };
+enum what { WANTS_OFFERS, WANTS_LEASES, WANT_LEASES_TOGETHER, COLLECT_OFFERS, RENEWS };
 
 struct client {
     unsigned char discover[BARE], request[SELECTING], renewal[BARE];
@@ -56,9 +58,9 @@ struct circuit {
 struct load {
     enum what what;
     int circuit_count, client_count;
-    /* how many exchanges ended, how many of those that began together, and how many clients hold a lease */
+    /* how many exchanges ended; how many clients of those that began together have an OFFER, and an ACK; how many hold a lease */
     long done;
-    int ended, holders;
+    int offered, ended, holders;
     struct circuit circuits[MOST_CIRCUITS];
 };
 
@@ -111,15 +113,14 @@ static void send_to(struct circuit *circuit, const unsigned char *message, size_
     }
 }
 
-/* Asks for what this answer offers. */
-static void select_offer(struct circuit *circuit, struct client *client, const unsigned char *answer) {
+/* The client's REQUEST is for what this answer offers. */
+static void select_offer(struct client *client, const unsigned char *answer) {
     unsigned char *options = client->request + OPTIONS;
     memcpy(options, (unsigned char[]){54, 4}, 2);
     memcpy(options + 2, answer + SERVER_ID, 4);
     memcpy(options + 6, (unsigned char[]){50, 4}, 2);
     memcpy(options + 8, answer + YIADDR, 4);
     options[12] = 255;
-    send_to(circuit, client->request, SELECTING);
 }
 
 /* Asks again for the address of this acknowledgement. */
@@ -132,11 +133,23 @@ static void renew(struct load *load, struct circuit *circuit, struct client *cli
     send_to(circuit, client->renewal, BARE);
 }
 
-/* Every client sends its DISCOVER. */
-static void discover(struct load *load) {
+/* Every client sends its DISCOVER, or its REQUEST. */
+static void send_all(struct load *load, bool asks) {
     for (int index = 0; index < load->client_count; index++) {
         struct circuit *circuit = &load->circuits[index % load->circuit_count];
-        send_to(circuit, circuit->clients[index / load->circuit_count].discover, BARE);
+        struct client *client = &circuit->clients[index / load->circuit_count];
+        send_to(circuit, asks ? client->request : client->discover, asks ? SELECTING : BARE);
+    }
+}
+
+/* A client has an OFFER, and asks for what that offers: at once, or once everybody has one. */
+static void ask(struct load *load, struct circuit *circuit, struct client *client, const unsigned char *answer) {
+    select_offer(client, answer);
+    if (load->what != COLLECT_OFFERS) {
+        send_to(circuit, client->request, SELECTING);
+    } else if (++load->offered == load->client_count) {
+        load->offered = 0;
+        send_all(load, true);
     }
 }
 
@@ -145,11 +158,11 @@ static void begin_again(struct load *load, struct circuit *circuit, struct clien
     load->done++;
     if (load->what == RENEWS) {
         renew(load, circuit, client, answer);
-    } else if (load->what != WANT_LEASES_TOGETHER) {
+    } else if (load->what != WANT_LEASES_TOGETHER && load->what != COLLECT_OFFERS) {
         send_to(circuit, client->discover, BARE);
     } else if (++load->ended == load->client_count) {
         load->ended = 0;
-        discover(load);
+        send_all(load, false);
     }
 }
 
@@ -164,7 +177,7 @@ static void take(struct load *load, struct circuit *circuit, const unsigned char
         fail("an answer that is no OFFER and no ACK");
     }
     if (is_offer && load->what != WANTS_OFFERS) {
-        select_offer(circuit, client, answer);
+        ask(load, circuit, client, answer);
     } else {
         begin_again(load, circuit, client, answer);
     }
@@ -216,12 +229,12 @@ static void begin(struct load *load, int port) {
         make_message(client->request, REQUEST, place + 1);
         make_message(client->renewal, REQUEST, place + 1);
     }
-    discover(load);
+    send_all(load, false);
 }
 
 static bool read_kind(const char *word, enum what *what) {
-    static const char *const kinds[] = {"offer", "lease", "together", "renew"};
-    for (int kind = 0; kind < 4; kind++) {
+    static const char *const kinds[] = {"offer", "lease", "together", "collect", "renew"};
+    for (int kind = 0; kind < 5; kind++) {
         if (strcmp(word, kinds[kind]) == 0) {
             *what = (enum what)kind;
             return true;
@@ -233,7 +246,7 @@ static bool read_kind(const char *word, enum what *what) {
 int main(int count, char **words) {
     static struct load load;
     if (count != 7 || !read_kind(words[1], &load.what)) {
-        fprintf(stderr, "usage: standin_load offer|lease|together|renew CIRCUITS CLIENTS PORT WARM SECONDS\n");
+        fprintf(stderr, "usage: standin_load offer|lease|together|collect|renew CIRCUITS CLIENTS PORT WARM SECONDS\n");
         return 2;
     }
     load.circuit_count = atoi(words[2]);

@@ -2,31 +2,26 @@
 three syncs, and acknowledged after the last of them. Without `--batch` a turn takes one of them, saves it by three syncs of its
 own and acknowledges it. The first save of a slot after the formatting has no gate to close, and no first write
 (docs/FORMATS.md, The disk)."""
-import signal
-
-from client import DISCOVER, REQUEST, Circuit, Server, frame, frame6, select, wait
-from system_calls import Watch
+from client import DISCOVER, REQUEST, Circuit, frame, frame6, select
+from watched_server import WatchedServer
 
 circuits = [Circuit(23000 + 4 * index) for index in range(4)]
 
 
 def leases(*words):
     """The answers to four requests that are sent while the program stands still, and its calls until then."""
-    watch = Watch()
-    server = Server("accessd", "config.toml", "leases", "--format", "--port", "23000", "--pause", "20", *words, start=watch.start)
+    server = WatchedServer("accessd", "config.toml", "leases", "--format", "--port", "23000", *words)
     offers = [circuit.exchange(DISCOVER, 1) for circuit in circuits[:2]]
-    # it waits for a datagram now
-    wait(0.1)
-    server.process.send_signal(signal.SIGSTOP)
-    count = len(watch.calls)
-    for circuit, offer in zip(circuits, offers):
-        circuit.send(frame(REQUEST, 1, select(offer)))
-    for circuit in circuits[2:]:
-        circuit.send6(frame6("REQUEST6", 1, "ours"))
-    server.process.send_signal(signal.SIGCONT)
-    answers = [circuit.receive() for circuit in circuits[:2]] + [circuit.receive6() for circuit in circuits[2:]]
+    with server.standing_still():
+        count = len(server.watch.calls)
+        for circuit, offer in zip(circuits, offers):
+            circuit.send(frame(REQUEST, 1, select(offer)))
+        for circuit in circuits[2:]:
+            circuit.send6(frame6("REQUEST6", 1, "ours"))
+    server.settle()
+    answers = [circuit.receive(0) for circuit in circuits[:2]] + [circuit.receive6(0) for circuit in circuits[2:]]
     print(*answers, sep="\n")
-    print("after:", watch.since(count))
+    print("after:", server.watch.since(count))
     server.kill()
 
 

@@ -5,45 +5,40 @@ alone, and its region is not written again; where a sync fails all circuits that
 lease, and the file has it. Each row: the call that fails, the circuits whose clients have an answer, the calls, the circuits that
 answer afterwards, those with leases in the file."""
 import itertools
-import signal
 import subprocess
 
-from client import DISCOVER, REQUEST, Circuit, Server, frame, frame6, select, wait
-from system_calls import Watch
+from client import DISCOVER, REQUEST, Circuit, frame, frame6, select
+from watched_server import WatchedServer
 
 circuits = [Circuit(23000 + 4 * index) for index in range(4)]
 of4, of6 = circuits[:2], circuits[2:]
 
 
-def answered():
-    """The names of the circuits whose clients receive something in a while."""
-    wait(0.5)
-    answers = [circuit.receive(0.01) for circuit in of4] + [circuit.receive6(0.01) for circuit in of6]
+def answered(server):
+    """The names of the circuits whose clients have an answer once the server has taken what was sent."""
+    server.settle()
+    answers = [circuit.receive(0) for circuit in of4] + [circuit.receive6(0) for circuit in of6]
     return " ".join(f"c{index}" for index, answer in enumerate(answers) if answer) or "none"
 
 
 def row(name, k):
-    watch = Watch()
-    server = Server("accessd", "config.toml", "leases", "--format", "--port", "23000", "--pause", "20", "--batch", "16",
-                    start=watch.start)
+    server = WatchedServer("accessd", "config.toml", "leases", "--format", "--port", "23000", "--batch", "16")
+    watch = server.watch
     offers = [circuit.exchange(DISCOVER, 1) for circuit in of4]
-    # it waits for a datagram now
-    wait(0.1)
-    server.process.send_signal(signal.SIGSTOP)
-    watch.fail(k, (name,))
-    count = len(watch.calls)
-    for circuit, offer in zip(of4, offers):
-        circuit.send(frame(REQUEST, 1, select(offer)))
-    for circuit in of6:
-        circuit.send6(frame6("REQUEST6", 1, "ours"))
-    server.process.send_signal(signal.SIGCONT)
-    acknowledged = answered()
+    with server.standing_still():
+        watch.fail(k, (name,))
+        count = len(watch.calls)
+        for circuit, offer in zip(of4, offers):
+            circuit.send(frame(REQUEST, 1, select(offer)))
+        for circuit in of6:
+            circuit.send6(frame6("REQUEST6", 1, "ours"))
+    acknowledged = answered(server)
     calls = [call for call in watch.calls[count:] if call != "send"]
     for circuit in of4:
         circuit.send(frame(DISCOVER, 2))
     for circuit in of6:
         circuit.send6(frame6("SOLICIT6", 2))
-    served = answered()
+    served = answered(server)
     server.kill()
     listed = subprocess.run(("leases", "config.toml", "--disk", "leases"), capture_output=True, text=True, check=True).stdout
     leased = " ".join(dict.fromkeys(line.split()[0] for line in listed.splitlines())) or "none"

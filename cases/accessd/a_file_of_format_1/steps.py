@@ -10,7 +10,8 @@ The first lines of `output` are what `leases` of that commit wrote for the file.
 import shutil
 import subprocess
 
-from client import DISCOVER, REQUEST, Circuit, Server, address, frame, select
+from client import DISCOVER, REQUEST, Circuit, address, frame, select
+from watched_server import WatchedServer
 
 # the clock of `a`
 AT = "4103472461"
@@ -44,8 +45,7 @@ show_start()
 print("nothing is written by a second start:", content() == moved)
 print("the old banks are still there:", moved[:8192] == content("leases.format1")[:8192])
 
-# with a pause its turns are not over before the clients are done
-server = Server("accessd", "config.toml", "leases", "--pause", "1")
+server = WatchedServer("accessd", "config.toml", "leases")
 circuit, other = Circuit(20000), Circuit(20004)
 circuit.send(frame(REQUEST, 1, ciaddr=address("10.0.0.10")))
 print(circuit.receive())
@@ -53,8 +53,7 @@ print(circuit.exchange6("RENEW6", 2, "ours", "2001:db8::101"))
 print("of four addresses two are leased, and one was declined")
 offer = circuit.exchange(DISCOVER, 7)
 print(circuit.exchange(REQUEST, 7, select(offer)))
-circuit.send(frame(DISCOVER, 8))
-print(circuit.receive(0.2))
+print(server.answer(circuit, DISCOVER, 8))
 print("the first address that was not leased, and the one that was released")
 print(other.exchange(DISCOVER, 7))
 print(other.exchange6("SOLICIT6", 7))

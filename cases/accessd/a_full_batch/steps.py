@@ -3,18 +3,17 @@ after the last. The first save of a slot after the formatting has no gate to clo
 (docs/FORMATS.md, The disk). Then every client renews its lease again and again, with nothing that makes them ask at once: whatever
 a turn takes, the server sends as many acknowledgements as it saved leases, right after the third sync, and never more than 16."""
 import itertools
-import signal
 
-from client import DISCOVER, REQUEST, Circuit, Server, frame, frame6, select, wait
-from system_calls import Watch, copies
+from client import DISCOVER, REQUEST, Circuit, frame, frame6, select
+from system_calls import copies
+from watched_server import WatchedServer
 
 ROUNDS = 20
 SERVER_PORTS = (6767, 6547)
 circuits = [Circuit(23000 + 4 * index) for index in range(16)]
 of4, of6 = circuits[:8], circuits[8:]
-watch = Watch()
-server = Server("accessd", "config.toml", "leases", "--format", "--port", "23000", "--pause", "20", "--batch", "16",
-                start=watch.start)
+server = WatchedServer("accessd", "config.toml", "leases", "--format", "--port", "23000", "--batch", "16")
+watch = server.watch
 offers = [circuit.exchange(DISCOVER, 1) for circuit in of4]
 
 
@@ -32,12 +31,10 @@ def answers():
 
 def together(options, kind6):
     """The answers to messages that are sent while the program stands still, and its calls until then."""
-    # it waits for a datagram now
-    wait(0.1)
-    server.process.send_signal(signal.SIGSTOP)
-    count = len(watch.calls)
-    ask(options, kind6)
-    server.process.send_signal(signal.SIGCONT)
+    with server.standing_still():
+        count = len(watch.calls)
+        ask(options, kind6)
+    server.settle()
     print(*answers(), sep="\n")
     print("after:", ", ".join(f"{len([*calls])} {name}" for name, calls in itertools.groupby(watch.calls[count:])))
 

@@ -3,7 +3,8 @@ after one save (docs/FORMATS.md, The disk). Once these bytes are of a second tha
 client's; while they are of a second that is to come, it is nobody else's."""
 import time
 
-from client import DISCOVER, REQUEST, Circuit, Server, frame, select
+from client import DISCOVER, REQUEST, Circuit, Server, select
+from watched_server import WatchedServer
 
 END = 16384 + 256 + 16
 
@@ -20,7 +21,6 @@ for seconds in (60, -1):
     with open("leases", "r+b") as file:
         file.seek(END)
         file.write((int(time.time()) + seconds).to_bytes(8, "big"))
-    server = Server("accessd", "config.toml", "leases")
-    circuit.send(frame(DISCOVER, 2))
-    print(circuit.receive(0.3))
+    server = WatchedServer("accessd", "config.toml", "leases")
+    print(server.answer(circuit, DISCOVER, 2))
     server.kill()

@@ -2,6 +2,7 @@
 the second half of the slot and leaves the first one as it was formatted; the save of its renewal, the first half, with
 the sequence after that (docs/FORMATS.md, The disk)."""
 from client import DISCOVER, REQUEST, Circuit, Server, reboot, select
+from watched_server import WatchedServer
 
 FIRST, SECOND = 16384, 16640
 
@@ -22,9 +23,9 @@ print(lease)
 server.kill()
 print(*half(FIRST))
 print(*half(SECOND))
-server = Server("accessd", "config.toml", "leases")
+server = WatchedServer("accessd", "config.toml", "leases")
 print(circuit.exchange(REQUEST, 1, reboot(lease.address)))
 print(*half(FIRST))
 print(*half(SECOND))
-print(circuit.exchange(DISCOVER, 2))
+print(server.answer(circuit, DISCOVER, 2))
 server.kill()

@@ -6,8 +6,8 @@ import resource
 import shutil
 import subprocess
 
-from client import REQUEST, Circuit, Server, address, frame
-from system_calls import Watch
+from client import REQUEST, Circuit, address, frame
+from watched_server import WatchedServer
 
 CALLS = ("write", "sync")
 circuit = Circuit(20000)
@@ -26,12 +26,13 @@ def show(server):
     # the clock of the file is that of 2100
     print(*(line for line in lines if ": its clock is " not in line), sep="\n")
     circuit.send(frame(REQUEST, 1, ciaddr=address("10.0.0.10")))
-    print(circuit.receive(0.2 if "serving a (closed" in lines[-1] else 2))
+    server.settle()
+    print(circuit.receive(0))
 
 
 def show_next():
     print("the same leases:", listed() == before)
-    server = Server("accessd", "config.toml", "leases", "--pause", "1")
+    server = WatchedServer("accessd", "config.toml", "leases")
     show(server)
     server.kill()
 
@@ -40,10 +41,8 @@ shutil.copy("leases.format1", "leases")
 before = listed()
 for k in range(1, 5):
     shutil.copy("leases.format1", "leases")
-    watch = Watch()
-    watch.fail(k, CALLS)
-    server = Server("accessd", "config.toml", "leases", "--pause", "1", start=watch.start)
-    print("calls:", ", ".join(watch.calls))
+    server = WatchedServer("accessd", "config.toml", "leases", fails=(k, CALLS))
+    print("calls:", server.watch.since(0))
     show(server)
     server.kill()
     show_next()
@@ -51,11 +50,11 @@ for k in range(1, 5):
 shutil.copy("leases.format1", "leases")
 print("no byte from 57344 on")
 # without restore_signals the signal of a file that may not grow ends the server
-server = Server("accessd", "config.toml", "leases", "--pause", "1", restore_signals=False,
-                preexec_fn=lambda: resource.setrlimit(resource.RLIMIT_FSIZE, (57344, 57344)))
+server = WatchedServer("accessd", "config.toml", "leases", restore_signals=False,
+                       preexec_fn=lambda: resource.setrlimit(resource.RLIMIT_FSIZE, (57344, 57344)))
 show(server)
 server.kill()
 print("the same leases of a1:", listed().splitlines()[-2:] == before.splitlines()[-2:])
-server = Server("accessd", "config.toml", "leases", "--pause", "1")
+server = WatchedServer("accessd", "config.toml", "leases")
 show(server)
 server.kill()

@@ -3,9 +3,10 @@ the same ports of another address the very datagrams are dropped, and nobody is 
 the program's own sockets."""
 import socket
 
-from client import Circuit, Server
+from client import Circuit
 from messages import expand
 from system_calls import sockets_of
+from watched_server import WatchedServer
 
 RELAY, LISTEN4, LISTEN6 = 6801, 6767, 6547
 DATAGRAMS = (
@@ -27,11 +28,12 @@ def send_all(ends):
         ends[sender].sendto(bytes.fromhex(expand(words)), ("127.0.0.1", receiver))
 
 
-server = Server("accessd", "config.toml", "leases", "--format", "--pause", "10", turns=150)
+server = WatchedServer("accessd", "config.toml", "leases", "--format")
 circuit = Circuit(20000)
 strangers = {port: stranger(port) for port in (RELAY, LISTEN4, LISTEN6)}
 send_all(strangers)
-print(circuit.receive(0.1), circuit.receive6(0.1), *(circuit.next_of(end, 0.01) for end in strangers.values()))
+server.settle()
+print(circuit.receive(0), circuit.receive6(0), *(circuit.next_of(end, 0) for end in strangers.values()))
 send_all(sockets_of(server.process))
 print("\n".join(sorted(str(receive()) for receive in (circuit.receive, circuit.receive6) for _ in range(2))))
 print(server.counts(), end="")

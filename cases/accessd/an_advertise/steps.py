@@ -1,11 +1,13 @@
 """One DHCPv6 client is advertised an address: the frame comes from its circuit's port, behind the client's
 address on the link."""
-from client import Circuit, Server, frame6
+from client import Circuit, frame6
+from watched_server import WatchedServer
 
-server = Server("accessd", "config.toml", "leases", "--format")
+server = WatchedServer("accessd", "config.toml", "leases", "--format")
 circuit = Circuit(20000)
 circuit.send6(frame6("SOLICIT6", 2))
 datagram, source = circuit.socket6.recvfrom(2048)
 print(len(datagram), datagram.hex(), "from", *source)
-print(circuit.receive6(0.1))
+server.settle()
+print(circuit.receive6(0))
 server.kill()

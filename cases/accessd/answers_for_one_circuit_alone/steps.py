@@ -3,18 +3,20 @@ protocol alone, from the port that it sent to: first one client after the other,
 one go."""
 import select
 
-from client import DISCOVER, PATIENCE, Answer, Answer6, Circuit, Server, frame, frame6
+from client import DISCOVER, Answer, Answer6, Circuit, frame, frame6
+from watched_server import WatchedServer
 
 PORT = 23000
-server = Server("accessd", "config.toml", "leases", "--format", "--port", str(PORT), "--pause", "50", turns=300)
+server = WatchedServer("accessd", "config.toml", "leases", "--format", "--port", str(PORT))
 circuits = [Circuit(PORT + 4 * index) for index in range(3)]
 ENDS = {end: kind for circuit in circuits for end, kind in ((circuit.socket, Answer), (circuit.socket6, Answer6))}
 
 
-def show(count):
-    """Shows what comes to any client, by port: so many answers, and whatever else comes soon after."""
+def show():
+    """Shows what has come to any client, by port."""
+    server.settle()
     found = []
-    while ready := select.select(list(ENDS), [], [], PATIENCE * (2 if len(found) < count else 0.1))[0]:
+    while ready := select.select(list(ENDS), [], [], 0)[0]:
         for end in ready:
             datagram, source = end.recvfrom(2048)
             answer = ENDS[end](datagram)
@@ -25,13 +27,13 @@ def show(count):
 
 for circuit in circuits:
     circuit.send(frame(DISCOVER, 1))
-    show(1)
+    show()
     circuit.send6(frame6("SOLICIT6", 1))
-    show(1)
+    show()
 print("in one go")
 for client in (2, 1):
     for circuit in circuits:
         circuit.send6(frame6("SOLICIT6", client))
         circuit.send(frame(DISCOVER, client))
-show(12)
+show()
 server.kill()

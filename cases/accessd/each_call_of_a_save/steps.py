@@ -3,25 +3,24 @@ region is formatted by two writes, each with a sync; a lease is saved by three w
 acknowledged, but the first save of a slot after the formatting has no gate to close, and no first write (docs/FORMATS.md,
 The disk). Where one of
 these calls fails, no acknowledgement is sent, and the circuit is closed."""
-from client import DISCOVER, REQUEST, Circuit, Server, frame, frame6, select
-from system_calls import Watch
+from client import DISCOVER, REQUEST, Circuit, select
+from watched_server import WatchedServer
 
 circuit = Circuit(20000)
 
 
 def started():
-    watch = Watch()
-    return watch, Server("accessd", "config.toml", "leases", "--format", "--pause", "10", turns=150, start=watch.start)
+    server = WatchedServer("accessd", "config.toml", "leases", "--format")
+    return server.watch, server
 
 
 def request(proto, offer):
-    """Asks for a lease, and returns the answer and the calls until it came."""
+    """Asks for a lease, and returns the answer and the calls until the server waits again."""
     count = len(watch.calls)
     if proto == 4:
-        circuit.send(frame(REQUEST, 1, select(offer)))
+        answer = server.answer(circuit, REQUEST, 1, select(offer))
     else:
-        circuit.send6(frame6("REQUEST6", 1, "ours"))
-    answer = circuit.receive(0.2) if proto == 4 else circuit.receive6(0.2)
+        answer = server.answer6(circuit, "REQUEST6", 1, "ours")
     return f"{answer} after: {watch.since(count)}"
 
 
@@ -44,5 +43,4 @@ for k in range(1, 7):
         # the relay's send is the first call
         watch.fail(1 + k)
         print(request(proto, offer))
-        circuit.send6(frame6("SOLICIT6", 1))
-        print(circuit.receive6(0.1), server.counts().splitlines()[1:])
+        print(server.answer6(circuit, "SOLICIT6", 1), server.counts().splitlines()[1:])

@@ -4,7 +4,8 @@ in a second or two; an address that is declined is given to nobody for an hour."
 import subprocess
 import time
 
-from client import DISCOVER, REQUEST, RELEASE, Circuit, Server, frame, select, wait
+from client import DISCOVER, REQUEST, RELEASE, Circuit, frame, select
+from watched_server import WatchedServer
 
 DECLINE = 4
 began = int(time.time())
@@ -20,10 +21,10 @@ for slot, key, iaid in ((0, "01020000000005", 0), (16, "00030001020000000005", 1
 with open("leases", "wb") as file:
     file.write(region)
 
-server = Server("accessd", "config.toml", "leases", "--leases", "--pause", "5", stdout=subprocess.PIPE)
+server = WatchedServer("accessd", "config.toml", "leases", "--leases", stdout=subprocess.PIPE)
 circuit = Circuit(20000)
 # until both have ended
-wait(3.2)
+time.sleep(3.2)
 lease = circuit.exchange(DISCOVER, 1)
 print(circuit.exchange(REQUEST, 1, select(lease)))
 # renewed
@@ -31,14 +32,14 @@ print(circuit.exchange(REQUEST, 1, select(lease)))
 second = circuit.exchange(DISCOVER, 2)
 print(circuit.exchange(REQUEST, 2, select(second)))
 circuit.send(frame(DECLINE, 2, bytes([50, 4]) + second.address))
-wait(0.1)
+server.settle()
 circuit.send(frame(RELEASE, 1, ciaddr=lease.address))
-wait(0.1)
+server.settle()
 circuit.exchange(REQUEST, 3, select(circuit.exchange(DISCOVER, 3)))
 six = circuit.exchange6("REQUEST6", 1, "ours")
 print(six)
 print(circuit.exchange6("RELEASE6", 1, "ours", str(six.address)))
-wait(0.1)
+server.settle()
 ended = int(time.time())
 server.process.kill()
 lines, _ = server.process.communicate()

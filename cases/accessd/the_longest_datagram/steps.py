@@ -3,9 +3,10 @@ dropped by the layer that it reaches (1, 12 or 32), and the next that is short e
 its length, which is also its xid; what a relay and the server send each other is sent from their own sockets. An answer has one
 byte and 300 or, of DHCPv6, 16 bytes for the peer and a message of 76; what the relay only sends on has the Advertise in a
 Relay-reply of 1280 bytes, of which 34, 5 and 4 are its header, its interface id and the head of option 9."""
-from client import Answer, Answer6, Circuit, Server
+from client import Answer, Answer6, Circuit
 from messages import expand
 from system_calls import sockets_of
+from watched_server import WatchedServer
 
 DATAGRAMS = (
     (None, 20000, "DISCOVER 1"),
@@ -30,17 +31,17 @@ def of_length(words, length):
     return bytes.fromhex(expand(f"{{{words} more=fffe+{rest:04x}+00*{rest}}}"))
 
 
-server = Server("accessd", "config.toml", "leases", "--format", "--pause", "10", turns=200)
+server = WatchedServer("accessd", "config.toml", "leases", "--format")
 circuit = Circuit(20000)
 own = sockets_of(server.process)
 for sender, port, words in DATAGRAMS:
     end, kind = (circuit.socket6, Answer6) if is_v6(words) else (circuit.socket, Answer)
     for length in (2000, 1281, 1280) if sender else (2000, 1281, 1280, 1025, 1024):
         own.get(sender, circuit.socket).sendto(of_length(words, length), ("127.0.0.1", port))
-    answers, seconds = [], 2
-    while datagram := circuit.next_of(end, seconds):
+    server.settle()
+    answers = []
+    while datagram := circuit.next_of(end, 0):
         answer = kind(datagram)
         answers.append(f"{answer.xid}: {answer}, in {len(datagram)} bytes")
-        seconds = 0.05
     print(f"{words} to {port}, {', '.join(answers)}")
 print(server.counts(), end="")

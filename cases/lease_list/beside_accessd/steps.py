@@ -1,6 +1,7 @@
 """While clients of both protocols ask for leases, renew them and give them back: a listing has every lease that a
 client holds from before it until after it, and none but those that were acknowledged or whose acknowledgement is on its
-way; once the clients rest, it has exactly theirs."""
+way; once the clients rest, it has exactly theirs. A region that is written all the time is listed as busy (docs/FORMATS.md), and
+then the next listing counts."""
 import ipaddress
 import json
 import random
@@ -14,6 +15,8 @@ from load import Client4, Client6, Load, run
 PORT = 24000
 FEW = 9
 COMMAND = ["leases", "config.toml", "--disk", "leases", "--json"]
+# how many listings count, how many there may be until then, and the status of one that has not every region
+LISTINGS, MOST, NOT_ALL = 40, 400, 4
 # what stands before a client's number in its identifier (cases/README.md): Ethernet and 02 00, a DUID with these
 IDENTIFIERS = {Client4: "010200", Client6: "000300010200"}
 
@@ -48,12 +51,16 @@ for load in loads:
 clients = [client for load in loads for client in load.clients]
 run(loads, 0.5)
 listings, every = 0, set()
-for _ in range(40):
+for _ in range(MOST):
+    if listings == LISTINGS:
+        break
     before = held(clients)
     listing = subprocess.Popen(COMMAND, stdout=subprocess.PIPE, text=True)
     while listing.poll() is None:
         run(loads, 0.001)
     text = listing.stdout.read()
+    if listing.returncode == NOT_ALL and '"state":"busy"' in text:
+        continue
     if listing.returncode != 0:
         print("status", listing.returncode, text)
     now = listed(text)
