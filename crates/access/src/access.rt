@@ -104,7 +104,7 @@ struct Engine {
 fn open_engine(alloc: Global, config: &Config, mut disk: FileDisk) -> Result<Engine, OpenFault>
     requires few { length config.now.circuits ≤ 16 }
     ensures topology { IfOk result (λ engine. engine.relays.topology ≡ topology_of config.now) }
-    ensures sound { IfOk result (λ engine. IsTopology (topology_of config.now)) }
+    ensures sound { IfOk result (λ _. IsTopology (topology_of config.now)) }
     ensures served { IfOk result (λ engine. engine.server.topology ≡ topology_of config.now) }
     ensures large { IfOk result (λ engine. HasRegions (parts_of config.now) engine.disk.regions) }
     ensures count { IfOk result (λ engine. engine.disk.regions ≡ disk.regions) }

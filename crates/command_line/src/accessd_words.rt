@@ -161,10 +161,10 @@ fn base_command<'a>(alloc: Global) -> Result<Command<'a>, AllocError>
     ensures { IfOk result (λ command. app_of command ≡ base_app) }
 {
     let config = config_arg(alloc);
-    let disk = disk_arg(alloc);
-    let turns = turns_arg(alloc);
     let with_config = named(alloc).arg(config)?;
+    let disk = disk_arg(alloc);
     let with_disk = with_config.arg(disk)?;
+    let turns = turns_arg(alloc);
     with_disk.arg(turns)
 }
 
@@ -172,22 +172,24 @@ fn base_command<'a>(alloc: Global) -> Result<Command<'a>, AllocError>
 fn serving_command<'a>(alloc: Global) -> Result<Command<'a>, AllocError>
     ensures { IfOk result (λ command. app_of command ≡ serving_app) }
 {
+    let base = base_command(alloc)?;
     let format = format_arg(alloc);
+    let with_format = base.arg(format)?;
     let port = port_arg(alloc);
-    let pause = pause_arg(alloc);
-    let batch = batch_arg(alloc);
-    let with_format = base_command(alloc)?.arg(format)?;
     let with_port = with_format.arg(port)?;
+    let pause = pause_arg(alloc);
     let with_pause = with_port.arg(pause)?;
+    let batch = batch_arg(alloc);
     with_pause.arg(batch)
 }
 
 fn command<'a>(alloc: Global) -> Result<Command<'a>, AllocError>
     ensures { IfOk result (λ command. app_of command ≡ access_app) }
 {
+    let serving = serving_command(alloc)?;
     let report = report_arg(alloc);
+    let with_report = serving.arg(report)?;
     let leases = leases_arg(alloc);
-    let with_report = serving_command(alloc)?.arg(report)?;
     with_report.arg(leases)
 }
 

@@ -57,8 +57,8 @@ fn command<'a>(alloc: Global) -> Result<Command<'a>, AllocError>
     ensures { IfOk result (λ command. app_of command ≡ lab_app) }
 {
     let configs = configs_arg(alloc);
-    let quota = quota_arg(alloc);
     let first = named(alloc).arg(configs)?;
+    let quota = quota_arg(alloc);
     first.arg(quota)
 }
 

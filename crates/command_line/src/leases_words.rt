@@ -100,14 +100,14 @@ fn command<'a>(alloc: Global) -> Result<Command<'a>, AllocError>
     ensures { IfOk result (λ command. app_of command ≡ leases_app) }
 {
     let config = config_arg(alloc);
-    let disk = disk_arg(alloc);
-    let at = at_arg(alloc);
-    let pools = pools_arg(alloc);
-    let json = json_arg(alloc);
     let with_config = named(alloc).arg(config)?;
+    let disk = disk_arg(alloc);
     let with_disk = with_config.arg(disk)?;
+    let at = at_arg(alloc);
     let with_at = with_disk.arg(at)?;
+    let pools = pools_arg(alloc);
     let with_pools = with_at.arg(pools)?;
+    let json = json_arg(alloc);
     with_pools.arg(json)
 }
 

@@ -1,4 +1,4 @@
-use Rattle.std.proofs.Common.{◌≡◌, arith, ◌∙◌, ◌+◌, ℕ, length, ap, refl, subst, sym, rules}
+use Rattle.std.proofs.Common.{◌∙◌, ℕ, length, ap, refl, subst, sym, rules}
 use Rattle.config.specs.Topology.{Topology}
 use Rattle.types.specs.declared.dest.Proto.TheVariants.{V4, V6}
 use Rattle.access.specs.Access.{AccessValue, HasCarried}

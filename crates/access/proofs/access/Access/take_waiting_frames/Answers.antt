@@ -1,7 +1,7 @@
-use Rattle.std.proofs.Common.{◌<◌, ap, length, subst, sym}
+use Rattle.std.proofs.Common.{subst}
 use Rattle.config.specs.Topology.{Topology}
 use Rattle.types.specs.declared.dest.Proto.TheVariants.{V4, V6}
-use Rattle.access.specs.Access.{AccessValue, HasCarried}
+use Rattle.access.specs.Access.{HasCarried}
 use Rattle.access.specs.Turn.{CircuitSocket}
 use Rattle.access.proofs.CarryLemmas.{carried_then, carried_topology}
 use Rattle.access.proofs.access.Access.take_waiting_frames.Goals as goal
