@@ -18,7 +18,7 @@ for _ in range(3):
     time.sleep(0.2)
     began = time.monotonic()
     print(circuit.exchange(DISCOVER, 1))
-    print(time.monotonic() - began < 0.5)
+    print(time.monotonic() - began < 0.9)
 time.sleep(0.2)
 began = time.monotonic()
 for _ in range(3):
@@ -26,5 +26,5 @@ for _ in range(3):
 print(circuit.receive())
 print(circuit.receive())
 print(circuit.receive())
-print(time.monotonic() - began < 0.5)
+print(time.monotonic() - began < 0.9)
 server.kill()
