@@ -1,4 +1,8 @@
 //! What is opened over configurations and a disk, for a count of the requests for memory that it makes.
+ghost use Rattle.std.specs.Prelude.{ℕ};
+ghost use Rattle.lease_disk.specs.Model.{state_of};
+ghost use Rattle.lease_disk.specs.Region.{IsClean};
+
 use config::Plans;
 use dispatch::Server;
 use lease_disk::ModelDisk;
@@ -34,16 +38,28 @@ impl Opening {
     pub fn succeeds(self, alloc: Global, text: &str, is_eightfold: bool) -> bool {
         let texts = [text; 8];
         let count = if is_eightfold { 8 } else { 1 };
-        let Ok(plans) = Plans::read(alloc, &texts[..count]) else {
-            return false;
-        };
-        let Ok(mut disk) = ModelDisk::new(alloc, REGIONS) else {
-            return false;
-        };
+        match Plans::read(alloc, &texts[..count]) {
+            Ok(plans) => self.succeeds_with(alloc, &plans),
+            Err(_) => false,
+        }
+    }
+
+    /// Whether all of this is opened with these configurations.
+    fn succeeds_with(self, alloc: Global, plans: &Plans) -> bool {
+        match ModelDisk::new(alloc, REGIONS) {
+            Ok(disk) => self.succeeds_over(alloc, plans, disk),
+            Err(_) => false,
+        }
+    }
+
+    /// Whether this is opened over the disk.
+    fn succeeds_over(self, alloc: Global, plans: &Plans, mut disk: ModelDisk) -> bool
+        requires synced { (q : ℕ) → IsClean (state_of disk q) }
+    {
         match self {
             Opening::Disk => true,
-            Opening::Server => Server::open_plans(alloc, &plans, &mut disk).is_ok(),
-            Opening::World => World::open_plans(alloc, &plans, disk, 1).is_ok(),
+            Opening::Server => Server::open_plans(alloc, plans, &mut disk).is_ok(),
+            Opening::World => World::open_plans(alloc, plans, disk, 1).is_ok(),
         }
     }
 }
