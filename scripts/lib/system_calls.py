@@ -1,4 +1,5 @@
 """Watches the calls of a program that write to a file, sync it, send a datagram or receive one, and makes some of them fail.
+Of a server it also sees where that looks for datagrams, and so when it has taken whatever was sent.
 It needs nothing but Linux: the program runs under a seccomp filter that asks this process about each such call
 (SECCOMP_RET_USER_NOTIF, seccomp_unotify(2)). And copies a program's sockets (pidfd_getfd(2)).
     python3 system_calls.py NAMES DESCRIPTOR COMMAND..   installs the filter for the calls of these names, with commas between
@@ -18,7 +19,7 @@ import threading
 NUMBERS = {"write": 18, "lengthen": 77, "sync": 75, "sync all": 74, "send": 44, "receive": 45, "look": 232}
 # what is watched by default: a server looks for datagrams all the time
 OUTGOING = ("write", "lengthen", "sync", "sync all", "send")
-# the longest that a turn may last, in seconds
+# how long a server may take until it has taken whatever was sent, in seconds
 LIMIT = 60
 SYS_SECCOMP, PR_SET_NO_NEW_PRIVS, SET_MODE_FILTER, NEW_LISTENER = 317, 38, 1, 8
 SYS_PIDFD_GETFD = 438

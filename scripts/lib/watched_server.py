@@ -42,10 +42,13 @@ class WatchedServer(Server):
         self.settle()
         self.process.send_signal(signal.SIGSTOP)
         os.waitid(os.P_PID, self.process.pid, os.WSTOPPED)
-        yield
-        self.process.send_signal(signal.SIGCONT)
+        try:
+            yield
+        finally:
+            self.process.send_signal(signal.SIGCONT)
 
     def report(self):
+        """Lets it take whatever was sent and make its last turns, and returns what it reports at its end."""
         self.settle()
         self.watch.hurry()
         return super().report()

@@ -15,8 +15,9 @@ from load import Client4, Client6, Load, run
 PORT = 24000
 FEW = 9
 COMMAND = ["leases", "config.toml", "--disk", "leases", "--json"]
-# how many listings count, how many there may be until then, and the status of one that has not every region
-LISTINGS, MOST, NOT_ALL = 40, 400, 4
+# how many listings count, how many there may be until then, so that at most every second one is busy, and the status of one
+# that has not every region
+LISTINGS, MOST, NOT_ALL = 40, 80, 4
 # what stands before a client's number in its identifier (cases/README.md): Ethernet and 02 00, a DUID with these
 IDENTIFIERS = {Client4: "010200", Client6: "000300010200"}
 
