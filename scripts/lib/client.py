@@ -116,7 +116,7 @@ class Circuit:
             return None
 
     def receive(self, seconds=LIMIT):
-        """The next answer, or None where none comes in this time; in no time, where none has come."""
+        """The next answer, or None where none comes in this time. With 0 seconds, one that has come already."""
         datagram = self.next_of(self.socket, seconds)
         return None if datagram is None else Answer(datagram)
 

@@ -26,7 +26,7 @@ SYS_PIDFD_GETFD = 438
 ALLOW, ASK = 0x7FFF0000, 0x7FC00000
 LOAD, JUMP_IF_EQUAL, RETURN = 0x20, 0x15, 0x06
 RECEIVE, ANSWER, CONTINUE = 0xC0502100, 0xC0182101, 1
-# what a call returns: an error and flags, where it is not made
+# an answer is an error and flags: the call is made, or it returns 0 at once, as a look that found nothing does
 GO_ON, FOUND_NOTHING = (0, CONTINUE), (0, 0)
 
 
@@ -153,7 +153,8 @@ class Watch:
             self.changed.notify_all()
 
     def look(self, milliseconds):
-        """A turn begins where the server looks and doesn't wait. It waits after a turn that took nothing."""
+        """The answer to a look, which waits at most so long. A turn begins with one that doesn't wait; after a turn that took nothing
+        comes one that does."""
         with self.changed:
             if milliseconds == 0:
                 self.turns += 1
@@ -163,6 +164,7 @@ class Watch:
         return FOUND_NOTHING if milliseconds and self.is_hurried else GO_ON
 
     def call(self, name, first_argument):
+        """The answer to any other call, which is noted down."""
         counts = name in self.failing
         self.left -= counts
         is_broken = name == "receive" and first_argument in self.broken

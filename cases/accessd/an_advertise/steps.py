@@ -8,6 +8,6 @@ circuit = Circuit(20000)
 circuit.send6(frame6("SOLICIT6", 2))
 datagram, source = circuit.socket6.recvfrom(2048)
 print(len(datagram), datagram.hex(), "from", *source)
-server.settle()
+# nothing more comes in all turns that are left
+server.report()
 print(circuit.receive6(0))
-server.kill()

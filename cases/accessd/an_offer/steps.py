@@ -7,6 +7,6 @@ circuit = Circuit(20000)
 circuit.send(frame(DISCOVER, 1))
 datagram, source = circuit.socket.recvfrom(2048)
 print(len(datagram), datagram.hex(), "from", *source)
-server.settle()
+# nothing more comes in all turns that are left
+server.report()
 print(circuit.receive(0))
-server.kill()

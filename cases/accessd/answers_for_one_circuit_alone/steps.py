@@ -36,4 +36,6 @@ for client in (2, 1):
         circuit.send6(frame6("SOLICIT6", client))
         circuit.send(frame(DISCOVER, client))
 show()
-server.kill()
+# nothing more comes in all turns that are left
+server.report()
+show()

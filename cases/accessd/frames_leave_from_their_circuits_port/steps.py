@@ -12,7 +12,7 @@ for order in (circuits, circuits[::-1]):
     for circuit in circuits:
         datagram, source = circuit.socket.recvfrom(2048)
         print(Answer(datagram), source[1])
-server.settle()
+# nothing more comes in all turns that are left
+server.report()
 for circuit in circuits:
     print(circuit.receive(0))
-server.kill()
