@@ -104,6 +104,7 @@ impl CircuitServer {
 
     /// Moves the clock of an open circuit to the moment of a datagram of it, of which this was read, and decides on that. The
     /// error is the reason for which the datagram is dropped.
+    #[inline(always)]
     fn decide<C: Decide>(
         &mut self,
         part: &CircuitPart,

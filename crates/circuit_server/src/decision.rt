@@ -110,6 +110,7 @@ impl<'a> Decide for CircuitDecision4<'a> {
 
     ghost decision = { λ made. either.V4 made };
 
+    #[inline(always)]
     fn decide(
         circuit: &OpenCircuit,
         _part: &CircuitPart,

@@ -166,6 +166,8 @@ impl OpenCircuit {
     }
 
     /// What a DHCPv4 message calls for.
+    // inlined, as is all that hands the decision on: to move it three times takes longer than to decide
+    #[inline(always)]
     pub(crate) fn decide4<'a>(&self, message: Message<'a>) -> Result<CircuitDecision4<'a>, Discard>
         ensures ok { (part : parts.CircuitPart) → HasPools part (Some self.now) → IfOk result (λ made. request4_served part message.entry (open_book self.now) (request4_in message.entry) ≡ served_by part self.now (either.V4 made)) }
         ensures err { IfErr result (λ why. request4_in message.entry ≡ Err why) }

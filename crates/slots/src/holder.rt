@@ -77,13 +77,14 @@ pub fn client_of<K: Copy>(slot: &Option<Holder<K>>) -> Option<K>
 }
 
 /// Whether the slot is this client's, by a binding or an offer, expired or not.
+// inlined into the walk over a table, in which most slots differ in the first byte that is looked at
+#[inline(always)]
 pub fn is_clients<K: PartialEq>(slot: &Option<Holder<K>>, client: &K) -> bool
     ensures { result ≡ is_clients K.eq client.now slot.now }
 {
     match slot {
-        Some(Holder::Bound(key, _)) => client == key,
-        Some(Holder::Offered(key, _)) => client == key,
-        _ => false,
+        Some(Holder::Bound(key, _) | Holder::Offered(key, _)) => client == key,
+        Some(Holder::Barred(_)) | None => false,
     }
 }
 

@@ -1,10 +1,12 @@
 //! Writing slots.
-ghost use Rattle.std.specs.Prelude.{◌≡◌, ◌<◌, length, IfSome, slice_set};
+ghost use Rattle.std.specs.Prelude.{◌≡◌, ◌<◌, length, IfSome, Option, slice_set};
 ghost use Rattle.std.specs.List.{position};
 ghost use Rattle.slots.specs.Used.{IsUsed};
-ghost use Rattle.slots.specs.Slots.{is_clients, without_client, with_slot};
+ghost use Rattle.slots.specs.declared.holder.Holder.{Holder};
+ghost use Rattle.slots.specs.Slots.{AreDistinct, is_clients, without_client, with_slot};
 
-use crate::holder::{Holder, client_of};
+use crate::holder::{Holder, client_of, is_clients};
+use crate::key::SlotKey;
 use crate::lookup::first_of_client;
 
 /// The client's slot, expired or not, of which so many may be held.
@@ -39,19 +41,32 @@ fn vacate_client<K: Copy + PartialEq>(slots: &mut [Option<Holder<K>>], used: usi
     }
 }
 
+/// Vacates the client's slot, unless it is the one that is written next: then nobody is looked for, since no client has two.
+fn vacate_other<K: SlotKey>(slots: &mut [Option<Holder<K>>], used: usize, next: usize, client: &K)
+    requires used { IsUsed used slots.old }
+    requires distinct { AreDistinct K.eq slots.old }
+    ensures { (holder : Option (Holder K)) → slice_set slots.new next holder ≡ slice_set (without_client K.eq client.now slots.old) next holder }
+{
+    if next < slots.len() && is_clients(&slots[next], client) {
+        return;
+    }
+    vacate_client(slots, used, client);
+}
+
 /// Gives a slot a new holder, who keeps no other slot, where so many may be held before. A slot past the
 /// end is ignored.
-pub(crate) fn write_slot<K: Copy + PartialEq>(
+pub(crate) fn write_slot<K: SlotKey>(
     slots: &mut [Option<Holder<K>>],
     used: usize,
     slot: usize,
     holder: Option<Holder<K>>,
 )
-    requires { IsUsed used slots.old }
+    requires used { IsUsed used slots.old }
+    requires distinct { AreDistinct K.eq slots.old }
     ensures { slots.new ≡ with_slot K.eq slot holder slots.old }
 {
     if let Some(client) = client_of(&holder) {
-        vacate_client(slots, used, &client);
+        vacate_other(slots, used, slot, &client);
     }
     set_slot(slots, slot, holder);
 }

@@ -1,6 +1,6 @@
 -- The deadlines that numbers show, and what a sweep leaves of them.
 use Rattle.std.proofs.Common.{◌≡◌, ℕ, zero, suc, ◌+◌, ◌<◌, ◌≤◌, Bool, true, false, cond, Option, Some, None, List, [], ◌∷◌, map, length, get_or, set, replicate, count_by, ap, ap₂, sym, subst, refl, ◌∙◌, arith, inl, inr}
-use Rattle.std.specs.Prelude.{nat_le, nat_lt}
+use Rattle.std.specs.Prelude.{IfNone, nat_le, nat_lt}
 use Rattle.std.proofs.lemmas.Bool.{cases_lt, cond-true, cond-false}
 use Rattle.std.proofs.lemmas.Bool.Decides.{nat_tests}
 use Rattle.std.proofs.lemmas.List.{map-set, get_or-map, get_or_past, set-get_or, length-map}
@@ -84,6 +84,14 @@ module _ (numbers : List ℕ) (looks : ℕ) (table : DeadlinesValue) (view : sho
       let gone = none slot in
       cc
 
+  pub none_due_among : {A : Type 0} (now seconds : ℕ) (found : Option A) → seconds ≡ now
+      → IfNone found ((k : ℕ) → k < length numbers → seconds + 1 ≤ get_or numbers k 0)
+      → IfNone found ((slot until : ℕ) → deadline table slot ≡ Some until → now < until)
+  none_due_among now seconds None same above = λ slot until has.
+      let there = deadline_among slot until has in
+      omega (arith, same, there.1, above slot there.0)
+  none_due_among now seconds (Some found) same above = tt
+
 -- ---- a sweep
 
 not_due : (now until : ℕ) → now < until → is_due now (Some until) ≡ false
@@ -146,10 +154,6 @@ module _ {now : ℕ} {old reached looked : DeadlinesValue} (so_far : HasSwept no
   swept later =
       let none = none_due now reached.slots later in
       (look.slots ∙ sym none.0 ∙ so_far.left, omega (arith, none.1, so_far.looks, look.looks))
-
-  pub swept_all : ((slot : ℕ) → deadline reached slot ≡ None)
-      → (looked.slots ≡ map (entry_after_sweep now) old.slots) × (looked.looks ≡ old.looks + count_by (is_due now) old.slots + 1)
-  swept_all none = swept (λ slot until has. let gone = none slot in absurd (cc))
 
   -- each look before it finds an entry that is due
   pub one_removed : (slot until : ℕ) (cleared : DeadlinesValue) → cleared ≡ record { slots = set looked.slots slot None; looks = looked.looks }

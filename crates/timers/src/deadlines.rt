@@ -1,18 +1,18 @@
 //! The table of deadlines.
-ghost use Rattle.std.specs.Prelude.{◌≡◌, ℕ, ◌+◌, ◌<◌, ◌≤◌, ◌↔◌, length, replicate, slice_set, IfOk, IfSome, IsNone};
+ghost use Rattle.std.specs.Prelude.{◌≡◌, ℕ, ◌+◌, ◌<◌, ◌≤◌, ◌↔◌, length, replicate, slice_set, IfOk, IfNone, IfSome, IsNone};
 ghost use Rattle.types.specs.Slots.{last_until};
 ghost use Rattle.timers.specs.Deadlines.{deadline};
 
 use crate::rows::Rows;
 use std::alloc::{AllocError, Global};
 use std::marker::Model;
-use types::Count;
+use types::{Count, Moment};
 
 /// Stands for no deadline: later than every deadline.
 const NEVER: u64 = u64::MAX;
 
 /// Until when each slot has a deadline, in seconds. A slot has one deadline at most. Contracts see how often an entry
-/// was looked at: each call of `last` and of `get` is a look.
+/// was looked at: each call of `last`, of `due` and of `get` is a look.
 #[derive(Drop)]
 pub struct Deadlines {
     rows: Rows,
@@ -90,6 +90,18 @@ impl Deadlines {
         self.looks.tick();
         let slot = self.rows.least_below(NEVER)?;
         Some((slot, self.rows.get(slot)))
+    }
+
+    /// A slot with the least deadline, where that is due, which is at most `now`. Counts as one look.
+    pub(crate) fn due(&mut self, now: Moment) -> Option<usize>
+        ensures slots { self.new.slots ≡ self.old.slots }
+        ensures looks { self.new.looks ≡ self.old.looks + 1 }
+        ensures none { IfNone result ((slot until : ℕ) → deadline self.old slot ≡ Some until → now < until) }
+        ensures within { IfSome result (λ slot. slot < length self.old.slots) }
+        ensures due { IfSome result (λ slot. (until : ℕ) × (deadline self.old slot ≡ Some until) × (until ≤ now)) }
+    {
+        self.looks.tick();
+        self.rows.least_below(now.seconds() + 1)
     }
 
     /// The deadlines of all slots, for those who may not change the table. Takes memory, and counts as no look.

@@ -58,6 +58,9 @@ impl Rows {
         requires { place < length self.old }
         ensures { self.new ≡ slice_set self.old place number }
     {
+        if self.numbers[place] == number {
+            return;
+        }
         self.numbers[place] = number;
         let row = place / ROW;
         let least = least_of(row_at(self.numbers.as_slice(), row));

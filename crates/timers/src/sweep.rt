@@ -11,10 +11,7 @@ impl Deadlines {
         ensures slots { self.new.slots ≡ map (entry_after_sweep now) self.old.slots }
         ensures looks { self.new.looks ≡ self.old.looks + count_by (is_due now) self.old.slots + 1 }
     {
-        while let Some((slot, until)) = self.last() {
-            if until > now.seconds() {
-                return;
-            }
+        while let Some(slot) = self.due(now) {
             self.clear(slot);
         }
     }

@@ -1,10 +1,10 @@
 -- Distinct codes, of a whole list and of a list that is read after a set of codes.
-use Rattle.std.proofs.Common.{◌≡◌, ℕ, zero, suc, get_or, replicate, Bool, true, false, cond, ◌||◌, eqb, List, [], ◌∷◌, Option, Some, None, refl, sym, ap, ◌∙◌}
+use Rattle.std.proofs.Common.{◌≡◌, ℕ, Bool, true, false, cond, ◌||◌, eqb, List, [], ◌∷◌, Option, Some, None, refl, sym, ap, ◌∙◌}
 use Rattle.std.proofs.lemmas.Bool.{eqb-true, eq-eqb}
 use Rattle.std.proofs.Math.Bool.{or-false}
 use Rattle.std.specs.Prelude.{is_some}
 use Rattle.v4_options.specs.Spelling.{look_up}
-use Rattle.v4_options.specs.Reading.{has_code, no_code, with_code}
+use Rattle.v4_options.specs.Reading.{no_code, with_code}
 use Rattle.v4_options.specs.Suboptions.{AreDistinct}
 
 -- No code is in the set, and none appears twice.
@@ -70,12 +70,3 @@ after_step false s v found = refl
 pub after_is : (seen : ℕ → Bool) (os : List (ℕ × List ℕ)) (code : ℕ) → after seen os code ≡ (seen code || is_some (look_up code os))
 after_is seen [] code = sym (or-false (seen code))
 after_is seen (o ∷ os) code = after_is (with_code o.0 seen) os code ∙ after_step (eqb o.0 code) (seen code) o.1 (look_up code os)
-
--- Where no flag is set, the set is empty.
-pub no_flags : (n : ℕ) → has_code (replicate n false) ≡ no_code
-no_flags n = λ i code. down n code i
-  where
-    down : (n code : ℕ) → get_or (replicate n false) code false ≡ false
-    down zero code = refl
-    down (suc n) zero = refl
-    down (suc n) (suc code) = down n code

@@ -15,14 +15,14 @@ after_code bytes before left value new code place whole here count =
     ap (drop place) split ∙ drop_at (before ++ code ∷ []) (length value ∷ value ++ new) place len
 
 pub stands : (bytes before left value new : List ℕ) (code place : ℕ) → before ++ left ≡ bytes → left ≡ option code value ++ new → place + (length value + 1 + length new) ≡ length bytes
-    → (value_at bytes place ≡ Some value) × IsWithin bytes place
+    → (value_at bytes place ≡ Some value) × IsWithin bytes place × (get_or bytes place 0 ≡ length value)
 stands bytes before left value new code place whole here count =
     let rest = after_code bytes before left value new code place whole here count in
     let some : 0 < place = omega (arith, ap length whole, length-append before left, ap length here, length-append (option code value) new, count) in
     let found : value_at bytes place ≡ Some value = rw (ne_eqb place 0 (λ e. omega (arith, e, some)), rest, take-append_seam value new) refl in
     let same : place ≡ place + 0 = omega arith in
     let first : get_or bytes place 0 ≡ length value = ap (λ (k : ℕ). get_or bytes k 0) same ∙ sym (get_or-drop place bytes 0 0) ∙ ap (λ (l : List ℕ). get_or l 0 0) rest in
-    (found, (omega (arith, count), omega (arith, count, first)))
+    (found, (omega (arith, count), omega (arith, count, first)), first)
 
 -- the bytes before what is left, once more of them were read
 pub further : (bytes left read new : List ℕ) → (before : List ℕ) × (before ++ left ≡ bytes) → left ≡ read ++ new → (before : List ℕ) × (before ++ new ≡ bytes)

@@ -1,5 +1,6 @@
 -- Reading options and suboptions from the left: the list, and the first fault.
-use Rattle.std.specs.Prelude.{ℕ, zero, suc, Bool, true, false, ◌||◌, ◌==◌, nat_le, List, [], ◌∷◌, length, take, slice_index_or, Option, Some, None, Result, Ok, Err, if◌then◌else◌}
+use Rattle.std.specs.Prelude.{ℕ, zero, suc, Bool, true, false, ◌||◌, ◌==◌, ◌/◌, ◌%◌, nat_le, List, [], ◌∷◌, length, take, slice_index_or, Option, Some, None, Result, Ok, Err, if◌then◌else◌}
+use Rattle.std.specs.Int.{bit_at}
 use Rattle.v4_options.specs.Codes.{PAD, END}
 use Rattle.v4_options.specs.declared.fault.OptFault.{OptFault}
 use Rattle.v4_options.specs.declared.fault.OptFault.TheVariants.{NoEnd, Cut, Twice}
@@ -43,9 +44,9 @@ no_code code = false
 abbrev pub with_code : ℕ → (ℕ → Bool) → ℕ → Bool
 with_code code seen = λ other. code == other || seen other
 
--- The set of the codes whose flag is set.
-abbrev pub has_code : List Bool → ℕ → Bool
-has_code flags = λ code. slice_index_or flags code false
+-- The set of the codes whose bit is set in words of 64 bits, counted from the lowest bit of the first word.
+abbrev pub has_code : List ℕ → ℕ → Bool
+has_code words = λ code. bit_at (slice_index_or words (code / 64) 0) (code % 64) == 1
 
 -- The first fault from the left, where `seen` has the codes of the options before.
 unfoldable pub fault_from : Syntax → (ℕ → Bool) → ℕ → List ℕ → Option OptFault

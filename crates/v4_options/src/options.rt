@@ -7,7 +7,7 @@ ghost use Rattle.v4_options.specs.declared.token.Syntax.TheVariants as syntax;
 
 use crate::code::{self, END};
 use crate::fault::OptFault;
-use crate::front::Front;
+use crate::front::front_of;
 use crate::iter::Iter;
 use crate::places::Places;
 use crate::seen_codes::SeenCodes;
@@ -21,7 +21,8 @@ use wire::{Cursor, Full, PacketBuf};
 pub struct Options<'a> {
     bytes: &'a [u8],
     places: Places,
-    front: Front,
+    /// As `front_of` says.
+    front: Option<usize>,
 }
 
 impl<'a> Model for Options<'a> {
@@ -83,7 +84,7 @@ impl<'a> Options<'a> {
     {
         prove!(out.len() <= MAX_DATAGRAM);
         if self.places.agent == 0
-            && let Some(len) = self.front.len()
+            && let Some(len) = self.front
         {
             return append(&self.bytes[..len], out);
         }
@@ -99,7 +100,7 @@ impl<'a> Options<'a> {
     {
         prove!(out.len() <= MAX_DATAGRAM);
         if left_out == code::RELAY_AGENT_INFORMATION
-            && let Some(len) = self.front.len()
+            && let Some(len) = self.front
         {
             return append(&self.bytes[..len], out);
         }
@@ -113,17 +114,18 @@ fn read_list<'a>(bytes: &'a [u8]) -> Result<Options<'a>, OptFault>
 {
     let mut seen = SeenCodes::new();
     let mut places = Places::none();
-    let mut front = Front::Open(0);
+    let mut has_pad = false;
     let mut left = Cursor::new(bytes);
     'row: loop {
         match next_token(&mut left, Syntax::Options) {
             Token::Nothing => return Err(OptFault::NoEnd),
-            Token::Pad => front = Front::Apart,
+            Token::Pad => has_pad = true,
             Token::End => {
+                let end = bytes.len() - left.rest().len() - 1;
                 return Ok(Options {
                     bytes,
                     places,
-                    front,
+                    front: front_of(bytes, places.agent, end, has_pad),
                 });
             }
             Token::Cut => return Err(OptFault::Cut),
@@ -132,7 +134,6 @@ fn read_list<'a>(bytes: &'a [u8]) -> Result<Options<'a>, OptFault>
                 let end = bytes.len() - left.rest().len();
                 seen.add(code);
                 places.add(code, end - value.len() - 1);
-                front = front.after(code, end);
             }
         }
     }

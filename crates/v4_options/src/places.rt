@@ -1,5 +1,6 @@
 //! Where the options stand that relays and servers look for, found while a list is read.
-ghost use Rattle.std.specs.Prelude.{◌≡◌, ◌==◌, if◌then◌else◌, ℕ, List, ◌∷◌, Some};
+ghost use Rattle.std.specs.Prelude.{◌≡◌, ◌==◌, ◌&&◌, if◌then◌else◌, ℕ, List, ◌∷◌, Some};
+ghost use Rattle.v4_options.specs.Codes.{RELAY_AGENT_INFORMATION};
 ghost use Rattle.v4_options.specs.Places.{ArePlaced, IsWithin, value_at};
 
 use crate::code;
@@ -28,7 +29,8 @@ fn put(first: &mut usize, place: usize)
 impl Places {
     /// Before the first option of a list.
     pub(crate) fn none() -> Places
-        ensures { (bytes : List ℕ) (list : List (ℕ × List ℕ)) → ArePlaced bytes result list list }
+        ensures all { (bytes : List ℕ) (list : List (ℕ × List ℕ)) → ArePlaced bytes result list list }
+        ensures agent { result.agent ≡ 0 }
     {
         Places {
             requested: 0,
@@ -43,7 +45,8 @@ impl Places {
     /// The next option of the list, the length of whose value stands here.
     #[rattlefmt::skip]
     pub(crate) fn add(&mut self, code: u8, place: usize)
-        ensures { (bytes value : List ℕ) (rest whole : List (ℕ × List ℕ)) → value_at bytes place ≡ Some value → IsWithin bytes place → ArePlaced bytes self.old ((code, value) ∷ rest) whole → ArePlaced bytes self.new rest whole }
+        ensures all { (bytes value : List ℕ) (rest whole : List (ℕ × List ℕ)) → value_at bytes place ≡ Some value → IsWithin bytes place → ArePlaced bytes self.old ((code, value) ∷ rest) whole → ArePlaced bytes self.new rest whole }
+        ensures agent { self.new.agent ≡ (if code == RELAY_AGENT_INFORMATION && self.old.agent == 0 then place else self.old.agent) }
     {
         match code {
             code::REQUESTED_ADDRESS       => put(&mut self.requested, place),

@@ -2,7 +2,6 @@
 ghost use Rattle.std.specs.Prelude.{◌≡◌, ◌+◌, ◌≤◌, ◌↔◌, [], ◌∷◌, ◌++◌, length, IsTrue, IsOk, OnOk, OnErr};
 ghost use Rattle.wire.specs.Padding.{padded_to};
 
-use arrayvec::ArrayVec;
 use std::marker::Model;
 use thiserror::Error;
 use types::MAX_DATAGRAM;
@@ -16,18 +15,21 @@ static ZEROS: [u8; MAX_DATAGRAM] = [0; MAX_DATAGRAM];
 pub struct Full;
 
 /// The bytes of one datagram, at most 1280. They lie in the value itself, so it is made once and
-/// lent from then on.
+/// lent from then on. To clear it writes nothing: bytes past its length are of earlier datagrams, and nobody sees them.
 #[derive(Drop)]
 pub struct PacketBuf {
-    bytes: ArrayVec<u8, 1280>,
+    bytes: [u8; MAX_DATAGRAM],
+    len: usize,
 }
 
 impl Model for PacketBuf {
-    ghost use Rattle.std.specs.Prelude.{ℕ, List};
+    ghost use Rattle.std.specs.Prelude.{◌≤◌, ℕ, List, take};
 
     ghost Value = { List ℕ };
 
-    ghost view = { λ b. b.bytes.items };
+    ghost view = { λ b. take b.len b.bytes };
+
+    ghost invariant = { λ b. b.len ≤ 1280 };
 }
 
 impl PacketBuf {
@@ -36,14 +38,15 @@ impl PacketBuf {
         ensures { result ≡ [] }
     {
         PacketBuf {
-            bytes: ArrayVec::new(),
+            bytes: [0; MAX_DATAGRAM],
+            len: 0,
         }
     }
 
     pub fn clear(&mut self)
         ensures { self.new ≡ [] }
     {
-        self.bytes.clear();
+        self.len = 0;
     }
 
     /// Appends a byte.
@@ -52,7 +55,7 @@ impl PacketBuf {
         ensures ok { OnOk result (self.new ≡ self.old ++ byte ∷ []) }
         ensures err { OnErr result (self.new ≡ self.old) }
     {
-        self.bytes.try_push(byte).map_err(|_| Full)
+        self.extend(&[byte])
     }
 
     /// Appends all of the bytes, or none.
@@ -61,7 +64,13 @@ impl PacketBuf {
         ensures ok { OnOk result (self.new ≡ self.old ++ bytes.now) }
         ensures err { OnErr result (self.new ≡ self.old) }
     {
-        self.bytes.try_extend_from_slice(bytes).map_err(|_| Full)
+        if bytes.len() > MAX_DATAGRAM - self.len {
+            return Err(Full);
+        }
+        let len = self.len + bytes.len();
+        self.bytes[self.len..len].copy_from_slice(bytes);
+        self.len = len;
+        Ok(())
     }
 
     /// Appends zeros up to `n` bytes; nothing where there are as many already.
@@ -81,19 +90,19 @@ impl PacketBuf {
         ensures value { result ≡ length self.now }
         ensures fits { length self.now ≤ 1280 }
     {
-        self.bytes.len()
+        self.len
     }
 
     pub fn is_empty(&self) -> bool
         ensures { IsTrue result ↔ (self.now ≡ []) }
     {
-        self.bytes.is_empty()
+        self.len == 0
     }
 
     pub fn as_slice(&self) -> &[u8]
         ensures value { result.now ≡ self.now }
         ensures fits { length self.now ≤ 1280 }
     {
-        self.bytes.as_slice()
+        &self.bytes[..self.len]
     }
 }

@@ -11,14 +11,14 @@ pub returns-clause-full : goal.returns-clause-full
 returns-clause-full c =
     let bytes = c.self.inside.bytes.now in
     let stay = all_stay RELAY_AGENT_INFORMATION (listed_from syntax.Options 0 bytes) (not_placed bytes c.self.inside.places.agent _ c.if-self-eq0.true c.self.invariant.0.agent.found) in
-    let head : take c.in-Some.len bytes ≡ spelling c.args.self.now = (c.in-Some.ensures bytes c.self.invariant.1).1 ∙ ap spelling stay ∙ ap spelling c.self.view_is in
+    let head : take c.in-Some.len bytes ≡ spelling c.args.self.now = (rw c.in-Some.is at c.self.invariant.1).1 ∙ ap spelling stay ∙ ap spelling c.self.view_is in
     rw head at c.append.ensures.full
 
 pub returns-clause-ok : goal.returns-clause-ok
 returns-clause-ok c =
     let bytes = c.self.inside.bytes.now in
     let stay = all_stay RELAY_AGENT_INFORMATION (listed_from syntax.Options 0 bytes) (not_placed bytes c.self.inside.places.agent _ c.if-self-eq0.true c.self.invariant.0.agent.found) in
-    let head : take c.in-Some.len bytes ≡ spelling c.args.self.now = (c.in-Some.ensures bytes c.self.invariant.1).1 ∙ ap spelling stay ∙ ap spelling c.self.view_is in
+    let head : take c.in-Some.len bytes ≡ spelling c.args.self.now = (rw c.in-Some.is at c.self.invariant.1).1 ∙ ap spelling stay ∙ ap spelling c.self.view_is in
     rw head at c.append.ensures.ok
 
 pub returns-2-clause-full : goal.returns-2-clause-full
