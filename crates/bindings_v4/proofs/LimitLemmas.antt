@@ -15,7 +15,7 @@ use Rattle.bindings_v4.specs.declared.decision4.KeptSlot.{KeptSlot}
 use Rattle.bindings_v4.specs.declared.decision4.OfferChange.{OfferChange}
 use Rattle.bindings_v4.specs.declared.decision4.OfferChange.TheVariants as offer
 use Rattle.bindings_v4.specs.Kept4.{EndsBy}
-use Rattle.bindings_v4.specs.Decision4.{IsOffer, offer_of, keep_of, decision_of}
+use Rattle.bindings_v4.specs.Decision4.{IsOffer, decision_of, keep_of, kept_slot, offer_change, offer_of}
 use Rattle.bindings_v4.specs.Slots4.{Holders4, PoolSlots, AreSlots, IsOfferWithin, with_offer, with_kept, holder_of}
 use Rattle.slots.specs.Row.{Change}
 use Rattle.bindings_v4.proofs.KeptLemmas.{holder_within, never_offered}
@@ -69,9 +69,9 @@ module _ (v : PoolSlots) (t : ℕ) (are : AreSlots v.pool v.slots) where
         frees = λ i is. tt;
       }
 
-  pub decided_in_time : (m : Request4) (d : Decision4) → d ≡ decision_of (number4 v.pool.first) t m.key (row v t m are v.pool (found v t m are)) → IfSome d.keep (λ kept. EndsBy (t + 604800) kept.content)
+  pub decided_in_time : (m : Request4) (d : Decision4) → d ≡ decision_of (number4 v.pool.first) t m.key (row v t m are v.pool (found v t m are)) → IfSome (kept_slot d.change) (λ kept. EndsBy (t + 604800) kept.content)
   decided_in_time m d e =
-      subst (λ (x : Decision4). IfSome x.keep (λ kept. EndsBy (t + 604800) kept.content)) (sym e) (of_row v t m are (EndsInTime m.key) (ends_in_time m.key))
+      subst (λ (x : Decision4). IfSome (kept_slot x.change) (λ kept. EndsBy (t + 604800) kept.content)) (sym e) (of_row v t m are (EndsInTime m.key) (ends_in_time m.key))
 
   -- and what is offered is a slot of the pool, for a minute
   abbrev OffersInTime : List ℕ → Change → Type 0
@@ -88,6 +88,6 @@ module _ (v : PoolSlots) (t : ℕ) (are : AreSlots v.pool v.slots) where
         frees = λ i is. tt;
       }
 
-  pub offered_in_time : (m : Request4) (d : Decision4) → d ≡ decision_of (number4 v.pool.first) t m.key (row v t m are v.pool (found v t m are)) → IfSome d.offer (IsOffer t v.pool.count)
+  pub offered_in_time : (m : Request4) (d : Decision4) → d ≡ decision_of (number4 v.pool.first) t m.key (row v t m are v.pool (found v t m are)) → IfSome (offer_change d.change) (IsOffer t v.pool.count)
   offered_in_time m d e =
-      subst (λ (x : Decision4). IfSome x.offer (IsOffer t v.pool.count)) (sym e) (of_row v t m are (OffersInTime m.key) (offers_in_time m.key))
+      subst (λ (x : Decision4). IfSome (offer_change x.change) (IsOffer t v.pool.count)) (sym e) (of_row v t m are (OffersInTime m.key) (offers_in_time m.key))

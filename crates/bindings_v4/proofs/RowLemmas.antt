@@ -31,7 +31,7 @@ use Rattle.bindings_v4.specs.declared.decision4.KeptSlot.{KeptSlot}
 use Rattle.bindings_v4.specs.declared.decision4.OfferChange.{OfferChange}
 use Rattle.bindings_v4.specs.declared.decision4.OfferChange.TheVariants as offer
 use Rattle.bindings_v4.specs.Book4.{Book4, in_pool}
-use Rattle.bindings_v4.specs.Decision4.{offer_of, keep_of, decision_of}
+use Rattle.bindings_v4.specs.Decision4.{decision_of, keep_of, kept_slot, offer_change, offer_of}
 use Rattle.bindings_v4.specs.Kept4.{keep_in, slot_of, kept_slots}
 use Rattle.bindings_v4.specs.Slots4.{Holders4, PoolSlots, book_of_slots, book_of, AreSlots, with_offer, holder_of, with_kept, with_decision, with_written, with_written_offer, with_written_slot}
 use Rattle.bindings_v4.specs.declared.server4.Server4.{Server4}
@@ -427,25 +427,25 @@ module _ (v : PoolSlots) (t : ℕ) (m : Request4) (are : AreSlots v.pool v.slots
   unfolding answer4
   answer_is d e = ap (λ (x : Decision4). x.answer) e
 
-  pub keep_is : (d : Decision4) → d ≡ decision_of (number4 v.pool.first) t m.key (row v.pool found) → is_some d.keep ≡ (answer4 v.pool t (book_of t v) m).is_kept
+  pub keep_is : (d : Decision4) → d ≡ decision_of (number4 v.pool.first) t m.key (row v.pool found) → is_some (kept_slot d.change) ≡ (answer4 v.pool t (book_of t v) m).is_kept
   unfolding answer4
-  keep_is d e = ap (λ (x : Decision4). is_some x.keep) e ∙ kept_is (number4 v.pool.first) m.key (row v.pool found).change
+  keep_is d e = ap (λ (x : Decision4). is_some (kept_slot x.change)) e ∙ kept_is (number4 v.pool.first) m.key (row v.pool found).change
 
   pub book_is : (d : Decision4) → d ≡ decision_of (number4 v.pool.first) t m.key (row v.pool found) → book_of t (with_decision d v) ≡ (answer4 v.pool t (book_of t v) m).book
   unfolding answer4
   book_is d e = ap (λ (x : Decision4). book_of t (with_decision x v)) e ∙ of_row (ShowsItsBook v t m.key are) (shows_its_book v t m.key are)
 
-  pub slot_is : (d : Decision4) → d ≡ decision_of (number4 v.pool.first) t m.key (row v.pool found) → IfSome d.keep (λ kept. kept.slot < v.pool.count)
+  pub slot_is : (d : Decision4) → d ≡ decision_of (number4 v.pool.first) t m.key (row v.pool found) → IfSome (kept_slot d.change) (λ kept. kept.slot < v.pool.count)
   slot_is d e =
-      subst (λ (x : Decision4). IfSome x.keep (λ kept. kept.slot < v.pool.count)) (sym e) (of_row (KeepsInPool v t m.key are) (keeps_in_pool v t m.key are))
+      subst (λ (x : Decision4). IfSome (kept_slot x.change) (λ kept. kept.slot < v.pool.count)) (sym e) (of_row (KeepsInPool v t m.key are) (keeps_in_pool v t m.key are))
 
-  pub slots_are : (d : Decision4) → d ≡ decision_of (number4 v.pool.first) t m.key (row v.pool found) → kept_slots t (with_decision d v).slots ≡ keep_in d.keep (kept_slots t v.slots)
+  pub slots_are : (d : Decision4) → d ≡ decision_of (number4 v.pool.first) t m.key (row v.pool found) → kept_slots t (with_decision d v).slots ≡ keep_in (kept_slot d.change) (kept_slots t v.slots)
   slots_are d e =
-      subst (λ (x : Decision4). kept_slots t (with_decision x v).slots ≡ keep_in x.keep (kept_slots t v.slots)) (sym e) (of_row (KeepsItsSlot v t m.key are) (keeps_its_slot v t m.key are))
+      subst (λ (x : Decision4). kept_slots t (with_decision x v).slots ≡ keep_in (kept_slot x.change) (kept_slots t v.slots)) (sym e) (of_row (KeepsItsSlot v t m.key are) (keeps_its_slot v t m.key are))
 
   pub written_is : (d : Decision4) → d ≡ decision_of (number4 v.pool.first) t m.key (row v.pool found) → map (live t) (with_decision d v).slots ≡ map (live t) (with_written d v.slots)
   written_is d e =
       subst (λ (x : Decision4). map (live t) (with_decision x v).slots ≡ map (live t) (with_written x v.slots)) (sym e) (of_row (WritesItsSlot v t m.key are) (writes_its_slot v t m.key are))
 
-  pub one_is : (d : Decision4) → d ≡ decision_of (number4 v.pool.first) t m.key (row v.pool found) → (d.offer ≡ None) ⊎ (d.keep ≡ None)
-  one_is d e = subst (λ (x : Decision4). (x.offer ≡ None) ⊎ (x.keep ≡ None)) (sym e) (of_row (ChangesOne v t m.key are) (changes_one v t m.key are))
+  pub one_is : (d : Decision4) → d ≡ decision_of (number4 v.pool.first) t m.key (row v.pool found) → (offer_change d.change ≡ None) ⊎ (kept_slot d.change ≡ None)
+  one_is d e = subst (λ (x : Decision4). (offer_change x.change ≡ None) ⊎ (kept_slot x.change ≡ None)) (sym e) (of_row (ChangesOne v t m.key are) (changes_one v t m.key are))

@@ -16,6 +16,7 @@ use Rattle.bindings_v4.specs.declared.decision4.KeptSlot.{KeptSlot}
 use Rattle.bindings_v4.specs.declared.decision4.OfferChange.{OfferChange}
 use Rattle.bindings_v4.specs.declared.decision4.OfferChange.TheVariants as offer
 use Rattle.bindings_v4.specs.Book4.{Book4, book4_at}
+use Rattle.bindings_v4.specs.Decision4.{kept_slot, offer_change}
 
 -- what each slot of a pool holds
 abbrev pub Holders4 : Type 0
@@ -66,7 +67,7 @@ without_offers slots = map unoffered slots
 
 -- The slots after a decision: its change of offers, and the slot that it keeps.
 abbrev pub with_decision : Decision4 → PoolSlots → PoolSlots
-with_decision decision v = record v { slots = with_kept decision.keep (with_offer decision.offer v.slots) }
+with_decision decision v = record v { slots = with_kept (kept_slot decision.change) (with_offer (offer_change decision.change) v.slots) }
 
 -- The slots with what a decision writes alone, where its client keeps every other slot that it has.
 abbrev pub with_written_offer : Option OfferChange → Holders4 → Holders4
@@ -79,4 +80,4 @@ with_written_slot None slots = slots
 with_written_slot (Some kept) slots = slice_set slots kept.slot (holder_of kept.content)
 
 abbrev pub with_written : Decision4 → Holders4 → Holders4
-with_written decision slots = with_written_slot decision.keep (with_written_offer decision.offer slots)
+with_written decision slots = with_written_slot (kept_slot decision.change) (with_written_offer (offer_change decision.change) slots)

@@ -5,7 +5,7 @@ ghost use Rattle.slots.specs.Lookup.{live, slot_in, until_of};
 ghost use Rattle.types.specs.Addr.{number4};
 ghost use Rattle.types.specs.Slots.{IsWithin4, live4, none_twice, same_client4};
 ghost use Rattle.types.specs.declared.slot4.Slot4.TheVariants.{Free};
-ghost use Rattle.bindings_v4.specs.Decision4.{IsOffer, decision_of};
+ghost use Rattle.bindings_v4.specs.Decision4.{IsOffer, decision_of, kept_slot, offer_change};
 ghost use Rattle.bindings_v4.specs.Kept4.{EndsBy, book4_in, keep_in, kept_book, kept_slots};
 ghost use Rattle.bindings_v4.specs.Lookup4.{IsAt, IsLookup, lookup_of};
 ghost use Rattle.bindings_v4.specs.Slots4.{AreSlots, IsOfferWithin, book_of, with_decision, with_written, without_offers};
@@ -15,7 +15,7 @@ use crate::case4::{Case4, SlotAddress};
 use crate::decision4::Decision4;
 use crate::kept::{kept_slots, live_holders};
 use crate::table4::{Lookup4, decision_for};
-use crate::write::{withdraw_offers, write_kept, write_offer};
+use crate::write::{withdraw_offers, write_change};
 use slots::{Holder, SlotTable};
 use std::marker::Model;
 use types::{Addr4, Key4, Moment, Pool4, Request4, Slots};
@@ -77,17 +77,17 @@ impl Book4 {
     pub fn decide(&self, request: &Request4, clock: Moment) -> Decision4
         ensures exact { result ≡ decision_of (number4 self.now.pool.first) clock request.now.key (row4 self.now.pool clock (book_of clock self.now) request.now) }
         ensures clock { result.clock ≡ clock }
-        ensures keep { is_some result.keep ≡ (answer4 self.now.pool clock (book_of clock self.now) request.now).is_kept }
+        ensures keep { is_some (kept_slot result.change) ≡ (answer4 self.now.pool clock (book_of clock self.now) request.now).is_kept }
         ensures answer { result.answer ≡ (answer4 self.now.pool clock (book_of clock self.now) request.now).answer }
         ensures book { book_of clock (with_decision result self.now) ≡ (answer4 self.now.pool clock (book_of clock self.now) request.now).book }
-        ensures within { IfSome result.keep (λ kept. EndsBy (clock + 604800) kept.content) }
-        ensures slot { IfSome result.keep (λ kept. kept.slot < self.now.pool.count) }
-        ensures offer { IfSome result.offer (IsOffer clock self.now.pool.count) }
+        ensures within { IfSome (kept_slot result.change) (λ kept. EndsBy (clock + 604800) kept.content) }
+        ensures slot { IfSome (kept_slot result.change) (λ kept. kept.slot < self.now.pool.count) }
+        ensures offer { IfSome (offer_change result.change) (IsOffer clock self.now.pool.count) }
         ensures few { self.now.pool.count ≤ 16 }
         ensures size { length self.now.slots ≡ self.now.pool.count }
-        ensures one { (result.offer ≡ None) ⊎ (result.keep ≡ None) }
+        ensures one { (offer_change result.change ≡ None) ⊎ (kept_slot result.change ≡ None) }
         ensures others { map (live clock) (with_decision result self.now).slots ≡ map (live clock) (with_written result self.now.slots) }
-        ensures kept { kept_slots clock (with_decision result self.now).slots ≡ keep_in result.keep (kept_slots clock self.now.slots) }
+        ensures kept { kept_slots clock (with_decision result self.now).slots ≡ keep_in (kept_slot result.change) (kept_slots clock self.now.slots) }
     {
         let found = self.look_up(request, clock);
         let case = Case4 {
@@ -102,11 +102,10 @@ impl Book4 {
     pub fn commit(&mut self, decision: &Decision4)
         ensures slots { self.new ≡ with_decision decision.now self.old }
         ensures pool { self.new.pool ≡ self.old.pool }
-        ensures within { AreWithin self.old.slots → IfSome decision.now.keep (λ kept. IsWithin4 kept.content) → AreWithin self.new.slots }
-        ensures offers { AreOffersWithin self.old.slots → IfSome decision.now.offer IsOfferWithin → AreOffersWithin self.new.slots }
+        ensures within { AreWithin self.old.slots → IfSome (kept_slot decision.now.change) (λ kept. IsWithin4 kept.content) → AreWithin self.new.slots }
+        ensures offers { AreOffersWithin self.old.slots → IfSome (offer_change decision.now.change) IsOfferWithin → AreOffersWithin self.new.slots }
     {
-        write_offer(&mut self.slots, &decision.offer);
-        write_kept(&mut self.slots, &decision.keep);
+        write_change(&mut self.slots, &decision.change);
     }
 
     /// Drops every offer, live or expired. Bindings and bars stay.

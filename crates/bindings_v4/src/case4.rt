@@ -7,7 +7,7 @@ ghost use Rattle.bindings_v4.specs.Lookup4.{IsAt, decision_in};
 ghost use Rattle.slots.specs.Row.{Unchanged, Offers, Withdraws, Bars, Frees, drops, replies};
 ghost use Rattle.bindings_v4.specs.Table4.{grants};
 
-use crate::decision4::{Decision4, KeptSlot, OfferChange};
+use crate::decision4::{Change4, Decision4, KeptSlot, OfferChange};
 use types::{Addr4, Discard, Key4, Moment, Pool4, Reply4, Slot4};
 
 /// How long an offer holds its address, in seconds.
@@ -39,8 +39,7 @@ impl Case4<'_> {
         Decision4 {
             clock: self.clock,
             answer: Err(why),
-            offer: None,
-            keep: None,
+            change: Change4::Nothing,
         }
     }
 
@@ -51,8 +50,7 @@ impl Case4<'_> {
         Decision4 {
             clock: self.clock,
             answer: Ok(reply),
-            offer: None,
-            keep: None,
+            change: Change4::Nothing,
         }
     }
 
@@ -73,8 +71,7 @@ impl Case4<'_> {
         Decision4 {
             clock: self.clock,
             answer: Ok(Reply4::Offer(free.address)),
-            offer: Some(OfferChange::Made(free.slot, *self.client, until)),
-            keep: None,
+            change: Change4::Offers(OfferChange::Made(free.slot, *self.client, until)),
         }
     }
 
@@ -84,7 +81,7 @@ impl Case4<'_> {
         ensures { result ≡ decision_in self.now (drops OtherServer (Withdraws (number4 offered.address))) }
     {
         Decision4 {
-            offer: Some(OfferChange::Withdrawn(offered.slot)),
+            change: Change4::Offers(OfferChange::Withdrawn(offered.slot)),
             ..self.drops(Discard::OtherServer)
         }
     }
@@ -98,8 +95,7 @@ impl Case4<'_> {
         Decision4 {
             clock: self.clock,
             answer: Ok(Reply4::Ack(held.address)),
-            offer: None,
-            keep: Some(KeptSlot {
+            change: Change4::Keeps(KeptSlot {
                 slot: held.slot,
                 content: Slot4::Bound(*self.client, until),
             }),
@@ -113,7 +109,7 @@ impl Case4<'_> {
     {
         let until = self.clock.seconds() + BAR_TIME;
         Decision4 {
-            keep: Some(KeptSlot {
+            change: Change4::Keeps(KeptSlot {
                 slot: bound.slot,
                 content: Slot4::Barred(until),
             }),
@@ -127,7 +123,7 @@ impl Case4<'_> {
         ensures { result ≡ decision_in self.now (drops NothingToSay (Frees (number4 bound.address))) }
     {
         Decision4 {
-            keep: Some(KeptSlot {
+            change: Change4::Keeps(KeptSlot {
                 slot: bound.slot,
                 content: Slot4::Free,
             }),

@@ -8,10 +8,17 @@ pub struct Decision4 {
     pub clock: Moment,
     /// A reply, or why there is none.
     pub answer: Result<Reply4, Discard>,
-    /// What it changes in memory alone.
-    pub offer: Option<OfferChange>,
-    /// What it changes on the disk: it has to be saved before the reply leaves.
-    pub keep: Option<KeptSlot>,
+    pub change: Change4,
+}
+
+/// What a decision changes: one slot at most.
+#[derive(Clone, Copy, PartialEq, Eq)]
+pub enum Change4 {
+    Nothing,
+    /// What is offered, which is in memory alone.
+    Offers(OfferChange),
+    /// What is kept on the disk: it has to be saved before the reply leaves.
+    Keeps(KeptSlot),
 }
 
 /// A change of what is offered.

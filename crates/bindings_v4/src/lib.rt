@@ -13,4 +13,4 @@ mod table4;
 mod write;
 
 pub use book4::Book4;
-pub use decision4::{Decision4, KeptSlot, OfferChange};
+pub use decision4::{Change4, Decision4, KeptSlot, OfferChange};

@@ -1,33 +1,34 @@
 //! Writing slots.
-ghost use Rattle.std.specs.Prelude.{◌≡◌, is_some};
+ghost use Rattle.std.specs.Prelude.{◌≡◌, is_some, Some};
+ghost use Rattle.bindings_v4.specs.Decision4.{kept_slot, offer_change};
 ghost use Rattle.slots.specs.Slots.{offered_to};
 ghost use Rattle.bindings_v4.specs.Slots4.{with_offer, with_kept, without_offers};
 
-use crate::decision4::{KeptSlot, OfferChange};
+use crate::decision4::{Change4, OfferChange};
 use crate::kept::holder_of;
 use slots::{Holder, SlotTable};
 use types::Key4;
 
-/// Writes a change of offers.
-pub fn write_offer(slots: &mut SlotTable<Key4>, change: &Option<OfferChange>)
-    ensures { slots.new ≡ with_offer change.now slots.old }
+/// Writes what a decision changes.
+pub fn write_change(slots: &mut SlotTable<Key4>, change: &Change4)
+    ensures { slots.new ≡ with_kept (kept_slot change.now) (with_offer (offer_change change.now) slots.old) }
 {
-    if let Some(change) = change {
-        match change {
-            OfferChange::Made(slot, key, until) => {
-                slots.write(*slot, Some(Holder::Offered(*key, *until)));
-            }
-            OfferChange::Withdrawn(slot) => slots.write(*slot, None),
-        }
+    match change {
+        Change4::Nothing => {}
+        Change4::Offers(offer) => write_offer(slots, offer),
+        Change4::Keeps(kept) => slots.write(kept.slot, holder_of(kept.content)),
     }
 }
 
-/// Writes the slot that a decision keeps.
-pub fn write_kept(slots: &mut SlotTable<Key4>, keep: &Option<KeptSlot>)
-    ensures { slots.new ≡ with_kept keep.now slots.old }
+/// Writes a change of offers.
+fn write_offer(slots: &mut SlotTable<Key4>, change: &OfferChange)
+    ensures { slots.new ≡ with_offer (Some change.now) slots.old }
 {
-    if let Some(kept) = keep {
-        slots.write(kept.slot, holder_of(kept.content));
+    match change {
+        OfferChange::Made(slot, key, until) => {
+            slots.write(*slot, Some(Holder::Offered(*key, *until)));
+        }
+        OfferChange::Withdrawn(slot) => slots.write(*slot, None),
     }
 }
 

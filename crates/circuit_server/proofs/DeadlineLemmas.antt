@@ -11,7 +11,7 @@ use Rattle.slots.specs.Slots.{client_of, is_clients, with_slot, with_vacancy, wi
 use Rattle.timers.specs.Deadlines.{DeadlinesValue, deadline, entry_after_sweep}
 use Rattle.types.specs.Key6.{same_key6}
 use Rattle.bindings_v4.specs.Slots4 as slots4
-use Rattle.bindings_v4.specs.Decision4.{IsOffer}
+use Rattle.bindings_v4.specs.Decision4.{IsOffer, kept_slot, offer_change}
 use Rattle.bindings_v4.specs.declared.decision4.KeptSlot.{KeptSlot as KeptSlot4}
 use Rattle.bindings_v4.specs.declared.decision4.OfferChange.{OfferChange}
 use Rattle.bindings_v4.specs.declared.decision4.OfferChange.TheVariants as offer
@@ -254,7 +254,7 @@ keep6_inside None count few its = tt
 keep6_inside (Some kept) count few its = omega (arith, few, its)
 
 pub slots_inside : (d : CircuitDecision) (o : OpenCircuitValue) → KeepsItsSlot d o → HasItsSlots d
-slots_inside (V4 made) o keeps = (keep4_inside made.decision.keep o.four.pool.count keeps.2 keeps.1, offer_inside made.decision.offer o.clock o.four.pool.count keeps.2 keeps.3)
+slots_inside (V4 made) o keeps = (keep4_inside (kept_slot made.decision.change) o.four.pool.count keeps.2 keeps.1, offer_inside (offer_change made.decision.change) o.clock o.four.pool.count keeps.2 keeps.3)
 slots_inside (V6 made) o keeps = keep6_inside made.decision.keep o.six.pool.count keeps.2 keeps.1
 
 -- the table after a decision
@@ -262,15 +262,15 @@ pub after_decision : (d : CircuitDecision) (table : DeadlinesValue) (first : ℕ
     → HasDeadlines (with_deadlines d first table) first (Some (with_decision d o))
 after_decision (V4 made) table first o room keeps others has =
     let its = slots_inside (V4 made) o keeps in
-    let offered = with_offered first made.decision.offer table in
-    let after = with_kept4 first made.decision.keep offered in
-    let more : first + 32 ≤ length offered.slots = omega (arith, room, size_offered made.decision.offer table first) in
-    let size : length (slots4.with_written_offer made.decision.offer o.four.slots) ≡ o.four.pool.count = size_written made.decision.offer o.four.slots ∙ others.1 in
+    let offered = with_offered first (offer_change made.decision.change) table in
+    let after = with_kept4 first (kept_slot made.decision.change) offered in
+    let more : first + 32 ≤ length offered.slots = omega (arith, room, size_offered (offer_change made.decision.change) table first) in
+    let size : length (slots4.with_written_offer (offer_change made.decision.change) o.four.slots) ≡ o.four.pool.count = size_written (offer_change made.decision.change) o.four.slots ∙ others.1 in
     both after first (with_decision (V4 made) o)
     (with_live after first o.clock (slots4.with_written made.decision o.four.slots) (slots4.with_decision made.decision o.four).slots others.0
-    (after_keep4 made.decision.keep offered first o.clock o.four.pool.count (slots4.with_written_offer made.decision.offer o.four.slots) more keeps.2 size keeps.1
-    (after_offer made.decision.offer table first o.clock o.four.pool.count o.four.slots room keeps.2 others.1 keeps.3 (four_of table first o has))))
-    (kept4_aside made.decision.keep offered first o.clock o.six.slots its.0 (offered_aside made.decision.offer table first o.clock o.six.slots its.1 (six_of table first o has)))
+    (after_keep4 (kept_slot made.decision.change) offered first o.clock o.four.pool.count (slots4.with_written_offer (offer_change made.decision.change) o.four.slots) more keeps.2 size keeps.1
+    (after_offer (offer_change made.decision.change) table first o.clock o.four.pool.count o.four.slots room keeps.2 others.1 keeps.3 (four_of table first o has))))
+    (kept4_aside (kept_slot made.decision.change) offered first o.clock o.six.slots its.0 (offered_aside (offer_change made.decision.change) table first o.clock o.six.slots its.1 (six_of table first o has)))
 after_decision (V6 made) table first o room keeps others has =
     let after = with_kept6 first made.decision.keep table in
     both after first (with_decision (V6 made) o)
@@ -335,7 +335,7 @@ by_change6 (Some k) table first count o room few size kept =
 
 pub old_or_decided : (d : CircuitDecision) (table : DeadlinesValue) (first : ℕ) (o : OpenCircuitValue) → first + 32 ≤ length table.slots → KeepsItsSlot d o → LosesNoOther d o
     → AreOldOrHeld first table (with_deadlines d first table) (Some (with_decision d o))
-old_or_decided (V4 made) table first o room keeps others = by_change4 made.decision.offer made.decision.keep table first o.clock o.four.pool.count o room keeps.2 others.1 keeps.3 keeps.1 others.2
+old_or_decided (V4 made) table first o room keeps others = by_change4 (offer_change made.decision.change) (kept_slot made.decision.change) table first o.clock o.four.pool.count o room keeps.2 others.1 keeps.3 keeps.1 others.2
 old_or_decided (V6 made) table first o room keeps others = by_change6 made.decision.keep table first o.six.pool.count o room keeps.2 others.1 keeps.1
 
 -- nothing beside the circuit's slots
@@ -366,5 +366,5 @@ pub unchanged : (first : ℕ) (table : DeadlinesValue) → SameBeside first tabl
 unchanged first table = record { size = refl; looks = refl; beside = λ n out. refl }
 
 pub beside_decision : (d : CircuitDecision) (table : DeadlinesValue) (first : ℕ) → HasItsSlots d → SameBeside first table (with_deadlines d first table)
-beside_decision (V4 made) table first its = beside_kept4 made.decision.keep first table (with_offered first made.decision.offer table) its.0 (beside_offered made.decision.offer first table table its.1 (unchanged first table))
+beside_decision (V4 made) table first its = beside_kept4 (kept_slot made.decision.change) first table (with_offered first (offer_change made.decision.change) table) its.0 (beside_offered (offer_change made.decision.change) first table table its.1 (unchanged first table))
 beside_decision (V6 made) table first its = beside_kept6 made.decision.keep first table table its (unchanged first table)

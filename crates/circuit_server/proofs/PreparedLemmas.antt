@@ -5,6 +5,7 @@ use Rattle.std.proofs.lemmas.Bool.{eq-eqb, eqb-true, leb-true}
 use Rattle.types.specs.Delivery.{DeliveryValue}
 use Rattle.types.specs.declared.discard.Discard.{Discard}
 use Rattle.config.specs.CircuitPart.{CircuitPart}
+use Rattle.bindings_v4.specs.Decision4.{kept_slot}
 use Rattle.lease_disk.specs.declared.content.Content.{Content}
 use Rattle.lease_disk.specs.declared.device.Fault.{Fault}
 use Rattle.lease_disk.specs.declared.marks.Marks.{Marks}
@@ -16,7 +17,7 @@ use Rattle.batch_saves.specs.Batch.{IsReady}
 use Rattle.batch_saves.specs.declared.saving.Saving.{Saving}
 use Rattle.circuit_server.specs.Answered.{IsAnswer, answered, saves}
 use Rattle.circuit_server.specs.Calls.{IsCalledToSaveAt}
-use Rattle.circuit_server.specs.CircuitDecision.{IsToSave, IsWithin, KeepsItsSlot, LosesNoOther, is_kept, kept_in, served_by}
+use Rattle.circuit_server.specs.CircuitDecision.{IsToSave, IsWithin, KeepsItsSlot, LosesNoOther, is_kept, kept_in, served_by, with_decision}
 use Rattle.circuit_server.specs.CircuitServerValue.{HasPools, IsReadyFor, OpenCircuitValue, open_book}
 use Rattle.circuit_server.specs.Leases.{Leases, after_datagram, formats_of, restarts_of}
 use Rattle.circuit_server.specs.Prepared.{IsDecided, IsDropped, IsMade, IsPrepared, IsSavedAlone, IsSettled, marks_by, saving_of, with_marks}
@@ -42,11 +43,11 @@ none_kept f None e = refl
 none_kept f (Some k) e = absurd cc
 
 pub keeps_some : (decision : CircuitDecision) (kept : ℕ × Content) → kept_in decision ≡ Some kept → is_kept decision ≡ true
-keeps_some (V4 made) kept e = some_kept _ made.decision.keep kept e
+keeps_some (V4 made) kept e = some_kept _ (kept_slot made.decision.change) kept e
 keeps_some (V6 made) kept e = some_kept _ made.decision.keep kept e
 
 pub keeps_none : (decision : CircuitDecision) → kept_in decision ≡ None → is_kept decision ≡ false
-keeps_none (V4 made) e = none_kept _ made.decision.keep e
+keeps_none (V4 made) e = none_kept _ (kept_slot made.decision.change) e
 keeps_none (V6 made) e = none_kept _ made.decision.keep e
 
 -- what became of a save, whose effective fault this is
@@ -239,6 +240,18 @@ module _ (part : CircuitPart) (d : DeliveryValue) (old new : Option OpenCircuitV
         by : (kept : Option (ℕ × Content)) → kept_in prepared.decision ≡ kept → WasSaved (option_map (saving_of part p.after) kept) saved (was.fuse part.region) (was.region part.region) (later.region part.region)
         by None is = let none = none_is is in (none.0, ap (λ (device : Device). device.region part.region) none.1)
         by (Some kept) is = let one = some_is kept is in (one.saved told, one.answer told, one.marks)
+
+-- ---- a decision's change leaves the clock and the pools
+
+pub decided_later : (moment : ℕ) (decision : CircuitDecision) (state : Option OpenCircuitValue) → IsLater moment state → IsLater moment (option_map (with_decision decision) state)
+decided_later moment decision None later = later
+decided_later moment (V4 made) (Some o) later = later
+decided_later moment (V6 made) (Some o) later = later
+
+pub decided_pools : (part : CircuitPart) (decision : CircuitDecision) (state : Option OpenCircuitValue) → HasPools part state → HasPools part (option_map (with_decision decision) state)
+decided_pools part decision None pools = pools
+decided_pools part (V4 made) (Some o) pools = pools
+decided_pools part (V6 made) (Some o) pools = pools
 
 -- ---- datagrams that are dropped
 

@@ -18,6 +18,7 @@ use Rattle.std.proofs.lemmas.Option.{same_Some}
 use Rattle.lease_disk.specs.declared.content.Content.{Content}
 use Rattle.lease_disk.specs.declared.content.Content.TheVariants as content
 use Rattle.bindings_v4.specs.Kept4.{kept_slots as kept_slots4, keep_in as keep_in4}
+use Rattle.bindings_v4.specs.Decision4.{kept_slot}
 use Rattle.bindings_v4.specs.Slots4 as slots4
 use Rattle.bindings_v4.specs.declared.decision4.Decision4.{Decision4}
 use Rattle.bindings_v4.specs.declared.decision4.KeptSlot.{KeptSlot as KeptSlot4}
@@ -101,7 +102,7 @@ in_pool6 s count x h k =
     let below : nat_lt s count ≡ true = grind (arith, h) in
     rw (past, few, back, below) refl
 
-kept4 : (decision : Decision4) (o : OpenCircuitValue) (region : Region) (keep : Option KeptSlot4) → decision.keep ≡ keep
+kept4 : (decision : Decision4) (o : OpenCircuitValue) (region : Region) (keep : Option KeptSlot4) → (kept_slot decision.change) ≡ keep
     → (kept_slots4 o.clock (slots4.with_decision decision o.four).slots ≡ keep_in4 keep (kept_slots4 o.clock o.four.slots)) → IfSome keep (λ kept. kept.slot < o.four.pool.count) → o.four.pool.count ≤ 16
     → IsReadyFor region (Some o) → (s : ℕ) (changed : Content) → option_map {U = ℕ × Content} (λ kept. (kept.slot, content.Four kept.content)) keep ≡ Some (s, changed)
     → IsToSave region s changed (record o { four = slots4.with_decision decision o.four })
@@ -130,7 +131,7 @@ fits6 None count below few = tt
 fits6 (Some k) count below few = (omega (arith, below, few), (omega arith, omega (arith, below, few)))
 
 kept_fits : (d : CircuitDecision) (o : OpenCircuitValue) → KeepsItsSlot d o → IfSome (kept_in d) (λ kept. (kept.0 < 32) × Fits kept.0 kept.1)
-kept_fits (V4 made) o keeps = fits4 made.decision.keep o.four.pool.count keeps.1 keeps.2
+kept_fits (V4 made) o keeps = fits4 (kept_slot made.decision.change) o.four.pool.count keeps.1 keeps.2
 kept_fits (V6 made) o keeps = fits6 made.decision.keep o.six.pool.count keeps.1 keeps.2
 
 pub is_fit : (d : CircuitDecision) (o : OpenCircuitValue) (s : ℕ) (changed : Content) → KeepsItsSlot d o → kept_in d ≡ Some (s, changed) → Fits s changed
@@ -160,7 +161,7 @@ kept6 decision o region (Some k) is kept below few ready s changed e =
 pub is_to_save : (d : CircuitDecision) (o n : OpenCircuitValue) (region : Region) (s : ℕ) (changed : Content) → n ≡ with_decision d o → KeepsItsSlot d o → IsReadyFor region (Some o) → kept_in d ≡ Some (s, changed)
     → IsToSave region s changed n
 is_to_save (V4 made) o n region s changed is keeps ready e =
-    subst (λ x. IsToSave region s changed x) (sym is) (kept4 made.decision o region made.decision.keep refl keeps.0 keeps.1 keeps.2 ready s changed e)
+    subst (λ x. IsToSave region s changed x) (sym is) (kept4 made.decision o region (kept_slot made.decision.change) refl keeps.0 keeps.1 keeps.2 ready s changed e)
 is_to_save (V6 made) o n region s changed is keeps ready e =
     subst (λ x. IsToSave region s changed x) (sym is) (kept6 made.decision o region made.decision.keep refl keeps.0 keeps.1 keeps.2 ready s changed e)
 
@@ -181,7 +182,7 @@ none6 decision o region None kept ready e =
 none6 decision o region (Some k) kept ready e = absurd cc
 
 pub still_ready : (d : CircuitDecision) (o n : OpenCircuitValue) (region : Region) → n ≡ with_decision d o → KeepsItsSlot d o → IsReadyFor region (Some o) → kept_in d ≡ None → IsReadyFor region (Some n)
-still_ready (V4 made) o n region is keeps ready e = subst (λ x. IsReadyFor region (Some x)) (sym is) (none4 made.decision o region made.decision.keep keeps.0 ready e)
+still_ready (V4 made) o n region is keeps ready e = subst (λ x. IsReadyFor region (Some x)) (sym is) (none4 made.decision o region (kept_slot made.decision.change) keeps.0 ready e)
 still_ready (V6 made) o n region is keeps ready e = subst (λ x. IsReadyFor region (Some x)) (sym is) (none6 made.decision o region made.decision.keep keeps.0 ready e)
 
 -- at a later moment

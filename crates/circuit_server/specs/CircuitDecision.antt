@@ -13,7 +13,7 @@ use Rattle.lease_disk.specs.Region.{Region, IsClean}
 use Rattle.lease_disk.specs.Save.{AreMarks, is_read, with_slot}
 use Rattle.slots.specs.Lookup.{live}
 use Rattle.bindings_v4.specs.Kept4 as kept4
-use Rattle.bindings_v4.specs.Decision4.{IsOffer}
+use Rattle.bindings_v4.specs.Decision4.{IsOffer, kept_slot, offer_change}
 use Rattle.bindings_v4.specs.Slots4 as slots4
 use Rattle.bindings_v6.specs.Kept6 as kept6
 use Rattle.bindings_v6.specs.Slots6 as slots6
@@ -35,19 +35,19 @@ with_decision (V4 made) o = record o { four = slots4.with_decision made.decision
 with_decision (V6 made) o = record o { six = slots6.with_decision made.decision o.six }
 
 abbrev pub is_kept : CircuitDecision → Bool
-is_kept (V4 made) = is_some made.decision.keep
+is_kept (V4 made) = is_some (kept_slot made.decision.change)
 is_kept (V6 made) = is_some made.decision.keep
 
 -- the slot of the region that is kept, and what it is to hold: those of the DHCPv6 pool begin at 16
 abbrev pub kept_in : CircuitDecision → Option (ℕ × Content)
-kept_in (V4 made) = option_map (λ kept. (kept.slot, content.Four kept.content)) made.decision.keep
+kept_in (V4 made) = option_map (λ kept. (kept.slot, content.Four kept.content)) (kept_slot made.decision.change)
 kept_in (V6 made) = option_map (λ kept. (16 + kept.slot, content.Six kept.content)) made.decision.keep
 
 -- of what a region keeps, a decision changes the slot that it keeps alone, which is one of the pool
 abbrev pub KeepsItsSlot : CircuitDecision → OpenCircuitValue → Type 0
 KeepsItsSlot (V4 made) o =
-    (kept4.kept_slots o.clock (slots4.with_decision made.decision o.four).slots ≡ kept4.keep_in made.decision.keep (kept4.kept_slots o.clock o.four.slots))
-    × IfSome made.decision.keep (λ kept. kept.slot < o.four.pool.count) × (o.four.pool.count ≤ 16) × IfSome made.decision.offer (IsOffer o.clock o.four.pool.count)
+    (kept4.kept_slots o.clock (slots4.with_decision made.decision o.four).slots ≡ kept4.keep_in (kept_slot made.decision.change) (kept4.kept_slots o.clock o.four.slots))
+    × IfSome (kept_slot made.decision.change) (λ kept. kept.slot < o.four.pool.count) × (o.four.pool.count ≤ 16) × IfSome (offer_change made.decision.change) (IsOffer o.clock o.four.pool.count)
 KeepsItsSlot (V6 made) o =
     (kept6.kept_slots o.clock (slots6.with_decision made.decision o.six).slots ≡ kept6.keep_in made.decision.keep (kept6.kept_slots o.clock o.six.slots))
     × IfSome made.decision.keep (λ kept. kept.slot < o.six.pool.count) × (o.six.pool.count ≤ 16)
@@ -55,13 +55,13 @@ KeepsItsSlot (V6 made) o =
 -- by the clock a decision changes nothing but the slots that it writes, which are slots of the pool
 abbrev pub LosesNoOther : CircuitDecision → OpenCircuitValue → Type 0
 LosesNoOther (V4 made) o =
-    (map (live o.clock) (slots4.with_decision made.decision o.four).slots ≡ map (live o.clock) (slots4.with_written made.decision o.four.slots)) × (length o.four.slots ≡ o.four.pool.count) × ((made.decision.offer ≡ None) ⊎ (made.decision.keep ≡ None))
+    (map (live o.clock) (slots4.with_decision made.decision o.four).slots ≡ map (live o.clock) (slots4.with_written made.decision o.four.slots)) × (length o.four.slots ≡ o.four.pool.count) × ((offer_change made.decision.change ≡ None) ⊎ (kept_slot made.decision.change ≡ None))
 LosesNoOther (V6 made) o =
     (map (live o.clock) (slots6.with_decision made.decision o.six).slots ≡ map (live o.clock) (slots6.with_written made.decision o.six.slots)) × (length o.six.slots ≡ o.six.pool.count)
 
 -- a slot that is kept or offered is held within its limit
 abbrev pub IsWithin : CircuitDecision → Type 0
-IsWithin (V4 made) = IfSome made.decision.keep (λ kept. IsWithin4 kept.content) × IfSome made.decision.offer slots4.IsOfferWithin
+IsWithin (V4 made) = IfSome (kept_slot made.decision.change) (λ kept. IsWithin4 kept.content) × IfSome (offer_change made.decision.change) slots4.IsOfferWithin
 IsWithin (V6 made) = IfSome made.decision.keep (λ kept. IsWithin6 kept.content)
 
 -- what an open circuit serves by a decision

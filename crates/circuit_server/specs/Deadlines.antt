@@ -3,6 +3,7 @@
 use Rattle.std.specs.Prelude.{◌≡◌, ◌⊎◌, ℕ, ◌+◌, ◌-◌, ◌<◌, ◌≤◌, nat_lt, if◌then◌else◌, length, map, Option, Some, None, option_map, IfSome, slice_index_or, slice_set}
 use Rattle.slots.specs.Lookup.{until_of}
 use Rattle.timers.specs.Deadlines.{DeadlinesValue, deadline, entry_after_sweep}
+use Rattle.bindings_v4.specs.Decision4.{kept_slot, offer_change}
 use Rattle.bindings_v4.specs.Slots4 as slots4
 use Rattle.bindings_v4.specs.declared.decision4.KeptSlot.{KeptSlot as KeptSlot4}
 use Rattle.bindings_v4.specs.declared.decision4.OfferChange.{OfferChange}
@@ -67,7 +68,7 @@ with_kept6 first None table = table
 with_kept6 first (Some kept) table = with_until (first + (16 + kept.slot)) (option_map until_of (slots6.holder_of kept.content)) table
 
 abbrev pub with_deadlines : CircuitDecision → ℕ → DeadlinesValue → DeadlinesValue
-with_deadlines (V4 made) first table = with_kept4 first made.decision.keep (with_offered first made.decision.offer table)
+with_deadlines (V4 made) first table = with_kept4 first (kept_slot made.decision.change) (with_offered first (offer_change made.decision.change) table)
 with_deadlines (V6 made) first table = with_kept6 first made.decision.keep table
 
 -- the slots that it keeps or offers are slots of a pool
@@ -76,5 +77,5 @@ IsOfferIn (offer.Made slot client until) = slot < 16
 IsOfferIn (offer.Withdrawn slot) = slot < 16
 
 abbrev pub HasItsSlots : CircuitDecision → Type 0
-HasItsSlots (V4 made) = IfSome made.decision.keep (λ kept. kept.slot < 16) × IfSome made.decision.offer IsOfferIn
+HasItsSlots (V4 made) = IfSome (kept_slot made.decision.change) (λ kept. kept.slot < 16) × IfSome (offer_change made.decision.change) IsOfferIn
 HasItsSlots (V6 made) = IfSome made.decision.keep (λ kept. kept.slot < 16)

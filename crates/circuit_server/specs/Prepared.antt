@@ -1,5 +1,5 @@
 -- What is made of a datagram of an open circuit before it is saved, and what comes of it then. Only contracts between crates cite this.
-use Rattle.std.specs.Prelude.{◌≡◌, ◌==◌, ◌+◌, ◌≤◌, ℕ, Bool, true, List, [], Option, Some, None, option_map, Result, Ok, Err, IfOk, OnOk, is_ok, is_some}
+use Rattle.std.specs.Prelude.{◌≡◌, ◌==◌, ◌+◌, ◌≤◌, ℕ, Bool, true, List, [], Option, Some, None, option_map, Result, Ok, Err, IfOk, IfSome, OnOk, is_ok, is_some}
 use Rattle.types.specs.Delivery.{DeliveryValue}
 use Rattle.types.specs.declared.discard.Discard.{Discard}
 use Rattle.types.specs.declared.discard.Discard.TheVariants.{DiskFault}
@@ -86,6 +86,13 @@ pub record IsSavedAlone (tells : Bool) (result : Result (Option Marks) Fault) (o
   pub writes : OnOk result (new.writes ≡ old.writes + 6)
   pub most : new.writes ≤ old.writes + 6
   pub failures : new.failures ≡ faults_after s.region result old.failures
+
+-- A decision's changes of the books are made, and what has to be saved, if anything, was saved alone.
+pub record IsMadeAndSaved (tells : Bool) (part : CircuitPart) (decision : CircuitDecision) (old new : Option OpenCircuitValue) (result : Result (Option Marks) Fault) (was later : Device) : Type 0 where
+  pub saving : Option Saving
+  pub made : (before : OpenCircuitValue) → old ≡ Some before → IsMade part decision before new saving
+  pub nothing : saving ≡ None → (result ≡ Ok None) × (later ≡ was)
+  pub saved : IfSome saving (IsSavedAlone tells result was later)
 
 -- an open circuit with these marks
 abbrev pub with_marks : Option Marks → Option OpenCircuitValue → Option OpenCircuitValue

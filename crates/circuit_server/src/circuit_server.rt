@@ -1,5 +1,5 @@
 //! The server of one circuit: what it has while it is open, and what it makes of a message.
-ghost use Rattle.std.specs.Prelude.{◌≡◌, ◌<◌, ◌≤◌, ◌+◌, ℕ, length, [], Some, None, IfOk, IfErr, IfSome, true, is_some, option_map};
+ghost use Rattle.std.specs.Prelude.{◌≡◌, ◌<◌, ◌≤◌, ◌+◌, ℕ, Option, length, [], Some, None, IfOk, IfErr, IfSome, true, is_some, option_map};
 ghost use Rattle.config.specs.CircuitPart.{IsPart};
 ghost use Rattle.circuit_server.specs.Deadlines.{AreOldOrHeld, HasDeadlines, SameBeside, held_in};
 ghost use Rattle.circuit_server.specs.Leases.{IsBroughtUp, after_datagram, counts_of, found_leases};
@@ -7,9 +7,11 @@ ghost use Rattle.timers.specs.Deadlines.{DeadlinesValue, deadline};
 ghost use Rattle.types.specs.Slots.{last_until};
 ghost use Rattle.circuit_server.specs.Answered.{IsAnswer, answered, circuit_saves, fails_at};
 ghost use Rattle.requests.specs.RelayedMessage.{IsRelayedMessage};
-ghost use Rattle.circuit_server.specs.Prepared.{IsDecided, IsDecisionSettled, IsDropped, IsMade, IsPrepared, IsSettled, with_marks};
+ghost use Rattle.circuit_server.specs.Prepared.{IsDecided, IsDecisionSettled, IsDropped, IsMade, IsMadeAndSaved, IsPrepared, IsSettled, with_marks};
 ghost use Rattle.circuit_server.specs.Calls.{IsCalledToSaveAt};
-ghost use Rattle.circuit_server.specs.CircuitDecision.{IsWithin, KeepsItsSlot, LosesNoOther};
+ghost use Rattle.circuit_server.specs.CircuitDecision.{IsWithin, KeepsItsSlot, LosesNoOther, with_decision};
+ghost use Rattle.batch_saves.specs.Batch.{IsReady};
+ghost use Rattle.batch_saves.specs.declared.saving.Saving as saved;
 ghost use Rattle.circuit_server.specs.CircuitServerValue.{HasPools, IsReadyFor, OpenCircuitValue, kept_slots, leases_of, open_book};
 ghost use Rattle.circuit_server.specs.SlotsOfPools.{HasSlots};
 ghost use Rattle.circuit_server.specs.Ticked.{IsLater, state_at};
@@ -126,8 +128,30 @@ impl CircuitServer {
         C::decide(circuit, part, read)
     }
 
-    /// Makes what a decision of an open circuit changes of the books and the deadlines. Returns what has to be saved before its
-    /// reply leaves, if anything.
+    /// Makes what a decision of an open circuit changes of the books and the deadlines.
+    fn change<C: Decide>(&mut self, decision: &C, table: &mut Deadlines, first: usize)
+        requires room { first + 32 ≤ length table.old.slots }
+        requires most { first ≤ 32736 }
+        requires deadlines { HasDeadlines table.old first self.old }
+        requires keeps { IfSome self.old (KeepsItsSlot (C.decision decision.now)) }
+        requires others { IfSome self.old (LosesNoOther (C.decision decision.now)) }
+        requires within { IsWithin (C.decision decision.now) }
+        ensures deadlines { HasDeadlines table.new first self.new }
+        ensures beside { SameBeside first table.old table.new }
+        ensures own { AreOldOrHeld first table.old table.new self.new }
+        ensures changed { self.new ≡ option_map (with_decision (C.decision decision.now)) self.old }
+    {
+        let circuit = match &mut self.state {
+            Some(circuit) => circuit,
+            None => return,
+        };
+        decision.commit(circuit);
+        decision.set_deadlines(table, first);
+    }
+
+    /// The same. Returns what has to be saved before its reply leaves, if anything.
+    // not inlined: most datagrams save nothing, and the room for a save is large
+    #[inline(never)]
     fn make<C: Decide>(
         &mut self,
         part: &CircuitPart,
@@ -149,15 +173,47 @@ impl CircuitServer {
         ensures own { AreOldOrHeld first table.old table.new self.new }
         ensures made { (before : OpenCircuitValue) → self.old ≡ Some before → IsMade part.now (C.decision decision.now) before self.new result }
     {
-        let Some(circuit) = &mut self.state else {
+        self.change(decision, table, first);
+        let Some(circuit) = &self.state else {
             return None;
         };
-        decision.commit(circuit);
-        decision.set_deadlines(table, first);
         match decision.kept() {
             Some((slot, content)) => Some(circuit.saving(part, slot, content)),
             None => None,
         }
+    }
+
+    /// The same, and saves what has to be saved, if anything, alone. Returns the marks of the region after it.
+    fn make_and_save<C: Decide, D: Disk>(
+        &mut self,
+        part: &CircuitPart,
+        decision: &C,
+        disk: &mut D,
+        table: &mut Deadlines,
+        first: usize,
+    ) -> Result<Option<Marks>, Fault>
+        requires room { first + 32 ≤ length table.old.slots }
+        requires most { first ≤ 32736 }
+        requires deadlines { HasDeadlines table.old first self.old }
+        requires pools { HasPools part.now self.old }
+        requires keeps { IfSome self.old (KeepsItsSlot (C.decision decision.now)) }
+        requires others { IfSome self.old (LosesNoOther (C.decision decision.now)) }
+        requires within { IsWithin (C.decision decision.now) }
+        requires ready { (new : Option OpenCircuitValue) (saving : Option saved.Saving) → HasPools part.now new
+            → ((before : OpenCircuitValue) → self.old ≡ Some before → IsMade part.now (C.decision decision.now) before new saving) → IfSome saving (IsReady D.tells (D.device disk.old)) }
+        ensures later { (moment : ℕ) → IsLater moment self.old → IsLater moment self.new }
+        ensures pools { HasPools part.now self.new }
+        ensures deadlines { HasDeadlines table.new first self.new }
+        ensures beside { SameBeside first table.old table.new }
+        ensures own { AreOldOrHeld first table.old table.new self.new }
+        ensures saved { IsMadeAndSaved D.tells part.now (C.decision decision.now) self.old self.new result (D.device disk.old) (D.device disk.new) }
+    {
+        if !decision.saves() {
+            self.change(decision, table, first);
+            return Ok(None);
+        }
+        let saving = self.make(part, decision, table, first);
+        save_alone(&saving, disk)
     }
 
     /// Decides on a datagram of the circuit, of which this was read, at the moment of its delivery, and makes what it changes
@@ -352,8 +408,7 @@ impl CircuitServer {
         let decided: Result<C, Discard> = self.decide(part, delivery, read);
         match &decided {
             Ok(decision) => {
-                let saving = self.make(part, decision, table, first);
-                let saved = save_alone(&saving, disk);
+                let saved = self.make_and_save(part, decision, disk, table, first);
                 self.settle_decision(part, decision, saved, out, table, first)
             }
             Err(why) => Err(*why),

@@ -1,5 +1,5 @@
 //! What a circuit's server decides on a client's message, in either protocol.
-ghost use Rattle.std.specs.Prelude.{◌≡◌, ◌<◌, ◌≤◌, ◌+◌, ℕ, List, IfErr, IfOk, IfSome, Some, [], length, option_map};
+ghost use Rattle.std.specs.Prelude.{◌≡◌, ◌<◌, ◌≤◌, ◌+◌, ℕ, List, IfErr, IfOk, IfSome, Some, [], is_some, length, option_map};
 ghost use Rattle.std.specs.Result.{result_map_both};
 ghost use Rattle.types.specs.Slots.{IsWithin4, IsWithin6, last_until};
 ghost use Rattle.slots.specs.Lookup.{until_of};
@@ -18,7 +18,7 @@ ghost use Rattle.replies.specs.Reply4.{reply4_bytes};
 ghost use Rattle.replies.specs.Reply6.{reply6_bytes};
 
 use crate::open_circuit::OpenCircuit;
-use bindings_v4::{Decision4, KeptSlot as KeptSlot4, OfferChange};
+use bindings_v4::{Change4, Decision4, KeptSlot as KeptSlot4, OfferChange};
 use bindings_v6::{Decision6, KeptSlot as KeptSlot6};
 use config::CircuitPart;
 use lease_disk::Content;
@@ -84,6 +84,10 @@ pub(crate) trait Decide: Drop + Sized {
         requires { IfSome (kept_in (decision self.now)) (λ kept. kept.0 < 32) }
         ensures { result ≡ kept_in (decision self.now) };
 
+    /// Whether there is such a slot.
+    fn saves(&self) -> bool
+        ensures { result ≡ is_some (kept_in (decision self.now)) };
+
     /// Gives the slots that the decision changes their deadlines, where this is the number of the circuit's
     /// first slot. A slot that is free now because its client has another one may keep what it had until
     /// that is due.
@@ -124,13 +128,22 @@ impl<'a> Decide for CircuitDecision4<'a> {
     }
 
     fn kept(&self) -> Option<(usize, Content)> {
-        let kept = self.decision.keep?;
-        Some((kept.slot, Content::Four(kept.content)))
+        match &self.decision.change {
+            Change4::Keeps(kept) => Some((kept.slot, Content::Four(kept.content))),
+            Change4::Nothing | Change4::Offers(_) => None,
+        }
+    }
+
+    fn saves(&self) -> bool {
+        matches!(self.decision.change, Change4::Keeps(_))
     }
 
     fn set_deadlines(&self, table: &mut Deadlines, first: usize) {
-        set_offered(table, first, &self.decision.offer);
-        set_kept4(table, first, &self.decision.keep);
+        match &self.decision.change {
+            Change4::Nothing => {}
+            Change4::Offers(offer) => set_offered(table, first, offer),
+            Change4::Keeps(kept) => set_kept4(table, first, kept),
+        }
     }
 
     fn reply(&self, part: &CircuitPart, out: &mut PacketBuf) -> Result<(), Discard> {
@@ -163,6 +176,10 @@ impl<'a> Decide for CircuitDecision6<'a> {
     fn kept(&self) -> Option<(usize, Content)> {
         let kept = self.decision.keep?;
         Some((SIX_SLOTS_FROM + kept.slot, Content::Six(kept.content)))
+    }
+
+    fn saves(&self) -> bool {
+        self.decision.keep.is_some()
     }
 
     fn set_deadlines(&self, table: &mut Deadlines, first: usize) {
@@ -211,6 +228,13 @@ impl<'a> Decide for CircuitDecision<'a> {
         }
     }
 
+    fn saves(&self) -> bool {
+        match self {
+            CircuitDecision::V4(made) => made.saves(),
+            CircuitDecision::V6(made) => made.saves(),
+        }
+    }
+
     fn set_deadlines(&self, table: &mut Deadlines, first: usize) {
         match self {
             CircuitDecision::V4(made) => made.set_deadlines(table, first),
@@ -227,31 +251,28 @@ impl<'a> Decide for CircuitDecision<'a> {
 }
 
 /// What a change of offers makes of the deadlines.
-fn set_offered(table: &mut Deadlines, first: usize, change: &Option<OfferChange>)
+fn set_offered(table: &mut Deadlines, first: usize, change: &OfferChange)
     requires room { first + 32 ≤ length table.old.slots }
     requires most { first ≤ 32736 }
-    requires slot { IfSome change.now IsOfferIn }
-    requires within { IfSome change.now slots4.IsOfferWithin }
-    ensures { table.new ≡ with_offered first change.now table.old }
+    requires slot { IsOfferIn change.now }
+    requires within { slots4.IsOfferWithin change.now }
+    ensures { table.new ≡ with_offered first (Some change.now) table.old }
 {
     match change {
-        Some(OfferChange::Made(slot, _, until)) => table.set(first + *slot, *until),
-        Some(OfferChange::Withdrawn(slot)) => table.clear(first + *slot),
-        None => {}
+        OfferChange::Made(slot, _, until) => table.set(first + *slot, *until),
+        OfferChange::Withdrawn(slot) => table.clear(first + *slot),
     }
 }
 
 /// What a slot of the DHCPv4 pool that is kept makes of them.
-fn set_kept4(table: &mut Deadlines, first: usize, keep: &Option<KeptSlot4>)
+fn set_kept4(table: &mut Deadlines, first: usize, kept: &KeptSlot4)
     requires room { first + 32 ≤ length table.old.slots }
     requires most { first ≤ 32736 }
-    requires slot { IfSome keep.now (λ kept. kept.slot < 16) }
-    requires within { IfSome keep.now (λ kept. IsWithin4 kept.content) }
-    ensures { table.new ≡ with_kept4 first keep.now table.old }
+    requires slot { kept.now.slot < 16 }
+    requires within { IsWithin4 kept.now.content }
+    ensures { table.new ≡ with_kept4 first (Some kept.now) table.old }
 {
-    if let Some(kept) = keep {
-        put(table, first + kept.slot, until4(&kept.content));
-    }
+    put(table, first + kept.slot, until4(&kept.content));
 }
 
 /// The same of the DHCPv6 pool.

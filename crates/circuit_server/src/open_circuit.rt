@@ -2,6 +2,7 @@
 ghost use Rattle.std.specs.Prelude.{◌≡◌, ◌<◌, ◌≤◌, ◌+◌, ℕ, true, option_map, List, IfOk, IfErr, IfSome, Some, Err};
 ghost use Rattle.types.specs.Slots.{IsWithin4, IsWithin6, last_until};
 ghost use Rattle.bindings_v4.specs.Slots4 as slots4;
+ghost use Rattle.bindings_v4.specs.Decision4.{kept_slot, offer_change};
 ghost use Rattle.bindings_v6.specs.Slots6 as slots6;
 ghost use Rattle.circuit_server.specs.declared.decision.CircuitDecision.TheVariants as either;
 ghost use Rattle.types.specs.declared.dest.Proto.{Proto};
@@ -214,7 +215,7 @@ impl OpenCircuit {
 
     /// Makes a decision's change of the DHCPv4 book.
     pub(crate) fn commit4(&mut self, decision: &Decision4)
-        requires { IfSome decision.now.keep (λ kept. IsWithin4 kept.content) × IfSome decision.now.offer slots4.IsOfferWithin }
+        requires { IfSome (kept_slot decision.now.change) (λ kept. IsWithin4 kept.content) × IfSome (offer_change decision.now.change) slots4.IsOfferWithin }
         ensures { self.new ≡ record self.old { four = slots4.with_decision decision.now self.old.four } }
     {
         self.four.commit(decision);

@@ -11,7 +11,7 @@ use Rattle.std.proofs.lemmas.Option.{same_Some, none-some}
 use Rattle.slots.specs.declared.holder.Holder.{Holder}
 use Rattle.slots.specs.declared.holder.Holder.TheVariants.{Bound, Offered, Barred}
 use Rattle.slots.specs.Key.{IsKey}
-use Rattle.slots.specs.Lookup.{is_bound_to, is_offered_to}
+use Rattle.slots.specs.Lookup.{is_bound, is_bound_to, is_offered, is_offered_to}
 use Rattle.slots.specs.Maps.{is_live}
 use Rattle.slots.specs.Slots.{is_clients, AreDistinct}
 use Rattle.slots.proofs.ShownLemmas.{Slots, not_true}
@@ -53,6 +53,25 @@ module _ {K : Type 0} {eqk : K → K → Bool} {cmpk : K → K → Ordering} (la
         let same : j ≡ i = same_Some j i (sym (there j first) ∙ is) in
         let passes : test (get_or ss i None) ≡ true = ap (λ n. test (get_or ss n None)) (sym same) ∙ (position-Some test ss j None first).1 in
         first ∙ ap Some same ∙ ap (λ b. cond b (Some i) None) (sym passes)
+
+  -- of a client's slot nobody has to ask whose it is
+  pub bound_own : (clock : ℕ) (k : K) (s : Option (Holder K)) → is_clients eqk k s ≡ true → is_bound clock s ≡ is_bound_to eqk clock k s
+  bound_own clock k None e = refl
+  bound_own clock k (Some (Bound key until)) e = by (is_live clock until) where
+    by : (b : Bool) → b ≡ cond b (eqk k key) false
+    by true = sym e
+    by false = refl
+  bound_own clock k (Some (Offered key until)) e = refl
+  bound_own clock k (Some (Barred until)) e = refl
+
+  pub offered_own : (clock : ℕ) (k : K) (s : Option (Holder K)) → is_clients eqk k s ≡ true → is_offered clock s ≡ is_offered_to eqk clock k s
+  offered_own clock k None e = refl
+  offered_own clock k (Some (Bound key until)) e = refl
+  offered_own clock k (Some (Offered key until)) e = by (is_live clock until) where
+    by : (b : Bool) → b ≡ cond b (eqk k key) false
+    by true = sym e
+    by false = refl
+  offered_own clock k (Some (Barred until)) e = refl
 
   pub bound_is_clients : (clock : ℕ) (k : K) (s : Option (Holder K)) → is_bound_to eqk clock k s ≡ true → is_clients eqk k s ≡ true
   bound_is_clients clock k None e = absurd (not_true e)

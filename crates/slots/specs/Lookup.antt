@@ -38,6 +38,15 @@ module _ {K : Type 0} where
   is_offered_to eqk clock client (Some (Offered key until)) = if is_live clock until then eqk client key else false
   is_offered_to eqk clock client (Some (Barred until)) = false
 
+  -- whether somebody has a live binding of the slot, and a live offer
+  abbrev pub is_bound : ℕ → Option (Holder K) → Bool
+  is_bound clock (Some (Bound key until)) = is_live clock until
+  is_bound clock slot = false
+
+  abbrev pub is_offered : ℕ → Option (Holder K) → Bool
+  is_offered clock (Some (Offered key until)) = is_live clock until
+  is_offered clock slot = false
+
   -- the slot, where it is vacant
   abbrev pub where_vacant : ℕ → List (Option (Holder K)) → Option ℕ → Option ℕ
   where_vacant clock slots None = None

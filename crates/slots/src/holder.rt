@@ -1,8 +1,8 @@
 //! What a slot of a pool holds.
-ghost use Rattle.std.specs.Prelude.{◌≡◌};
+ghost use Rattle.std.specs.Prelude.{◌≡◌, option_map};
 ghost use Rattle.slots.specs.Kept.{kept};
 ghost use Rattle.slots.specs.Maps.{is_live};
-ghost use Rattle.slots.specs.Lookup.{until_of, live, is_vacant, is_bound_to, is_offered_to};
+ghost use Rattle.slots.specs.Lookup.{until_of, live, is_vacant, is_bound, is_bound_to, is_offered};
 ghost use Rattle.slots.specs.Slots.{client_of, is_clients};
 
 /// Who holds an address, and the moment until which it is held, in seconds.
@@ -55,23 +55,26 @@ pub fn is_bound_to<K: PartialEq>(slot: &Option<Holder<K>>, client: &K, clock: u6
     }
 }
 
-/// Whether this client has a live offer of the slot.
-pub fn is_offered_to<K: PartialEq>(slot: &Option<Holder<K>>, client: &K, clock: u64) -> bool
-    ensures { result ≡ is_offered_to K.eq clock client.now slot.now }
+/// Whether somebody has a live binding of the slot.
+pub(crate) fn is_bound<K>(slot: &Option<Holder<K>>, clock: u64) -> bool
+    ensures { result ≡ is_bound clock slot.now }
 {
-    match slot {
-        Some(Holder::Offered(key, until)) => is_live(clock, *until) && client == key,
-        _ => false,
-    }
+    matches!(slot, Some(Holder::Bound(_, until)) if is_live(clock, *until))
+}
+
+/// Whether somebody has a live offer of the slot.
+pub(crate) fn is_offered<K>(slot: &Option<Holder<K>>, clock: u64) -> bool
+    ensures { result ≡ is_offered clock slot.now }
+{
+    matches!(slot, Some(Holder::Offered(_, until)) if is_live(clock, *until))
 }
 
 /// The client that the slot is bound or offered to, expired or not.
-pub fn client_of<K: Copy>(slot: &Option<Holder<K>>) -> Option<K>
-    ensures { result ≡ client_of slot.now }
+pub fn client_of<K>(slot: &Option<Holder<K>>) -> Option<&K>
+    ensures { option_map (λ key. key.now) result ≡ client_of slot.now }
 {
     match slot {
-        Some(Holder::Bound(key, _)) => Some(*key),
-        Some(Holder::Offered(key, _)) => Some(*key),
+        Some(Holder::Bound(key, _) | Holder::Offered(key, _)) => Some(key),
         _ => None,
     }
 }

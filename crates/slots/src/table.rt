@@ -5,7 +5,7 @@ ghost use Rattle.slots.specs.Lookup.{is_vacant, is_bound_to, is_offered_to, pick
 ghost use Rattle.slots.specs.Slots.{AreDistinct, with_slot};
 ghost use Rattle.slots.specs.Used.{IsUsed, used_after};
 
-use crate::holder::{Holder, is_bound_to, is_offered_to, is_vacant};
+use crate::holder::{Holder, is_bound, is_offered, is_vacant};
 use crate::key::SlotKey;
 use crate::lookup::{first_bound, first_vacant};
 use crate::write::{clients_slot, write_slot};
@@ -74,8 +74,8 @@ impl<K: SlotKey> SlotTable<K> {
         };
         let held = &slots[slot];
         (
-            is_bound_to(held, client, clock).then_some(slot),
-            is_offered_to(held, client, clock).then_some(slot),
+            is_bound(held, clock).then_some(slot),
+            is_offered(held, clock).then_some(slot),
         )
     }
 

@@ -66,7 +66,7 @@ pub(crate) fn write_slot<K: SlotKey>(
     ensures { slots.new ≡ with_slot K.eq slot holder slots.old }
 {
     if let Some(client) = client_of(&holder) {
-        vacate_other(slots, used, slot, &client);
+        vacate_other(slots, used, slot, client);
     }
     set_slot(slots, slot, holder);
 }

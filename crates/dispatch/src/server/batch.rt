@@ -196,6 +196,8 @@ impl Server {
     }
 
     /// Decides on all parts of a batch, saves them together, and answers them.
+    // not inlined: its list of sixteen would be room on the stack for one datagram too
+    #[inline(never)]
     fn receive_together<D: Disk>(
         &mut self,
         parts: &[(Proto, Source, &[u8])],

@@ -32,95 +32,95 @@ returns-clause-calls g c =
 
 -- ---- it is decided, saved and settled
 
-pub make-saving-requires-clause-keeps : goal.make-saving-requires-clause-keeps
-make-saving-requires-clause-keeps g c =
+pub make_and_save-saved-requires-clause-keeps : goal.make_and_save-saved-requires-clause-keeps
+make_and_save-saved-requires-clause-keeps g c =
     let decided = subst (λ r. IfOk r (λ made. IsDecided c.args.part.now c.args.delivery.now c.args.self.now c.decide-decided.new.self (g.C.Decide.decision made))) c.in-Ok.is c.decide-decided.ensures.decided in
     subst (λ s. IfSome s (KeepsItsSlot (g.C.Decide.decision c.in-Ok.decision))) (sym decided.is) decided.keeps
 
-pub make-saving-requires-clause-others : goal.make-saving-requires-clause-others
-make-saving-requires-clause-others g c =
+pub make_and_save-saved-requires-clause-others : goal.make_and_save-saved-requires-clause-others
+make_and_save-saved-requires-clause-others g c =
     let decided = subst (λ r. IfOk r (λ made. IsDecided c.args.part.now c.args.delivery.now c.args.self.now c.decide-decided.new.self (g.C.Decide.decision made))) c.in-Ok.is c.decide-decided.ensures.decided in
     subst (λ s. IfSome s (LosesNoOther (g.C.Decide.decision c.in-Ok.decision))) (sym decided.is) decided.others
 
-pub make-saving-requires-clause-deadlines : goal.make-saving-requires-clause-deadlines
-make-saving-requires-clause-deadlines g c = c.decide-decided.ensures.deadlines c.args.table.now c.args.first c.requires.deadlines
+pub make_and_save-saved-requires-clause-deadlines : goal.make_and_save-saved-requires-clause-deadlines
+make_and_save-saved-requires-clause-deadlines g c = c.decide-decided.ensures.deadlines c.args.table.now c.args.first c.requires.deadlines
 
-pub save_alone-saved-requires : goal.save_alone-saved-requires
-save_alone-saved-requires g c =
-    let p = prepared_by g.C.Decide.decision c.args.part.now c.args.delivery.now c.args.self.now c.decide-decided.new.self c.make-saving.new.self c.decide-decided.result c.in-Ok.decision c.make-saving.result c.in-Ok.is c.decide-decided.ensures.decided c.make-saving.ensures.made c.make-saving.ensures.pools in
-    prepared_ready c.args.part.now c.args.delivery.now c.args.self.now c.make-saving.new.self (record { decision = g.C.Decide.decision c.in-Ok.decision; saving = c.make-saving.result }) p g.D.Disk.tells (g.D.Disk.device c.args.disk.now) c.requires.exists c.requires.ready
+pub make_and_save-saved-requires-clause-ready : goal.make_and_save-saved-requires-clause-ready
+make_and_save-saved-requires-clause-ready g c = λ new saving pools made.
+    let p = prepared_by g.C.Decide.decision c.args.part.now c.args.delivery.now c.args.self.now c.decide-decided.new.self new c.decide-decided.result c.in-Ok.decision saving c.in-Ok.is c.decide-decided.ensures.decided made pools in
+    prepared_ready c.args.part.now c.args.delivery.now c.args.self.now new (record { decision = g.C.Decide.decision c.in-Ok.decision; saving = saving }) p g.D.Disk.tells (g.D.Disk.device c.args.disk.now) c.requires.exists c.requires.ready
 
 pub returns-in-Ok-clause-answer : goal.returns-in-Ok-clause-answer
 returns-in-Ok-clause-answer g c =
-    let p = prepared_by g.C.Decide.decision c.args.part.now c.args.delivery.now c.args.self.now c.decide-decided.new.self c.make-saving.new.self c.decide-decided.result c.in-Ok.decision c.make-saving.result c.in-Ok.is c.decide-decided.ensures.decided c.make-saving.ensures.made c.make-saving.ensures.pools in
+    let p = prepared_by g.C.Decide.decision c.args.part.now c.args.delivery.now c.args.self.now c.decide-decided.new.self c.make_and_save-saved.new.self c.decide-decided.result c.in-Ok.decision c.make_and_save-saved.ensures.saved.saving c.in-Ok.is c.decide-decided.ensures.decided c.make_and_save-saved.ensures.saved.made c.make_and_save-saved.ensures.pools in
     let was = g.D.Disk.device c.args.disk.now in
-    let later = g.D.Disk.device c.save_alone-saved.new.disk in
-    let here = alone_here c.args.part.now c.args.delivery.now c.args.self.now c.make-saving.new.self (record { decision = g.C.Decide.decision c.in-Ok.decision; saving = c.make-saving.result }) p g.D.Disk.tells was later c.save_alone-saved.result c.save_alone-saved.ensures.nothing c.save_alone-saved.ensures.saved in
-    (came c.args.part.now c.args.delivery.now c.args.self.now c.make-saving.new.self (record { decision = g.C.Decide.decision c.in-Ok.decision; saving = c.make-saving.result }) p _ c.save_alone-saved.result c.settle_decision.new.self c.settle_decision.result c.settle_decision.new.out (not_not _ ∙ sym (ap not here))
-    (λ fails. alone_cause c.args.part.now c.args.delivery.now c.args.self.now c.make-saving.new.self (record { decision = g.C.Decide.decision c.in-Ok.decision; saving = c.make-saving.result }) p g.D.Disk.tells was later c.save_alone-saved.result c.save_alone-saved.ensures.nothing c.save_alone-saved.ensures.saved (sym here ∙ fails))
+    let later = g.D.Disk.device c.make_and_save-saved.new.disk in
+    let here = alone_here c.args.part.now c.args.delivery.now c.args.self.now c.make_and_save-saved.new.self (record { decision = g.C.Decide.decision c.in-Ok.decision; saving = c.make_and_save-saved.ensures.saved.saving }) p g.D.Disk.tells was later c.make_and_save-saved.result c.make_and_save-saved.ensures.saved.nothing c.make_and_save-saved.ensures.saved.saved in
+    (came c.args.part.now c.args.delivery.now c.args.self.now c.make_and_save-saved.new.self (record { decision = g.C.Decide.decision c.in-Ok.decision; saving = c.make_and_save-saved.ensures.saved.saving }) p _ c.make_and_save-saved.result c.settle_decision.new.self c.settle_decision.result c.settle_decision.new.out (not_not _ ∙ sym (ap not here))
+    (λ fails. alone_cause c.args.part.now c.args.delivery.now c.args.self.now c.make_and_save-saved.new.self (record { decision = g.C.Decide.decision c.in-Ok.decision; saving = c.make_and_save-saved.ensures.saved.saving }) p g.D.Disk.tells was later c.make_and_save-saved.result c.make_and_save-saved.ensures.saved.nothing c.make_and_save-saved.ensures.saved.saved (sym here ∙ fails))
     c.settle_decision.ensures.settled).0
 
 pub returns-in-Ok-clause-book : goal.returns-in-Ok-clause-book
 returns-in-Ok-clause-book g c =
-    let p = prepared_by g.C.Decide.decision c.args.part.now c.args.delivery.now c.args.self.now c.decide-decided.new.self c.make-saving.new.self c.decide-decided.result c.in-Ok.decision c.make-saving.result c.in-Ok.is c.decide-decided.ensures.decided c.make-saving.ensures.made c.make-saving.ensures.pools in
+    let p = prepared_by g.C.Decide.decision c.args.part.now c.args.delivery.now c.args.self.now c.decide-decided.new.self c.make_and_save-saved.new.self c.decide-decided.result c.in-Ok.decision c.make_and_save-saved.ensures.saved.saving c.in-Ok.is c.decide-decided.ensures.decided c.make_and_save-saved.ensures.saved.made c.make_and_save-saved.ensures.pools in
     let was = g.D.Disk.device c.args.disk.now in
-    let later = g.D.Disk.device c.save_alone-saved.new.disk in
-    let here = alone_here c.args.part.now c.args.delivery.now c.args.self.now c.make-saving.new.self (record { decision = g.C.Decide.decision c.in-Ok.decision; saving = c.make-saving.result }) p g.D.Disk.tells was later c.save_alone-saved.result c.save_alone-saved.ensures.nothing c.save_alone-saved.ensures.saved in
-    (came c.args.part.now c.args.delivery.now c.args.self.now c.make-saving.new.self (record { decision = g.C.Decide.decision c.in-Ok.decision; saving = c.make-saving.result }) p _ c.save_alone-saved.result c.settle_decision.new.self c.settle_decision.result c.settle_decision.new.out (not_not _ ∙ sym (ap not here))
-    (λ fails. alone_cause c.args.part.now c.args.delivery.now c.args.self.now c.make-saving.new.self (record { decision = g.C.Decide.decision c.in-Ok.decision; saving = c.make-saving.result }) p g.D.Disk.tells was later c.save_alone-saved.result c.save_alone-saved.ensures.nothing c.save_alone-saved.ensures.saved (sym here ∙ fails))
+    let later = g.D.Disk.device c.make_and_save-saved.new.disk in
+    let here = alone_here c.args.part.now c.args.delivery.now c.args.self.now c.make_and_save-saved.new.self (record { decision = g.C.Decide.decision c.in-Ok.decision; saving = c.make_and_save-saved.ensures.saved.saving }) p g.D.Disk.tells was later c.make_and_save-saved.result c.make_and_save-saved.ensures.saved.nothing c.make_and_save-saved.ensures.saved.saved in
+    (came c.args.part.now c.args.delivery.now c.args.self.now c.make_and_save-saved.new.self (record { decision = g.C.Decide.decision c.in-Ok.decision; saving = c.make_and_save-saved.ensures.saved.saving }) p _ c.make_and_save-saved.result c.settle_decision.new.self c.settle_decision.result c.settle_decision.new.out (not_not _ ∙ sym (ap not here))
+    (λ fails. alone_cause c.args.part.now c.args.delivery.now c.args.self.now c.make_and_save-saved.new.self (record { decision = g.C.Decide.decision c.in-Ok.decision; saving = c.make_and_save-saved.ensures.saved.saving }) p g.D.Disk.tells was later c.make_and_save-saved.result c.make_and_save-saved.ensures.saved.nothing c.make_and_save-saved.ensures.saved.saved (sym here ∙ fails))
     c.settle_decision.ensures.settled).1
 
 pub returns-in-Ok-clause-fails : goal.returns-in-Ok-clause-fails
 returns-in-Ok-clause-fails g c tells = λ q.
-    let p = prepared_by g.C.Decide.decision c.args.part.now c.args.delivery.now c.args.self.now c.decide-decided.new.self c.make-saving.new.self c.decide-decided.result c.in-Ok.decision c.make-saving.result c.in-Ok.is c.decide-decided.ensures.decided c.make-saving.ensures.made c.make-saving.ensures.pools in
+    let p = prepared_by g.C.Decide.decision c.args.part.now c.args.delivery.now c.args.self.now c.decide-decided.new.self c.make_and_save-saved.new.self c.decide-decided.result c.in-Ok.decision c.make_and_save-saved.ensures.saved.saving c.in-Ok.is c.decide-decided.ensures.decided c.make_and_save-saved.ensures.saved.made c.make_and_save-saved.ensures.pools in
     let was = g.D.Disk.device c.args.disk.now in
-    let later = g.D.Disk.device c.save_alone-saved.new.disk in
-    fails_as (case c.args.part.now c.args.delivery.now c.args.self.now c.make-saving.new.self (record { decision = g.C.Decide.decision c.in-Ok.decision; saving = c.make-saving.result }) p) was.fuse q _
-    (alone_fails c.args.part.now c.args.delivery.now c.args.self.now c.make-saving.new.self (record { decision = g.C.Decide.decision c.in-Ok.decision; saving = c.make-saving.result }) p g.D.Disk.tells was later c.save_alone-saved.result c.save_alone-saved.ensures.nothing c.save_alone-saved.ensures.saved q
+    let later = g.D.Disk.device c.make_and_save-saved.new.disk in
+    fails_as (case c.args.part.now c.args.delivery.now c.args.self.now c.make_and_save-saved.new.self (record { decision = g.C.Decide.decision c.in-Ok.decision; saving = c.make_and_save-saved.ensures.saved.saving }) p) was.fuse q _
+    (alone_fails c.args.part.now c.args.delivery.now c.args.self.now c.make_and_save-saved.new.self (record { decision = g.C.Decide.decision c.in-Ok.decision; saving = c.make_and_save-saved.ensures.saved.saving }) p g.D.Disk.tells was later c.make_and_save-saved.result c.make_and_save-saved.ensures.saved.nothing c.make_and_save-saved.ensures.saved.saved q
     ∙ ap (λ b. c.args.part.now.region == q && b)
-    (alone_ok c.args.part.now c.args.delivery.now c.args.self.now c.make-saving.new.self (record { decision = g.C.Decide.decision c.in-Ok.decision; saving = c.make-saving.result }) p g.D.Disk.tells was later c.save_alone-saved.result c.save_alone-saved.ensures.nothing c.save_alone-saved.ensures.saved tells))
+    (alone_ok c.args.part.now c.args.delivery.now c.args.self.now c.make_and_save-saved.new.self (record { decision = g.C.Decide.decision c.in-Ok.decision; saving = c.make_and_save-saved.ensures.saved.saving }) p g.D.Disk.tells was later c.make_and_save-saved.result c.make_and_save-saved.ensures.saved.nothing c.make_and_save-saved.ensures.saved.saved tells))
 
 pub returns-in-Ok-clause-leases : goal.returns-in-Ok-clause-leases
 returns-in-Ok-clause-leases g c tells =
-    let p = prepared_by g.C.Decide.decision c.args.part.now c.args.delivery.now c.args.self.now c.decide-decided.new.self c.make-saving.new.self c.decide-decided.result c.in-Ok.decision c.make-saving.result c.in-Ok.is c.decide-decided.ensures.decided c.make-saving.ensures.made c.make-saving.ensures.pools in
+    let p = prepared_by g.C.Decide.decision c.args.part.now c.args.delivery.now c.args.self.now c.decide-decided.new.self c.make_and_save-saved.new.self c.decide-decided.result c.in-Ok.decision c.make_and_save-saved.ensures.saved.saving c.in-Ok.is c.decide-decided.ensures.decided c.make_and_save-saved.ensures.saved.made c.make_and_save-saved.ensures.pools in
     let was = g.D.Disk.device c.args.disk.now in
-    let later = g.D.Disk.device c.save_alone-saved.new.disk in
+    let later = g.D.Disk.device c.make_and_save-saved.new.disk in
     let region = c.args.part.now.region in
-    (settled c.args.part.now c.args.delivery.now c.args.self.now c.make-saving.new.self (record { decision = g.C.Decide.decision c.in-Ok.decision; saving = c.make-saving.result }) p (was.region region) (c.requires.ready tells) (was.fuse region) (later.region region) c.save_alone-saved.result c.settle_decision.new.self c.settle_decision.result
-    c.settle_decision.new.out (alone_saved c.args.part.now c.args.delivery.now c.args.self.now c.make-saving.new.self (record { decision = g.C.Decide.decision c.in-Ok.decision; saving = c.make-saving.result }) p g.D.Disk.tells was later c.save_alone-saved.result c.save_alone-saved.ensures.nothing c.save_alone-saved.ensures.saved tells) c.settle_decision.ensures.settled).0
+    (settled c.args.part.now c.args.delivery.now c.args.self.now c.make_and_save-saved.new.self (record { decision = g.C.Decide.decision c.in-Ok.decision; saving = c.make_and_save-saved.ensures.saved.saving }) p (was.region region) (c.requires.ready tells) (was.fuse region) (later.region region) c.make_and_save-saved.result c.settle_decision.new.self c.settle_decision.result
+    c.settle_decision.new.out (alone_saved c.args.part.now c.args.delivery.now c.args.self.now c.make_and_save-saved.new.self (record { decision = g.C.Decide.decision c.in-Ok.decision; saving = c.make_and_save-saved.ensures.saved.saving }) p g.D.Disk.tells was later c.make_and_save-saved.result c.make_and_save-saved.ensures.saved.nothing c.make_and_save-saved.ensures.saved.saved tells) c.settle_decision.ensures.settled).0
 
 pub returns-in-Ok-clause-ready : goal.returns-in-Ok-clause-ready
 returns-in-Ok-clause-ready g c tells =
-    let p = prepared_by g.C.Decide.decision c.args.part.now c.args.delivery.now c.args.self.now c.decide-decided.new.self c.make-saving.new.self c.decide-decided.result c.in-Ok.decision c.make-saving.result c.in-Ok.is c.decide-decided.ensures.decided c.make-saving.ensures.made c.make-saving.ensures.pools in
+    let p = prepared_by g.C.Decide.decision c.args.part.now c.args.delivery.now c.args.self.now c.decide-decided.new.self c.make_and_save-saved.new.self c.decide-decided.result c.in-Ok.decision c.make_and_save-saved.ensures.saved.saving c.in-Ok.is c.decide-decided.ensures.decided c.make_and_save-saved.ensures.saved.made c.make_and_save-saved.ensures.pools in
     let was = g.D.Disk.device c.args.disk.now in
-    let later = g.D.Disk.device c.save_alone-saved.new.disk in
+    let later = g.D.Disk.device c.make_and_save-saved.new.disk in
     let region = c.args.part.now.region in
-    (settled c.args.part.now c.args.delivery.now c.args.self.now c.make-saving.new.self (record { decision = g.C.Decide.decision c.in-Ok.decision; saving = c.make-saving.result }) p (was.region region) (c.requires.ready tells) (was.fuse region) (later.region region) c.save_alone-saved.result c.settle_decision.new.self c.settle_decision.result
-    c.settle_decision.new.out (alone_saved c.args.part.now c.args.delivery.now c.args.self.now c.make-saving.new.self (record { decision = g.C.Decide.decision c.in-Ok.decision; saving = c.make-saving.result }) p g.D.Disk.tells was later c.save_alone-saved.result c.save_alone-saved.ensures.nothing c.save_alone-saved.ensures.saved tells) c.settle_decision.ensures.settled).1
+    (settled c.args.part.now c.args.delivery.now c.args.self.now c.make_and_save-saved.new.self (record { decision = g.C.Decide.decision c.in-Ok.decision; saving = c.make_and_save-saved.ensures.saved.saving }) p (was.region region) (c.requires.ready tells) (was.fuse region) (later.region region) c.make_and_save-saved.result c.settle_decision.new.self c.settle_decision.result
+    c.settle_decision.new.out (alone_saved c.args.part.now c.args.delivery.now c.args.self.now c.make_and_save-saved.new.self (record { decision = g.C.Decide.decision c.in-Ok.decision; saving = c.make_and_save-saved.ensures.saved.saving }) p g.D.Disk.tells was later c.make_and_save-saved.result c.make_and_save-saved.ensures.saved.nothing c.make_and_save-saved.ensures.saved.saved tells) c.settle_decision.ensures.settled).1
 
 pub returns-in-Ok-clause-frame : goal.returns-in-Ok-clause-frame
 returns-in-Ok-clause-frame g c =
-    let p = prepared_by g.C.Decide.decision c.args.part.now c.args.delivery.now c.args.self.now c.decide-decided.new.self c.make-saving.new.self c.decide-decided.result c.in-Ok.decision c.make-saving.result c.in-Ok.is c.decide-decided.ensures.decided c.make-saving.ensures.made c.make-saving.ensures.pools in
-    alone_touches c.args.part.now c.args.delivery.now c.args.self.now c.make-saving.new.self (record { decision = g.C.Decide.decision c.in-Ok.decision; saving = c.make-saving.result }) p g.D.Disk.tells (g.D.Disk.device c.args.disk.now) (g.D.Disk.device c.save_alone-saved.new.disk) c.save_alone-saved.result c.save_alone-saved.ensures.nothing c.save_alone-saved.ensures.saved
+    let p = prepared_by g.C.Decide.decision c.args.part.now c.args.delivery.now c.args.self.now c.decide-decided.new.self c.make_and_save-saved.new.self c.decide-decided.result c.in-Ok.decision c.make_and_save-saved.ensures.saved.saving c.in-Ok.is c.decide-decided.ensures.decided c.make_and_save-saved.ensures.saved.made c.make_and_save-saved.ensures.pools in
+    alone_touches c.args.part.now c.args.delivery.now c.args.self.now c.make_and_save-saved.new.self (record { decision = g.C.Decide.decision c.in-Ok.decision; saving = c.make_and_save-saved.ensures.saved.saving }) p g.D.Disk.tells (g.D.Disk.device c.args.disk.now) (g.D.Disk.device c.make_and_save-saved.new.disk) c.make_and_save-saved.result c.make_and_save-saved.ensures.saved.nothing c.make_and_save-saved.ensures.saved.saved
 
 pub returns-in-Ok-clause-writes : goal.returns-in-Ok-clause-writes
 returns-in-Ok-clause-writes g c =
-    let p = prepared_by g.C.Decide.decision c.args.part.now c.args.delivery.now c.args.self.now c.decide-decided.new.self c.make-saving.new.self c.decide-decided.result c.in-Ok.decision c.make-saving.result c.in-Ok.is c.decide-decided.ensures.decided c.make-saving.ensures.made c.make-saving.ensures.pools in
+    let p = prepared_by g.C.Decide.decision c.args.part.now c.args.delivery.now c.args.self.now c.decide-decided.new.self c.make_and_save-saved.new.self c.decide-decided.result c.in-Ok.decision c.make_and_save-saved.ensures.saved.saving c.in-Ok.is c.decide-decided.ensures.decided c.make_and_save-saved.ensures.saved.made c.make_and_save-saved.ensures.pools in
     let was = g.D.Disk.device c.args.disk.now in
-    let later = g.D.Disk.device c.save_alone-saved.new.disk in
-    writes_as (case c.args.part.now c.args.delivery.now c.args.self.now c.make-saving.new.self (record { decision = g.C.Decide.decision c.in-Ok.decision; saving = c.make-saving.result }) p) g.D.Disk.tells was later
-    (alone_stays c.args.part.now c.args.delivery.now c.args.self.now c.make-saving.new.self (record { decision = g.C.Decide.decision c.in-Ok.decision; saving = c.make-saving.result }) p g.D.Disk.tells was later c.save_alone-saved.result c.save_alone-saved.ensures.nothing c.save_alone-saved.ensures.saved)
-    (alone_touches c.args.part.now c.args.delivery.now c.args.self.now c.make-saving.new.self (record { decision = g.C.Decide.decision c.in-Ok.decision; saving = c.make-saving.result }) p g.D.Disk.tells was later c.save_alone-saved.result c.save_alone-saved.ensures.nothing c.save_alone-saved.ensures.saved)
+    let later = g.D.Disk.device c.make_and_save-saved.new.disk in
+    writes_as (case c.args.part.now c.args.delivery.now c.args.self.now c.make_and_save-saved.new.self (record { decision = g.C.Decide.decision c.in-Ok.decision; saving = c.make_and_save-saved.ensures.saved.saving }) p) g.D.Disk.tells was later
+    (alone_stays c.args.part.now c.args.delivery.now c.args.self.now c.make_and_save-saved.new.self (record { decision = g.C.Decide.decision c.in-Ok.decision; saving = c.make_and_save-saved.ensures.saved.saving }) p g.D.Disk.tells was later c.make_and_save-saved.result c.make_and_save-saved.ensures.saved.nothing c.make_and_save-saved.ensures.saved.saved)
+    (alone_touches c.args.part.now c.args.delivery.now c.args.self.now c.make_and_save-saved.new.self (record { decision = g.C.Decide.decision c.in-Ok.decision; saving = c.make_and_save-saved.ensures.saved.saving }) p g.D.Disk.tells was later c.make_and_save-saved.result c.make_and_save-saved.ensures.saved.nothing c.make_and_save-saved.ensures.saved.saved)
 
 pub returns-in-Ok-clause-calls : goal.returns-in-Ok-clause-calls
 returns-in-Ok-clause-calls g c =
-    let p = prepared_by g.C.Decide.decision c.args.part.now c.args.delivery.now c.args.self.now c.decide-decided.new.self c.make-saving.new.self c.decide-decided.result c.in-Ok.decision c.make-saving.result c.in-Ok.is c.decide-decided.ensures.decided c.make-saving.ensures.made c.make-saving.ensures.pools in
+    let p = prepared_by g.C.Decide.decision c.args.part.now c.args.delivery.now c.args.self.now c.decide-decided.new.self c.make_and_save-saved.new.self c.decide-decided.result c.in-Ok.decision c.make_and_save-saved.ensures.saved.saving c.in-Ok.is c.decide-decided.ensures.decided c.make_and_save-saved.ensures.saved.made c.make_and_save-saved.ensures.pools in
     let was = g.D.Disk.device c.args.disk.now in
-    let later = g.D.Disk.device c.save_alone-saved.new.disk in
-    subst (λ (region : Option ℕ). IsCalledToSaveAt region was later) (sym (saves_so (case c.args.part.now c.args.delivery.now c.args.self.now c.make-saving.new.self (record { decision = g.C.Decide.decision c.in-Ok.decision; saving = c.make-saving.result }) p)))
-    (alone_called c.args.part.now c.args.delivery.now c.args.self.now c.make-saving.new.self (record { decision = g.C.Decide.decision c.in-Ok.decision; saving = c.make-saving.result }) p g.D.Disk.tells was later c.save_alone-saved.result c.save_alone-saved.ensures.nothing c.save_alone-saved.ensures.saved)
+    let later = g.D.Disk.device c.make_and_save-saved.new.disk in
+    subst (λ (region : Option ℕ). IsCalledToSaveAt region was later) (sym (saves_so (case c.args.part.now c.args.delivery.now c.args.self.now c.make_and_save-saved.new.self (record { decision = g.C.Decide.decision c.in-Ok.decision; saving = c.make_and_save-saved.ensures.saved.saving }) p)))
+    (alone_called c.args.part.now c.args.delivery.now c.args.self.now c.make_and_save-saved.new.self (record { decision = g.C.Decide.decision c.in-Ok.decision; saving = c.make_and_save-saved.ensures.saved.saving }) p g.D.Disk.tells was later c.make_and_save-saved.result c.make_and_save-saved.ensures.saved.nothing c.make_and_save-saved.ensures.saved.saved)
 
 pub returns-in-Ok-clause-own : goal.returns-in-Ok-clause-own
 returns-in-Ok-clause-own g c =
-    answered_own c.args.part.now (record { decision = g.C.Decide.decision c.in-Ok.decision; saving = c.make-saving.result }) c.save_alone-saved.result c.args.first c.args.table.now c.make-saving.new.table c.settle_decision.new.table c.make-saving.new.self c.settle_decision.new.self c.settle_decision.result c.settle_decision.new.out
-    c.settle_decision.ensures.settled c.make-saving.ensures.own c.settle_decision.ensures.own c.settle_decision.ensures.deadlines
+    answered_own c.args.part.now (record { decision = g.C.Decide.decision c.in-Ok.decision; saving = c.make_and_save-saved.ensures.saved.saving }) c.make_and_save-saved.result c.args.first c.args.table.now c.make_and_save-saved.new.table c.settle_decision.new.table c.make_and_save-saved.new.self c.settle_decision.new.self c.settle_decision.result c.settle_decision.new.out
+    c.settle_decision.ensures.settled c.make_and_save-saved.ensures.own c.settle_decision.ensures.own c.settle_decision.ensures.deadlines
