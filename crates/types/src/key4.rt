@@ -1,5 +1,7 @@
 //! What tells DHCPv4 clients apart.
-ghost use Rattle.std.specs.Prelude.{◌≡◌, ◌≤◌, ◌↔◌, length, IsSome, IfSome};
+ghost use Rattle.std.specs.Prelude.{◌≡◌, ◌≤◌, ◌↔◌, length, take, IsSome, IfSome};
+ghost use Rattle.core.specs.Int.{w64, to_le_bytes};
+ghost use Rattle.types.specs.Key4.{padded};
 ghost use Rattle.std.specs.Str.{bytes_eq};
 
 use std::marker::Model;
@@ -53,6 +55,15 @@ impl Key4 {
         })
     }
 
+    /// The first eight bytes, zeros after those of a shorter key, as one number: most keys are told apart by it.
+    #[inline(always)]
+    fn head(&self) -> u64
+        ensures { to_le_bytes w64 result ≡ take 8 (padded self.now) }
+    {
+        let b = &self.bytes;
+        u64::from_le_bytes([b[0], b[1], b[2], b[3], b[4], b[5], b[6], b[7]])
+    }
+
     pub fn as_bytes(&self) -> &[u8]
         ensures value { result.now ≡ self.now }
         ensures least { 2 ≤ length self.now }
@@ -73,8 +84,10 @@ impl PartialEq for Key4 {
 
     fn eq(&self, other: &Key4) -> bool {
         let (bytes, others) = (self.as_bytes(), other.as_bytes());
-        // hardware addresses of one manufacturer differ at the end
-        bytes.last() == others.last() && bytes == others
+        if bytes.len() != others.len() || self.head() != other.head() {
+            return false;
+        }
+        bytes.len() <= 8 || bytes == others
     }
 }
 
