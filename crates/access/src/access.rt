@@ -22,7 +22,7 @@ use dispatch::{OpenFault, Server};
 use lease_disk::{FORMAT, FileDisk, OLD_FORMAT};
 use opening::{Formats, open_server};
 use relay::Relays;
-use sockets::{Framed, MAX_SERVED, MAX_SOCKETS, SocketFault, Sockets, client, proto_of, put_frame};
+use sockets::{MAX_SERVED, MAX_SOCKETS, SocketFault, Sockets, client, proto_of, put_front};
 use std::alloc::Global;
 use std::marker::Model;
 use std::mem;
@@ -62,10 +62,9 @@ pub struct Access {
     /// Where the server receives what the relays send on.
     listen4: Source,
     listen6: Source,
-    /// The datagram that came in, what is made of it, and that with what stands before it towards a client.
+    /// The datagram that came in, and what is made of it.
     buffer: [u8; BUFFER_LEN],
     out: PacketBuf,
-    frame: Framed,
     /// The datagrams that the server takes in a turn.
     batch: Batch,
     /// The first of the circuits' ports.
@@ -246,7 +245,6 @@ impl Access {
             listen6: config.server().listen6,
             buffer: [0; BUFFER_LEN],
             out: PacketBuf::new(),
-            frame: Framed::new(),
             batch: Batch::new(usize::from(batch)),
             port,
             counts: Counts::new(),
@@ -512,13 +510,14 @@ impl Access {
         let relay = RelayNo::at(index);
         let outcome = match self.relays.down(relay, from, datagram, &mut self.out) {
             Ok(sent) => {
-                put_frame(sent.1, self.out.as_slice(), &mut self.frame);
+                let frame = self.out.framed();
+                put_front(&sent.1, frame);
                 let proto = proto_of(sent.1);
                 let from = self.sockets.circuits[sent.0.index()].socket(proto);
                 let to = client(self.port, sent.0, proto);
-                let (made, frame) = (Ok(()), self.frame.as_slice());
+                let (made, bytes) = (Ok(()), frame.as_slice());
                 let circuit = sent.0.index();
-                let outcome = send_on(made, from, to, frame, Outcome::Delivered, &mut self.history);
+                let outcome = send_on(made, from, to, bytes, Outcome::Delivered, &mut self.history);
                 self.by_circuit.count_for(circuit, outcome);
                 outcome
             }

@@ -59,10 +59,13 @@ proto_of (Unicast chaddr yiaddr) = V4
 proto_of (Peer address) = V6
 
 -- what goes to a client: before a DHCPv4 frame a byte for broadcast or unicast, before a DHCPv6 frame the peer's address
+abbrev pub front_of : Dest → List ℕ
+front_of Broadcast = 0 ∷ []
+front_of (Unicast chaddr yiaddr) = 1 ∷ []
+front_of (Peer address) = address.0
+
 abbrev pub framed : Dest → List ℕ → List ℕ
-framed Broadcast frame = 0 ∷ frame
-framed (Unicast chaddr yiaddr) frame = 1 ∷ frame
-framed (Peer address) frame = address.0 ++ frame
+framed dest frame = front_of dest ++ frame
 
 -- ---- what each socket is for, where it is bound, and which history says what happens at it
 

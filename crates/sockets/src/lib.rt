@@ -5,6 +5,6 @@ mod frame;
 mod sockets;
 mod warnings;
 
-pub use frame::{Framed, proto_of, put_frame};
+pub use frame::{proto_of, put_front};
 pub use sockets::{CircuitSockets, MAX_SERVED, MAX_SOCKETS, SocketFault, Sockets, client};
 pub use warnings::{Warning, warn};

@@ -3,9 +3,11 @@
 #![tactic(auto)]
 
 mod cursor;
+mod framed_buf;
 mod numbers;
 mod packet_buf;
 
 pub use cursor::{Cursor, Short};
+pub use framed_buf::FramedBuf;
 pub use numbers::{bytes_again, number_again};
 pub use packet_buf::{Full, PacketBuf};

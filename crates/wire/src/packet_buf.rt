@@ -1,7 +1,10 @@
 //! A datagram as it is written.
 ghost use Rattle.std.specs.Prelude.{◌≡◌, ◌+◌, ◌≤◌, ◌↔◌, [], ◌∷◌, ◌++◌, length, IsTrue, IsOk, OnOk, OnErr};
+ghost use Rattle.std.specs.Borrow.{sem};
+ghost use Rattle.wire.specs.Lends.{lends_framed};
 ghost use Rattle.wire.specs.Padding.{padded_to};
 
+use crate::framed_buf::FramedBuf;
 use std::marker::Model;
 use thiserror::Error;
 use types::MAX_DATAGRAM;
@@ -18,18 +21,15 @@ pub struct Full;
 /// lent from then on. To clear it writes nothing: bytes past its length are of earlier datagrams, and nobody sees them.
 #[derive(Drop)]
 pub struct PacketBuf {
-    bytes: [u8; MAX_DATAGRAM],
-    len: usize,
+    buf: FramedBuf,
 }
 
 impl Model for PacketBuf {
-    ghost use Rattle.std.specs.Prelude.{◌≤◌, ℕ, List, take};
+    ghost use Rattle.std.specs.Prelude.{ℕ, List};
 
     ghost Value = { List ℕ };
 
-    ghost view = { λ b. take b.len b.bytes };
-
-    ghost invariant = { λ b. b.len ≤ 1280 };
+    ghost view = { λ b. b.buf.datagram };
 }
 
 impl PacketBuf {
@@ -38,15 +38,14 @@ impl PacketBuf {
         ensures { result ≡ [] }
     {
         PacketBuf {
-            bytes: [0; MAX_DATAGRAM],
-            len: 0,
+            buf: FramedBuf::new(),
         }
     }
 
     pub fn clear(&mut self)
         ensures { self.new ≡ [] }
     {
-        self.len = 0;
+        self.buf.clear();
     }
 
     /// Appends a byte.
@@ -64,13 +63,7 @@ impl PacketBuf {
         ensures ok { OnOk result (self.new ≡ self.old ++ bytes.now) }
         ensures err { OnErr result (self.new ≡ self.old) }
     {
-        if bytes.len() > MAX_DATAGRAM - self.len {
-            return Err(Full);
-        }
-        let len = self.len + bytes.len();
-        self.bytes[self.len..len].copy_from_slice(bytes);
-        self.len = len;
-        Ok(())
+        self.buf.extend(bytes)
     }
 
     /// Appends zeros up to `n` bytes; nothing where there are as many already.
@@ -90,19 +83,27 @@ impl PacketBuf {
         ensures value { result ≡ length self.now }
         ensures fits { length self.now ≤ 1280 }
     {
-        self.len
+        self.buf.datagram().len()
     }
 
     pub fn is_empty(&self) -> bool
         ensures { IsTrue result ↔ (self.now ≡ []) }
     {
-        self.len == 0
+        self.len() == 0
     }
 
     pub fn as_slice(&self) -> &[u8]
         ensures value { result.now ≡ self.now }
         ensures fits { length self.now ≤ 1280 }
     {
-        &self.bytes[..self.len]
+        self.buf.datagram()
+    }
+
+    /// The same datagram, with room in front of it.
+    pub fn framed(&mut self) -> &mut FramedBuf
+        ensures* writes_back { sem 𝓛 (lends_framed self.entry result) }
+        ensures value { result.now.datagram ≡ self.old }
+    {
+        &mut self.buf
     }
 }

@@ -1,6 +1,7 @@
-use Rattle.std.proofs.Common.{ℕ, [], ◌≡◌, ◌<◌, ◌∙◌, length, take, refl, sym, ap, subst, append-nil}
+use Rattle.std.proofs.Common.{ℕ, [], ◌≡◌, ◌<◌, ◌∙◌, ◌++◌, length, take, refl, sym, ap, subst, append-nil}
 use Rattle.std.specs.Prelude.{Ok, Err, slice_index_or}
 use Rattle.relay.specs.Relays.{relayed_down_in}
+use Rattle.wire.specs.Framed.{FramedValue}
 use Rattle.udp.specs.History.{Took, attempt_entry, with_entry}
 use Rattle.udp.specs.declared.history.Role.TheVariants as role
 use Rattle.access.specs.Access.{AccessValue, HasCarried, IsAccess}
@@ -88,11 +89,11 @@ returns-clause-carried c =
           w.proto_of-proto.result w.socket-from.result.now w.socket-from.ensures.v4 w.socket-from.ensures.v6).role
           ∙ ap (role.Circuit sent.0) w.proto_of-proto.ensures in
           let to = w.client-to.ensures ∙ ap (client_port port sent.0) w.proto_of-proto.ensures in
-          let bytes = w.as_slice-frame.ensures.value ∙ w.put_frame.ensures ∙ ap (framed sent.1) w.as_slice.ensures.value in
+          let bytes = w.as_slice-bytes.ensures.value ∙ ap (λ (v : FramedValue). v.front ++ v.datagram) w.put_front.ensures ∙ ap (framed sent.1) w.framed-frame.ensures.value in
           let found = subst (λ r. relayed_down_in topology r c.in-Took.from datagram ≡ Ok (record { circuit = sent.0; frame = record { dest = sent.1; bytes = c.down.new.out } })) c.at-relay.ensures w.in-Ok.ensures.ok in
-          let g = went w.socket-from.result.now.role (role.Circuit sent.0 proto) w.client-to.result (client_port port sent.0 proto) outcome.Delivered (Ok (framed sent.1 c.down.new.out)) (Ok tt) w.as_slice-frame.result.now
+          let g = went w.socket-from.result.now.role (role.Circuit sent.0 proto) w.client-to.result (client_port port sent.0 proto) outcome.Delivered (Ok (framed sent.1 c.down.new.out)) (Ok tt) w.as_slice-bytes.result.now
           (framed sent.1 c.down.new.out) taken w.send_on-outcome.new.history.entries w.send_on-outcome.result sender to bytes (refl, refl) w.send_on-outcome.ensures.sent in
-          let R : Inside = record inside { buffer = c.take_if_ready.new.buffer; out = c.down.new.out; frame = w.put_frame.new.out; history = w.send_on-outcome.new.history } in
+          let R : Inside = record inside { buffer = c.take_if_ready.new.buffer; out = w.put_front.new.frame.datagram; history = w.send_on-outcome.new.history } in
           subst (λ (i : Inside). Q i c.match-down.outcome) (sym w.self-inside-is) (subst (λ (o : Outcome). Q R o) (sym w.outcome-is) (λ counts count.
           carried_taken (role.Relay index) (λ from bytes. IsSentDown port (relayed_down_in topology index from bytes)) before taken w.send_on-outcome.new.history.entries g.rest counts c.in-Took.from datagram
           w.send_on-outcome.result took g.history count (subst (λ r. IsSentDown port r g.rest w.send_on-outcome.result) (sym found) g.goes_on)))
