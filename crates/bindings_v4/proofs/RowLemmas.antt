@@ -1,5 +1,5 @@
 -- A row of the table is what its decision makes of the slots.
-use Rattle.std.proofs.Common.{◌≡◌, ◌⊎◌, inl, inr, ℕ, ◌+◌, ◌-◌, ◌<◌, Bool, true, false, cond, List, map, set, get_or, refl, sym, ap, subst, ◌∙◌, arith}
+use Rattle.std.proofs.Common.{◌≡◌, ℕ, ◌+◌, ◌-◌, ◌<◌, Bool, true, false, cond, List, map, set, get_or, refl, sym, ap, subst, ◌∙◌, arith}
 use Rattle.std.specs.Prelude.{Option, Some, None, IfSome, ◌==◌, is_some, option_map}
 use Rattle.std.specs.List.{position}
 use Rattle.std.specs.Str.{bytes_eq}
@@ -31,7 +31,7 @@ use Rattle.bindings_v4.specs.declared.decision4.KeptSlot.{KeptSlot}
 use Rattle.bindings_v4.specs.declared.decision4.OfferChange.{OfferChange}
 use Rattle.bindings_v4.specs.declared.decision4.OfferChange.TheVariants as offer
 use Rattle.bindings_v4.specs.Book4.{Book4, in_pool}
-use Rattle.bindings_v4.specs.Decision4.{decision_of, keep_of, kept_slot, offer_change, offer_of}
+use Rattle.bindings_v4.specs.Decision4.{decision_of, keep_of, kept_slot, offer_of}
 use Rattle.bindings_v4.specs.Kept4.{keep_in, slot_of, kept_slots}
 use Rattle.bindings_v4.specs.Slots4.{Holders4, PoolSlots, book_of_slots, book_of, AreSlots, with_offer, holder_of, with_kept, with_decision, with_written, with_written_offer, with_written_slot}
 use Rattle.bindings_v4.specs.declared.server4.Server4.{Server4}
@@ -378,21 +378,6 @@ module _ (v : PoolSlots) (t : ℕ) (k : List ℕ) (are : AreSlots v.pool v.slots
         frees = λ i is. refl;
       }
 
-  -- an offer changes or a slot is kept, not both
-  abbrev ChangesOne : Change → Type 0
-  ChangesOne c = (offer_of a k c ≡ None) ⊎ (keep_of a k c ≡ None)
-
-  changes_one : OfChanges ChangesOne
-  changes_one =
-      record {
-        unchanged = inl refl;
-        offers = λ i fit none only. inr refl;
-        withdraws = λ i is. inr refl;
-        binds = λ i fit clear only. inl refl;
-        bars = λ i is. inl refl;
-        frees = λ i is. inl refl;
-      }
-
 kept_is : (first : ℕ) (k : List ℕ) (change : Change) → is_some (keep_of first k change) ≡ is_kept change
 kept_is first k Unchanged = refl
 kept_is first k (Offers address until) = refl
@@ -446,6 +431,3 @@ module _ (v : PoolSlots) (t : ℕ) (m : Request4) (are : AreSlots v.pool v.slots
   pub written_is : (d : Decision4) → d ≡ decision_of (number4 v.pool.first) t m.key (row v.pool found) → map (live t) (with_decision d v).slots ≡ map (live t) (with_written d v.slots)
   written_is d e =
       subst (λ (x : Decision4). map (live t) (with_decision x v).slots ≡ map (live t) (with_written x v.slots)) (sym e) (of_row (WritesItsSlot v t m.key are) (writes_its_slot v t m.key are))
-
-  pub one_is : (d : Decision4) → d ≡ decision_of (number4 v.pool.first) t m.key (row v.pool found) → (offer_change d.change ≡ None) ⊎ (kept_slot d.change ≡ None)
-  one_is d e = subst (λ (x : Decision4). (offer_change x.change ≡ None) ⊎ (kept_slot x.change ≡ None)) (sym e) (of_row (ChangesOne v t m.key are) (changes_one v t m.key are))

@@ -1,5 +1,5 @@
 //! The book of one circuit's DHCPv4 leases.
-ghost use Rattle.std.specs.Prelude.{◌≡◌, ◌⊎◌, ◌+◌, ◌<◌, ◌≤◌, ℕ, true, is_some, length, option_map, map, slice_index_or, IfSome, All};
+ghost use Rattle.std.specs.Prelude.{◌≡◌, ◌+◌, ◌<◌, ◌≤◌, ℕ, true, is_some, length, option_map, map, slice_index_or, IfSome, All};
 ghost use Rattle.slots.specs.Kept.{AreOffersWithin, AreWithin};
 ghost use Rattle.slots.specs.Lookup.{live, slot_in, until_of};
 ghost use Rattle.types.specs.Addr.{number4};
@@ -85,7 +85,6 @@ impl Book4 {
         ensures offer { IfSome (offer_change result.change) (IsOffer clock self.now.pool.count) }
         ensures few { self.now.pool.count ≤ 16 }
         ensures size { length self.now.slots ≡ self.now.pool.count }
-        ensures one { (offer_change result.change ≡ None) ⊎ (kept_slot result.change ≡ None) }
         ensures others { map (live clock) (with_decision result self.now).slots ≡ map (live clock) (with_written result self.now.slots) }
         ensures kept { kept_slots clock (with_decision result self.now).slots ≡ keep_in (kept_slot result.change) (kept_slots clock self.now.slots) }
     {

@@ -12,6 +12,8 @@ use Rattle.timers.specs.Deadlines.{DeadlinesValue, deadline, entry_after_sweep}
 use Rattle.types.specs.Key6.{same_key6}
 use Rattle.bindings_v4.specs.Slots4 as slots4
 use Rattle.bindings_v4.specs.Decision4.{IsOffer, kept_slot, offer_change}
+use Rattle.bindings_v4.specs.declared.decision4.Change4.{Change4}
+use Rattle.bindings_v4.specs.declared.decision4.Change4.TheVariants as change
 use Rattle.bindings_v4.specs.declared.decision4.KeptSlot.{KeptSlot as KeptSlot4}
 use Rattle.bindings_v4.specs.declared.decision4.OfferChange.{OfferChange}
 use Rattle.bindings_v4.specs.declared.decision4.OfferChange.TheVariants as offer
@@ -306,24 +308,23 @@ with_four o ss = record o { four = record o.four { slots = ss } }
 abbrev with_six : OpenCircuitValue → slots6.Holders6 → OpenCircuitValue
 with_six o ss = record o { six = record o.six { slots = ss } }
 
-by_change4 : (change : Option OfferChange) (keep : Option KeptSlot4) (table : DeadlinesValue) (first clock count : ℕ) (o : OpenCircuitValue) → first + 32 ≤ length table.slots → count ≤ 16 → length o.four.slots ≡ count
-    → IfSome change (IsOffer clock count) → IfSome keep (λ kept. kept.slot < count) → (change ≡ None) ⊎ (keep ≡ None)
-    → AreOldOrHeld first table (with_kept4 first keep (with_offered first change table)) (Some (with_four o (slots4.with_kept keep (slots4.with_offer change o.four.slots))))
-by_change4 None None table first clock count o room few size offered kept one = λ s below. inl refl
-by_change4 None (Some k) table first clock count o room few size offered kept one =
+by_change4 : (change : Change4) (table : DeadlinesValue) (first clock count : ℕ) (o : OpenCircuitValue) → first + 32 ≤ length table.slots → count ≤ 16 → length o.four.slots ≡ count
+    → IfSome (offer_change change) (IsOffer clock count) → IfSome (kept_slot change) (λ kept. kept.slot < count)
+    → AreOldOrHeld first table (with_kept4 first (kept_slot change) (with_offered first (offer_change change) table))
+      (Some (with_four o (slots4.with_kept (kept_slot change) (slots4.with_offer (offer_change change) o.four.slots))))
+by_change4 change.Nothing table first clock count o room few size offered kept = λ s below. inl refl
+by_change4 (change.Keeps k) table first clock count o room few size offered kept =
     let ss = slots4.with_kept (Some k) o.four.slots in
     put_old_or table first k.slot (option_map until_of (slots4.holder_of k.content)) (Some (with_four o ss)) room (omega (arith, few, kept))
     (written_at bytes_eq k.slot (slots4.holder_of k.content) o.four.slots (omega (arith, size, kept)) ∙ sym (held4 (with_four o ss) k.slot (omega (arith, few, kept))))
-by_change4 (Some (offer.Made i k u)) None table first clock count o room few size offered kept one =
+by_change4 (change.Offers (offer.Made i k u)) table first clock count o room few size offered kept =
     let ss = slots4.with_offer (Some (offer.Made i k u)) o.four.slots in
     put_old_or table first i (Some u) (Some (with_four o ss)) room (omega (arith, few, offered.0))
     (written_at bytes_eq i (Some (Offered k u)) o.four.slots (omega (arith, size, offered.0)) ∙ sym (held4 (with_four o ss) i (omega (arith, few, offered.0))))
-by_change4 (Some (offer.Withdrawn i)) None table first clock count o room few size offered kept one =
+by_change4 (change.Offers (offer.Withdrawn i)) table first clock count o room few size offered kept =
     let ss = slots4.with_offer (Some (offer.Withdrawn i)) o.four.slots in
     put_old_or table first i None (Some (with_four o ss)) room (omega (arith, few, offered))
     (written_at bytes_eq i None o.four.slots (omega (arith, size, offered)) ∙ sym (held4 (with_four o ss) i (omega (arith, few, offered))))
-by_change4 (Some x) (Some y) table first clock count o room few size offered kept (inl none) = absurd cc
-by_change4 (Some x) (Some y) table first clock count o room few size offered kept (inr none) = absurd cc
 
 by_change6 : (keep : Option KeptSlot6) (table : DeadlinesValue) (first count : ℕ) (o : OpenCircuitValue) → first + 32 ≤ length table.slots → count ≤ 16 → length o.six.slots ≡ count → IfSome keep (λ kept. kept.slot < count)
     → AreOldOrHeld first table (with_kept6 first keep table) (Some (with_six o (slots6.with_kept keep o.six.slots)))
@@ -335,7 +336,7 @@ by_change6 (Some k) table first count o room few size kept =
 
 pub old_or_decided : (d : CircuitDecision) (table : DeadlinesValue) (first : ℕ) (o : OpenCircuitValue) → first + 32 ≤ length table.slots → KeepsItsSlot d o → LosesNoOther d o
     → AreOldOrHeld first table (with_deadlines d first table) (Some (with_decision d o))
-old_or_decided (V4 made) table first o room keeps others = by_change4 (offer_change made.decision.change) (kept_slot made.decision.change) table first o.clock o.four.pool.count o room keeps.2 others.1 keeps.3 keeps.1 others.2
+old_or_decided (V4 made) table first o room keeps others = by_change4 made.decision.change table first o.clock o.four.pool.count o room keeps.2 others.1 keeps.3 keeps.1
 old_or_decided (V6 made) table first o room keeps others = by_change6 made.decision.keep table first o.six.pool.count o room keeps.2 others.1 keeps.1
 
 -- nothing beside the circuit's slots

@@ -1,5 +1,5 @@
 -- What a circuit's decision makes of it. Only proofs need this.
-use Rattle.std.specs.Prelude.{◌≡◌, ◌⊎◌, ℕ, ◌+◌, ◌<◌, ◌≤◌, true, Bool, is_some, length, map, List, Option, option_map, Some, None, IfSome, Result}
+use Rattle.std.specs.Prelude.{◌≡◌, ℕ, ◌+◌, ◌<◌, ◌≤◌, true, Bool, is_some, length, map, List, Option, option_map, Some, IfSome, Result}
 use Rattle.std.specs.Result.{result_map_both}
 use Rattle.types.specs.Slots.{IsWithin4, IsWithin6}
 use Rattle.types.specs.declared.discard.Discard.{Discard}
@@ -55,7 +55,7 @@ KeepsItsSlot (V6 made) o =
 -- by the clock a decision changes nothing but the slots that it writes, which are slots of the pool
 abbrev pub LosesNoOther : CircuitDecision → OpenCircuitValue → Type 0
 LosesNoOther (V4 made) o =
-    (map (live o.clock) (slots4.with_decision made.decision o.four).slots ≡ map (live o.clock) (slots4.with_written made.decision o.four.slots)) × (length o.four.slots ≡ o.four.pool.count) × ((offer_change made.decision.change ≡ None) ⊎ (kept_slot made.decision.change ≡ None))
+    (map (live o.clock) (slots4.with_decision made.decision o.four).slots ≡ map (live o.clock) (slots4.with_written made.decision o.four.slots)) × (length o.four.slots ≡ o.four.pool.count)
 LosesNoOther (V6 made) o =
     (map (live o.clock) (slots6.with_decision made.decision o.six).slots ≡ map (live o.clock) (slots6.with_written made.decision o.six.slots)) × (length o.six.slots ≡ o.six.pool.count)
 

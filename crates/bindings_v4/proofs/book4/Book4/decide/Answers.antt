@@ -1,5 +1,5 @@
 use Rattle.bindings_v4.specs.Lookup4.{lookup_of}
-use Rattle.bindings_v4.proofs.RowLemmas.{decision_is, answer_is, keep_is, book_is, slot_is, slots_are, written_is, one_is}
+use Rattle.bindings_v4.proofs.RowLemmas.{decision_is, answer_is, keep_is, book_is, slot_is, slots_are, written_is}
 use Rattle.bindings_v4.proofs.LimitLemmas.{decided_in_time, offered_in_time}
 use Rattle.bindings_v4.proofs.book4.Book4.decide.Goals as goal
 
@@ -79,11 +79,3 @@ returns-clause-others c =
     let are = c.look_up-found.ensures.slots in
     let d = c.decision_for.result in
     written_is v c.args.clock m are d (decision_is v c.args.clock m are c.pool.result (lookup_of c.look_up-found.result) d c.pool.ensures c.look_up-found.ensures.found c.decision_for.ensures)
-
-pub returns-clause-one : goal.returns-clause-one
-returns-clause-one c =
-    let v = c.args.self.now in
-    let m = c.args.request.now in
-    let are = c.look_up-found.ensures.slots in
-    let d = c.decision_for.result in
-    one_is v c.args.clock m are d (decision_is v c.args.clock m are c.pool.result (lookup_of c.look_up-found.result) d c.pool.ensures c.look_up-found.ensures.found c.decision_for.ensures)
