@@ -311,7 +311,7 @@ with_six o ss = record o { six = record o.six { slots = ss } }
 by_change4 : (change : Change4) (table : DeadlinesValue) (first clock count : ℕ) (o : OpenCircuitValue) → first + 32 ≤ length table.slots → count ≤ 16 → length o.four.slots ≡ count
     → IfSome (offer_change change) (IsOffer clock count) → IfSome (kept_slot change) (λ kept. kept.slot < count)
     → AreOldOrHeld first table (with_kept4 first (kept_slot change) (with_offered first (offer_change change) table))
-      (Some (with_four o (slots4.with_kept (kept_slot change) (slots4.with_offer (offer_change change) o.four.slots))))
+    (Some (with_four o (slots4.with_kept (kept_slot change) (slots4.with_offer (offer_change change) o.four.slots))))
 by_change4 change.Nothing table first clock count o room few size offered kept = λ s below. inl refl
 by_change4 (change.Keeps k) table first clock count o room few size offered kept =
     let ss = slots4.with_kept (Some k) o.four.slots in
