@@ -1,6 +1,6 @@
 //! What tells DHCPv4 clients apart.
 ghost use Rattle.std.specs.Prelude.{◌≡◌, ◌≤◌, ◌↔◌, length, take, IsSome, IfSome};
-ghost use Rattle.core.specs.Int.{w64, to_le_bytes};
+ghost use Rattle.std.specs.Int.{w64, to_le_bytes};
 ghost use Rattle.types.specs.Key4.{padded};
 ghost use Rattle.std.specs.Str.{bytes_eq};
 
