@@ -2,6 +2,7 @@ pub mod AgainLemmas
 pub mod AnswerLemmas
 pub mod CarryLemmas
 pub mod ClockLemmas
+pub mod FaultLemmas
 pub mod PollingLemmas
 pub mod ReplyLemmas
 pub mod ServedLemmas

@@ -16,6 +16,10 @@ use Rattle.access.specs.Polling.{IsPolled, deliveries_in}
 use Rattle.access.specs.declared.access.AccessFault.{AccessFault}
 use Rattle.access.specs.declared.access.AccessFault.TheVariants as fault
 use Rattle.sockets.specs.Sockets.{AreBound}
+use Rattle.dispatch.specs.declared.server.OpenFault.{OpenFault}
+use Rattle.dispatch.specs.declared.server.OpenFault.TheVariants as open_fault
+use Rattle.sockets.specs.declared.sockets.SocketFault.{SocketFault}
+use Rattle.sockets.specs.declared.sockets.SocketFault.TheVariants as socket
 use Rattle.sockets.specs.declared.sockets.Sockets.{Sockets}
 use Rattle.counts.specs.declared.counts.Counts.{Counts}
 use Rattle.counts.specs.declared.counts.Outcome.{Outcome}
@@ -49,6 +53,15 @@ IsAccess topology sockets server regions port batch history listen4 listen6 =
     (length sockets.circuits.items ≡ length topology.circuits) × (length sockets.circuits.items ≤ 16) × All (λ circuit. circuit.relay < length sockets.relays.items) sockets.circuits.items
     × (length sockets.relays.items ≡ length topology.relays) × (length sockets.relays.items ≤ 8) × HasRegions server.topology.circuits regions × AreBound topology port history sockets × ServesEach topology
     × (listen4 ≡ topology.listen4) × (listen6 ≡ topology.listen6) × (port ≤ 65472) × (batch ≤ 16)
+
+-- what is said where a server can't be opened, and where a socket can't
+abbrev pub opening_fault : OpenFault → AccessFault
+opening_fault open_fault.Memory = fault.Memory
+opening_fault open_fault.DiskTooSmall = fault.Disk
+
+abbrev pub socket_fault : SocketFault → AccessFault
+socket_fault socket.Memory = fault.Memory
+socket_fault (socket.Bind at) = fault.Socket at
 
 -- Where an address is refused, it is one of these.
 abbrev pub RefusesSocket : (Source → Type 0) → AccessFault → Type 0

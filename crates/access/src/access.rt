@@ -50,6 +50,32 @@ pub enum AccessFault {
     TooManyCircuits,
 }
 
+impl From<OpenFault> for AccessFault {
+    ghost use Rattle.access.specs.Access.{opening_fault};
+
+    ghost from_gives = { λ why made. made ≡ opening_fault why };
+
+    fn from(why: OpenFault) -> AccessFault {
+        match why {
+            OpenFault::Memory => AccessFault::Memory,
+            OpenFault::DiskTooSmall => AccessFault::Disk,
+        }
+    }
+}
+
+impl From<SocketFault> for AccessFault {
+    ghost use Rattle.access.specs.Access.{socket_fault};
+
+    ghost from_gives = { λ why made. made ≡ socket_fault why };
+
+    fn from(why: SocketFault) -> AccessFault {
+        match why {
+            SocketFault::Memory => AccessFault::Memory,
+            SocketFault::Bind(at) => AccessFault::Socket(at),
+        }
+    }
+}
+
 /// The relays and the server of a configuration, with the sockets that they use and the device that
 /// keeps the leases. Clients and relays are reached by UDP on IPv4 alone, for DHCPv6 too.
 #[derive(Drop)]
@@ -112,10 +138,7 @@ fn open_engine(alloc: Global, config: &Config, mut disk: FileDisk) -> Result<Eng
     ensures writes { IfOk result (λ engine. engine.disk.writes ≤ disk.writes + 4 * length config.now.circuits) }
     ensures small { IfErr result (λ why. why ≡ open_fault.DiskTooSmall → ¬ HasRegions (parts_of config.now) disk.regions) }
 {
-    let (server, formats) = match open_server(alloc, config, &mut disk) {
-        Ok(opened) => opened,
-        Err(why) => return Err(why),
-    };
+    let (server, formats) = open_server(alloc, config, &mut disk)?;
     match Relays::new(alloc, config) {
         Ok(relays) => Ok(Engine {
             relays,
@@ -169,11 +192,8 @@ pub fn try_sockets<R: Net>(
         return Err(AccessFault::TooManyCircuits);
     }
     let mut opening = History::new();
-    match bind_sockets(net, alloc, config, port, &mut opening) {
-        Ok(_) => Ok(()),
-        Err(SocketFault::Memory) => Err(AccessFault::Memory),
-        Err(SocketFault::Bind(at)) => Err(AccessFault::Socket(at)),
-    }
+    bind_sockets(net, alloc, config, port, &mut opening)?;
+    Ok(())
 }
 
 /// What looks at relay and server while they serve.
@@ -225,15 +245,13 @@ impl Access {
         if config.circuit_count() > MAX_SERVED {
             return Err(AccessFault::TooManyCircuits);
         }
-        let engine = match open_engine(alloc, config, disk) {
-            Ok(engine) => engine,
-            Err(OpenFault::Memory) => return Err(AccessFault::Memory),
-            Err(OpenFault::DiskTooSmall) => return Err(AccessFault::Disk),
-        };
+        let engine = open_engine(alloc, config, disk)?;
         let (sockets, waiter) = match bind_sockets(net, alloc, config, port, opening) {
             Ok(bound) => bound,
-            Err(SocketFault::Memory) => return Err(AccessFault::Memory),
-            Err(SocketFault::Bind(at)) => return Err(AccessFault::Socket(at)),
+            Err(why) => {
+                drop(engine);
+                return Err(AccessFault::from(why));
+            }
         };
         Ok(Access {
             relays: engine.relays,
