@@ -161,14 +161,19 @@ impl World {
         ensures writes { IfOk result (λ world. world.disk.writes ≤ disk.writes + 4 * length config.now.circuits) }
     {
         let Ok(relays) = Relays::new(alloc, config) else {
+            drop(disk);
             return Err(OpenFault::Memory);
         };
         let Ok(net) = Net::new(alloc, config.circuit_count(), usize::from(quota)) else {
+            drop((relays, disk));
             return Err(OpenFault::Memory);
         };
         match Server::open(alloc, config, &mut disk) {
             Ok(server) => Ok(World::over(relays, net, server, disk)),
-            Err(why) => Err(why),
+            Err(why) => {
+                drop((relays, net, disk));
+                Err(why)
+            }
         }
     }
 
@@ -193,15 +198,20 @@ impl World {
         ensures writes { IfOk result (λ world. world.disk.writes ≤ disk.writes + 4 * length plans.now.union.circuits) }
     {
         let Ok(relays) = Relays::new_plans(alloc, plans) else {
+            drop(disk);
             return Err(OpenFault::Memory);
         };
         let count = plans.union().circuit_count();
         let Ok(net) = Net::new(alloc, count, usize::from(quota)) else {
+            drop((relays, disk));
             return Err(OpenFault::Memory);
         };
         match Server::open_plans(alloc, plans, &mut disk) {
             Ok(server) => Ok(World::over(relays, net, server, disk)),
-            Err(why) => Err(why),
+            Err(why) => {
+                drop((relays, net, disk));
+                Err(why)
+            }
         }
     }
 
