@@ -77,9 +77,12 @@ pub fn run_explained<R: ByteReader, W: ByteWriter>(
     let mut ahead = ReadAhead::new();
     let mut buffers = Buffers::new();
     let Ok(next) = prepare_all(&mut disk, plans, &mut ahead, &mut buffers, reader) else {
+        // here and below a call drops them: all that they hold would else be part of this function's proof
+        drop((disk, ahead, buffers));
         return FAILED;
     };
     let Ok(mut world) = opened(alloc, plans, disk, quota) else {
+        drop((ahead, buffers));
         return UNOPENED;
     };
     let status = apply_lines(
@@ -93,6 +96,7 @@ pub fn run_explained<R: ByteReader, W: ByteWriter>(
     );
     // a bad line is not consumed
     bad.keep(buffers.line, ahead.as_slice());
+    drop((world, ahead, buffers));
     status
 }
 
