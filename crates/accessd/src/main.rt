@@ -280,7 +280,12 @@ fn run_over(rt: &HostRuntime, config: &Config, values: &AccessWords<'_>, disk: F
     let mut opening = History::new();
     let (port, batch) = (values.port, values.batch);
     match Access::open(rt, rt.alloc(), config, disk, port, batch, &mut opening) {
-        Ok(mut access) => serve(rt, config, values, &mut access),
+        Ok(mut access) => {
+            let status = serve(rt, config, values, &mut access);
+            // by a call: all that it holds would else be part of this function's proof
+            drop(access);
+            status
+        }
         Err(fault) => refuse(rt, config, values.disk, fault),
     }
 }
