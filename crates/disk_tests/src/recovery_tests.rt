@@ -1,38 +1,50 @@
-ghost use Rattle.std.specs.Prelude.{◌≡◌, ◌<◌, length, IfOk};
+ghost use Rattle.std.specs.Prelude.{◌≡◌, ◌<◌, length};
 
-use crate::save_tests::{bound, formatted_disk, has, keep, lease_at, leased_at, read_back};
+use crate::save_tests::{
+    Bytes, bound, formatted_disk, free_at, has, is_as, keep, lease_at, leased_at, new_disk,
+    read_back,
+};
 use crate::stop_tests::settle;
 use lease_disk::*;
-use std::alloc::{AllocError, Global};
-use std::test::Fail;
-use types::{Key6, Moment, Slot4, Slot6, Slots};
+use std::alloc::AllocGlobal;
+use std::process::Abort;
+use types::{Key6, Slot6, Slots};
 
 /// Changes some bytes of the region of a device.
 pub fn change(disk: &mut ModelDisk, bytes: &[(usize, u8)])
     requires count { length disk.old.regions ≡ 1 }
     ensures count { length disk.new.regions ≡ 1 }
 {
-    let mut region = [0; REGION];
-    region.copy_from_slice(disk.bytes(0));
     for (at, byte) in bytes {
         if *at < REGION {
-            region[*at] = *byte;
+            disk.load(0, *at, &[*byte]);
         }
     }
-    let _ = disk.write_at(0, 0, &region);
 }
 
-/// A device of one formatted region in which some bytes are changed.
-fn disk_with(alloc: Global, bytes: &[(usize, u8)]) -> Result<ModelDisk, AllocError>
-    ensures count { IfOk result (λ disk. length disk.regions ≡ 1) }
+/// Whether a region recovers to these slots, for pools of 16 addresses.
+pub fn finds(disk: &mut ModelDisk, region: u16, expected: &Slots) -> bool
+    requires exists { region < length disk.old.regions }
+    ensures count { length disk.new.regions ≡ length disk.old.regions }
 {
-    let mut disk = ModelDisk::new(alloc, 1)?;
-    change(&mut disk, bytes);
-    Ok(disk)
+    match recover(region, disk, [16, 16]) {
+        Ok((slots, _)) => is_as(Some(slots), expected),
+        Err(_) => false,
+    }
 }
 
-/// Why a region is not recovered for pools of 16 addresses.
-pub fn fault_of(disk: &mut ModelDisk, region: u16) -> Option<RecoverFault>
+/// The clock that it recovers to.
+pub fn clock_of(disk: &mut ModelDisk) -> Option<u64>
+    requires { length disk.old.regions ≡ 1 }
+{
+    match recover(0, disk, [16, 16]) {
+        Ok((slots, _)) => Some(slots.clock.seconds()),
+        Err(_) => None,
+    }
+}
+
+/// Why it does not recover.
+fn fault_of(disk: &mut ModelDisk, region: u16) -> Option<RecoverFault>
     requires exists { region < length disk.old.regions }
     ensures count { length disk.new.regions ≡ length disk.old.regions }
 {
@@ -42,117 +54,106 @@ pub fn fault_of(disk: &mut ModelDisk, region: u16) -> Option<RecoverFault>
     }
 }
 
-/// What is recovered from a formatted region with these bytes changed.
-fn slots_with(alloc: Global, bytes: &[(usize, u8)]) -> Result<Option<Slots>, AllocError> {
-    let mut disk = disk_with(alloc, bytes)?;
-    match recover(0, &mut disk, [16, 16]) {
-        Ok((slots, _)) => Ok(Some(slots)),
-        Err(_) => Ok(None),
-    }
+/// A device of one formatted region in which some bytes are changed.
+fn disk_with(rt: &(impl Abort + AllocGlobal), bytes: &[(usize, u8)]) -> ModelDisk
+    ensures { length result.regions ≡ 1 }
+{
+    let mut disk = new_disk(rt, 1);
+    change(&mut disk, bytes);
+    disk
 }
 
-/// The clock that is recovered from it.
-fn clock_with(alloc: Global, bytes: &[(usize, u8)]) -> Result<Option<u64>, AllocError> {
-    let mut disk = disk_with(alloc, bytes)?;
-    match recover(0, &mut disk, [16, 16]) {
-        Ok((slots, _)) => Ok(Some(slots.clock.seconds())),
-        Err(_) => Ok(None),
-    }
+/// Whether such a region recovers to these slots.
+fn finds_with(rt: &(impl Abort + AllocGlobal), bytes: &[(usize, u8)], expected: &Slots) -> bool {
+    finds(&mut disk_with(rt, bytes), 0, expected)
 }
 
-pub fn are_same(a: &Slots, b: &Slots) -> bool {
-    a.four == b.four && a.six == b.six && a.clock == b.clock
+/// The clock that it recovers to.
+fn clock_with(rt: &(impl Abort + AllocGlobal), bytes: &[(usize, u8)]) -> Option<u64> {
+    clock_of(&mut disk_with(rt, bytes))
 }
 
-pub fn empty() -> Slots {
-    Slots {
-        four: [Slot4::Free; 16],
-        six: [Slot6::Free; 16],
-        clock: Moment::first(),
-    }
-}
-
-#[test]
-fn a_formatted_region_is_an_empty_book(rt: HostRuntime) -> Result<(), Fail> {
-    let (mut disk, expected) = formatted_disk(rt.alloc())?;
+/// Whether formatting makes an empty book of a region, with the marks of a new one.
+fn is_emptied(rt: &(impl Abort + AllocGlobal)) -> bool {
+    let (mut disk, expected) = formatted_disk(rt);
     disk.fill(0, 0x5a);
-    assert!(rt; fault_of(&mut disk, 0) == Some(RecoverFault::Damaged));
-    assert!(rt; format(0, &mut disk).is_ok());
-    if let Ok((slots, marks)) = recover(0, &mut disk, [16, 16]) {
-        assert!(rt; are_same(&slots, &empty()));
-        assert!(rt; marks == expected);
-        return Ok(());
-    }
-    assert!(rt; false);
-    Ok(())
+    let is_damaged = fault_of(&mut disk, 0) == Some(RecoverFault::Damaged);
+    format(0, &mut disk).expect(rt, "formatting");
+    let (slots, marks) = recover(0, &mut disk, [16, 16]).expect(rt, "a formatted region");
+    is_damaged && is_as(Some(slots), &free_at(0)) && marks == expected
 }
 
-#[test]
-fn an_unreadable_region_is_a_fault(rt: HostRuntime) -> Result<(), Fail> {
-    let mut disk = ModelDisk::new(rt.alloc(), 2)?;
+/// Whether a region that is unreadable is a fault of the disk, and only then.
+fn fails_while_unreadable(disk: &mut ModelDisk) -> bool
+    requires { length disk.old.regions ≡ 2 }
+{
     disk.crash(1, Image::Unreadable);
-    assert!(rt; fault_of(&mut disk, 1) == Some(RecoverFault::DiskFault));
-    assert!(rt; fault_of(&mut disk, 0) == None);
+    let fault = fault_of(disk, 1);
+    let of_the_other = fault_of(disk, 0);
     disk.crash(1, Image::Byte(0));
-    assert!(rt; fault_of(&mut disk, 1) == None);
-    Ok(())
+    fault == Some(RecoverFault::DiskFault) && of_the_other == None && fault_of(disk, 1) == None
 }
 
 #[test]
-fn the_bytes_of_a_first_lease(rt: HostRuntime) -> Result<(), Fail> {
-    let bytes = [
-        (16640, 0xa5),
-        (16641, 1),
-        (16642, 7),
-        (16643, 1),
-        (16655, 0x65),
-        (16662, 0x02),
-        (16663, 0xbd),
-        (16672, 1),
-        (16673, 2),
-        (16678, 1),
-    ];
-    let mut disk = disk_with(rt.alloc(), &bytes)?;
-    settle(&mut disk, None)?;
-    if let Ok((slots, mut marks)) = read_back(&mut disk) {
-        assert!(rt; are_same(&slots, &leased_at(101)));
-        // the second half counts, with sequence 1: the next save writes the first, with sequence 2
-        assert!(rt; keep(&mut disk, &mut marks, &lease_at(102)).is_ok());
-        assert!(rt; has(disk.bytes(0), 16384, &[0xa5, 1, 7, 2]));
-        assert!(rt; has(disk.bytes(0), 16640, &[0xa5, 1, 7, 1]));
-        return Ok(());
-    }
-    assert!(rt; false);
-    Ok(())
+fn which_regions_recover(rt: HostRuntime) {
+    assert!(rt; is_emptied(&rt));
+    assert!(rt; fails_while_unreadable(&mut new_disk(&rt, 2)));
 }
 
-#[test]
-fn the_bytes_of_a_dhcpv6_lease(rt: HostRuntime) -> Result<(), Fail> {
-    // in the first half of slot 16, at clock 101 until 701
-    let bytes = [
-        (24577, 1),
-        (24578, 3),
-        (24580, 1),
-        (24581, 2),
-        (24582, 3),
-        (24583, 4),
-        (24591, 0x65),
-        (24598, 0x02),
-        (24599, 0xbd),
-        (24609, 3),
-        (24610, 9),
-    ];
-    let mut expected = empty();
-    expected.clock = Moment::new(101).unwrap();
+/// The example's lease in the second half of slot 0, which counts.
+const FIRST: [(usize, u8); 10] = [
+    (16640, 0xa5),
+    (16641, 1),
+    (16642, 7),
+    (16643, 1),
+    (16655, 0x65),
+    (16662, 0x02),
+    (16663, 0xbd),
+    (16672, 1),
+    (16673, 2),
+    (16678, 1),
+];
+
+/// The second half counts, with sequence 1: the next save writes the first, with sequence 2.
+#[rattlefmt::skip]
+const NEXT: [Bytes; 2] = [
+    Bytes { at: 16384, expected: &[0xa5, 1, 7, 2] },
+    Bytes { at: 16640, expected: &[0xa5, 1, 7, 1] },
+];
+
+/// Whether that lease is read, and the next save writes the half that does not count.
+fn reads_a_first_lease(rt: &(impl Abort + AllocGlobal)) -> bool {
+    let mut disk = disk_with(rt, &FIRST);
+    settle(&mut disk, None).expect(rt, "a sync");
+    let (slots, mut marks) = read_back(&mut disk).expect(rt, "a lease");
+    keep(&mut disk, &mut marks, &lease_at(102)).expect(rt, "the next save");
+    is_as(Some(slots), &leased_at(101)) && has(disk.bytes(0), &NEXT)
+}
+
+/// A DHCPv6 lease in the first half of slot 16, at clock 101 until 701.
+const DHCPV6: [(usize, u8); 11] = [
+    (24577, 1),
+    (24578, 3),
+    (24580, 1),
+    (24581, 2),
+    (24582, 3),
+    (24583, 4),
+    (24591, 0x65),
+    (24598, 0x02),
+    (24599, 0xbd),
+    (24609, 3),
+    (24610, 9),
+];
+
+fn reads_a_dhcpv6_lease(rt: &(impl Abort + AllocGlobal)) -> bool {
     let client = Key6::new(&[0, 3, 9], 0x0102_0304).unwrap();
+    let mut expected = free_at(101);
     expected.six[0] = Slot6::Bound(client, 701);
-    let found = slots_with(rt.alloc(), &bytes)?;
-    assert!(rt; matches!(found, Some(slots) if are_same(&slots, &expected)));
-    Ok(())
+    finds_with(rt, &DHCPV6, &expected)
 }
 
-#[test]
-fn an_expired_lease_beside_a_live_one_of_its_client(rt: HostRuntime) -> Result<(), Fail> {
+/// Whether an expired lease of a client does not stand in the way of its live one.
+fn reads_the_live_lease(rt: &(impl Abort + AllocGlobal)) -> bool {
     // the client has slot 0 until 101, and slot 1, saved at clock 101, until 701
     let mut bytes = [
         (16385, 1),
@@ -170,44 +171,56 @@ fn an_expired_lease_beside_a_live_one_of_its_client(rt: HostRuntime) -> Result<(
         (16929, 2),
         (16934, 1),
     ];
-    let mut expected = empty();
-    expected.clock = Moment::new(101).unwrap();
+    let mut expected = free_at(101);
     expected.four[1] = bound(701);
-    let found = slots_with(rt.alloc(), &bytes)?;
-    assert!(rt; matches!(found, Some(slots) if are_same(&slots, &expected)));
+    let is_found = finds_with(rt, &bytes, &expected);
     // until 102 both are live
     bytes[2] = (16407, 0x66);
-    assert!(rt; clock_with(rt.alloc(), &bytes)? == None);
-    Ok(())
+    is_found && clock_with(rt, &bytes) == None
 }
 
 #[test]
-fn the_open_half_that_follows_counts(rt: HostRuntime) -> Result<(), Fail> {
-    // by the sequence of the first half, then by that of the second
-    let rows = [
-        [None, Some(20), Some(10), None],
-        [Some(10), None, Some(20), None],
-        [Some(20), Some(10), None, None],
-        [None, None, None, None],
+fn leases_by_their_bytes(rt: HostRuntime) {
+    assert!(rt; reads_a_first_lease(&rt));
+    assert!(rt; reads_a_dhcpv6_lease(&rt));
+    assert!(rt; reads_the_live_lease(&rt));
+}
+
+/// The clock of two open halves of slot 2 with these sequences, of which the first has clock 10, the second clock 20.
+fn clock_of_halves(rt: &(impl Abort + AllocGlobal), first: u8, second: u8) -> Option<u64> {
+    let bytes = [
+        (17411, first),
+        (17423, 10),
+        (17664, 0xa5),
+        (17667, second),
+        (17679, 20),
     ];
-    for (first, row) in (0..4).zip(rows) {
-        for (second, clock) in (0..4).zip(row) {
-            // in slot 2 the first half has clock 10, the second clock 20
-            let bytes = [
-                (17411, first),
-                (17423, 10),
-                (17664, 0xa5),
-                (17667, second),
-                (17679, 20),
-            ];
-            assert!(rt; clock_with(rt.alloc(), &bytes)? == clock);
+    clock_with(rt, &bytes)
+}
+
+/// The clock that they have, by the sequence of the first half and then by that of the second.
+const CLOCKS: [[Option<u64>; 4]; 4] = [
+    [None, Some(20), Some(10), None],
+    [Some(10), None, Some(20), None],
+    [Some(20), Some(10), None, None],
+    [None, None, None, None],
+];
+
+/// Whether the half that follows the other counts.
+fn follows(rt: &(impl Abort + AllocGlobal)) -> bool {
+    for first in 0..4 {
+        for second in 0..4 {
+            let clock = clock_of_halves(rt, first, second);
+            if clock != CLOCKS[usize::from(first)][usize::from(second)] {
+                return false;
+            }
         }
     }
-    Ok(())
+    true
 }
 
-#[test]
-fn the_kept_clock_is_the_greatest_of_all_slots(rt: HostRuntime) -> Result<(), Fail> {
+/// Whether the clock is the greatest of all slots.
+fn is_greatest(rt: &(impl Abort + AllocGlobal)) -> bool {
     // slots 1 and 15 of DHCPv4 at 10 and 20; slots 17 and 31 of DHCPv6 at 15 and 12
     let mut bytes = [
         (16911, 10),
@@ -219,10 +232,15 @@ fn the_kept_clock_is_the_greatest_of_all_slots(rt: HostRuntime) -> Result<(), Fa
         (17155, 2),
         (17167, 99),
     ];
-    assert!(rt; clock_with(rt.alloc(), &bytes)? == Some(20));
+    let first = clock_with(rt, &bytes);
     bytes[3] = (32271, 21);
-    assert!(rt; clock_with(rt.alloc(), &bytes)? == Some(21));
+    let second = clock_with(rt, &bytes);
     bytes[0] = (16911, 22);
-    assert!(rt; clock_with(rt.alloc(), &bytes)? == Some(22));
-    Ok(())
+    [first, second, clock_with(rt, &bytes)] == [Some(20), Some(21), Some(22)]
+}
+
+#[test]
+fn the_kept_clock(rt: HostRuntime) {
+    assert!(rt; follows(&rt));
+    assert!(rt; is_greatest(&rt));
 }

@@ -80,9 +80,9 @@ fn is_due(alloc: Global, server: &Server, until: Option<u64>) -> bool {
     let Ok(deadlines) = server.deadlines().list(alloc) else {
         return false;
     };
-    deadlines.len() == 32
-        && deadlines[0] == until
-        && deadlines[1..].iter().all(|other| other.is_none())
+    let mut expected = [None; 32];
+    expected[0] = until;
+    deadlines.as_slice() == expected.as_slice()
 }
 
 /// An offer is held for a minute, and the lease that follows for ten.

@@ -59,17 +59,17 @@ module _ (device : Device) (a b c : Saving) (ready_a : IsReady true device a) (r
   all (suc n) (suc i) within = two n i (omega (arith, within))
 
 pub save_many-requires-clause-ready : goal.save_many-requires-clause-ready
-save_many-requires-clause-ready c =
+save_many-requires-clause-ready g c =
     let disk = c.fail_at-3.new.self in
-    let count = c.fail_at-3.ensures.others.count ∙ c.fail_at-2.ensures.others.count ∙ c.fail_at.ensures.others.count ∙ c.in_ok-disk.ensures.count in
+    let count = c.fail_at-3.ensures.others.count ∙ c.fail_at-2.ensures.others.count ∙ c.fail_at.ensures.others.count ∙ c.formatted_regions-disk.ensures.count in
     let formatted : (q : ℕ) → q < 3 → state_of disk q ≡ formatted_region = λ q within.
     kept 2 c.fail_at-2.new.self c.fail_at-3.new.self c.fail_at-3.ensures.state c.fail_at-3.ensures.others q
     ∙ kept 1 c.fail_at.new.self c.fail_at-2.new.self c.fail_at-2.ensures.state c.fail_at-2.ensures.others q
-    ∙ kept 0 c.in_ok-disk.disk c.fail_at.new.self c.fail_at.ensures.state c.fail_at.ensures.others q
-    ∙ c.in_ok-disk.ensures.formatted q within in
-    let one = is_ready (device_of disk) c.in_ok-disk.marks in
+    ∙ kept 0 c.formatted_regions-disk.result.0 c.fail_at.new.self c.fail_at.ensures.state c.fail_at.ensures.others q
+    ∙ c.formatted_regions-disk.ensures.formatted q within in
+    let one = is_ready (device_of disk) c.formatted_regions-disk.result.1 in
     all (device_of disk) c.part.result c.part-2.result c.part-3.result
-    (one c.part.result count (omega (arith, c.part.ensures.region)) formatted c.in_ok-disk.ensures.marks c.part.ensures.marks c.part.ensures.fresh c.part.ensures.fits)
-    (one c.part-2.result count (omega (arith, c.part-2.ensures.region)) formatted c.in_ok-disk.ensures.marks c.part-2.ensures.marks c.part-2.ensures.fresh c.part-2.ensures.fits)
-    (one c.part-3.result count (omega (arith, c.part-3.ensures.region)) formatted c.in_ok-disk.ensures.marks c.part-3.ensures.marks c.part-3.ensures.fresh c.part-3.ensures.fits)
+    (one c.part.result count (omega (arith, c.part.ensures.region)) formatted c.formatted_regions-disk.ensures.marks c.part.ensures.marks c.part.ensures.fresh c.part.ensures.fits)
+    (one c.part-2.result count (omega (arith, c.part-2.ensures.region)) formatted c.formatted_regions-disk.ensures.marks c.part-2.ensures.marks c.part-2.ensures.fresh c.part-2.ensures.fits)
+    (one c.part-3.result count (omega (arith, c.part-3.ensures.region)) formatted c.formatted_regions-disk.ensures.marks c.part-3.ensures.marks c.part-3.ensures.fresh c.part-3.ensures.fits)
     c.args.n
