@@ -1,10 +1,10 @@
 -- The command line of `accesslab`, and the values that its words spell.
 use Rattle.std.specs.Prelude.{◌≡◌, ℕ, pos, ◌≤◌, true, List, [], ◌∷◌, length, Some, codes}
-use Rattle.std.specs.Str.Parse.{IsNumeral, digits_value, without_leading_plus}
 use Rattle.clap.specs.Words.{App, Row, Rule, Text, new_app, new_rule, with_rule, matches_of, all_of, first_of, fault_of}
 use Rattle.clap.specs.Simple.{on_top}
 use Rattle.clap.specs.declared.builder.ArgAction.TheVariants.{Set}
 use Rattle.clap.specs.declared.builder.value_parser.ValueParser.TheVariants as parser
+use Rattle.command_line.specs.CommandLine.{IsNumber}
 
 -- the paths of the configurations, 1 to 8, one of which at least is required
 abbrev pub configs_rule : Rule
@@ -21,25 +21,19 @@ bare_app = on_top (λ s. record s { no_binary_name = true; has_version = true })
 abbrev pub lab_app : App
 lab_app = with_rule (with_rule bare_app configs_rule) quota_rule
 
--- what the words give each argument
-abbrev pub given : List Text → List Row
-given words = matches_of lab_app words
+-- What the words give the arguments is these values.
+pub record HasValues (given : List Row) (configs : List Text) (quota : ℕ) : Type 0 where
+  -- each path, in order
+  pub configs_are : all_of (codes "CONFIG") given ≡ Some configs
+  pub some : 1 ≤ length configs
+  pub few : length configs ≤ 8
+  pub quota_is : IsNumber (first_of (codes "quota") given) 1 256 quota
 
 -- The words spell these values.
 pub record Spells (words configs : List Text) (quota : ℕ) : Type 0 where
   -- clap finds no fault in them
   pub right : fault_of lab_app words ≡ []
-  -- each path, in order
-  pub configs_are : all_of (codes "CONFIG") (given words) ≡ Some configs
-  pub some : 1 ≤ length configs
-  pub few : length configs ≤ 8
-  pub text : Text
-  pub quota_text : first_of (codes "quota") (given words) ≡ Some text
-  -- decimal digits, with or without a plus before them
-  pub numeral : IsNumeral 10 (without_leading_plus text)
-  pub value : digits_value 10 (without_leading_plus text) ≡ quota
-  pub least : 1 ≤ quota
-  pub most : quota ≤ 256
+  pub values : HasValues (matches_of lab_app words) configs quota
 
 -- The words spell values.
 abbrev pub SpellsSomething : List Text → Type 0

@@ -7,9 +7,9 @@ ghost use Rattle.command_line.specs.AccessdWords.{batch_rule, disk_rule, format_
 ghost use Rattle.command_line.specs.AccessdWords.{bare_app, base_app, serving_app, access_app, HasValues, Spells, SpellsSomething};
 ghost use Rattle.command_line.specs.declared.accessd_words.AccessWords as access;
 
-use crate::arguments::{config_arg, is_set, number};
+use crate::arguments::{config_arg, flag, is_set, limited, number, option};
 use crate::refusal::Refusal;
-use clap::{Arg, ArgAction, ArgMatches, Command};
+use clap::{Arg, ArgMatches, Command};
 use std::alloc::{AllocError, Global};
 
 const MAX_TURNS: u32 = 1_000_000;
@@ -25,7 +25,7 @@ const MAX_BATCH: u32 = 16;
 const MAX_REPORT: u32 = 86_400;
 
 /// The values of the words after the program's name.
-#[derive(Clone, Copy, PartialEq, Eq)]
+#[derive(Clone, Copy)]
 pub struct AccessWords<'a> {
     /// The path of the configuration.
     pub config: &'a str,
@@ -51,97 +51,69 @@ fn disk_arg<'a>(alloc: Global) -> Arg<'a>
     ensures rule { rule_of result ≡ disk_rule }
     ensures local { result.global ≡ false }
 {
-    Arg::new(alloc, "disk")
-        .long("disk")
-        .value_name("FILE")
-        .action(ArgAction::Set)
-        .required(true)
-        .help("The file in which the leases are kept")
+    let help = "The file in which the leases are kept";
+    option(alloc, "disk", "FILE", help).required(true)
 }
 
 fn turns_arg<'a>(alloc: Global) -> Arg<'a>
     ensures rule { rule_of result ≡ turns_rule }
     ensures local { result.global ≡ false }
 {
-    Arg::new(alloc, "turns")
-        .long("turns")
-        .value_name("N")
-        .action(ArgAction::Set)
-        .required(true)
-        .value_parser(clap::value_parser!(u32).range(1..=i64::from(MAX_TURNS)))
-        .help("How many turns to make, 1 to 1000000; a turn takes what waits at the sockets")
+    let limits = clap::value_parser!(u32).range(1..=i64::from(MAX_TURNS));
+    let help = "How many turns to make, 1 to 1000000; a turn takes what waits at the sockets";
+    limited(alloc, "turns", "N", limits, help).required(true)
 }
 
 fn format_arg<'a>(alloc: Global) -> Arg<'a>
     ensures rule { rule_of result ≡ format_rule }
     ensures local { result.global ≡ false }
 {
-    Arg::new(alloc, "format")
-        .long("format")
-        .action(ArgAction::SetTrue)
-        .help("Make the file and format every configured region first; leases in it are lost")
+    let help = "Make the file and format every configured region first; leases in it are lost";
+    flag(alloc, "format", help)
 }
 
 fn port_arg<'a>(alloc: Global) -> Arg<'a>
     ensures rule { rule_of result ≡ port_rule }
     ensures local { result.global ≡ false }
 {
-    Arg::new(alloc, "port")
-        .long("port")
-        .value_name("P")
-        .action(ArgAction::Set)
-        .value_parser(clap::value_parser!(u16).range(i64::from(MIN_PORT)..=i64::from(MAX_PORT)))
-        .default_value("20000")
-        .help("The first port of the first circuit, 1024 to 65472")
+    let limits = clap::value_parser!(u16).range(i64::from(MIN_PORT)..=i64::from(MAX_PORT));
+    let help = "The first port of the first circuit, 1024 to 65472";
+    limited(alloc, "port", "P", limits, help).default_value("20000")
 }
 
 fn pause_arg<'a>(alloc: Global) -> Arg<'a>
     ensures rule { rule_of result ≡ pause_rule }
     ensures local { result.global ≡ false }
 {
-    Arg::new(alloc, "pause")
-        .long("pause")
-        .value_name("MS")
-        .action(ArgAction::Set)
-        .value_parser(clap::value_parser!(u16).range(0..=i64::from(MAX_PAUSE)))
-        .default_value("0")
-        .help("How many milliseconds to wait at most after a turn that took nothing, 0 to 1000")
+    let limits = clap::value_parser!(u16).range(0..=i64::from(MAX_PAUSE));
+    let help = "How many milliseconds to wait at most after a turn that took nothing, 0 to 1000";
+    limited(alloc, "pause", "MS", limits, help).default_value("0")
 }
 
 fn batch_arg<'a>(alloc: Global) -> Arg<'a>
     ensures rule { rule_of result ≡ batch_rule }
     ensures local { result.global ≡ false }
 {
-    Arg::new(alloc, "batch")
-        .long("batch")
-        .value_name("B")
-        .action(ArgAction::Set)
-        .value_parser(clap::value_parser!(u8).range(1..=i64::from(MAX_BATCH)))
-        .default_value("1")
-        .help("How many datagrams the server takes at most in a turn and saves together, 1 to 16")
+    let limits = clap::value_parser!(u8).range(1..=i64::from(MAX_BATCH));
+    let help = "How many datagrams the server takes at most in a turn and saves together, 1 to 16";
+    limited(alloc, "batch", "B", limits, help).default_value("1")
 }
 
 fn report_arg<'a>(alloc: Global) -> Arg<'a>
     ensures rule { rule_of result ≡ report_rule }
     ensures local { result.global ≡ false }
 {
-    Arg::new(alloc, "report")
-        .long("report")
-        .value_name("S")
-        .action(ArgAction::Set)
-        .value_parser(clap::value_parser!(u32).range(0..=i64::from(MAX_REPORT)))
-        .default_value("0")
-        .help("Writes the counts every S seconds as well, 0 to 86400; 0 is never")
+    let limits = clap::value_parser!(u32).range(0..=i64::from(MAX_REPORT));
+    let help = "Writes the counts every S seconds as well, 0 to 86400; 0 is never";
+    limited(alloc, "report", "S", limits, help).default_value("0")
 }
 
 fn leases_arg<'a>(alloc: Global) -> Arg<'a>
     ensures rule { rule_of result ≡ leases_rule }
     ensures local { result.global ≡ false }
 {
-    Arg::new(alloc, "leases")
-        .long("leases")
-        .action(ArgAction::SetTrue)
-        .help("Writes a line to standard output for each lease that begins or ends")
+    let help = "Writes a line to standard output for each lease that begins or ends";
+    flag(alloc, "leases", help)
 }
 
 fn named<'a>(alloc: Global) -> Command<'a>
@@ -194,30 +166,27 @@ fn command<'a>(alloc: Global) -> Result<Command<'a>, AllocError>
 }
 
 /// The values that clap has read, where all are there and within their limits.
-fn values<'a>(matches: ArgMatches<'a>) -> Option<AccessWords<'a>>
-    ensures some { IfSome result (HasValues (rows_of (found_of matches.entry))) }
-    ensures none { IsNone result → (values : access.AccessWords) → ¬ HasValues (rows_of (found_of matches.entry)) values }
+fn values<'a>(matches: &ArgMatches<'a>) -> Option<AccessWords<'a>>
+    ensures some { IfSome result (HasValues (rows_of (found_of matches.now))) }
+    ensures none { IsNone result → (values : access.AccessWords) → ¬ HasValues (rows_of (found_of matches.now)) values }
 {
     let config = matches.get_str("CONFIG")?;
     let disk = matches.get_str("disk")?;
-    let turns = number(&matches, "turns", 1, MAX_TURNS)?;
-    let format = is_set(&matches, "format");
-    let port = number(&matches, "port", MIN_PORT, MAX_PORT)?;
-    let port = u16::try_from(port).ok()?;
-    let pause = number(&matches, "pause", 0, MAX_PAUSE)?;
-    let pause = u16::try_from(pause).ok()?;
-    let batch = number(&matches, "batch", 1, MAX_BATCH)?;
-    let batch = u8::try_from(batch).ok()?;
-    let report = number(&matches, "report", 0, MAX_REPORT)?;
-    let leases = is_set(&matches, "leases");
+    let turns = number(matches, "turns", 1, MAX_TURNS)?;
+    let format = is_set(matches, "format");
+    let port = number(matches, "port", MIN_PORT, MAX_PORT)?;
+    let pause = number(matches, "pause", 0, MAX_PAUSE)?;
+    let batch = number(matches, "batch", 1, MAX_BATCH)?;
+    let report = number(matches, "report", 0, MAX_REPORT)?;
+    let leases = is_set(matches, "leases");
     Some(AccessWords {
         config,
         disk,
         turns,
         format,
-        port,
-        pause,
-        batch,
+        port: port as u16,
+        pause: pause as u16,
+        batch: batch as u8,
         report,
         leases,
     })
@@ -235,8 +204,8 @@ pub fn words<'a>(alloc: Global, words: &'a [String]) -> Result<AccessWords<'a>, 
         Ok(matches) => matches,
         Err(error) => return Err(Refusal::Usage(error)),
     };
-    match values(matches) {
-        Some(values) => Ok(values),
-        None => Err(Refusal::BadValue),
-    }
+    let Some(values) = values(&matches) else {
+        return Err(Refusal::BadValue);
+    };
+    Ok(values)
 }

@@ -1,12 +1,12 @@
 //! The command line of `accesslab`.
-ghost use Rattle.std.specs.Prelude.{◌≡◌, false, map, string_bytes, IfOk, IfErr};
-ghost use Rattle.clap.specs.Words.{app_of, rule_of};
+ghost use Rattle.std.specs.Prelude.{◌≡◌, ℕ, List, false, map, string_bytes, IfOk, IfErr, IfSome, IsNone};
+ghost use Rattle.clap.specs.Words.{Text, app_of, rule_of, found_of, rows_of};
 ghost use Rattle.command_line.specs.CommandLine.{IsRefused};
-ghost use Rattle.command_line.specs.AccesslabWords.{configs_rule, quota_rule, bare_app, lab_app, Spells, SpellsSomething};
+ghost use Rattle.command_line.specs.AccesslabWords.{configs_rule, quota_rule, bare_app, lab_app, HasValues, Spells, SpellsSomething};
 
 use crate::arguments::number;
 use crate::refusal::Refusal;
-use clap::{Arg, ArgAction, Command};
+use clap::{Arg, ArgAction, ArgMatches, Command};
 use config::MAX_PLANS;
 use std::alloc::{AllocError, Global};
 
@@ -62,6 +62,20 @@ fn command<'a>(alloc: Global) -> Result<Command<'a>, AllocError>
     first.arg(quota)
 }
 
+/// The paths and the quota that clap has read, where they are there and within their limits.
+fn values<'m, 'a>(matches: &'m ArgMatches<'a>) -> Option<(&'m [&'a str], u16)>
+    ensures some { IfSome result (λ v. HasValues (rows_of (found_of matches.now)) (map (λ path. path.now) v.0.now) v.1) }
+    ensures none { IsNone result → (configs : List Text) (quota : ℕ) → ¬ HasValues (rows_of (found_of matches.now)) configs quota }
+{
+    let configs = matches.get_strs("CONFIG")?;
+    if configs.is_empty() || MAX_PLANS < configs.len() {
+        return None;
+    }
+    let quota = number(matches, "quota", 1, MAX_QUOTA)?;
+    let quota = u16::try_from(quota).ok()?;
+    Some((configs, quota))
+}
+
 /// The values of the words after the program's name.
 pub fn words<'a>(alloc: Global, words: &'a [String]) -> Result<LabWords<'a>, Refusal>
     ensures values { IfOk result (λ values. Spells (map string_bytes words.entry.now) (map (λ path. path.now) values.configs.items) values.quota) }
@@ -74,16 +88,7 @@ pub fn words<'a>(alloc: Global, words: &'a [String]) -> Result<LabWords<'a>, Ref
         Ok(matches) => matches,
         Err(error) => return Err(Refusal::Usage(error)),
     };
-    let Some(configs) = matches.get_strs("CONFIG") else {
-        return Err(Refusal::BadValue);
-    };
-    if configs.is_empty() || MAX_PLANS < configs.len() {
-        return Err(Refusal::BadValue);
-    }
-    let Some(quota) = number(&matches, "quota", 1, MAX_QUOTA) else {
-        return Err(Refusal::BadValue);
-    };
-    let Ok(quota) = u16::try_from(quota) else {
+    let Some((configs, quota)) = values(&matches) else {
         return Err(Refusal::BadValue);
     };
     match configs.to_vec(alloc) {

@@ -1,8 +1,9 @@
 //! What the programs share of their arguments.
 ghost use Rattle.std.specs.Prelude.{◌≡◌, ◌↔◌, ℕ, Some, false, true, codes, IfSome, IsNone};
 ghost use Rattle.clap.specs.Words.{rule_of, found_of, first_value};
-ghost use Rattle.command_line.specs.CommandLine.{IsNumber, config_rule};
+ghost use Rattle.command_line.specs.CommandLine.{IsNumber, config_rule, flag_rule, limited_rule, option_rule};
 
+use clap::builder::ValueParser;
 use clap::{Arg, ArgAction, ArgMatches};
 use std::alloc::Global;
 
@@ -15,6 +16,43 @@ pub fn config_arg<'a>(alloc: Global) -> Arg<'a>
         .action(ArgAction::Set)
         .required(true)
         .help("The configuration, a TOML file")
+}
+
+/// A flag, `--NAME`.
+pub(crate) fn flag<'a>(alloc: Global, name: &'a str, help: &'a str) -> Arg<'a>
+    ensures rule { rule_of result ≡ flag_rule name.entry.now }
+    ensures local { result.global ≡ false }
+{
+    Arg::new(alloc, name)
+        .long(name)
+        .action(ArgAction::SetTrue)
+        .help(help)
+}
+
+/// An argument with a value, `--NAME VALUE`.
+pub(crate) fn option<'a>(alloc: Global, name: &'a str, value: &'a str, help: &'a str) -> Arg<'a>
+    ensures rule { rule_of result ≡ option_rule name.entry.now }
+    ensures local { result.global ≡ false }
+{
+    Arg::new(alloc, name)
+        .long(name)
+        .value_name(value)
+        .action(ArgAction::Set)
+        .help(help)
+}
+
+/// One whose value has to be a number within limits.
+pub(crate) fn limited<'a>(
+    alloc: Global,
+    name: &'a str,
+    value: &'a str,
+    limits: ValueParser<'a>,
+    help: &'a str,
+) -> Arg<'a>
+    ensures rule { rule_of result ≡ limited_rule name.entry.now limits.entry }
+    ensures local { result.global ≡ false }
+{
+    option(alloc, name, value, help).value_parser(limits)
 }
 
 /// The value of an argument, where it is a number within the limits.

@@ -6,14 +6,14 @@ ghost use Rattle.command_line.specs.CommandLine.{IsRefused};
 ghost use Rattle.command_line.specs.LeasesWords.{at_rule, disk_rule, json_rule, pools_rule};
 ghost use Rattle.command_line.specs.LeasesWords.{bare_app, leases_app, HasValues, IsMoment, Spells, SpellsSomething};
 
-use crate::arguments::{config_arg, is_set};
+use crate::arguments::{config_arg, flag, is_set, limited, option};
 use crate::refusal::Refusal;
-use clap::{Arg, ArgAction, ArgMatches, Command};
+use clap::{Arg, ArgMatches, Command};
 use std::alloc::{AllocError, Global};
 use types::LAST_MOMENT;
 
 /// What is listed.
-#[derive(Clone, Copy, PartialEq, Eq)]
+#[derive(Clone, Copy)]
 pub enum What {
     Leases,
     /// What the leases take of each pool.
@@ -21,14 +21,14 @@ pub enum What {
 }
 
 /// How the lines are written.
-#[derive(Clone, Copy, PartialEq, Eq)]
+#[derive(Clone, Copy)]
 pub enum Form {
     Text,
     Json,
 }
 
 /// The values of the words after the program's name.
-#[derive(Clone, Copy, PartialEq, Eq)]
+#[derive(Clone, Copy)]
 pub struct LeaseWords<'a> {
     /// The path of the configuration.
     pub config: &'a str,
@@ -44,44 +44,32 @@ fn disk_arg<'a>(alloc: Global) -> Arg<'a>
     ensures rule { rule_of result ≡ disk_rule }
     ensures local { result.global ≡ false }
 {
-    Arg::new(alloc, "disk")
-        .long("disk")
-        .value_name("FILE")
-        .action(ArgAction::Set)
-        .required(true)
-        .help("The file in which `accessd` keeps the leases; it is only read")
+    let help = "The file in which `accessd` keeps the leases; it is only read";
+    option(alloc, "disk", "FILE", help).required(true)
 }
 
 fn at_arg<'a>(alloc: Global) -> Arg<'a>
     ensures rule { rule_of result ≡ at_rule }
     ensures local { result.global ≡ false }
 {
-    Arg::new(alloc, "at")
-        .long("at")
-        .value_name("SECONDS")
-        .action(ArgAction::Set)
-        .value_parser(clap::value_parser!(i64).range(0..=1_099_511_627_775))
-        .help("List what is leased at this moment, in seconds since 1970; now by default")
+    let limits = clap::value_parser!(i64).range(0..=1_099_511_627_775);
+    let help = "List what is leased at this moment, in seconds since 1970; now by default";
+    limited(alloc, "at", "SECONDS", limits, help)
 }
 
 fn pools_arg<'a>(alloc: Global) -> Arg<'a>
     ensures rule { rule_of result ≡ pools_rule }
     ensures local { result.global ≡ false }
 {
-    Arg::new(alloc, "pools")
-        .long("pools")
-        .action(ArgAction::SetTrue)
-        .help("List how many addresses of each pool are leased, declined and free")
+    let help = "List how many addresses of each pool are leased, declined and free";
+    flag(alloc, "pools", help)
 }
 
 fn json_arg<'a>(alloc: Global) -> Arg<'a>
     ensures rule { rule_of result ≡ json_rule }
     ensures local { result.global ≡ false }
 {
-    Arg::new(alloc, "json")
-        .long("json")
-        .action(ArgAction::SetTrue)
-        .help("Write each line as JSON")
+    flag(alloc, "json", "Write each line as JSON")
 }
 
 fn named<'a>(alloc: Global) -> Command<'a>
@@ -160,15 +148,15 @@ fn form_of<'a>(matches: &ArgMatches<'a>, id: &str) -> Form
 }
 
 /// The values that clap has read, where all are there and within their limits.
-fn values<'a>(matches: ArgMatches<'a>) -> Option<LeaseWords<'a>>
-    ensures some { IfSome result (λ values. HasValues (rows_of (found_of matches.entry)) values.config.now values.disk.now values.at values.what values.form) }
-    ensures none { IsNone result → (config disk : List ℕ) (at : Option ℕ) (what : What) (form : Form) → ¬ HasValues (rows_of (found_of matches.entry)) config disk at what form }
+fn values<'a>(matches: &ArgMatches<'a>) -> Option<LeaseWords<'a>>
+    ensures some { IfSome result (λ values. HasValues (rows_of (found_of matches.now)) values.config.now values.disk.now values.at values.what values.form) }
+    ensures none { IsNone result → (config disk : List ℕ) (at : Option ℕ) (what : What) (form : Form) → ¬ HasValues (rows_of (found_of matches.now)) config disk at what form }
 {
     let config = matches.get_str("CONFIG")?;
     let disk = matches.get_str("disk")?;
-    let at = moment(&matches, "at")?;
-    let what = what_of(&matches, "pools");
-    let form = form_of(&matches, "json");
+    let at = moment(matches, "at")?;
+    let what = what_of(matches, "pools");
+    let form = form_of(matches, "json");
     Some(LeaseWords {
         config,
         disk,
@@ -190,8 +178,8 @@ pub fn words<'a>(alloc: Global, words: &'a [String]) -> Result<LeaseWords<'a>, R
         Ok(matches) => matches,
         Err(error) => return Err(Refusal::Usage(error)),
     };
-    match values(matches) {
-        Some(values) => Ok(values),
-        None => Err(Refusal::BadValue),
-    }
+    let Some(values) = values(&matches) else {
+        return Err(Refusal::BadValue);
+    };
+    Ok(values)
 }

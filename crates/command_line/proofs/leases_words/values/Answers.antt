@@ -13,19 +13,19 @@ not_there o a none some = let h : None ≡ Some a = none ∙ some in absurd cc
 
 pub returns-in_err-config-clause-none : goal.returns-in_err-config-clause-none
 returns-in_err-config-clause-none c = λ _ config disk moment what form has.
-    not_there _ config (c.in_err-config.ensures ∙ first_value-rows (found_of c.args.matches) (codes "CONFIG")) has.config_is
+    not_there _ config (c.in_err-config.ensures ∙ first_value-rows (found_of c.args.matches.now) (codes "CONFIG")) has.config_is
 
 pub returns-in_err-disk-clause-none : goal.returns-in_err-disk-clause-none
 returns-in_err-disk-clause-none c = λ _ config disk moment what form has.
-    not_there _ disk (c.in_err-disk.ensures ∙ first_value-rows (found_of c.args.matches) (codes "disk")) has.disk_is
+    not_there _ disk (c.in_err-disk.ensures ∙ first_value-rows (found_of c.args.matches.now) (codes "disk")) has.disk_is
 
 pub returns-in_err-at-clause-none : goal.returns-in_err-at-clause-none
 returns-in_err-at-clause-none c = λ _ config disk moment what form has.
-    c.in_err-at.ensures.none refl moment (subst (λ t. IsMoment t moment) (sym (first_value-rows (found_of c.args.matches) (codes "at"))) has.at_is)
+    c.in_err-at.ensures.none refl moment (subst (λ t. IsMoment t moment) (sym (first_value-rows (found_of c.args.matches.now) (codes "at"))) has.at_is)
 
 pub returns-clause-some : goal.returns-clause-some
 returns-clause-some c =
-    let found = found_of c.args.matches in
+    let found = found_of c.args.matches.now in
     record {
       config_is = sym (c.in_ok-config.ensures ∙ first_value-rows found (codes "CONFIG"));
       disk_is = sym (c.in_ok-disk.ensures ∙ first_value-rows found (codes "disk"));

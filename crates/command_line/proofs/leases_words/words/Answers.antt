@@ -13,8 +13,8 @@ free : is_simple_and_free leases_app ≡ true
 unfolding clap_on_literals
 free = refl
 
-pub returns-in-Some-clause-values : goal.returns-in-Some-clause-values
-returns-in-Some-clause-values c =
+pub returns-clause-values : goal.returns-clause-values
+returns-clause-values c =
     let words = map string_bytes c.args.words.now in
     let parsed = c.in-Ok-try_get_matches_from.ensures in
     let rows = (parsed.matches (ap is_simple c.in-Ok.ensures ∙ simple)).0 ∙ ap (λ a. matches_of a words) c.in-Ok.ensures in
@@ -28,9 +28,9 @@ returns-in-Err-clause-refused c =
     let words = map string_bytes c.args.words.now in
     subst (λ a. HasKind (fault_of a words) c.in-Err.error) c.in-Ok.ensures (c.in-Err.ensures.kinds (ap is_simple_and_free c.in-Ok.ensures ∙ free))
 
-pub returns-in-None-clause-refused : goal.returns-in-None-clause-refused
-returns-in-None-clause-refused c = λ (config, disk, moment, what, form, spells).
+pub returns-in_default-values-clause-refused : goal.returns-in_default-values-clause-refused
+returns-in_default-values-clause-refused c = λ (config, disk, moment, what, form, spells).
     let words = map string_bytes c.args.words.now in
     let parsed = c.in-Ok-try_get_matches_from.ensures in
     let rows = (parsed.matches (ap is_simple c.in-Ok.ensures ∙ simple)).0 ∙ ap (λ a. matches_of a words) c.in-Ok.ensures in
-    c.in-None.ensures.none refl config disk moment what form (subst (λ given. HasValues given config disk moment what form) (sym rows) spells.values)
+    c.in_default-values.ensures.none refl config disk moment what form (subst (λ given. HasValues given config disk moment what form) (sym rows) spells.values)
