@@ -1,5 +1,5 @@
 //! The live leases of a circuit.
-ghost use Rattle.std.specs.Prelude.{◌≡◌, IfOk};
+ghost use Rattle.std.specs.Prelude.{◌≡◌, ◌++◌, IfOk, OnOk};
 ghost use Rattle.lease_list.specs.Lease.{lease4, lease6, leases_at, until_of};
 
 use config::CircuitPart;
@@ -47,21 +47,19 @@ fn lease6(address: Addr6, slot: Slot6) -> Option<Lease>
     }
 }
 
-/// The leases of a circuit's slots that are live at a moment, in seconds: those of its DHCPv4 pool by
-/// address, then those of its DHCPv6 pool. An error where memory is refused.
-pub fn leases(
-    alloc: Global,
+/// Appends the leases of a circuit's slots that are live at a moment, as `leases` has them.
+fn add_leases(
+    found: &mut Vec<Lease>,
     part: &CircuitPart,
     slots: &Slots,
     at: u64,
-) -> Result<Vec<Lease>, AllocError>
-    ensures { IfOk result (λ found. found.items ≡ leases_at at part.now slots.now) }
+) -> Result<(), AllocError>
+    ensures { OnOk result (found.new.items ≡ found.old.items ++ leases_at at part.now slots.now) }
 {
     let (pool4, pool6) = (part.pool4(), part.pool6());
     let (first4, first6) = (pool4.first(), pool6.first());
     let four = &slots.four[..usize::from(pool4.count())];
     let six = &slots.six[..usize::from(pool6.count())];
-    let mut found = Vec::new(alloc);
     'four: for (i, slot) in four.iter().enumerate() {
         let address = Addr4::from_number(first4.number() + i as u32);
         if let Some(lease) = lease4(address, slot.live_at(at)) {
@@ -74,5 +72,20 @@ pub fn leases(
             found.push(lease)?;
         }
     }
+    Ok(())
+}
+
+/// The leases of a circuit's slots that are live at a moment, in seconds: those of its DHCPv4 pool by
+/// address, then those of its DHCPv6 pool. An error where memory is refused.
+pub fn leases(
+    alloc: Global,
+    part: &CircuitPart,
+    slots: &Slots,
+    at: u64,
+) -> Result<Vec<Lease>, AllocError>
+    ensures { IfOk result (λ found. found.items ≡ leases_at at part.now slots.now) }
+{
+    let mut found = Vec::new(alloc);
+    add_leases(&mut found, part, slots, at)?;
     Ok(found)
 }

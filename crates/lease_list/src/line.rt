@@ -1,7 +1,7 @@
 //! A line for a lease, or for a circuit whose leases are not known.
 ghost use Rattle.std.specs.Prelude.{◌≡◌, IfOk, OnOk, option_map, string_bytes};
 ghost use Rattle.serde_json.specs.View.{members_view, view};
-ghost use Rattle.lease_list.specs.Line.{IsLeaseLine, closed_data, closed_written, state_of, why_of, with_client, with_end, with_place};
+ghost use Rattle.lease_list.specs.Line.{IsLeaseLine, closed_data, closed_written, state_of, why_of, with_client, with_end, with_place, written};
 ghost use Rattle.lease_list.specs.Row.{line_data};
 
 use crate::lease::Lease;
@@ -11,7 +11,7 @@ use serde_json::{Map, ToValue, Value, json, put};
 use std::alloc::{AllocError, Global};
 
 /// Why nothing is known of a circuit's leases.
-#[derive(Clone, Copy, PartialEq, Eq)]
+#[derive(Clone, Copy)]
 pub enum Closed {
     /// The bytes of its region are those of no book.
     Damaged,
@@ -75,6 +75,16 @@ fn row_value(alloc: Global, row: Row<'_>) -> Result<Value, AllocError>
     Ok(Value::Object(map))
 }
 
+/// The texts of a lease in a line.
+fn row_line(alloc: Global, row: Row<'_>, form: Form) -> Result<String, AllocError>
+    ensures { IfOk result (λ line. string_bytes line ≡ written form row.entry) }
+{
+    match form {
+        Form::Text => row.to_string(alloc),
+        Form::Json => row_value(alloc, row)?.to_string(alloc),
+    }
+}
+
 /// The line of a lease of the circuit with this id, at a moment in seconds, without a line feed.
 pub fn lease_line(
     alloc: Global,
@@ -86,10 +96,7 @@ pub fn lease_line(
     ensures { IfOk result (λ line. IsLeaseLine circuit.now lease.now at form (string_bytes line)) }
 {
     let row = Row::new(alloc, circuit, lease, at)?;
-    match form {
-        Form::Text => row.to_string(alloc),
-        Form::Json => row_value(alloc, row)?.to_string(alloc),
-    }
+    row_line(alloc, row, form)
 }
 
 fn state_of(why: Closed) -> &'static str

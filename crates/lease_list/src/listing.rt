@@ -127,9 +127,11 @@ pub fn circuit_lines(
 ) -> Result<Vec<String>, AllocError>
     ensures { IfOk result (λ lines. AreLines part.now at what form found.now lines.items) }
 {
-    match (found, what) {
-        (Ok(slots), What::Leases) => live_lines(alloc, part, slots, at, form),
-        (Ok(slots), What::Pools) => pool_lines(alloc, part, slots, at, form),
-        (Err(why), _) => closed_lines(alloc, part, *why, form),
+    match found {
+        Ok(slots) => match what {
+            What::Leases => live_lines(alloc, part, slots, at, form),
+            What::Pools => pool_lines(alloc, part, slots, at, form),
+        },
+        Err(why) => closed_lines(alloc, part, *why, form),
     }
 }

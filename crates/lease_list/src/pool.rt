@@ -7,7 +7,7 @@ use crate::lease::Lease;
 use types::{Addr4, Addr6, Pool4, Pool6, Proto};
 
 /// How many addresses of a pool are leased, how many a client declined, and how many are neither.
-#[derive(Clone, Copy, PartialEq, Eq)]
+#[derive(Clone, Copy)]
 pub struct Usage {
     pub leased: usize,
     pub declined: usize,

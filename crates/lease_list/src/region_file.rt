@@ -13,7 +13,7 @@ use thiserror::Error;
 use types::Count;
 
 /// Why a file is not read.
-#[derive(Clone, Copy, Debug, PartialEq, Eq, Error)]
+#[derive(Clone, Copy, Debug, Error)]
 pub enum FileFault {
     #[error("the file can't be read")]
     File,

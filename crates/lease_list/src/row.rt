@@ -2,6 +2,7 @@
 ghost use Rattle.std.specs.Prelude.{◌≡◌, Some, IfOk, option_map, string_bytes};
 ghost use Rattle.std.specs.Net.Addr.{segments_of};
 ghost use Rattle.std.specs.Net.Text.{ipv4_text, ipv6_text};
+ghost use Rattle.hex.specs.Hex.{encode_lower};
 ghost use Rattle.lease_list.specs.Row.{IsDate, IsRow, address_text, client_text, iaid_text, state_text, or_dash, line_text};
 
 use crate::lease::Lease;
@@ -62,15 +63,22 @@ fn address_text(alloc: Global, lease: &Lease) -> Result<String, AllocError>
     }
 }
 
+/// Bytes in hexadecimal.
+fn digits_of(alloc: Global, bytes: &[u8]) -> Result<Option<String>, AllocError>
+    ensures { IfOk result (λ text. option_map string_bytes text ≡ Some (encode_lower bytes.now)) }
+{
+    let text = hex::encode(alloc, bytes)?;
+    Ok(Some(text))
+}
+
 fn client_text(alloc: Global, lease: &Lease) -> Result<Option<String>, AllocError>
     ensures { IfOk result (λ text. option_map string_bytes text ≡ client_text lease.now) }
 {
-    let text = match *lease {
-        Lease::V4(_, Some(key), _) => hex::encode(alloc, key.as_bytes())?,
-        Lease::V6(_, Some(key), _) => hex::encode(alloc, key.duid())?,
-        Lease::V4(_, None, _) | Lease::V6(_, None, _) => return Ok(None),
-    };
-    Ok(Some(text))
+    match *lease {
+        Lease::V4(_, Some(key), _) => digits_of(alloc, key.as_bytes()),
+        Lease::V6(_, Some(key), _) => digits_of(alloc, key.duid()),
+        Lease::V4(_, None, _) | Lease::V6(_, None, _) => Ok(None),
+    }
 }
 
 fn iaid_text(alloc: Global, lease: &Lease) -> Result<Option<String>, AllocError>
@@ -80,8 +88,7 @@ fn iaid_text(alloc: Global, lease: &Lease) -> Result<Option<String>, AllocError>
         return Ok(None);
     };
     let bytes = key.iaid().to_be_bytes();
-    let text = hex::encode(alloc, &bytes[..])?;
-    Ok(Some(text))
+    digits_of(alloc, &bytes[..])
 }
 
 fn state_text(lease: &Lease) -> &'static str

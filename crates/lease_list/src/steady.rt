@@ -9,7 +9,7 @@ use lease_disk::REGION;
 pub const READINGS: usize = 100;
 
 /// Why a region was not read.
-#[derive(Clone, Copy, PartialEq, Eq)]
+#[derive(Clone, Copy)]
 pub enum Unsteady {
     /// No two readings one after the other were equal.
     Busy,
