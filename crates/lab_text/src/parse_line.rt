@@ -15,7 +15,7 @@ use events::Comeback;
 use types::{Circuit, MAX_CIRCUITS, Moment, Proto, RelayNo, Source};
 
 /// What a line says. The bytes of a frame, and those that are loaded, are in a buffer of their own.
-#[derive(Clone, Copy, PartialEq, Eq)]
+#[derive(Clone, Copy)]
 pub enum ParsedLine {
     /// An empty line or a comment.
     Ignored,
@@ -44,7 +44,7 @@ pub enum ParsedLine {
 }
 
 /// A line that was parsed.
-#[derive(Clone, Copy, PartialEq, Eq)]
+#[derive(Clone, Copy)]
 pub enum Parsed {
     /// Any line but a restart or a batch.
     Event(ParsedLine),

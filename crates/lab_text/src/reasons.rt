@@ -81,7 +81,7 @@ impl fmt::Display for Quoted<'_> {
         let shown = &self.0[..self.0.len().min(MAX_SHOWN)];
         'bytes: for byte in shown {
             if byte.is_ascii_graphic() && *byte != b'"' && *byte != b'\\' {
-                write!(f, "{}", char::from(*byte))?;
+                fmt::Display::fmt(&char::from(*byte), f)?;
             } else {
                 write!(f, "\\x{byte:02x}")?;
             }
@@ -98,16 +98,24 @@ fn has_leading_zero(text: &[u8]) -> bool {
     text.len() > 1 && text[0] == b'0' && text.iter().all(|byte| byte.is_ascii_digit())
 }
 
+/// Writes a text in quotation marks between two others.
+fn write_quoted<W: fmt::Write>(
+    f: &mut fmt::Formatter<W>,
+    before: &str,
+    text: &[u8],
+    after: &str,
+) -> fmt::Result {
+    f.write_str(before)?;
+    fmt::Display::fmt(&Quoted(text), f)?;
+    f.write_str(after)
+}
+
 impl fmt::Display for BytesFault<'_> {
     fn fmt<W: fmt::Write>(&self, f: &mut fmt::Formatter<W>) -> fmt::Result {
         match self {
             BytesFault::Empty => f.write_str("HEX is empty; - is for no bytes"),
             BytesFault::NoDigit(byte) => {
-                write!(
-                    f,
-                    "HEX has {}, which is not a hexadecimal digit",
-                    Quoted(byte)
-                )
+                write_quoted(f, "HEX has ", byte, ", which is not a hexadecimal digit")
             }
             BytesFault::Odd => f.write_str("HEX has an odd number of digits"),
             BytesFault::TooMany => f.write_str("HEX has more than 2048 bytes"),
@@ -118,19 +126,23 @@ impl fmt::Display for BytesFault<'_> {
 
 impl fmt::Display for SourceFault<'_> {
     fn fmt<W: fmt::Write>(&self, f: &mut fmt::Formatter<W>) -> fmt::Result {
-        let (whose, text) = match self {
+        let no_stray = ", so this is not a stray";
+        match self {
             SourceFault::NoAddress(text) => {
-                return write!(f, "SRC has to be an address and port, not {}", Quoted(text));
+                write_quoted(f, "SRC has to be an address and port, not ", text, "")
             }
-            SourceFault::OfRelay(text) => ("a relay's", text),
-            SourceFault::OfServer(text) => ("the server's", text),
-        };
-        write!(
-            f,
-            "SRC is {whose}, {}, so this is not a stray",
-            Quoted(text)
-        )
+            SourceFault::OfRelay(text) => write_quoted(f, "SRC is a relay's, ", text, no_stray),
+            SourceFault::OfServer(text) => {
+                write_quoted(f, "SRC is the server's, ", text, no_stray)
+            }
+        }
     }
+}
+
+/// Writes a text, and how something is spelled.
+fn write_form<W: fmt::Write>(f: &mut fmt::Formatter<W>, before: &str, form: &str) -> fmt::Result {
+    f.write_str(before)?;
+    f.write_str(form)
 }
 
 /// Writes what is wrong with a field of this name, which is one of these values.
@@ -152,32 +164,29 @@ impl fmt::Display for WhyBad<'_> {
         match self {
             WhyBad::TooLong => f.write_str("it has more than 8192 bytes"),
             WhyBad::Space => f.write_str("it begins with a space"),
-            WhyBad::NoForm(word) => write!(f, "no line begins with {}", Quoted(word)),
-            WhyBad::TooFew(form) => write!(f, "too few fields: {form}"),
-            WhyBad::TooMany(form) => write!(f, "too many fields: {form}"),
-            WhyBad::NoCircuit(id) => write!(f, "there is no circuit {}", Quoted(id)),
-            WhyBad::NoRelay(name) => write!(f, "there is no relay {}", Quoted(name)),
+            WhyBad::NoForm(word) => write_quoted(f, "no line begins with ", word, ""),
+            WhyBad::TooFew(form) => write_form(f, "too few fields: ", form),
+            WhyBad::TooMany(form) => write_form(f, "too many fields: ", form),
+            WhyBad::NoCircuit(id) => write_quoted(f, "there is no circuit ", id, ""),
+            WhyBad::NoRelay(name) => write_quoted(f, "there is no relay ", name, ""),
             WhyBad::NoPlan(text, last) => {
                 write!(f, "K has to be 0 to {last}, not {}", Quoted(text))
             }
             WhyBad::Value(name, values, text) => write_value(f, name, values, text),
             WhyBad::NoByte(text) => {
-                write!(
-                    f,
-                    "HH has to be two hexadecimal digits, not {}",
-                    Quoted(text)
-                )
+                write_quoted(f, "HH has to be two hexadecimal digits, not ", text, "")
             }
-            WhyBad::Bytes(fault) => write!(f, "{fault}"),
-            WhyBad::Source(fault) => write!(f, "{fault}"),
-            WhyBad::Unlike(field, form) => write!(f, "{} is not {form}", Quoted(field)),
-            WhyBad::Twice(id) => write!(f, "circuit {} appears twice", Quoted(id)),
+            WhyBad::Bytes(fault) => fmt::Display::fmt(fault, f),
+            WhyBad::Source(fault) => fmt::Display::fmt(fault, f),
+            WhyBad::Unlike(field, form) => {
+                fmt::Display::fmt(&Quoted(field), f)?;
+                write_form(f, " is not ", form)
+            }
+            WhyBad::Twice(id) => write_quoted(f, "circuit ", id, " appears twice"),
             WhyBad::TooManyParts => f.write_str("a batch has at most 16 parts"),
-            WhyBad::Late(word) => write!(
-                f,
-                "{} is allowed only before the first event",
-                Quoted(word)
-            ),
+            WhyBad::Late(word) => {
+                write_quoted(f, "", word, " is allowed only before the first event")
+            }
         }
     }
 }
