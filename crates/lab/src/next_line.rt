@@ -5,7 +5,7 @@ use lab_text::parse_line::Parsed;
 use streams::LineEnd;
 
 /// A line that was read and not yet consumed.
-#[derive(Clone, Copy, PartialEq, Eq)]
+#[derive(Clone, Copy)]
 pub struct NextLine {
     /// How many lines of the text come before it.
     pub earlier: u64,

@@ -13,7 +13,7 @@ pub enum Holder {
 }
 
 /// What happened to a client's lease.
-#[derive(Clone, Copy, PartialEq, Eq)]
+#[derive(Clone, Copy)]
 pub enum Happened {
     /// It began, and lasts until this moment, in seconds.
     Leased(u64),

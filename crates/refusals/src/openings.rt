@@ -13,7 +13,7 @@ use world::World;
 const REGIONS: u16 = 1024;
 
 /// What is opened.
-#[derive(Clone, Copy, PartialEq, Eq)]
+#[derive(Clone, Copy)]
 pub enum Opening {
     /// The configurations and the disk alone, which the others begin with.
     Disk,

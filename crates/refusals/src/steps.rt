@@ -61,7 +61,7 @@ impl fmt::Display for Step {
 }
 
 /// Why a step did not give what it should.
-#[derive(Clone, Copy, PartialEq, Eq)]
+#[derive(Clone, Copy)]
 pub enum Trouble {
     /// It reported that memory ran out.
     Memory(Step),
