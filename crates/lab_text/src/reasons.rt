@@ -98,95 +98,135 @@ fn has_leading_zero(text: &[u8]) -> bool {
     text.len() > 1 && text[0] == b'0' && text.iter().all(|byte| byte.is_ascii_digit())
 }
 
-/// Writes a text in quotation marks between two others.
-fn write_quoted<W: fmt::Write>(
-    f: &mut fmt::Formatter<W>,
-    before: &str,
-    text: &[u8],
-    after: &str,
-) -> fmt::Result {
-    f.write_str(before)?;
-    fmt::Display::fmt(&Quoted(text), f)?;
-    f.write_str(after)
+/// A reason in words: texts, a field in quotation marks, and texts after it.
+#[derive(Clone, Copy)]
+struct Words<'a> {
+    before: [&'static str; 4],
+    field: Option<&'a [u8]>,
+    after: [&'static str; 2],
 }
 
-impl fmt::Display for BytesFault<'_> {
-    fn fmt<W: fmt::Write>(&self, f: &mut fmt::Formatter<W>) -> fmt::Result {
-        match self {
-            BytesFault::Empty => f.write_str("HEX is empty; - is for no bytes"),
-            BytesFault::NoDigit(byte) => {
-                write_quoted(f, "HEX has ", byte, ", which is not a hexadecimal digit")
-            }
-            BytesFault::Odd => f.write_str("HEX has an odd number of digits"),
-            BytesFault::TooMany => f.write_str("HEX has more than 2048 bytes"),
-            BytesFault::PastRegion => f.write_str("HEX goes past the 32768 bytes of a region"),
+impl<'a> Words<'a> {
+    /// A text, and how something is spelled, if that is said.
+    fn plain(text: &'static str, form: &'static str) -> Words<'a> {
+        Words {
+            before: [text, form, "", ""],
+            field: None,
+            after: ["", ""],
+        }
+    }
+
+    /// A field between two texts.
+    fn of(before: &'static str, field: &'a [u8], after: &'static str) -> Words<'a> {
+        Words {
+            before: [before, "", "", ""],
+            field: Some(field),
+            after: [after, ""],
+        }
+    }
+
+    /// Of a field of this name, which is one of these values.
+    fn of_value(name: &'static str, values: &'static str, field: &'a [u8]) -> Words<'a> {
+        let after = if has_leading_zero(field) {
+            ": a number does not begin with a zero"
+        } else {
+            ""
+        };
+        Words {
+            before: [name, " has to be ", values, ", not "],
+            field: Some(field),
+            after: [after, ""],
+        }
+    }
+
+    /// Of a field of several parts, and how it is spelled.
+    fn of_form(field: &'a [u8], form: &'static str) -> Words<'a> {
+        Words {
+            before: [""; 4],
+            field: Some(field),
+            after: [" is not ", form],
         }
     }
 }
 
-impl fmt::Display for SourceFault<'_> {
+impl fmt::Display for Words<'_> {
     fn fmt<W: fmt::Write>(&self, f: &mut fmt::Formatter<W>) -> fmt::Result {
+        'before: for text in self.before {
+            f.write_str(text)?;
+        }
+        if let Some(field) = self.field {
+            fmt::Display::fmt(&Quoted(field), f)?;
+        }
+        'after: for text in self.after {
+            f.write_str(text)?;
+        }
+        Ok(())
+    }
+}
+
+impl<'a> BytesFault<'a> {
+    fn words(self) -> Words<'a> {
+        match self {
+            BytesFault::Empty => Words::plain("HEX is empty; - is for no bytes", ""),
+            BytesFault::NoDigit(byte) => {
+                Words::of("HEX has ", byte, ", which is not a hexadecimal digit")
+            }
+            BytesFault::Odd => Words::plain("HEX has an odd number of digits", ""),
+            BytesFault::TooMany => Words::plain("HEX has more than 2048 bytes", ""),
+            BytesFault::PastRegion => {
+                Words::plain("HEX goes past the 32768 bytes of a region", "")
+            }
+        }
+    }
+}
+
+impl<'a> SourceFault<'a> {
+    fn words(self) -> Words<'a> {
         let no_stray = ", so this is not a stray";
         match self {
             SourceFault::NoAddress(text) => {
-                write_quoted(f, "SRC has to be an address and port, not ", text, "")
+                Words::of("SRC has to be an address and port, not ", text, "")
             }
-            SourceFault::OfRelay(text) => write_quoted(f, "SRC is a relay's, ", text, no_stray),
-            SourceFault::OfServer(text) => {
-                write_quoted(f, "SRC is the server's, ", text, no_stray)
-            }
+            SourceFault::OfRelay(text) => Words::of("SRC is a relay's, ", text, no_stray),
+            SourceFault::OfServer(text) => Words::of("SRC is the server's, ", text, no_stray),
         }
     }
 }
 
-/// Writes a text, and how something is spelled.
-fn write_form<W: fmt::Write>(f: &mut fmt::Formatter<W>, before: &str, form: &str) -> fmt::Result {
-    f.write_str(before)?;
-    f.write_str(form)
-}
-
-/// Writes what is wrong with a field of this name, which is one of these values.
-fn write_value<W: fmt::Write>(
-    f: &mut fmt::Formatter<W>,
-    name: &str,
-    values: &str,
-    text: &[u8],
-) -> fmt::Result {
-    write!(f, "{name} has to be {values}, not {}", Quoted(text))?;
-    if has_leading_zero(text) {
-        f.write_str(": a number does not begin with a zero")?;
+impl<'a> WhyBad<'a> {
+    /// In words, but for the number of a plan, which has one of its own.
+    fn words(self) -> Option<Words<'a>> {
+        Some(match self {
+            WhyBad::TooLong => Words::plain("it has more than 8192 bytes", ""),
+            WhyBad::Space => Words::plain("it begins with a space", ""),
+            WhyBad::NoForm(word) => Words::of("no line begins with ", word, ""),
+            WhyBad::TooFew(form) => Words::plain("too few fields: ", form),
+            WhyBad::TooMany(form) => Words::plain("too many fields: ", form),
+            WhyBad::NoCircuit(id) => Words::of("there is no circuit ", id, ""),
+            WhyBad::NoRelay(name) => Words::of("there is no relay ", name, ""),
+            WhyBad::NoPlan(_, _) => return None,
+            WhyBad::Value(name, values, text) => Words::of_value(name, values, text),
+            WhyBad::NoByte(text) => {
+                Words::of("HH has to be two hexadecimal digits, not ", text, "")
+            }
+            WhyBad::Bytes(fault) => fault.words(),
+            WhyBad::Source(fault) => fault.words(),
+            WhyBad::Unlike(field, form) => Words::of_form(field, form),
+            WhyBad::Twice(id) => Words::of("circuit ", id, " appears twice"),
+            WhyBad::TooManyParts => Words::plain("a batch has at most 16 parts", ""),
+            WhyBad::Late(word) => { Words::of("", word, " is allowed only before the first event") }
+        })
     }
-    Ok(())
 }
 
 impl fmt::Display for WhyBad<'_> {
     fn fmt<W: fmt::Write>(&self, f: &mut fmt::Formatter<W>) -> fmt::Result {
-        match self {
-            WhyBad::TooLong => f.write_str("it has more than 8192 bytes"),
-            WhyBad::Space => f.write_str("it begins with a space"),
-            WhyBad::NoForm(word) => write_quoted(f, "no line begins with ", word, ""),
-            WhyBad::TooFew(form) => write_form(f, "too few fields: ", form),
-            WhyBad::TooMany(form) => write_form(f, "too many fields: ", form),
-            WhyBad::NoCircuit(id) => write_quoted(f, "there is no circuit ", id, ""),
-            WhyBad::NoRelay(name) => write_quoted(f, "there is no relay ", name, ""),
-            WhyBad::NoPlan(text, last) => {
-                write!(f, "K has to be 0 to {last}, not {}", Quoted(text))
-            }
-            WhyBad::Value(name, values, text) => write_value(f, name, values, text),
-            WhyBad::NoByte(text) => {
-                write_quoted(f, "HH has to be two hexadecimal digits, not ", text, "")
-            }
-            WhyBad::Bytes(fault) => fmt::Display::fmt(fault, f),
-            WhyBad::Source(fault) => fmt::Display::fmt(fault, f),
-            WhyBad::Unlike(field, form) => {
-                fmt::Display::fmt(&Quoted(field), f)?;
-                write_form(f, " is not ", form)
-            }
-            WhyBad::Twice(id) => write_quoted(f, "circuit ", id, " appears twice"),
-            WhyBad::TooManyParts => f.write_str("a batch has at most 16 parts"),
-            WhyBad::Late(word) => {
-                write_quoted(f, "", word, " is allowed only before the first event")
-            }
+        if let WhyBad::NoPlan(text, last) = self {
+            return write!(f, "K has to be 0 to {last}, not {}", Quoted(text));
+        }
+        match self.words() {
+            Some(words) => fmt::Display::fmt(&words, f),
+            None => Ok(()),
         }
     }
 }
