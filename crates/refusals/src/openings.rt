@@ -58,8 +58,20 @@ impl Opening {
     {
         match self {
             Opening::Disk => true,
-            Opening::Server => Server::open_plans(alloc, plans, &mut disk).is_ok(),
-            Opening::World => World::open_plans(alloc, plans, disk, 1).is_ok(),
+            Opening::Server => match Server::open_plans(alloc, plans, &mut disk) {
+                Ok(server) => {
+                    drop(server);
+                    true
+                }
+                Err(_) => false,
+            },
+            Opening::World => match World::open_plans(alloc, plans, disk, 1) {
+                Ok(world) => {
+                    drop(world);
+                    true
+                }
+                Err(_) => false,
+            },
         }
     }
 }

@@ -120,7 +120,10 @@ fn server(alloc: Global, config: &Config, mut disk: ModelDisk) -> Result<(), Tro
     requires { (q : ℕ) → IsClean (state_of disk q) }
 {
     match Server::open(alloc, config, &mut disk) {
-        Ok(_) => Ok(()),
+        Ok(server) => {
+            drop(server);
+            Ok(())
+        }
         Err(OpenFault::Memory) => Err(Trouble::Memory(Step::Server)),
         Err(OpenFault::DiskTooSmall) => Err(Trouble::Wrong(Step::Server)),
     }
