@@ -93,7 +93,11 @@ fn a_world_shares_syncs(alloc: Global, first: usize, second: usize) -> bool
     requires second { second ≤ 1023 }
 {
     match opened(alloc) {
-        Some(mut world) => shares_syncs(&mut world, first, second),
+        Some(mut world) => {
+            let holds = shares_syncs(&mut world, first, second);
+            drop(world);
+            holds
+        }
         None => false,
     }
 }

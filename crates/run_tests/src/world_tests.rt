@@ -43,7 +43,11 @@ fn circuit(index: usize) -> Circuit
 
 fn is_refused(alloc: Global, regions: u16, why: OpenFault) -> bool {
     match opened(alloc, regions) {
-        Ok(_) => false,
+        Ok(world) => {
+            // by a call, as below: all that a world holds would else be part of this function's proof
+            drop(world);
+            false
+        }
         Err(fault) => fault == why,
     }
 }
@@ -106,7 +110,11 @@ fn ends_over(world: &mut World, shelf: &mut Shelf, ended: Result<(), usize>) -> 
 /// The same of a world that is opened for it.
 fn a_world_ends_over(alloc: Global, shelf: &mut Shelf, ended: Result<(), usize>) -> bool {
     match opened(alloc, 1) {
-        Ok(mut world) => ends_over(&mut world, shelf, ended),
+        Ok(mut world) => {
+            let holds = ends_over(&mut world, shelf, ended);
+            drop(world);
+            holds
+        }
         Err(_) => false,
     }
 }
@@ -216,7 +224,11 @@ fn keeps_a_lease(world: &mut World) -> bool {
 /// The same of a world that is opened for it.
 fn a_world_keeps_a_lease(alloc: Global) -> bool {
     match opened(alloc, 1) {
-        Ok(mut world) => keeps_a_lease(&mut world),
+        Ok(mut world) => {
+            let holds = keeps_a_lease(&mut world);
+            drop(world);
+            holds
+        }
         Err(_) => false,
     }
 }
@@ -266,7 +278,11 @@ fn passes_over_what_does_not_exist(world: &mut World) -> bool {
 /// The same of a world that is opened for it.
 fn a_world_passes_over_it(alloc: Global) -> bool {
     match opened(alloc, 1) {
-        Ok(mut world) => passes_over_what_does_not_exist(&mut world),
+        Ok(mut world) => {
+            let holds = passes_over_what_does_not_exist(&mut world);
+            drop(world);
+            holds
+        }
         Err(_) => false,
     }
 }
