@@ -9,6 +9,7 @@ use dispatch::{OpenFault, Server};
 use lease_disk::{Disk, REGION};
 use relay::Relays;
 use std::alloc::Global;
+use std::mem;
 use types::{Circuit, CircuitId, Dest, Discard, Moment, Proto, RelayNo, Source};
 use wire::PacketBuf;
 
@@ -46,19 +47,26 @@ impl Bench {
     /// Relays and a server over a disk of so many formatted regions.
     pub fn open(alloc: Global, config: Config, regions: u16) -> Result<Bench, OpenFault> {
         let Ok(mut disk) = UnknownDisk::new(alloc, regions) else {
+            drop(config);
             return Err(OpenFault::Memory);
         };
         let Ok(relays) = Relays::new(alloc, &config) else {
+            drop((config, disk));
             return Err(OpenFault::Memory);
         };
-        let server = Server::open(alloc, &config, &mut disk)?;
-        Ok(Bench {
-            config,
-            relays,
-            server,
-            disk,
-            out: PacketBuf::new(),
-        })
+        match Server::open(alloc, &config, &mut disk) {
+            Ok(server) => Ok(Bench {
+                config,
+                relays,
+                server,
+                disk,
+                out: PacketBuf::new(),
+            }),
+            Err(why) => {
+                drop((config, relays, disk));
+                Err(why)
+            }
+        }
     }
 
     /// What was sent last; no bytes where nothing was.
@@ -135,7 +143,11 @@ impl Bench {
 
     /// Opens another server over the disk.
     pub fn reopen(&mut self, alloc: Global) -> Option<Answer> {
-        self.server = Server::open(alloc, &self.config, &mut self.disk).ok()?;
+        let Ok(server) = Server::open(alloc, &self.config, &mut self.disk) else {
+            return None;
+        };
+        // the earlier one by a call: all that it holds would else be part of this function's proof
+        drop(mem::replace(&mut self.server, server));
         Some(Answer::Done)
     }
 }

@@ -17,6 +17,18 @@ fn receive(
     Some(bench.receive(proto, source, &datagram, now))
 }
 
+/// Of a frame for a circuit's relay: the circuit's id, its protocol and its bytes.
+fn up(alloc: Global, bench: &mut Bench, id: &str, of: &str, digits: &str) -> Option<Answer> {
+    let proto = proto(of)?;
+    bench.up(id.as_bytes(), proto, &bytes(alloc, digits)?)
+}
+
+/// Of a datagram for a relay: the relay's number, its source and its bytes.
+fn down(alloc: Global, bench: &mut Bench, at: &str, from: &str, digits: &str) -> Option<Answer> {
+    let (relay, source) = (relay(at)?, source(from)?);
+    bench.down(relay, source, &bytes(alloc, digits)?)
+}
+
 /// Of bytes for a region: its number, where they begin, and the bytes.
 fn put(alloc: Global, bench: &mut Bench, region: &str, at: &str, digits: &str) -> Option<Answer> {
     let (region, at) = (region.parse::<u16>().ok()?, at.parse::<usize>().ok()?);
@@ -27,8 +39,8 @@ fn put(alloc: Global, bench: &mut Bench, region: &str, at: &str, digits: &str) -
 fn answer_to(alloc: Global, bench: &mut Bench, fields: &[&str]) -> Option<Answer> {
     match fields {
         ["receive", of, from, digits, now] => receive(alloc, bench, of, from, digits, now),
-        ["up", id, of, digits] => bench.up(id.as_bytes(), proto(of)?, &bytes(alloc, digits)?),
-        ["down", at, from, digits] => bench.down(relay(at)?, source(from)?, &bytes(alloc, digits)?),
+        ["up", id, of, digits] => up(alloc, bench, id, of, digits),
+        ["down", at, from, digits] => down(alloc, bench, at, from, digits),
         ["tick", now] => Some(bench.tick(moment(now)?)),
         ["put", region, at, digits] => put(alloc, bench, region, at, digits),
         ["reopen"] => bench.reopen(alloc),

@@ -103,7 +103,11 @@ fn opened(rt: &HostRuntime) -> Result<Bench, u8> {
 
 fn status(rt: &HostRuntime) -> u8 {
     match opened(rt) {
-        Ok(mut bench) => run(rt, &mut bench).unwrap_or(FAILED),
+        Ok(mut bench) => {
+            let status = run(rt, &mut bench).unwrap_or(FAILED);
+            drop(bench);
+            status
+        }
         Err(status) => status,
     }
 }
