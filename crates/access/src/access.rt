@@ -249,7 +249,7 @@ impl Access {
         let (sockets, waiter) = match bind_sockets(net, alloc, config, port, opening) {
             Ok(bound) => bound,
             Err(why) => {
-                // by a call: all that it holds would else be part of this function's proof
+                // by a call: all that it holds would otherwise be part of this function's proof
                 drop(engine);
                 return Err(AccessFault::from(why));
             }

@@ -282,7 +282,7 @@ fn run_over(rt: &HostRuntime, config: &Config, values: &AccessWords<'_>, disk: F
     match Access::open(rt, rt.alloc(), config, disk, port, batch, &mut opening) {
         Ok(mut access) => {
             let status = serve(rt, config, values, &mut access);
-            // by a call: all that it holds would else be part of this function's proof
+            // by a call: all that it holds would otherwise be part of this function's proof
             drop(access);
             status
         }

@@ -31,7 +31,7 @@ fn slot_of(holder: Option<Holder<Key4>>) -> Slot4
 }
 
 /// The holder that a kept slot has at this clock. What has expired has none: a client that got
-/// another address since would else have two slots.
+/// another address since would otherwise have two slots.
 fn live_holder(slot: Slot4, clock: u64) -> Option<Holder<Key4>>
     ensures { result ≡ holder_of (live4 clock slot) }
 {

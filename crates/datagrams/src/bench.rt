@@ -146,7 +146,7 @@ impl Bench {
         let Ok(server) = Server::open(alloc, &self.config, &mut self.disk) else {
             return None;
         };
-        // the earlier one by a call: all that it holds would else be part of this function's proof
+        // the earlier one by a call: all that it holds would otherwise be part of this function's proof
         drop(mem::replace(&mut self.server, server));
         Some(Answer::Done)
     }

@@ -77,7 +77,7 @@ pub fn run_explained<R: ByteReader, W: ByteWriter>(
     let mut ahead = ReadAhead::new();
     let mut buffers = Buffers::new();
     let Ok(next) = prepare_all(&mut disk, plans, &mut ahead, &mut buffers, reader) else {
-        // here and below a call drops them: all that they hold would else be part of this function's proof
+        // here and below a call drops them: all that they hold would otherwise be part of this function's proof
         drop((disk, ahead, buffers));
         return FAILED;
     };

@@ -182,13 +182,13 @@ impl<'a> BytesFault<'a> {
 
 impl<'a> SourceFault<'a> {
     fn words(self) -> Words<'a> {
-        let no_stray = ", so this is not a stray";
+        let not_a_stray = ", so this is not a stray";
         match self {
             SourceFault::NoAddress(text) => {
                 Words::of("SRC has to be an address and port, not ", text, "")
             }
-            SourceFault::OfRelay(text) => Words::of("SRC is a relay's, ", text, no_stray),
-            SourceFault::OfServer(text) => Words::of("SRC is the server's, ", text, no_stray),
+            SourceFault::OfRelay(text) => Words::of("SRC is a relay's, ", text, not_a_stray),
+            SourceFault::OfServer(text) => Words::of("SRC is the server's, ", text, not_a_stray),
         }
     }
 }

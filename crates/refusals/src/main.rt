@@ -38,7 +38,7 @@ fn show_refused(rt: &HostRuntime, number: u32) -> io::Result<()> {
     let answer = match opened(rt.alloc(), Step::World) {
         Ok(world) => {
             let is_opened = world.is_some();
-            // by a call, as below: all that a world holds would else be part of this function's proof
+            // by a call, as below: all that a world holds would otherwise be part of this function's proof
             drop(world);
             if is_opened { "right" } else { "wrong" }
         }

@@ -44,7 +44,7 @@ fn circuit(index: usize) -> Circuit
 fn is_refused(alloc: Global, regions: u16, why: OpenFault) -> bool {
     match opened(alloc, regions) {
         Ok(world) => {
-            // by a call, as below: all that a world holds would else be part of this function's proof
+            // by a call, as below: all that a world holds would otherwise be part of this function's proof
             drop(world);
             false
         }

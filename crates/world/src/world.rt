@@ -161,7 +161,7 @@ impl World {
         ensures writes { IfOk result (λ world. world.disk.writes ≤ disk.writes + 4 * length config.now.circuits) }
     {
         let Ok(relays) = Relays::new(alloc, config) else {
-            // here and below by a call: all that is dropped would else be part of this function's proof
+            // here and below by a call: all that is dropped would otherwise be part of this function's proof
             drop(disk);
             return Err(OpenFault::Memory);
         };
