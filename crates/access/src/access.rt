@@ -138,16 +138,17 @@ fn open_engine(alloc: Global, config: &Config, mut disk: FileDisk) -> Result<Eng
     ensures writes { IfOk result (λ engine. engine.disk.writes ≤ disk.writes + 4 * length config.now.circuits) }
     ensures small { IfErr result (λ why. why ≡ open_fault.DiskTooSmall → ¬ HasRegions (parts_of config.now) disk.regions) }
 {
+    // first, so that the device is as it was where their memory is refused
+    let Ok(relays) = Relays::new(alloc, config) else {
+        return Err(OpenFault::Memory);
+    };
     let (server, formats) = open_server(alloc, config, &mut disk)?;
-    match Relays::new(alloc, config) {
-        Ok(relays) => Ok(Engine {
-            relays,
-            server,
-            disk,
-            formats,
-        }),
-        Err(_) => Err(OpenFault::Memory),
-    }
+    Ok(Engine {
+        relays,
+        server,
+        disk,
+        formats,
+    })
 }
 
 /// Binds the sockets of a configuration, and watches them by a new waiter.
