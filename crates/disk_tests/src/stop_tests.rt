@@ -173,21 +173,35 @@ const BYTES: [Option<u8>; 7] = [
     None,
 ];
 
+/// Where a save stops at this cut, and the next one at another with the same byte, and the two leave something else
+/// than they should.
+fn wrong_second(
+    rt: &(impl Abort + AllocGlobal),
+    is_saved: bool,
+    first: Cut,
+) -> Option<(Cut, Cut)> {
+    for k in 0..7 {
+        let byte = first.byte;
+        let second = Cut { k, byte };
+        let holds = if is_saved {
+            two_stops_saved(rt, first, second)
+        } else {
+            two_stops_formatted(rt, first, second)
+        };
+        if !holds {
+            return Some((first, second));
+        }
+    }
+    None
+}
+
 /// Where two saves in a row stop and leave other slots than they should, of all pairs of calls, with one byte for both.
 fn wrong_pair(rt: &(impl Abort + AllocGlobal), is_saved: bool) -> Option<(Cut, Cut)> {
     for byte in BYTES {
         for k in 0..7 {
-            let first = Cut { k, byte };
-            for k in 0..7 {
-                let second = Cut { k, byte };
-                let holds = if is_saved {
-                    two_stops_saved(rt, first, second)
-                } else {
-                    two_stops_formatted(rt, first, second)
-                };
-                if !holds {
-                    return Some((first, second));
-                }
+            let pair = wrong_second(rt, is_saved, Cut { k, byte });
+            if pair.is_some() {
+                return pair;
             }
         }
     }
@@ -280,10 +294,8 @@ fn wrong_formatting(rt: &(impl Abort + AllocGlobal)) -> Option<Cut> {
     for k in 1..5 {
         for byte in 0..=255 {
             if !is_formatted_by(&mut new_disk(rt, 1), k, byte) {
-                return Some(Cut {
-                    k,
-                    byte: Some(byte),
-                });
+                let byte = Some(byte);
+                return Some(Cut { k, byte });
             }
         }
     }
