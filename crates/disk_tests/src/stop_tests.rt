@@ -175,11 +175,7 @@ const BYTES: [Option<u8>; 7] = [
 
 /// Where a save stops at this cut, and the next one at another with the same byte, and the two leave something else
 /// than they should.
-fn wrong_second(
-    rt: &(impl Abort + AllocGlobal),
-    is_saved: bool,
-    first: Cut,
-) -> Option<(Cut, Cut)> {
+fn wrong_second(rt: &(impl Abort + AllocGlobal), is_saved: bool, first: Cut) -> Option<(Cut, Cut)> {
     for k in 0..7 {
         let byte = first.byte;
         let second = Cut { k, byte };
