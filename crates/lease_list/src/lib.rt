@@ -19,4 +19,4 @@ pub use lease::{Lease, leases};
 pub use line::{Closed, closed_line, lease_line};
 pub use listing::{circuit_lines, circuit_slots};
 pub use region_file::{FileFault, RegionFile};
-pub use steady::{READINGS, RegionReader, Unsteady, read_steadily};
+pub use steady::RegionReader;

@@ -6,11 +6,11 @@ ghost use Rattle.lease_list.specs.declared.steady.Unsteady.TheVariants as unstea
 use lease_disk::REGION;
 
 /// How often a region is read at most.
-pub const READINGS: usize = 100;
+const READINGS: usize = 100;
 
 /// Why a region was not read.
 #[derive(Clone, Copy)]
-pub enum Unsteady {
+pub(crate) enum Unsteady {
     /// No two readings one after the other were equal.
     Busy,
     /// A reading failed.
@@ -34,7 +34,7 @@ pub trait RegionReader {
 
 /// Reads a region until two readings one after the other are equal, at most 100 times. At an error `out`
 /// holds any bytes.
-pub fn read_steadily<R: RegionReader>(
+pub(crate) fn read_steadily<R: RegionReader>(
     reader: &mut R,
     region: u16,
     out: &mut [u8; REGION],
