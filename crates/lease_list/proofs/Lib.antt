@@ -1,4 +1,3 @@
 pub mod LeaseLemmas
 pub mod LineLemmas
 pub mod PoolLemmas
-pub mod SteadyLemmas

@@ -4,4 +4,3 @@ pub mod Listing
 pub mod Moment
 pub mod Pool
 pub mod Row
-pub mod Steady

@@ -3,8 +3,8 @@ use Rattle.std.specs.Prelude.{◌≡◌, ℕ, List, ◌++◌, Option, codes}
 use Rattle.serde_json.specs.Data.{Data, Members, number, string, object, unsigned, no_members, member, put}
 use Rattle.serde_json.specs.Written.{compact_text}
 use Rattle.lease_list.specs.declared.lease.Lease.{Lease}
-use Rattle.lease_list.specs.declared.line.Closed.{Closed}
-use Rattle.lease_list.specs.declared.line.Closed.TheVariants.{Damaged, Unreadable, Busy}
+use Rattle.region_reading.specs.declared.closed.Closed.{Closed}
+use Rattle.region_reading.specs.declared.closed.Closed.TheVariants.{Damaged, Unreadable, Busy}
 use Rattle.command_line.specs.declared.leases_words.Form.{Form}
 use Rattle.command_line.specs.declared.leases_words.Form.TheVariants.{Text, Json}
 use Rattle.lease_list.specs.Lease.{until_of}

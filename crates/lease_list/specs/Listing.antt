@@ -1,11 +1,10 @@
--- What a circuit's region says, and the lines for it.
-use Rattle.std.specs.Prelude.{◌≡◌, ℕ, List, [], ◌∷◌, map, Some, None, Result, Ok, Err, String, string_bytes, slice_index}
+-- The lines for what a circuit's region says.
+use Rattle.std.specs.Prelude.{◌≡◌, ℕ, List, [], ◌∷◌, map, Result, Ok, Err, String, string_bytes}
 use Rattle.std.specs.List.{AllZip}
 use Rattle.std.specs.declared.alloc.Global.{Global}
 use Rattle.types.specs.declared.slots.Slots.{Slots}
 use Rattle.config.specs.CircuitPart.{CircuitPart, pool4_of, pool6_of}
-use Rattle.lease_list.specs.declared.line.Closed.{Closed}
-use Rattle.lease_list.specs.declared.line.Closed.TheVariants.{Damaged, Unreadable, Busy}
+use Rattle.region_reading.specs.declared.closed.Closed.{Closed}
 use Rattle.command_line.specs.declared.leases_words.Form.{Form}
 use Rattle.command_line.specs.declared.leases_words.What.{What}
 use Rattle.command_line.specs.declared.leases_words.What.TheVariants.{Leases, Pools}
@@ -13,18 +12,6 @@ use Rattle.lease_list.specs.declared.lease.Lease.{Lease}
 use Rattle.lease_list.specs.Lease.{leases_at}
 use Rattle.lease_list.specs.Line.{IsLeaseLine, closed_written}
 use Rattle.lease_list.specs.Pool.{pool4_texts, pool6_texts, pool_written}
-use Rattle.lease_list.specs.Steady.{IsSteady, AreUnsteady}
-use Rattle.lease_disk.specs.Recovered.{recovered}
-
--- The region was read until it had these bytes twice in a row, and the slots are those that they mean; it is damaged
--- where they mean none, and nothing is known of it where no two readings in a row were equal.
-abbrev pub AreCircuitSlots : CircuitPart → List ℕ → List (ℕ × List ℕ) → List (ℕ × List ℕ) → Result Slots Closed → Type 0
-AreCircuitSlots part bytes before after (Ok slots) =
-    IsSteady part.region bytes before after × (recovered (part.count4 ∷ part.count6 ∷ []) (slice_index bytes) ≡ Some slots)
-AreCircuitSlots part bytes before after (Err Damaged) =
-    IsSteady part.region bytes before after × (recovered (part.count4 ∷ part.count6 ∷ []) (slice_index bytes) ≡ None)
-AreCircuitSlots part bytes before after (Err Unreadable) = AreUnsteady part.region before after
-AreCircuitSlots part bytes before after (Err Busy) = AreUnsteady part.region before after
 
 -- the texts for the pools of a circuit that has these leases
 abbrev pub pool_texts : CircuitPart → Form → List Lease → List (List ℕ)

@@ -7,19 +7,9 @@ ghost use Rattle.lease_list.specs.Row.{line_data};
 use crate::lease::Lease;
 use crate::row::Row;
 use command_line::leases_words::Form;
+use region_reading::Closed;
 use serde_json::{Map, ToValue, Value, json, put};
 use std::alloc::{AllocError, Global};
-
-/// Why nothing is known of a circuit's leases.
-#[derive(Clone, Copy)]
-pub enum Closed {
-    /// The bytes of its region are those of no book.
-    Damaged,
-    /// Its region can't be read.
-    Unreadable,
-    /// Its region was written to during every reading.
-    Busy,
-}
 
 /// Puts in where a lease is, and whether it is one.
 fn put_place(

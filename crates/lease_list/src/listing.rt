@@ -1,19 +1,17 @@
-//! What a circuit's region says, and the lines for it.
-ghost use Rattle.std.specs.Prelude.{◌≡◌, ◌≢◌, ◌≤◌, ◌+◌, IfOk, Err, length, map, string_bytes, ◌∷◌, []};
+//! The lines for what a circuit's region says.
+ghost use Rattle.std.specs.Prelude.{◌≡◌, IfOk, map, string_bytes, ◌∷◌, []};
 ghost use Rattle.std.specs.List.{AllZip};
-ghost use Rattle.lease_list.specs.declared.line.Closed.TheVariants as closed;
 ghost use Rattle.lease_list.specs.Lease.{leases_at};
 ghost use Rattle.lease_list.specs.Line.{IsLeaseLine, closed_written};
-ghost use Rattle.lease_list.specs.Listing.{AreLines, AreCircuitSlots, pool_texts};
+ghost use Rattle.lease_list.specs.Listing.{AreLines, pool_texts};
 
 use crate::lease::{Lease, leases};
-use crate::line::{Closed, closed_line, lease_line};
+use crate::line::{closed_line, lease_line};
 use crate::pool_line::pool_line;
 use crate::pool_row::PoolRow;
-use crate::steady::{RegionReader, Unsteady, read_steadily};
 use command_line::leases_words::{Form, What};
 use config::CircuitPart;
-use lease_disk::{REGION, slots_in};
+use region_reading::Closed;
 use std::alloc::{AllocError, Global};
 use types::{CircuitId, Slots};
 
@@ -92,26 +90,6 @@ fn closed_lines(
     let mut lines = Vec::new(alloc);
     lines.push(line)?;
     Ok(lines)
-}
-
-/// The slots that a circuit's region means, of either format, by a reader; or why they are not known. `bytes` then has
-/// those of the region if it was read, and any if not.
-pub fn circuit_slots<R: RegionReader>(
-    part: &CircuitPart,
-    reader: &mut R,
-    bytes: &mut [u8; REGION],
-) -> Result<Slots, Closed>
-    ensures slots { AreCircuitSlots part.now bytes.new (R.readings reader.old) (R.readings reader.new) result }
-    ensures most { length (R.readings reader.new) + R.failures reader.new ≤ length (R.readings reader.old) + R.failures reader.old + 100 }
-    ensures busy { result ≡ Err closed.Busy → length (R.readings reader.new) ≡ length (R.readings reader.old) + 100 }
-    ensures quiet { result ≢ Err closed.Unreadable → R.failures reader.new ≡ R.failures reader.old }
-    ensures cause { result ≡ Err closed.Unreadable → R.failures reader.new ≡ R.failures reader.old + 1 }
-{
-    match read_steadily(reader, part.region(), bytes) {
-        Ok(()) => slots_in(bytes, part.counts()).ok_or(Closed::Damaged),
-        Err(Unsteady::Busy) => Err(Closed::Busy),
-        Err(Unsteady::Unreadable) => Err(Closed::Unreadable),
-    }
 }
 
 /// The lines of a circuit whose slots are these: one for each of its leases that is live at a moment, in seconds, by

@@ -5,9 +5,10 @@ use Rattle.types.specs.declared.slots.Slots.{Slots}
 use Rattle.config.specs.CircuitPart.{CircuitPart}
 use Rattle.command_line.specs.declared.leases_words.Form.{Form}
 use Rattle.command_line.specs.declared.leases_words.What.{What}
-use Rattle.lease_list.specs.declared.line.Closed.{Closed}
-use Rattle.lease_list.specs.declared.line.Closed.TheVariants.{Damaged, Unreadable, Busy}
-use Rattle.lease_list.specs.Listing.{AreCircuitSlots, AreLines}
+use Rattle.region_reading.specs.declared.closed.Closed.{Closed}
+use Rattle.region_reading.specs.declared.closed.Closed.TheVariants.{Damaged, Unreadable, Busy}
+use Rattle.region_reading.specs.CircuitSlots.{AreCircuitSlots}
+use Rattle.lease_list.specs.Listing.{AreLines}
 use Rattle.leases.specs.declared.Noted.{Noted}
 
 -- what is noted after one circuit more: whether a circuit was closed, and whether one was busy

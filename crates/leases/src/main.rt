@@ -12,9 +12,8 @@ use command_line::{
 use config::{CircuitPart, Config};
 use dispatch::region_count;
 use lease_disk::REGION;
-use lease_list::{
-    Closed, FileFault, Form, LeaseWords, RegionFile, What, circuit_lines, circuit_slots, moment_of,
-};
+use lease_list::{Form, LeaseWords, What, circuit_lines, moment_of};
+use region_reading::{Closed, FileFault, RegionFile, circuit_slots};
 use std::alloc::AllocError;
 use std::process::ExitCode;
 use std::rt::Clock;

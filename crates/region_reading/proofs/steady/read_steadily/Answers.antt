@@ -1,8 +1,8 @@
 use Rattle.std.proofs.Common.{◌≡◌, ◌≢◌, ◌∙◌, ◌+◌, ◌++◌, ◌∷◌, [], ℕ, List, length, true≢false, sym, ap, arith}
 use Rattle.std.proofs.lemmas.List.{length-append}
 use Rattle.std.proofs.lemmas.Slice.Eq.{bytes_eq-Decides}
-use Rattle.lease_list.proofs.SteadyLemmas.{first_read, none_read, read_once_more, read_twice, length_read}
-use Rattle.lease_list.proofs.steady.read_steadily.Goals as goal
+use Rattle.region_reading.proofs.SteadyLemmas.{first_read, none_read, read_once_more, read_twice, length_read}
+use Rattle.region_reading.proofs.steady.read_steadily.Goals as goal
 
 pub returns-then-not-read-clause-not_steady : goal.returns-then-not-read-clause-not_steady
 returns-then-not-read-clause-not_steady g c = none_read c.args.region (g.R.RegionReader.readings c.args.reader.now) (g.R.RegionReader.readings c.read.new.self) (c.read.ensures.none c.if-not-read.true)

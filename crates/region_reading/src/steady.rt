@@ -1,7 +1,7 @@
 //! Reading a region while another program may write to it.
 ghost use Rattle.std.specs.Prelude.{◌≡◌, ◌≢◌, ◌≤◌, ◌+◌, ◌++◌, ◌∷◌, [], ℕ, List, length, true, false, OnOk, OnErr};
-ghost use Rattle.lease_list.specs.Steady.{IsSteady, AreUnsteady};
-ghost use Rattle.lease_list.specs.declared.steady.Unsteady.TheVariants as unsteady;
+ghost use Rattle.region_reading.specs.Steady.{IsSteady, AreUnsteady};
+ghost use Rattle.region_reading.specs.declared.steady.Unsteady.TheVariants as unsteady;
 
 use lease_disk::REGION;
 

@@ -3,7 +3,7 @@ use Rattle.std.proofs.Common.{◌≡◌, ◌≢◌, ◌∙◌, ℕ, ◌+◌, Lis
 use Rattle.std.specs.Prelude.{All}
 use Rattle.std.proofs.lemmas.List.{append_assoc, append-nil, length-append}
 use Rattle.std.proofs.lemmas.List.Elements.{All-nil, All-cons, All-append}
-use Rattle.lease_list.specs.Steady.{Differ, IsSteady, AreUnsteady}
+use Rattle.region_reading.specs.Steady.{Differ, IsSteady, AreUnsteady}
 
 abbrev IsOf : ℕ → ℕ × List ℕ → Type 0
 IsOf region reading = reading.0 ≡ region

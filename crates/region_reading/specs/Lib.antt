@@ -1,0 +1,2 @@
+pub mod CircuitSlots
+pub mod Steady
