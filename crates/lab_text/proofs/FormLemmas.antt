@@ -1,8 +1,10 @@
 -- How many fields a form has after its first: no more than four.
-use Rattle.std.proofs.Common.{◌≡◌, ◌≤◌, List, ℕ, [], ◌∷◌, length, take, refl, sym, ap, ◌∙◌, arith, inl, inr, take_all}
+use Rattle.std.proofs.Common.{◌≡◌, ◌≤◌, List, ℕ, [], ◌∷◌, length, take, get_or, refl, sym, ap, ◌∙◌, arith, inl, inr, take_all}
 use Rattle.std.proofs.lemmas.Bool.{cases_lt}
 use Rattle.std.proofs.lemmas.List.{length-take-le}
+use Rattle.std.specs.Borrow.{Bor}
 use Rattle.settings.specs.Settings.{Settings}
+use Rattle.lab_text.specs.FieldsAfter.{texts}
 use Rattle.lab_text.specs.Line.{Line, Bad, line_of_form}
 use Rattle.lab_text.specs.declared.form.Form.{Form}
 use Rattle.lab_text.specs.declared.form.Form.TheVariants as form
@@ -76,3 +78,22 @@ module _ (settings : Settings) (plans : ℕ) where
         let size = length-take-le 5 fields many in
         sym (other_count known (take 5 fields) (λ same. omega (arith, same, size, at_most_four known))) ∙ other_count known fields (λ same. omega (arith, same, many, at_most_four known))
   ]
+
+-- what is said of three fields by their places
+pub by_three : (f : List (List ℕ) → Line) (fields : List (Bor (List ℕ))) (d : Bor (List ℕ)) {line : Line} → length fields ≡ 3
+    → line ≡ f ((get_or fields 0 d).now ∷ (get_or fields 1 d).now ∷ (get_or fields 2 d).now ∷ []) → line ≡ f (texts fields)
+by_three f [] d three same = absurd (omega (arith, three))
+by_three f (a ∷ []) d three same = absurd (omega (arith, three))
+by_three f (a ∷ b ∷ []) d three same = absurd (omega (arith, three))
+by_three f (a ∷ b ∷ c ∷ []) d three same = same
+by_three f (a ∷ b ∷ c ∷ e ∷ more) d three same = absurd (omega (arith, three))
+
+-- and of four
+pub by_four : (f : List (List ℕ) → Line) (fields : List (Bor (List ℕ))) (d : Bor (List ℕ)) {line : Line} → length fields ≡ 4
+    → line ≡ f ((get_or fields 0 d).now ∷ (get_or fields 1 d).now ∷ (get_or fields 2 d).now ∷ (get_or fields 3 d).now ∷ []) → line ≡ f (texts fields)
+by_four f [] d four same = absurd (omega (arith, four))
+by_four f (a ∷ []) d four same = absurd (omega (arith, four))
+by_four f (a ∷ b ∷ []) d four same = absurd (omega (arith, four))
+by_four f (a ∷ b ∷ c ∷ []) d four same = absurd (omega (arith, four))
+by_four f (a ∷ b ∷ c ∷ e ∷ []) d four same = same
+by_four f (a ∷ b ∷ c ∷ e ∷ g ∷ more) d four same = absurd (omega (arith, four))

@@ -1,5 +1,5 @@
 //! The lines of each form but a restart and a batch, by the fields after the first.
-ghost use Rattle.std.specs.Prelude.{◌≡◌, ◌≤◌, ℕ, List, IfSome};
+ghost use Rattle.std.specs.Prelude.{◌≡◌, ◌≤◌, ◌∷◌, [], ℕ, List, IfSome};
 ghost use Rattle.settings.specs.Settings.{Settings};
 ghost use Rattle.lab_text.specs.Fields.{number_to, proto_of};
 ghost use Rattle.lab_text.specs.FieldsAfter.{texts};
@@ -186,6 +186,28 @@ fn parse_reload(plans: usize, fields: &[&[u8]]) -> Option<ParsedLine>
     }
 }
 
+/// Parses the fields of `strayup PROTO SRC HEX NOW`.
+fn stray_up(
+    config: &Config,
+    proto: &[u8],
+    from: &[u8],
+    digits: &[u8],
+    now: &[u8],
+    bytes: &mut [u8; MAX_BYTES],
+) -> Option<ParsedLine>
+    ensures value { (plans : ℕ) → line_or_bad result bytes.new ≡ line_of_form config.now plans form.StrayUp (proto.now ∷ from.now ∷ digits.now ∷ now.now ∷ []) }
+    ensures within { (plans : ℕ) → IfSome result (IsWithin config.now plans) }
+{
+    let proto = protocol(proto)?;
+    let source = source(from)?;
+    let len = bytes_at(digits, bytes)?;
+    let now = moment(now)?;
+    if is_relay(config, source) {
+        return None;
+    }
+    Some(ParsedLine::StrayUp(proto, source, len, now))
+}
+
 /// Parses `strayup PROTO SRC HEX NOW`.
 fn parse_stray_up(
     config: &Config,
@@ -196,18 +218,29 @@ fn parse_stray_up(
     ensures within { (plans : ℕ) → IfSome result (IsWithin config.now plans) }
 {
     match fields {
-        [proto, from, digits, now] => {
-            let proto = protocol(proto)?;
-            let source = source(from)?;
-            let len = bytes_at(digits, bytes)?;
-            let now = moment(now)?;
-            if is_relay(config, source) {
-                return None;
-            }
-            Some(ParsedLine::StrayUp(proto, source, len, now))
-        }
+        [proto, from, digits, now] => stray_up(config, proto, from, digits, now, bytes),
         _ => None,
     }
+}
+
+/// Parses the fields of `straydown RELAY SRC HEX`.
+fn stray_down(
+    config: &Config,
+    relay: &[u8],
+    from: &[u8],
+    digits: &[u8],
+    bytes: &mut [u8; MAX_BYTES],
+) -> Option<ParsedLine>
+    ensures value { (plans : ℕ) → line_or_bad result bytes.new ≡ line_of_form config.now plans form.StrayDown (relay.now ∷ from.now ∷ digits.now ∷ []) }
+    ensures within { (plans : ℕ) → IfSome result (IsWithin config.now plans) }
+{
+    let relay = relay_named(config, relay)?;
+    let source = source(from)?;
+    let len = bytes_at(digits, bytes)?;
+    if is_server(config, source) {
+        return None;
+    }
+    Some(ParsedLine::StrayDown(relay, source, len))
 }
 
 /// Parses `straydown RELAY SRC HEX`.
@@ -220,15 +253,7 @@ fn parse_stray_down(
     ensures within { (plans : ℕ) → IfSome result (IsWithin config.now plans) }
 {
     match fields {
-        [relay, from, digits] => {
-            let relay = relay_named(config, relay)?;
-            let source = source(from)?;
-            let len = bytes_at(digits, bytes)?;
-            if is_server(config, source) {
-                return None;
-            }
-            Some(ParsedLine::StrayDown(relay, source, len))
-        }
+        [relay, from, digits] => stray_down(config, relay, from, digits, bytes),
         _ => None,
     }
 }

@@ -21,9 +21,9 @@ const MAX_SHOWN: usize = 40;
 
 const BATCH: &str = "batch NOW SYNC CID=J=FAULT ..";
 
-const PART: &str = "CID=J=FAULT";
+const NO_PART: &str = " is not CID=J=FAULT";
 
-const COMEBACK: &str = "CID=HH, CID=HH:M or CID=unreadable";
+const NO_COMEBACK: &str = " is not CID=HH, CID=HH:M or CID=unreadable";
 
 /// Why a line is bad. Of several reasons the first from the left, after the number of fields.
 #[derive(Clone, Copy)]
@@ -40,12 +40,12 @@ pub enum WhyBad<'a> {
     NoRelay(&'a [u8]),
     /// The last number of a configuration.
     NoPlan(&'a [u8], usize),
-    /// A field by its name, and what it may be.
-    Value(&'static str, &'static str, &'a [u8]),
+    /// What a field has to be, up to the field itself.
+    Value(&'static str, &'a [u8]),
     NoByte(&'a [u8]),
     Bytes(BytesFault<'a>),
     Source(SourceFault<'a>),
-    /// A field of several parts, and how it is spelled.
+    /// A field of several parts, and what it is not.
     Unlike(&'a [u8], &'static str),
     Twice(&'a [u8]),
     TooManyParts,
@@ -98,84 +98,19 @@ fn has_leading_zero(text: &[u8]) -> bool {
     text.len() > 1 && text[0] == b'0' && text.iter().all(|byte| byte.is_ascii_digit())
 }
 
-/// A reason in words: texts, a field in quotation marks, and texts after it.
-#[derive(Clone, Copy)]
-struct Words<'a> {
-    before: [&'static str; 4],
-    field: Option<&'a [u8]>,
-    after: [&'static str; 2],
-}
-
-impl<'a> Words<'a> {
-    /// A text, and how something is spelled, if that is said.
-    fn plain(text: &'static str, form: &'static str) -> Words<'a> {
-        Words {
-            before: [text, form, "", ""],
-            field: None,
-            after: ["", ""],
-        }
-    }
-
-    /// A field between two texts.
-    fn of(before: &'static str, field: &'a [u8], after: &'static str) -> Words<'a> {
-        Words {
-            before: [before, "", "", ""],
-            field: Some(field),
-            after: [after, ""],
-        }
-    }
-
-    /// Of a field of this name, which is one of these values.
-    fn of_value(name: &'static str, values: &'static str, field: &'a [u8]) -> Words<'a> {
-        let after = if has_leading_zero(field) {
-            ": a number does not begin with a zero"
-        } else {
-            ""
-        };
-        Words {
-            before: [name, " has to be ", values, ", not "],
-            field: Some(field),
-            after: [after, ""],
-        }
-    }
-
-    /// Of a field of several parts, and how it is spelled.
-    fn of_form(field: &'a [u8], form: &'static str) -> Words<'a> {
-        Words {
-            before: [""; 4],
-            field: Some(field),
-            after: [" is not ", form],
-        }
-    }
-}
-
-impl fmt::Display for Words<'_> {
-    fn fmt<W: fmt::Write>(&self, f: &mut fmt::Formatter<W>) -> fmt::Result {
-        'before: for text in self.before {
-            f.write_str(text)?;
-        }
-        if let Some(field) = self.field {
-            fmt::Display::fmt(&Quoted(field), f)?;
-        }
-        'after: for text in self.after {
-            f.write_str(text)?;
-        }
-        Ok(())
-    }
-}
+/// A reason in words: a text, a field in quotation marks if there is one, and a text after it.
+type Words<'a> = (&'static str, Option<&'a [u8]>, &'static str);
 
 impl<'a> BytesFault<'a> {
     fn words(self) -> Words<'a> {
         match self {
-            BytesFault::Empty => Words::plain("HEX is empty; - is for no bytes", ""),
+            BytesFault::Empty => ("HEX is empty; - is for no bytes", None, ""),
             BytesFault::NoDigit(byte) => {
-                Words::of("HEX has ", byte, ", which is not a hexadecimal digit")
+                ("HEX has ", Some(byte), ", which is not a hexadecimal digit")
             }
-            BytesFault::Odd => Words::plain("HEX has an odd number of digits", ""),
-            BytesFault::TooMany => Words::plain("HEX has more than 2048 bytes", ""),
-            BytesFault::PastRegion => {
-                Words::plain("HEX goes past the 32768 bytes of a region", "")
-            }
+            BytesFault::Odd => ("HEX has an odd number of digits", None, ""),
+            BytesFault::TooMany => ("HEX has more than 2048 bytes", None, ""),
+            BytesFault::PastRegion => ("HEX goes past the 32768 bytes of a region", None, ""),
         }
     }
 }
@@ -185,373 +120,373 @@ impl<'a> SourceFault<'a> {
         let not_a_stray = ", so this is not a stray";
         match self {
             SourceFault::NoAddress(text) => {
-                Words::of("SRC has to be an address and port, not ", text, "")
+                ("SRC has to be an address and port, not ", Some(text), "")
             }
-            SourceFault::OfRelay(text) => Words::of("SRC is a relay's, ", text, not_a_stray),
-            SourceFault::OfServer(text) => Words::of("SRC is the server's, ", text, not_a_stray),
+            SourceFault::OfRelay(text) => ("SRC is a relay's, ", Some(text), not_a_stray),
+            SourceFault::OfServer(text) => ("SRC is the server's, ", Some(text), not_a_stray),
         }
+    }
+}
+
+/// What is said after a text that has to be a value and is not.
+fn zero_hint(text: &[u8]) -> &'static str {
+    let has_leading_zero = text.len() > 1
+        && text[0] == b'0'
+        && text.iter().all(|byte| byte.is_ascii_digit());
+    if has_leading_zero {
+        ": a number does not begin with a zero"
+    } else {
+        ""
     }
 }
 
 impl<'a> WhyBad<'a> {
     /// In words, but for the number of a plan, which has one of its own.
-    fn words(self) -> Option<Words<'a>> {
-        Some(match self {
-            WhyBad::TooLong => Words::plain("it has more than 8192 bytes", ""),
-            WhyBad::Space => Words::plain("it begins with a space", ""),
-            WhyBad::NoForm(word) => Words::of("no line begins with ", word, ""),
-            WhyBad::TooFew(form) => Words::plain("too few fields: ", form),
-            WhyBad::TooMany(form) => Words::plain("too many fields: ", form),
-            WhyBad::NoCircuit(id) => Words::of("there is no circuit ", id, ""),
-            WhyBad::NoRelay(name) => Words::of("there is no relay ", name, ""),
-            WhyBad::NoPlan(_, _) => return None,
-            WhyBad::Value(name, values, text) => Words::of_value(name, values, text),
-            WhyBad::NoByte(text) => {
-                Words::of("HH has to be two hexadecimal digits, not ", text, "")
-            }
+    fn words(self) -> Words<'a> {
+        match self {
+            WhyBad::TooLong => ("it has more than 8192 bytes", None, ""),
+            WhyBad::Space => ("it begins with a space", None, ""),
+            WhyBad::NoForm(word) => ("no line begins with ", Some(word), ""),
+            WhyBad::TooFew(form) => ("too few fields: ", None, form),
+            WhyBad::TooMany(form) => ("too many fields: ", None, form),
+            WhyBad::NoCircuit(id) => ("there is no circuit ", Some(id), ""),
+            WhyBad::NoRelay(name) => ("there is no relay ", Some(name), ""),
+            WhyBad::NoPlan(text, _) => ("", Some(text), ""),
+            WhyBad::Value(wanted, text) => (wanted, Some(text), zero_hint(text)),
+            WhyBad::NoByte(text) => ("HH has to be two hexadecimal digits, not ", Some(text), ""),
             WhyBad::Bytes(fault) => fault.words(),
             WhyBad::Source(fault) => fault.words(),
-            WhyBad::Unlike(field, form) => Words::of_form(field, form),
-            WhyBad::Twice(id) => Words::of("circuit ", id, " appears twice"),
-            WhyBad::TooManyParts => Words::plain("a batch has at most 16 parts", ""),
-            WhyBad::Late(word) => { Words::of("", word, " is allowed only before the first event") }
-        })
+            WhyBad::Unlike(field, not) => ("", Some(field), not),
+            WhyBad::Twice(id) => ("circuit ", Some(id), " appears twice"),
+            WhyBad::TooManyParts => ("a batch has at most 16 parts", None, ""),
+            WhyBad::Late(word) => ("", Some(word), " is allowed only before the first event"),
+        }
     }
 }
 
 impl fmt::Display for WhyBad<'_> {
     fn fmt<W: fmt::Write>(&self, f: &mut fmt::Formatter<W>) -> fmt::Result {
-        if let WhyBad::NoPlan(text, last) = self {
-            return write!(f, "K has to be 0 to {last}, not {}", Quoted(text));
+        if let WhyBad::NoPlan(_, last) = self {
+            write!(f, "K has to be 0 to {last}, not ")?;
         }
-        match self.words() {
-            Some(words) => fmt::Display::fmt(&words, f),
-            None => Ok(()),
+        let (before, field, after) = self.words();
+        f.write_str(before)?;
+        if let Some(field) = field {
+            fmt::Display::fmt(&Quoted(field), f)?;
         }
+        f.write_str(after)
     }
 }
 
-/// Of a line whose form has so many fields after the first, and which has another number of them.
-fn count_fault<'a>(form: &'static str, wanted: usize, count: usize) -> WhyBad<'a> {
-    if count < wanted {
-        WhyBad::TooFew(form)
-    } else {
-        WhyBad::TooMany(form)
+/// What stands in a field.
+#[derive(Clone, Copy)]
+enum Field {
+    Circuit,
+    Relay,
+    Plan,
+    Byte,
+    Bytes,
+    Offset,
+    Proto,
+    Number,
+    Moment,
+    /// The call of the disk that fails in a save, in a move, at the sync of a batch, at the write of a part.
+    SaveFault,
+    MoveFault,
+    SyncFault,
+    WriteFault,
+    /// Where no relay sends from, and where the server does not.
+    SourceUp,
+    SourceDown,
+}
+
+/// How a line of this form is spelled, and what its fields after the first are.
+fn spelling(form: Form) -> (&'static str, &'static [Field]) {
+    match form {
+        Form::Fill => ("fill CID HH", &[Field::Circuit, Field::Byte]),
+        Form::Old => ("old CID", &[Field::Circuit]),
+        Form::Load => (
+            "load CID AT HEX",
+            &[Field::Circuit, Field::Offset, Field::Bytes],
+        ),
+        Form::Move => ("move CID M", &[Field::Circuit, Field::MoveFault]),
+        Form::Frame => (
+            "frame CID PROTO HEX",
+            &[Field::Circuit, Field::Proto, Field::Bytes],
+        ),
+        Form::Up => (
+            "up CID J NOW FAULT",
+            &[
+                Field::Circuit,
+                Field::Number,
+                Field::Moment,
+                Field::SaveFault,
+            ],
+        ),
+        Form::Down => ("down CID J", &[Field::Circuit, Field::Number]),
+        Form::Tick => ("tick NOW", &[Field::Moment]),
+        Form::Reload => ("reload K", &[Field::Plan]),
+        Form::StrayUp => (
+            "strayup PROTO SRC HEX NOW",
+            &[Field::Proto, Field::SourceUp, Field::Bytes, Field::Moment],
+        ),
+        Form::StrayDown => (
+            "straydown RELAY SRC HEX",
+            &[Field::Relay, Field::SourceDown, Field::Bytes],
+        ),
     }
 }
 
-/// The index of the circuit of this name.
-fn circuit_fault<'a>(config: &Config, id: &'a [u8]) -> Result<usize, WhyBad<'a>> {
+fn circuit_fault<'a>(config: &Config, id: &'a [u8]) -> Option<WhyBad<'a>> {
     match circuit_named(config, id) {
-        Some(circuit) => Ok(circuit.index()),
-        None => Err(WhyBad::NoCircuit(id)),
+        Some(_) => None,
+        None => Some(WhyBad::NoCircuit(id)),
     }
 }
 
-fn value_fault<'a>(
-    is_good: bool,
-    name: &'static str,
-    values: &'static str,
-    text: &'a [u8],
-) -> Result<(), WhyBad<'a>> {
-    if is_good {
-        Ok(())
-    } else {
-        Err(WhyBad::Value(name, values, text))
+fn relay_fault<'a>(config: &Config, name: &'a [u8]) -> Option<WhyBad<'a>> {
+    match relay_named(config, name) {
+        Some(_) => None,
+        None => Some(WhyBad::NoRelay(name)),
     }
 }
 
-fn moment_fault<'a>(text: &'a [u8]) -> Result<(), WhyBad<'a>> {
-    value_fault(moment(text).is_some(), "NOW", "0 to 1099511627775", text)
+fn plan_fault<'a>(plans: usize, text: &'a [u8]) -> Option<WhyBad<'a>> {
+    match plan_number(text) {
+        Some(number) if usize::from(number) < plans => None,
+        _ => Some(WhyBad::NoPlan(text, plans.saturating_sub(1))),
+    }
 }
 
-fn number_fault<'a>(text: &'a [u8]) -> Result<(), WhyBad<'a>> {
-    value_fault(datagram_number(text).is_some(), "J", "0 to 65535", text)
-}
-
-fn move_number_fault<'a>(text: &'a [u8]) -> Result<(), WhyBad<'a>> {
-    value_fault(move_fault(text).is_some(), "M", "0 to 4", text)
-}
-
-fn protocol_fault<'a>(text: &'a [u8]) -> Result<(), WhyBad<'a>> {
-    value_fault(protocol(text).is_some(), "PROTO", "4 or 6", text)
-}
-
-fn byte_fault<'a>(text: &'a [u8]) -> Result<(), WhyBad<'a>> {
+fn byte_fault<'a>(text: &'a [u8]) -> Option<WhyBad<'a>> {
     match byte(text) {
-        Some(_) => Ok(()),
-        None => Err(WhyBad::NoByte(text)),
+        Some(_) => None,
+        None => Some(WhyBad::NoByte(text)),
     }
 }
 
-/// How many bytes a text spells.
-fn length_of<'a>(text: &'a [u8]) -> Result<usize, WhyBad<'a>> {
+fn bytes_fault<'a>(text: &'a [u8]) -> Option<WhyBad<'a>> {
     if text.is_empty() {
-        return Err(WhyBad::Bytes(BytesFault::Empty));
+        return Some(WhyBad::Bytes(BytesFault::Empty));
     }
     if text == b"-".as_slice() {
-        return Ok(0);
+        return None;
     }
     if text.len() > 2 * MAX_BYTES {
-        return Err(WhyBad::Bytes(BytesFault::TooMany));
+        return Some(WhyBad::Bytes(BytesFault::TooMany));
     }
     'digits: for at in 0..text.len() {
         if !text[at].is_ascii_hexdigit() {
-            return Err(WhyBad::Bytes(BytesFault::NoDigit(&text[at..at + 1])));
+            return Some(WhyBad::Bytes(BytesFault::NoDigit(&text[at..at + 1])));
         }
     }
     if text.len() % 2 == 1 {
-        return Err(WhyBad::Bytes(BytesFault::Odd));
+        return Some(WhyBad::Bytes(BytesFault::Odd));
     }
-    Ok(text.len() / 2)
+    None
 }
 
-fn fill_fault<'a>(config: &Config, fields: &[&'a [u8]]) -> Result<(), WhyBad<'a>> {
-    match fields {
-        [circuit, digits] => {
-            circuit_fault(config, *circuit)?;
-            byte_fault(*digits)
+fn source_up_fault<'a>(config: &Config, text: &'a [u8]) -> Option<WhyBad<'a>> {
+    match source(text) {
+        Some(sender) if is_relay(config, sender) => {
+            Some(WhyBad::Source(SourceFault::OfRelay(text)))
         }
-        _ => Err(count_fault("fill CID HH", 2, fields.len())),
+        Some(_) => None,
+        None => Some(WhyBad::Source(SourceFault::NoAddress(text))),
     }
 }
 
-fn old_fault<'a>(config: &Config, fields: &[&'a [u8]]) -> Result<(), WhyBad<'a>> {
-    match fields {
-        [circuit] => {
-            circuit_fault(config, *circuit)?;
-            Ok(())
+fn source_down_fault<'a>(config: &Config, text: &'a [u8]) -> Option<WhyBad<'a>> {
+    match source(text) {
+        Some(sender) if is_server(config, sender) => {
+            Some(WhyBad::Source(SourceFault::OfServer(text)))
         }
-        _ => Err(count_fault("old CID", 1, fields.len())),
+        Some(_) => None,
+        None => Some(WhyBad::Source(SourceFault::NoAddress(text))),
     }
 }
 
-fn load_fault<'a>(config: &Config, fields: &[&'a [u8]]) -> Result<(), WhyBad<'a>> {
-    match fields {
-        [circuit, at, digits] => {
-            circuit_fault(config, *circuit)?;
-            let Some(start) = offset(*at) else {
-                return value_fault(false, "AT", "0 to 32768", *at);
-            };
-            if length_of(*digits)? > REGION.saturating_sub(start) {
-                return Err(WhyBad::Bytes(BytesFault::PastRegion));
-            }
-            Ok(())
-        }
-        _ => Err(count_fault("load CID AT HEX", 3, fields.len())),
+/// Of a field that is one of some values.
+fn value_fault<'a>(field: Field, text: &'a [u8]) -> Option<WhyBad<'a>> {
+    let (is_good, wanted) = match field {
+        Field::Offset => (offset(text).is_some(), "AT has to be 0 to 32768, not "),
+        Field::Proto => (protocol(text).is_some(), "PROTO has to be 4 or 6, not "),
+        Field::Number => (
+            datagram_number(text).is_some(),
+            "J has to be 0 to 65535, not ",
+        ),
+        Field::Moment => (
+            moment(text).is_some(),
+            "NOW has to be 0 to 1099511627775, not ",
+        ),
+        Field::SaveFault => (fault_number(text).is_some(), "FAULT has to be 0 to 6, not "),
+        Field::MoveFault => (move_fault(text).is_some(), "M has to be 0 to 4, not "),
+        Field::SyncFault => (
+            sync_fault(text).is_some(),
+            "SYNC has to be 0, 2, 4 or 6, not ",
+        ),
+        Field::WriteFault => (
+            write_fault(text).is_some(),
+            "FAULT has to be 0, 1, 3 or 5, not ",
+        ),
+        _ => (true, ""),
+    };
+    if is_good {
+        return None;
+    }
+    Some(WhyBad::Value(wanted, text))
+}
+
+fn field_fault<'a>(
+    config: &Config,
+    plans: usize,
+    field: Field,
+    text: &'a [u8],
+) -> Option<WhyBad<'a>> {
+    match field {
+        Field::Circuit => circuit_fault(config, text),
+        Field::Relay => relay_fault(config, text),
+        Field::Plan => plan_fault(plans, text),
+        Field::Byte => byte_fault(text),
+        Field::Bytes => bytes_fault(text),
+        Field::SourceUp => source_up_fault(config, text),
+        Field::SourceDown => source_down_fault(config, text),
+        _ => value_fault(field, text),
     }
 }
 
-fn move_line_fault<'a>(config: &Config, fields: &[&'a [u8]]) -> Result<(), WhyBad<'a>> {
-    match fields {
-        [circuit, call] => {
-            circuit_fault(config, *circuit)?;
-            move_number_fault(*call)
-        }
-        _ => Err(count_fault("move CID M", 2, fields.len())),
+/// Whether bytes go past the end of a region from an offset on, where both are good.
+fn region_fault<'a>(at: &[u8], digits: &[u8]) -> Option<WhyBad<'a>> {
+    let start = offset(at)?;
+    if digits.len() / 2 > REGION.saturating_sub(start) {
+        return Some(WhyBad::Bytes(BytesFault::PastRegion));
     }
-}
-
-fn frame_fault<'a>(config: &Config, fields: &[&'a [u8]]) -> Result<(), WhyBad<'a>> {
-    match fields {
-        [circuit, proto, digits] => {
-            circuit_fault(config, *circuit)?;
-            protocol_fault(*proto)?;
-            length_of(*digits)?;
-            Ok(())
-        }
-        _ => Err(count_fault("frame CID PROTO HEX", 3, fields.len())),
-    }
-}
-
-fn up_fault<'a>(config: &Config, fields: &[&'a [u8]]) -> Result<(), WhyBad<'a>> {
-    match fields {
-        [circuit, j, now, fault] => {
-            circuit_fault(config, *circuit)?;
-            number_fault(*j)?;
-            moment_fault(*now)?;
-            value_fault(fault_number(*fault).is_some(), "FAULT", "0 to 6", *fault)
-        }
-        _ => Err(count_fault("up CID J NOW FAULT", 4, fields.len())),
-    }
-}
-
-fn down_fault<'a>(config: &Config, fields: &[&'a [u8]]) -> Result<(), WhyBad<'a>> {
-    match fields {
-        [circuit, j] => {
-            circuit_fault(config, *circuit)?;
-            number_fault(*j)
-        }
-        _ => Err(count_fault("down CID J", 2, fields.len())),
-    }
-}
-
-fn tick_fault<'a>(fields: &[&'a [u8]]) -> Result<(), WhyBad<'a>> {
-    match fields {
-        [now] => moment_fault(*now),
-        _ => Err(count_fault("tick NOW", 1, fields.len())),
-    }
-}
-
-fn reload_fault<'a>(plans: usize, fields: &[&'a [u8]]) -> Result<(), WhyBad<'a>> {
-    match fields {
-        [plan] => match plan_number(*plan) {
-            Some(number) if usize::from(number) < plans => Ok(()),
-            _ => Err(WhyBad::NoPlan(*plan, plans.saturating_sub(1))),
-        },
-        _ => Err(count_fault("reload K", 1, fields.len())),
-    }
-}
-
-fn stray_up_fault<'a>(config: &Config, fields: &[&'a [u8]]) -> Result<(), WhyBad<'a>> {
-    match fields {
-        [proto, from, digits, now] => {
-            protocol_fault(*proto)?;
-            let Some(sender) = source(*from) else {
-                return Err(WhyBad::Source(SourceFault::NoAddress(*from)));
-            };
-            if is_relay(config, sender) {
-                return Err(WhyBad::Source(SourceFault::OfRelay(*from)));
-            }
-            length_of(*digits)?;
-            moment_fault(*now)
-        }
-        _ => Err(count_fault("strayup PROTO SRC HEX NOW", 4, fields.len())),
-    }
-}
-
-fn stray_down_fault<'a>(config: &Config, fields: &[&'a [u8]]) -> Result<(), WhyBad<'a>> {
-    match fields {
-        [relay, from, digits] => {
-            if relay_named(config, *relay).is_none() {
-                return Err(WhyBad::NoRelay(*relay));
-            }
-            let Some(sender) = source(*from) else {
-                return Err(WhyBad::Source(SourceFault::NoAddress(*from)));
-            };
-            if is_server(config, sender) {
-                return Err(WhyBad::Source(SourceFault::OfServer(*from)));
-            }
-            length_of(*digits)?;
-            Ok(())
-        }
-        _ => Err(count_fault("straydown RELAY SRC HEX", 3, fields.len())),
-    }
+    None
 }
 
 fn form_fault<'a>(
     config: &Config,
     plans: usize,
     form: Form,
-    fields: &[&'a [u8]],
-) -> Result<(), WhyBad<'a>> {
-    match form {
-        Form::Fill => fill_fault(config, fields),
-        Form::Old => old_fault(config, fields),
-        Form::Load => load_fault(config, fields),
-        Form::Move => move_line_fault(config, fields),
-        Form::Frame => frame_fault(config, fields),
-        Form::Up => up_fault(config, fields),
-        Form::Down => down_fault(config, fields),
-        Form::Tick => tick_fault(fields),
-        Form::Reload => reload_fault(plans, fields),
-        Form::StrayUp => stray_up_fault(config, fields),
-        Form::StrayDown => stray_down_fault(config, fields),
+    texts: &[&'a [u8]],
+) -> Option<WhyBad<'a>> {
+    let (spelled, fields) = spelling(form);
+    if texts.len() < fields.len() {
+        return Some(WhyBad::TooFew(spelled));
+    }
+    if texts.len() > fields.len() {
+        return Some(WhyBad::TooMany(spelled));
+    }
+    'fields: for index in 0..fields.len() {
+        let why = field_fault(config, plans, fields[index], texts[index]);
+        if why.is_some() {
+            return why;
+        }
+    }
+    match (form, texts) {
+        (Form::Load, [_, at, digits]) => region_fault(*at, *digits),
+        _ => None,
     }
 }
 
-/// Names the circuit of this index, which is not to be named before.
+/// Names the circuit of this id, which is not to be named before.
 fn twice_fault<'a>(
-    named: &mut [bool; MAX_CIRCUITS],
-    index: usize,
+    config: &Config,
     id: &'a [u8],
-) -> Result<(), WhyBad<'a>> {
+    named: &mut [bool; MAX_CIRCUITS],
+) -> Option<WhyBad<'a>> {
+    let index = circuit_named(config, id)?.index();
     if index < MAX_CIRCUITS {
         if named[index] {
-            return Err(WhyBad::Twice(id));
+            return Some(WhyBad::Twice(id));
         }
         named[index] = true;
     }
-    Ok(())
+    None
+}
+
+/// Of how a region comes back.
+fn image_fault<'a>(text: &'a [u8]) -> Option<WhyBad<'a>> {
+    if text == b"unreadable".as_slice() {
+        return None;
+    }
+    match parted(text, b':') {
+        Some((digits, call)) => byte_fault(digits).or(value_fault(Field::MoveFault, call)),
+        None => byte_fault(text),
+    }
 }
 
 fn comeback_fault<'a>(
     config: &Config,
     field: &'a [u8],
     named: &mut [bool; MAX_CIRCUITS],
-) -> Result<(), WhyBad<'a>> {
-    let Some((id, text)) = parted_last(field, b'=') else {
-        return Err(WhyBad::Unlike(field, COMEBACK));
-    };
-    let index = circuit_fault(config, id)?;
-    if text != b"unreadable".as_slice() {
-        match parted(text, b':') {
-            Some((digits, call)) => {
-                byte_fault(digits)?;
-                move_number_fault(call)?;
-            }
-            None => byte_fault(text)?,
-        }
+) -> Option<WhyBad<'a>> {
+    match parted_last(field, b'=') {
+        Some((id, text)) => circuit_fault(config, id)
+            .or(image_fault(text))
+            .or(twice_fault(config, id, named)),
+        None => Some(WhyBad::Unlike(field, NO_COMEBACK)),
     }
-    twice_fault(named, index, id)
+}
+
+/// The three parts of a field `CID=J=FAULT`.
+fn part_texts(field: &[u8]) -> Option<(&[u8], &[u8], &[u8])> {
+    let (front, fault) = parted_last(field, b'=')?;
+    let (id, number) = parted_last(front, b'=')?;
+    Some((id, number, fault))
 }
 
 fn part_fault<'a>(
     config: &Config,
     field: &'a [u8],
     named: &mut [bool; MAX_CIRCUITS],
-) -> Result<(), WhyBad<'a>> {
-    let Some((front, fault)) = parted_last(field, b'=') else {
-        return Err(WhyBad::Unlike(field, PART));
-    };
-    let Some((id, number)) = parted_last(front, b'=') else {
-        return Err(WhyBad::Unlike(field, PART));
-    };
-    let index = circuit_fault(config, id)?;
-    number_fault(number)?;
-    value_fault(write_fault(fault).is_some(), "FAULT", "0, 1, 3 or 5", fault)?;
-    twice_fault(named, index, id)
+) -> Option<WhyBad<'a>> {
+    match part_texts(field) {
+        Some((id, number, fault)) => circuit_fault(config, id)
+            .or(value_fault(Field::Number, number))
+            .or(value_fault(Field::WriteFault, fault))
+            .or(twice_fault(config, id, named)),
+        None => Some(WhyBad::Unlike(field, NO_PART)),
+    }
 }
 
-fn restart_fault<'a>(config: &Config, rest: Option<&'a [u8]>) -> Result<(), WhyBad<'a>> {
+fn restart_fault<'a>(config: &Config, rest: Option<&'a [u8]>) -> Option<WhyBad<'a>> {
     let mut named = [false; MAX_CIRCUITS];
     let mut rest = rest;
     // a line has no more fields
     'fields: for _ in 0..MAX_LINE + 1 {
-        let Some((field, after)) = next_field(rest) else {
-            return Ok(());
-        };
-        comeback_fault(config, field, &mut named)?;
+        let (field, after) = next_field(rest)?;
+        let why = comeback_fault(config, field, &mut named);
+        if why.is_some() {
+            return why;
+        }
         rest = after;
     }
-    Ok(())
+    None
 }
 
-fn batch_fault<'a>(config: &Config, rest: Option<&'a [u8]>) -> Result<(), WhyBad<'a>> {
-    let Some((now, rest)) = next_field(rest) else {
-        return Err(WhyBad::TooFew(BATCH));
-    };
-    let Some((sync, rest)) = next_field(rest) else {
-        return Err(WhyBad::TooFew(BATCH));
-    };
-    if rest.is_none() {
-        return Err(WhyBad::TooFew(BATCH));
+fn batch_fault<'a>(config: &Config, rest: Option<&'a [u8]>) -> Option<WhyBad<'a>> {
+    if Fields::of(rest).as_slice().len() < 3 {
+        return Some(WhyBad::TooFew(BATCH));
     }
-    moment_fault(now)?;
-    value_fault(sync_fault(sync).is_some(), "SYNC", "0, 2, 4 or 6", sync)?;
     let mut named = [false; MAX_CIRCUITS];
     let mut rest = rest;
-    'parts: for count in 0..MAX_BATCH + 1 {
-        let Some((field, after)) = next_field(rest) else {
-            return Ok(());
+    'fields: for count in 0..MAX_BATCH + 2 {
+        let (field, after) = next_field(rest)?;
+        let why = match count {
+            0 => value_fault(Field::Moment, field),
+            1 => value_fault(Field::SyncFault, field),
+            _ => part_fault(config, field, &mut named),
         };
-        if count == MAX_BATCH {
-            return Err(WhyBad::TooManyParts);
+        if why.is_some() {
+            return why;
         }
-        part_fault(config, field, &mut named)?;
         rest = after;
     }
-    Ok(())
+    if rest.is_some() {
+        return Some(WhyBad::TooManyParts);
+    }
+    None
 }
 
 fn line_fault<'a>(
@@ -559,9 +494,9 @@ fn line_fault<'a>(
     plans: usize,
     word: &'a [u8],
     rest: Option<&'a [u8]>,
-) -> Result<(), WhyBad<'a>> {
+) -> Option<WhyBad<'a>> {
     if word.is_empty() {
-        return Err(WhyBad::Space);
+        return Some(WhyBad::Space);
     }
     if word == b"restart".as_slice() {
         return restart_fault(config, rest);
@@ -571,7 +506,7 @@ fn line_fault<'a>(
     }
     match form_named(word) {
         Some(form) => form_fault(config, plans, form, Fields::of(rest).as_slice()),
-        None => Err(WhyBad::NoForm(word)),
+        None => Some(WhyBad::NoForm(word)),
     }
 }
 
@@ -583,7 +518,7 @@ pub fn why_bad<'a>(config: &Config, plans: usize, line: &'a [u8]) -> WhyBad<'a> 
     }
     let (word, rest) = first_field(line);
     match line_fault(config, plans, word, rest) {
-        Ok(()) => WhyBad::Late(word),
-        Err(why) => why,
+        Some(why) => why,
+        None => WhyBad::Late(word),
     }
 }
