@@ -25,50 +25,20 @@ const NO_PART: &str = " is not CID=J=FAULT";
 
 const NO_COMEBACK: &str = " is not CID=HH, CID=HH:M or CID=unreadable";
 
-/// Why a line is bad. Of several reasons the first from the left, after the number of fields.
+const NOT_A_STRAY: &str = ", so this is not a stray";
+
+/// Why a line is bad, in words. Of several reasons the first from the left, after the number of fields.
 #[derive(Clone, Copy)]
 pub enum WhyBad<'a> {
-    TooLong,
-    /// It begins with a space.
-    Space,
-    /// Its first field is no form's.
-    NoForm(&'a [u8]),
-    /// The fields that its form has.
-    TooFew(&'static str),
-    TooMany(&'static str),
-    NoCircuit(&'a [u8]),
-    NoRelay(&'a [u8]),
+    Text(&'static str),
+    /// A text of the line between two others.
+    Quoted(&'static str, &'a [u8], &'static str),
+    /// A field by its name, and what it may be.
+    Value(&'static str, &'static str, &'a [u8]),
+    /// Whether there are too few or too many, and the fields that its form has.
+    Count(&'static str, &'static str),
     /// The last number of a configuration.
     NoPlan(&'a [u8], usize),
-    /// What a field has to be, up to the field itself.
-    Value(&'static str, &'a [u8]),
-    NoByte(&'a [u8]),
-    Bytes(BytesFault<'a>),
-    Source(SourceFault<'a>),
-    /// A field of several parts, and what it is not.
-    Unlike(&'a [u8], &'static str),
-    Twice(&'a [u8]),
-    TooManyParts,
-    /// The first field of a line that stands before all events.
-    Late(&'a [u8]),
-}
-
-/// What is wrong with bytes in hexadecimal digits.
-#[derive(Clone, Copy)]
-pub enum BytesFault<'a> {
-    Empty,
-    NoDigit(&'a [u8]),
-    Odd,
-    TooMany,
-    PastRegion,
-}
-
-/// What is wrong with the source of a stray.
-#[derive(Clone, Copy)]
-pub enum SourceFault<'a> {
-    NoAddress(&'a [u8]),
-    OfRelay(&'a [u8]),
-    OfServer(&'a [u8]),
 }
 
 /// A text in quotation marks. Of a long one its beginning is shown; a byte that is no visible ASCII character as `\xHH`.
@@ -98,83 +68,29 @@ fn has_leading_zero(text: &[u8]) -> bool {
     text.len() > 1 && text[0] == b'0' && text.iter().all(|byte| byte.is_ascii_digit())
 }
 
-/// A reason in words: a text, a field in quotation marks if there is one, and a text after it.
-type Words<'a> = (&'static str, Option<&'a [u8]>, &'static str);
-
-impl<'a> BytesFault<'a> {
-    fn words(self) -> Words<'a> {
-        match self {
-            BytesFault::Empty => ("HEX is empty; - is for no bytes", None, ""),
-            BytesFault::NoDigit(byte) => {
-                ("HEX has ", Some(byte), ", which is not a hexadecimal digit")
-            }
-            BytesFault::Odd => ("HEX has an odd number of digits", None, ""),
-            BytesFault::TooMany => ("HEX has more than 2048 bytes", None, ""),
-            BytesFault::PastRegion => ("HEX goes past the 32768 bytes of a region", None, ""),
-        }
-    }
-}
-
-impl<'a> SourceFault<'a> {
-    fn words(self) -> Words<'a> {
-        let not_a_stray = ", so this is not a stray";
-        match self {
-            SourceFault::NoAddress(text) => {
-                ("SRC has to be an address and port, not ", Some(text), "")
-            }
-            SourceFault::OfRelay(text) => ("SRC is a relay's, ", Some(text), not_a_stray),
-            SourceFault::OfServer(text) => ("SRC is the server's, ", Some(text), not_a_stray),
-        }
-    }
-}
-
-/// What is said after a text that has to be a value and is not.
+/// What is said after a text that is none of a field's values.
 fn zero_hint(text: &[u8]) -> &'static str {
-    let has_leading_zero = text.len() > 1
-        && text[0] == b'0'
-        && text.iter().all(|byte| byte.is_ascii_digit());
-    if has_leading_zero {
+    if has_leading_zero(text) {
         ": a number does not begin with a zero"
     } else {
         ""
     }
 }
 
-impl<'a> WhyBad<'a> {
-    /// In words, but for the number of a plan, which has one of its own.
-    fn words(self) -> Words<'a> {
-        match self {
-            WhyBad::TooLong => ("it has more than 8192 bytes", None, ""),
-            WhyBad::Space => ("it begins with a space", None, ""),
-            WhyBad::NoForm(word) => ("no line begins with ", Some(word), ""),
-            WhyBad::TooFew(form) => ("too few fields: ", None, form),
-            WhyBad::TooMany(form) => ("too many fields: ", None, form),
-            WhyBad::NoCircuit(id) => ("there is no circuit ", Some(id), ""),
-            WhyBad::NoRelay(name) => ("there is no relay ", Some(name), ""),
-            WhyBad::NoPlan(text, _) => ("", Some(text), ""),
-            WhyBad::Value(wanted, text) => (wanted, Some(text), zero_hint(text)),
-            WhyBad::NoByte(text) => ("HH has to be two hexadecimal digits, not ", Some(text), ""),
-            WhyBad::Bytes(fault) => fault.words(),
-            WhyBad::Source(fault) => fault.words(),
-            WhyBad::Unlike(field, not) => ("", Some(field), not),
-            WhyBad::Twice(id) => ("circuit ", Some(id), " appears twice"),
-            WhyBad::TooManyParts => ("a batch has at most 16 parts", None, ""),
-            WhyBad::Late(word) => ("", Some(word), " is allowed only before the first event"),
-        }
-    }
-}
-
 impl fmt::Display for WhyBad<'_> {
     fn fmt<W: fmt::Write>(&self, f: &mut fmt::Formatter<W>) -> fmt::Result {
-        if let WhyBad::NoPlan(_, last) = self {
-            write!(f, "K has to be 0 to {last}, not ")?;
+        match *self {
+            WhyBad::Text(text) => f.write_str(text),
+            WhyBad::Quoted(before, text, after) => { write!(f, "{before}{}{after}", Quoted(text)) }
+            WhyBad::Value(name, values, text) => {
+                let (text, hint) = (Quoted(text), zero_hint(text));
+                write!(f, "{name} has to be {values}, not {text}{hint}")
+            }
+            WhyBad::Count(which, form) => write!(f, "too {which} fields: {form}"),
+            WhyBad::NoPlan(text, last) => {
+                write!(f, "K has to be 0 to {last}, not {}", Quoted(text))
+            }
         }
-        let (before, field, after) = self.words();
-        f.write_str(before)?;
-        if let Some(field) = field {
-            fmt::Display::fmt(&Quoted(field), f)?;
-        }
-        f.write_str(after)
     }
 }
 
@@ -190,13 +106,16 @@ enum Field {
     Proto,
     Number,
     Moment,
-    /// The call of the disk that fails in a save, in a move, at the sync of a batch, at the write of a part.
-    SaveFault,
+    /// The call of the disk that fails in a save.
+    Fault,
     MoveFault,
+    /// The shared sync of a batch that fails.
     SyncFault,
+    /// The write of a part of a batch that fails.
     WriteFault,
-    /// Where no relay sends from, and where the server does not.
+    /// A source from which no relay sends.
     SourceUp,
+    /// A source from which the server does not send.
     SourceDown,
 }
 
@@ -216,12 +135,7 @@ fn spelling(form: Form) -> (&'static str, &'static [Field]) {
         ),
         Form::Up => (
             "up CID J NOW FAULT",
-            &[
-                Field::Circuit,
-                Field::Number,
-                Field::Moment,
-                Field::SaveFault,
-            ],
+            &[Field::Circuit, Field::Number, Field::Moment, Field::Fault],
         ),
         Form::Down => ("down CID J", &[Field::Circuit, Field::Number]),
         Form::Tick => ("tick NOW", &[Field::Moment]),
@@ -240,14 +154,14 @@ fn spelling(form: Form) -> (&'static str, &'static [Field]) {
 fn circuit_fault<'a>(config: &Config, id: &'a [u8]) -> Option<WhyBad<'a>> {
     match circuit_named(config, id) {
         Some(_) => None,
-        None => Some(WhyBad::NoCircuit(id)),
+        None => Some(WhyBad::Quoted("there is no circuit ", id, "")),
     }
 }
 
 fn relay_fault<'a>(config: &Config, name: &'a [u8]) -> Option<WhyBad<'a>> {
     match relay_named(config, name) {
         Some(_) => None,
-        None => Some(WhyBad::NoRelay(name)),
+        None => Some(WhyBad::Quoted("there is no relay ", name, "")),
     }
 }
 
@@ -261,80 +175,73 @@ fn plan_fault<'a>(plans: usize, text: &'a [u8]) -> Option<WhyBad<'a>> {
 fn byte_fault<'a>(text: &'a [u8]) -> Option<WhyBad<'a>> {
     match byte(text) {
         Some(_) => None,
-        None => Some(WhyBad::NoByte(text)),
+        None => Some(WhyBad::Quoted("HH has to be two hexadecimal digits, not ", text, "")),
     }
 }
 
 fn bytes_fault<'a>(text: &'a [u8]) -> Option<WhyBad<'a>> {
     if text.is_empty() {
-        return Some(WhyBad::Bytes(BytesFault::Empty));
+        return Some(WhyBad::Text("HEX is empty; - is for no bytes"));
     }
     if text == b"-".as_slice() {
         return None;
     }
     if text.len() > 2 * MAX_BYTES {
-        return Some(WhyBad::Bytes(BytesFault::TooMany));
+        return Some(WhyBad::Text("HEX has more than 2048 bytes"));
     }
     'digits: for at in 0..text.len() {
         if !text[at].is_ascii_hexdigit() {
-            return Some(WhyBad::Bytes(BytesFault::NoDigit(&text[at..at + 1])));
+            let digit = &text[at..at + 1];
+            return Some(WhyBad::Quoted("HEX has ", digit, ", which is not a hexadecimal digit"));
         }
     }
     if text.len() % 2 == 1 {
-        return Some(WhyBad::Bytes(BytesFault::Odd));
+        return Some(WhyBad::Text("HEX has an odd number of digits"));
     }
     None
+}
+
+fn no_source<'a>(text: &'a [u8]) -> Option<WhyBad<'a>> {
+    Some(WhyBad::Quoted("SRC has to be an address and port, not ", text, ""))
 }
 
 fn source_up_fault<'a>(config: &Config, text: &'a [u8]) -> Option<WhyBad<'a>> {
     match source(text) {
         Some(sender) if is_relay(config, sender) => {
-            Some(WhyBad::Source(SourceFault::OfRelay(text)))
+            Some(WhyBad::Quoted("SRC is a relay's, ", text, NOT_A_STRAY))
         }
         Some(_) => None,
-        None => Some(WhyBad::Source(SourceFault::NoAddress(text))),
+        None => no_source(text),
     }
 }
 
 fn source_down_fault<'a>(config: &Config, text: &'a [u8]) -> Option<WhyBad<'a>> {
     match source(text) {
         Some(sender) if is_server(config, sender) => {
-            Some(WhyBad::Source(SourceFault::OfServer(text)))
+            Some(WhyBad::Quoted("SRC is the server's, ", text, NOT_A_STRAY))
         }
         Some(_) => None,
-        None => Some(WhyBad::Source(SourceFault::NoAddress(text))),
+        None => no_source(text),
     }
 }
 
 /// Of a field that is one of some values.
 fn value_fault<'a>(field: Field, text: &'a [u8]) -> Option<WhyBad<'a>> {
-    let (is_good, wanted) = match field {
-        Field::Offset => (offset(text).is_some(), "AT has to be 0 to 32768, not "),
-        Field::Proto => (protocol(text).is_some(), "PROTO has to be 4 or 6, not "),
-        Field::Number => (
-            datagram_number(text).is_some(),
-            "J has to be 0 to 65535, not ",
-        ),
-        Field::Moment => (
-            moment(text).is_some(),
-            "NOW has to be 0 to 1099511627775, not ",
-        ),
-        Field::SaveFault => (fault_number(text).is_some(), "FAULT has to be 0 to 6, not "),
-        Field::MoveFault => (move_fault(text).is_some(), "M has to be 0 to 4, not "),
-        Field::SyncFault => (
-            sync_fault(text).is_some(),
-            "SYNC has to be 0, 2, 4 or 6, not ",
-        ),
-        Field::WriteFault => (
-            write_fault(text).is_some(),
-            "FAULT has to be 0, 1, 3 or 5, not ",
-        ),
-        _ => (true, ""),
+    let (is_good, name, values) = match field {
+        Field::Offset => (offset(text).is_some(), "AT", "0 to 32768"),
+        Field::Proto => (protocol(text).is_some(), "PROTO", "4 or 6"),
+        Field::Number => (datagram_number(text).is_some(), "J", "0 to 65535"),
+        Field::Moment => (moment(text).is_some(), "NOW", "0 to 1099511627775"),
+        Field::Fault => (fault_number(text).is_some(), "FAULT", "0 to 6"),
+        Field::MoveFault => (move_fault(text).is_some(), "M", "0 to 4"),
+        Field::SyncFault => (sync_fault(text).is_some(), "SYNC", "0, 2, 4 or 6"),
+        Field::WriteFault => (write_fault(text).is_some(), "FAULT", "0, 1, 3 or 5"),
+        _ => (true, "", ""),
     };
     if is_good {
         return None;
     }
-    Some(WhyBad::Value(wanted, text))
+    Some(WhyBad::Value(name, values, text))
 }
 
 fn field_fault<'a>(
@@ -355,11 +262,14 @@ fn field_fault<'a>(
     }
 }
 
-/// Whether bytes go past the end of a region from an offset on, where both are good.
-fn region_fault<'a>(at: &[u8], digits: &[u8]) -> Option<WhyBad<'a>> {
-    let start = offset(at)?;
+/// Of a `load` whose fields are good.
+fn region_fault<'a>(fields: &[&'a [u8]]) -> Option<WhyBad<'a>> {
+    let [_, at, digits] = fields else {
+        return None;
+    };
+    let start = offset(*at)?;
     if digits.len() / 2 > REGION.saturating_sub(start) {
-        return Some(WhyBad::Bytes(BytesFault::PastRegion));
+        return Some(WhyBad::Text("HEX goes past the 32768 bytes of a region"));
     }
     None
 }
@@ -372,10 +282,10 @@ fn form_fault<'a>(
 ) -> Option<WhyBad<'a>> {
     let (spelled, fields) = spelling(form);
     if texts.len() < fields.len() {
-        return Some(WhyBad::TooFew(spelled));
+        return Some(WhyBad::Count("few", spelled));
     }
     if texts.len() > fields.len() {
-        return Some(WhyBad::TooMany(spelled));
+        return Some(WhyBad::Count("many", spelled));
     }
     'fields: for index in 0..fields.len() {
         let why = field_fault(config, plans, fields[index], texts[index]);
@@ -383,8 +293,8 @@ fn form_fault<'a>(
             return why;
         }
     }
-    match (form, texts) {
-        (Form::Load, [_, at, digits]) => region_fault(*at, *digits),
+    match form {
+        Form::Load => region_fault(texts),
         _ => None,
     }
 }
@@ -398,7 +308,7 @@ fn twice_fault<'a>(
     let index = circuit_named(config, id)?.index();
     if index < MAX_CIRCUITS {
         if named[index] {
-            return Some(WhyBad::Twice(id));
+            return Some(WhyBad::Quoted("circuit ", id, " appears twice"));
         }
         named[index] = true;
     }
@@ -425,7 +335,7 @@ fn comeback_fault<'a>(
         Some((id, text)) => circuit_fault(config, id)
             .or(image_fault(text))
             .or(twice_fault(config, id, named)),
-        None => Some(WhyBad::Unlike(field, NO_COMEBACK)),
+        None => Some(WhyBad::Quoted("", field, NO_COMEBACK)),
     }
 }
 
@@ -446,7 +356,7 @@ fn part_fault<'a>(
             .or(value_fault(Field::Number, number))
             .or(value_fault(Field::WriteFault, fault))
             .or(twice_fault(config, id, named)),
-        None => Some(WhyBad::Unlike(field, NO_PART)),
+        None => Some(WhyBad::Quoted("", field, NO_PART)),
     }
 }
 
@@ -467,7 +377,7 @@ fn restart_fault<'a>(config: &Config, rest: Option<&'a [u8]>) -> Option<WhyBad<'
 
 fn batch_fault<'a>(config: &Config, rest: Option<&'a [u8]>) -> Option<WhyBad<'a>> {
     if Fields::of(rest).as_slice().len() < 3 {
-        return Some(WhyBad::TooFew(BATCH));
+        return Some(WhyBad::Count("few", BATCH));
     }
     let mut named = [false; MAX_CIRCUITS];
     let mut rest = rest;
@@ -484,7 +394,7 @@ fn batch_fault<'a>(config: &Config, rest: Option<&'a [u8]>) -> Option<WhyBad<'a>
         rest = after;
     }
     if rest.is_some() {
-        return Some(WhyBad::TooManyParts);
+        return Some(WhyBad::Text("a batch has at most 16 parts"));
     }
     None
 }
@@ -496,7 +406,7 @@ fn line_fault<'a>(
     rest: Option<&'a [u8]>,
 ) -> Option<WhyBad<'a>> {
     if word.is_empty() {
-        return Some(WhyBad::Space);
+        return Some(WhyBad::Text("it begins with a space"));
     }
     if word == b"restart".as_slice() {
         return restart_fault(config, rest);
@@ -506,7 +416,7 @@ fn line_fault<'a>(
     }
     match form_named(word) {
         Some(form) => form_fault(config, plans, form, Fields::of(rest).as_slice()),
-        None => Some(WhyBad::NoForm(word)),
+        None => Some(WhyBad::Quoted("no line begins with ", word, "")),
     }
 }
 
@@ -514,11 +424,11 @@ fn line_fault<'a>(
 /// after an event and may not. `plans` is how many plans there are.
 pub fn why_bad<'a>(config: &Config, plans: usize, line: &'a [u8]) -> WhyBad<'a> {
     if line.len() > MAX_LINE {
-        return WhyBad::TooLong;
+        return WhyBad::Text("it has more than 8192 bytes");
     }
     let (word, rest) = first_field(line);
     match line_fault(config, plans, word, rest) {
         Some(why) => why,
-        None => WhyBad::Late(word),
+        None => WhyBad::Quoted("", word, " is allowed only before the first event"),
     }
 }
