@@ -1,3 +1,4 @@
+use Rattle.std.proofs.Common.{rules}
 use Rattle.config.proofs.RuleLemmas.{pools4_apart, pools6_apart, regions_differ}
 use Rattle.config.proofs.rules.circuit_rules.Goals as goal
 
@@ -25,3 +26,6 @@ returns-clause-ok c = λ s same. record {
   pools6 = pools6_apart s _ same c.in_default-two_circuits-2.ensures.none;
   gateways = c.in_default-gateway_in_pool.ensures.none s same;
 }
+
+pub returns-in-Some-clause-err : goal.returns-in-Some-clause-err
+returns-in-Some-clause-err c = search rules

@@ -1,3 +1,4 @@
+use Rattle.std.proofs.lemmas.Grind.{common_steps}
 use Rattle.std.proofs.Common.{arith, ap, length}
 use Rattle.std.proofs.lemmas.List.{take_rest, length-drop}
 use Rattle.streams.proofs.WriteLemmas.{front_at, front_here, appends_next}
@@ -14,3 +15,6 @@ turns-preserved g c = record {
   within = omega (arith, ap length (take_rest c.args.bytes.now c.turns.done), length-drop c.turns.done c.args.bytes.now, c.in-Ok.ensures.bound);
   so_far = appends_next _ _ _ c.args.bytes.now c.turns.done c.in-Ok.n c.turns.invariant.so_far c.in-Ok.ensures.ok;
 }
+
+pub returns-then-done-bytes-clause-ok : goal.returns-then-done-bytes-clause-ok
+returns-then-done-bytes-clause-ok c = grind (arith, common_steps)

@@ -1,4 +1,4 @@
-use Rattle.std.proofs.Common.{[], refl, ap, subst, ◌∙◌}
+use Rattle.std.proofs.Common.{[], refl, ap, subst, ◌∙◌, rules}
 use Rattle.config.specs.Topology.{Topology}
 use Rattle.dispatch.specs.Regions.{KeepsOthers}
 use Rattle.world.proofs.Runs.{turned_reaches, reaches_nothing, emits_nothing, reaches_next, emits_next, emits_at}
@@ -42,3 +42,9 @@ events-preserved g c = let turned = reaches_next c.args.events.now c.events.n c.
   reaches = turned_reaches _ _ _ turned;
   quiet = c.deliver-taken.ensures.quiet c.if-not-taken.false ∙ c.events.invariant.quiet;
 }
+
+pub returns-then-not-taken-clause-frames_before : goal.returns-then-not-taken-clause-frames_before
+returns-then-not-taken-clause-frames_before c = search rules
+
+pub returns-then-not-taken-clause-refused : goal.returns-then-not-taken-clause-refused
+returns-then-not-taken-clause-refused c = search rules

@@ -1,4 +1,4 @@
-use Rattle.std.proofs.Common.{◌∙◌, ap, subst}
+use Rattle.std.proofs.Common.{◌∙◌, ap, subst, rules}
 use Rattle.std.specs.Prelude.{option_map}
 use Rattle.std.specs.List.{position}
 use Rattle.std.specs.Str.{bytes_eq}
@@ -30,3 +30,6 @@ returns-clause-found c =
     c.picked_slot-picked.ensures.slot ∙ ap (λ o. picked_slot now.result ss o wanted.result) held ∙ ap (picked_slot now.result ss (option_or bound_is offered_is)) wanted.ensures.slot in
     let pick = c.located-3.ensures.address ∙ pick_found v c.args.clock m.key (option_map number4 m.wanted) are ss now.result c.picked_slot-picked.result shown now.ensures.value picked in
     λ i. record { binding = binding i; offer = offer i; pick = pick i }
+
+pub located-requires-3 : goal.located-requires-3
+located-requires-3 c = search rules

@@ -31,3 +31,6 @@ returns-clause-leases g c = λ tells.
     ap (λ (r : ℕ → Region). left_leases part (r part.region) (option_map open_book c.recover-self-inside.result)) same
     ∙ ap (left_leases part (new part.region)) (c.recover-self-inside.ensures.book tells)
     ∙ done_leases part (has_address part c.requires.part) (faults part.region) (regions part.region) (new part.region) (c.requires.clean tells) up.still up.moved answer
+
+pub returns-in_default-clause-ready : goal.returns-in_default-clause-ready
+returns-in_default-clause-ready c = search rules

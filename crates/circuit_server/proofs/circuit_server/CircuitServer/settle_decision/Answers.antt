@@ -1,4 +1,4 @@
-use Rattle.std.proofs.Common.{sym, subst}
+use Rattle.std.proofs.Common.{sym, subst, rules}
 use Rattle.circuit_server.specs.CircuitServerValue.{HasPools}
 use Rattle.circuit_server.specs.Deadlines.{HasDeadlines}
 use Rattle.circuit_server.specs.Ticked.{IsLater}
@@ -13,3 +13,6 @@ returns-in-Ok-clause-pools g c = subst (HasPools c.args.part.now) (sym c.set_mar
 
 pub returns-in-Ok-clause-deadlines : goal.returns-in-Ok-clause-deadlines
 returns-in-Ok-clause-deadlines g c = subst (HasDeadlines c.args.table.now c.args.first) (sym c.set_marks.ensures) (marked_deadlines c.args.table.now c.args.first c.in-Ok.marks c.args.self.now c.requires.deadlines)
+
+pub returns-in-Ok-clause-settled : goal.returns-in-Ok-clause-settled
+returns-in-Ok-clause-settled c = search rules

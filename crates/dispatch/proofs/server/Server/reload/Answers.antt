@@ -1,4 +1,4 @@
-use Rattle.std.proofs.Common.{◌≡◌, ℕ, nat_lt, true, false, List, map, length, sym, ap, subst, ◌∙◌}
+use Rattle.std.proofs.Common.{◌≡◌, ℕ, nat_lt, true, false, List, map, length, sym, ap, subst, ◌∙◌, rules}
 use Rattle.std.specs.Prelude.{All, None, Some, slice_get}
 use Rattle.std.proofs.lemmas.Option.{get_or_from_slice_get, slice_get_within}
 use Rattle.config.specs.CircuitPart.{CircuitPart}
@@ -85,3 +85,6 @@ returns-clause-left c k state was is found s below =
 
 pub returns-clause-looks : goal.returns-clause-looks
 returns-clause-looks c = c.turn_off_all.ensures.looks ∙ ap (λ (v : ServerValue). v.deadlines.looks) c.self.view_is
+
+pub returns-clause-deadlines : goal.returns-clause-deadlines
+returns-clause-deadlines c = search rules
