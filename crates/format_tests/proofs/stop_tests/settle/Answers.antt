@@ -1,7 +1,7 @@
 use Rattle.std.proofs.Common.{refl}
 use Rattle.lease_disk.specs.Model.{state_of}
 use Rattle.lease_disk.proofs.Fresh.{crashed_clean, synced_clean}
-use Rattle.disk_tests.proofs.stop_tests.settle.Goals as goal
+use Rattle.format_tests.proofs.stop_tests.settle.Goals as goal
 
 pub returns-in-Some-clause-clean : goal.returns-in-Some-clause-clean
 returns-in-Some-clause-clean c = crashed_clean c.in-Some.byte (state_of c.args.disk.now 0) (state_of c.crash.new.self 0) c.crash.ensures.state

@@ -7,7 +7,7 @@ use Rattle.lease_disk.specs.Model.{state_of}
 use Rattle.lease_disk.specs.Recover.{Answers}
 use Rattle.lease_disk.specs.Region.{Region, IsClean, IsRead}
 use Rattle.lease_disk.specs.Save.{AreMarks}
-use Rattle.disk_tests.proofs.save_tests.read_back.Goals as goal
+use Rattle.format_tests.proofs.save_tests.read_back.Goals as goal
 
 found_marks : (counts : List ℕ) (r : Region) (result : Result (Slots × Marks) RecoverFault) → is_format2 r.byte ≡ true → Answers counts r result → IfOk result (λ found. AreMarks counts r.byte found.1)
 found_marks counts r (Ok found) two answers = answers.2 two

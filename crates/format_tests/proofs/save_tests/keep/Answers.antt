@@ -3,7 +3,7 @@ use Rattle.lease_disk.specs.declared.content.Content.{Content}
 use Rattle.lease_disk.specs.declared.content.Content.TheVariants.{Four, Six}
 use Rattle.lease_disk.specs.Save.{Fits, is_read}
 use Rattle.lease_disk.proofs.SaveExits.{when_saved}
-use Rattle.disk_tests.proofs.save_tests.keep.Goals as goal
+use Rattle.format_tests.proofs.save_tests.keep.Goals as goal
 
 below4 : (s : ℕ) → s < 16 → is_read (16 ∷ 16 ∷ []) s ≡ true
 below4 s few = grind (arith, few)

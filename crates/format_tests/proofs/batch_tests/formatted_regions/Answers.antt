@@ -7,7 +7,7 @@ use Rattle.lease_disk.specs.Model.{state_of}
 use Rattle.lease_disk.specs.Recover.{Answers}
 use Rattle.lease_disk.specs.Region.{Region}
 use Rattle.lease_disk.specs.Save.{AreMarks}
-use Rattle.disk_tests.proofs.batch_tests.formatted_regions.Goals as goal
+use Rattle.format_tests.proofs.batch_tests.formatted_regions.Goals as goal
 
 found_marks : (r : Region) (result : Result (Slots × Marks) RecoverFault) (found : Slots × Marks) → result ≡ Ok found → is_format2 r.byte ≡ true → Answers (16 ∷ 16 ∷ []) r result → AreMarks (16 ∷ 16 ∷ []) r.byte found.1
 found_marks r result found e two answers = (subst (λ (some : Result (Slots × Marks) RecoverFault). Answers (16 ∷ 16 ∷ []) r some) e answers).2 two

@@ -2,7 +2,7 @@ use Rattle.std.proofs.Common.{◌≡◌, true, [], ◌∷◌, sym, subst}
 use Rattle.lease_disk.specs.Layout.{is_format2}
 use Rattle.lease_disk.specs.Region.{Region}
 use Rattle.lease_disk.specs.Save.{AreMarks}
-use Rattle.disk_tests.proofs.stop_tests.stop.Goals as goal
+use Rattle.format_tests.proofs.stop_tests.stop.Goals as goal
 
 pub keep-requires-clause-marks : goal.keep-requires-clause-marks
 keep-requires-clause-marks c = subst (λ (r : Region). AreMarks (16 ∷ 16 ∷ []) r.byte c.args.marks.now) (sym c.fail_at.ensures.state) c.requires.marks

@@ -10,7 +10,7 @@ use Rattle.lease_disk.specs.Region.{Region, IsClean}
 use Rattle.lease_disk.specs.Layout.{is_format2}
 use Rattle.lease_disk.specs.Save.{AreMarks, Fits, IsMark, is_read, mark_at}
 use Rattle.batch_saves.specs.Batch.{IsReady, part_at}
-use Rattle.disk_tests.proofs.batch_tests.batch.Goals as goal
+use Rattle.format_tests.proofs.batch_tests.batch.Goals as goal
 
 below4 : (s : ℕ) → s < 16 → is_read (16 ∷ 16 ∷ []) s ≡ true
 below4 s few = grind (arith, few)
