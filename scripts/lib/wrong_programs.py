@@ -1,23 +1,22 @@
-"""Tests of scripts of operators, each over these and over wrong ones. A wrong program is a copy of the scripts in which one text stands in
-the place of another; a test that it passes does not look at what it is about."""
-import contextlib
+"""Tests of scripts of operators, with the wrong programs that each of them catches. A test is a function that takes the folder of the
+scripts, `SCRIPTS`, and runs `SCRIPTS/operate/NAME`; it raises `Wrong` for what is not as it has to be, and anything else is a fault of
+the test. A wrong program is a copy of the scripts in which one text is another."""
 import os
+import pathlib
 import shutil
 import subprocess
 import sys
 import tempfile
 import traceback
-from pathlib import Path
 
-from crates import ROOT, program_of
-
+FOLDERS = ("scripts/operate", "scripts/lib", "examples")
 PROGRAMS = ("accesslab", "accessd", "leases")
-# what a copy has of the clone
-PARTS = ("scripts/operate", "scripts/lib", "examples")
+# the folder from which scripts/lib/built takes the programs
+PLACE = "HIGVASZTE_PROGRAMS"
 
 
 class Wrong(Exception):
-    """What is not as it has to be."""
+    """What is not as it has to be: by this a test has to fail over a wrong program."""
 
 
 def expect(is_right, what):
@@ -25,76 +24,98 @@ def expect(is_right, what):
         raise Wrong(what)
 
 
-def copy_with(place, file, old, new):
-    """Copies the scripts to this folder, with one text in a file in the place of another that stands there once."""
-    for part in PARTS:
-        shutil.copytree(ROOT / part, place / part, ignore=shutil.ignore_patterns("__pycache__"))
-    text = (place / file).read_text()
+def copy_with(root, place, file, old, new):
+    """Copies the scripts of operators below a clone, `root`, into the folder `place`, and in `file`, a path below `root`, puts the text
+    `new` in the place of `old`, which has to stand there once. Returns the copy's folder `scripts`. A copy that is no program is no
+    wrong program."""
+    for folder in FOLDERS:
+        shutil.copytree(pathlib.Path(root, folder), pathlib.Path(place, folder), ignore=shutil.ignore_patterns("__pycache__"))
+    path = pathlib.Path(place, file)
+    text = path.read_text()
     if text.count(old) != 1:
-        raise ValueError(f"{file} does not have this once: {old}")
-    (place / file).write_text(text.replace(old, new))
+        raise ValueError(f"{file} has {text.count(old)} times, and not once: {old}")
+    text = text.replace(old, new)
+    path.write_text(text)
+    if path.suffix == ".py" or "python" in text.partition("\n")[0]:
+        compile(text, file, "exec")
+    return pathlib.Path(place, "scripts")
 
 
-def fault_of(test, scripts):
-    """Why a test is not content with the scripts of operators in this folder, or None. It has a new folder for its files."""
+def run(path, *words, **how):
+    """The status of a script, and what it writes. One that ends by a fault of Python's is no answer, right or wrong."""
+    done = subprocess.run([path, *map(str, words)], **{"stdin": subprocess.DEVNULL, "stdout": subprocess.PIPE, "stderr": subprocess.PIPE,
+                                                       "text": True, "timeout": 60, **how})
+    written = (done.stdout or "") + (done.stderr or "")
+    if "Traceback" in written:
+        raise RuntimeError(f"{path} {words}: status {done.returncode}\n{written}")
+    return done.returncode, written
+
+
+def link_programs(root, place):
+    """Has every script, in a copy too, take the programs from the folder that is named already, or else from a new one, with links to
+    those of `root`."""
+    if os.environ.get(PLACE):
+        os.environ[PLACE] = os.path.abspath(os.environ[PLACE])
+        return
+    os.mkdir(place)
+    for name in PROGRAMS:
+        found = subprocess.run([pathlib.Path(root, "scripts/lib/built"), name], stdout=subprocess.PIPE, text=True)
+        if found.returncode:
+            sys.exit(found.returncode)
+        os.symlink(os.path.abspath(found.stdout.rstrip("\n")), f"{place}/{name}")
+    os.environ[PLACE] = place
+
+
+def outcome(test, scripts):
+    """None where a test passes; else its words, or those of its own fault, and whether it is its assertion that failed."""
     here = os.getcwd()
     with tempfile.TemporaryDirectory() as place:
         os.chdir(place)
         try:
             test(scripts)
+            return None
         except Wrong as fault:
-            return str(fault)
+            return str(fault), True
+        except Exception:
+            return traceback.format_exc(), False
         finally:
             os.chdir(here)
-    return None
 
 
-def faults_of(test, wrong):
-    """Of a test over the scripts of this clone, and over each wrong program, what is not as it has to be; None where it is."""
-    name = test.__name__
-    fault = fault_of(test, ROOT / "scripts/operate")
-    yield fault and f"{name}: {fault}"
-    for file, old, new in () if fault else wrong:
-        with tempfile.TemporaryDirectory() as place:
-            copy_with(Path(place), file, old, new)
-            passes = fault_of(test, Path(place) / "scripts/operate") is None
-            yield f"{name} passes over a wrong program: in {file} '{new}' in place of '{old}'" if passes else None
+def first_line(words):
+    return words.strip().partition("\n")[0][:160]
 
 
-@contextlib.contextmanager
-def programs():
-    """Has the scripts and their copies run the proved programs of this clone, unless others are asked for."""
-    if os.environ.get("HIGVASZTE_PROGRAMS"):
-        yield
-        return
-    subprocess.run([ROOT / "scripts/prove", *PROGRAMS], check=True)
+def is_caught(root, test, what, edit):
+    """Runs a test over a wrong program, says what came of it, and returns whether the test failed by its assertion."""
     with tempfile.TemporaryDirectory() as place:
-        for name in PROGRAMS:
-            os.symlink(program_of(name), f"{place}/{name}")
-        os.environ["HIGVASZTE_PROGRAMS"] = place
-        yield
-
-
-def count(tests):
-    """How many tests and wrong programs are as they have to be, and how many are not. Each of the latter is said."""
-    passed = failed = 0
-    for test, *wrong in tests:
         try:
-            for fault in faults_of(test, wrong):
-                passed, failed = passed + (fault is None), failed + (fault is not None)
-                print(fault or "", end="\n" if fault else "", flush=True)
-        except Exception:
-            failed += 1
-            print(f"{test.__name__}: {traceback.format_exc()}", flush=True)
-    return passed, failed
+            found = outcome(test, copy_with(root, place, *edit))
+        except (OSError, ValueError, SyntaxError) as error:
+            found = str(error), False
+    if found is None:
+        print(f"{test.__name__} passes over a wrong program: {what}")
+    elif not found[1]:
+        print(f"{test.__name__} over a wrong program, {what}, fails by itself: {found[0]}")
+    else:
+        print(f"{test.__name__} catches: {what}: {first_line(found[0])}", flush=True)
+    return found is not None and found[1]
 
 
-def run_tests(help_text, tests):
-    """Runs those of these tests, each with its wrong programs, whose names contain the argument, and returns the script's status."""
-    if len(sys.argv) > 2 or sys.argv[1:2] in (["--help"], ["-h"]):
-        print(help_text)
-        return 2 if len(sys.argv) > 2 else 0
-    with programs():
-        passed, failed = count([it for it in tests if "".join(sys.argv[1:]) in it[0].__name__])
+def run_tests(root, tests, chosen=""):
+    """Runs each test whose name contains this word over the scripts of `root`, where it has to pass, and over each of its wrong programs,
+    where it has to fail. `tests` are pairs: a test, and its wrong programs by what is wrong, each (file, old, new) for `copy_with`.
+    Prints 'N passed, M failed', where each run of a test counts as one, and returns the status."""
+    passed = failed = 0
+    with tempfile.TemporaryDirectory() as place:
+        link_programs(root, f"{place}/programs")
+        for test, wrong in tests:
+            if chosen not in test.__name__:
+                continue
+            found = outcome(test, pathlib.Path(root, "scripts"))
+            if found:
+                print(f"{test.__name__}: {found[0]}", flush=True)
+            results = [found is None, *(is_caught(root, test, what, edit) for what, edit in wrong.items())]
+            passed, failed = passed + results.count(True), failed + results.count(False)
     print(f"{passed} passed, {failed} failed")
     return 1 if failed or not passed else 0
