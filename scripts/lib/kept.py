@@ -14,10 +14,11 @@ from replaced_file import sync_folder
 # after this line stand tables of these names, which no program reads
 MARK = b"# No longer served, but FILE may have their leases:\n"
 REMOVED, FORMER = "no_longer_served", "had_before"
+KEPT_END = ".config"
 
 
 def config_of(file):
-    return file + ".config"
+    return file + KEPT_END
 
 
 def accepted_of(file):
@@ -34,7 +35,11 @@ class Kept:
         self.config = read_text(served)
         self.removed, self.former = (read_text(tables).get(name, []) for name in (REMOVED, FORMER))
         # each has what is read of it later
-        text_of(self.config["server"], self.config["relay"], self.config["circuit"] + self.removed + self.former)
+        text_of(self.config["server"], self.config["relay"], self.known())
+
+    def known(self):
+        """Each circuit that has leases in FILE, or had, as it was then."""
+        return self.config["circuit"] + self.removed + self.former
 
 
 def kept_beside(file):
