@@ -53,7 +53,7 @@ def leases_by_circuit(config, circuits, file):
     """How many leases each of these circuits, which were served before, has now without those that it serves still, and when the
     last ends, by id; nothing of those that can't be read."""
     try:
-        done, _ = run_over("leases", [plan_of(config, circuits)], "--disk", file, "--json")
+        done, _ = run_over("leases", [plan_of(config, circuits)], f"--disk={file}", "--json")
     except Refused:
         return {}
     # with 4 some of them are listed, or none
@@ -68,15 +68,20 @@ def leases_by_circuit(config, circuits, file):
     return {key: (len(ends), max(ends)[1] if ends else None) for key, ends in found.items()}
 
 
+def lost_lines(path, count, circuits):
+    """Which of these circuits, whose leases were in a file, have them there no longer, since it has so few regions."""
+    return list(dict.fromkeys(
+        f"{path} has {count} regions and no region {circuit['region']}, where the leases of {name(circuit)} were: it was cut, or is "
+        "not the file that was served; put its copy in its place" for circuit in circuits if circuit["region"] >= count))
+
+
 def region_lines(config, regions, kept):
     """The circuits whose region is not in the file, which has fewer."""
-    before = {circuit["id"]: circuit["region"] for circuit in kept.config["circuit"]} if kept else {}
+    before = {(circuit["id"], circuit["region"]) for circuit in kept.known()} if kept else set()
     missing = [circuit for circuit in config["circuit"] if circuit["region"] >= regions.count]
-    for circuit in missing:
-        if before.get(circuit["id"]) == circuit["region"]:
-            yield (f"{regions.path} has {regions.count} regions and no region {circuit['region']}, where the leases of "
-                   f"{name(circuit)} were: it is not the file that was served; put its copy in its place")
-    added = [circuit for circuit in missing if before.get(circuit["id"]) != circuit["region"]]
+    lost = [circuit for circuit in missing if (circuit["id"], circuit["region"]) in before]
+    yield from lost_lines(regions.path, regions.count, lost)
+    added = [circuit for circuit in missing if circuit not in lost]
     if added:
         most = max(added, key=lambda circuit: circuit["region"])
         count = most["region"] + 1 - regions.count

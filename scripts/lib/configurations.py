@@ -6,9 +6,11 @@ import tomllib
 
 from operator_script import Refused
 
-# how many circuits an `accessd` serves, how many ports a circuit has, and the first of the first one
+# how many circuits an `accessd` serves, how many ports a circuit has, how many parts `split` makes at most, and the first port of the
+# first circuit
 MOST = 16
 PORTS = 4
+PARTS = 64
 FIRST_PORT = 20000
 LEAST_PORT, MOST_PORT = 1024, 65472
 LOOPBACK = "127.0.0.1"

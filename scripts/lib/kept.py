@@ -17,12 +17,13 @@ MARK = b"# No longer served, but FILE may have their leases:\n"
 REMOVED, FORMER = "no_longer_served", "had_before"
 # the line before that, at the end of what is served
 PORT = re.compile(rb"# Served from port (\d{4,5}) on\.\n\Z")
+KEPT_END = ".config"
 # a bridge, which is in the group of the service, reads it; no client is named in it
 MODE = 0o640
 
 
 def config_of(file):
-    return file + ".config"
+    return file + KEPT_END
 
 
 def accepted_of(file):
@@ -49,7 +50,11 @@ class Kept:
         self.config = read_text(self.source)
         self.removed, self.former = (read_text(tables).get(name, []) for name in (REMOVED, FORMER))
         # each has what is read of it later
-        text_of(self.config["server"], self.config["relay"], self.config["circuit"] + self.removed + self.former)
+        text_of(self.config["server"], self.config["relay"], self.known())
+
+    def known(self):
+        """Each circuit that has leases in FILE, or had, as it was then."""
+        return self.config["circuit"] + self.removed + self.former
 
 
 def kept_beside(file):

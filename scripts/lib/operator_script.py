@@ -66,8 +66,20 @@ def drop_unwritten():
             os.dup2(os.open(os.devnull, os.O_WRONLY), number)
 
 
+def open_closed_streams():
+    """Has /dev/null in the place of each standard stream that is closed. Else the next file that is opened would be that stream
+    for every program that is started."""
+    for number in range(3):
+        try:
+            os.fstat(number)
+        except OSError:
+            # what is opened gets the lowest number that is free, which is this one
+            os.set_inheritable(os.open(os.devnull, os.O_RDWR), True)
+
+
 def run(main):
     """Calls a script's main function and ends with the status that it returns."""
+    open_closed_streams()
     for ending in (signal.SIGTERM, signal.SIGHUP):
         # so that what it has begun is taken back; nohup has one of them ignored
         if signal.getsignal(ending) != signal.SIG_IGN:

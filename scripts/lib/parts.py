@@ -9,15 +9,15 @@ from pathlib import Path
 from arguments import ended, number_of, parsed
 from changes import by_id, conflicts, had_before, key_changes, name
 from checks import used_lines
-from configurations import FIRST_PORT, LEAST_PORT, MOST, PORTS, read_config, read_text, text_of
+from configurations import FIRST_PORT, LEAST_PORT, MOST, PARTS, PORTS, read_config, read_text, text_of
 from kept import config_of, hold, kept_beside, put, text_to_keep
 from operator_script import Refused
 from programs import read, refusal
 from regions import REGION, NotRegions, Regions, add, count_in, give_to_folder
+from remembered import Remembered, numbered
 from replaced_file import sync_folder, write_all
 
 # the ports of a part's circuits, and those of its server and relays, which come after the circuits' of all parts
-PARTS = 64
 SERVER, RELAYS = 2, 8
 AFTER = PARTS * MOST * PORTS
 MOST_PORT = 65536 - AFTER - PARTS * (SERVER + RELAYS)
@@ -44,26 +44,24 @@ def text_of_part(config, circuits, part, first):
 
 
 class Places:
-    """Which part each circuit is in, and in which order, as an earlier call wrote them."""
+    """Which part each circuit is in, and in which order, as an earlier call wrote them. Each circuit has its `parts`, which is one."""
 
     def __init__(self, folder):
         self.parts, self.circuits = {}, {}
-        for path in folder.glob("part*.toml"):
-            number = re.fullmatch(r"part(\d+)\.toml", path.name)
-            if number and int(number[1]) < PARTS:
-                self.parts[int(number[1])] = self.circuits_in(path)
+        for part, path in numbered(folder, ".toml"):
+            self.parts[part] = self.circuits_in(path, part)
         ports = {circuits_port(0, self.port_in(folder, part)) - circuits_port(part, 0) for part in self.parts}
         if len(ports) > 1:
             raise Refused(2, f"{folder}: its parts have ports of different calls; see the files part*.env")
         self.first = ports.pop() if ports else None
 
-    def circuits_in(self, path):
+    def circuits_in(self, path, part):
         text = read(path)
         refused = refusal([str(path)], [text])
         if refused:
             raise refused
         circuits = by_id(read_config(path, text)["circuit"])
-        self.circuits.update(circuits)
+        self.circuits.update({key: {**circuit, "parts": [part]} for key, circuit in circuits.items()})
         return list(circuits)
 
     @staticmethod
@@ -73,18 +71,29 @@ class Places:
             raise Refused(5, f"{folder}/part{part}.env: not what scripts/operate/split wrote there")
         return int(found[1])
 
-    def placed(self, circuits):
-        """The circuits of each part by their ids: those that it had, and the new ones."""
+    def placed(self, circuits, remembered):
+        """The circuits of each part by their ids: those that it has, those that come back to it, and the new ones."""
         left = {circuit["id"]: circuit for circuit in circuits}
         parts = {}
         for part, names in sorted(self.parts.items()):
             parts[part] = without_gone(names, left)
             for name in parts[part]:
                 del left[name]
-        for name in left:
-            part = next(part for part in range(PARTS) if len(parts.get(part, ())) < MOST)
-            parts.setdefault(part, []).append(name)
+        before = by_id(remembered.tables)
+        for key in sorted(left, key=lambda key: key not in before):
+            possible = before[key]["parts"] if key in before else range(PARTS)
+            part = next((part for part in possible if len(parts.get(part, ())) < MOST), None)
+            if part is None:
+                raise Refused(3, full(left[key], possible, remembered.path))
+            parts.setdefault(part, []).append(key)
         return {part: names for part, names in sorted(parts.items()) if names}
+
+
+def full(circuit, parts, path):
+    """Why a circuit can't come back to any of the parts that have its leases, and what to do."""
+    return (f"{name(circuit)} was in part{', part'.join(map(str, parts))}, which has its leases, and {MOST} other circuits: take one of "
+            f"these out of CONFIG; or, once the last lease of {name(circuit)} has ended, take its table out of {path}, and it comes to "
+            "another part")
 
 
 def without_gone(names, there):
@@ -98,12 +107,9 @@ def without_gone(names, there):
     return names
 
 
-def copy_leases(file, folder, part, text, before):
+def copy_leases(file, path, text, before):
     """A copy of the leases for a part that has none, as long as it requires. Its configuration is kept beside it, and what was
     served before."""
-    path = str(folder / f"part{part}.leases")
-    if os.path.lexists(path):
-        return
     new = path + ".new"
     try:
         with open(new, "w+b", buffering=0) as copy:
@@ -143,7 +149,10 @@ def checked(file, circuits):
 
 
 def copy_all(file, folder, texts, circuits):
-    """Copies of a file that no `accessd` has, for each part."""
+    """Copies of a file that no `accessd` has, for each part that has none. Returns what circuits had before the split, with the parts
+    that have a copy of it."""
+    paths = {part: str(folder / f"part{part}.leases") for part in texts}
+    new = [part for part, path in paths.items() if not os.path.lexists(path)]
     held = hold(file)
     with open(file, "rb", buffering=0) as source:
         try:
@@ -153,11 +162,13 @@ def copy_all(file, folder, texts, circuits):
             raise Refused(5, f"{file} is in use: stop the server first") from None
         except NotRegions as error:
             raise Refused(4, f"{file}: {error}") from None
-        for part, text in texts.items():
+        for part in new:
             source.seek(0)
-            copy_leases(source, folder, part, text, before)
+            copy_leases(source, paths[part], texts[part], before)
     if held is not None:
         os.close(held)
+    gone, former = before
+    return [{**circuit, "parts": new} for circuit in [*former, *gone]] if new else []
 
 
 def write_parts(folder, texts, parts, first):
@@ -187,10 +198,12 @@ def say_changes(places, parts, texts, folder):
 
 def arguments(help_text):
     """--leases FILE, CONFIG, FOLDER and PORT."""
-    at = next((index for index, word in enumerate(sys.argv) if word == "--leases"), None)
     file = None
-    if at is not None:
-        file = sys.argv[at + 1] if at + 1 < len(sys.argv) else ended(help_text, "--leases has no FILE")
+    # after `--` there are no options
+    options = sys.argv[:sys.argv.index("--")] if "--" in sys.argv else sys.argv
+    if "--leases" in options:
+        at = options.index("--leases")
+        file = options[at + 1] if at + 1 < len(options) else ended(help_text, "--leases has no FILE")
         del sys.argv[at:at + 2]
     _, words = parsed(help_text, set(), 2, 3)
     first = number_of(help_text, "PORT", words[2], 65535) if len(words) > 2 else None
@@ -211,16 +224,21 @@ def main(help_text):
     if not LEAST_PORT <= first <= MOST_PORT:
         raise Refused(2, f"there is no room for the ports of {PARTS} parts from {first} on: PORT is {LEAST_PORT} to {MOST_PORT}")
     circuits = by_id(config["circuit"])
-    before = had_before(places.circuits.values(), config["circuit"])
-    lines = list(conflicts(config["circuit"], before, {}, places.circuits))
+    remembered = Remembered(folder, list(places.circuits.values()))
+    before = had_before([*remembered.tables, *places.circuits.values()], config["circuit"])
+    lines = list(conflicts(config["circuit"], before, {}, by_id(before)))
     if lines:
-        raise Refused(3, "\n".join([*lines, "take it from the one first, and give it to the other once its last lease has ended"]))
-    parts = places.placed(config["circuit"])
+        raise Refused(3, "\n".join([*lines, "take it from the one first, by a call of its own; once the last lease of it has ended, take "
+                                    f"its table out of {remembered.path}, and give it to the other then"]))
+    parts = places.placed(config["circuit"], remembered)
     texts = {part: text_of_part(config, [circuits[name] for name in names], part, first).encode() for part, names in parts.items()}
     folder.mkdir(parents=True, exist_ok=True)
     if file:
-        copy_all(file, folder, texts, config["circuit"])
+        before = had_before([*copy_all(file, folder, texts, config["circuit"]), *before], config["circuit"])
+    # a call that is killed forgets nothing
+    remembered.put([*remembered.tables, *(circuit for circuit in before if circuit not in remembered.tables)])
     say_changes(places, parts, texts, folder)
     write_parts(folder, texts, parts, first)
+    remembered.put(before)
     print(f"{len(circuits)} circuits in {len(parts)} parts")
     return 0

@@ -13,6 +13,8 @@ FOLDERS = ("scripts/operate", "scripts/lib", "examples")
 PROGRAMS = ("accesslab", "accessd", "leases")
 # the folder from which scripts/lib/built takes the programs
 PLACE = "HIGVASZTE_PROGRAMS"
+# a script that takes longer hangs
+SECONDS = 60
 
 
 class Wrong(Exception):
@@ -38,13 +40,19 @@ def copy_with(root, place, file, old, new):
     path.write_text(text)
     if path.suffix == ".py" or "python" in text.partition("\n")[0]:
         compile(text, file, "exec")
+    elif "bash" in text.partition("\n")[0]:
+        subprocess.run(["bash", "-n", path], check=True)
     return pathlib.Path(place, "scripts")
 
 
 def run(path, *words, **how):
-    """The status of a script, and what it writes. One that ends by a fault of Python's is no answer, right or wrong."""
-    done = subprocess.run([path, *map(str, words)], **{"stdin": subprocess.DEVNULL, "stdout": subprocess.PIPE, "stderr": subprocess.PIPE,
-                                                       "text": True, "timeout": 60, **how})
+    """The status of a script, and what it writes. One that ends by a fault of Python's is no answer, right or wrong; one that does not
+    end is a wrong one."""
+    try:
+        done = subprocess.run([path, *map(str, words)], **{"stdin": subprocess.DEVNULL, "stdout": subprocess.PIPE,
+                                                           "stderr": subprocess.PIPE, "text": True, "timeout": SECONDS, **how})
+    except subprocess.TimeoutExpired:
+        raise Wrong(f"{path} {words} does not end in {SECONDS} seconds") from None
     written = (done.stdout or "") + (done.stderr or "")
     if "Traceback" in written:
         raise RuntimeError(f"{path} {words}: status {done.returncode}\n{written}")
@@ -91,7 +99,7 @@ def is_caught(root, test, what, edit):
     with tempfile.TemporaryDirectory() as place:
         try:
             found = outcome(test, copy_with(root, place, *edit))
-        except (OSError, ValueError, SyntaxError) as error:
+        except (OSError, ValueError, SyntaxError, subprocess.CalledProcessError) as error:
             found = str(error), False
     if found is None:
         print(f"{test.__name__} passes over a wrong program: {what}")
