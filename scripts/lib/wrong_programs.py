@@ -9,7 +9,7 @@ import sys
 import tempfile
 import traceback
 
-FOLDERS = ("scripts/operate", "scripts/lib", "examples")
+FOLDERS = ("scripts", "examples")
 PROGRAMS = ("accesslab", "accessd", "leases")
 # the folder from which scripts/lib/built takes the programs
 PLACE = "HIGVASZTE_PROGRAMS"
