@@ -96,8 +96,7 @@ pub struct Access {
     /// The first of the circuits' ports.
     port: u16,
     counts: Counts,
-    /// The same of each circuit, as far as its own are known: frames from it, datagrams of it that the server dropped, and
-    /// answers to it.
+    /// What became of those of each circuit: of frames from it, of datagrams of it that the server dropped, and of answers to it.
     by_circuit: CircuitCounts,
     history: History,
     turns: Count,
@@ -442,22 +441,8 @@ impl Access {
         taken + self.take_frame(index, Proto::V6)
     }
 
-    /// Takes a frame from a circuit's socket to its relay, unless the system has told of none.
+    /// Takes a frame from a circuit's socket to its relay, if one waits, and sends what that makes of it on to the server.
     fn take_frame(&mut self, index: usize, proto: Proto) -> u32
-        requires { index < length self.old.topology.circuits }
-        ensures most { result ≤ 1 }
-        ensures carried { HasCarried (CircuitSocket self.old.topology index proto) result self.old self.new }
-    {
-        let socket = self.sockets.circuits[index].socket(proto);
-        if socket.is_idle(&self.waiter, &mut self.history) {
-            return 0;
-        }
-        self.take_waiting_frame(index, proto)
-    }
-
-    /// Takes a frame from a circuit's socket to its relay, and sends what that makes of it on to the server.
-    #[inline(never)]
-    fn take_waiting_frame(&mut self, index: usize, proto: Proto) -> u32
         requires { index < length self.old.topology.circuits }
         ensures most { result ≤ 1 }
         ensures carried { HasCarried (CircuitSocket self.old.topology index proto) result self.old self.new }

@@ -304,7 +304,7 @@ fn count_dropped(datagram: &Datagram, why: Discard, server: &Server, by_circuit:
     }
 }
 
-/// The same of one of which this became.
+/// Counts a datagram for the circuit that it is of, if the server dropped it.
 fn count_if_dropped(
     datagram: &Datagram,
     outcome: Outcome,

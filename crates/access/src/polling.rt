@@ -45,7 +45,7 @@ impl Waiting {
         }
     }
 
-    /// The same after a datagram was taken from either socket.
+    /// What is known of a socket after a datagram was taken from either of the two.
     fn again(self) -> Waiting
         ensures { result ≡ again self }
     {
