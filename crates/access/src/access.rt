@@ -464,7 +464,7 @@ impl Access {
         let from = &self.sockets.relays[self.sockets.circuits[index].relay];
         let out = self.out.as_slice();
         let outcome = send_on(made, from, to, out, Outcome::Relayed, &mut self.history);
-        self.waiter.expect(self.sockets.server(proto));
+        self.waiter.mark_ready(self.sockets.server(proto));
         self.counts.count(outcome);
         self.by_circuit.count_for(index, outcome);
         1
@@ -539,6 +539,6 @@ fn expect_answers(batch: &Batch, relays: &[DatagramSocket], waiter: &mut Waiter)
         return;
     }
     'relays: for relay in relays {
-        waiter.expect(relay);
+        waiter.mark_ready(relay);
     }
 }

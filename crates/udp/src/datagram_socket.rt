@@ -151,7 +151,7 @@ impl DatagramSocket {
         is_idle
     }
 
-    /// The same of two sockets, first of this one and then of the other: whether none waits at either.
+    /// Whether none waits at this socket and none at the other, as far as the system has told.
     pub fn is_idle_with(
         &self,
         other: &DatagramSocket,
@@ -170,7 +170,7 @@ impl DatagramSocket {
         are_idle
     }
 
-    /// As `take`, for a socket that is watched. Where the system has told of no datagram since a receive found the socket
+    /// Takes a datagram from a socket that is watched. If the system has told of no datagram since a receive found the socket
     /// empty, none waits, and it isn't asked again.
     pub fn take_if_ready(
         &self,

@@ -60,12 +60,12 @@ impl Waiter {
             .registry()
             .register(&mut socket.socket, Token(number), Interest::READABLE);
         if watched.is_err() {
-            self.lose_sight();
+            self.stop_polling();
         }
     }
 
     /// The system tells of the sockets no longer.
-    fn lose_sight(&mut self) {
+    fn stop_polling(&mut self) {
         self.poll = None;
         self.ready = u64::MAX;
     }
@@ -75,8 +75,8 @@ impl Waiter {
         self.ready & bits != 0
     }
 
-    /// A datagram was sent to this socket, which may have one now, whether the system has told of it or not.
-    pub fn expect(&mut self, socket: &DatagramSocket) {
+    /// A datagram was sent to this socket: it may have one now, whether or not the system has told of it.
+    pub fn mark_ready(&mut self, socket: &DatagramSocket) {
         self.ready |= socket.bit;
     }
 
@@ -93,7 +93,7 @@ impl Waiter {
             return false;
         };
         if poll.poll(&mut self.events, Some(most)).is_err() {
-            self.lose_sight();
+            self.stop_polling();
             return false;
         }
         'events: for event in self.events.iter() {
