@@ -5,7 +5,7 @@ import os
 
 from changes import Changes, by_id, name
 from configurations import FIRST_PORT, faults, has_address, read_config, text_of, warnings
-from kept import config_of, is_accepted, kept_beside, text_to_keep
+from kept import config_of, is_accepted, kept_beside, source_of, text_to_keep
 from operator_script import Refused
 from programs import read, refusal, run_over
 from regions import NotRegions, Regions
@@ -102,7 +102,7 @@ def judge_without(verdict, regions):
     lines = [] if all(regions.unused) else [
         f"{verdict.path} is served over {verdict.file} as it is: its leases are those of the circuits with their regions"]
     verdict.change(f"{verdict.file} may have leases, and no {config_of(verdict.file)} says of which circuits:", lines)
-    verdict.text = text_to_keep(verdict.source)
+    verdict.text = text_to_keep(verdict.source, port=verdict.port)
 
 
 def judge_after(verdict, regions):
@@ -110,14 +110,14 @@ def judge_after(verdict, regions):
     kept, config = verdict.kept, verdict.config
     changes = Changes(kept, config, verdict.port, lambda circuits: leases_by_circuit(config, circuits, verdict.file))
     lines = changes.refused + list(used_lines(changes.added, regions))
-    if not lines and verdict.source != kept.text:
+    if not lines and source_of(verdict.source)[0] != kept.source:
         # the rules for configurations that follow each other are those of `accesslab`
         before = [plan_of(config, changes.removed)] if changes.removed else []
         names = [kept.path, *("what was served before" for _ in before), verdict.path]
-        words = refusal(names, [kept.text, *before, verdict.source])
+        words = refusal(names, [kept.source, *before, verdict.source])
         lines = [str(words)] if words else []
     verdict.change(f"{verdict.path} differs from {kept.path}, which was served last:", lines)
-    verdict.text = text_to_keep(verdict.source, changes.removed, changes.former)
+    verdict.text = text_to_keep(verdict.source, changes.removed, changes.former, verdict.port)
 
 
 def judge_file(verdict, is_new):
@@ -128,7 +128,7 @@ def judge_file(verdict, is_new):
         lost = f"{file} is missing, and {config_of(file)} is there: the leases were lost; put their copy in its place ({RESTORE})"
         first = f"{file} is missing: where it is to be made, say --new; where it was lost, put its copy in its place"
         verdict.refuse(OTHER, [lost] if kept else [] if is_new else [first])
-        verdict.text = text_to_keep(verdict.source)
+        verdict.text = text_to_keep(verdict.source, port=verdict.port)
         return
     try:
         regions = Regions(file)

@@ -33,17 +33,15 @@ HEAD_OF_UNITS = {
 """,
     "accessd-bridge@.service": """\
 # `higvaszte bridge` for one circuit, by its id, under systemd: `accessd-bridge@a` carries frames between circuit a's ports and an
-# interface. /etc/higvaszte/bridge-a.env says `IFACE=..`, the interface, `CONFIG=..`, the configuration that `accessd` serves, and
-# `PORT=..`, its first port (20000 where none is given). An id with characters other than letters, digits, `_`, `.` and `:` is
-# written by `systemd-escape ID`, in the file's name too.
+# interface. /etc/higvaszte/bridge-a.env says `IFACE=..`, the interface, and `FILE=..`, the file of leases of the service, such as
+# /var/lib/higvaszte/main/leases. An id with characters other than letters, digits, `_`, `.` and `:` is written by
+# `systemd-escape -- ID`, in the file's name too.
 """,
 }
 # what each unit of the repository has, once, and what stands there in the package's
 UNITS = {
     "accessd@.service": (
         ("[Unit]\n", "[Unit]\nDocumentation=man:accessd(8) man:higvaszte-operating(7)\n"),
-        ("DynamicUser=yes\n", f"User={USER}\n"),
-        ("# not below that of accessd.service, which a dynamic user owns\n", ""),
         ("StateDirectory=accessd-%i\n", f"StateDirectory={USER}/%i\n"),
         ("EnvironmentFile=/etc/accessd/", "Environment=PORT=20000\nEnvironmentFile=-/etc/higvaszte/"),
         ("/usr/local/lib/higvaszte/", f"{HOME}/"),

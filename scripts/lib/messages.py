@@ -184,13 +184,20 @@ def read_options4(message):
     return options
 
 
-def read_options6(data):
-    """The same of DHCPv6 options (RFC 8415, section 21.1)."""
-    options, at = {}, 0
+def each_option6(data):
+    """The code and the value of each DHCPv6 option (RFC 8415, section 21.1), before one that is cut off."""
+    at = 0
     while at + 4 <= len(data):
         end = at + 4 + int.from_bytes(data[at + 2:at + 4], "big")
         if end > len(data):
-            break
-        options.setdefault(int.from_bytes(data[at:at + 2], "big"), data[at + 4:end])
+            return
+        yield int.from_bytes(data[at:at + 2], "big"), data[at + 4:end]
         at = end
+
+
+def read_options6(data):
+    """Each DHCPv6 option's value by its code, and of two with one code the first."""
+    options = {}
+    for code, value in each_option6(data):
+        options.setdefault(code, value)
     return options

@@ -10,7 +10,7 @@ import sys
 import tempfile
 import traceback
 
-FOLDERS = ("scripts/operate", "scripts/lib")
+FOLDERS = ("scripts/operate", "scripts/lib", "examples")
 PROGRAMS = ("accesslab", "accessd", "leases")
 # the folder from which scripts/lib/built takes the programs
 PLACE = "HIGVASZTE_PROGRAMS"
@@ -41,7 +41,7 @@ def copy_with(root, place, file, old, new):
     path.write_text(text)
     if path.suffix == ".py" or "python" in text.partition("\n")[0]:
         compile(text, file, "exec")
-    else:
+    elif "bash" in text.partition("\n")[0]:
         subprocess.run(["bash", "-n", path], check=True)
     return pathlib.Path(place, "scripts")
 
