@@ -1,7 +1,7 @@
 """A filter of the kernel (BPF) by which a packet socket has only what DHCP clients of its interface send to a server: DHCPv4 to port
 67 of one of the interface's addresses or of everybody, DHCPv6 to port 547 of the interface's link-local address or of the agents'
 group. What has a VLAN's tag, is a fragment, or is for or from another machine is left out. What is left out costs no process."""
-import ctypes
+import array
 import socket
 import struct
 
@@ -24,6 +24,8 @@ IS_FRAGMENT = 0x3FFF
 SERVER4, SERVER6 = 67, 547
 EVERYBODY4 = bytes([255] * 4)
 EVERYTHING = 0xFFFF
+# the bytes of an instruction
+SIZE = 8
 # an instruction jumps to one of these; to none, to the next
 TAKE, DROP, NEXT, DHCP4 = "take", "drop", None, "DHCPv4"
 
@@ -77,7 +79,7 @@ def assembled(lines):
 
 def attach(end, addresses4, address6):
     """Gives a socket the filter, which nobody can take off it again."""
-    code = assembled(instructions(addresses4, address6))
-    place = ctypes.create_string_buffer(code, len(code))
-    end.setsockopt(socket.SOL_SOCKET, SO_ATTACH_FILTER, struct.pack("HL", len(code) // 8, ctypes.addressof(place)))
+    # not by ctypes, whose import may want memory that is written and run, which the unit forbids
+    code = array.array("B", assembled(instructions(addresses4, address6)))
+    end.setsockopt(socket.SOL_SOCKET, SO_ATTACH_FILTER, struct.pack("HL", len(code) // SIZE, code.buffer_info()[0]))
     end.setsockopt(socket.SOL_SOCKET, SO_LOCK_FILTER, 1)

@@ -32,8 +32,8 @@ def tables_in(path, text):
         for circuit in tables:
             # each has what is read of it later
             table("", "circuit", circuit), list(has_in_common(circuit, circuit))
-            if not set(circuit["parts"]) <= set(range(PARTS)):
-                raise ValueError("there is no such part")
+            if not circuit["parts"] or not set(circuit["parts"]) <= set(range(PARTS)):
+                raise ValueError("its parts are none")
         return tables
     except (ValueError, KeyError, TypeError) as error:
         raise Refused(5, f"{path}: this is not what scripts/operate/split wrote there, without some of its tables: {error}") from None

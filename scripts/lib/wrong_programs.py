@@ -4,6 +4,7 @@ the test. A wrong program is a copy of the scripts in which one text is another.
 import os
 import pathlib
 import shutil
+import signal
 import subprocess
 import sys
 import tempfile
@@ -47,16 +48,18 @@ def copy_with(root, place, file, old, new):
 
 def run(path, *words, **how):
     """The status of a script, and what it writes. One that ends by a fault of Python's is no answer, right or wrong; one that does not
-    end is a wrong one."""
+    end is a wrong one, and is killed with what it has started."""
+    process = subprocess.Popen([path, *map(str, words)], stdin=subprocess.DEVNULL, stdout=subprocess.PIPE, stderr=subprocess.PIPE,
+                               text=True, start_new_session=True, **how)
     try:
-        done = subprocess.run([path, *map(str, words)], **{"stdin": subprocess.DEVNULL, "stdout": subprocess.PIPE,
-                                                           "stderr": subprocess.PIPE, "text": True, "timeout": SECONDS, **how})
+        written = "".join(process.communicate(timeout=SECONDS))
     except subprocess.TimeoutExpired:
+        os.killpg(process.pid, signal.SIGKILL)
+        process.communicate()
         raise Wrong(f"{path} {words} does not end in {SECONDS} seconds") from None
-    written = (done.stdout or "") + (done.stderr or "")
     if "Traceback" in written:
-        raise RuntimeError(f"{path} {words}: status {done.returncode}\n{written}")
-    return done.returncode, written
+        raise RuntimeError(f"{path} {words}: status {process.returncode}\n{written}")
+    return process.returncode, written
 
 
 def link_programs(root, place):
