@@ -13,7 +13,7 @@ mod standard_streams;
 mod status;
 mod words;
 
-pub use arguments::{config_arg, number};
+pub use arguments::{config_arg, flag, is_set, limited, number, option};
 pub use causes::{complain_of, reading_cause, socket_cause, writing_cause};
 pub use configuration::{read_configuration, read_plans};
 pub use refusal::Refusal;
