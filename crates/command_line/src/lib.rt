@@ -7,7 +7,6 @@ pub mod accesslab_words;
 mod arguments;
 mod causes;
 mod configuration;
-pub mod leases_words;
 mod refusal;
 mod standard_streams;
 mod status;
