@@ -1,5 +1,4 @@
 pub mod AccessdWords
-pub mod AccesslabWords
 pub mod CommandLine
 pub mod StandardStreams
 pub mod Status

@@ -3,7 +3,6 @@
 #![tactic(auto)]
 
 pub mod accessd_words;
-pub mod accesslab_words;
 mod arguments;
 mod causes;
 mod configuration;
