@@ -1,4 +1,3 @@
-pub mod AccessdWords
 pub mod CommandLine
 pub mod StandardStreams
 pub mod Status

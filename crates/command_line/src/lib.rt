@@ -1,8 +1,7 @@
-//! What the programs do before they run: the standard streams, the words of each command line, refused command
-//! lines, the files of configurations and the exit statuses.
+//! What the programs share before they run: the standard streams, the words of a command line and its arguments,
+//! refused command lines, the files of configurations and the exit statuses.
 #![tactic(auto)]
 
-pub mod accessd_words;
 mod arguments;
 mod causes;
 mod configuration;

@@ -2,8 +2,8 @@ use Rattle.std.proofs.Common.{◌≡◌, ◌∙◌, sym, ap, subst, true, refl, 
 use Rattle.std.specs.Prelude.{string_bytes}
 use Rattle.clap.specs.Words.{HasKind, is_simple, is_simple_and_free, fault_of, matches_of}
 use Rattle.clap.proofs.OnLiterals.{clap_on_literals}
-use Rattle.command_line.specs.AccessdWords.{access_app, HasValues}
-use Rattle.command_line.proofs.accessd_words.words.Goals as goal
+use Rattle.accessd.specs.Words.{access_app, HasValues}
+use Rattle.accessd.proofs.words.words.Goals as goal
 
 simple : is_simple access_app ≡ true
 unfolding clap_on_literals
