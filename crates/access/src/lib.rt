@@ -10,7 +10,6 @@ mod sending;
 
 pub use access::{Access, AccessFault, Watch, try_sockets};
 pub use clock::moment_of;
-pub use command_line::accessd_words::{AccessWords, words};
 pub use counts::{CircuitCounts, Counts, Outcome, REASONS};
 pub use opening::{DeviceFault, device_of};
 pub use sockets::{Warning, warn};

@@ -7,12 +7,12 @@ ghost use Rattle.accessd.specs.Status.{IsExitStatus, status_of, device_status};
 
 mod reporter;
 mod text;
+mod words;
 
 use crate::reporter::Reporter;
 use crate::text::{circuit_at, id_of, text_of};
-use access::{
-    Access, AccessFault, AccessWords, DeviceFault, History, device_of, try_sockets, warn,
-};
+use crate::words::AccessWords;
+use access::{Access, AccessFault, DeviceFault, History, device_of, try_sockets, warn};
 use command_line::{
     REFUSED, StandardStreams, UNOPENED, UNREADABLE, complain, complain_of, given_words,
     read_configuration, socket_cause, writing_cause,
@@ -111,7 +111,7 @@ fn device(rt: &HostRuntime, config: &Config, values: &AccessWords<'_>) -> Result
     ensures opens { values.now.format ≡ false → IfOk result (λ disk. disk ≡ uncalled disk.length) }
     ensures status { IfErr result (λ status. (status ≡ 4) ⊎ (status ≡ 5)) }
 {
-    match device_of(rt, values, config) {
+    match device_of(rt, values.disk, values.format, config) {
         Ok(disk) => Ok(disk),
         Err(fault) => {
             report_device(rt, values.disk, fault, values.format);
@@ -333,7 +333,7 @@ fn status(rt: &HostRuntime) -> u8
         Ok(given) => given,
         Err(status) => return status,
     };
-    match access::words(rt.alloc(), &given) {
+    match words::words(rt.alloc(), &given) {
         Ok(values) => run(rt, values),
         Err(refusal) => refusal.show(rt),
     }

@@ -7,9 +7,12 @@ ghost use Rattle.std.specs.Io.KnownBytes.{Appends, Keeps};
 ghost use Rattle.accesslab.specs.Status.{IsExitStatus};
 ghost use Rattle.lab.specs.Lab.{lab_output};
 
+mod words;
+
+use crate::words::LabWords;
 use command_line::{FAILED, StandardStreams, UNOPENED, complain, given_words, read_plans};
 use config::Plans;
-use lab::{BAD_LINE, BadLine, LabWords, StdReader, StdWriter};
+use lab::{BAD_LINE, BadLine, StdReader, StdWriter};
 use std::alloc::Global;
 use std::io::{self, BufWriter, Read, Write};
 use std::process::ExitCode;
@@ -91,7 +94,7 @@ fn status(rt: &HostRuntime) -> u8
         Ok(given) => given,
         Err(status) => return status,
     };
-    match lab::words(rt.alloc(), &given) {
+    match words::words(rt.alloc(), &given) {
         Ok(values) => run(rt, values),
         Err(refusal) => refusal.show(rt),
     }

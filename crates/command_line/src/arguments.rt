@@ -19,7 +19,7 @@ pub fn config_arg<'a>(alloc: Global) -> Arg<'a>
 }
 
 /// A flag, `--NAME`.
-pub(crate) fn flag<'a>(alloc: Global, name: &'a str, help: &'a str) -> Arg<'a>
+pub fn flag<'a>(alloc: Global, name: &'a str, help: &'a str) -> Arg<'a>
     ensures rule { rule_of result ≡ flag_rule name.entry.now }
     ensures local { result.global ≡ false }
 {
@@ -30,7 +30,7 @@ pub(crate) fn flag<'a>(alloc: Global, name: &'a str, help: &'a str) -> Arg<'a>
 }
 
 /// An argument with a value, `--NAME VALUE`.
-pub(crate) fn option<'a>(alloc: Global, name: &'a str, value: &'a str, help: &'a str) -> Arg<'a>
+pub fn option<'a>(alloc: Global, name: &'a str, value: &'a str, help: &'a str) -> Arg<'a>
     ensures rule { rule_of result ≡ option_rule name.entry.now }
     ensures local { result.global ≡ false }
 {
@@ -42,7 +42,7 @@ pub(crate) fn option<'a>(alloc: Global, name: &'a str, value: &'a str, help: &'a
 }
 
 /// One whose value has to be a number within limits.
-pub(crate) fn limited<'a>(
+pub fn limited<'a>(
     alloc: Global,
     name: &'a str,
     value: &'a str,
@@ -68,7 +68,7 @@ pub fn number<'a>(matches: &ArgMatches<'a>, id: &str, least: u32, most: u32) -> 
 }
 
 /// Whether a flag is there.
-pub(crate) fn is_set<'a>(matches: &ArgMatches<'a>, id: &str) -> bool
+pub fn is_set<'a>(matches: &ArgMatches<'a>, id: &str) -> bool
     ensures { (result ≡ true) ↔ (first_value (found_of matches.now) id.now ≡ Some (codes "true")) }
 {
     match matches.get_str(id) {

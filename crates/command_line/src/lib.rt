@@ -1,19 +1,16 @@
-//! What the programs do before they run: the standard streams, the words of each command line, refused command
-//! lines, the files of configurations and the exit statuses.
+//! What the programs share before they run: the standard streams, the words of a command line and its arguments,
+//! refused command lines, the files of configurations and the exit statuses.
 #![tactic(auto)]
 
-pub mod accessd_words;
-pub mod accesslab_words;
 mod arguments;
 mod causes;
 mod configuration;
-pub mod leases_words;
 mod refusal;
 mod standard_streams;
 mod status;
 mod words;
 
-pub use arguments::{config_arg, number};
+pub use arguments::{config_arg, flag, is_set, limited, number, option};
 pub use causes::{complain_of, reading_cause, socket_cause, writing_cause};
 pub use configuration::{read_configuration, read_plans};
 pub use refusal::Refusal;

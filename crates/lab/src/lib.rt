@@ -13,7 +13,6 @@ mod preparations;
 mod status;
 
 pub use bad_line::BadLine;
-pub use command_line::accesslab_words::{LabWords, words};
 pub use engine::lab;
 pub use opening::{run, run_explained};
 pub use status::{BAD_LINE, DONE};

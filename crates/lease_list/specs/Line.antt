@@ -5,8 +5,8 @@ use Rattle.serde_json.specs.Written.{compact_text}
 use Rattle.lease_list.specs.declared.lease.Lease.{Lease}
 use Rattle.region_reading.specs.declared.closed.Closed.{Closed}
 use Rattle.region_reading.specs.declared.closed.Closed.TheVariants.{Damaged, Unreadable, Busy}
-use Rattle.command_line.specs.declared.leases_words.Form.{Form}
-use Rattle.command_line.specs.declared.leases_words.Form.TheVariants.{Text, Json}
+use Rattle.lease_list.specs.declared.form.Form.{Form}
+use Rattle.lease_list.specs.declared.form.Form.TheVariants.{Text, Json}
 use Rattle.lease_list.specs.Lease.{until_of}
 use Rattle.lease_list.specs.Row.{IsDate, Texts, texts_of, line_text, line_data, text_data}
 

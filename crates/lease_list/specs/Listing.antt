@@ -5,9 +5,9 @@ use Rattle.std.specs.declared.alloc.Global.{Global}
 use Rattle.types.specs.declared.slots.Slots.{Slots}
 use Rattle.config.specs.CircuitPart.{CircuitPart, pool4_of, pool6_of}
 use Rattle.region_reading.specs.declared.closed.Closed.{Closed}
-use Rattle.command_line.specs.declared.leases_words.Form.{Form}
-use Rattle.command_line.specs.declared.leases_words.What.{What}
-use Rattle.command_line.specs.declared.leases_words.What.TheVariants.{Leases, Pools}
+use Rattle.lease_list.specs.declared.form.Form.{Form}
+use Rattle.lease_list.specs.declared.form.What.{What}
+use Rattle.lease_list.specs.declared.form.What.TheVariants.{Leases, Pools}
 use Rattle.lease_list.specs.declared.lease.Lease.{Lease}
 use Rattle.lease_list.specs.Lease.{leases_at}
 use Rattle.lease_list.specs.Line.{IsLeaseLine, closed_written}

@@ -9,8 +9,8 @@ use Rattle.types.specs.Pool4.{PoolValue}
 use Rattle.types.specs.Pool6.{Pool6Value}
 use Rattle.types.specs.declared.dest.Proto.{Proto}
 use Rattle.types.specs.declared.dest.Proto.TheVariants as proto
-use Rattle.command_line.specs.declared.leases_words.Form.{Form}
-use Rattle.command_line.specs.declared.leases_words.Form.TheVariants.{Text, Json}
+use Rattle.lease_list.specs.declared.form.Form.{Form}
+use Rattle.lease_list.specs.declared.form.Form.TheVariants.{Text, Json}
 use Rattle.lease_list.specs.declared.lease.Lease.{Lease}
 use Rattle.lease_list.specs.declared.lease.Lease.TheVariants.{V4, V6}
 use Rattle.lease_list.specs.declared.pool.Usage.{Usage}

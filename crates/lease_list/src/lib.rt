@@ -3,6 +3,7 @@
 #![tactic(auto)]
 
 mod clock;
+mod form;
 mod lease;
 mod line;
 mod listing;
@@ -12,7 +13,7 @@ mod pool_row;
 mod row;
 
 pub use clock::moment_of;
-pub use command_line::leases_words::{Form, LeaseWords, What, words};
+pub use form::{Form, What};
 pub use lease::{Lease, leases};
 pub use line::{closed_line, lease_line};
 pub use listing::circuit_lines;

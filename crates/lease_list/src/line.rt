@@ -4,9 +4,9 @@ ghost use Rattle.serde_json.specs.View.{members_view, view};
 ghost use Rattle.lease_list.specs.Line.{IsLeaseLine, closed_data, closed_written, state_of, why_of, with_client, with_end, with_place, written};
 ghost use Rattle.lease_list.specs.Row.{line_data};
 
+use crate::form::Form;
 use crate::lease::Lease;
 use crate::row::Row;
-use command_line::leases_words::Form;
 use region_reading::Closed;
 use serde_json::{Map, ToValue, Value, json, put};
 use std::alloc::{AllocError, Global};

@@ -5,11 +5,11 @@ ghost use Rattle.lease_list.specs.Lease.{leases_at};
 ghost use Rattle.lease_list.specs.Line.{IsLeaseLine, closed_written};
 ghost use Rattle.lease_list.specs.Listing.{AreLines, pool_texts};
 
+use crate::form::{Form, What};
 use crate::lease::{Lease, leases};
 use crate::line::{closed_line, lease_line};
 use crate::pool_line::pool_line;
 use crate::pool_row::PoolRow;
-use command_line::leases_words::{Form, What};
 use config::CircuitPart;
 use region_reading::Closed;
 use std::alloc::{AllocError, Global};

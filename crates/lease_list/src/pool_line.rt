@@ -3,9 +3,9 @@ ghost use Rattle.std.specs.Prelude.{◌≡◌, IfOk, OnOk, string_bytes};
 ghost use Rattle.serde_json.specs.View.{members_view, view};
 ghost use Rattle.lease_list.specs.Pool.{pool_data, pool_written, proto_number, with_pool, with_range, with_usage};
 
+use crate::form::Form;
 use crate::pool::Usage;
 use crate::pool_row::PoolRow;
-use command_line::leases_words::Form;
 use serde_json::{Map, ToValue, Value, put};
 use std::alloc::{AllocError, Global};
 use types::Proto;

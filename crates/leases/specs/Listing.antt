@@ -3,8 +3,8 @@ use Rattle.std.specs.Prelude.{◌≡◌, ℕ, List, Result, Ok, Err, true, Strin
 use Rattle.std.specs.declared.alloc.Global.{Global}
 use Rattle.types.specs.declared.slots.Slots.{Slots}
 use Rattle.config.specs.CircuitPart.{CircuitPart}
-use Rattle.command_line.specs.declared.leases_words.Form.{Form}
-use Rattle.command_line.specs.declared.leases_words.What.{What}
+use Rattle.lease_list.specs.declared.form.Form.{Form}
+use Rattle.lease_list.specs.declared.form.What.{What}
 use Rattle.region_reading.specs.declared.closed.Closed.{Closed}
 use Rattle.region_reading.specs.declared.closed.Closed.TheVariants.{Damaged, Unreadable, Busy}
 use Rattle.region_reading.specs.CircuitSlots.{AreCircuitSlots}

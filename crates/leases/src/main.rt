@@ -5,6 +5,9 @@ ghost use Rattle.std.specs.Prelude.{◌≡◌, ◌⊎◌, IfErr, IfOk};
 ghost use Rattle.leases.specs.Listing.{HasListed, Keeps, with_found};
 ghost use Rattle.leases.specs.Status.{IsExitStatus, file_status, noted_status};
 
+mod words;
+
+use crate::words::LeaseWords;
 use command_line::{
     FAILED, StandardStreams, UNOPENED, complain, complain_of, given_words, read_configuration,
     reading_cause,
@@ -12,7 +15,7 @@ use command_line::{
 use config::{CircuitPart, Config};
 use dispatch::region_count;
 use lease_disk::REGION;
-use lease_list::{Form, LeaseWords, What, circuit_lines, moment_of};
+use lease_list::{Form, What, circuit_lines, moment_of};
 use region_reading::{Closed, FileFault, RegionFile, circuit_slots};
 use std::alloc::AllocError;
 use std::process::ExitCode;
@@ -194,7 +197,7 @@ fn status(rt: &HostRuntime) -> u8
         Ok(given) => given,
         Err(status) => return status,
     };
-    match lease_list::words(rt.alloc(), &given) {
+    match words::words(rt.alloc(), &given) {
         Ok(values) => run(rt, values),
         Err(refusal) => refusal.show(rt),
     }

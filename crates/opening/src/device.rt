@@ -5,7 +5,6 @@ ghost use Rattle.settings.specs.declared.settings.CircuitConfig.{CircuitConfig};
 ghost use Rattle.lease_disk.specs.Crash.{IsFormatted};
 ghost use Rattle.lease_disk.specs.FileDisk.{uncalled};
 
-use command_line::accessd_words::AccessWords;
 use config::Config;
 use dispatch::region_count;
 use lease_disk::{Disk, FileDisk, FileFault, format};
@@ -79,18 +78,19 @@ pub fn format_device<R: Files<File = File>>(
     Ok(disk)
 }
 
-/// Opens the file that the words name as the device of a configuration: as it is, or formatted where they ask for that.
+/// Opens the file with this path as the device of a configuration: as it is, or formatted where `formats` says so.
 pub fn device_of<R: Files<File = File>>(
     rt: &R,
-    words: &AccessWords<'_>,
+    path: &str,
+    formats: bool,
     config: &Config,
 ) -> Result<FileDisk, DeviceFault>
-    ensures formats { words.now.format ≡ true → length config.now.circuits ≤ 16 → IfOk result (λ disk. disk.writes ≡ 4 * length config.now.circuits) }
-    ensures opens { words.now.format ≡ false → IfOk result (λ disk. disk ≡ uncalled disk.length) }
+    ensures formats { formats ≡ true → length config.now.circuits ≤ 16 → IfOk result (λ disk. disk.writes ≡ 4 * length config.now.circuits) }
+    ensures opens { formats ≡ false → IfOk result (λ disk. disk ≡ uncalled disk.length) }
 {
-    if words.format {
-        format_device(rt, words.disk, config)
+    if formats {
+        format_device(rt, path, config)
     } else {
-        open_device(rt, words.disk)
+        open_device(rt, path)
     }
 }

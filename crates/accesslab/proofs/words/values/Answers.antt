@@ -5,7 +5,7 @@ use Rattle.std.proofs.lemmas.Option.{same_Some}
 use Rattle.clap.specs.Words.{first_of, found_of, rows_of}
 use Rattle.clap.proofs.WalkLemmas.{first_value-rows, raw_values-rows}
 use Rattle.command_line.specs.CommandLine.{IsNumber}
-use Rattle.command_line.proofs.accesslab_words.values.Goals as goal
+use Rattle.accesslab.proofs.words.values.Goals as goal
 
 -- what the test of a length says
 is_none : (n : ℕ) (b : Bool) → b ≡ (n == 0) → b ≡ true → n ≡ 0

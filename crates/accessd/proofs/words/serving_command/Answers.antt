@@ -1,7 +1,7 @@
 use Rattle.std.proofs.Common.{◌∙◌, ap₂}
 use Rattle.std.proofs.lemmas.Result.{IfOk-weaker}
 use Rattle.clap.specs.Words.{with_rule}
-use Rattle.command_line.proofs.accessd_words.serving_command.Goals as goal
+use Rattle.accessd.proofs.words.serving_command.Goals as goal
 
 pub returns : goal.returns
 returns c =

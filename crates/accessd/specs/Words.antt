@@ -5,7 +5,7 @@ use Rattle.clap.specs.Simple.{on_top}
 use Rattle.clap.specs.declared.builder.ArgAction.TheVariants.{Set, SetTrue}
 use Rattle.clap.specs.declared.builder.value_parser.ValueParser.TheVariants as parser
 use Rattle.command_line.specs.CommandLine.{IsNumber, config_rule}
-use Rattle.command_line.specs.declared.accessd_words.AccessWords.{AccessWords}
+use Rattle.accessd.specs.declared.words.AccessWords.{AccessWords}
 
 -- `--disk FILE`, which is required
 abbrev pub disk_rule : Rule

@@ -2,11 +2,10 @@
 ghost use Rattle.std.specs.Prelude.{◌≡◌, ℕ, List, false, map, string_bytes, IfOk, IfErr, IfSome, IsNone};
 ghost use Rattle.clap.specs.Words.{Text, app_of, rule_of, found_of, rows_of};
 ghost use Rattle.command_line.specs.CommandLine.{IsRefused};
-ghost use Rattle.command_line.specs.AccesslabWords.{configs_rule, quota_rule, bare_app, lab_app, HasValues, Spells, SpellsSomething};
+ghost use Rattle.accesslab.specs.Words.{configs_rule, quota_rule, bare_app, lab_app, HasValues, Spells, SpellsSomething};
 
-use crate::arguments::number;
-use crate::refusal::Refusal;
 use clap::{Arg, ArgAction, ArgMatches, Command};
+use command_line::{Refusal, number};
 use config::MAX_PLANS;
 use std::alloc::{AllocError, Global};
 

@@ -2,10 +2,10 @@ use Rattle.std.proofs.Common.{◌≡◌, ◌∙◌, ℕ, List, sym, subst, codes
 use Rattle.std.specs.Prelude.{Option, Some, None, ◌↔◌}
 use Rattle.clap.specs.Words.{found_of}
 use Rattle.clap.proofs.WalkLemmas.{first_value-rows}
-use Rattle.command_line.specs.declared.leases_words.Form.TheVariants.{Json}
-use Rattle.command_line.specs.declared.leases_words.What.TheVariants.{Pools}
-use Rattle.command_line.specs.LeasesWords.{IsMoment}
-use Rattle.command_line.proofs.leases_words.values.Goals as goal
+use Rattle.lease_list.specs.declared.form.Form.TheVariants.{Json}
+use Rattle.lease_list.specs.declared.form.What.TheVariants.{Pools}
+use Rattle.leases.specs.Words.{IsMoment}
+use Rattle.leases.proofs.words.values.Goals as goal
 
 -- nothing is not something
 not_there : (o : Option (List ℕ)) (a : List ℕ) → None ≡ o → o ≡ Some a → ⊥

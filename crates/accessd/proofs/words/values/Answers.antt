@@ -3,7 +3,7 @@ use Rattle.std.specs.Prelude.{Option, Some, None, ◌↔◌}
 use Rattle.clap.specs.Words.{found_of}
 use Rattle.clap.proofs.WalkLemmas.{first_value-rows}
 use Rattle.command_line.specs.CommandLine.{IsNumber}
-use Rattle.command_line.proofs.accessd_words.values.Goals as goal
+use Rattle.accessd.proofs.words.values.Goals as goal
 
 -- nothing is not something
 not_there : (o : Option (List ℕ)) (a : List ℕ) → None ≡ o → o ≡ Some a → ⊥

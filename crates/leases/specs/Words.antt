@@ -4,10 +4,10 @@ use Rattle.clap.specs.Words.{App, Row, Rule, Text, new_app, new_rule, with_rule,
 use Rattle.clap.specs.Simple.{on_top}
 use Rattle.clap.specs.declared.builder.ArgAction.TheVariants.{Set, SetTrue}
 use Rattle.clap.specs.declared.builder.value_parser.ValueParser.TheVariants as parser
-use Rattle.command_line.specs.declared.leases_words.Form.{Form}
-use Rattle.command_line.specs.declared.leases_words.Form.TheVariants.{Json}
-use Rattle.command_line.specs.declared.leases_words.What.{What}
-use Rattle.command_line.specs.declared.leases_words.What.TheVariants.{Pools}
+use Rattle.lease_list.specs.declared.form.Form.{Form}
+use Rattle.lease_list.specs.declared.form.Form.TheVariants.{Json}
+use Rattle.lease_list.specs.declared.form.What.{What}
+use Rattle.lease_list.specs.declared.form.What.TheVariants.{Pools}
 use Rattle.command_line.specs.CommandLine.{IsNumber, config_rule}
 
 -- `--disk FILE`, which is required

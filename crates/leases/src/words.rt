@@ -3,29 +3,14 @@ ghost use Rattle.std.specs.Prelude.{◌≡◌, ◌↔◌, ℕ, List, Option, Som
 ghost use Rattle.std.specs.Prelude.{codes, string_bytes, IfOk, IfErr, IfSome, IsNone};
 ghost use Rattle.clap.specs.Words.{app_of, rule_of, found_of, first_value, rows_of};
 ghost use Rattle.command_line.specs.CommandLine.{IsRefused};
-ghost use Rattle.command_line.specs.LeasesWords.{at_rule, disk_rule, json_rule, pools_rule};
-ghost use Rattle.command_line.specs.LeasesWords.{bare_app, leases_app, HasValues, IsMoment, Spells, SpellsSomething};
+ghost use Rattle.leases.specs.Words.{at_rule, disk_rule, json_rule, pools_rule};
+ghost use Rattle.leases.specs.Words.{bare_app, leases_app, HasValues, IsMoment, Spells, SpellsSomething};
 
-use crate::arguments::{config_arg, flag, is_set, limited, option};
-use crate::refusal::Refusal;
 use clap::{Arg, ArgMatches, Command};
+use command_line::{Refusal, config_arg, flag, is_set, limited, option};
+use lease_list::{Form, What};
 use std::alloc::{AllocError, Global};
 use types::LAST_MOMENT;
-
-/// What is listed.
-#[derive(Clone, Copy)]
-pub enum What {
-    Leases,
-    /// What the leases take of each pool.
-    Pools,
-}
-
-/// How the lines are written.
-#[derive(Clone, Copy)]
-pub enum Form {
-    Text,
-    Json,
-}
 
 /// The values of the words after the program's name.
 #[derive(Clone, Copy)]

@@ -2,14 +2,14 @@ use Rattle.std.proofs.Common.{◌≡◌, ◌∙◌, sym, ap, subst, true, refl, 
 use Rattle.std.specs.Prelude.{string_bytes}
 use Rattle.clap.specs.Words.{HasKind, is_simple, is_simple_and_free, fault_of, matches_of}
 use Rattle.clap.proofs.OnLiterals.{clap_on_literals}
-use Rattle.command_line.specs.AccessdWords.{access_app, HasValues}
-use Rattle.command_line.proofs.accessd_words.words.Goals as goal
+use Rattle.leases.specs.Words.{leases_app, HasValues}
+use Rattle.leases.proofs.words.words.Goals as goal
 
-simple : is_simple access_app ≡ true
+simple : is_simple leases_app ≡ true
 unfolding clap_on_literals
 simple = refl
 
-free : is_simple_and_free access_app ≡ true
+free : is_simple_and_free leases_app ≡ true
 unfolding clap_on_literals
 free = refl
 
@@ -20,7 +20,7 @@ returns-clause-values c =
     let rows = (parsed.matches (ap is_simple c.in-Ok.ensures ∙ simple)).0 ∙ ap (λ a. matches_of a words) c.in-Ok.ensures in
     record {
       right = ap (λ a. fault_of a words) (sym c.in-Ok.ensures) ∙ parsed.kinds (ap is_simple_and_free c.in-Ok.ensures ∙ free);
-      values = subst (λ given. HasValues given c.in-Some.values) rows c.in-Some.ensures.some;
+      values = subst (λ given. HasValues given c.in-Some.values.config.now c.in-Some.values.disk.now c.in-Some.values.at c.in-Some.values.what c.in-Some.values.form) rows c.in-Some.ensures.some;
     }
 
 pub returns-in-Err-clause-refused : goal.returns-in-Err-clause-refused
@@ -29,8 +29,8 @@ returns-in-Err-clause-refused c =
     subst (λ a. HasKind (fault_of a words) c.in-Err.error) c.in-Ok.ensures (c.in-Err.ensures.kinds (ap is_simple_and_free c.in-Ok.ensures ∙ free))
 
 pub returns-in_default-values-clause-refused : goal.returns-in_default-values-clause-refused
-returns-in_default-values-clause-refused c = λ (values, spells).
+returns-in_default-values-clause-refused c = λ (config, disk, moment, what, form, spells).
     let words = map string_bytes c.args.words.now in
     let parsed = c.in-Ok-try_get_matches_from.ensures in
     let rows = (parsed.matches (ap is_simple c.in-Ok.ensures ∙ simple)).0 ∙ ap (λ a. matches_of a words) c.in-Ok.ensures in
-    c.in_default-values.ensures.none refl values (subst (λ given. HasValues given values) (sym rows) spells.values)
+    c.in_default-values.ensures.none refl config disk moment what form (subst (λ given. HasValues given config disk moment what form) (sym rows) spells.values)

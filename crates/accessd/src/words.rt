@@ -3,13 +3,12 @@ ghost use Rattle.std.specs.Prelude.{◌≡◌, false, map};
 ghost use Rattle.std.specs.Prelude.{string_bytes, IfOk, IfErr, IfSome, IsNone};
 ghost use Rattle.clap.specs.Words.{app_of, rule_of, found_of, rows_of};
 ghost use Rattle.command_line.specs.CommandLine.{IsRefused};
-ghost use Rattle.command_line.specs.AccessdWords.{batch_rule, disk_rule, format_rule, leases_rule, pause_rule, port_rule, report_rule, turns_rule};
-ghost use Rattle.command_line.specs.AccessdWords.{bare_app, base_app, serving_app, access_app, HasValues, Spells, SpellsSomething};
-ghost use Rattle.command_line.specs.declared.accessd_words.AccessWords as access;
+ghost use Rattle.accessd.specs.Words.{batch_rule, disk_rule, format_rule, leases_rule, pause_rule, port_rule, report_rule, turns_rule};
+ghost use Rattle.accessd.specs.Words.{bare_app, base_app, serving_app, access_app, HasValues, Spells, SpellsSomething};
+ghost use Rattle.accessd.specs.declared.words.AccessWords as access;
 
-use crate::arguments::{config_arg, flag, is_set, limited, number, option};
-use crate::refusal::Refusal;
 use clap::{Arg, ArgMatches, Command};
+use command_line::{Refusal, config_arg, flag, is_set, limited, number, option};
 use std::alloc::{AllocError, Global};
 
 const MAX_TURNS: u32 = 1_000_000;
