@@ -1,7 +1,7 @@
 //! A circuit's line of a report.
-ghost use Rattle.std.specs.Prelude.{◌≡◌, ◌||◌, ◌<◌, ◌↔◌, not, IsTrue, Some, nat_lt, false};
+ghost use Rattle.std.specs.Prelude.{◌≡◌, ◌||◌, Some, false, nat_lt};
 ghost use Rattle.std.specs.Fmt.{WritesOnOk};
-ghost use Rattle.reports.specs.CircuitLine.{circuit_text, declined_part, dropped_part, dropped_parts, end_text, has_parts, joined, lead, number_dropped};
+ghost use Rattle.reports.specs.CircuitLine.{circuit_text, declined_part, dropped_part, dropped_parts, end_text, has_parts, joined, lead};
 
 use counts::{Counts, REASONS};
 use std::fmt;
