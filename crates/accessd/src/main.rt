@@ -5,6 +5,7 @@ ghost use Rattle.std.specs.Prelude.{◌≡◌, ◌≤◌, ◌⊎◌, ◌*◌, tr
 ghost use Rattle.lease_disk.specs.FileDisk.{uncalled};
 ghost use Rattle.accessd.specs.Status.{IsExitStatus, status_of, device_status};
 
+mod report_lines;
 mod reporter;
 mod text;
 mod words;

@@ -1,0 +1,2 @@
+pub mod CircuitLineLemmas
+pub mod LawLemmas
