@@ -5,14 +5,14 @@ ghost use Rattle.std.specs.Prelude.{◌≡◌, ◌≤◌, ◌⊎◌, ℕ, List, 
 ghost use Rattle.std.specs.Io.Buffered.{writer_contents};
 ghost use Rattle.std.specs.Io.KnownBytes.{Appends, Keeps};
 ghost use Rattle.accesslab.specs.Status.{IsExitStatus};
-ghost use Rattle.lab.specs.Lab.{lab_output};
+ghost use Rattle.lab_engine.specs.Lab.{lab_output};
 
 mod words;
 
 use crate::words::LabWords;
 use command_line::{FAILED, StandardStreams, UNOPENED, complain, given_words, read_plans};
 use config::Plans;
-use lab::{BAD_LINE, BadLine, StdReader, StdWriter};
+use lab_engine::{BAD_LINE, BadLine, StdReader, StdWriter};
 use std::alloc::Global;
 use std::io::{self, BufWriter, Read, Write};
 use std::process::ExitCode;
@@ -48,7 +48,14 @@ fn run_over<R: Read + Drop, W: Write + Drop>(
     };
     let mut reader = StdReader::new(reader);
     let mut writer = StdWriter::new(writer);
-    let status = lab::run_explained(alloc, plans, values.quota, &mut reader, &mut writer, bad);
+    let status = lab_engine::run_explained(
+        alloc,
+        plans,
+        values.quota,
+        &mut reader,
+        &mut writer,
+        bad,
+    );
     if status == UNOPENED || status == FAILED {
         return (status, None);
     }

@@ -3,8 +3,8 @@ use Rattle.std.specs.Prelude.{◌≡◌, ℕ, List, ◌++◌, Option, codes}
 use Rattle.serde_json.specs.Data.{Data, Members, number, string, object, unsigned, no_members, member, put}
 use Rattle.serde_json.specs.Written.{compact_text}
 use Rattle.lease_list.specs.declared.lease.Lease.{Lease}
-use Rattle.region_reading.specs.declared.closed.Closed.{Closed}
-use Rattle.region_reading.specs.declared.closed.Closed.TheVariants.{Damaged, Unreadable, Busy}
+use Rattle.region_reader.specs.declared.closed.Closed.{Closed}
+use Rattle.region_reader.specs.declared.closed.Closed.TheVariants.{Damaged, Unreadable, Busy}
 use Rattle.lease_list.specs.declared.form.Form.{Form}
 use Rattle.lease_list.specs.declared.form.Form.TheVariants.{Text, Json}
 use Rattle.lease_list.specs.Lease.{until_of}

@@ -4,7 +4,7 @@ use Rattle.std.specs.List.{AllZip}
 use Rattle.std.specs.declared.alloc.Global.{Global}
 use Rattle.types.specs.declared.slots.Slots.{Slots}
 use Rattle.config.specs.CircuitPart.{CircuitPart, pool4_of, pool6_of}
-use Rattle.region_reading.specs.declared.closed.Closed.{Closed}
+use Rattle.region_reader.specs.declared.closed.Closed.{Closed}
 use Rattle.lease_list.specs.declared.form.Form.{Form}
 use Rattle.lease_list.specs.declared.form.What.{What}
 use Rattle.lease_list.specs.declared.form.What.TheVariants.{Leases, Pools}

@@ -7,7 +7,7 @@ ghost use Rattle.lease_list.specs.Row.{line_data};
 use crate::form::Form;
 use crate::lease::Lease;
 use crate::row::Row;
-use region_reading::Closed;
+use region_reader::Closed;
 use serde_json::{Map, ToValue, Value, json, put};
 use std::alloc::{AllocError, Global};
 

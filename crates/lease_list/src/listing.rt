@@ -11,7 +11,7 @@ use crate::line::{closed_line, lease_line};
 use crate::pool_line::pool_line;
 use crate::pool_row::PoolRow;
 use config::CircuitPart;
-use region_reading::Closed;
+use region_reader::Closed;
 use std::alloc::{AllocError, Global};
 use types::{CircuitId, Slots};
 

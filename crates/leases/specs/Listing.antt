@@ -5,9 +5,9 @@ use Rattle.types.specs.declared.slots.Slots.{Slots}
 use Rattle.config.specs.CircuitPart.{CircuitPart}
 use Rattle.lease_list.specs.declared.form.Form.{Form}
 use Rattle.lease_list.specs.declared.form.What.{What}
-use Rattle.region_reading.specs.declared.closed.Closed.{Closed}
-use Rattle.region_reading.specs.declared.closed.Closed.TheVariants.{Damaged, Unreadable, Busy}
-use Rattle.region_reading.specs.CircuitSlots.{AreCircuitSlots}
+use Rattle.region_reader.specs.declared.closed.Closed.{Closed}
+use Rattle.region_reader.specs.declared.closed.Closed.TheVariants.{Damaged, Unreadable, Busy}
+use Rattle.region_reader.specs.CircuitSlots.{AreCircuitSlots}
 use Rattle.lease_list.specs.Listing.{AreLines}
 use Rattle.leases.specs.declared.Noted.{Noted}
 

@@ -1,7 +1,7 @@
 -- The exit statuses of the program.
 use Rattle.std.specs.Prelude.{◌≡◌, ◌⊎◌, ℕ, if◌then◌else◌}
-use Rattle.region_reading.specs.declared.region_file.FileFault.{FileFault}
-use Rattle.region_reading.specs.declared.region_file.FileFault.TheVariants.{File, Memory}
+use Rattle.region_reader.specs.declared.region_file.FileFault.{FileFault}
+use Rattle.region_reader.specs.declared.region_file.FileFault.TheVariants.{File, Memory}
 use Rattle.leases.specs.declared.Noted.{Noted}
 
 -- 0 where every circuit was listed, 2 where words or configuration are refused, 3 where a circuit is closed, 4 where

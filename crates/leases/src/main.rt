@@ -16,7 +16,7 @@ use config::{CircuitPart, Config};
 use dispatch::region_count;
 use lease_disk::REGION;
 use lease_list::{Form, What, circuit_lines, moment_of};
-use region_reading::{Closed, FileFault, RegionFile, circuit_slots};
+use region_reader::{Closed, FileFault, RegionFile, circuit_slots};
 use std::alloc::AllocError;
 use std::process::ExitCode;
 use std::rt::Clock;

@@ -4,7 +4,7 @@ ghost use Rattle.std.specs.Prelude.{◌<◌};
 use command_line::FAILED;
 use config::Plans;
 use fixtures::ONE_CIRCUIT;
-use lab::*;
+use lab_engine::*;
 use std::alloc::{AllocError, Global};
 use std::io::{self, ErrorKind, Read, Write};
 

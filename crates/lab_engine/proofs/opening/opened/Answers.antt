@@ -1,0 +1,14 @@
+use Rattle.std.proofs.Common.{length, refl}
+use Rattle.lease_disk.specs.Model.{device_of, state_of}
+use Rattle.lab_engine.proofs.StartLemmas.{are_synced, memory_lacks, represents_ok}
+use Rattle.lab_engine.proofs.opening.opened.Goals as goal
+
+pub open_plans-requires-clause-synced : goal.open_plans-requires-clause-synced
+open_plans-requires-clause-synced c = are_synced c.args.plans.now.union (length c.args.disk.regions) (state_of c.args.disk) c.requires.regions c.requires.ready
+
+pub returns-clause-represents : goal.returns-clause-represents
+returns-clause-represents c =
+    represents_ok c.args.plans.now c.args.quota (length c.args.disk.regions) (device_of c.args.disk) c.open_plans.result c.requires.regions c.requires.ready c.open_plans.ensures.starts
+
+pub returns-clause-memory : goal.returns-clause-memory
+returns-clause-memory c = memory_lacks c.args.plans.now.union (length c.args.disk.regions) _ c.open_plans.result c.requires.regions refl c.open_plans.ensures.small

@@ -1,4 +1,0 @@
-use Rattle.refusals.proofs.steps.open_over.Goals as goal
-
-pub open_plans-requires-clause-synced : goal.open_plans-requires-clause-synced
-open_plans-requires-clause-synced c = λ k d within readable. c.requires.synced _
