@@ -13,6 +13,7 @@ CLONE_NEWUSER, CLONE_NEWNET = 0x10000000, 0x40000000
 TUNSETIFF, IFF_TAP, IFF_NO_PI = 0x400454CA, 2, 0x1000
 SIOCSIFADDR, SIOCSIFNETMASK, SIOCGIFFLAGS, SIOCSIFFLAGS, SIOCGIFHWADDR = 0x8916, 0x891C, 0x8913, 0x8914, 0x8927
 IFF_UP = 1
+TUN = "/dev/net/tun"
 
 
 def change(request, name, value=b""):
@@ -48,7 +49,7 @@ class Wire:
 
     def __init__(self, name, *addresses):
         self.name = name
-        self.cable = os.open("/dev/net/tun", os.O_RDWR | os.O_NONBLOCK)
+        self.cable = os.open(TUN, os.O_RDWR | os.O_NONBLOCK)
         fcntl.ioctl(self.cable, TUNSETIFF, struct.pack("16sH22s", name.encode(), IFF_TAP | IFF_NO_PI, b""))
         # nobody else can have its link-local address, which counts at once then
         Path(f"/proc/sys/net/ipv6/conf/{name}/accept_dad").write_text("0")
