@@ -151,7 +151,7 @@ def looks(pool):
 
 
 def answers_of(lines):
-    run = subprocess.run(["datagrams", "config.toml"], input=expand("\n".join(lines) + "\n"), capture_output=True, text=True)
+    run = subprocess.run(["forged_datagrams", "config.toml"], input=expand("\n".join(lines) + "\n"), capture_output=True, text=True)
     return run.stdout.splitlines()
 
 

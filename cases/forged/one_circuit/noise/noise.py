@@ -57,7 +57,7 @@ def lines():
 
 
 def answers(texts):
-    run = subprocess.run(["datagrams", "config.toml"], input="".join(f"{text}\n" for text in texts),
+    run = subprocess.run(["forged_datagrams", "config.toml"], input="".join(f"{text}\n" for text in texts),
                          capture_output=True, text=True, check=True)
     return run.stdout.splitlines()
 
