@@ -23,7 +23,7 @@ def leased6(message):
                     yield int.from_bytes(address[:16], "big")
 
 
-class Carried:
+class BridgedCircuit:
     """What is served of the circuit of this id, over this file of leases, at one moment."""
 
     def __init__(self, file, circuit):
@@ -53,7 +53,7 @@ class Carried:
 
     def now(self):
         """The same as it is kept now, where its ports and its gateway are still these. Else the bridge has to begin anew."""
-        other = Carried(self.file, self.circuit)
+        other = BridgedCircuit(self.file, self.circuit)
         if (other.port, other.gateway) != (self.port, self.gateway):
             raise Refused(5, f"circuit \"{self.circuit}\" is served on other ports or by another gateway now: this bridge ends")
         return other
