@@ -8,7 +8,7 @@ use Rattle.types.specs.declared.dest.Proto.TheVariants.{V4, V6}
 use Rattle.udp.specs.Socket.{SocketValue}
 use Rattle.types.specs.declared.discard.Discard.{Discard}
 use Rattle.dispatch.specs.Answers.{answer_of}
-use Rattle.dispatch.specs.declared.batch_answers.Answer.{Answer}
+use Rattle.dispatch.specs.declared.server.batch_answers.Answer.{Answer}
 use Rattle.udp.specs.History.{Entry}
 use Rattle.udp.specs.declared.history.Role.{Role}
 use Rattle.udp.specs.declared.history.Role.TheVariants as role

@@ -6,6 +6,7 @@ pub mod CalledLemmas
 pub mod ClosedLemmas
 pub mod HeldDeadlines
 pub mod OneByOne
+pub mod OneServer
 pub mod PartLemmas
 pub mod PlaceLemmas
 pub mod ReceivedLemmas

@@ -17,7 +17,7 @@ use Rattle.circuit_server.specs.declared.prepared.Prepared.{Prepared}
 use Rattle.timers.specs.Deadlines.{DeadlinesValue, deadline}
 use Rattle.circuit_server.specs.Deadlines.{held_in}
 use Rattle.dispatch.specs.Batch.{is_circuit, is_named}
-use Rattle.dispatch.specs.Deadlines.{AllAreOldOrHeld, KeepsDeadlines}
+use Rattle.dispatch.specs.Deadlines.{AllUnchangedOrUntilHeld, KeepsDeadlines}
 use Rattle.dispatch.specs.Parts.{AreDecided, IsDecided, IsOf, IsPart, has_named}
 use Rattle.dispatch.proofs.HeldDeadlines.{kept_both, kept_wider, then_held}
 
@@ -159,7 +159,7 @@ module _ (topology : Topology) (ds : List DeliveryValue) (i : ℕ) (d : Delivery
   }
 
   -- the deadlines of a circuit that no part before was of are those from before the batch
-  pub held_more : (start middle later : DeadlinesValue) → KeepsDeadlines (is_named topology (take i ds)) start middle → AllAreOldOrHeld start middle now → AllAreOldOrHeld middle later new → AllAreOldOrHeld start later new
+  pub held_more : (start middle later : DeadlinesValue) → KeepsDeadlines (is_named topology (take i ds)) start middle → AllUnchangedOrUntilHeld start middle now → AllUnchangedOrUntilHeld middle later new → AllUnchangedOrUntilHeld start later new
   held_more start middle later kept before step k state there s below = by (is_named topology (take i ds) k) refl where
     by : (b : Bool) → is_named topology (take i ds) k ≡ b → (deadline later (32 * k + s) ≡ deadline start (32 * k + s)) ⊎ (deadline later (32 * k + s) ≡ held_in state s)
     by true e =

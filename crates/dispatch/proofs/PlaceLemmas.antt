@@ -3,7 +3,7 @@ use Rattle.std.proofs.Common.{◌≡◌, ◌<◌, ◌≤◌, ◌+◌, ℕ, zero,
 use Rattle.std.specs.Prelude.{Result}
 use Rattle.types.specs.declared.discard.Discard.{Discard}
 use Rattle.dispatch.specs.Answers.{answer_of}
-use Rattle.dispatch.specs.declared.batch_answers.Answer.{Answer}
+use Rattle.dispatch.specs.declared.server.batch_answers.Answer.{Answer}
 
 next_added : (n : ℕ) (places : List Answer) (a : Answer) (answer : Result (List ℕ) Discard) → n < length places → answer_of a ≡ answer → map answer_of (take (suc n) (set places n a)) ≡ map answer_of (take n places) ++ answer ∷ []
 next_added n [] a answer within is = absurd (omega (arith, within))

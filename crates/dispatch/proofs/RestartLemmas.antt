@@ -7,8 +7,8 @@ use Rattle.config.specs.CircuitPart.{CircuitPart}
 use Rattle.config.specs.Topology.{RegionsDiffer}
 use Rattle.lease_disk.specs.Device.{Device, ChangesOne}
 use Rattle.lease_disk.specs.Region.{Region}
-use Rattle.circuit_server.specs.Leases.{IsBroughtUp, counts_of, found_leases, region_leases}
-use Rattle.dispatch.specs.Regions.{AreBroughtUp, KeepsOthers}
+use Rattle.circuit_server.specs.Leases.{IsRegionMigrated, counts_of, found_leases, region_leases}
+use Rattle.dispatch.specs.Regions.{AreRegionsMigrated, KeepsOthers}
 use Rattle.circuit_server.specs.CircuitServerValue.{CircuitServerValue, IsReady, IsReadyFor, OpenCircuitValue, leases_of}
 use Rattle.dispatch.specs.ServerValue.{with_states}
 use Rattle.circuit_server.specs.Ticked.{state_of}
@@ -33,7 +33,7 @@ all_parts P parts h k d within =
 pub record IsUp (first now : Device) (part : CircuitPart) (state : Option OpenCircuitValue) : Type 0 where
   pub leases : leases_of now.region (server part state) ≡ found_leases first.region first.fuse part
   pub ready : IsReadyFor (now.region part.region) state
-  pub region : IsBroughtUp (counts_of part) (first.fuse part.region) (first.region part.region) (now.region part.region)
+  pub region : IsRegionMigrated (counts_of part) (first.fuse part.region) (first.region part.region) (now.region part.region)
 
 -- the first n circuits are up, and all else is as it was
 pub record AreUp (parts : List CircuitPart) (n : ℕ) (states : List (Option OpenCircuitValue)) (first now : Device) : Type 0 where
@@ -54,7 +54,7 @@ none_up parts states first = record {
 module _ (tells : Bool) (told : tells ≡ true) (parts : List CircuitPart) (differ : RegionsDiffer parts) (n : ℕ) (part : CircuitPart) (here : slice_get parts n ≡ Some part) (states : List (Option OpenCircuitValue)) (within : n < length states)
     (first now next : Device) (are : AreUp parts n states first now) (frame : ChangesOne tells part.region now next) (new : Option OpenCircuitValue)
     (leases : leases_of next.region (server part new) ≡ found_leases now.region now.fuse part) (ready : IsReadyFor (next.region part.region) new)
-    (region : IsBroughtUp (counts_of part) (now.fuse part.region) (now.region part.region) (next.region part.region)) where
+    (region : IsRegionMigrated (counts_of part) (now.fuse part.region) (now.region part.region) (next.region part.region)) where
   region_is : now.region part.region ≡ first.region part.region
   region_is = are.region n part (omega arith) here
 
@@ -65,8 +65,8 @@ module _ (tells : Bool) (told : tells ≡ true) (parts : List CircuitPart) (diff
   own = record {
     leases = leases ∙ (λ j. region_leases part (fuse_is j) (region_is j) (region_is j).readable);
     ready = ready;
-    region = subst (λ (r : Region). IsBroughtUp (counts_of part) (first.fuse part.region) r (next.region part.region)) region_is
-        (subst (λ k. IsBroughtUp (counts_of part) k (now.region part.region) (next.region part.region)) fuse_is region);
+    region = subst (λ (r : Region). IsRegionMigrated (counts_of part) (first.fuse part.region) r (next.region part.region)) region_is
+        (subst (λ k. IsRegionMigrated (counts_of part) k (now.region part.region) (next.region part.region)) fuse_is region);
   }
 
   apart : (c : ℕ) (other : CircuitPart) → slice_get parts c ≡ Some other → (c ≡ n → ⊥) → other.region ≢ part.region
@@ -80,7 +80,7 @@ module _ (tells : Bool) (told : tells ≡ true) (parts : List CircuitPart) (diff
       let same = stays c other there ne in record {
         leases = ap (λ (r : Region). leases_of (λ any. r) (server other (state_of states c))) same ∙ is.leases;
         ready = subst (λ (r : Region). IsReadyFor r (state_of states c)) (sym same) is.ready;
-        region = subst (λ (r : Region). IsBroughtUp (counts_of other) (first.fuse other.region) (first.region other.region) r) (sym same) is.region;
+        region = subst (λ (r : Region). IsRegionMigrated (counts_of other) (first.fuse other.region) (first.region other.region) r) (sym same) is.region;
       }
 
   state_at : (c : ℕ) (b : Bool) → (c == n) ≡ b → c < n + 1 → (other : CircuitPart) → slice_get parts c ≡ Some other → IsUp first next other (state_of (slice_set states n new) c)
@@ -117,5 +117,5 @@ module _ (parts : List CircuitPart) (n : ℕ) (states : List (Option OpenCircuit
   pub all_leases : All (λ s. leases_of now.region s ≡ found_leases first.region first.fuse s.part) (with_states parts states)
   all_leases = all_with (λ s. leases_of now.region s ≡ found_leases first.region first.fuse s.part) parts states size (λ c part there. (each_up c part there).leases)
 
-  pub all_regions : AreBroughtUp parts first now
-  all_regions = all_parts (λ part. IsBroughtUp (counts_of part) (first.fuse part.region) (first.region part.region) (now.region part.region)) parts (λ c part there. (each_up c part there).region)
+  pub all_regions : AreRegionsMigrated parts first now
+  all_regions = all_parts (λ part. IsRegionMigrated (counts_of part) (first.fuse part.region) (first.region part.region) (now.region part.region)) parts (λ c part there. (each_up c part there).region)

@@ -130,16 +130,13 @@ shown_at now states c state within is = get_or-map (state_at now) states c state
 
 -- one of them is replaced, by one whose clock is not before the tick
 module _ (now : ℕ) (states : List (Option OpenCircuitValue)) (c : ℕ) (new : Option OpenCircuitValue) (within : c < length states) (later : IsLater now new) where
-  shown_set : map (state_at now) (set states c new) ≡ set (map (state_at now) states) c new
+  pub shown_set : map (state_at now) (set states c new) ≡ set (map (state_at now) states) c new
   shown_set = map-set (state_at now) states c new ∙ ap (set (map (state_at now) states) c) (is_at now new later)
 
   pub shown_new : state_of (map (state_at now) (set states c new)) c ≡ new
   shown_new =
       ap (λ xs. state_of xs c) shown_set
       ∙ get_or-set_same (map (state_at now) states) c new None (subst (λ n. c < n) (sym (length-map states (state_at now))) within)
-
-  pub shown_others : map (state_at now) (set states c new) ≡ slice_set (map (state_at now) states) c (state_of (map (state_at now) (set states c new)) c)
-  shown_others = shown_set ∙ ap (slice_set (map (state_at now) states) c) (sym shown_new)
 
 -- what is read of one that is there, whatever stands for one that is not
 pub own_state : (states : List (Option OpenCircuitValue)) (c : ℕ) → c < length states → state_of states c ≡ get_or states c (state_of states c)

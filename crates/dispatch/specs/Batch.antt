@@ -2,7 +2,10 @@
 -- received as if it came alone, any further one of the same circuit is refused.
 use Rattle.std.specs.Prelude.{◌≡◌, ℕ, ◌==◌, Bool, false, List, [], ◌∷◌, ◌++◌, length, map, take, Option, Some, None, slice_get, Result, Ok, Err, if◌then◌else◌}
 use Rattle.std.specs.List.{cons_option, list_any}
-use Rattle.types.specs.Delivery.{DeliveryValue}
+use Rattle.std.specs.Borrow.{Bor}
+use Rattle.types.specs.Delivery.{DeliveryValue, delivery}
+use Rattle.types.specs.declared.addr.Source.{Source}
+use Rattle.types.specs.declared.dest.Proto.{Proto}
 use Rattle.types.specs.declared.discard.Discard.{Discard}
 use Rattle.types.specs.declared.discard.Discard.TheVariants.{BatchTwice}
 use Rattle.lease_disk.specs.Device.{Device, TouchesAll}
@@ -13,6 +16,10 @@ use Rattle.requests.specs.Addressee.{addressee}
 use Rattle.circuit_server.specs.Leases.{Leases}
 use Rattle.circuit_server.specs.Server.{Book}
 use Rattle.dispatch.specs.Received.{Received, drop_all, received, received_leases, received_saves}
+
+-- the datagrams of a batch at one moment, each with its protocol and its source
+abbrev pub deliveries : ℕ → List (Proto × Source × Bor (List ℕ)) → List DeliveryValue
+deliveries now parts = map (λ part. delivery part.0 part.1 now part.2.now) parts
 
 -- ---- whose a part is
 

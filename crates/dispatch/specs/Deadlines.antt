@@ -2,7 +2,7 @@
 use Rattle.std.specs.Prelude.{◌≡◌, ℕ, ◌+◌, ◌*◌, ◌<◌, Bool, false, List, Option, Some, slice_get}
 use Rattle.timers.specs.Deadlines.{DeadlinesValue, deadline}
 use Rattle.circuit_server.specs.CircuitServerValue.{OpenCircuitValue}
-use Rattle.circuit_server.specs.Deadlines.{AreOldOrHeld, held_in}
+use Rattle.circuit_server.specs.Deadlines.{UnchangedOrUntilHeld, held_in}
 
 -- No entry is looked at, and the slots of every circuit that is not among these keep their deadlines.
 pub record KeepsDeadlines (among : ℕ → Bool) (old new : DeadlinesValue) : Type 0 where
@@ -10,8 +10,8 @@ pub record KeepsDeadlines (among : ℕ → Bool) (old new : DeadlinesValue) : Ty
   pub others : (c s : ℕ) → among c ≡ false → s < 32 → deadline new (32 * c + s) ≡ deadline old (32 * c + s)
 
 -- Each deadline of each circuit is what it was, or until when its slot is held now.
-abbrev pub AllAreOldOrHeld : DeadlinesValue → DeadlinesValue → List (Option OpenCircuitValue) → Type 0
-AllAreOldOrHeld old new states = (c : ℕ) (state : Option OpenCircuitValue) → slice_get states c ≡ Some state → AreOldOrHeld (32 * c) old new state
+abbrev pub AllUnchangedOrUntilHeld : DeadlinesValue → DeadlinesValue → List (Option OpenCircuitValue) → Type 0
+AllUnchangedOrUntilHeld old new states = (c : ℕ) (state : Option OpenCircuitValue) → slice_get states c ≡ Some state → UnchangedOrUntilHeld (32 * c) old new state
 
 -- Each slot's deadline is until when it is held, live or expired, and a slot that nobody holds has none.
 pub record AreSetAnew (table : DeadlinesValue) (states : List (Option OpenCircuitValue)) : Type 0 where

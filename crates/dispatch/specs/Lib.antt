@@ -6,5 +6,6 @@ pub mod Parts
 pub mod ReadBack
 pub mod Received
 pub mod Regions
+pub mod Restarted
 pub mod ServerValue
 pub mod Turned

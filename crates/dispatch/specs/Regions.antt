@@ -3,15 +3,15 @@ use Rattle.std.specs.Prelude.{◌≡◌, ◌≢◌, ℕ, ◌<◌, true, List, Al
 use Rattle.lease_disk.specs.Device.{Device}
 use Rattle.lease_disk.specs.Region.{Region, IsClean}
 use Rattle.config.specs.CircuitPart.{CircuitPart}
-use Rattle.circuit_server.specs.Leases.{IsBroughtUp, counts_of}
+use Rattle.circuit_server.specs.Leases.{IsRegionMigrated, counts_of}
 
 -- each circuit has its region
 abbrev pub HasRegions : List CircuitPart → ℕ → Type 0
 HasRegions parts count = All (λ part. part.region < count) parts
 
 -- what a restart does to the region of each circuit
-abbrev pub AreBroughtUp : List CircuitPart → Device → Device → Type 0
-AreBroughtUp parts old new = All (λ part. IsBroughtUp (counts_of part) (old.fuse part.region) (old.region part.region) (new.region part.region)) parts
+abbrev pub AreRegionsMigrated : List CircuitPart → Device → Device → Type 0
+AreRegionsMigrated parts old new = All (λ part. IsRegionMigrated (counts_of part) (old.fuse part.region) (old.region part.region) (new.region part.region)) parts
 
 -- regions of no circuit stay as they are
 pub record KeepsOthers (parts : List CircuitPart) (old new : Device) : Type 0 where

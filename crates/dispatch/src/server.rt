@@ -6,10 +6,11 @@ ghost use Rattle.requests.specs.Addressee as who;
 ghost use Rattle.circuit_server.specs.Deadlines.{held_in};
 ghost use Rattle.circuit_server.specs.SlotsOfPools.{HasItsSlots};
 ghost use Rattle.dispatch.specs.Batch.{is_circuit};
-ghost use Rattle.dispatch.specs.Deadlines.{AllAreOldOrHeld, AreSetAnew, KeepsDeadlines};
+ghost use Rattle.dispatch.specs.Deadlines.{AllUnchangedOrUntilHeld, AreSetAnew, KeepsDeadlines};
 ghost use Rattle.dispatch.specs.ServerValue.{AreReady, HoldsDeadlines, books_in, circuits_in, leases_in};
 ghost use Rattle.circuit_server.specs.Leases.{Leases, after_tick, found_leases, turned};
-ghost use Rattle.dispatch.specs.Regions.{AreBroughtUp, AreSynced, HasRegions, KeepsOthers};
+ghost use Rattle.dispatch.specs.Regions.{AreRegionsMigrated, AreSynced, HasRegions, KeepsOthers};
+ghost use Rattle.dispatch.specs.Restarted.{IsOpened, IsRestartOf};
 ghost use Rattle.dispatch.specs.Received.{received, received_leases, received_saves};
 ghost use Rattle.circuit_server.specs.Answered.{IsAnswer, fails_at};
 ghost use Rattle.circuit_server.specs.Calls.{IsCalledToSaveAt};
@@ -22,9 +23,13 @@ ghost use Rattle.lease_disk.specs.Region.{Region};
 ghost use Rattle.timers.specs.Deadlines.{deadline, entry_after_sweep, is_due};
 
 mod batch;
+mod batch_answers;
 mod savings;
 
-use crate::circuit_servers::{CircuitServers, SLOTS, turn_off_all};
+pub use batch_answers::{Answer, BatchAnswers};
+
+use crate::circuit_servers::{closed_servers, have_slots, restart_all, turn_off_all};
+use circuit_server::CircuitServer;
 use config::{CircuitPart, Circuits, Config, Plans};
 use lease_disk::{Disk, HALVES_SIZE};
 use requests::addressee;
@@ -34,6 +39,9 @@ use thiserror::Error;
 use timers::Deadlines;
 use types::{Circuit, Delivery, Discard, Moment, Proto, Slots, Source};
 use wire::PacketBuf;
+
+/// How many slots a circuit has, of both pools.
+const SLOTS: usize = 32;
 
 /// Why a server was not opened.
 #[derive(Clone, Copy, Debug, PartialEq, Eq, Error)]
@@ -52,7 +60,11 @@ pub enum OpenFault {
 #[derive(Drop)]
 pub struct Server {
     circuits: Circuits,
-    servers: CircuitServers,
+    /// That of each circuit, by index.
+    servers: Vec<CircuitServer>,
+    /// The latest moment of a tick since the last restart. The clock of an open circuit is this where it is later than its own, so
+    /// that a tick looks at no circuit.
+    ticked: Moment,
     /// When the slots of all circuits are due: slot s of circuit c has the number 32 c + s.
     deadlines: Deadlines,
     /// In which the regions of format 1 are moved.
@@ -60,14 +72,17 @@ pub struct Server {
 }
 
 impl Model for Server {
-    ghost use Rattle.std.specs.Prelude.{◌≡◌, length};
+    ghost use Rattle.std.specs.Prelude.{◌≡◌, length, map};
+    ghost use Rattle.circuit_server.specs.Ticked.{state_at};
     ghost use Rattle.dispatch.specs.ServerValue.{HoldsDeadlines, IsServer, ServerValue};
 
     ghost Value = { ServerValue };
 
-    ghost view = { λ s. record { topology = s.circuits; states = s.servers; deadlines = s.deadlines } };
+    ghost view = { λ s. record { topology = s.circuits; states = map (state_at s.ticked) s.servers.items; deadlines = s.deadlines } };
 
-    ghost invariant = { λ s. IsServer s.circuits s.servers × HoldsDeadlines s.deadlines s.servers × (length s.buffer.items ≡ 16384) };
+    ghost invariant = { λ s. IsServer s.circuits (map (state_at s.ticked) s.servers.items)
+        × HoldsDeadlines s.deadlines (map (state_at s.ticked) s.servers.items)
+        × (length s.buffer.items ≡ 16384) };
 }
 
 /// Whether the device has the region of each circuit.
@@ -84,14 +99,17 @@ fn has_regions(parts: &[CircuitPart], count: u16) -> bool
 }
 
 /// What a server of so many circuits holds beside them, while each is closed.
-fn rooms(alloc: Global, count: usize) -> Result<(CircuitServers, Deadlines, Vec<u8>), AllocError>
+fn rooms(
+    alloc: Global,
+    count: usize,
+) -> Result<(Vec<CircuitServer>, Deadlines, Vec<u8>), AllocError>
     requires some { 1 ≤ count }
     requires few { count ≤ 1024 }
-    ensures servers { IfOk result (λ made. made.0 ≡ replicate count None) }
+    ensures servers { IfOk result (λ made. made.0.items ≡ replicate count None) }
     ensures deadlines { IfOk result (λ made. made.1.slots ≡ replicate (32 * count) None) }
     ensures buffer { IfOk result (λ made. length made.2.items ≡ 16384) }
 {
-    let servers = CircuitServers::closed(alloc, count)?;
+    let servers = closed_servers(alloc, count)?;
     let deadlines = Deadlines::new(alloc, SLOTS * count)?;
     let buffer = Vec::from_elem(alloc, 0, HALVES_SIZE)?;
     Ok((servers, deadlines, buffer))
@@ -112,7 +130,7 @@ impl Server {
         ensures large { IfOk result (λ server. HasRegions (parts_of config.now) (D.device disk.new).count) }
         ensures small { IfErr result (λ why. why ≡ fault.DiskTooSmall → ¬ HasRegions (parts_of config.now) (D.device disk.old).count) }
         ensures untouched { OnErr result (D.device disk.new ≡ D.device disk.old) }
-        ensures regions { D.tells ≡ true → IfOk result (λ server. AreBroughtUp (parts_of config.now) (D.device disk.old) (D.device disk.new)) }
+        ensures regions { D.tells ≡ true → IfOk result (λ server. AreRegionsMigrated (parts_of config.now) (D.device disk.old) (D.device disk.new)) }
         ensures others { D.tells ≡ true → KeepsOthers (parts_of config.now) (D.device disk.old) (D.device disk.new) }
         ensures count { (D.device disk.new).count ≡ (D.device disk.old).count }
         ensures reads { (D.device disk.new).reads ≤ (D.device disk.old).reads + 5 * length config.now.circuits }
@@ -140,7 +158,7 @@ impl Server {
         ensures large { IfOk result (λ server. HasRegions (parts_of plans.now.union) (D.device disk.new).count) }
         ensures small { IfErr result (λ why. why ≡ fault.DiskTooSmall → ¬ HasRegions (parts_of plans.now.union) (D.device disk.old).count) }
         ensures untouched { OnErr result (D.device disk.new ≡ D.device disk.old) }
-        ensures regions { D.tells ≡ true → IfOk result (λ server. AreBroughtUp (parts_of plans.now.union) (D.device disk.old) (D.device disk.new)) }
+        ensures regions { D.tells ≡ true → IfOk result (λ server. AreRegionsMigrated (parts_of plans.now.union) (D.device disk.old) (D.device disk.new)) }
         ensures others { D.tells ≡ true → KeepsOthers (parts_of plans.now.union) (D.device disk.old) (D.device disk.new) }
         ensures count { (D.device disk.new).count ≡ (D.device disk.old).count }
         ensures reads { (D.device disk.new).reads ≤ (D.device disk.old).reads + 5 * length plans.now.union.circuits }
@@ -152,23 +170,16 @@ impl Server {
         Server::over(alloc, circuits, disk)
     }
 
-    /// The server of these circuits over a device, as `open` begins one.
+    /// The server of these circuits over a device, with what their regions hold.
     fn over<D: Disk>(alloc: Global, circuits: Circuits, disk: &mut D) -> Result<Server, OpenFault>
         requires some { 1 ≤ length circuits.circuits }
         requires sound { IsTopology circuits }
         requires synced { D.tells ≡ true → AreSynced circuits.circuits (D.device disk.old).region }
         ensures topology { IfOk result (λ server. server.topology ≡ circuits) }
-        ensures leases { D.tells ≡ true → IfOk result (λ server. leases_in (D.device disk.new).region server ≡ map (found_leases (D.device disk.old).region (D.device disk.old).fuse) circuits.circuits) }
-        ensures ready { D.tells ≡ true → IfOk result (λ server. AreReady (D.device disk.new).region server) }
-        ensures deadlines { IfOk result (λ server. AreSetAnew server.deadlines server.states) }
-        ensures large { IfOk result (λ server. HasRegions circuits.circuits (D.device disk.new).count) }
+        ensures opened { IfOk result (λ server. IsOpened D.tells circuits.circuits server (D.device disk.old) (D.device disk.new)) }
         ensures small { IfErr result (λ why. why ≡ fault.DiskTooSmall → ¬ HasRegions circuits.circuits (D.device disk.old).count) }
         ensures untouched { OnErr result (D.device disk.new ≡ D.device disk.old) }
-        ensures regions { D.tells ≡ true → IfOk result (λ server. AreBroughtUp circuits.circuits (D.device disk.old) (D.device disk.new)) }
-        ensures others { D.tells ≡ true → KeepsOthers circuits.circuits (D.device disk.old) (D.device disk.new) }
-        ensures count { (D.device disk.new).count ≡ (D.device disk.old).count }
-        ensures reads { (D.device disk.new).reads ≤ (D.device disk.old).reads + 5 * length circuits.circuits }
-        ensures writes { (D.device disk.new).writes ≤ (D.device disk.old).writes + 4 * length circuits.circuits }
+        ensures device { IsRestartOf D.tells circuits.circuits (D.device disk.old) (D.device disk.new) }
     {
         let Ok(mut server) = Server::closed(alloc, circuits) else {
             return Err(OpenFault::Memory);
@@ -190,6 +201,7 @@ impl Server {
         Ok(Server {
             circuits,
             servers: made.0,
+            ticked: Moment::first(),
             deadlines: made.1,
             buffer: made.2,
         })
@@ -216,7 +228,7 @@ impl Server {
         ensures { (result ≡ true) ↔ (slice_get (map is_some (books_in self.now)) circuit ≡ Some true) }
     {
         let index = circuit.index();
-        index < self.servers.count() && self.servers.is_open(index)
+        index < self.servers.len() && self.servers[index].is_open()
     }
 
     /// What is kept of a circuit at its clock: the live bindings and bars of each address, and that clock, without offers;
@@ -225,7 +237,7 @@ impl Server {
         requires { circuit < length self.now.topology.circuits }
         ensures { result ≡ option_map kept_slots (state_of self.now.states circuit) }
     {
-        self.servers.slots(circuit.index())
+        self.servers[circuit.index()].slots_at(self.ticked)
     }
 
     /// The circuit of a datagram, or the first reason why it is of none. Nothing is changed.
@@ -242,7 +254,7 @@ impl Server {
     pub fn has_slots_of_pools(&self)
         ensures { All HasItsSlots (circuits_in self.now) }
     {
-        self.servers.have_slots();
+        have_slots(&self.servers);
     }
 
     /// When the slots of all circuits are due, slot s of circuit c by the number 32 c + s: nothing of a closed circuit; of an open
@@ -279,7 +291,7 @@ impl Server {
 
         // No deadline is looked at, and those of every other circuit stay. Each is what it was, or until when its slot is held now.
         ensures deadlines { KeepsDeadlines (λ c. is_circuit c (who.addressee self.old.topology (delivery proto source now datagram.now))) self.old.deadlines self.new.deadlines }
-        ensures held { AllAreOldOrHeld self.old.deadlines self.new.deadlines self.new.states }
+        ensures held { AllUnchangedOrUntilHeld self.old.deadlines self.new.deadlines self.new.states }
 
         // Over a device that tells its bytes: when the save fails, and what restarts then find.
         ensures fails { D.tells ≡ true → (r : ℕ) → has_failed (D.device disk.old) (D.device disk.new) r ≡ fails_at (D.device disk.old).fuse (received_saves self.old.topology (delivery proto source now datagram.now) (books_in self.old)) r }
@@ -305,9 +317,9 @@ impl Server {
         };
         let part = self.circuits.part(circuit);
         let table = &mut self.deadlines;
-        let index = circuit.index();
-        self.servers
-            .answer(index, part, &delivery, relayed, disk, out, table)
+        let server = &mut self.servers[circuit.index()];
+        server.tick(self.ticked);
+        server.answer(part, &delivery, relayed, disk, out, table, circuit)
     }
 
     /// Moves the clock of every open circuit to this moment, where it is a later one, and removes the deadlines that are due then.
@@ -319,7 +331,7 @@ impl Server {
         ensures deadlines { self.new.deadlines.slots ≡ map (entry_after_sweep now) self.old.deadlines.slots }
         ensures looks { self.new.deadlines.looks ≡ self.old.deadlines.looks + count_by (is_due now) self.old.deadlines.slots + 1 }
     {
-        self.servers.tick(now);
+        self.ticked = self.ticked.later(now);
         self.deadlines.sweep(now);
     }
 
@@ -346,7 +358,7 @@ impl Server {
             return false;
         }
         let table = &mut self.deadlines;
-        turn_off_all(&mut self.servers, &self.circuits, number, table);
+        turn_off_all(&mut self.servers, self.ticked, &self.circuits, number, table);
         self.circuits.reload(number)
     }
 
@@ -360,14 +372,14 @@ impl Server {
         ensures ready { D.tells ≡ true → AreReady (D.device disk.new).region self.new }
         ensures deadlines { AreSetAnew self.new.deadlines self.new.states }
         ensures looks { self.new.deadlines.looks ≡ self.old.deadlines.looks }
-        ensures regions { D.tells ≡ true → AreBroughtUp self.old.topology.circuits (D.device disk.old) (D.device disk.new) }
+        ensures regions { D.tells ≡ true → AreRegionsMigrated self.old.topology.circuits (D.device disk.old) (D.device disk.new) }
         ensures others { D.tells ≡ true → KeepsOthers self.old.topology.circuits (D.device disk.old) (D.device disk.new) }
         ensures count { (D.device disk.new).count ≡ (D.device disk.old).count }
         ensures reads { (D.device disk.new).reads ≤ (D.device disk.old).reads + 5 * length self.old.topology.circuits }
         ensures writes { (D.device disk.new).writes ≤ (D.device disk.old).writes + 4 * length self.old.topology.circuits }
     {
-        let table = &mut self.deadlines;
-        self.servers
-            .restart(self.circuits.parts(), disk, &mut self.buffer, table);
+        // each begins with the clock that its region keeps, however late the last tick was
+        self.ticked = Moment::first();
+        restart_all(self.circuits.parts(), &mut self.servers, disk, &mut self.buffer, &mut self.deadlines);
     }
 }

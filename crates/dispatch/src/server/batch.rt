@@ -1,10 +1,10 @@
 //! Several datagrams at one moment, whose saves share their syncs.
-ghost use Rattle.std.specs.Prelude.{◌≡◌, ◌<◌, ◌≤◌, ◌==◌, ◌&&◌, ◌||◌, ◌+◌, ◌∷◌, ◌++◌, not, ℕ, List, [], Result, Ok, Err, true, false, length, map, take, slice_get, slice_set, IfOk, IfErr, Some};
-ghost use Rattle.types.specs.Delivery.{delivery};
+ghost use Rattle.std.specs.Prelude.{◌≡◌, ◌<◌, ◌≤◌, ◌==◌, ◌&&◌, ◌||◌, ◌+◌, ◌∷◌, ◌++◌, not, ℕ, List, [], Result, Ok, Err, true, false, length, take, slice_get, slice_set, IfOk, IfErr, Some};
+
 ghost use Rattle.types.specs.declared.discard.Discard as discard;
 ghost use Rattle.lease_disk.specs.Device.{has_failed, is_in};
-ghost use Rattle.dispatch.specs.Batch.{IsBatch, IsBatchOfLeases, IsWrittenTogether, batch_fault, batch_saves, is_circuit, is_named};
-ghost use Rattle.dispatch.specs.Deadlines.{AllAreOldOrHeld, KeepsDeadlines};
+ghost use Rattle.dispatch.specs.Batch.{IsBatch, IsBatchOfLeases, IsWrittenTogether, batch_fault, batch_saves, deliveries, is_circuit, is_named};
+ghost use Rattle.dispatch.specs.Deadlines.{AllUnchangedOrUntilHeld, KeepsDeadlines};
 ghost use Rattle.timers.specs.Deadlines.{DeadlinesValue};
 ghost use Rattle.requests.specs.Addressee as who;
 ghost use Rattle.dispatch.specs.Parts.{AreAnswered, AreDecided, AreToSettle, IsAnswered, IsPart, IsReceivedBatch, IsSettledSo, is_of, has_named, saved_by, saving_in, savings_of};
@@ -19,8 +19,8 @@ ghost use Rattle.circuit_server.specs.Prepared.{IsDropped, IsPrepared, IsSettled
 ghost use Rattle.circuit_server.specs.Ticked.{state_of};
 
 use super::Server;
+use super::batch_answers::BatchAnswers;
 use super::savings::Savings;
-use crate::batch_answers::BatchAnswers;
 use arrayvec::ArrayVec;
 use batch_saves::{MAX_BATCH, Saving};
 use circuit_server::Prepared;
@@ -56,37 +56,15 @@ impl Server {
         ensures topology { self.new.topology ≡ self.old.topology }
         ensures others { self.new.states ≡ slice_set self.old.states circuit (state_of self.new.states circuit) }
         ensures deadlines { KeepsDeadlines (λ c. circuit == c) self.old.deadlines self.new.deadlines }
-        ensures held { AllAreOldOrHeld self.old.deadlines self.new.deadlines self.new.states }
+        ensures held { AllUnchangedOrUntilHeld self.old.deadlines self.new.deadlines self.new.states }
         ensures prepared { (part : parts.CircuitPart) → slice_get self.old.topology.circuits circuit ≡ Some part → IfOk result (IsPrepared part delivery.now (state_of self.old.states circuit) (state_of self.new.states circuit)) }
         ensures dropped { (part : parts.CircuitPart) → slice_get self.old.topology.circuits circuit ≡ Some part → IfErr result (IsDropped part delivery.now (state_of self.old.states circuit) (state_of self.new.states circuit)) }
     {
         let part = self.circuits.part(circuit);
         let table = &mut self.deadlines;
-        let index = circuit.index();
-        self.servers.prepare(index, part, delivery, relayed, table)
-    }
-
-    /// Answers what was prepared, by its save. One that failed closes the circuit. At `Ok` the reply's datagram is in `out`.
-    pub(crate) fn settle(
-        &mut self,
-        circuit: Circuit,
-        prepared: &Prepared<'_>,
-        saved: Result<Option<Marks>, Fault>,
-        out: &mut PacketBuf,
-    ) -> Result<(), Discard>
-        requires circuit { circuit < length self.old.topology.circuits }
-        ensures topology { self.new.topology ≡ self.old.topology }
-        ensures others { self.new.states ≡ slice_set self.old.states circuit (state_of self.new.states circuit) }
-        ensures deadlines { KeepsDeadlines (λ c. circuit == c) self.old.deadlines self.new.deadlines }
-        ensures held { (before : DeadlinesValue) → AllAreOldOrHeld before self.old.deadlines self.old.states → AllAreOldOrHeld before self.new.deadlines self.new.states }
-        ensures settled { (part : parts.CircuitPart) → slice_get self.old.topology.circuits circuit ≡ Some part → IsSettled part prepared.now saved (state_of self.old.states circuit) (state_of self.new.states circuit) result out.new }
-    {
-        out.clear();
-        let part = self.circuits.part(circuit);
-        let table = &mut self.deadlines;
-        let index = circuit.index();
-        self.servers
-            .settle(index, part, prepared, saved, out, table)
+        let server = &mut self.servers[circuit.index()];
+        server.tick(self.ticked);
+        server.prepare(part, delivery, relayed, table, circuit)
     }
 
     /// Decides on the next part of a batch.
@@ -98,7 +76,7 @@ impl Server {
         requires room { length named.old.items < 16 }
         ensures topology { self.new.topology ≡ self.old.topology }
         ensures deadlines { KeepsDeadlines (λ c. is_circuit c (who.addressee self.old.topology delivery.now)) self.old.deadlines self.new.deadlines }
-        ensures held { AllAreOldOrHeld self.old.deadlines self.new.deadlines self.new.states }
+        ensures held { AllUnchangedOrUntilHeld self.old.deadlines self.new.deadlines self.new.states }
         ensures part { IsPart self.old.topology named.old.items delivery.now self.old.states self.new.states result }
         ensures named { (c : ℕ) → has_named named.new.items c ≡ (has_named named.old.items c || is_circuit c (who.addressee self.old.topology delivery.now)) }
         ensures few { length named.new.items ≤ length named.old.items + 1 }
@@ -130,9 +108,9 @@ impl Server {
         requires named { batch.old.named.items ≡ [] }
         requires savings { batch.old.savings ≡ [] }
         ensures topology { self.new.topology ≡ self.old.topology }
-        ensures deadlines { KeepsDeadlines (is_named self.old.topology (map (λ part. delivery part.0 part.1 now part.2.now) parts.now)) self.old.deadlines self.new.deadlines }
-        ensures held { AllAreOldOrHeld self.old.deadlines self.new.deadlines self.new.states }
-        ensures made { AreDecided self.old.topology (map (λ part. delivery part.0 part.1 now part.2.now) parts.now) (length parts.now) batch.new.named.items self.old.states self.new.states batch.new.parts.items }
+        ensures deadlines { KeepsDeadlines (is_named self.old.topology (deliveries now parts.now)) self.old.deadlines self.new.deadlines }
+        ensures held { AllUnchangedOrUntilHeld self.old.deadlines self.new.deadlines self.new.states }
+        ensures made { AreDecided self.old.topology (deliveries now parts.now) (length parts.now) batch.new.named.items self.old.states self.new.states batch.new.parts.items }
         ensures savings { batch.new.savings ≡ savings_of batch.new.parts.items }
     {
         'parts: for index in 0..parts.len() {
@@ -169,28 +147,28 @@ impl Server {
         ensures topology { self.new.topology ≡ self.old.topology }
 
         // Over every device: a save fails where the device counts a failure of the circuit's region.
-        ensures answers { IsBatch self.old.topology (map (λ part. delivery part.0 part.1 now part.2.now) parts.now) (has_failed (D.device disk.old) (D.device disk.new)) (books_in self.old) (books_in self.new) answers.new }
+        ensures answers { IsBatch self.old.topology (deliveries now parts.now) (has_failed (D.device disk.old) (D.device disk.new)) (books_in self.old) (books_in self.new) answers.new }
 
         // No deadline is looked at, and those of every circuit that no part is of stay. Each is what it was, or until when its slot is held now.
-        ensures deadlines { KeepsDeadlines (is_named self.old.topology (map (λ part. delivery part.0 part.1 now part.2.now) parts.now)) self.old.deadlines self.new.deadlines }
-        ensures held { AllAreOldOrHeld self.old.deadlines self.new.deadlines self.new.states }
+        ensures deadlines { KeepsDeadlines (is_named self.old.topology (deliveries now parts.now)) self.old.deadlines self.new.deadlines }
+        ensures held { AllUnchangedOrUntilHeld self.old.deadlines self.new.deadlines self.new.states }
 
         // Over a device that tells its bytes: which saves fail, and what restarts then find.
         ensures fails { D.tells ≡ true → (r : ℕ) → has_failed (D.device disk.old) (D.device disk.new) r
-            ≡ (is_in (batch_saves self.old.topology (map (λ part. delivery part.0 part.1 now part.2.now) parts.now) (books_in self.old)) r
-            && not (batch_fault (D.device disk.old).fuse (batch_saves self.old.topology (map (λ part. delivery part.0 part.1 now part.2.now) parts.now) (books_in self.old)) r == 0)) }
-        ensures leases { D.tells ≡ true → IsBatchOfLeases self.old.topology (map (λ part. delivery part.0 part.1 now part.2.now) parts.now)
-            (batch_fault (D.device disk.old).fuse (batch_saves self.old.topology (map (λ part. delivery part.0 part.1 now part.2.now) parts.now) (books_in self.old)))
+            ≡ (is_in (batch_saves self.old.topology (deliveries now parts.now) (books_in self.old)) r
+            && not (batch_fault (D.device disk.old).fuse (batch_saves self.old.topology (deliveries now parts.now) (books_in self.old)) r == 0)) }
+        ensures leases { D.tells ≡ true → IsBatchOfLeases self.old.topology (deliveries now parts.now)
+            (batch_fault (D.device disk.old).fuse (batch_saves self.old.topology (deliveries now parts.now) (books_in self.old)))
             (leases_in (D.device disk.old).region self.old) (leases_in (D.device disk.new).region self.new) }
         ensures ready { D.tells ≡ true → AreReady (D.device disk.new).region self.new }
-        ensures frame { IsWrittenTogether D.tells (batch_saves self.old.topology (map (λ part. delivery part.0 part.1 now part.2.now) parts.now) (books_in self.old)) (D.device disk.old) (D.device disk.new) }
+        ensures frame { IsWrittenTogether D.tells (batch_saves self.old.topology (deliveries now parts.now) (books_in self.old)) (D.device disk.old) (D.device disk.new) }
 
         // Over every device: how often it is called.
-        ensures calls { IsCalledToSave (batch_saves self.old.topology (map (λ part. delivery part.0 part.1 now part.2.now) parts.now) (books_in self.old)) (D.device disk.old) (D.device disk.new) }
+        ensures calls { IsCalledToSave (batch_saves self.old.topology (deliveries now parts.now) (books_in self.old)) (D.device disk.old) (D.device disk.new) }
     {
         answers.clear();
         match parts {
-            [part] => answers.receive_alone(self, part, now, disk),
+            [part] => self.receive_alone(part, now, disk, answers),
             _ => self.receive_together(parts, now, disk, answers),
         }
     }
@@ -210,9 +188,9 @@ impl Server {
         requires regions { HasRegions self.old.topology.circuits (D.device disk.old).count }
         requires ready { D.tells ≡ true → AreReady (D.device disk.old).region self.old }
         ensures topology { self.new.topology ≡ self.old.topology }
-        ensures deadlines { KeepsDeadlines (is_named self.old.topology (map (λ part. delivery part.0 part.1 now part.2.now) parts.now)) self.old.deadlines self.new.deadlines }
-        ensures held { AllAreOldOrHeld self.old.deadlines self.new.deadlines self.new.states }
-        ensures received { IsReceivedBatch D.tells (map (λ part. delivery part.0 part.1 now part.2.now) parts.now) answers.new self.old self.new (D.device disk.old) (D.device disk.new) }
+        ensures deadlines { KeepsDeadlines (is_named self.old.topology (deliveries now parts.now)) self.old.deadlines self.new.deadlines }
+        ensures held { AllUnchangedOrUntilHeld self.old.deadlines self.new.deadlines self.new.states }
+        ensures received { IsReceivedBatch D.tells (deliveries now parts.now) answers.new self.old self.new (D.device disk.old) (D.device disk.new) }
     {
         let _ = &self.circuits;
         let mut batch = Batch {
@@ -223,28 +201,6 @@ impl Server {
         self.prepare_all(parts, now, &mut batch);
         batch.savings.save(disk);
         self.answer_all(&batch, answers);
-    }
-
-    /// Settles a part of a batch, where this is the place of its save among those of the batch.
-    fn settle_part(
-        &mut self,
-        circuit: Circuit,
-        prepared: &Prepared<'_>,
-        savings: &Savings,
-        place: usize,
-        answers: &mut BatchAnswers,
-    )
-        requires circuit { circuit < length self.old.topology.circuits }
-        requires place { place + length (cons_option prepared.now.saving []) ≤ length savings.now }
-        requires room { length answers.old < 16 }
-        ensures topology { self.new.topology ≡ self.old.topology }
-        ensures others { self.new.states ≡ slice_set self.old.states circuit (state_of self.new.states circuit) }
-        ensures deadlines { KeepsDeadlines (λ c. circuit == c) self.old.deadlines self.new.deadlines }
-        ensures held { (before : DeadlinesValue) → AllAreOldOrHeld before self.old.deadlines self.old.states → AllAreOldOrHeld before self.new.deadlines self.new.states }
-        ensures answered { (answer : Result (List ℕ) discard.Discard) × (answers.new ≡ answers.old ++ answer ∷ []) × IsSettledSo self.old.topology prepared.now (saved_by prepared.now.saving (part_at savings.now place)) circuit self.old.states self.new.states answer }
-    {
-        let saved = savings.outcome(prepared.saving, place);
-        answers.add_settled(self, circuit, prepared, saved);
     }
 
     /// Answers a part of a batch, where this is the place of its save among those of the batch.
@@ -262,12 +218,13 @@ impl Server {
         ensures size { length self.new.states ≡ length self.old.states }
         ensures keeps { (k : ℕ) → is_of k (Some part.now) ≡ false → state_of self.new.states k ≡ state_of self.old.states k }
         ensures deadlines { KeepsDeadlines (λ c. is_of c (Some part.now)) self.old.deadlines self.new.deadlines }
-        ensures held { (before : DeadlinesValue) → AllAreOldOrHeld before self.old.deadlines self.old.states → AllAreOldOrHeld before self.new.deadlines self.new.states }
+        ensures held { (before : DeadlinesValue) → AllUnchangedOrUntilHeld before self.old.deadlines self.old.states → AllUnchangedOrUntilHeld before self.new.deadlines self.new.states }
         ensures answered { (answer : Result (List ℕ) discard.Discard) × (answers.new ≡ answers.old ++ answer ∷ []) × IsAnswered self.old.topology (part_at savings.now place) self.old.states self.new.states answer part.now }
     {
         match part {
             Ok((circuit, prepared)) => {
-                self.settle_part(*circuit, prepared, savings, place, answers);
+                let saved = savings.outcome(prepared.saving, place);
+                self.settle(*circuit, prepared, saved, answers);
             }
             Err(why) => answers.add_dropped(*why),
         }
@@ -281,7 +238,7 @@ impl Server {
         requires none { answers.old ≡ [] }
         ensures topology { self.new.topology ≡ self.old.topology }
         ensures deadlines { KeepsDeadlines (λ c. list_any (is_of c) (take (length batch.now.parts.items) batch.now.parts.items)) self.old.deadlines self.new.deadlines }
-        ensures held { (before : DeadlinesValue) → AllAreOldOrHeld before self.old.deadlines self.old.states → AllAreOldOrHeld before self.new.deadlines self.new.states }
+        ensures held { (before : DeadlinesValue) → AllUnchangedOrUntilHeld before self.old.deadlines self.old.states → AllUnchangedOrUntilHeld before self.new.deadlines self.new.states }
         ensures answered { AreAnswered self.old.topology batch.now.parts.items batch.now.savings (length batch.now.parts.items) self.old.states self.new.states answers.new }
     {
         let mut place = 0;

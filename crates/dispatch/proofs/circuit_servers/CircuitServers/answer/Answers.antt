@@ -2,7 +2,7 @@ use Rattle.std.proofs.Common.{◌≡◌, ◌<◌, ◌*◌, List, map, set, lengt
 use Rattle.std.specs.Prelude.{Option, Some, option_map}
 use Rattle.std.proofs.lemmas.List.{length-map}
 use Rattle.lease_disk.specs.Device.{WritesAt, has_failed}
-use Rattle.circuit_server.specs.Deadlines.{AreOldOrHeld, HasDeadlines}
+use Rattle.circuit_server.specs.Deadlines.{UnchangedOrUntilHeld, HasDeadlines}
 use Rattle.circuit_server.specs.Leases.{after_datagram}
 use Rattle.circuit_server.specs.Answered.{IsAnswer, answered, circuit_saves, fails_at}
 use Rattle.circuit_server.specs.Calls.{IsCalledToSaveAt}
@@ -47,7 +47,7 @@ pub returns-clause-deadlines : goal.returns-clause-deadlines
 returns-clause-deadlines g c = subst (HasDeadlines c.answer.new.table (32 * c.args.index)) (sym (left g c)) c.answer.ensures.deadlines
 
 pub returns-clause-own : goal.returns-clause-own
-returns-clause-own g c = subst (AreOldOrHeld (32 * c.args.index) c.args.table.now c.answer.new.table) (sym (left g c)) c.answer.ensures.own
+returns-clause-own g c = subst (UnchangedOrUntilHeld (32 * c.args.index) c.args.table.now c.answer.new.table) (sym (left g c)) c.answer.ensures.own
 
 pub returns-clause-beside : goal.returns-clause-beside
 returns-clause-beside g c = c.answer.ensures.beside

@@ -1,7 +1,7 @@
 use Rattle.std.proofs.Common.{◌≡◌, ◌<◌, ◌*◌, List, map, set, length, sym, ap, subst, ◌∙◌}
 use Rattle.std.specs.Prelude.{Option, IfOk, IfErr}
 use Rattle.std.proofs.lemmas.List.{length-map}
-use Rattle.circuit_server.specs.Deadlines.{AreOldOrHeld, HasDeadlines}
+use Rattle.circuit_server.specs.Deadlines.{UnchangedOrUntilHeld, HasDeadlines}
 use Rattle.circuit_server.specs.CircuitServerValue.{HasPools, OpenCircuitValue}
 use Rattle.circuit_server.specs.Prepared.{IsDropped, IsPrepared}
 use Rattle.circuit_server.specs.Ticked.{IsLater, state_at, state_of}
@@ -42,7 +42,7 @@ pub returns-clause-deadlines : goal.returns-clause-deadlines
 returns-clause-deadlines c = subst (HasDeadlines c.prepare.new.table (32 * c.args.index)) (sym (left c)) c.prepare.ensures.deadlines
 
 pub returns-clause-own : goal.returns-clause-own
-returns-clause-own c = subst (AreOldOrHeld (32 * c.args.index) c.args.table.now c.prepare.new.table) (sym (left c)) c.prepare.ensures.own
+returns-clause-own c = subst (UnchangedOrUntilHeld (32 * c.args.index) c.args.table.now c.prepare.new.table) (sym (left c)) c.prepare.ensures.own
 
 pub returns-clause-prepared : goal.returns-clause-prepared
 returns-clause-prepared c =

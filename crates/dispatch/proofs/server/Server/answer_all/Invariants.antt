@@ -1,7 +1,7 @@
 use Rattle.std.proofs.Common.{◌≡◌, ◌≤◌, length, take}
 use Rattle.std.specs.List.{list_any}
 use Rattle.timers.specs.Deadlines.{DeadlinesValue}
-use Rattle.dispatch.specs.Deadlines.{AllAreOldOrHeld, KeepsDeadlines}
+use Rattle.dispatch.specs.Deadlines.{AllUnchangedOrUntilHeld, KeepsDeadlines}
 use Rattle.dispatch.specs.Parts.{AreAnswered, AreToSettle, is_of, place_of, savings_of}
 use Rattle.dispatch.proofs.server.Server.answer_all.Given as goal
 
@@ -16,6 +16,6 @@ invariant-parts l = record {
   savings : length l.batch.savings ≡ length (savings_of l.batch.parts.items);
   place : l.place ≡ place_of l.batch.parts.items l.part-index;
   deadlines : KeepsDeadlines (λ k. list_any (is_of k) (take l.part-index l.batch.parts.items)) l.fn.self.deadlines l.self.deadlines;
-  held : (before : DeadlinesValue) → AllAreOldOrHeld before l.fn.self.deadlines l.fn.self.states → AllAreOldOrHeld before l.self.deadlines l.self.states;
+  held : (before : DeadlinesValue) → AllUnchangedOrUntilHeld before l.fn.self.deadlines l.fn.self.states → AllUnchangedOrUntilHeld before l.self.deadlines l.self.states;
   answered : AreAnswered l.fn.self.topology l.batch.parts.items l.batch.savings l.part-index l.fn.self.states l.self.states l.answers;
 }

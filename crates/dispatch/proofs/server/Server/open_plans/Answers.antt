@@ -4,9 +4,10 @@ use Rattle.std.proofs.lemmas.List.{length-map}
 use Rattle.config.specs.Plans.{PlansValue}
 use Rattle.config.specs.Topology.{IsTopology, Topology, plans_topology}
 use Rattle.circuit_server.specs.Leases.{found_leases}
-use Rattle.dispatch.specs.Regions.{AreBroughtUp, AreSynced, HasRegions, KeepsOthers}
+use Rattle.dispatch.specs.Regions.{AreRegionsMigrated, AreSynced, HasRegions, KeepsOthers}
 use Rattle.dispatch.specs.ServerValue.{leases_in}
 use Rattle.dispatch.specs.declared.server.OpenFault.TheVariants as fault
+use Rattle.std.proofs.lemmas.Result.{IfOk-weaker}
 use Rattle.dispatch.proofs.server.Server.open_plans.Goals as goal
 
 same_count : (plans : PlansValue) (topology : Topology) → topology ≡ plans_topology plans → length topology.circuits ≡ length plans.union.circuits
@@ -36,11 +37,11 @@ pub returns-clause-leases : goal.returns-clause-leases
 returns-clause-leases g c tells =
     let old = g.D.Disk.device c.args.disk.now in
     let new = g.D.Disk.device c.over.new.disk in
-    subst (λ (t : Topology). IfOk c.over.result (λ server. leases_in new.region server ≡ map (found_leases old.region old.fuse) t.circuits)) c.in-Ok.ensures.topology (c.over.ensures.leases tells)
+    subst (λ (t : Topology). IfOk c.over.result (λ server. leases_in new.region server ≡ map (found_leases old.region old.fuse) t.circuits)) c.in-Ok.ensures.topology (IfOk-weaker c.over.result _ _ (λ server opened. opened.leases tells) c.over.ensures.opened)
 
 pub returns-clause-large : goal.returns-clause-large
 returns-clause-large g c =
-    subst (λ (t : Topology). IfOk c.over.result (λ server. HasRegions t.circuits (g.D.Disk.device c.over.new.disk).count)) c.in-Ok.ensures.topology c.over.ensures.large
+    subst (λ (t : Topology). IfOk c.over.result (λ server. HasRegions t.circuits (g.D.Disk.device c.over.new.disk).count)) c.in-Ok.ensures.topology (IfOk-weaker c.over.result _ _ (λ server opened. opened.large) c.over.ensures.opened)
 
 pub returns-clause-small : goal.returns-clause-small
 returns-clause-small g c =
@@ -50,16 +51,25 @@ pub returns-clause-regions : goal.returns-clause-regions
 returns-clause-regions g c tells =
     let old = g.D.Disk.device c.args.disk.now in
     let new = g.D.Disk.device c.over.new.disk in
-    subst (λ (t : Topology). IfOk c.over.result (λ server. AreBroughtUp t.circuits old new)) c.in-Ok.ensures.topology (c.over.ensures.regions tells)
+    subst (λ (t : Topology). IfOk c.over.result (λ server. AreRegionsMigrated t.circuits old new)) c.in-Ok.ensures.topology (IfOk-weaker c.over.result _ _ (λ server opened. opened.regions tells) c.over.ensures.opened)
 
 pub returns-clause-others : goal.returns-clause-others
 returns-clause-others g c tells =
     let old = g.D.Disk.device c.args.disk.now in
     let new = g.D.Disk.device c.over.new.disk in
-    subst (λ (t : Topology). KeepsOthers t.circuits old new) c.in-Ok.ensures.topology (c.over.ensures.others tells)
+    subst (λ (t : Topology). KeepsOthers t.circuits old new) c.in-Ok.ensures.topology (c.over.ensures.device.others tells)
 
 pub returns-clause-reads : goal.returns-clause-reads
-returns-clause-reads g c = omega (arith, c.over.ensures.reads, same_count c.args.plans.now c.in-Ok.circuits c.in-Ok.ensures.topology)
+returns-clause-reads g c = omega (arith, c.over.ensures.device.reads, same_count c.args.plans.now c.in-Ok.circuits c.in-Ok.ensures.topology)
 
 pub returns-clause-writes : goal.returns-clause-writes
-returns-clause-writes g c = omega (arith, c.over.ensures.writes, same_count c.args.plans.now c.in-Ok.circuits c.in-Ok.ensures.topology)
+returns-clause-writes g c = omega (arith, c.over.ensures.device.writes, same_count c.args.plans.now c.in-Ok.circuits c.in-Ok.ensures.topology)
+
+pub returns-clause-ready : goal.returns-clause-ready
+returns-clause-ready g c tells = IfOk-weaker c.over.result _ _ (λ server opened. opened.ready tells) c.over.ensures.opened
+
+pub returns-clause-deadlines : goal.returns-clause-deadlines
+returns-clause-deadlines g c = IfOk-weaker c.over.result _ _ (λ server opened. opened.deadlines) c.over.ensures.opened
+
+pub returns-clause-count : goal.returns-clause-count
+returns-clause-count g c = c.over.ensures.device.count

@@ -1,7 +1,7 @@
 use Rattle.std.proofs.Common.{◌≤◌, ◌+◌, ◌*◌, map, length, refl, sym, ap, subst, ◌∙◌}
 use Rattle.config.specs.Topology.{Topology}
 use Rattle.circuit_server.specs.Leases.{found_leases}
-use Rattle.dispatch.specs.Regions.{AreBroughtUp, AreSynced, HasRegions, KeepsOthers}
+use Rattle.dispatch.specs.Regions.{AreRegionsMigrated, AreSynced, HasRegions, KeepsOthers}
 use Rattle.dispatch.specs.ServerValue.{ServerValue}
 use Rattle.dispatch.proofs.server.Server.over.Goals as goal
 
@@ -38,7 +38,7 @@ returns-clause-leases g c tells =
 
 pub returns-clause-regions : goal.returns-clause-regions
 returns-clause-regions g c tells =
-    subst (λ (t : Topology). AreBroughtUp t.circuits (g.D.Disk.device c.args.disk.now) (g.D.Disk.device c.restart.new.disk)) c.in-Ok.ensures (c.restart.ensures.regions tells)
+    subst (λ (t : Topology). AreRegionsMigrated t.circuits (g.D.Disk.device c.args.disk.now) (g.D.Disk.device c.restart.new.disk)) c.in-Ok.ensures (c.restart.ensures.regions tells)
 
 pub returns-clause-others : goal.returns-clause-others
 returns-clause-others g c tells =

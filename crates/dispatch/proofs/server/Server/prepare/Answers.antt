@@ -5,7 +5,7 @@ use Rattle.std.proofs.lemmas.List.Elements.{All-set}
 use Rattle.std.proofs.lemmas.Option.{slice_get_within}
 use Rattle.circuit_server.specs.CircuitServerValue.{HasItsPools, OpenCircuitValue}
 use Rattle.circuit_server.specs.Ticked.{state_of}
-use Rattle.dispatch.specs.Deadlines.{AllAreOldOrHeld, KeepsDeadlines}
+use Rattle.dispatch.specs.Deadlines.{AllUnchangedOrUntilHeld, KeepsDeadlines}
 use Rattle.dispatch.specs.ServerValue.{HoldsDeadlines, ServerValue, with_states}
 use Rattle.dispatch.proofs.HeldDeadlines.{held_all, kept_beside, one_held}
 use Rattle.dispatch.proofs.PartLemmas.{not_same}
@@ -44,7 +44,7 @@ invariant_of-self c =
 
 pub returns-clause-held : goal.returns-clause-held
 returns-clause-held c =
-    let P : ServerValue → Type 0 = λ s. AllAreOldOrHeld s.deadlines c.prepare.new.table c.prepare.new.self in
+    let P : ServerValue → Type 0 = λ s. AllUnchangedOrUntilHeld s.deadlines c.prepare.new.table c.prepare.new.self in
     subst P c.self.view_is
     (held_all c.index-index.result c.prepare.new.self (state_of c.prepare.new.self c.index-index.result) c.self.inside.deadlines c.prepare.new.table refl c.prepare.ensures.beside c.prepare.ensures.own)
 

@@ -1,7 +1,7 @@
 use Rattle.std.proofs.Common.{◌≡◌, ◌≤◌, length, map, take}
 use Rattle.types.specs.Delivery.{delivery}
 use Rattle.dispatch.specs.Batch.{is_named}
-use Rattle.dispatch.specs.Deadlines.{AllAreOldOrHeld, KeepsDeadlines}
+use Rattle.dispatch.specs.Deadlines.{AllUnchangedOrUntilHeld, KeepsDeadlines}
 use Rattle.dispatch.specs.Parts.{AreDecided, savings_of}
 use Rattle.dispatch.proofs.server.Server.prepare_all.Given as goal
 
@@ -12,6 +12,6 @@ invariant-parts l = record {
   topology : l.self.topology ≡ l.fn.self.topology;
   made : AreDecided l.fn.self.topology (map (λ part. delivery part.0 part.1 l.now part.2.now) l.parts) l.index l.batch.named.items l.fn.self.states l.self.states l.batch.parts.items;
   deadlines : KeepsDeadlines (is_named l.fn.self.topology (take l.index (map (λ part. delivery part.0 part.1 l.now part.2.now) l.parts))) l.fn.self.deadlines l.self.deadlines;
-  held : AllAreOldOrHeld l.fn.self.deadlines l.self.deadlines l.self.states;
+  held : AllUnchangedOrUntilHeld l.fn.self.deadlines l.self.deadlines l.self.states;
   savings : l.batch.savings ≡ savings_of l.batch.parts.items;
 }

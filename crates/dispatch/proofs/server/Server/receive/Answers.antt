@@ -11,7 +11,7 @@ use Rattle.lease_disk.specs.Device.{WritesAt, has_failed}
 use Rattle.requests.specs.Addressee.{addressee}
 use Rattle.circuit_server.specs.Leases.{formats_of, restarts_of}
 use Rattle.dispatch.specs.Batch.{is_circuit}
-use Rattle.dispatch.specs.Deadlines.{AllAreOldOrHeld, KeepsDeadlines}
+use Rattle.dispatch.specs.Deadlines.{AllUnchangedOrUntilHeld, KeepsDeadlines}
 use Rattle.dispatch.specs.Received.{Received, addressee_answered, addressee_leases, addressee_saves, received, received_leases, received_saves}
 use Rattle.circuit_server.specs.Answered.{IsAnswer, fails_at}
 use Rattle.circuit_server.specs.Calls.{IsCalledToSaveAt}
@@ -81,48 +81,65 @@ asks g c = delivery c.args.proto c.args.source c.args.now c.args.datagram.now
 abbrev topology : (g : given.Over) (c : goal.After-answer g) → Topology
 topology g c = c.self.inside.circuits
 
-there_in : (g : given.Over) (c : goal.After-answer g) → slice_get (topology g c).circuits c.index-index.result ≡ Some c.part-part.result.now
+-- the states that show of all, whose clocks the ticks have moved, and the place of the datagram's circuit
+abbrev states : (g : given.Over) (c : goal.After-answer g) → List (Option OpenCircuitValue)
+states g c = map (state_at c.self.inside.ticked) c.self.inside.servers.items
+
+abbrev place : (g : given.Over) (c : goal.After-answer g) → ℕ
+place g c = c.index-index.result
+
+there_in : (g : given.Over) (c : goal.After-answer g) → slice_get (topology g c).circuits (place g c) ≡ Some c.part-part.result.now
 there_in g c = ap (slice_get (topology g c).circuits) c.index-index.ensures.value ∙ c.part-part.ensures
 
-within : (g : given.Over) (c : goal.After-answer g) → c.index-index.result < length c.self.inside.servers
-within g c = omega (arith, c.self.invariant.0.size, slice_get_within (topology g c).circuits c.index-index.result c.part-part.result.now (there_in g c))
+within : (g : given.Over) (c : goal.After-answer g) → (place g c) < length (states g c)
+within g c = omega (arith, c.self.invariant.0.size, slice_get_within (topology g c).circuits (place g c) c.part-part.result.now (there_in g c))
+
+among : (g : given.Over) (c : goal.After-answer g) → (place g c) < length c.self.inside.servers.items
+among g c = subst (λ n. place g c < n) (length-map c.self.inside.servers.items (state_at c.self.inside.ticked)) (within g c)
 
 abbrev before : (g : given.Over) (c : goal.After-answer g) → List CircuitServerValue
-before g c = with_states (topology g c).circuits c.self.inside.servers
+before g c = with_states (topology g c).circuits (states g c)
 
 abbrev asked : (g : given.Over) (c : goal.After-answer g) → CircuitServerValue
-asked g c = server c.part-part.result.now (state_of c.self.inside.servers c.index-index.result)
+asked g c = server c.part-part.result.now (state_of (states g c) (place g c))
 
-its_server : (g : given.Over) (c : goal.After-answer g) → slice_get (before g c) c.index-index.result ≡ Some (asked g c)
+its_server : (g : given.Over) (c : goal.After-answer g) → slice_get (before g c) (place g c) ≡ Some (asked g c)
 its_server g c =
-    there_with (topology g c).circuits c.self.inside.servers c.index-index.result c.part-part.result.now (state_of c.self.inside.servers c.index-index.result)
-    (there_in g c) (within g c) (own_state c.self.inside.servers c.index-index.result (within g c))
+    there_with (topology g c).circuits (states g c) (place g c) c.part-part.result.now (state_of (states g c) (place g c))
+    (there_in g c) (within g c) (own_state (states g c) (place g c) (within g c))
 
 -- all servers, after
-abbrev answered_state : (g : given.Over) (c : goal.After-answer g) → Option OpenCircuitValue
-answered_state g c = state_of c.answer.new.self c.index-index.result
+abbrev after : (g : given.Over) (c : goal.After-answer g) → List (Option OpenCircuitValue)
+after g c = map (state_at c.self.inside.ticked) (set c.self.inside.servers.items (place g c) c.answer.new.self)
 
-written : (g : given.Over) (c : goal.After-answer g)
-    → with_states (topology g c).circuits c.answer.new.self ≡ set (before g c) c.index-index.result (server c.part-part.result.now (answered_state g c))
-written g c =
-    ap (with_states (topology g c).circuits) c.answer.ensures.others
-    ∙ set_with (topology g c).circuits c.self.inside.servers c.index-index.result c.part-part.result.now (answered_state g c) (there_in g c) (within g c)
+its_one : (g : given.Over) (c : goal.After-answer g) → IsOne c.tick.new.self c.answer.new.self (place g c) (states g c) (after g c)
+its_one g c = one c.self.inside.ticked c.self.inside.servers.items (place g c) c.index_mut-server.result.now c.tick.new.self c.answer.new.self (among g c) c.index_mut-server.ensures.value c.tick.ensures c.answer.ensures.later
 
-its : {B : Type 0} (f : CircuitServerValue → B) (g : given.Over) (c : goal.After-answer g) → slice_get (map f (before g c)) c.index-index.result ≡ Some (f (asked g c))
-its f g c = slice_get-map f (before g c) c.index-index.result ∙ ap (option_map f) (its_server g c)
+-- what the answer does, to the state that is shown
+done : (g : given.Over) (c : goal.After-answer g)
+    → IsServed g.D.Disk.tells c.part-part.result.now (asks g c) (state_of (states g c) (place g c)) c.answer.new.self c.answer.result c.answer.new.out (g.D.Disk.device c.args.disk.now) (g.D.Disk.device c.answer.new.disk)
+done g c =
+    subst (λ was. IsServed g.D.Disk.tells c.part-part.result.now (asks g c) was c.answer.new.self c.answer.result c.answer.new.out (g.D.Disk.device c.args.disk.now) (g.D.Disk.device c.answer.new.disk))
+    (sym (its_one g c).before) c.answer.ensures.served
 
-found : (g : given.Over) (c : goal.After-answer g) → addressee (topology g c) (asks g c) ≡ Ok c.index-index.result
+written : (g : given.Over) (c : goal.After-answer g) → with_states (topology g c).circuits (after g c) ≡ set (before g c) (place g c) (server c.part-part.result.now c.answer.new.self)
+written g c = ap (with_states (topology g c).circuits) (its_one g c).others ∙ set_with (topology g c).circuits (states g c) (place g c) c.part-part.result.now c.answer.new.self (there_in g c) (within g c)
+
+its : {B : Type 0} (f : CircuitServerValue → B) (g : given.Over) (c : goal.After-answer g) → slice_get (map f (before g c)) (place g c) ≡ Some (f (asked g c))
+its f g c = slice_get-map f (before g c) (place g c) ∙ ap (option_map f) (its_server g c)
+
+found : (g : given.Over) (c : goal.After-answer g) → addressee (topology g c) (asks g c) ≡ Ok (place g c)
 found g c = c.in-Ok.ensures.circuit ∙ ap Ok (sym c.index-index.ensures.value)
 
-found_in : (g : given.Over) (c : goal.After-answer g) → addressee c.args.self.now.topology (asks g c) ≡ Ok c.index-index.result
-found_in g c = subst (λ (s : ServerValue). addressee s.topology (asks g c) ≡ Ok c.index-index.result) c.self.view_is (found g c)
+found_in : (g : given.Over) (c : goal.After-answer g) → addressee c.args.self.now.topology (asks g c) ≡ Ok (place g c)
+found_in g c = subst (λ (s : ServerValue). addressee s.topology (asks g c) ≡ Ok (place g c)) c.self.view_is (found g c)
 
 -- another circuit's region is another one
-elsewhere : (g : given.Over) (c : goal.After-answer g) (k : ℕ) (x : CircuitServerValue) → slice_get (before g c) k ≡ Some x → (k ≡ c.index-index.result → ⊥)
+elsewhere : (g : given.Over) (c : goal.After-answer g) (k : ℕ) (x : CircuitServerValue) → slice_get (before g c) k ≡ Some x → (k ≡ (place g c) → ⊥)
     → x.part.region ≡ c.part-part.result.now.region → ⊥
 elsewhere g c k x there apart same =
-    let of_part = ap (λ parts. slice_get parts k) (sym (parts_with (topology g c).circuits c.self.inside.servers)) ∙ slice_get-map part_of (before g c) k ∙ ap (option_map part_of) there in
-    apart (c.self.invariant.0.sound.regions k c.index-index.result x.part c.part-part.result.now of_part (there_in g c) same)
+    let of_part = ap (λ parts. slice_get parts k) (sym (parts_with (topology g c).circuits (states g c))) ∙ slice_get-map part_of (before g c) k ∙ ap (option_map part_of) there in
+    apart (c.self.invariant.0.sound.regions k (place g c) x.part c.part-part.result.now of_part (there_in g c) same)
 
 -- ---- what the answer requires
 
@@ -132,25 +149,22 @@ answer-requires-clause-exists g c =
     at_index P c.self.inside.circuits.circuits c.in-Ok.found.0 c.part-part.result.now c.part-part.ensures
     (subst (λ (s : ServerValue). All P s.topology.circuits) (sym c.self.view_is) c.requires.regions)
 
+pub answer-requires-clause-entries : goal.answer-requires-clause-entries
+answer-requires-clause-entries g c = record {
+  room = omega (arith, c.self.invariant.1.size, shown_within g c);
+  deadlines = subst (HasDeadlines c.self.inside.deadlines (32 * asked_place g c)) (shown g c) (c.self.invariant.1.each (asked_place g c) _ (slice_get-get_or _ (asked_place g c) None (shown_within g c)));
+}
+
 pub answer-requires-clause-pools : goal.answer-requires-clause-pools
 answer-requires-clause-pools g c =
-    let parts = c.self.inside.circuits.circuits in
-    let states = c.self.inside.servers in
-    let there = ap (slice_get parts) c.index-index.ensures.value ∙ c.part-part.ensures in
-    let inside : c.index-index.result < length states = omega (arith, c.self.invariant.0.size, slice_get_within parts c.index-index.result c.part-part.result.now there) in
-    at_index HasItsPools (with_states parts states) c.index-index.result (server c.part-part.result.now (state_of states c.index-index.result))
-    (there_with parts states c.index-index.result c.part-part.result.now (state_of states c.index-index.result) there inside (own_state states c.index-index.result inside)) c.self.invariant.0.pools
+    subst (HasPools c.part-part.result.now) (shown g c) (at_index HasItsPools (with_states c.self.inside.circuits.circuits (shown_states g c)) (asked_place g c) (shown_server g c) (shown_there g c) c.self.invariant.0.pools)
 
 pub answer-requires-clause-ready : goal.answer-requires-clause-ready
 answer-requires-clause-ready g c tells =
-    let parts = c.self.inside.circuits.circuits in
-    let states = c.self.inside.servers in
     let regions = (g.D.Disk.device c.args.disk.now).region in
-    let there = ap (slice_get parts) c.index-index.ensures.value ∙ c.part-part.ensures in
-    let inside : c.index-index.result < length states = omega (arith, c.self.invariant.0.size, slice_get_within parts c.index-index.result c.part-part.result.now there) in
-    at_index (IsReady regions) (with_states parts states) c.index-index.result (server c.part-part.result.now (state_of states c.index-index.result))
-    (there_with parts states c.index-index.result c.part-part.result.now (state_of states c.index-index.result) there inside (own_state states c.index-index.result inside))
-    (subst (λ (s : ServerValue). All (IsReady regions) (circuits_in s)) (sym c.self.view_is) (c.requires.ready tells))
+    subst (IsReadyFor (regions c.part-part.result.now.region)) (shown g c)
+    (at_index (IsReady regions) (with_states c.self.inside.circuits.circuits (shown_states g c)) (asked_place g c) (shown_server g c) (shown_there g c)
+    (subst (λ (s : ServerValue). All (IsReady regions) (circuits_in s)) (sym c.self.view_is) (c.requires.ready tells)))
 
 -- ---- after the answer
 
@@ -158,13 +172,13 @@ pub invariant_of-self : goal.invariant_of-self
 invariant_of-self g c = (
   record {
     sound = c.self.invariant.0.sound;
-    size = ap (λ (xs : List (Option OpenCircuitValue)). length xs) c.answer.ensures.others ∙ length-set c.self.inside.servers c.index-index.result (answered_state g c) ∙ c.self.invariant.0.size;
+    size = ap (λ (xs : List (Option OpenCircuitValue)). length xs) (its_one g c).others ∙ length-set (states g c) (place g c) c.answer.new.self ∙ c.self.invariant.0.size;
     pools =
         subst (All HasItsPools) (sym (written g c))
-        (All-set HasItsPools (before g c) c.index-index.result (server c.part-part.result.now (answered_state g c)) c.answer.ensures.pools c.self.invariant.0.pools);
+        (All-set HasItsPools (before g c) (place g c) (server c.part-part.result.now c.answer.new.self) (done g c).pools c.self.invariant.0.pools);
   },
-  subst (HoldsDeadlines c.answer.new.table) (sym c.answer.ensures.others)
-      (one_held c.index-index.result c.self.inside.deadlines c.answer.new.table c.self.inside.servers (answered_state g c) (within g c) c.self.invariant.1 c.answer.ensures.deadlines c.answer.ensures.beside),
+  subst (HoldsDeadlines c.answer.new.table) (sym (its_one g c).others)
+      (one_held (place g c) c.self.inside.deadlines c.answer.new.table (states g c) c.answer.new.self (within g c) c.self.invariant.1 c.answer.ensures.entries.deadlines c.answer.ensures.entries.others),
   c.self.invariant.2,
 )
 
@@ -178,8 +192,8 @@ returns-clause-answer g c =
     let P : ServerValue → Type 0 = λ s. IsAnswer (received s.topology (asks g c) fails (books_in s)).answer c.answer.result c.answer.new.out in
     let Q : Received → Type 0 = λ r. IsAnswer r.answer c.answer.result c.answer.new.out in
     subst P c.self.view_is
-    (subst Q (sym (received_at (topology g c) (asks g c) c.index-index.result x.part (found g c) (there_in g c) fails (map book_of (before g c)) (book_of x) (its book_of g c)))
-    c.answer.ensures.answer)
+    (subst Q (sym (received_at (topology g c) (asks g c) (place g c) x.part (found g c) (there_in g c) fails (map book_of (before g c)) (book_of x) (its book_of g c)))
+    (done g c).answer)
 
 pub returns-clause-unchanged : goal.returns-clause-unchanged
 returns-clause-unchanged g c = because_ok _ _ _ (found_in g c)
@@ -189,13 +203,13 @@ returns-clause-books g c =
     let fails = has_failed (g.D.Disk.device c.args.disk.now) (g.D.Disk.device c.answer.new.disk) in
     let x = asked g c in
     let items = before g c in
-    let k = c.index-index.result in
-    let new = server x.part (answered_state g c) in
+    let k = (place g c) in
+    let new = server x.part c.answer.new.self in
     let P : ServerValue → Type 0 = λ s. map book_of (set items k new) ≡ (received s.topology (asks g c) fails (books_in s)).books in
     ap (map book_of) (written g c)
     ∙ subst P c.self.view_is
     (map-set book_of items k new
-    ∙ ap (set (map book_of items) k) c.answer.ensures.book
+    ∙ ap (set (map book_of items) k) (done g c).book
     ∙ ap (λ r. r.books) (sym (received_at (topology g c) (asks g c) k x.part (found g c) (there_in g c) fails (map book_of items) (book_of x) (its book_of g c))))
 
 pub returns-clause-fails : goal.returns-clause-fails
@@ -206,8 +220,8 @@ returns-clause-fails g c tells = λ q.
     let items = before g c in
     let P : ServerValue → Type 0 = λ s. fails ≡ fails_at faults (received_saves s.topology (asks g c) (books_in s)) q in
     subst P c.self.view_is
-    (c.answer.ensures.fails tells q
-    ∙ sym (ap (λ (saved : Option ℕ). fails_at faults saved q) (saves_at (topology g c) (asks g c) c.index-index.result x.part (found g c) (there_in g c) (map book_of items) (book_of x) (its book_of g c))))
+    ((done g c).fails tells q
+    ∙ sym (ap (λ (saved : Option ℕ). fails_at faults saved q) (saves_at (topology g c) (asks g c) (place g c) x.part (found g c) (there_in g c) (map book_of items) (book_of x) (its book_of g c))))
 
 pub returns-clause-frame : goal.returns-clause-frame
 returns-clause-frame g c =
@@ -218,8 +232,8 @@ returns-clause-frame g c =
     let P : ServerValue → Type 0 = λ s. WritesAt g.D.Disk.tells (received_saves s.topology (asks g c) (books_in s)) old new in
     let Q : Option ℕ → Type 0 = λ region. WritesAt g.D.Disk.tells region old new in
     subst P c.self.view_is
-    (subst Q (sym (saves_at (topology g c) (asks g c) c.index-index.result x.part (found g c) (there_in g c) (map book_of items) (book_of x) (its book_of g c)))
-    c.answer.ensures.writes)
+    (subst Q (sym (saves_at (topology g c) (asks g c) (place g c) x.part (found g c) (there_in g c) (map book_of items) (book_of x) (its book_of g c)))
+    (done g c).writes)
 
 pub returns-clause-calls : goal.returns-clause-calls
 returns-clause-calls g c =
@@ -230,8 +244,8 @@ returns-clause-calls g c =
     let P : ServerValue → Type 0 = λ s. IsCalledToSaveAt (received_saves s.topology (asks g c) (books_in s)) old new in
     let Q : Option ℕ → Type 0 = λ region. IsCalledToSaveAt region old new in
     subst P c.self.view_is
-    (subst Q (sym (saves_at (topology g c) (asks g c) c.index-index.result x.part (found g c) (there_in g c) (map book_of items) (book_of x) (its book_of g c)))
-    c.answer.ensures.calls)
+    (subst Q (sym (saves_at (topology g c) (asks g c) (place g c) x.part (found g c) (there_in g c) (map book_of items) (book_of x) (its book_of g c)))
+    (done g c).calls)
 
 pub returns-clause-leases : goal.returns-clause-leases
 returns-clause-leases g c tells =
@@ -240,14 +254,14 @@ returns-clause-leases g c tells =
     let faults = (g.D.Disk.device c.args.disk.now).fuse in
     let x = asked g c in
     let items = before g c in
-    let k = c.index-index.result in
-    let new = server x.part (answered_state g c) in
+    let k = (place g c) in
+    let new = server x.part c.answer.new.self in
     let P : ServerValue → Type 0 = λ s. map (leases_of later) (set items k new) ≡ received_leases s.topology (asks g c) faults (leases_in regions s) in
     ap (map (leases_of later)) (written g c)
     ∙ subst P c.self.view_is
     (one_moved (leases_of regions) (leases_of later) items k new
-    (λ n y there apart. λ i. let r = c.answer.ensures.frame.region tells y.part.region (elsewhere g c n y there apart) i in record { book = book_of y; restarts = restarts_of y.part r; is_new = formats_of r })
-    ∙ ap (set (map (leases_of regions) items) k) (c.answer.ensures.leases tells)
+    (λ n y there apart. λ i. let r = (done g c).frame.region tells y.part.region (elsewhere g c n y there apart) i in record { book = book_of y; restarts = restarts_of y.part r; is_new = formats_of r })
+    ∙ ap (set (map (leases_of regions) items) k) ((done g c).leases tells)
     ∙ sym (leases_at (topology g c) (asks g c) k x.part (found g c) (there_in g c) faults (map (leases_of regions) items) (leases_of regions x) (its (leases_of regions) g c)))
 
 pub returns-clause-ready : goal.returns-clause-ready
@@ -256,25 +270,25 @@ returns-clause-ready g c tells =
     let later = (g.D.Disk.device c.answer.new.disk).region in
     let was : All (IsReady regions) (before g c) = subst (λ (s : ServerValue). All (IsReady regions) (circuits_in s)) (sym c.self.view_is) (c.requires.ready tells) in
     subst (All (IsReady later)) (sym (written g c))
-    (all_moved (IsReady regions) (IsReady later) (before g c) c.index-index.result (server c.part-part.result.now (answered_state g c)) (c.answer.ensures.ready tells) was
-    (λ n y there apart. subst (λ r. IsReadyFor r y.state) (sym (c.answer.ensures.frame.region tells y.part.region (elsewhere g c n y there apart)))))
+    (all_moved (IsReady regions) (IsReady later) (before g c) (place g c) (server c.part-part.result.now c.answer.new.self) ((done g c).ready tells) was
+    (λ n y there apart. subst (λ r. IsReadyFor r y.state) (sym ((done g c).frame.region tells y.part.region (elsewhere g c n y there apart)))))
 
 not_named : (c k : ℕ) (found : Result ℕ Discard) → found ≡ Ok c → is_circuit k found ≡ false → k ≡ c → ⊥
 not_named c k found is none same = not_both (ap (λ n. c == n) same ∙ same_number c) (sym (ap (is_circuit k) is) ∙ none)
 
 pub returns-clause-deadlines : goal.returns-clause-deadlines
 returns-clause-deadlines g c =
-    let k = c.index-index.result in
+    let k = (place g c) in
     let P : ServerValue → Type 0 = λ s. KeepsDeadlines (λ n. is_circuit n (addressee s.topology (asks g c))) s.deadlines c.answer.new.table in
     subst P c.self.view_is
     (kept_beside k (λ n. is_circuit n (addressee (topology g c) (asks g c))) c.self.inside.deadlines c.answer.new.table
-    (λ n none. not_named k n (addressee (topology g c) (asks g c)) (found g c) none) c.answer.ensures.beside)
+    (λ n none. not_named k n (addressee (topology g c) (asks g c)) (found g c) none) c.answer.ensures.entries.others)
 
 pub returns-in-Err-clause-held : goal.returns-in-Err-clause-held
 returns-in-Err-clause-held g c = λ k state there s below. inl refl
 
 pub returns-clause-held : goal.returns-clause-held
 returns-clause-held g c =
-    let k = c.index-index.result in
-    let P : ServerValue → Type 0 = λ v. AllAreOldOrHeld v.deadlines c.answer.new.table c.answer.new.self in
-    subst P c.self.view_is (held_all k c.answer.new.self (answered_state g c) c.self.inside.deadlines c.answer.new.table refl c.answer.ensures.beside c.answer.ensures.own)
+    let k = (place g c) in
+    let P : ServerValue → Type 0 = λ v. AllUnchangedOrUntilHeld v.deadlines c.answer.new.table (after g c) in
+    subst P c.self.view_is (held_all k (after g c) c.answer.new.self c.self.inside.deadlines c.answer.new.table (sym (its_one g c).after) c.answer.ensures.entries.others c.answer.ensures.entries.own)

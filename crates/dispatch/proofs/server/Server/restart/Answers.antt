@@ -3,7 +3,7 @@ use Rattle.std.specs.Prelude.{All}
 use Rattle.config.specs.CircuitPart.{CircuitPart, IsPart}
 use Rattle.config.specs.Topology.{RegionsDiffer}
 use Rattle.circuit_server.specs.Leases.{found_leases}
-use Rattle.dispatch.specs.Regions.{AreBroughtUp, AreSynced, KeepsOthers}
+use Rattle.dispatch.specs.Regions.{AreRegionsMigrated, AreSynced, KeepsOthers}
 use Rattle.circuit_server.specs.CircuitServerValue.{HasItsPools, IsReady, leases_of}
 use Rattle.dispatch.specs.ServerValue.{ServerValue, with_states}
 use Rattle.dispatch.proofs.ServerLemmas.{written_through}
@@ -60,8 +60,8 @@ returns-clause-ready g c tells = subst (λ ps. All (IsReady (g.D.Disk.device c.r
 
 pub returns-clause-regions : goal.returns-clause-regions
 returns-clause-regions g c tells =
-    subst (λ (s : ServerValue). AreBroughtUp s.topology.circuits (g.D.Disk.device c.args.disk.now) (g.D.Disk.device c.restart.new.disk)) c.self.view_is
-    (subst (λ ps. AreBroughtUp ps (g.D.Disk.device c.args.disk.now) (g.D.Disk.device c.restart.new.disk)) c.parts.ensures (c.restart.ensures.regions tells))
+    subst (λ (s : ServerValue). AreRegionsMigrated s.topology.circuits (g.D.Disk.device c.args.disk.now) (g.D.Disk.device c.restart.new.disk)) c.self.view_is
+    (subst (λ ps. AreRegionsMigrated ps (g.D.Disk.device c.args.disk.now) (g.D.Disk.device c.restart.new.disk)) c.parts.ensures (c.restart.ensures.regions tells))
 
 pub returns-clause-others : goal.returns-clause-others
 returns-clause-others g c tells =

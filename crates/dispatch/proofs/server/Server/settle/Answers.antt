@@ -5,7 +5,7 @@ use Rattle.std.proofs.lemmas.List.Elements.{All-set}
 use Rattle.std.proofs.lemmas.Option.{slice_get_within}
 use Rattle.circuit_server.specs.CircuitServerValue.{HasItsPools, OpenCircuitValue}
 use Rattle.circuit_server.specs.Ticked.{state_of}
-use Rattle.dispatch.specs.Deadlines.{AllAreOldOrHeld, KeepsDeadlines}
+use Rattle.dispatch.specs.Deadlines.{AllUnchangedOrUntilHeld, KeepsDeadlines}
 use Rattle.dispatch.specs.ServerValue.{HoldsDeadlines, ServerValue, with_states}
 use Rattle.dispatch.proofs.HeldDeadlines.{kept_beside, one_held, settled_all}
 use Rattle.dispatch.proofs.PartLemmas.{not_same}
@@ -50,7 +50,7 @@ returns-clause-held c = λ before.
     let part = c.part-part.result.now in
     let there : slice_get parts index ≡ Some part = ap (slice_get parts) c.index-index.ensures.value ∙ c.part-part.ensures in
     let inside : index < length states = omega (arith, c.self.invariant.0.size, slice_get_within parts index part there) in
-    let P : ServerValue → Type 0 = λ s. AllAreOldOrHeld before s.deadlines s.states → AllAreOldOrHeld before c.settle.new.table c.settle.new.self in
+    let P : ServerValue → Type 0 = λ s. AllUnchangedOrUntilHeld before s.deadlines s.states → AllUnchangedOrUntilHeld before c.settle.new.table c.settle.new.self in
     subst P c.self.view_is
     (settled_all index states c.settle.new.self (state_of c.settle.new.self index) before c.self.inside.deadlines c.settle.new.table part c.args.prepared.now c.args.saved c.settle.result c.settle.new.out
     c.settle.ensures.others inside c.settle.ensures.beside c.settle.ensures.settled c.settle.ensures.own c.settle.ensures.deadlines)
