@@ -143,11 +143,11 @@ writes_if tells false region old new stays touches = stays refl
 -- ---- what the clauses say
 
 -- an open circuit was asked, and served the datagram so
-pub record IsServed (s : CircuitServerValue) (d : DeliveryValue) (part : CircuitPart) (o : OpenCircuitValue) (done : Served) : Type 0 where
+pub record WasAsked (s : CircuitServerValue) (d : DeliveryValue) (part : CircuitPart) (o : OpenCircuitValue) (done : Served) : Type 0 where
   pub was : s ≡ record { part = part; state = Some o }
   pub served_so : served part d (open_book o) ≡ done
 
-module _ {s : CircuitServerValue} {d : DeliveryValue} {part : CircuitPart} {o : OpenCircuitValue} {done : Served} (case : IsServed s d part o done) where
+module _ {s : CircuitServerValue} {d : DeliveryValue} {part : CircuitPart} {o : OpenCircuitValue} {done : Served} (case : WasAsked s d part o done) where
   pub as_served : (fails : Bool) → answered s.part d fails (book_of s) ≡ after_save fails done
   as_served fails = ap (λ v. answered v.part d fails (book_of v)) case.was ∙ ap (after_save fails) case.served_so
 

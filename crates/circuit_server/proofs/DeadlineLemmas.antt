@@ -1,5 +1,5 @@
 -- What decisions, clocks and sweeps make of the deadlines of a circuit.
-use Rattle.std.proofs.Common.{◌≡◌, ℕ, zero, suc, ◌+◌, ◌-◌, ◌<◌, ◌≤◌, ◌==◌, nat_le, nat_lt, Bool, true, false, List, [], ◌∷◌, length, map, set, get_or, refl, sym, ap, subst, ◌∙◌, arith, inl, inr}
+use Rattle.std.proofs.Common.{◌≡◌, ℕ, zero, suc, ◌+◌, ◌-◌, ◌*◌, ◌<◌, ◌≤◌, ◌==◌, nat_le, nat_lt, Bool, true, false, List, [], ◌∷◌, length, map, set, get_or, refl, sym, ap, subst, ◌∙◌, arith, inl, inr}
 use Rattle.std.specs.Prelude.{Option, Some, None, IfSome, option_map, if◌then◌else◌, ◌⊎◌}
 use Rattle.std.specs.List.{position}
 use Rattle.std.specs.Str.{bytes_eq}
@@ -19,10 +19,10 @@ use Rattle.bindings_v4.specs.declared.decision4.OfferChange.{OfferChange}
 use Rattle.bindings_v4.specs.declared.decision4.OfferChange.TheVariants as offer
 use Rattle.bindings_v6.specs.Slots6 as slots6
 use Rattle.bindings_v6.specs.declared.decision6.KeptSlot.{KeptSlot as KeptSlot6}
-use Rattle.circuit_server.specs.CircuitDecision.{KeepsItsSlot, LosesNoOther, with_decision}
+use Rattle.circuit_server.specs.CircuitDecision.{FitsCircuit, KeepsItsSlot, LosesNoOther, with_decision}
 use Rattle.circuit_server.specs.declared.decision.CircuitDecision.{CircuitDecision}
 use Rattle.circuit_server.specs.declared.decision.CircuitDecision.TheVariants.{V4, V6}
-use Rattle.circuit_server.specs.Deadlines.{AreOldOrHeld, HasDeadlines, HasItsSlots, IsOfferIn, SameBeside, held_in, held_until, live_until, swept, with_deadlines, with_kept4, with_kept6, with_offered, with_until}
+use Rattle.circuit_server.specs.Deadlines.{HasDeadlines, HasEntries, HasItsSlots, IsOfferIn, KeepsEntries, OthersUnchanged, UnchangedOrUntilHeld, held_in, held_until, live_until, swept, with_deadlines, with_kept4, with_kept6, with_offered, with_until}
 use Rattle.circuit_server.specs.CircuitServerValue.{OpenCircuitValue}
 
 -- ---- what slots hold
@@ -101,7 +101,7 @@ put_other table n m until other = get_or-set_other table.slots n m until None ot
 -- the first slots of a circuit have their deadlines
 pub record AreSet (first count : ℕ) (state : Option OpenCircuitValue) (old new : DeadlinesValue) : Type 0 where
   pub own : (s : ℕ) → s < count → deadline new (first + s) ≡ held_in state s
-  pub beside : SameBeside first old new
+  pub beside : OthersUnchanged first old new
 
 pub one_more : (first count : ℕ) (state : Option OpenCircuitValue) (old before after : DeadlinesValue) (until : Option ℕ) → count < 32 → first + 32 ≤ length old.slots
     → until ≡ held_in state count → after ≡ with_until (first + count) until before → AreSet first count state old before → AreSet first (count + 1) state old after
@@ -282,7 +282,7 @@ after_decision (V6 made) table first o room keeps others has =
 
 -- what a decision does not change stays
 put_old_or : (table : DeadlinesValue) (first i : ℕ) (until : Option ℕ) (state : Option OpenCircuitValue) → first + 32 ≤ length table.slots → i < 32 → until ≡ held_in state i
-    → AreOldOrHeld first table (with_until (first + i) until table) state
+    → UnchangedOrUntilHeld first table (with_until (first + i) until table) state
 put_old_or table first i until state room few is = λ s below. by s (s == i) refl where
   by : (s : ℕ) (b : Bool) → (s == i) ≡ b → (deadline (with_until (first + i) until table) (first + s) ≡ deadline table (first + s)) ⊎ (deadline (with_until (first + i) until table) (first + s) ≡ held_in state s)
   by s true e =
@@ -310,7 +310,7 @@ with_six o ss = record o { six = record o.six { slots = ss } }
 
 by_change4 : (change : Change4) (table : DeadlinesValue) (first clock count : ℕ) (o : OpenCircuitValue) → first + 32 ≤ length table.slots → count ≤ 16 → length o.four.slots ≡ count
     → IfSome (offer_change change) (IsOffer clock count) → IfSome (kept_slot change) (λ kept. kept.slot < count)
-    → AreOldOrHeld first table (with_kept4 first (kept_slot change) (with_offered first (offer_change change) table))
+    → UnchangedOrUntilHeld first table (with_kept4 first (kept_slot change) (with_offered first (offer_change change) table))
     (Some (with_four o (slots4.with_kept (kept_slot change) (slots4.with_offer (offer_change change) o.four.slots))))
 by_change4 change.Nothing table first clock count o room few size offered kept = λ s below. inl refl
 by_change4 (change.Keeps k) table first clock count o room few size offered kept =
@@ -327,7 +327,7 @@ by_change4 (change.Offers (offer.Withdrawn i)) table first clock count o room fe
     (written_at bytes_eq i None o.four.slots (omega (arith, size, offered)) ∙ sym (held4 (with_four o ss) i (omega (arith, few, offered))))
 
 by_change6 : (keep : Option KeptSlot6) (table : DeadlinesValue) (first count : ℕ) (o : OpenCircuitValue) → first + 32 ≤ length table.slots → count ≤ 16 → length o.six.slots ≡ count → IfSome keep (λ kept. kept.slot < count)
-    → AreOldOrHeld first table (with_kept6 first keep table) (Some (with_six o (slots6.with_kept keep o.six.slots)))
+    → UnchangedOrUntilHeld first table (with_kept6 first keep table) (Some (with_six o (slots6.with_kept keep o.six.slots)))
 by_change6 None table first count o room few size kept = λ s below. inl refl
 by_change6 (Some k) table first count o room few size kept =
     let ss = slots6.with_kept (Some k) o.six.slots in
@@ -335,12 +335,12 @@ by_change6 (Some k) table first count o room few size kept =
     (written_at same_key6 k.slot (slots6.holder_of k.content) o.six.slots (omega (arith, size, kept)) ∙ sym (held6 (with_six o ss) k.slot))
 
 pub old_or_decided : (d : CircuitDecision) (table : DeadlinesValue) (first : ℕ) (o : OpenCircuitValue) → first + 32 ≤ length table.slots → KeepsItsSlot d o → LosesNoOther d o
-    → AreOldOrHeld first table (with_deadlines d first table) (Some (with_decision d o))
+    → UnchangedOrUntilHeld first table (with_deadlines d first table) (Some (with_decision d o))
 old_or_decided (V4 made) table first o room keeps others = by_change4 made.decision.change table first o.clock o.four.pool.count o room keeps.2 others.1 keeps.3 keeps.1
 old_or_decided (V6 made) table first o room keeps others = by_change6 made.decision.keep table first o.six.pool.count o room keeps.2 others.1 keeps.1
 
 -- nothing beside the circuit's slots
-beside_one : (first n : ℕ) (until : Option ℕ) (old table : DeadlinesValue) → first ≤ n → n < first + 32 → SameBeside first old table → SameBeside first old (with_until n until table)
+beside_one : (first n : ℕ) (until : Option ℕ) (old table : DeadlinesValue) → first ≤ n → n < first + 32 → OthersUnchanged first old table → OthersUnchanged first old (with_until n until table)
 beside_one first n until old table least below same =
     record {
       size = length-set table.slots n until ∙ same.size;
@@ -350,22 +350,46 @@ beside_one first n until old table least below same =
       apart : (m : ℕ) → m ≡ n → (m < first) ⊎ (first + 32 ≤ m) → ⊥
       apart m e out = omega (arith, e, out, least, below)
 
-beside_offered : (change : Option OfferChange) (first : ℕ) (old table : DeadlinesValue) → IfSome change IsOfferIn → SameBeside first old table → SameBeside first old (with_offered first change table)
+beside_offered : (change : Option OfferChange) (first : ℕ) (old table : DeadlinesValue) → IfSome change IsOfferIn → OthersUnchanged first old table → OthersUnchanged first old (with_offered first change table)
 beside_offered None first old table its same = same
 beside_offered (Some (offer.Made i k u)) first old table its same = beside_one first (first + i) (Some u) old table (omega arith) (omega (arith, its)) same
 beside_offered (Some (offer.Withdrawn i)) first old table its same = beside_one first (first + i) None old table (omega arith) (omega (arith, its)) same
 
-beside_kept4 : (keep : Option KeptSlot4) (first : ℕ) (old table : DeadlinesValue) → IfSome keep (λ kept. kept.slot < 16) → SameBeside first old table → SameBeside first old (with_kept4 first keep table)
+beside_kept4 : (keep : Option KeptSlot4) (first : ℕ) (old table : DeadlinesValue) → IfSome keep (λ kept. kept.slot < 16) → OthersUnchanged first old table → OthersUnchanged first old (with_kept4 first keep table)
 beside_kept4 None first old table its same = same
 beside_kept4 (Some kept) first old table its same = beside_one first (first + kept.slot) _ old table (omega arith) (omega (arith, its)) same
 
-beside_kept6 : (keep : Option KeptSlot6) (first : ℕ) (old table : DeadlinesValue) → IfSome keep (λ kept. kept.slot < 16) → SameBeside first old table → SameBeside first old (with_kept6 first keep table)
+beside_kept6 : (keep : Option KeptSlot6) (first : ℕ) (old table : DeadlinesValue) → IfSome keep (λ kept. kept.slot < 16) → OthersUnchanged first old table → OthersUnchanged first old (with_kept6 first keep table)
 beside_kept6 None first old table its same = same
 beside_kept6 (Some kept) first old table its same = beside_one first (first + (16 + kept.slot)) _ old table (omega arith) (omega (arith, its)) same
 
-pub unchanged : (first : ℕ) (table : DeadlinesValue) → SameBeside first table table
+pub unchanged : (first : ℕ) (table : DeadlinesValue) → OthersUnchanged first table table
 unchanged first table = record { size = refl; looks = refl; beside = λ n out. refl }
 
-pub beside_decision : (d : CircuitDecision) (table : DeadlinesValue) (first : ℕ) → HasItsSlots d → SameBeside first table (with_deadlines d first table)
+pub beside_decision : (d : CircuitDecision) (table : DeadlinesValue) (first : ℕ) → HasItsSlots d → OthersUnchanged first table (with_deadlines d first table)
 beside_decision (V4 made) table first its = beside_kept4 (kept_slot made.decision.change) first table (with_offered first (offer_change made.decision.change) table) its.0 (beside_offered (offer_change made.decision.change) first table table its.1 (unchanged first table))
 beside_decision (V6 made) table first its = beside_kept6 made.decision.keep first table table its (unchanged first table)
+
+-- ---- a circuit's entries
+
+pub set_entries : (circuit : ℕ) (state : Option OpenCircuitValue) (old new : DeadlinesValue) → AreSet (32 * circuit) 32 state old new → KeepsEntries circuit old new state
+set_entries circuit state old new are = record { deadlines = all_set (32 * circuit) state old new are; own = λ s below. inr (are.own s below); others = are.beside }
+
+pub decided_entries : (d : CircuitDecision) (table : DeadlinesValue) (circuit : ℕ) (o : OpenCircuitValue) → FitsCircuit d o → HasEntries table circuit (Some o)
+    → KeepsEntries circuit table (with_deadlines d (32 * circuit) table) (Some (with_decision d o))
+decided_entries d table circuit o fits has = record {
+  deadlines = after_decision d table (32 * circuit) o has.room fits.keeps fits.others has.deadlines;
+  own = old_or_decided d table (32 * circuit) o has.room fits.keeps fits.others;
+  others = beside_decision d table (32 * circuit) (slots_inside d o fits.keeps);
+}
+
+pub unchanged_entries : (table : DeadlinesValue) (circuit : ℕ) (state : Option OpenCircuitValue) → HasEntries table circuit state → KeepsEntries circuit table table state
+unchanged_entries table circuit state has = record { deadlines = has.deadlines; own = λ s below. inl refl; others = unchanged (32 * circuit) table }
+
+-- they stay in the table
+pub entries_after : (circuit : ℕ) (old new : DeadlinesValue) (was state : Option OpenCircuitValue) → HasEntries old circuit was → KeepsEntries circuit old new state → HasEntries new circuit state
+entries_after circuit old new was state has keeps = record { room = omega (arith, has.room, keeps.others.size); deadlines = keeps.deadlines }
+
+-- the clock moves
+pub ticked_entries : (table : DeadlinesValue) (circuit : ℕ) (old new : OpenCircuitValue) → new.four ≡ old.four → new.six ≡ old.six → old.clock ≤ new.clock → HasEntries table circuit (Some old) → HasEntries table circuit (Some new)
+ticked_entries table circuit old new four six later has = record { room = has.room; deadlines = stays_at (32 * circuit) table old new four six later has.deadlines }

@@ -5,3 +5,4 @@ pub mod DeadlineLemmas
 pub mod PreparedLemmas
 pub mod SaveLemmas
 pub mod SavedLemmas
+pub mod ServedLemmas

@@ -1,5 +1,5 @@
 -- What comes of a datagram that was prepared, once its save is done or has failed.
-use Rattle.std.proofs.Common.{◌≡◌, ◌⊎◌, inl, inr, ◌+◌, ◌∙◌, ◌≤◌, ◌==◌, ◌&&◌, ◌<◌, nat_le, nat_lt, not, ℕ, Bool, true, false, List, refl, sym, ap, subst, arith}
+use Rattle.std.proofs.Common.{◌≡◌, ◌⊎◌, inl, inr, ◌+◌, ◌*◌, ◌∙◌, ◌≤◌, ◌==◌, ◌&&◌, ◌<◌, nat_le, nat_lt, not, ℕ, Bool, true, false, List, refl, sym, ap, subst, arith}
 use Rattle.std.specs.Prelude.{Option, Some, None, option_map, is_some, Result, Ok, Err, is_ok, IfErr, IfOk, IfSome, if◌then◌else◌}
 use Rattle.std.proofs.lemmas.Bool.{eq-eqb, eqb-true, leb-true}
 use Rattle.types.specs.Delivery.{DeliveryValue}
@@ -17,18 +17,18 @@ use Rattle.batch_saves.specs.Batch.{IsReady}
 use Rattle.batch_saves.specs.declared.saving.Saving.{Saving}
 use Rattle.circuit_server.specs.Answered.{IsAnswer, answered, saves}
 use Rattle.circuit_server.specs.Calls.{IsCalledToSaveAt}
-use Rattle.circuit_server.specs.CircuitDecision.{IsToSave, IsWithin, KeepsItsSlot, LosesNoOther, is_kept, kept_in, served_by, with_decision}
+use Rattle.circuit_server.specs.CircuitDecision.{FitsCircuit, IsToSave, is_kept, kept_in, served_by, with_decision}
 use Rattle.circuit_server.specs.CircuitServerValue.{HasPools, IsReadyFor, OpenCircuitValue, open_book}
 use Rattle.circuit_server.specs.Leases.{Leases, after_datagram, formats_of, restarts_of}
-use Rattle.circuit_server.specs.Prepared.{IsDecided, IsDropped, IsMade, IsPrepared, IsSavedAlone, IsSettled, marks_by, saving_of, with_marks}
+use Rattle.circuit_server.specs.Prepared.{IsApplied, IsDecided, IsDropped, IsPrepared, IsSavedAlone, IsSettled, marks_by, saving_of, with_marks}
 use Rattle.circuit_server.specs.Server.{Served, book_at, datagram_served, drop}
-use Rattle.circuit_server.specs.Deadlines.{AreOldOrHeld, HasDeadlines, held_in}
+use Rattle.circuit_server.specs.Deadlines.{HasDeadlines, HasEntries, KeepsEntries, UnchangedOrUntilHeld, held_in}
 use Rattle.circuit_server.specs.Ticked.{IsLater, open_at}
 use Rattle.timers.specs.Deadlines.{DeadlinesValue, deadline}
 use Rattle.circuit_server.specs.declared.decision.CircuitDecision.{CircuitDecision}
 use Rattle.circuit_server.specs.declared.decision.CircuitDecision.TheVariants.{V4, V6}
 use Rattle.circuit_server.specs.declared.prepared.Prepared.{Prepared}
-use Rattle.circuit_server.proofs.AnswerLemmas.{IsServed, as_served, asked, failed, fails_by, held, leases_as, none_fails, saves_so}
+use Rattle.circuit_server.proofs.AnswerLemmas.{WasAsked, as_served, asked, failed, fails_by, held, leases_as, none_fails, saves_so}
 use Rattle.circuit_server.proofs.CalledLemmas.{called_none, called_one}
 use Rattle.circuit_server.proofs.SaveLemmas.{is_fit, is_to_save, still_ready}
 use Rattle.circuit_server.proofs.SavedLemmas.{saved_formats, saved_ready, saved_restarts}
@@ -76,7 +76,7 @@ module _ (part : CircuitPart) (d : DeliveryValue) (old new : Option OpenCircuitV
   abbrev done : Served
   done = served_by part (open_at d.moment p.before) prepared.decision
 
-  pub case : IsServed (record { part = part; state = old }) d part p.before done
+  pub case : WasAsked (record { part = part; state = old }) d part p.before done
   case = record { was = λ i. record { part = part; state = p.was i }; served_so = p.serves }
 
   own_book : (marks : Option Marks) → option_map open_book (with_marks marks new) ≡ Some done.book
@@ -259,7 +259,7 @@ pub refused_dropped : (part : CircuitPart) (d : DeliveryValue) (old : Option Ope
     → datagram_served part d.proto d.bytes (open_book later) ≡ drop why (open_book later) → ((region : Region) → IsReadyFor region (Some o) → IsReadyFor region (Some later)) → IsDropped part d old (Some later) why
 refused_dropped part d old o later why is ticked refused ready =
     let served_so = asked part d (open_book o) (open_book later) _ ticked refused in
-    let its : IsServed (record { part = part; state = old }) d part o (drop why (open_book later)) = record { was = λ i. record { part = part; state = is i }; served_so = served_so } in
+    let its : WasAsked (record { part = part; state = old }) d part o (drop why (open_book later)) = record { was = λ i. record { part = part; state = is i }; served_so = served_so } in
     record {
       answers = λ fails. as_served its fails;
       saves = saves_so its;
@@ -275,22 +275,20 @@ refused_all part d old o later (Ok decision) is ticked refused ready = tt
 refused_all part d old o later (Err why) is ticked refused ready = refused_dropped part d old o later why is ticked refused ready
 
 pub decided_all : {T : Type 0} (decided : T → CircuitDecision) (part : CircuitPart) (d : DeliveryValue) (old : Option OpenCircuitValue) (o later : OpenCircuitValue) (result : Result T Discard) → old ≡ Some o → later ≡ open_at d.moment o → open_book later ≡ book_at d.moment (open_book o)
-    → IfOk result (λ made. datagram_served part d.proto d.bytes (open_book later) ≡ served_by part later (decided made)) → IfOk result (λ made. KeepsItsSlot (decided made) later) → IfOk result (λ made. LosesNoOther (decided made) later)
-    → IfOk result (λ made. IsWithin (decided made)) → ((region : Region) → IsReadyFor region (Some o) → IsReadyFor region (Some later)) → IfOk result (λ made. IsDecided part d old (Some later) (decided made))
-decided_all decided part d old o later (Err why) was at ticked serves keeps others within ready = tt
-decided_all decided part d old o later (Ok made) was at ticked serves keeps others within ready = record {
+    → IfOk result (λ made. datagram_served part d.proto d.bytes (open_book later) ≡ served_by part later (decided made)) → IfOk result (λ made. FitsCircuit (decided made) later)
+    → ((region : Region) → IsReadyFor region (Some o) → IsReadyFor region (Some later)) → IfOk result (λ made. IsDecided part d old (Some later) (decided made))
+decided_all decided part d old o later (Err why) was at ticked serves fits ready = tt
+decided_all decided part d old o later (Ok made) was at ticked serves fits ready = record {
   before = o;
   was = was;
   is = ap Some at;
   serves = asked part d (open_book o) (open_book later) _ ticked serves ∙ ap (λ x. served_by part x (decided made)) at;
-  keeps = subst (KeepsItsSlot (decided made)) at keeps;
-  others = subst (LosesNoOther (decided made)) at others;
-  within = within;
+  fits = subst (FitsCircuit (decided made)) at fits;
   ready = λ region kept. subst (λ x. IsReadyFor region (Some x)) at (ready region (subst (IsReadyFor region) was kept));
 }
 
 module _ (part : CircuitPart) (d : DeliveryValue) (old middle new : Option OpenCircuitValue) (decision : CircuitDecision) (saving : Option Saving) (decided : IsDecided part d old middle decision)
-    (made : (before : OpenCircuitValue) → middle ≡ Some before → IsMade part decision before new saving) (pools : HasPools part new) where
+    (made : (before : OpenCircuitValue) → middle ≡ Some before → IsApplied part decision before new saving) (pools : HasPools part new) where
   pub prepared_of : IsPrepared part d old new (record { decision = decision; saving = saving })
   prepared_of =
       let m = made (open_at d.moment decided.before) decided.is in
@@ -302,8 +300,8 @@ module _ (part : CircuitPart) (d : DeliveryValue) (old middle new : Option OpenC
         decided = m.decided;
         serves = decided.serves;
         saving = m.saving_is;
-        keeps = decided.keeps;
-        within = decided.within;
+        keeps = decided.fits.keeps;
+        within = decided.fits.within;
         pools = pools;
         ready = decided.ready;
         book = m.book;
@@ -312,7 +310,7 @@ module _ (part : CircuitPart) (d : DeliveryValue) (old middle new : Option OpenC
 
 -- of a result that was looked at
 pub prepared_by : {T : Type 0} (decided : T → CircuitDecision) (part : CircuitPart) (d : DeliveryValue) (old middle new : Option OpenCircuitValue) (result : Result T Discard) (made : T) (saving : Option Saving) → result ≡ Ok made → IfOk result (λ made. IsDecided part d old middle (decided made))
-    → ((before : OpenCircuitValue) → middle ≡ Some before → IsMade part (decided made) before new saving) → HasPools part new → IsPrepared part d old new (record { decision = decided made; saving = saving })
+    → ((before : OpenCircuitValue) → middle ≡ Some before → IsApplied part (decided made) before new saving) → HasPools part new → IsPrepared part d old new (record { decision = decided made; saving = saving })
 prepared_by decided part d old middle new result made saving is its makes pools = prepared_of part d old middle new (decided made) saving (subst (λ r. IfOk r (λ made. IsDecided part d old middle (decided made))) is its) makes pools
 
 pub dropped_by : {T : Type 0} (part : CircuitPart) (d : DeliveryValue) (old new : Option OpenCircuitValue) (result : Result T Discard) (why : Discard) → result ≡ Err why → IfErr result (IsDropped part d old new) → IsDropped part d old new why
@@ -325,10 +323,13 @@ marked_pools part None state pools = pools
 marked_pools part (Some marks) None pools = pools
 marked_pools part (Some marks) (Some o) pools = pools
 
-pub marked_deadlines : (table : DeadlinesValue) (first : ℕ) (marks : Option Marks) (state : Option OpenCircuitValue) → HasDeadlines table first state → HasDeadlines table first (with_marks marks state)
+marked_deadlines : (table : DeadlinesValue) (first : ℕ) (marks : Option Marks) (state : Option OpenCircuitValue) → HasDeadlines table first state → HasDeadlines table first (with_marks marks state)
 marked_deadlines table first None state has = has
 marked_deadlines table first (Some marks) None has = has
 marked_deadlines table first (Some marks) (Some o) has = has
+
+pub marked_entries : (table : DeadlinesValue) (circuit : ℕ) (marks : Option Marks) (state : Option OpenCircuitValue) → HasEntries table circuit state → HasEntries table circuit (with_marks marks state)
+marked_entries table circuit marks state has = record { room = has.room; deadlines = marked_deadlines table (32 * circuit) marks state has.deadlines }
 
 pub marked_later : (moment : ℕ) (marks : Option Marks) (state : Option OpenCircuitValue) → IsLater moment state → IsLater moment (with_marks marks state)
 marked_later moment None state later = later
@@ -342,7 +343,7 @@ marked_held (Some marks) None s = refl
 marked_held (Some marks) (Some o) s = refl
 
 pub answered_own : (part : CircuitPart) (prepared : Prepared) (saved : Result (Option Marks) Fault) (first : ℕ) (old middle new : DeadlinesValue) (state final : Option OpenCircuitValue) (result : Result (Unit {0}) Discard) (out : List ℕ)
-    → IsSettled part prepared saved state final result out → AreOldOrHeld first old middle state → AreOldOrHeld first middle new final → HasDeadlines new first final → AreOldOrHeld first old new final
+    → IsSettled part prepared saved state final result out → UnchangedOrUntilHeld first old middle state → UnchangedOrUntilHeld first middle new final → HasDeadlines new first final → UnchangedOrUntilHeld first old new final
 answered_own part prepared (Ok marks) first old middle new state final result out settled before after has = λ s below. by s (before s below) (after s below) where
   by : (s : ℕ) → (deadline middle (first + s) ≡ deadline old (first + s)) ⊎ (deadline middle (first + s) ≡ held_in state s) → (deadline new (first + s) ≡ deadline middle (first + s)) ⊎ (deadline new (first + s) ≡ held_in final s)
       → (deadline new (first + s) ≡ deadline old (first + s)) ⊎ (deadline new (first + s) ≡ held_in final s)
@@ -351,3 +352,11 @@ answered_own part prepared (Ok marks) first old middle new state final result ou
   by s (inr held) (inl still) = inr (still ∙ held ∙ marked_held marks state s ∙ ap (λ (x : Option OpenCircuitValue). held_in x s) (sym settled.0))
 answered_own part prepared (Err fault) first old middle new state final result out settled before after has = λ s below.
     inr (subst (HasDeadlines new first) settled.0 has s below ∙ ap (λ (x : Option OpenCircuitValue). held_in x s) (sym settled.0))
+
+pub answered_entries : (part : CircuitPart) (prepared : Prepared) (saved : Result (Option Marks) Fault) (circuit : ℕ) (old middle new : DeadlinesValue) (state final : Option OpenCircuitValue) (result : Result (Unit {0}) Discard) (out : List ℕ)
+    → IsSettled part prepared saved state final result out → KeepsEntries circuit old middle state → KeepsEntries circuit middle new final → KeepsEntries circuit old new final
+answered_entries part prepared saved circuit old middle new state final result out settled before after = record {
+  deadlines = after.deadlines;
+  own = answered_own part prepared saved (32 * circuit) old middle new state final result out settled before.own after.own after.deadlines;
+  others = record { size = after.others.size ∙ before.others.size; looks = after.others.looks ∙ before.others.looks; beside = λ n out. after.others.beside n out ∙ before.others.beside n out };
+}

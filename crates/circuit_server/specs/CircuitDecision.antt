@@ -64,6 +64,12 @@ abbrev pub IsWithin : CircuitDecision → Type 0
 IsWithin (V4 made) = IfSome (kept_slot made.decision.change) (λ kept. IsWithin4 kept.content) × IfSome (offer_change made.decision.change) slots4.IsOfferWithin
 IsWithin (V6 made) = IfSome made.decision.keep (λ kept. IsWithin6 kept.content)
 
+-- A decision that an open circuit made, of itself.
+pub record FitsCircuit (decision : CircuitDecision) (o : OpenCircuitValue) : Type 0 where
+  pub keeps : KeepsItsSlot decision o
+  pub others : LosesNoOther decision o
+  pub within : IsWithin decision
+
 -- what an open circuit serves by a decision
 abbrev pub served_by : CircuitPart → OpenCircuitValue → CircuitDecision → Served
 served_by part o decision = record { answer = answer_of part decision; book = open_book (with_decision decision o); is_kept = is_kept decision }

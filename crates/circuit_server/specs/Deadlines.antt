@@ -1,6 +1,6 @@
 -- What the table of deadlines has of each circuit. Slot s of circuit c has the number 32 c + s; a circuit's slots of the
 -- DHCPv4 pool begin at 0, those of the DHCPv6 pool at 16.
-use Rattle.std.specs.Prelude.{◌≡◌, ◌⊎◌, ℕ, ◌+◌, ◌-◌, ◌<◌, ◌≤◌, nat_lt, if◌then◌else◌, length, map, Option, Some, None, option_map, IfSome, slice_index_or, slice_set}
+use Rattle.std.specs.Prelude.{◌≡◌, ◌⊎◌, ℕ, ◌+◌, ◌-◌, ◌*◌, ◌<◌, ◌≤◌, nat_lt, if◌then◌else◌, length, map, Option, Some, None, option_map, IfSome, slice_index_or, slice_set}
 use Rattle.slots.specs.Lookup.{until_of}
 use Rattle.timers.specs.Deadlines.{DeadlinesValue, deadline, entry_after_sweep}
 use Rattle.bindings_v4.specs.Decision4.{kept_slot, offer_change}
@@ -36,16 +36,27 @@ HasDeadlines table first None = (s : ℕ) → s < 32 → deadline table (first +
 HasDeadlines table first (Some o) = (s : ℕ) → s < 32 → entry_after_sweep o.clock (deadline table (first + s)) ≡ live_until o s
 
 -- each deadline of a circuit is what it was, or until when its slot is held now
-abbrev pub AreOldOrHeld : ℕ → DeadlinesValue → DeadlinesValue → Option OpenCircuitValue → Type 0
-AreOldOrHeld first old new state = (s : ℕ) → s < 32 → (deadline new (first + s) ≡ deadline old (first + s)) ⊎ (deadline new (first + s) ≡ held_in state s)
+abbrev pub UnchangedOrUntilHeld : ℕ → DeadlinesValue → DeadlinesValue → Option OpenCircuitValue → Type 0
+UnchangedOrUntilHeld first old new state = (s : ℕ) → s < 32 → (deadline new (first + s) ≡ deadline old (first + s)) ⊎ (deadline new (first + s) ≡ held_in state s)
 
 -- ---- no public call of `dispatch` speaks of these
 
 -- all but the 32 slots from this number on have the deadlines that they had, and no entry was looked at
-pub record SameBeside (first : ℕ) (old new : DeadlinesValue) : Type 0 where
+pub record OthersUnchanged (first : ℕ) (old new : DeadlinesValue) : Type 0 where
   pub size : length new.slots ≡ length old.slots
   pub looks : new.looks ≡ old.looks
   pub beside : (n : ℕ) → (n < first) ⊎ (first + 32 ≤ n) → deadline new n ≡ deadline old n
+
+-- The circuit's 32 entries are in the table, and say what its state says.
+pub record HasEntries (table : DeadlinesValue) (circuit : ℕ) (state : Option OpenCircuitValue) : Type 0 where
+  pub room : 32 * circuit + 32 ≤ length table.slots
+  pub deadlines : HasDeadlines table (32 * circuit) state
+
+-- The circuit's entries say what its new state says: each is what it was, or until when its slot is held now. All others are what they were.
+pub record KeepsEntries (circuit : ℕ) (old new : DeadlinesValue) (state : Option OpenCircuitValue) : Type 0 where
+  pub deadlines : HasDeadlines new (32 * circuit) state
+  pub own : UnchangedOrUntilHeld (32 * circuit) old new state
+  pub others : OthersUnchanged (32 * circuit) old new
 
 abbrev pub swept : ℕ → DeadlinesValue → DeadlinesValue
 swept now table = record table { slots = map (entry_after_sweep now) table.slots }

@@ -118,6 +118,6 @@ found_leases regions faults part = region_leases part (faults part.region) (regi
 
 -- What a restart does to a circuit's region, where the device tells: one that can be read is moved where it is of format 1
 -- and holds a book; any other stays as it is.
-pub record IsBroughtUp (counts : List ℕ) (fault : ℕ) (old new : Region) : Type 0 where
+pub record IsRegionMigrated (counts : List ℕ) (fault : ℕ) (old new : Region) : Type 0 where
   pub still : moves counts old ≡ false → new ≡ old
   pub moved : old.readable ≡ true → IsMigrated counts fault old new

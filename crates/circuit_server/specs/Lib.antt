@@ -5,6 +5,8 @@ pub mod CircuitServerValue
 pub mod Deadlines
 pub mod Leases
 pub mod Prepared
+pub mod Restarted
+pub mod Served
 pub mod Server
 pub mod SlotsOfPools
 pub mod Ticked

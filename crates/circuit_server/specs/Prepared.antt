@@ -13,7 +13,7 @@ use Rattle.lease_disk.specs.Region.{Region, effective, faults_after}
 use Rattle.lease_disk.specs.Save.{IsSaveOf}
 use Rattle.batch_saves.specs.declared.saving.Saving.{Saving}
 use Rattle.circuit_server.specs.Answered.{IsAnswer, answered, circuit_saves}
-use Rattle.circuit_server.specs.CircuitDecision.{IsWithin, KeepsItsSlot, LosesNoOther, answer_of, kept_in, served_by, with_decision}
+use Rattle.circuit_server.specs.CircuitDecision.{FitsCircuit, IsWithin, KeepsItsSlot, answer_of, kept_in, served_by, with_decision}
 use Rattle.circuit_server.specs.CircuitServerValue.{HasPools, IsReadyFor, OpenCircuitValue, counts_in, kept_slots, leases_of, open_book}
 use Rattle.circuit_server.specs.Leases.{after_datagram, book_in}
 use Rattle.circuit_server.specs.Server.{kept_book, served}
@@ -31,14 +31,12 @@ pub record IsDecided (part : CircuitPart) (d : DeliveryValue) (old new : Option 
   pub was : old ≡ Some before
   pub is : new ≡ Some (open_at d.moment before)
   pub serves : served part d (open_book before) ≡ served_by part (open_at d.moment before) decision
-  pub keeps : KeepsItsSlot decision (open_at d.moment before)
-  pub others : LosesNoOther decision (open_at d.moment before)
-  pub within : IsWithin decision
+  pub fits : FitsCircuit decision (open_at d.moment before)
   -- its region is as ready at the datagram's moment as it was before
   pub ready : (region : Region) → IsReadyFor region old → IsReadyFor region (Some (open_at d.moment before))
 
 -- A decision's changes of the books are made, and this is to be saved.
-pub record IsMade (part : CircuitPart) (decision : CircuitDecision) (before : OpenCircuitValue) (new : Option OpenCircuitValue) (saving : Option Saving) : Type 0 where
+pub record IsApplied (part : CircuitPart) (decision : CircuitDecision) (before : OpenCircuitValue) (new : Option OpenCircuitValue) (saving : Option Saving) : Type 0 where
   pub after : OpenCircuitValue
   pub is : new ≡ Some after
   pub decided : after ≡ with_decision decision before
@@ -88,9 +86,9 @@ pub record IsSavedAlone (tells : Bool) (result : Result (Option Marks) Fault) (o
   pub failures : new.failures ≡ faults_after s.region result old.failures
 
 -- A decision's changes of the books are made, and what has to be saved, if anything, was saved alone.
-pub record IsMadeAndSaved (tells : Bool) (part : CircuitPart) (decision : CircuitDecision) (old new : Option OpenCircuitValue) (result : Result (Option Marks) Fault) (was later : Device) : Type 0 where
+pub record IsAppliedAndSaved (tells : Bool) (part : CircuitPart) (decision : CircuitDecision) (old new : Option OpenCircuitValue) (result : Result (Option Marks) Fault) (was later : Device) : Type 0 where
   pub saving : Option Saving
-  pub made : (before : OpenCircuitValue) → old ≡ Some before → IsMade part decision before new saving
+  pub applied : (before : OpenCircuitValue) → old ≡ Some before → IsApplied part decision before new saving
   pub nothing : saving ≡ None → (result ≡ Ok None) × (later ≡ was)
   pub saved : IfSome saving (IsSavedAlone tells result was later)
 

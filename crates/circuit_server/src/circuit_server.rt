@@ -1,25 +1,25 @@
 //! The server of one circuit: what it has while it is open, and what it makes of a message.
-ghost use Rattle.std.specs.Prelude.{◌≡◌, ◌<◌, ◌≤◌, ◌+◌, ℕ, Option, length, [], Some, None, IfOk, IfErr, IfSome, true, is_some, option_map};
+ghost use Rattle.std.specs.Prelude.{◌≡◌, ◌<◌, ◌≤◌, ◌+◌, ◌*◌, ℕ, Option, length, [], Some, None};
+ghost use Rattle.std.specs.Prelude.{IfOk, IfErr, IfSome, true, is_some, option_map};
 ghost use Rattle.config.specs.CircuitPart.{IsPart};
-ghost use Rattle.circuit_server.specs.Deadlines.{AreOldOrHeld, HasDeadlines, SameBeside, held_in};
-ghost use Rattle.circuit_server.specs.Leases.{IsBroughtUp, after_datagram, counts_of, found_leases};
+ghost use Rattle.circuit_server.specs.Deadlines.{HasEntries, KeepsEntries, held_in};
+ghost use Rattle.circuit_server.specs.Restarted.{IsRestarted};
+ghost use Rattle.circuit_server.specs.Served.{IsServed};
 ghost use Rattle.timers.specs.Deadlines.{DeadlinesValue, deadline};
 ghost use Rattle.types.specs.Slots.{last_until};
-ghost use Rattle.circuit_server.specs.Answered.{IsAnswer, answered, circuit_saves, fails_at};
 ghost use Rattle.requests.specs.RelayedMessage.{IsRelayedMessage};
-ghost use Rattle.circuit_server.specs.Prepared.{IsDecided, IsDecisionSettled, IsDropped, IsMade, IsMadeAndSaved, IsPrepared, IsSettled, with_marks};
-ghost use Rattle.circuit_server.specs.Calls.{IsCalledToSaveAt};
-ghost use Rattle.circuit_server.specs.CircuitDecision.{IsWithin, KeepsItsSlot, LosesNoOther, with_decision};
+ghost use Rattle.circuit_server.specs.Prepared.{IsApplied, IsAppliedAndSaved, IsDecided, IsDropped, IsPrepared};
+ghost use Rattle.circuit_server.specs.Prepared.{IsDecisionSettled, IsSettled, with_marks};
+ghost use Rattle.circuit_server.specs.CircuitDecision.{FitsCircuit, with_decision};
 ghost use Rattle.batch_saves.specs.Batch.{IsReady};
 ghost use Rattle.batch_saves.specs.declared.saving.Saving as saved;
-ghost use Rattle.circuit_server.specs.CircuitServerValue.{HasPools, IsReadyFor, OpenCircuitValue, kept_slots, leases_of, open_book};
-ghost use Rattle.circuit_server.specs.SlotsOfPools.{HasSlots};
+ghost use Rattle.circuit_server.specs.CircuitServerValue.{HasPools, IsReadyFor, OpenCircuitValue, kept_slots, open_book};
 ghost use Rattle.circuit_server.specs.Ticked.{IsLater, state_at};
 ghost use Rattle.circuit_server.specs.Unoffered.{state_unoffered};
-ghost use Rattle.lease_disk.specs.Device.{ChangesOne, Touches, WritesAt, has_failed};
+ghost use Rattle.lease_disk.specs.Device.{ChangesOne};
 ghost use Rattle.lease_disk.specs.Region.{IsClean};
 
-use crate::decision::{CircuitDecision, CircuitDecision4, CircuitDecision6, Decide, put};
+use crate::decision::{CircuitDecision, CircuitDecision4, CircuitDecision6, Decide, SLOTS, put};
 use crate::open_circuit::OpenCircuit;
 use crate::prepared::{Prepared, save_alone};
 use batch_saves::Saving;
@@ -28,16 +28,16 @@ use lease_disk::{Disk, Fault, Marks, migrate};
 use requests::RelayedMessage;
 use std::marker::Model;
 use timers::Deadlines;
-use types::{Delivery, Discard, Moment, Slots};
+use types::{Circuit, Delivery, Discard, Moment, Slots};
 use wire::PacketBuf;
 
 /// The server of one circuit: what it has while the circuit is open. A part is the circuit's part of the
 /// configuration, the same at each call, and a device the one that its region is on, which nobody else writes to
-/// meanwhile. The table is that of all circuits, in seconds; `first` is the number of the circuit's first slot in it,
-/// 32 times its index. No call takes memory.
+/// meanwhile. The table is that of all circuits, in seconds, and each call that is given one is told which circuit
+/// of them this is. No call takes memory.
 #[derive(Drop)]
 pub struct CircuitServer {
-    state: Option<OpenCircuit>,
+    pub(crate) state: Option<OpenCircuit>,
 }
 
 impl Model for CircuitServer {
@@ -72,15 +72,6 @@ impl CircuitServer {
         self.state.as_ref().map(|circuit| circuit.slots_at(now))
     }
 
-    /// An open circuit has slots of its books' pools. Nothing is done: this is called for its contract.
-    pub fn has_slots(&self)
-        ensures { IfSome self.now HasSlots }
-    {
-        if let Some(circuit) = &self.state {
-            circuit.has_slots();
-        }
-    }
-
     /// Begins with what the circuit's region holds. A region of format 1 is moved to format 2 first, in this buffer. The
     /// circuit is closed where the region cannot be read or is damaged, and where the move fails. The deadlines of its slots
     /// are for the caller to set.
@@ -88,11 +79,10 @@ impl CircuitServer {
         requires part { IsPart part.now }
         requires exists { part.now.region < (D.device disk.old).count }
         requires buffer { length buffer.old ≡ 16384 }
-        requires clean { D.tells ≡ true → ((D.device disk.old).region part.now.region).readable ≡ true → IsClean ((D.device disk.old).region part.now.region) }
+        requires clean { D.tells ≡ true → ((D.device disk.old).region part.now.region).readable ≡ true
+            → IsClean ((D.device disk.old).region part.now.region) }
         ensures pools { HasPools part.now self.new }
-        ensures leases { D.tells ≡ true → leases_of (D.device disk.new).region (record { part = part.now; state = self.new }) ≡ found_leases (D.device disk.old).region (D.device disk.old).fuse part.now }
-        ensures ready { D.tells ≡ true → IsReadyFor ((D.device disk.new).region part.now.region) self.new }
-        ensures region { D.tells ≡ true → IsBroughtUp (counts_of part.now) ((D.device disk.old).fuse part.now.region) ((D.device disk.old).region part.now.region) ((D.device disk.new).region part.now.region) }
+        ensures restarted { IsRestarted D.tells part.now self.new (D.device disk.old) (D.device disk.new) }
         ensures frame { ChangesOne D.tells part.now.region (D.device disk.old) (D.device disk.new) }
         ensures reads { (D.device disk.new).reads ≤ (D.device disk.old).reads + 5 }
         ensures writes { (D.device disk.new).writes ≤ (D.device disk.old).writes + 4 }
@@ -117,7 +107,7 @@ impl CircuitServer {
         requires pools { HasPools part.now self.old }
         ensures later { (moment : ℕ) → IsLater moment self.old → IsLater moment self.new }
         ensures pools { HasPools part.now self.new }
-        ensures deadlines { (table : DeadlinesValue) (first : ℕ) → HasDeadlines table first self.old → HasDeadlines table first self.new }
+        ensures entries { (table : DeadlinesValue) (circuit : ℕ) → HasEntries table circuit self.old → HasEntries table circuit self.new }
         ensures decided { IfOk result (λ made. IsDecided part.now delivery.now self.old self.new (C.decision made)) }
         ensures dropped { IfErr result (IsDropped part.now delivery.now self.old self.new) }
     {
@@ -129,90 +119,72 @@ impl CircuitServer {
     }
 
     /// Makes what a decision of an open circuit changes of the books and the deadlines.
-    fn change<C: Decide>(&mut self, decision: &C, table: &mut Deadlines, first: usize)
-        requires room { first + 32 ≤ length table.old.slots }
-        requires most { first ≤ 32736 }
-        requires deadlines { HasDeadlines table.old first self.old }
-        requires keeps { IfSome self.old (KeepsItsSlot (C.decision decision.now)) }
-        requires others { IfSome self.old (LosesNoOther (C.decision decision.now)) }
-        requires within { IsWithin (C.decision decision.now) }
-        ensures deadlines { HasDeadlines table.new first self.new }
-        ensures beside { SameBeside first table.old table.new }
-        ensures own { AreOldOrHeld first table.old table.new self.new }
-        ensures changed { self.new ≡ option_map (with_decision (C.decision decision.now)) self.old }
+    fn apply<C: Decide>(&mut self, decision: &C, table: &mut Deadlines, circuit: Circuit)
+        requires entries { HasEntries table.old circuit self.old }
+        requires fits { IfSome self.old (FitsCircuit (C.decision decision.now)) }
+        ensures entries { KeepsEntries circuit table.old table.new self.new }
+        ensures applied { self.new ≡ option_map (with_decision (C.decision decision.now)) self.old }
     {
-        let circuit = match &mut self.state {
-            Some(circuit) => circuit,
-            None => return,
+        let Some(state) = &mut self.state else {
+            return;
         };
-        decision.commit(circuit);
-        decision.set_deadlines(table, first);
+        decision.commit(state);
+        decision.set_deadlines(table, circuit);
     }
 
-    /// The same. Returns what has to be saved before its reply leaves, if anything.
+    /// Makes what a decision of an open circuit changes of the books and the deadlines. Returns what has to be saved before
+    /// its reply leaves, if anything.
     // not inlined: most datagrams save nothing, and the room for a save is large
     #[inline(never)]
-    fn make<C: Decide>(
+    fn apply_for_save<C: Decide>(
         &mut self,
         part: &CircuitPart,
         decision: &C,
         table: &mut Deadlines,
-        first: usize,
+        circuit: Circuit,
     ) -> Option<Saving>
-        requires room { first + 32 ≤ length table.old.slots }
-        requires most { first ≤ 32736 }
-        requires deadlines { HasDeadlines table.old first self.old }
+        requires entries { HasEntries table.old circuit self.old }
         requires pools { HasPools part.now self.old }
-        requires keeps { IfSome self.old (KeepsItsSlot (C.decision decision.now)) }
-        requires others { IfSome self.old (LosesNoOther (C.decision decision.now)) }
-        requires within { IsWithin (C.decision decision.now) }
+        requires fits { IfSome self.old (FitsCircuit (C.decision decision.now)) }
         ensures later { (moment : ℕ) → IsLater moment self.old → IsLater moment self.new }
         ensures pools { HasPools part.now self.new }
-        ensures deadlines { HasDeadlines table.new first self.new }
-        ensures beside { SameBeside first table.old table.new }
-        ensures own { AreOldOrHeld first table.old table.new self.new }
-        ensures made { (before : OpenCircuitValue) → self.old ≡ Some before → IsMade part.now (C.decision decision.now) before self.new result }
+        ensures entries { KeepsEntries circuit table.old table.new self.new }
+        ensures applied { (before : OpenCircuitValue) → self.old ≡ Some before
+            → IsApplied part.now (C.decision decision.now) before self.new result }
     {
-        self.change(decision, table, first);
-        let Some(circuit) = &self.state else {
-            return None;
-        };
-        match decision.kept() {
-            Some((slot, content)) => Some(circuit.saving(part, slot, content)),
-            None => None,
-        }
+        self.apply(decision, table, circuit);
+        let state = self.state.as_ref()?;
+        let (slot, content) = decision.kept()?;
+        Some(state.saving(part, slot, content))
     }
 
-    /// The same, and saves what has to be saved, if anything, alone. Returns the marks of the region after it.
-    fn make_and_save<C: Decide, D: Disk>(
+    /// Makes what a decision of an open circuit changes of the books and the deadlines, and saves what has to be saved, if
+    /// anything, alone. Returns the marks of the region after it.
+    fn apply_and_save<C: Decide, D: Disk>(
         &mut self,
         part: &CircuitPart,
         decision: &C,
         disk: &mut D,
         table: &mut Deadlines,
-        first: usize,
+        circuit: Circuit,
     ) -> Result<Option<Marks>, Fault>
-        requires room { first + 32 ≤ length table.old.slots }
-        requires most { first ≤ 32736 }
-        requires deadlines { HasDeadlines table.old first self.old }
+        requires entries { HasEntries table.old circuit self.old }
         requires pools { HasPools part.now self.old }
-        requires keeps { IfSome self.old (KeepsItsSlot (C.decision decision.now)) }
-        requires others { IfSome self.old (LosesNoOther (C.decision decision.now)) }
-        requires within { IsWithin (C.decision decision.now) }
+        requires fits { IfSome self.old (FitsCircuit (C.decision decision.now)) }
         requires ready { (new : Option OpenCircuitValue) (saving : Option saved.Saving) → HasPools part.now new
-            → ((before : OpenCircuitValue) → self.old ≡ Some before → IsMade part.now (C.decision decision.now) before new saving) → IfSome saving (IsReady D.tells (D.device disk.old)) }
+            → ((before : OpenCircuitValue) → self.old ≡ Some before → IsApplied part.now (C.decision decision.now) before new saving)
+            → IfSome saving (IsReady D.tells (D.device disk.old)) }
         ensures later { (moment : ℕ) → IsLater moment self.old → IsLater moment self.new }
         ensures pools { HasPools part.now self.new }
-        ensures deadlines { HasDeadlines table.new first self.new }
-        ensures beside { SameBeside first table.old table.new }
-        ensures own { AreOldOrHeld first table.old table.new self.new }
-        ensures saved { IsMadeAndSaved D.tells part.now (C.decision decision.now) self.old self.new result (D.device disk.old) (D.device disk.new) }
+        ensures entries { KeepsEntries circuit table.old table.new self.new }
+        ensures saved { IsAppliedAndSaved D.tells part.now (C.decision decision.now) self.old self.new result (D.device disk.old)
+            (D.device disk.new) }
     {
         if !decision.saves() {
-            self.change(decision, table, first);
+            self.apply(decision, table, circuit);
             return Ok(None);
         }
-        let saving = self.make(part, decision, table, first);
+        let saving = self.apply_for_save(part, decision, table, circuit);
         save_alone(&saving, disk)
     }
 
@@ -225,18 +197,14 @@ impl CircuitServer {
         delivery: &Delivery<'_>,
         relayed: RelayedMessage<'a>,
         table: &mut Deadlines,
-        first: usize,
+        circuit: Circuit,
     ) -> Result<Prepared<'a>, Discard>
         requires read { IsRelayedMessage delivery.now.proto delivery.now.bytes relayed }
-        requires room { first + 32 ≤ length table.old.slots }
-        requires most { first ≤ 32736 }
-        requires deadlines { HasDeadlines table.old first self.old }
+        requires entries { HasEntries table.old circuit self.old }
         requires pools { HasPools part.now self.old }
         ensures later { (moment : ℕ) → IsLater moment self.old → IsLater moment self.new }
         ensures pools { HasPools part.now self.new }
-        ensures deadlines { HasDeadlines table.new first self.new }
-        ensures beside { SameBeside first table.old table.new }
-        ensures own { AreOldOrHeld first table.old table.new self.new }
+        ensures entries { KeepsEntries circuit table.old table.new self.new }
         ensures prepared { IfOk result (IsPrepared part.now delivery.now self.old self.new) }
         ensures dropped { IfErr result (IsDropped part.now delivery.now self.old self.new) }
     {
@@ -244,7 +212,7 @@ impl CircuitServer {
             Ok(decision) => decision,
             Err(why) => return Err(why),
         };
-        let saving = self.make(part, &decision, table, first);
+        let saving = self.apply_for_save(part, &decision, table, circuit);
         Ok(Prepared { decision, saving })
     }
 
@@ -257,24 +225,21 @@ impl CircuitServer {
         saved: Result<Option<Marks>, Fault>,
         out: &mut PacketBuf,
         table: &mut Deadlines,
-        first: usize,
+        circuit: Circuit,
     ) -> Result<(), Discard>
         requires empty { out.old ≡ [] }
-        requires room { first + 32 ≤ length table.old.slots }
-        requires most { first ≤ 32736 }
-        requires deadlines { HasDeadlines table.old first self.old }
+        requires entries { HasEntries table.old circuit self.old }
         requires pools { HasPools part.now self.old }
         ensures later { (moment : ℕ) → IsLater moment self.old → IsLater moment self.new }
         ensures pools { HasPools part.now self.new }
-        ensures deadlines { HasDeadlines table.new first self.new }
-        ensures beside { SameBeside first table.old table.new }
-        ensures own { AreOldOrHeld first table.old table.new self.new }
+        ensures entries { KeepsEntries circuit table.old table.new self.new }
         ensures settled { IsSettled part.now prepared.now saved self.old self.new result out.new }
     {
-        self.settle_decision(part, &prepared.decision, saved, out, table, first)
+        self.settle_decision(part, &prepared.decision, saved, out, table, circuit)
     }
 
-    /// The same of a decision whose changes are made.
+    /// Answers by a decision whose changes are made, and by its save: the marks of the region after it, or that it failed,
+    /// which closes the circuit.
     fn settle_decision<C: Decide>(
         &mut self,
         part: &CircuitPart,
@@ -282,31 +247,23 @@ impl CircuitServer {
         saved: Result<Option<Marks>, Fault>,
         out: &mut PacketBuf,
         table: &mut Deadlines,
-        first: usize,
+        circuit: Circuit,
     ) -> Result<(), Discard>
         requires empty { out.old ≡ [] }
-        requires room { first + 32 ≤ length table.old.slots }
-        requires most { first ≤ 32736 }
-        requires deadlines { HasDeadlines table.old first self.old }
+        requires entries { HasEntries table.old circuit self.old }
         requires pools { HasPools part.now self.old }
         ensures later { (moment : ℕ) → IsLater moment self.old → IsLater moment self.new }
         ensures pools { HasPools part.now self.new }
-        ensures deadlines { HasDeadlines table.new first self.new }
-        ensures beside { SameBeside first table.old table.new }
-        ensures own { AreOldOrHeld first table.old table.new self.new }
+        ensures entries { KeepsEntries circuit table.old table.new self.new }
         ensures settled { IsDecisionSettled part.now (C.decision decision.now) saved self.old self.new result out.new }
     {
-        match saved {
-            Ok(marks) => {
-                self.set_marks(marks);
-                decision.reply(part, out)
-            }
-            Err(_) => {
-                self.state = None;
-                self.set_deadlines(table, first);
-                Err(Discard::DiskFault)
-            }
-        }
+        let Ok(marks) = saved else {
+            self.state = None;
+            self.set_deadlines(table, circuit);
+            return Err(Discard::DiskFault);
+        };
+        self.set_marks(marks);
+        decision.reply(part, out)
     }
 
     /// The marks of its region after a save, if there was one.
@@ -329,48 +286,30 @@ impl CircuitServer {
         disk: &mut D,
         out: &mut PacketBuf,
         table: &mut Deadlines,
-        first: usize,
+        circuit: Circuit,
     ) -> Result<(), Discard>
         requires read { IsRelayedMessage delivery.now.proto delivery.now.bytes relayed }
         requires empty { out.old ≡ [] }
         requires exists { part.now.region < (D.device disk.old).count }
-        requires room { first + 32 ≤ length table.old.slots }
-        requires most { first ≤ 32736 }
-        requires deadlines { HasDeadlines table.old first self.old }
+        requires entries { HasEntries table.old circuit self.old }
         requires pools { HasPools part.now self.old }
         requires ready { D.tells ≡ true → IsReadyFor ((D.device disk.old).region part.now.region) self.old }
         ensures later { (moment : ℕ) → IsLater moment self.old → IsLater moment self.new }
-        ensures pools { HasPools part.now self.new }
-        ensures deadlines { HasDeadlines table.new first self.new }
-        ensures beside { SameBeside first table.old table.new }
-        ensures own { AreOldOrHeld first table.old table.new self.new }
-        ensures answer { IsAnswer (answered part.now delivery.now (has_failed (D.device disk.old) (D.device disk.new) part.now.region) (option_map open_book self.old)).answer result out.new }
-        ensures book { option_map open_book self.new ≡ (answered part.now delivery.now (has_failed (D.device disk.old) (D.device disk.new) part.now.region) (option_map open_book self.old)).book }
-        ensures fails { D.tells ≡ true → (r : ℕ) → has_failed (D.device disk.old) (D.device disk.new) r ≡ fails_at (D.device disk.old).fuse (circuit_saves delivery.now (Some part.now) (Some (option_map open_book self.old))) r }
-        ensures leases { D.tells ≡ true
-            → leases_of (D.device disk.new).region (record { part = part.now; state = self.new })
-            ≡ after_datagram part.now delivery.now ((D.device disk.old).fuse part.now.region) (leases_of (D.device disk.old).region (record { part = part.now; state = self.old })) }
-        ensures ready { D.tells ≡ true → IsReadyFor ((D.device disk.new).region part.now.region) self.new }
-        ensures writes { WritesAt D.tells (circuit_saves delivery.now (Some part.now) (Some (option_map open_book self.old))) (D.device disk.old) (D.device disk.new) }
-        ensures frame { Touches D.tells part.now.region (D.device disk.old) (D.device disk.new) }
-        ensures calls { IsCalledToSaveAt (circuit_saves delivery.now (Some part.now) (Some (option_map open_book self.old))) (D.device disk.old) (D.device disk.new) }
+        ensures entries { KeepsEntries circuit table.old table.new self.new }
+        ensures served { IsServed D.tells part.now delivery.now self.old self.new result out.new (D.device disk.old) (D.device disk.new) }
     {
         match relayed {
-            RelayedMessage::V4(message) => {
-                self.answer_by::<CircuitDecision4<'_>, D>(
-                    part, delivery, message, disk, out, table, first,
-                )
-            }
-            RelayedMessage::V6(forward) => {
-                self.answer_by::<CircuitDecision6<'_>, D>(
-                    part, delivery, forward, disk, out, table, first,
-                )
-            }
+            RelayedMessage::V4(message) => self.answer_with::<CircuitDecision4<'_>, D>(
+                part, delivery, message, disk, out, table, circuit,
+            ),
+            RelayedMessage::V6(forward) => self.answer_with::<CircuitDecision6<'_>, D>(
+                part, delivery, forward, disk, out, table, circuit,
+            ),
         }
     }
 
-    /// The same, by a decision of one type: of either protocol alone.
-    fn answer_by<C: Decide, D: Disk>(
+    /// Answers a datagram of the circuit by a decision of this type: of either protocol alone.
+    fn answer_with<C: Decide, D: Disk>(
         &mut self,
         part: &CircuitPart,
         delivery: &Delivery<'_>,
@@ -378,38 +317,24 @@ impl CircuitServer {
         disk: &mut D,
         out: &mut PacketBuf,
         table: &mut Deadlines,
-        first: usize,
+        circuit: Circuit,
     ) -> Result<(), Discard>
         requires read { IsRelayedMessage delivery.now.proto delivery.now.bytes (C.relayed read) }
         requires empty { out.old ≡ [] }
         requires exists { part.now.region < (D.device disk.old).count }
-        requires room { first + 32 ≤ length table.old.slots }
-        requires most { first ≤ 32736 }
-        requires deadlines { HasDeadlines table.old first self.old }
+        requires entries { HasEntries table.old circuit self.old }
         requires pools { HasPools part.now self.old }
         requires ready { D.tells ≡ true → IsReadyFor ((D.device disk.old).region part.now.region) self.old }
         ensures later { (moment : ℕ) → IsLater moment self.old → IsLater moment self.new }
-        ensures pools { HasPools part.now self.new }
-        ensures deadlines { HasDeadlines table.new first self.new }
-        ensures beside { SameBeside first table.old table.new }
-        ensures own { AreOldOrHeld first table.old table.new self.new }
-        ensures answer { IsAnswer (answered part.now delivery.now (has_failed (D.device disk.old) (D.device disk.new) part.now.region) (option_map open_book self.old)).answer result out.new }
-        ensures book { option_map open_book self.new ≡ (answered part.now delivery.now (has_failed (D.device disk.old) (D.device disk.new) part.now.region) (option_map open_book self.old)).book }
-        ensures fails { D.tells ≡ true → (r : ℕ) → has_failed (D.device disk.old) (D.device disk.new) r ≡ fails_at (D.device disk.old).fuse (circuit_saves delivery.now (Some part.now) (Some (option_map open_book self.old))) r }
-        ensures leases { D.tells ≡ true
-            → leases_of (D.device disk.new).region (record { part = part.now; state = self.new })
-            ≡ after_datagram part.now delivery.now ((D.device disk.old).fuse part.now.region) (leases_of (D.device disk.old).region (record { part = part.now; state = self.old })) }
-        ensures ready { D.tells ≡ true → IsReadyFor ((D.device disk.new).region part.now.region) self.new }
-        ensures writes { WritesAt D.tells (circuit_saves delivery.now (Some part.now) (Some (option_map open_book self.old))) (D.device disk.old) (D.device disk.new) }
-        ensures frame { Touches D.tells part.now.region (D.device disk.old) (D.device disk.new) }
-        ensures calls { IsCalledToSaveAt (circuit_saves delivery.now (Some part.now) (Some (option_map open_book self.old))) (D.device disk.old) (D.device disk.new) }
+        ensures entries { KeepsEntries circuit table.old table.new self.new }
+        ensures served { IsServed D.tells part.now delivery.now self.old self.new result out.new (D.device disk.old) (D.device disk.new) }
     {
         // what is decided stays where it is: to move it costs more than the rest of a short answer
         let decided: Result<C, Discard> = self.decide(part, delivery, read);
         match &decided {
             Ok(decision) => {
-                let saved = self.make_and_save(part, decision, disk, table, first);
-                self.settle_decision(part, decision, saved, out, table, first)
+                let saved = self.apply_and_save(part, decision, disk, table, circuit);
+                self.settle_decision(part, decision, saved, out, table, circuit)
             }
             Err(why) => Err(*why),
         }
@@ -427,31 +352,26 @@ impl CircuitServer {
         }
     }
 
-    /// Gives all slots of the circuit their deadlines, where this is the number of the first one.
-    pub fn set_deadlines(&self, table: &mut Deadlines, first: usize)
-        requires room { first + 32 ≤ length table.old.slots }
-        requires most { first ≤ 32736 }
-        ensures own { (s : ℕ) → s < 32 → deadline table.new (first + s) ≡ held_in self.now s }
-        ensures deadlines { HasDeadlines table.new first self.now }
-        ensures beside { SameBeside first table.old table.new }
+    /// Gives all slots of the circuit their deadlines.
+    pub fn set_deadlines(&self, table: &mut Deadlines, circuit: Circuit)
+        requires room { 32 * circuit + 32 ≤ length table.old.slots }
+        ensures own { (s : ℕ) → s < 32 → deadline table.new (32 * circuit + s) ≡ held_in self.now s }
+        ensures entries { KeepsEntries circuit table.old table.new self.now }
     {
-        'slots: for slot in 0..32 {
-            put(table, first + slot, self.until(slot));
+        'slots: for slot in 0..SLOTS {
+            put(table, circuit, slot, self.until(slot));
         }
     }
 
-    /// The circuit is no longer served: it loses its offers, and its slots have the deadlines of what is left, where this is the
-    /// number of the first one.
-    pub fn turn_off(&mut self, table: &mut Deadlines, first: usize)
-        requires room { first + 32 ≤ length table.old.slots }
-        requires most { first ≤ 32736 }
+    /// The circuit is no longer served: it loses its offers, and its slots have the deadlines of what is left.
+    pub fn turn_off(&mut self, table: &mut Deadlines, circuit: Circuit)
+        requires room { 32 * circuit + 32 ≤ length table.old.slots }
         ensures state { self.new ≡ state_unoffered self.old }
-        ensures own { (s : ℕ) → s < 32 → deadline table.new (first + s) ≡ held_in self.new s }
-        ensures deadlines { HasDeadlines table.new first self.new }
-        ensures beside { SameBeside first table.old table.new }
+        ensures own { (s : ℕ) → s < 32 → deadline table.new (32 * circuit + s) ≡ held_in self.new s }
+        ensures entries { KeepsEntries circuit table.old table.new self.new }
     {
         self.withdraw_offers();
-        self.set_deadlines(table, first);
+        self.set_deadlines(table, circuit);
     }
 
     /// Drops the offers of an open circuit.

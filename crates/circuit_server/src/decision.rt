@@ -1,37 +1,37 @@
 //! What a circuit's server decides on a client's message, in either protocol.
-ghost use Rattle.std.specs.Prelude.{◌≡◌, ◌<◌, ◌≤◌, ◌+◌, ℕ, List, IfErr, IfOk, IfSome, Some, [], is_some, length, option_map};
-ghost use Rattle.std.specs.Result.{result_map_both};
-ghost use Rattle.types.specs.Slots.{IsWithin4, IsWithin6, last_until};
+ghost use Rattle.std.specs.Prelude.{◌≡◌, ◌<◌, ◌≤◌, ◌+◌, ◌*◌, ℕ, List, IfErr, IfOk, IfSome, Some, [], is_some, length, option_map};
+ghost use Rattle.types.specs.Slots.{last_until};
 ghost use Rattle.slots.specs.Lookup.{until_of};
 ghost use Rattle.bindings_v4.specs.Slots4 as slots4;
 ghost use Rattle.bindings_v6.specs.Slots6 as slots6;
 ghost use Rattle.types.specs.declared.dest.Proto.{Proto};
 ghost use Rattle.requests.specs.RelayedMessage.{IsRelayedMessage};
 ghost use Rattle.requests.specs.declared.relayed_message.RelayedMessage.{RelayedMessage};
-ghost use Rattle.circuit_server.specs.CircuitDecision.{IsWithin, KeepsItsSlot, LosesNoOther, answer_of, kept_in, served_by, with_decision};
+ghost use Rattle.circuit_server.specs.CircuitDecision.{FitsCircuit, IsWithin, answer_of, kept_in, served_by, with_decision};
 ghost use Rattle.circuit_server.specs.CircuitServerValue.{HasPools, open_book};
 ghost use Rattle.circuit_server.specs.Server.{datagram_served, drop};
 ghost use Rattle.circuit_server.specs.declared.decision.CircuitDecision.{CircuitDecision};
-ghost use Rattle.circuit_server.specs.Deadlines.{HasItsSlots, IsOfferIn, with_deadlines, with_kept4, with_kept6, with_offered, with_until};
+ghost use Rattle.circuit_server.specs.Deadlines.{HasItsSlots, with_deadlines, with_until};
 ghost use Rattle.circuit_server.specs.Answered.{IsAnswer};
-ghost use Rattle.replies.specs.Reply4.{reply4_bytes};
-ghost use Rattle.replies.specs.Reply6.{reply6_bytes};
 
 use crate::open_circuit::OpenCircuit;
-use bindings_v4::{Change4, Decision4, KeptSlot as KeptSlot4, OfferChange};
-use bindings_v6::{Decision6, KeptSlot as KeptSlot6};
+use bindings_v4::{Change4, Decision4, OfferChange};
+use bindings_v6::Decision6;
 use config::CircuitPart;
 use lease_disk::Content;
 use replies::{write4, write6};
 use requests::RelayedMessage;
 use timers::Deadlines;
-use types::{Discard, Key6, Reply4, Reply6, Slot4, Slot6};
+use types::{Circuit, Discard, Key6, Slot4, Slot6};
 use v4_message::Message;
 use v6_message::{Message6, Relay6};
 use wire::PacketBuf;
 
+/// How many slots a circuit has in the table of deadlines.
+pub(crate) const SLOTS: usize = 32;
+
 /// Of a circuit's slots, the first one of the DHCPv6 pool.
-pub(crate) const SIX_SLOTS_FROM: usize = 16;
+pub(crate) const FIRST_SLOT6: usize = 16;
 
 /// What a circuit decides on a DHCPv4 message. It has no room for DHCPv6's keys, so that an answer moves little.
 #[derive(Drop)]
@@ -68,11 +68,12 @@ pub(crate) trait Decide: Drop + Sized {
     /// What a client's message calls for, or why it calls for nothing. Nothing is changed.
     fn decide(circuit: &OpenCircuit, part: &CircuitPart, read: Self::Read) -> Result<Self, Discard>
         requires { HasPools part.now (Some circuit.now) }
-        ensures ok { (proto : Proto) (bytes : List ℕ) → IsRelayedMessage proto bytes (relayed read) → IfOk result (λ made. datagram_served part.now proto bytes (open_book circuit.now) ≡ served_by part.now circuit.now (decision made)) }
-        ensures err { (proto : Proto) (bytes : List ℕ) → IsRelayedMessage proto bytes (relayed read) → IfErr result (λ why. datagram_served part.now proto bytes (open_book circuit.now) ≡ drop why (open_book circuit.now)) }
-        ensures within { IfOk result (λ made. IsWithin (decision made)) }
-        ensures keeps { IfOk result (λ made. KeepsItsSlot (decision made) circuit.now) }
-        ensures others { IfOk result (λ made. LosesNoOther (decision made) circuit.now) };
+        ensures ok { (proto : Proto) (bytes : List ℕ) → IsRelayedMessage proto bytes (relayed read)
+            → IfOk result (λ made. datagram_served part.now proto bytes (open_book circuit.now)
+                ≡ served_by part.now circuit.now (decision made)) }
+        ensures err { (proto : Proto) (bytes : List ℕ) → IsRelayedMessage proto bytes (relayed read)
+            → IfErr result (λ why. datagram_served part.now proto bytes (open_book circuit.now) ≡ drop why (open_book circuit.now)) }
+        ensures fits { IfOk result (λ made. FitsCircuit (decision made) circuit.now) };
 
     /// Makes its change of its protocol's book.
     fn commit(&self, circuit: &mut OpenCircuit)
@@ -88,15 +89,13 @@ pub(crate) trait Decide: Drop + Sized {
     fn saves(&self) -> bool
         ensures { result ≡ is_some (kept_in (decision self.now)) };
 
-    /// Gives the slots that the decision changes their deadlines, where this is the number of the circuit's
-    /// first slot. A slot that is free now because its client has another one may keep what it had until
-    /// that is due.
-    fn set_deadlines(&self, table: &mut Deadlines, first: usize)
-        requires room { first + 32 ≤ length table.old.slots }
-        requires most { first ≤ 32736 }
+    /// Gives the slots that the decision changes their deadlines. A slot that is free now because its client has
+    /// another one may keep what it had until that is due.
+    fn set_deadlines(&self, table: &mut Deadlines, circuit: Circuit)
+        requires room { 32 * circuit + 32 ≤ length table.old.slots }
         requires slots { HasItsSlots (decision self.now) }
         requires within { IsWithin (decision self.now) }
-        ensures { table.new ≡ with_deadlines (decision self.now) first table.old };
+        ensures { table.new ≡ with_deadlines (decision self.now) (32 * circuit) table.old };
 
     /// Writes the reply where there is one.
     fn reply(&self, part: &CircuitPart, out: &mut PacketBuf) -> Result<(), Discard>
@@ -138,16 +137,19 @@ impl<'a> Decide for CircuitDecision4<'a> {
         matches!(self.decision.change, Change4::Keeps(_))
     }
 
-    fn set_deadlines(&self, table: &mut Deadlines, first: usize) {
+    fn set_deadlines(&self, table: &mut Deadlines, circuit: Circuit) {
         match &self.decision.change {
             Change4::Nothing => {}
-            Change4::Offers(offer) => set_offered(table, first, offer),
-            Change4::Keeps(kept) => set_kept4(table, first, kept),
+            Change4::Offers(OfferChange::Made(slot, _, until)) => put(table, circuit, *slot, Some(*until)),
+            Change4::Offers(OfferChange::Withdrawn(slot)) => put(table, circuit, *slot, None),
+            Change4::Keeps(kept) => put(table, circuit, kept.slot, until4(&kept.content)),
         }
     }
 
     fn reply(&self, part: &CircuitPart, out: &mut PacketBuf) -> Result<(), Discard> {
-        reply4(part, &self.message, self.decision.answer, out)
+        let reply = self.decision.answer?;
+        write4(part, &self.message, reply, out);
+        Ok(())
     }
 }
 
@@ -175,27 +177,27 @@ impl<'a> Decide for CircuitDecision6<'a> {
 
     fn kept(&self) -> Option<(usize, Content)> {
         let kept = self.decision.keep?;
-        Some((SIX_SLOTS_FROM + kept.slot, Content::Six(kept.content)))
+        Some((FIRST_SLOT6 + kept.slot, Content::Six(kept.content)))
     }
 
     fn saves(&self) -> bool {
         self.decision.keep.is_some()
     }
 
-    fn set_deadlines(&self, table: &mut Deadlines, first: usize) {
-        set_kept6(table, first, &self.decision.keep);
+    fn set_deadlines(&self, table: &mut Deadlines, circuit: Circuit) {
+        if let Some(kept) = &self.decision.keep {
+            put(table, circuit, FIRST_SLOT6 + kept.slot, until6(&kept.content));
+        }
     }
 
     fn reply(&self, part: &CircuitPart, out: &mut PacketBuf) -> Result<(), Discard> {
-        let answer = &self.decision.answer;
-        reply6(
-            part,
-            &self.forward,
-            &self.message,
-            &self.client,
-            answer,
-            out,
-        )
+        match &self.decision.answer {
+            Ok(reply) => {
+                write6(part, &self.forward, &self.message, &self.client, reply, out);
+                Ok(())
+            }
+            Err(why) => Err(*why),
+        }
     }
 }
 
@@ -211,7 +213,10 @@ impl<'a> Decide for CircuitDecision<'a> {
         part: &CircuitPart,
         read: RelayedMessage<'a>,
     ) -> Result<CircuitDecision<'a>, Discard> {
-        circuit.decide(part, read)
+        match read {
+            RelayedMessage::V4(message) => Ok(CircuitDecision::V4(circuit.decide4(message)?)),
+            RelayedMessage::V6(forward) => Ok(CircuitDecision::V6(circuit.decide6(part, forward)?)),
+        }
     }
 
     fn commit(&self, circuit: &mut OpenCircuit) {
@@ -235,10 +240,10 @@ impl<'a> Decide for CircuitDecision<'a> {
         }
     }
 
-    fn set_deadlines(&self, table: &mut Deadlines, first: usize) {
+    fn set_deadlines(&self, table: &mut Deadlines, circuit: Circuit) {
         match self {
-            CircuitDecision::V4(made) => made.set_deadlines(table, first),
-            CircuitDecision::V6(made) => made.set_deadlines(table, first),
+            CircuitDecision::V4(made) => made.set_deadlines(table, circuit),
+            CircuitDecision::V6(made) => made.set_deadlines(table, circuit),
         }
     }
 
@@ -247,45 +252,6 @@ impl<'a> Decide for CircuitDecision<'a> {
             CircuitDecision::V4(made) => made.reply(part, out),
             CircuitDecision::V6(made) => made.reply(part, out),
         }
-    }
-}
-
-/// What a change of offers makes of the deadlines.
-fn set_offered(table: &mut Deadlines, first: usize, change: &OfferChange)
-    requires room { first + 32 ≤ length table.old.slots }
-    requires most { first ≤ 32736 }
-    requires slot { IsOfferIn change.now }
-    requires within { slots4.IsOfferWithin change.now }
-    ensures { table.new ≡ with_offered first (Some change.now) table.old }
-{
-    match change {
-        OfferChange::Made(slot, _, until) => table.set(first + *slot, *until),
-        OfferChange::Withdrawn(slot) => table.clear(first + *slot),
-    }
-}
-
-/// What a slot of the DHCPv4 pool that is kept makes of them.
-fn set_kept4(table: &mut Deadlines, first: usize, kept: &KeptSlot4)
-    requires room { first + 32 ≤ length table.old.slots }
-    requires most { first ≤ 32736 }
-    requires slot { kept.now.slot < 16 }
-    requires within { IsWithin4 kept.now.content }
-    ensures { table.new ≡ with_kept4 first (Some kept.now) table.old }
-{
-    put(table, first + kept.slot, until4(&kept.content));
-}
-
-/// The same of the DHCPv6 pool.
-fn set_kept6(table: &mut Deadlines, first: usize, keep: &Option<KeptSlot6>)
-    requires room { first + 32 ≤ length table.old.slots }
-    requires most { first ≤ 32736 }
-    requires slot { IfSome keep.now (λ kept. kept.slot < 16) }
-    requires within { IfSome keep.now (λ kept. IsWithin6 kept.content) }
-    ensures { table.new ≡ with_kept6 first keep.now table.old }
-{
-    if let Some(kept) = keep {
-        let slot = SIX_SLOTS_FROM + kept.slot;
-        put(table, first + slot, until6(&kept.content));
     }
 }
 
@@ -309,52 +275,16 @@ fn until6(content: &Slot6) -> Option<u64>
     }
 }
 
-/// Gives a slot this deadline, or none.
-pub(crate) fn put(table: &mut Deadlines, slot: usize, until: Option<u64>)
-    requires exists { slot < length table.old.slots }
+/// Gives a slot of the circuit this deadline, or none.
+pub(crate) fn put(table: &mut Deadlines, circuit: Circuit, slot: usize, until: Option<u64>)
+    requires room { 32 * circuit + 32 ≤ length table.old.slots }
+    requires slot { slot < 32 }
     requires within { IfSome until (λ until. until ≤ last_until) }
-    ensures { table.new ≡ with_until slot until table.old }
+    ensures { table.new ≡ with_until (32 * circuit + slot) until table.old }
 {
+    let number = SLOTS * circuit.index() + slot;
     match until {
-        Some(until) => table.set(slot, until),
-        None => table.clear(slot),
-    }
-}
-
-fn reply4(
-    part: &CircuitPart,
-    message: &Message<'_>,
-    answer: Result<Reply4, Discard>,
-    out: &mut PacketBuf,
-) -> Result<(), Discard>
-    requires { out.old ≡ [] }
-    ensures { IsAnswer (result_map_both (reply4_bytes part.now message.now) (λ why. why) answer) result out.new }
-{
-    match answer {
-        Ok(reply) => {
-            write4(part, message, reply, out);
-            Ok(())
-        }
-        Err(why) => Err(why),
-    }
-}
-
-fn reply6(
-    part: &CircuitPart,
-    forward: &Relay6<'_>,
-    message: &Message6<'_>,
-    client: &Key6,
-    answer: &Result<Reply6, Discard>,
-    out: &mut PacketBuf,
-) -> Result<(), Discard>
-    requires { out.old ≡ [] }
-    ensures { IsAnswer (result_map_both (reply6_bytes part.now forward.now message.now client.now) (λ why. why) answer.now) result out.new }
-{
-    match answer {
-        Ok(reply) => {
-            write6(part, forward, message, client, reply, out);
-            Ok(())
-        }
-        Err(why) => Err(*why),
+        Some(until) => table.set(number, until),
+        None => table.clear(number),
     }
 }

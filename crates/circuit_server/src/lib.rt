@@ -3,6 +3,7 @@
 
 mod circuit_server;
 mod decision;
+pub mod laws;
 mod open_circuit;
 mod prepared;
 

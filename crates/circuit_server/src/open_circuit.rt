@@ -10,7 +10,7 @@ ghost use Rattle.slots.specs.Kept.{AreWithin};
 ghost use Rattle.v6_options.specs.Codes.{RELAY_MESSAGE};
 ghost use Rattle.v6_options.specs.Spelling.{look_up};
 ghost use Rattle.config.specs.CircuitPart as parts;
-ghost use Rattle.circuit_server.specs.CircuitDecision.{IsWithin, KeepsItsSlot, LosesNoOther, served_by, with_decision};
+ghost use Rattle.circuit_server.specs.CircuitDecision.{FitsCircuit, served_by};
 ghost use Rattle.circuit_server.specs.Deadlines.{held_until};
 ghost use Rattle.circuit_server.specs.Leases.{book_in, found_book};
 ghost use Rattle.circuit_server.specs.Prepared.{saving_of};
@@ -18,7 +18,6 @@ ghost use Rattle.requests.specs.RelayedMessage.{IsRelayedMessage};
 ghost use Rattle.requests.specs.Request4.{request4_in};
 ghost use Rattle.circuit_server.specs.Server.{book_at, datagram_served, drop, kept_book, message6_served, request4_served};
 ghost use Rattle.circuit_server.specs.CircuitServerValue.{HasPools, IsReadyFor, counts_in, kept_slots, open_book};
-ghost use Rattle.circuit_server.specs.SlotsOfPools.{HasSlots};
 ghost use Rattle.circuit_server.specs.Ticked.{open_at};
 ghost use Rattle.circuit_server.specs.Unoffered.{open_unoffered};
 ghost use Rattle.lease_disk.specs.Book.{IsBook};
@@ -26,13 +25,13 @@ ghost use Rattle.lease_disk.specs.Device.{TouchesNothing};
 ghost use Rattle.lease_disk.specs.Layout.{is_format2};
 ghost use Rattle.lease_disk.specs.Region.{IsClean, Region};
 
-use crate::decision::{CircuitDecision, CircuitDecision4, CircuitDecision6, SIX_SLOTS_FROM};
+use crate::decision::{CircuitDecision4, CircuitDecision6, FIRST_SLOT6};
 use batch_saves::Saving;
 use bindings_v4::{Book4, Decision4};
 use bindings_v6::{Book6, Decision6};
 use config::CircuitPart;
 use lease_disk::{Content, Disk, Marks, recover};
-use requests::{RelayedMessage, request4_in, request6_in};
+use requests::{request4_in, request6_in};
 use std::marker::Model;
 use types::{Discard, Moment, Slot4, Slot6, Slots};
 use v4_message::Message;
@@ -43,8 +42,8 @@ use v6_message::Relay6;
 #[derive(Drop)]
 pub(crate) struct OpenCircuit {
     clock: Moment,
-    four: Book4,
-    six: Book6,
+    pub(crate) four: Book4,
+    pub(crate) six: Book6,
     marks: Marks,
 }
 
@@ -66,7 +65,9 @@ impl OpenCircuit {
         requires { part.now.region < (D.device disk.old).count }
         ensures pools { HasPools part.now result }
         ensures book { D.tells ≡ true → option_map open_book result ≡ found_book part.now ((D.device disk.old).region part.now.region) }
-        ensures ready { D.tells ≡ true → is_format2 ((D.device disk.old).region part.now.region).byte ≡ true → (((D.device disk.old).region part.now.region).readable ≡ true → IsClean ((D.device disk.old).region part.now.region)) → IsReadyFor ((D.device disk.old).region part.now.region) result }
+        ensures ready { D.tells ≡ true → is_format2 ((D.device disk.old).region part.now.region).byte ≡ true
+            → (((D.device disk.old).region part.now.region).readable ≡ true → IsClean ((D.device disk.old).region part.now.region))
+            → IsReadyFor ((D.device disk.old).region part.now.region) result }
         ensures frame { TouchesNothing D.tells (D.device disk.old) (D.device disk.new) }
         ensures reads { (D.device disk.new).reads ≤ (D.device disk.old).reads + 2 }
     {
@@ -106,24 +107,16 @@ impl OpenCircuit {
         self.four.withdraw_offers();
     }
 
-    /// Both books have slots of their pools. Nothing is done: this is called for its contract.
-    pub(crate) fn has_slots(&self)
-        ensures { HasSlots self.now }
-    {
-        let _four = self.four.slots();
-        let _six = self.six.slots();
-    }
-
     /// Until when a slot of the circuit is held, live or expired, in seconds.
     pub(crate) fn until(&self, slot: usize) -> Option<u64>
         requires { slot < 32 }
         ensures value { result ≡ held_until self.now slot }
         ensures most { IfSome result (λ until. until ≤ last_until) }
     {
-        if slot < SIX_SLOTS_FROM {
+        if slot < FIRST_SLOT6 {
             self.four.until(slot)
         } else {
-            self.six.until(slot - SIX_SLOTS_FROM)
+            self.six.until(slot - FIRST_SLOT6)
         }
     }
 
@@ -141,45 +134,17 @@ impl OpenCircuit {
         slots
     }
 
-    /// What a client's message calls for, or why it calls for nothing. Nothing is changed.
-    pub(crate) fn decide<'a>(
-        &self,
-        part: &CircuitPart,
-        relayed: RelayedMessage<'a>,
-    ) -> Result<CircuitDecision<'a>, Discard>
-        requires { HasPools part.now (Some self.now) }
-        ensures ok { (proto : Proto) (bytes : List ℕ) → IsRelayedMessage proto bytes relayed.entry → IfOk result (λ decision. datagram_served part.now proto bytes (open_book self.now) ≡ served_by part.now self.now decision) }
-        ensures err { (proto : Proto) (bytes : List ℕ) → IsRelayedMessage proto bytes relayed.entry → IfErr result (λ why. datagram_served part.now proto bytes (open_book self.now) ≡ drop why (open_book self.now)) }
-        ensures within { IfOk result IsWithin }
-        ensures keeps { IfOk result (λ decision. KeepsItsSlot decision self.now) }
-        ensures others { IfOk result (λ decision. LosesNoOther decision self.now) }
-    {
-        match relayed {
-            RelayedMessage::V4(message) => match self.decide4(message) {
-                Ok(made) => Ok(CircuitDecision::V4(made)),
-                Err(why) => Err(why),
-            },
-            RelayedMessage::V6(forward) => match self.decide6(part, forward) {
-                Ok(made) => Ok(CircuitDecision::V6(made)),
-                Err(why) => Err(why),
-            },
-        }
-    }
-
     /// What a DHCPv4 message calls for.
     // inlined, as is all that hands the decision on: to move it three times takes longer than to decide
     #[inline(always)]
     pub(crate) fn decide4<'a>(&self, message: Message<'a>) -> Result<CircuitDecision4<'a>, Discard>
-        ensures ok { (part : parts.CircuitPart) → HasPools part (Some self.now) → IfOk result (λ made. request4_served part message.entry (open_book self.now) (request4_in message.entry) ≡ served_by part self.now (either.V4 made)) }
+        ensures ok { (part : parts.CircuitPart) → HasPools part (Some self.now)
+            → IfOk result (λ made. request4_served part message.entry (open_book self.now) (request4_in message.entry)
+                ≡ served_by part self.now (either.V4 made)) }
         ensures err { IfErr result (λ why. request4_in message.entry ≡ Err why) }
-        ensures within { IfOk result (λ made. IsWithin (either.V4 made)) }
-        ensures keeps { IfOk result (λ made. KeepsItsSlot (either.V4 made) self.now) }
-        ensures others { IfOk result (λ made. LosesNoOther (either.V4 made) self.now) }
+        ensures fits { IfOk result (λ made. FitsCircuit (either.V4 made) self.now) }
     {
-        let request = match request4_in(&message) {
-            Ok(request) => request,
-            Err(why) => return Err(why),
-        };
+        let request = request4_in(&message)?;
         let decision = self.four.decide(&request, self.clock);
         Ok(CircuitDecision4 { message, decision })
     }
@@ -191,19 +156,18 @@ impl OpenCircuit {
         forward: Relay6<'a>,
     ) -> Result<CircuitDecision6<'a>, Discard>
         requires { HasPools part.now (Some self.now) }
-        ensures ok { IfOk result (λ made. message6_served part.now forward.entry (open_book self.now) (look_up RELAY_MESSAGE forward.entry.options) ≡ served_by part.now self.now (either.V6 made)) }
-        ensures err { IfErr result (λ why. message6_served part.now forward.entry (open_book self.now) (look_up RELAY_MESSAGE forward.entry.options) ≡ drop why (open_book self.now)) }
-        ensures within { IfOk result (λ made. IsWithin (either.V6 made)) }
-        ensures keeps { IfOk result (λ made. KeepsItsSlot (either.V6 made) self.now) }
-        ensures others { IfOk result (λ made. LosesNoOther (either.V6 made) self.now) }
+        ensures ok { IfOk result (λ made.
+            message6_served part.now forward.entry (open_book self.now) (look_up RELAY_MESSAGE forward.entry.options)
+            ≡ served_by part.now self.now (either.V6 made)) }
+        ensures err { IfErr result (λ why.
+            message6_served part.now forward.entry (open_book self.now) (look_up RELAY_MESSAGE forward.entry.options)
+            ≡ drop why (open_book self.now)) }
+        ensures fits { IfOk result (λ made. FitsCircuit (either.V6 made) self.now) }
     {
         let Some(bytes) = forward.relay_message() else {
             return Err(Discard::Malformed);
         };
-        let (message, request) = match request6_in(part, bytes) {
-            Ok(asked) => asked,
-            Err(why) => return Err(why),
-        };
+        let (message, request) = request6_in(part, bytes)?;
         let decision = self.six.decide(&request, self.clock);
         Ok(CircuitDecision6 {
             forward,
@@ -215,13 +179,14 @@ impl OpenCircuit {
 
     /// Makes a decision's change of the DHCPv4 book.
     pub(crate) fn commit4(&mut self, decision: &Decision4)
-        requires { IfSome (kept_slot decision.now.change) (λ kept. IsWithin4 kept.content) × IfSome (offer_change decision.now.change) slots4.IsOfferWithin }
+        requires { IfSome (kept_slot decision.now.change) (λ kept. IsWithin4 kept.content)
+            × IfSome (offer_change decision.now.change) slots4.IsOfferWithin }
         ensures { self.new ≡ record self.old { four = slots4.with_decision decision.now self.old.four } }
     {
         self.four.commit(decision);
     }
 
-    /// The same of the DHCPv6 book.
+    /// Makes a decision's change of the DHCPv6 book.
     pub(crate) fn commit6(&mut self, decision: &Decision6)
         requires { IfSome decision.now.keep (λ kept. IsWithin6 kept.content) }
         ensures { self.new ≡ record self.old { six = slots6.with_decision decision.now self.old.six } }

@@ -1,0 +1,13 @@
+-- What a restart makes of a circuit and of its region.
+use Rattle.std.specs.Prelude.{◌≡◌, Bool, true, Option}
+use Rattle.config.specs.CircuitPart.{CircuitPart}
+use Rattle.lease_disk.specs.Device.{Device}
+use Rattle.circuit_server.specs.CircuitServerValue.{IsReadyFor, OpenCircuitValue, leases_of}
+use Rattle.circuit_server.specs.Leases.{IsRegionMigrated, counts_of, found_leases}
+
+-- Where the device tells, a circuit of this part has what its region held, in either format, and the region is of format 2 if
+-- that could be done.
+pub record IsRestarted (tells : Bool) (part : CircuitPart) (state : Option OpenCircuitValue) (was later : Device) : Type 0 where
+  pub leases : tells ≡ true → leases_of later.region (record { part = part; state = state }) ≡ found_leases was.region was.fuse part
+  pub ready : tells ≡ true → IsReadyFor (later.region part.region) state
+  pub region : tells ≡ true → IsRegionMigrated (counts_of part) (was.fuse part.region) (was.region part.region) (later.region part.region)
