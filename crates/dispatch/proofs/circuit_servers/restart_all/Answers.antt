@@ -18,7 +18,7 @@ use Rattle.dispatch.proofs.circuit_servers.restart_all.Goals as goal
 pub restart-requires-clause-exists : goal.restart-requires-clause-exists
 restart-requires-clause-exists g c =
     let n = (g.D.Disk.device c.circuits.disk).count in
-    let has : All (λ (part : CircuitPart). part.region < n) c.args.parts.now = subst (λ m. All (λ (part : CircuitPart). part.region < m) c.args.parts.now) (sym c.circuits.invariant.count) c.requires.regions in
+    let has : All (λ (part : CircuitPart). part.region < n) c.args.parts.now = subst (λ m. All (λ (part : CircuitPart). part.region < m) c.args.parts.now) (sym c.circuits.invariant.count) c.requires.can.regions in
     subst (λ (part : CircuitPart). part.region < n) (sym c.index-parts-index.is) (has c.circuits.index c.index-parts-index.result c.circuits-test.true)
 
 -- one more element, which was just written
@@ -33,7 +33,7 @@ four_more : (first middle last n : ℕ) → middle ≤ first + 4 * n → last �
 four_more first middle last n h k = omega arith
 
 pub restart-requires-clause-part : goal.restart-requires-clause-part
-restart-requires-clause-part g c = subst IsPart (sym c.index-parts-index.is) (c.requires.parts c.circuits.index c.index-parts-index.result c.circuits-test.true)
+restart-requires-clause-part g c = subst IsPart (sym c.index-parts-index.is) (c.requires.can.each c.circuits.index c.index-parts-index.result c.circuits-test.true)
 
 pub restart-requires-clause-clean : goal.restart-requires-clause-clean
 restart-requires-clause-clean g c = λ tells.
@@ -42,7 +42,7 @@ restart-requires-clause-clean g c = λ tells.
     let there : slice_get c.args.parts.now c.circuits.index ≡ Some part = slice_get_read c.args.parts.now (length c.args.parts.now) c.circuits.index part refl c.circuits-test.true c.index-parts-index.is in
     let same = (c.circuits.invariant.up tells).region c.circuits.index part (omega arith) there in
     subst (λ (r : Region). r.readable ≡ true → IsClean r) (sym same)
-    (subst (λ (p : CircuitPart). (first p.region).readable ≡ true → IsClean (first p.region)) (sym c.index-parts-index.is) (c.requires.synced tells c.circuits.index part c.circuits-test.true))
+    (subst (λ (p : CircuitPart). (first p.region).readable ≡ true → IsClean (first p.region)) (sym c.index-parts-index.is) (c.requires.can.synced tells c.circuits.index part c.circuits-test.true))
 
 pub circuits-init : goal.circuits-init
 circuits-init g c = record {
@@ -72,66 +72,56 @@ circuits-preserved g c =
     let inside : i < length states = omega (arith, c.circuits-test.true, loop.size, c.requires.size) in
     let written = set_with parts states i part c.restart.new.self there inside in
     record {
-      up = λ tells. one_more_up g.D.Disk.tells tells parts c.requires.differ i part there states inside (g.D.Disk.device c.args.disk.now) (g.D.Disk.device c.circuits.disk) (g.D.Disk.device c.restart.new.disk) (loop.up tells)
-          c.restart.ensures.frame c.restart.new.self (c.restart.ensures.leases tells) (c.restart.ensures.ready tells) (c.restart.ensures.region tells);
+      up = λ tells. one_more_up g.D.Disk.tells tells parts c.requires.can.differ i part there states inside (g.D.Disk.device c.args.disk.now) (g.D.Disk.device c.circuits.disk) (g.D.Disk.device c.restart.new.disk) (loop.up tells)
+          c.restart.ensures.frame c.restart.new.self (c.restart.ensures.restarted.leases tells) (c.restart.ensures.restarted.ready tells) (c.restart.ensures.restarted.region tells);
       pools = subst (λ ys. All HasItsPools (take (i + 1) ys)) (sym written) (more HasItsPools xs i new within loop.pools c.restart.ensures.pools);
       count = c.restart.ensures.frame.count ∙ loop.count;
       reads = five_more _ _ _ i loop.reads c.restart.ensures.reads;
       writes = four_more _ _ _ i loop.writes c.restart.ensures.writes;
       buffer = search rules;
-      room = c.set_deadlines.ensures.beside.size ∙ loop.room;
+      room = c.set_deadlines.ensures.entries.others.size ∙ loop.room;
       deadlines =
           set_more i c.circuits.table c.set_deadlines.new.table states c.restart.new.self inside loop.deadlines
-          (λ s below. c.set_deadlines.ensures.own s below ∙ ap (λ state. held_in state s) (get_or-set_same states i c.restart.new.self c.index-servers-index-in-circuits.result inside)) c.set_deadlines.ensures.beside;
-      looks = c.set_deadlines.ensures.beside.looks ∙ loop.looks;
+          (λ s below. c.set_deadlines.ensures.own s below ∙ ap (λ state. held_in state s) (get_or-set_same states i c.restart.new.self c.index-servers-index-in-circuits.result inside)) c.set_deadlines.ensures.entries.others;
+      looks = c.set_deadlines.ensures.entries.others.looks ∙ loop.looks;
       size = length-set states i c.restart.new.self ∙ loop.size;
     }
 
 pub set_deadlines-requires-clause-room : goal.set_deadlines-requires-clause-room
 set_deadlines-requires-clause-room g c = omega (arith, c.circuits-test.true, c.circuits.invariant.room)
 
-pub returns-clause-anew : goal.returns-clause-anew
-returns-clause-anew g c =
-    let loop = c.circuits.invariant in
-    all_set c.circuits.table c.circuits.servers c.circuits.index (omega (arith, c.circuits-test.false, loop.size, c.requires.size)) loop.deadlines
-
-pub returns-clause-looks : goal.returns-clause-looks
-returns-clause-looks g c = c.circuits.invariant.looks
-
-pub returns-clause-deadlines : goal.returns-clause-deadlines
-returns-clause-deadlines g c =
+pub returns-clause-table : goal.returns-clause-table
+returns-clause-table g c =
     let loop = c.circuits.invariant in
     let sizes : length c.args.parts.now ≡ length c.circuits.servers = sym c.requires.size ∙ sym loop.size in
-    all_held c.circuits.table c.circuits.servers (loop.room ∙ ap (λ n. 32 * n) sizes)
-    (all_set c.circuits.table c.circuits.servers c.circuits.index (omega (arith, c.circuits-test.false, loop.size, c.requires.size)) loop.deadlines)
+    let anew = all_set c.circuits.table c.circuits.servers c.circuits.index (omega (arith, c.circuits-test.false, loop.size, c.requires.size)) loop.deadlines in
+    record { held = all_held c.circuits.table c.circuits.servers (loop.room ∙ ap (λ n. 32 * n) sizes) anew; anew = anew; looks = loop.looks }
 
-pub returns-clause-leases : goal.returns-clause-leases
-returns-clause-leases g c tells =
+pub returns-clause-restarted : goal.returns-clause-restarted
+returns-clause-restarted g c =
+    let parts = c.args.parts.now in
+    let states = c.circuits.servers in
     let first = g.D.Disk.device c.args.disk.now in
     let now = g.D.Disk.device c.circuits.disk in
-    let xs = with_states c.args.parts.now c.circuits.servers in
-    all_found now.region (found_leases first.region first.fuse) xs
-    (all_leases c.args.parts.now c.circuits.index c.circuits.servers first now (c.circuits.invariant.size ∙ c.requires.size) (omega (arith, c.circuits-test.false)) (c.circuits.invariant.up tells))
-    ∙ ap (map (found_leases first.region first.fuse)) (parts_with c.args.parts.now c.circuits.servers)
+    let xs = with_states parts states in
+    let size = c.circuits.invariant.size ∙ c.requires.size in
+    let whole : length parts ≤ c.circuits.index = omega (arith, c.circuits-test.false) in
+    record {
+      pools = subst (All HasItsPools) (take_all c.circuits.index xs (omega (arith, c.circuits-test.false, size_with parts states))) c.circuits.invariant.pools;
+      leases = λ tells.
+          all_found now.region (found_leases first.region first.fuse) xs (all_leases parts c.circuits.index states first now size whole (c.circuits.invariant.up tells))
+          ∙ ap (map (found_leases first.region first.fuse)) (parts_with parts states);
+      ready = λ tells. all_ready parts c.circuits.index states first now size whole (c.circuits.invariant.up tells);
+      regions = λ tells. all_regions parts c.circuits.index states first now size whole (c.circuits.invariant.up tells);
+    }
 
-pub returns-clause-ready : goal.returns-clause-ready
-returns-clause-ready g c tells =
-    all_ready c.args.parts.now c.circuits.index c.circuits.servers (g.D.Disk.device c.args.disk.now) (g.D.Disk.device c.circuits.disk) (c.circuits.invariant.size ∙ c.requires.size) (omega (arith, c.circuits-test.false)) (c.circuits.invariant.up tells)
-
-pub returns-clause-regions : goal.returns-clause-regions
-returns-clause-regions g c tells =
-    all_regions c.args.parts.now c.circuits.index c.circuits.servers (g.D.Disk.device c.args.disk.now) (g.D.Disk.device c.circuits.disk) (c.circuits.invariant.size ∙ c.requires.size) (omega (arith, c.circuits-test.false)) (c.circuits.invariant.up tells)
-
-pub returns-clause-others : goal.returns-clause-others
-returns-clause-others g c tells = (c.circuits.invariant.up tells).others
-
-pub returns-clause-reads : goal.returns-clause-reads
-returns-clause-reads g c = let e : c.circuits.index ≤ length c.args.parts.now = omega arith in omega (arith, c.circuits.invariant.reads, e)
-
-pub returns-clause-writes : goal.returns-clause-writes
-returns-clause-writes g c = let e : c.circuits.index ≤ length c.args.parts.now = omega arith in omega (arith, c.circuits.invariant.writes, e)
-
-pub returns-clause-pools : goal.returns-clause-pools
-returns-clause-pools g c =
-    let xs = with_states c.args.parts.now c.circuits.servers in
-    subst (All HasItsPools) (take_all c.circuits.index xs (omega (arith, c.circuits-test.false, size_with c.args.parts.now c.circuits.servers))) c.circuits.invariant.pools
+pub returns-clause-device : goal.returns-clause-device
+returns-clause-device g c =
+    let loop = c.circuits.invariant in
+    let end : c.circuits.index ≤ length c.args.parts.now = omega arith in
+    record {
+      others = λ tells. (loop.up tells).others;
+      count = loop.count;
+      reads = omega (arith, loop.reads, end);
+      writes = omega (arith, loop.writes, end);
+    }

@@ -17,12 +17,6 @@ restart-requires-clause-regions g c =
     let parts = c.parts.ensures ∙ ap (λ (s : ServerValue). s.topology.circuits) c.server.view_is in
     subst (λ ps. HasRegions ps (g.D.Disk.device c.args.disk.now).count) parts (subst (HasRegions c.parts.result.now) c.regions.ensures (c.if-not-has_regions.ensures.yes refl))
 
-pub returns-clause-large : goal.returns-clause-large
-returns-clause-large g c =
-    let parts = c.parts.ensures ∙ ap (λ (s : ServerValue). s.topology.circuits) c.server.view_is ∙ ap (λ (t : Topology). t.circuits) c.in-Ok.ensures in
-    subst (HasRegions c.args.circuits.circuits) (sym c.restart.ensures.count)
-    (subst (λ ps. HasRegions ps (g.D.Disk.device c.args.disk.now).count) parts (subst (HasRegions c.parts.result.now) c.regions.ensures (c.if-not-has_regions.ensures.yes refl)))
-
 -- what the restart of all makes of it
 
 pub restart-requires-clause-synced : goal.restart-requires-clause-synced
@@ -31,23 +25,28 @@ restart-requires-clause-synced g c tells = subst (λ (t : Topology). AreSynced t
 pub returns-clause-topology : goal.returns-clause-topology
 returns-clause-topology g c = c.restart.ensures.topology ∙ c.in-Ok.ensures
 
-pub returns-clause-leases : goal.returns-clause-leases
-returns-clause-leases g c tells =
+pub returns-clause-opened : goal.returns-clause-opened
+returns-clause-opened g c =
     let old = g.D.Disk.device c.args.disk.now in
-    c.restart.ensures.leases tells ∙ ap (λ (t : Topology). map (found_leases old.region old.fuse) t.circuits) c.in-Ok.ensures
+    let new = g.D.Disk.device c.restart.new.disk in
+    let parts = c.parts.ensures ∙ ap (λ (s : ServerValue). s.topology.circuits) c.server.view_is ∙ ap (λ (t : Topology). t.circuits) c.in-Ok.ensures in
+    record {
+      leases = λ tells. c.restart.ensures.leases tells ∙ ap (λ (t : Topology). map (found_leases old.region old.fuse) t.circuits) c.in-Ok.ensures;
+      ready = c.restart.ensures.ready;
+      deadlines = c.restart.ensures.deadlines;
+      large =
+          subst (HasRegions c.args.circuits.circuits) (sym c.restart.ensures.count)
+          (subst (λ ps. HasRegions ps old.count) parts (subst (HasRegions c.parts.result.now) c.regions.ensures (c.if-not-has_regions.ensures.yes refl)));
+      regions = λ tells. subst (λ (t : Topology). AreRegionsMigrated t.circuits old new) c.in-Ok.ensures (c.restart.ensures.regions tells);
+    }
 
-pub returns-clause-regions : goal.returns-clause-regions
-returns-clause-regions g c tells =
-    subst (λ (t : Topology). AreRegionsMigrated t.circuits (g.D.Disk.device c.args.disk.now) (g.D.Disk.device c.restart.new.disk)) c.in-Ok.ensures (c.restart.ensures.regions tells)
-
-pub returns-clause-others : goal.returns-clause-others
-returns-clause-others g c tells =
-    subst (λ (t : Topology). KeepsOthers t.circuits (g.D.Disk.device c.args.disk.now) (g.D.Disk.device c.restart.new.disk)) c.in-Ok.ensures (c.restart.ensures.others tells)
-
-pub returns-clause-reads : goal.returns-clause-reads
-returns-clause-reads g c =
-    subst (λ (t : Topology). (g.D.Disk.device c.restart.new.disk).reads ≤ (g.D.Disk.device c.args.disk.now).reads + 5 * length t.circuits) c.in-Ok.ensures c.restart.ensures.reads
-
-pub returns-clause-writes : goal.returns-clause-writes
-returns-clause-writes g c =
-    subst (λ (t : Topology). (g.D.Disk.device c.restart.new.disk).writes ≤ (g.D.Disk.device c.args.disk.now).writes + 4 * length t.circuits) c.in-Ok.ensures c.restart.ensures.writes
+pub returns-clause-device : goal.returns-clause-device
+returns-clause-device g c =
+    let old = g.D.Disk.device c.args.disk.now in
+    let new = g.D.Disk.device c.restart.new.disk in
+    record {
+      others = λ tells. subst (λ (t : Topology). KeepsOthers t.circuits old new) c.in-Ok.ensures (c.restart.ensures.others tells);
+      count = c.restart.ensures.count;
+      reads = subst (λ (t : Topology). new.reads ≤ old.reads + 5 * length t.circuits) c.in-Ok.ensures c.restart.ensures.reads;
+      writes = subst (λ (t : Topology). new.writes ≤ old.writes + 4 * length t.circuits) c.in-Ok.ensures c.restart.ensures.writes;
+    }
