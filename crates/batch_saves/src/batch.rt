@@ -4,9 +4,8 @@ ghost use Rattle.lease_disk.specs.Device.{TouchesAll, is_in};
 ghost use Rattle.batch_saves.specs.Batch.{AreApart, AreReady, IsSavedPart, batch_calls, failed_of, fuses_of, part_at, regions_of, shared_fault};
 ghost use Rattle.batch_saves.specs.Steps.{IsTurned};
 
-use crate::saving::Saving;
 use crate::steps::make_step;
-use lease_disk::{Disk, SaveStep};
+use lease_disk::{Disk, SaveStep, Saving};
 
 /// The most parts of a batch.
 pub const MAX_BATCH: usize = 16;

@@ -3,10 +3,9 @@ ghost use Rattle.std.specs.Prelude.{◌≡◌, ◌<◌, ◌≤◌, ◌+◌, leng
 ghost use Rattle.batch_saves.specs.Batch.{AreApart, failed_of, step_calls};
 ghost use Rattle.batch_saves.specs.Steps.{AreStepped, AreWritable, FailedBefore, KeepsOthers, call_of};
 
-use crate::saving::Saving;
 use crate::syncs::sync_parts;
 use crate::writes::write_parts;
-use lease_disk::{Disk, SaveStep};
+use lease_disk::{Disk, SaveStep, Saving};
 
 /// One step of the saves of all parts that are still saving: a write for each, then one sync for all whose
 /// write did not fail.

@@ -5,10 +5,9 @@ ghost use Rattle.batch_saves.specs.Batch.{AreApart, part_at};
 ghost use Rattle.batch_saves.specs.Steps.{AreSaving, AreSynced, KeepsOthers, is_saving};
 
 use crate::batch::MAX_BATCH;
-use crate::saving::Saving;
 use crate::writes::call_of;
 use arrayvec::ArrayVec;
-use lease_disk::{Disk, SaveStep};
+use lease_disk::{Disk, SaveStep, Saving};
 
 /// The regions of the parts that are still saving.
 fn saving_regions(parts: &[Saving]) -> ArrayVec<u16, MAX_BATCH>

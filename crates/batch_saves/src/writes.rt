@@ -1,11 +1,11 @@
 //! The writes of a step, one for each part that is still saving.
 ghost use Rattle.std.specs.Prelude.{◌≡◌, ◌<◌, ◌+◌, ◌==◌, if◌then◌else◌, count_by};
+ghost use Rattle.lease_disk.specs.SaveSteps.{IsWritable};
 ghost use Rattle.batch_saves.specs.Seen.{KeepsBeside, seen};
 ghost use Rattle.batch_saves.specs.Batch.{AreApart};
-ghost use Rattle.batch_saves.specs.Steps.{AreWritable, AreWritten, IsWritable, IsWrittenPart, KeepsOthers, call_of, is_saving};
+ghost use Rattle.batch_saves.specs.Steps.{AreWritable, AreWritten, IsWrittenPart, KeepsOthers, call_of, is_saving};
 
-use crate::saving::Saving;
-use lease_disk::{Disk, SaveStep, write_step};
+use lease_disk::{Disk, SaveStep, Saving, write_step};
 
 /// Which of the six calls of a save is the write of this step. Its sync is the next one.
 pub fn call_of(step: SaveStep) -> u8
@@ -28,16 +28,7 @@ fn write_part<D: Disk>(step: SaveStep, part: &mut Saving, disk: &mut D)
     if part.failed != 0 {
         return;
     }
-    let written = write_step(
-        step,
-        part.region,
-        disk,
-        &part.marks,
-        part.clock,
-        part.slot,
-        &part.content,
-    );
-    if written.is_err() {
+    if write_step(step, part, disk).is_err() {
         part.failed = call_of(step);
     }
 }
