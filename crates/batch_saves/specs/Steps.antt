@@ -64,7 +64,7 @@ pub record IsWrittenPart (tells : Bool) (step : SaveStep) (was now : Saving) (ol
   pub part : now ≡ record was { failed = now.failed }
   pub write : IsWriteOf tells step (change_of was) was.failed now.failed old new
 
--- the sync of a step likewise
+-- the sync of a step: of a part that failed before nothing
 pub record IsSyncOf (tells : Bool) (step : SaveStep) (fails : Bool) (was now : ℕ) (old new : Seen) : Type 0 where
   pub out : was ≢ 0 → (now ≡ was) × (new ≡ old)
   pub still : was ≡ 0 → IsSyncPart tells step fails now old new

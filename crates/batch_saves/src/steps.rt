@@ -15,7 +15,8 @@ pub fn make_step<D: Disk>(step: SaveStep, parts: &mut [Saving], disk: &mut D)
     requires writable { AreWritable D.tells (D.device disk.old).count parts.old }
     ensures parts { AreStepped D.tells step parts.old parts.new (D.device disk.old) (D.device disk.new) }
     ensures frame { KeepsOthers D.tells parts.old (D.device disk.old) (D.device disk.new) }
-    ensures calls { FailedBefore (call_of step) parts.old → (D.device disk.new).writes ≡ (D.device disk.old).writes + step_calls (call_of step) (failed_of parts.new) }
+    ensures calls { FailedBefore (call_of step) parts.old
+        → (D.device disk.new).writes ≡ (D.device disk.old).writes + step_calls (call_of step) (failed_of parts.new) }
 {
     write_parts(step, parts, disk);
     sync_parts(step, parts, disk);

@@ -21,9 +21,11 @@ pub fn call_of(step: SaveStep) -> u8
 /// The write of a step, for a part that is still saving. One that failed is left alone.
 fn write_part<D: Disk>(step: SaveStep, part: &mut Saving, disk: &mut D)
     requires { IsWritable D.tells (D.device disk.old).count part.old }
-    ensures part { IsWrittenPart D.tells step part.old part.new (seen D.tells (D.device disk.old) part.old.region) (seen D.tells (D.device disk.new) part.old.region) }
+    ensures part { IsWrittenPart D.tells step part.old part.new
+        (seen D.tells (D.device disk.old) part.old.region) (seen D.tells (D.device disk.new) part.old.region) }
     ensures frame { KeepsBeside D.tells part.old.region (D.device disk.old) (D.device disk.new) }
-    ensures writes { (D.device disk.new).writes ≡ (if part.old.failed == 0 then (D.device disk.old).writes + 1 else (D.device disk.old).writes) }
+    ensures writes { (D.device disk.new).writes
+        ≡ (if part.old.failed == 0 then (D.device disk.old).writes + 1 else (D.device disk.old).writes) }
 {
     if part.failed != 0 {
         return;

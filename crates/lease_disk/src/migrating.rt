@@ -44,8 +44,8 @@ fn write_halves(slots: &Slots, halves: &mut [u8])
     }
 }
 
-/// Writes the halves of all slots, and then the byte of the format, each with its sync. One of these four calls
-/// that fails is the last.
+/// Writes the halves of all slots, and then the byte of the format, each with its sync. None of these four calls
+/// follows one that fails.
 fn write_moved<D: Disk>(region: u16, disk: &mut D, halves: &[u8]) -> Result<(), Fault>
     requires exists { region < (D.device disk.old).count }
     requires all { length halves.now ≡ 16384 }

@@ -37,8 +37,9 @@ impl Saving {
         Ok(())
     }
 
-    /// Saves the slot alone, by six calls of the device, of which one that fails is the last, and turns its mark. After an
-    /// error the region is not written to again until a crash has settled what is in doubt.
+    /// Saves the slot alone, by six calls of the device, and makes none after one that fails. After Ok the mark of the slot is
+    /// turned. After an error the region is not written to again until a crash has settled what is in doubt. Which call failed
+    /// is not noted.
     pub fn save<D: Disk>(&mut self, disk: &mut D) -> Result<(), Fault>
         requires { CanSave D.tells (D.device disk.old) self.old }
         ensures part { self.new ≡ record self.old { marks = self.new.marks } }
@@ -59,9 +60,8 @@ impl Saving {
     }
 }
 
-/// Saves what a slot of a circuit holds from this clock on, in a region of format 2, by six calls of the device, of which
-/// one that fails is the last. After an error the region is not written to again until a crash has settled what is in
-/// doubt.
+/// Saves what a slot of a circuit holds from this clock on, in a region of format 2, by six calls of the device, and makes
+/// none after one that fails. After an error the region is not written to again until a crash has settled what is in doubt.
 pub fn save<D: Disk>(
     region: u16,
     disk: &mut D,
@@ -82,7 +82,8 @@ pub fn save<D: Disk>(
     ensures frame { Touches D.tells region (D.device disk.old) (D.device disk.new) }
     ensures writes { OnOk result ((D.device disk.new).writes ≡ (D.device disk.old).writes + 6) }
     ensures most { (D.device disk.new).writes ≤ (D.device disk.old).writes + 6 }
-    ensures last { D.tells ≡ true → OnErr result ((D.device disk.new).writes ≡ (D.device disk.old).writes + (D.device disk.old).fuse region) }
+    ensures last { D.tells ≡ true
+        → OnErr result ((D.device disk.new).writes ≡ (D.device disk.old).writes + (D.device disk.old).fuse region) }
     ensures failures { (D.device disk.new).failures ≡ faults_after region result (D.device disk.old).failures }
 {
     let mut saving = Saving {

@@ -53,7 +53,8 @@ pub fn save_step<D: Disk>(
     requires slot { saving.now.slot < 32 }
     requires whole { length half.now.items ≡ 256 }
     ensures { let mark = mark_at saving.now.marks saving.now.slot in
-        IsWritten D.tells saving.now.region (place_of step saving.now.slot mark) (bytes_of step mark half.now.items) result (D.device disk.old) (D.device disk.new) }
+        IsWritten D.tells saving.now.region (place_of step saving.now.slot mark) (bytes_of step mark half.now.items) result
+        (D.device disk.old) (D.device disk.new) }
 {
     let (at, bytes) = write_of(step, saving, half);
     write_synced(saving.region, disk, at, bytes)
@@ -64,7 +65,7 @@ pub fn write_step<D: Disk>(step: SaveStep, saving: &Saving, disk: &mut D) -> Res
     requires { IsWritable D.tells (D.device disk.old).count saving.now }
     ensures write { let mark = mark_at saving.now.marks saving.now.slot in
         IsWrite D.tells saving.now.region (place_of step saving.now.slot mark)
-            (bytes_of step mark (saved_half mark saving.now.clock saving.now.content)) result (D.device disk.old) (D.device disk.new) }
+        (bytes_of step mark (saved_half mark saving.now.clock saving.now.content)) result (D.device disk.old) (D.device disk.new) }
     ensures key { HasKey saving.now.content }
     ensures clock { saving.now.clock ≤ 1099511627775 }
     ensures size { length (saved_half (mark_at saving.now.marks saving.now.slot) saving.now.clock saving.now.content) ≡ 256 }
