@@ -61,7 +61,7 @@ abbrev pub WritesAt : Bool → Option ℕ → Device → Device → Type 0
 WritesAt tells None old new = new ≡ old
 WritesAt tells (Some r) old new = Touches tells r old new
 
--- A function made n writes and syncs of region r, and no call after one that failed; it answers Ok where none did.
+-- A function makes n writes and syncs of region r, and none after one that fails. It returns Ok where none does.
 pub record MakesCalls {T E : Type 0} (tells : Bool) (n r : ℕ) (result : Result T E) (old new : Device) : Type 0 where
   pub answer : tells ≡ true → is_ok result ≡ (effective n (old.fuse r) == 0)
   pub fuse : tells ≡ true → OnOk result (new.fuse r ≡ old.fuse r - n)

@@ -50,7 +50,7 @@ move_faults r (Err DiskFault) failures = one_more_at r failures
 abbrev pub move_calls : List ℕ → Region → ℕ
 move_calls counts r = if moves counts r then 4 else 0
 
--- The calls of a move of region r: what is to be moved is, by four writes and syncs, and there is no call after one that failed.
+-- A move makes so many writes and syncs of region r, and none after one that fails.
 pub record MakesMoveCalls {T : Type 0} (tells : Bool) (counts : List ℕ) (r : ℕ) (result : Result T RecoverFault) (old new : Device) : Type 0 where
   pub fuse : tells ≡ true → OnOk result (new.fuse r ≡ old.fuse r - move_calls counts (old.region r))
   pub writes : tells ≡ true → OnOk result (new.writes ≡ old.writes + move_calls counts (old.region r))
