@@ -3,7 +3,7 @@ use Rattle.std.proofs.Common.{◌≡◌, ◌≢◌, ℕ, ◌+◌, ◌<◌, ◌�
 use Rattle.std.specs.List.{list_any}
 use Rattle.lease_disk.specs.declared.format2.steps.SaveStep.{SaveStep}
 use Rattle.lease_disk.specs.declared.format2.steps.SaveStep.TheVariants.{Close, Fill, Open}
-use Rattle.batch_saves.specs.declared.saving.Saving.{Saving}
+use Rattle.lease_disk.specs.declared.saving.Saving.{Saving}
 use Rattle.lease_disk.specs.Device.{Device}
 use Rattle.batch_saves.specs.Batch.{batch_calls, comes_to, failed_of, part_at, step_calls}
 use Rattle.batch_saves.specs.Seen.{Seen, seen}

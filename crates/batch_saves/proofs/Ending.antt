@@ -1,7 +1,7 @@
 -- What the three steps make of one part and of its region.
 use Rattle.std.proofs.Common.{◌≡◌, ◌≢◌, ℕ, ◌+◌, ◌-◌, ◌<◌, ◌≤◌, ◌==◌, if◌then◌else◌, Bool, true, false, List, length, drop, slice_index, refl, sym, ap, ◌∙◌, subst, arith}
 use Rattle.lease_disk.specs.declared.format2.steps.SaveStep.TheVariants.{Close, Fill, Open}
-use Rattle.batch_saves.specs.declared.saving.Saving.{Saving}
+use Rattle.lease_disk.specs.declared.saving.Saving.{Saving}
 use Rattle.lease_disk.specs.Keys.{HasKey}
 use Rattle.lease_disk.specs.Layout.{is_format2}
 use Rattle.lease_disk.specs.Recovered.{next}

@@ -4,7 +4,7 @@ use Rattle.std.proofs.lemmas.Grind.{get_or-set_at}
 use Rattle.std.proofs.lemmas.List.{get_or-set_other}
 use Rattle.std.proofs.lemmas.List.Sums.{count_by_more_no, count_by_more_yes}
 use Rattle.lease_disk.specs.declared.format2.steps.SaveStep.{SaveStep}
-use Rattle.batch_saves.specs.declared.saving.Saving.{Saving}
+use Rattle.lease_disk.specs.declared.saving.Saving.{Saving}
 use Rattle.lease_disk.specs.Device.{Device}
 use Rattle.batch_saves.specs.Batch.{AreApart, no_part, part_at}
 use Rattle.batch_saves.specs.Seen.{KeepsBeside, Seen, seen}

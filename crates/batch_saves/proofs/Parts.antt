@@ -1,7 +1,7 @@
 -- Whether one of the parts has a number, and how many pass a test, part by part.
 use Rattle.std.proofs.Common.{◌≡◌, ◌≢◌, ℕ, ◌+◌, ◌<◌, ◌==◌, ◌||◌, if◌then◌else◌, Bool, true, false, List, [], ◌∷◌, count_by, fold, length, map, suc, zero, eq-eqb, refl, ap, ap₂, ◌∙◌, arith}
 use Rattle.std.specs.List.{list_any}
-use Rattle.batch_saves.specs.declared.saving.Saving.{Saving}
+use Rattle.lease_disk.specs.declared.saving.Saving.{Saving}
 use Rattle.batch_saves.specs.Batch.{failed_of, part_at}
 
 or_true : (b : Bool) → (b || true) ≡ true

@@ -7,7 +7,7 @@ use Rattle.lease_disk.specs.declared.content.Content.TheVariants.{Four, Six}
 use Rattle.lease_disk.specs.declared.format2.steps.SaveStep.{SaveStep}
 use Rattle.lease_disk.specs.declared.format2.steps.SaveStep.TheVariants.{Close, Fill, Open}
 use Rattle.lease_disk.specs.declared.marks.Marks.{Marks}
-use Rattle.batch_saves.specs.declared.saving.Saving.{Saving}
+use Rattle.lease_disk.specs.declared.saving.Saving.{Saving}
 use Rattle.lease_disk.specs.Device.{Device, TouchesAll, is_in}
 use Rattle.lease_disk.specs.Layout.{half2}
 use Rattle.lease_disk.specs.Region.{Region, effective}
@@ -210,7 +210,7 @@ module _ (tells : Bool) (p0 p1 p2 p3 : List Saving) (d0 d1 d2 d3 : Device)
     known t =
         let w = ((close.parts i below).write.still (fresh i below)).1 in
         subst (λ (r : Region). IsGiven (part_at p0 i) r) (sym (seen_region tells d0 (part_at p0 i).region t))
-        (record { two = ready.format t; mark_is = ready.mark t; clean = ready.clean t; fits = ready.fits; key = w.key; small = w.clock; size = w.size })
+        (record { two = ready.save.format t; mark_is = ready.save.mark t; clean = ready.save.clean t; fits = ready.save.fits; key = w.key; small = w.clock; size = w.size })
 
     end : Ends tells (part_at p0 i) (seen tells d0 (part_at p0 i).region) known (shared_of close.fails fill.fails open_gates.fails) (part_at p3 i).failed (seen tells d3 (part_at p0 i).region)
     end = ends_at i below known
@@ -225,7 +225,7 @@ module _ (tells : Bool) (p0 p1 p2 p3 : List Saving) (d0 d1 d2 d3 : Device)
     slot_stays = ap (λ (p : Saving). p.slot) (same3 i below)
 
     few_sequences : tells ≡ true → (mark_at (part_at p0 i).marks (part_at p0 i).slot).sequence ≤ 2
-    few_sequences t = let mark = ready.mark t in
+    few_sequences t = let mark = ready.save.mark t in
         subst (λ n. n ≤ 2) (sym mark.sequence)
         (counting_sequence (half2 (d0.region (part_at p0 i).region).byte (part_at p0 i).slot (mark_at (part_at p0 i).marks (part_at p0 i).slot).half)
         (half2 (d0.region (part_at p0 i).region).byte (part_at p0 i).slot (other (mark_at (part_at p0 i).marks (part_at p0 i).slot).half)) mark.counting)
@@ -233,7 +233,7 @@ module _ (tells : Bool) (p0 p1 p2 p3 : List Saving) (d0 d1 d2 d3 : Device)
     there : (part_at p3 i).failed ≡ 0 → (part_at p0 i).slot < length (part_at p0 i).marks.slots
     there zero =
         let all : length (part_at p0 i).marks.slots ≡ 32 = sym (ap (λ (m : Marks). length m.slots) marks_stay) ∙ turned.all zero in
-        subst (λ n. (part_at p0 i).slot < n) (sym all) (slot_within (part_at p0 i).slot (part_at p0 i).content ready.fits)
+        subst (λ n. (part_at p0 i).slot < n) (sym all) (slot_within (part_at p0 i).slot (part_at p0 i).content ready.save.fits)
 
     where_saved : tells ≡ true → (part_at p3 i).failed ≡ 0
         → IsSaveOf (part_at p3 i).failed (part_at p0 i).clock (part_at p0 i).slot (part_at p0 i).content (part_at p0 i).marks p4.marks (seen tells d0 (part_at p0 i).region).region (seen tells d3 (part_at p0 i).region).region

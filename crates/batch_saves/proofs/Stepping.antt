@@ -2,11 +2,12 @@
 use Rattle.std.proofs.Common.{◌≡◌, ◌≢◌, ℕ, ◌-◌, ◌<◌, ◌==◌, if◌then◌else◌, Bool, true, false, List, length, refl, sym, ap, ◌∙◌, subst, arith}
 use Rattle.lease_disk.specs.declared.format2.steps.SaveStep.{SaveStep}
 use Rattle.lease_disk.specs.declared.format2.steps.SaveStep.TheVariants.{Close, Fill, Open}
-use Rattle.batch_saves.specs.declared.saving.Saving.{Saving}
+use Rattle.lease_disk.specs.declared.saving.Saving.{Saving}
 use Rattle.lease_disk.specs.Device.{Device}
 use Rattle.batch_saves.specs.Batch.{AreApart, part_at}
 use Rattle.batch_saves.specs.Seen.{Seen, seen}
-use Rattle.batch_saves.specs.Steps.{AreStepped, AreSynced, AreWritable, AreWritten, Change, IsSteppedPart, IsSyncOf, IsWritable, IsWriteOf, KeepsOthers, call_of, change_of}
+use Rattle.lease_disk.specs.SaveSteps.{IsWritable}
+use Rattle.batch_saves.specs.Steps.{AreStepped, AreSynced, AreWritable, AreWritten, Change, IsSteppedPart, IsSyncOf, IsWriteOf, KeepsOthers, call_of, change_of}
 
 -- ---- parts that stay as they were but for what failed
 

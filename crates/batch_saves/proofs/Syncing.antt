@@ -4,7 +4,7 @@ use Rattle.std.specs.List.{list_any}
 use Rattle.std.proofs.lemmas.Bool.{false≢true}
 use Rattle.std.proofs.lemmas.List.Folds.{list_any_at}
 use Rattle.lease_disk.specs.declared.format2.steps.SaveStep.{SaveStep}
-use Rattle.batch_saves.specs.declared.saving.Saving.{Saving}
+use Rattle.lease_disk.specs.declared.saving.Saving.{Saving}
 use Rattle.lease_disk.specs.Device.{Device, TouchesAll, is_in}
 use Rattle.lease_disk.specs.Region.{Region, synced}
 use Rattle.batch_saves.specs.Batch.{AreApart, no_part, part_at}

@@ -3,11 +3,10 @@ use Rattle.std.specs.Prelude.{◌≡◌, ◌≢◌, ℕ, ◌+◌, ◌-◌, ◌==
 use Rattle.std.specs.List.{count_by, list_any}
 use Rattle.types.specs.declared.slots.Slot6.TheVariants as S6
 use Rattle.lease_disk.specs.declared.content.Content.TheVariants.{Six}
-use Rattle.batch_saves.specs.declared.saving.Saving.{Saving}
+use Rattle.lease_disk.specs.declared.saving.Saving.{Saving}
 use Rattle.lease_disk.specs.Device.{Device}
-use Rattle.lease_disk.specs.Region.{IsClean, effective}
-use Rattle.lease_disk.specs.Layout.{is_format2}
-use Rattle.lease_disk.specs.Save.{Fits, IsMark, IsSaveOf, mark_at}
+use Rattle.lease_disk.specs.Region.{effective}
+use Rattle.lease_disk.specs.Save.{CanSave, IsSaveOf}
 
 -- past the last part
 abbrev pub no_part : Saving
@@ -62,12 +61,8 @@ fuses_of device parts = map (λ p. device.fuse p.region) parts
 
 -- what a part has to be before its batch is saved
 pub record IsReady (tells : Bool) (device : Device) (p : Saving) : Type 0 where
-  pub exists : p.region < device.count
-  pub fits : Fits p.slot p.content
   pub fresh : p.failed ≡ 0
-  pub format : tells ≡ true → is_format2 (device.region p.region).byte ≡ true
-  pub clean : tells ≡ true → IsClean (device.region p.region)
-  pub mark : tells ≡ true → IsMark (device.region p.region).byte p.slot (mark_at p.marks p.slot)
+  pub save : CanSave tells device p
 
 abbrev pub AreReady : Bool → Device → List Saving → Type 0
 AreReady tells device parts = (i : ℕ) → i < length parts → IsReady tells device (part_at parts i)

@@ -4,11 +4,11 @@ use Rattle.lease_disk.specs.declared.content.Content.{Content}
 use Rattle.lease_disk.specs.declared.format2.steps.SaveStep.{SaveStep}
 use Rattle.lease_disk.specs.declared.format2.steps.SaveStep.TheVariants.{Close, Fill, Open}
 use Rattle.lease_disk.specs.declared.marks.Mark.{Mark}
-use Rattle.batch_saves.specs.declared.saving.Saving.{Saving}
+use Rattle.lease_disk.specs.declared.saving.Saving.{Saving}
 use Rattle.lease_disk.specs.Keys.{HasKey}
 use Rattle.lease_disk.specs.Region.{IsTorn, synced, written}
-use Rattle.lease_disk.specs.Save.{Fits, mark_at}
-use Rattle.lease_disk.specs.SaveSteps.{bytes_of, marks_after, place_of, saved_half}
+use Rattle.lease_disk.specs.Save.{mark_at}
+use Rattle.lease_disk.specs.SaveSteps.{IsWritable, bytes_of, marks_after, place_of, saved_half}
 use Rattle.lease_disk.specs.Device.{Device, is_in}
 use Rattle.batch_saves.specs.Batch.{part_at}
 use Rattle.batch_saves.specs.Seen.{Seen, seen}
@@ -64,7 +64,7 @@ pub record IsWrittenPart (tells : Bool) (step : SaveStep) (was now : Saving) (ol
   pub part : now ≡ record was { failed = now.failed }
   pub write : IsWriteOf tells step (change_of was) was.failed now.failed old new
 
--- the sync of a step likewise
+-- the sync of a step: of a part that failed before nothing
 pub record IsSyncOf (tells : Bool) (step : SaveStep) (fails : Bool) (was now : ℕ) (old new : Seen) : Type 0 where
   pub out : was ≢ 0 → (now ≡ was) × (new ≡ old)
   pub still : was ≡ 0 → IsSyncPart tells step fails now old new
@@ -113,12 +113,7 @@ pub record AreStepped (tells : Bool) (step : SaveStep) (was now : List Saving) (
   pub cause : tells ≡ true → fails ≡ true → (i : ℕ) × ((i < length was) × ((part_at was i).failed ≡ 0) × ((seen tells old (part_at was i).region).fuse ≡ 2))
   pub quiet : tells ≡ true → fails ≡ false → (i : ℕ) → i < length was → (part_at was i).failed ≡ 0 → (seen tells old (part_at was i).region).fuse ≢ 2
 
--- what a write of a step needs of a part, on a device with so many regions
-pub record IsWritable (tells : Bool) (count : ℕ) (p : Saving) : Type 0 where
-  pub exists : p.region < count
-  pub fits : Fits p.slot p.content
-  pub mark : tells ≡ true → (mark_at p.marks p.slot).sequence ≤ 2
-
+-- what the writes of a step need of the parts, on a device with so many regions
 abbrev pub AreWritable : Bool → ℕ → List Saving → Type 0
 AreWritable tells count parts = (i : ℕ) → i < length parts → IsWritable tells count (part_at parts i)
 

@@ -1,12 +1,12 @@
 //! Saving the parts of a batch together.
 ghost use Rattle.std.specs.Prelude.{◌≡◌, ℕ, ◌<◌, ◌≤◌, ◌+◌, false, length};
 ghost use Rattle.lease_disk.specs.Device.{TouchesAll, is_in};
-ghost use Rattle.batch_saves.specs.Batch.{AreApart, AreReady, IsSavedPart, batch_calls, failed_of, fuses_of, part_at, regions_of, shared_fault};
+ghost use Rattle.batch_saves.specs.Batch.{AreApart, AreReady, IsSavedPart};
+ghost use Rattle.batch_saves.specs.Batch.{batch_calls, failed_of, fuses_of, part_at, regions_of, shared_fault};
 ghost use Rattle.batch_saves.specs.Steps.{IsTurned};
 
-use crate::saving::Saving;
 use crate::steps::make_step;
-use lease_disk::{Disk, SaveStep};
+use lease_disk::{Disk, SaveStep, Saving};
 
 /// The most parts of a batch.
 pub const MAX_BATCH: usize = 16;
@@ -37,7 +37,9 @@ pub fn save_many<D: Disk>(parts: &mut [Saving], disk: &mut D)
     requires few { length parts.old ≤ 16 }
     requires apart { AreApart parts.old }
     requires ready { AreReady D.tells (D.device disk.old) parts.old }
-    ensures parts { (i : ℕ) → i < length parts.old → IsSavedPart D.tells (shared_fault (fuses_of (D.device disk.old) parts.old)) (part_at parts.old i) (part_at parts.new i) (D.device disk.old) (D.device disk.new) }
+    ensures parts { (i : ℕ) → i < length parts.old
+        → IsSavedPart D.tells (shared_fault (fuses_of (D.device disk.old) parts.old))
+        (part_at parts.old i) (part_at parts.new i) (D.device disk.old) (D.device disk.new) }
     ensures frame { TouchesAll D.tells (regions_of parts.old) (D.device disk.old) (D.device disk.new) }
     ensures others { (q : ℕ) → is_in (regions_of parts.old) q ≡ false → (D.device disk.new).failures q ≡ (D.device disk.old).failures q }
     ensures calls { (D.device disk.new).writes ≡ (D.device disk.old).writes + batch_calls (failed_of parts.new) }

@@ -13,6 +13,8 @@ pub fn counts_calls()
 /// Where one sync is to fail for all, and some parts have a write that is to fail, each region's fault is the first of
 /// both. Then that is the call that fails for the part.
 pub fn meets_each_fault()
-    ensures { (sync : ℕ) (own : List ℕ) → is_sync_fault sync ≡ true → ((i : ℕ) → i < length own → is_write_fault (slice_index own i) ≡ true)
-        → (i : ℕ) → i < length own → first_of (effective 6 (first_of (slice_index own i) sync)) (shared_fault (map (λ f. first_of f sync) own)) ≡ first_of (slice_index own i) sync }
+    ensures { (sync : ℕ) (own : List ℕ) → is_sync_fault sync ≡ true
+        → ((i : ℕ) → i < length own → is_write_fault (slice_index own i) ≡ true) → (i : ℕ) → i < length own
+        → first_of (effective 6 (first_of (slice_index own i) sync)) (shared_fault (map (λ f. first_of f sync) own))
+        ≡ first_of (slice_index own i) sync }
 {}

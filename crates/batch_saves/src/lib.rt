@@ -3,10 +3,9 @@
 
 mod batch;
 pub mod laws;
-mod saving;
 mod steps;
 mod syncs;
 mod writes;
 
 pub use batch::{MAX_BATCH, save_many};
-pub use saving::Saving;
+pub use lease_disk::Saving;

@@ -5,10 +5,9 @@ ghost use Rattle.batch_saves.specs.Batch.{AreApart, part_at};
 ghost use Rattle.batch_saves.specs.Steps.{AreSaving, AreSynced, KeepsOthers, is_saving};
 
 use crate::batch::MAX_BATCH;
-use crate::saving::Saving;
 use crate::writes::call_of;
 use arrayvec::ArrayVec;
-use lease_disk::{Disk, SaveStep};
+use lease_disk::{Disk, SaveStep, Saving};
 
 /// The regions of the parts that are still saving.
 fn saving_regions(parts: &[Saving]) -> ArrayVec<u16, MAX_BATCH>
@@ -26,7 +25,10 @@ fn saving_regions(parts: &[Saving]) -> ArrayVec<u16, MAX_BATCH>
 
 /// This call failed for every part that is still saving.
 fn fail_saving(call: u8, parts: &mut [Saving])
-    ensures { (i : ℕ) → i < length parts.old → part_at parts.new i ≡ record (part_at parts.old i) { failed = (if (part_at parts.old i).failed == 0 then call else (part_at parts.old i).failed) } }
+    ensures { (i : ℕ) → i < length parts.old
+        → part_at parts.new i ≡ record (part_at parts.old i) {
+          failed = (if (part_at parts.old i).failed == 0 then call else (part_at parts.old i).failed);
+        } }
 {
     'parts: for saving in parts.iter_mut() {
         if saving.failed == 0 {

@@ -1,5 +1,6 @@
 pub mod Fresh
 pub mod Frames
+pub mod Calls
 pub mod WrittenLemmas
 pub mod Halves
 pub mod Entries

@@ -54,25 +54,29 @@ then_synced tells r at bytes (Ok x) old middle new w s = record {
   ok = λ t. s.ok t ∙ ap synced (w.ok t);
   err = λ t. tt;
   reads = λ t two. absurd (not_second (old.fuse r) (rw (w.fuse t) at s.answer t) two);
-  answer = λ t. second_is true (old.fuse r) (w.answer t) (rw (w.fuse t) at s.answer t);
-  fuse = λ t. two_calls (old.fuse r) (middle.fuse r) (new.fuse r) (w.fuse t) (s.fuse t);
   frame = touches_then tells r old middle new w.frame s.frame;
-  writes = two_more old.writes middle.writes new.writes w.writes s.writes;
-  most = omega (arith, w.writes, s.writes);
-  last = λ t. tt;
-  failures = s.failures ∙ w.failures;
+  calls = record {
+    answer = λ t. second_is true (old.fuse r) (w.answer t) (rw (w.fuse t) at s.answer t);
+    fuse = λ t. two_calls (old.fuse r) (middle.fuse r) (new.fuse r) (w.fuse t) (s.fuse t);
+    writes = two_more old.writes middle.writes new.writes w.writes s.writes;
+    most = omega (arith, w.writes, s.writes);
+    last = λ t. tt;
+    failures = s.failures ∙ w.failures;
+  };
 }
 then_synced tells r at bytes (Err x) old middle new w s = record {
   ok = λ t. tt;
   err = λ t. subst (λ (region : Region). IsTorn at (length bytes) (old.region r) region) (sym (s.err t ∙ w.ok t)) (torn at bytes (old.region r));
   reads = λ t two. s.err t ∙ w.ok t;
-  answer = λ t. second_is false (old.fuse r) (w.answer t) (rw (w.fuse t) at s.answer t);
-  fuse = λ t. tt;
   frame = touches_then tells r old middle new w.frame s.frame;
-  writes = tt;
-  most = omega (arith, w.writes, s.writes);
-  last = λ t. let fuse : old.fuse r ≡ 2 = is_second (old.fuse r) (rw (w.fuse t) at s.answer t) in omega (arith, w.writes, s.writes, fuse);
-  failures = s.failures ∙ ap (one_more_at r) w.failures;
+  calls = record {
+    answer = λ t. second_is false (old.fuse r) (w.answer t) (rw (w.fuse t) at s.answer t);
+    fuse = λ t. tt;
+    writes = tt;
+    most = omega (arith, w.writes, s.writes);
+    last = λ t. let fuse : old.fuse r ≡ 2 = is_second (old.fuse r) (rw (w.fuse t) at s.answer t) in omega (arith, w.writes, s.writes, fuse);
+    failures = s.failures ∙ ap (one_more_at r) w.failures;
+  };
 }
 
 pub not_written : {T E : Type 0} → (tells : Bool) (r at : ℕ) (bytes : List ℕ) (result : Result T E) (old new : Device) → IsErr result
@@ -84,11 +88,13 @@ not_written tells r at bytes (Err e) old new is torn answer frame writes failure
   ok = λ t. tt;
   err = torn;
   reads = λ t two. let one = is_first (old.fuse r) (answer t) in absurd (omega (arith, one, two));
-  answer = λ t. first_fails (old.fuse r) (answer t);
-  fuse = λ t. tt;
   frame = frame;
-  writes = tt;
-  most = omega (arith, writes);
-  last = λ t. let fuse : old.fuse r ≡ 1 = is_first (old.fuse r) (answer t) in omega (arith, writes, fuse);
-  failures = failures;
+  calls = record {
+    answer = λ t. first_fails (old.fuse r) (answer t);
+    fuse = λ t. tt;
+    writes = tt;
+    most = omega (arith, writes);
+    last = λ t. let fuse : old.fuse r ≡ 1 = is_first (old.fuse r) (answer t) in omega (arith, writes, fuse);
+    failures = failures;
+  };
 }

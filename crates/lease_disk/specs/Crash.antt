@@ -48,6 +48,6 @@ pub record IsFormattedOld (r : Region) : Type 0 where
   pub byte : (i : ℕ) → i < 32768 → r.byte i ≡ formatted_old i
   pub clean : IsClean r
 
--- after a formatting in format 1 whose k-th call failed: the same by the gate of the first bank
+-- after a formatting in format 1 whose k-th call failed: an empty book where the gate of the first bank is open, else damaged
 abbrev pub IsHalfFormattedOld : ℕ → Region → Type 0
 IsHalfFormattedOld k r = 3 ≤ k → (counts : List ℕ) (f : ℕ → ℕ) → IsCrash r f → recovered counts f ≡ (if f 0 == gate_open then Some empty_book else None)

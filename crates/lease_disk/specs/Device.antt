@@ -61,17 +61,20 @@ abbrev pub WritesAt : Bool → Option ℕ → Device → Device → Type 0
 WritesAt tells None old new = new ≡ old
 WritesAt tells (Some r) old new = Touches tells r old new
 
--- Bytes of region r were written from an offset on and synced, by two calls, of which one that fails is
--- the last; after a fault the range is in doubt.
+-- A function makes n writes and syncs of region r, and none after one that fails. It returns Ok where none does.
+pub record MakesCalls {T E : Type 0} (tells : Bool) (n r : ℕ) (result : Result T E) (old new : Device) : Type 0 where
+  pub answer : tells ≡ true → is_ok result ≡ (effective n (old.fuse r) == 0)
+  pub fuse : tells ≡ true → OnOk result (new.fuse r ≡ old.fuse r - n)
+  pub writes : OnOk result (new.writes ≡ old.writes + n)
+  pub most : new.writes ≤ old.writes + n
+  pub last : tells ≡ true → OnErr result (new.writes ≡ old.writes + old.fuse r)
+  pub failures : new.failures ≡ faults_after r result old.failures
+
+-- Bytes of region r were written from an offset on and synced; after a fault the range is in doubt.
 pub record IsWritten {T E : Type 0} (tells : Bool) (r at : ℕ) (bytes : List ℕ) (result : Result T E) (old new : Device) : Type 0 where
   pub ok : tells ≡ true → OnOk result (new.region r ≡ synced (written at bytes (old.region r)))
   pub err : tells ≡ true → OnErr result (IsTorn at (length bytes) (old.region r) (new.region r))
   -- where the sync failed, reads give them
   pub reads : tells ≡ true → old.fuse r ≡ 2 → new.region r ≡ written at bytes (old.region r)
-  pub answer : tells ≡ true → is_ok result ≡ (effective 2 (old.fuse r) == 0)
-  pub fuse : tells ≡ true → OnOk result (new.fuse r ≡ old.fuse r - 2)
   pub frame : Touches tells r old new
-  pub writes : OnOk result (new.writes ≡ old.writes + 2)
-  pub most : new.writes ≤ old.writes + 2
-  pub last : tells ≡ true → OnErr result (new.writes ≡ old.writes + old.fuse r)
-  pub failures : new.failures ≡ faults_after r result old.failures
+  pub calls : MakesCalls tells 2 r result old new

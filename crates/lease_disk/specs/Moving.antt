@@ -1,5 +1,5 @@
 -- Moving a region from format 1 to format 2.
-use Rattle.std.specs.Prelude.{◌≡◌, ◌<◌, ◌≤◌, ◌⊎◌, ℕ, ◌-◌, ◌/◌, ◌%◌, ◌==◌, Bool, true, false, not, ◌&&◌, ◌||◌, nat_le, nat_lt, is_some, if◌then◌else◌, List, [], ◌∷◌, slice_index, slice_index_or, Option, Some, None, Result, Ok, Err}
+use Rattle.std.specs.Prelude.{◌≡◌, ◌<◌, ◌≤◌, ◌⊎◌, ℕ, ◌+◌, ◌-◌, ◌/◌, ◌%◌, ◌==◌, Bool, true, false, not, ◌&&◌, ◌||◌, nat_le, nat_lt, is_some, if◌then◌else◌, List, [], ◌∷◌, slice_index, slice_index_or, Option, Some, None, Result, Ok, Err, OnOk, OnErr}
 use Rattle.types.specs.declared.slot4.Slot4.TheVariants as S4
 use Rattle.types.specs.declared.slots.Slot6.TheVariants as S6
 use Rattle.types.specs.declared.slots.Slots.{Slots}
@@ -7,6 +7,7 @@ use Rattle.lease_disk.specs.declared.content.Content.{Content}
 use Rattle.lease_disk.specs.declared.content.Content.TheVariants.{Four, Six}
 use Rattle.lease_disk.specs.declared.recovering.RecoverFault.{RecoverFault}
 use Rattle.lease_disk.specs.declared.recovering.RecoverFault.TheVariants.{DiskFault, Damaged}
+use Rattle.lease_disk.specs.Device.{Device}
 use Rattle.lease_disk.specs.HalfBytes.{half_bytes}
 use Rattle.lease_disk.specs.Layout.{is_format2}
 use Rattle.lease_disk.specs.Recovered.{recovered}
@@ -44,6 +45,18 @@ abbrev pub move_faults : {T : Type 0} → ℕ → Result T RecoverFault → (ℕ
 move_faults r (Ok done) failures = failures
 move_faults r (Err Damaged) failures = failures
 move_faults r (Err DiskFault) failures = one_more_at r failures
+
+-- how many writes and syncs there are, where none fails
+abbrev pub move_calls : List ℕ → Region → ℕ
+move_calls counts r = if moves counts r then 4 else 0
+
+-- A move makes so many writes and syncs of region r, and none after one that fails.
+pub record MakesMoveCalls {T : Type 0} (tells : Bool) (counts : List ℕ) (r : ℕ) (result : Result T RecoverFault) (old new : Device) : Type 0 where
+  pub fuse : tells ≡ true → OnOk result (new.fuse r ≡ old.fuse r - move_calls counts (old.region r))
+  pub writes : tells ≡ true → OnOk result (new.writes ≡ old.writes + move_calls counts (old.region r))
+  pub most : new.writes ≤ old.writes + 4
+  pub last : tells ≡ true → moves counts (old.region r) ≡ true → OnErr result (new.writes ≡ old.writes + old.fuse r)
+  pub failures : new.failures ≡ move_faults r result old.failures
 
 -- What is left
 

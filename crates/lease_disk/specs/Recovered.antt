@@ -65,7 +65,7 @@ slot4_of half =
     else if half 1 == 2 then Some (S4.Barred (until_of half))
     else None
 
--- the same with a DUID of 3 to 130 bytes and an IAID
+-- 0 free, 1 bound, 2 barred; None where the state is above 2, until is past its limit, or the DUID of a bound slot has not 3 to 130 bytes
 abbrev pub slot6_of : (ℕ → ℕ) → Option Slot6
 slot6_of half =
     if half 1 == 0 then Some S6.Free

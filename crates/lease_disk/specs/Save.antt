@@ -8,7 +8,9 @@ use Rattle.lease_disk.specs.declared.half.Half.{Half}
 use Rattle.lease_disk.specs.declared.half.Half.TheVariants.{First, Second}
 use Rattle.lease_disk.specs.declared.marks.Mark.{Mark}
 use Rattle.lease_disk.specs.declared.marks.Marks.{Marks}
+use Rattle.lease_disk.specs.declared.saving.Saving.{Saving}
 use Rattle.lease_disk.specs.Book.{IsBook}
+use Rattle.lease_disk.specs.Device.{Device}
 use Rattle.lease_disk.specs.HalfBytes.{half_bytes}
 use Rattle.lease_disk.specs.Layout.{gate_open, half_at, half2, is_format2}
 use Rattle.lease_disk.specs.Recovered.{is_open, sequence, next, is_counting, recovered}
@@ -39,6 +41,14 @@ AreMarks counts region marks = (s : ℕ) → is_read counts s ≡ true → IsMar
 abbrev pub Fits : ℕ → Content → Type 0
 Fits s (Four slot) = s < 16
 Fits s (Six slot) = (16 ≤ s) × (s < 32)
+
+-- what a save has to be given: a region of format 2 without unsynced bytes, and the right mark of the slot
+pub record CanSave (tells : Bool) (device : Device) (saving : Saving) : Type 0 where
+  pub exists : saving.region < device.count
+  pub fits : Fits saving.slot saving.content
+  pub format : tells ≡ true → is_format2 (device.region saving.region).byte ≡ true
+  pub clean : tells ≡ true → IsClean (device.region saving.region)
+  pub mark : tells ≡ true → IsMark (device.region saving.region).byte saving.slot (mark_at saving.marks saving.slot)
 
 -- the slots at a clock, with one that holds this from then on
 abbrev pub with_slot : ℕ → ℕ → Content → Slots → Slots

@@ -1,16 +1,17 @@
 -- The three writes of a save of a slot, each of which a sync follows, and what one of them leaves.
-use Rattle.std.specs.Prelude.{◌≡◌, ℕ, ◌+◌, ◌-◌, ◌==◌, Bool, true, not, if◌then◌else◌, List, [], ◌∷◌, length, drop, slice_set, Result, is_ok, OnOk, OnErr}
+use Rattle.std.specs.Prelude.{◌≡◌, ℕ, ◌+◌, ◌-◌, ◌==◌, ◌<◌, ◌≤◌, Bool, true, not, if◌then◌else◌, List, [], ◌∷◌, length, drop, slice_set, Result, is_ok, OnOk, OnErr}
 use Rattle.lease_disk.specs.declared.content.Content.{Content}
 use Rattle.lease_disk.specs.declared.format2.steps.SaveStep.{SaveStep}
 use Rattle.lease_disk.specs.declared.format2.steps.SaveStep.TheVariants.{Close, Fill, Open}
 use Rattle.lease_disk.specs.declared.marks.Mark.{Mark}
 use Rattle.lease_disk.specs.declared.marks.Marks.{Marks}
+use Rattle.lease_disk.specs.declared.saving.Saving.{Saving}
 use Rattle.lease_disk.specs.Device.{Device, Touches}
 use Rattle.lease_disk.specs.HalfBytes.{half_bytes}
 use Rattle.lease_disk.specs.Layout.{gate_open}
 use Rattle.lease_disk.specs.Recovered.{next}
 use Rattle.lease_disk.specs.Region.{IsTorn, faults_after, written}
-use Rattle.lease_disk.specs.Save.{gate_at, mark_at, other}
+use Rattle.lease_disk.specs.Save.{Fits, gate_at, mark_at, other}
 
 -- where a step writes
 abbrev pub place_of : SaveStep → ℕ → Mark → ℕ
@@ -27,6 +28,12 @@ bytes_of Open mark half = gate_open ∷ []
 -- the half that is saved: its sequence is the next after that of the half that counts
 abbrev pub saved_half : Mark → ℕ → Content → List ℕ
 saved_half mark clock content = half_bytes (next mark.sequence) clock content
+
+-- what one of the writes needs, on a device with so many regions
+pub record IsWritable (tells : Bool) (count : ℕ) (saving : Saving) : Type 0 where
+  pub exists : saving.region < count
+  pub fits : Fits saving.slot saving.content
+  pub mark : tells ≡ true → (mark_at saving.marks saving.slot).sequence ≤ 2
 
 -- Bytes of region r were written from an offset on, by one call; after a fault the range is in doubt.
 pub record IsWrite {T E : Type 0} (tells : Bool) (r at : ℕ) (bytes : List ℕ) (result : Result T E) (old new : Device) : Type 0 where

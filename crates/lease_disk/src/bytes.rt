@@ -5,7 +5,8 @@ ghost use Rattle.lease_disk.specs.Region.{is_within};
 /// Copies `source` over the bytes of `target` from an offset on.
 pub fn put(target: &mut [u8], at: usize, source: &[u8])
     requires { at + length source.now ≤ length target.old }
-    ensures { (i : ℕ) → slice_index target.new i ≡ (if is_within at (length source.now) i then slice_index source.now (i - at) else slice_index target.old i) }
+    ensures { (i : ℕ) → slice_index target.new i
+        ≡ (if is_within at (length source.now) i then slice_index source.now (i - at) else slice_index target.old i) }
 {
     for (i, byte) in source.iter().enumerate() {
         target[at + i] = *byte;

@@ -46,7 +46,8 @@ pub trait Disk {
         requires exists { region < (device self.old).count }
         requires fits { at + length bytes.now ≤ 32768 }
         ensures ok { tells ≡ true → OnOk result ((device self.new).region region ≡ written at bytes.now ((device self.old).region region)) }
-        ensures err { tells ≡ true → OnErr result (IsTorn at (length bytes.now) ((device self.old).region region) ((device self.new).region region)) }
+        ensures err { tells ≡ true → OnErr result
+            (IsTorn at (length bytes.now) ((device self.old).region region) ((device self.new).region region)) }
         ensures answer { tells ≡ true → is_ok result ≡ not ((device self.old).fuse region == 1) }
         ensures fuse { tells ≡ true → (device self.new).fuse region ≡ (device self.old).fuse region - 1 }
         ensures frame { Touches tells region (device self.old) (device self.new) }
@@ -67,8 +68,10 @@ pub trait Disk {
     /// Makes what was written to each of these regions outlive a crash, by one call. For each of them it is a sync.
     fn sync_set(&mut self, regions: &[u16]) -> Result<(), Fault>
         requires exist { (r : ℕ) → is_in regions.now r ≡ true → r < (device self.old).count }
-        ensures ok { tells ≡ true → OnOk result ((r : ℕ) → is_in regions.now r ≡ true → (device self.new).region r ≡ synced ((device self.old).region r)) }
-        ensures err { tells ≡ true → OnErr result ((r : ℕ) → is_in regions.now r ≡ true → (device self.new).region r ≡ (device self.old).region r) }
+        ensures ok { tells ≡ true → OnOk result
+            ((r : ℕ) → is_in regions.now r ≡ true → (device self.new).region r ≡ synced ((device self.old).region r)) }
+        ensures err { tells ≡ true → OnErr result
+            ((r : ℕ) → is_in regions.now r ≡ true → (device self.new).region r ≡ (device self.old).region r) }
         ensures answer { tells ≡ true → is_ok result ≡ not (list_any (λ r. (device self.old).fuse r == 1) regions.now) }
         ensures fuse { tells ≡ true → (r : ℕ) → is_in regions.now r ≡ true → (device self.new).fuse r ≡ (device self.old).fuse r - 1 }
         ensures frame { TouchesAll tells regions.now (device self.old) (device self.new) }

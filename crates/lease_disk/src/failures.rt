@@ -52,7 +52,8 @@ impl Failures {
 
     /// A call that names these regions failed as well.
     pub(crate) fn note_all(&mut self, regions: &[u16])
-        ensures { (q : ℕ) → count_in self.new.regions q ≡ (if is_in regions.now q then count_in self.old.regions q + 1 else count_in self.old.regions q) }
+        ensures { (q : ℕ) → count_in self.new.regions q
+            ≡ (if is_in regions.now q then count_in self.old.regions q + 1 else count_in self.old.regions q) }
     {
         'regions: for index in 0..regions.len() {
             let region = regions[index];

@@ -63,7 +63,13 @@ impl Model for FileDisk {
 
     ghost Value = { FileDiskValue };
 
-    ghost view = { λ d. record { length = d.length; regions = whole_regions d.length; reads = d.reads.count; writes = d.writes.count; failures = d.failures.regions } };
+    ghost view = { λ d. record {
+      length = d.length;
+      regions = whole_regions d.length;
+      reads = d.reads.count;
+      writes = d.writes.count;
+      failures = d.failures.regions;
+    } };
 }
 
 /// How many whole regions a file of so many bytes has, and at most 1024.
@@ -114,7 +120,7 @@ fn counted(region: u16, answer: io::Result<()>, failures: &mut Failures) -> Resu
     }
 }
 
-/// The same for a call that names these regions.
+/// What a call returned that names these regions. A fault is noted for each of them.
 fn counted_all(
     regions: &[u16],
     answer: io::Result<()>,

@@ -3,13 +3,12 @@
 mod formatting;
 mod layout;
 mod reading;
-mod saving;
 mod steps;
 mod write_half;
 
 pub use formatting::{format, format_bytes};
 pub(crate) use layout::HALVES_AT;
 pub use reading::{halves_in, read_halves};
-pub use saving::save;
+pub(crate) use steps::save_step;
 pub use steps::{SaveStep, write_step};
 pub(crate) use write_half::write_half;

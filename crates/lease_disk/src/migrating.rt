@@ -1,10 +1,10 @@
 //! Moving a region from format 1 to format 2.
-ghost use Rattle.std.specs.Prelude.{◌≡◌, ◌<◌, ◌≤◌, ◌+◌, ◌-◌, ◌==◌, ◌∷◌, [], ℕ, true, false, length, is_ok, slice_index, if◌then◌else◌, IfErr, OnOk, OnErr};
-ghost use Rattle.lease_disk.specs.Device.{ChangesOne, Touches};
+ghost use Rattle.std.specs.Prelude.{◌≡◌, ◌<◌, ◌≤◌, ◌+◌, ◌∷◌, [], ℕ, true, false, length, is_ok, slice_index, IfErr, OnOk, OnErr};
+ghost use Rattle.lease_disk.specs.Device.{ChangesOne, MakesCalls, Touches};
 ghost use Rattle.lease_disk.specs.HalfBytes.{half_bytes};
 ghost use Rattle.lease_disk.specs.Keys.{HasKey};
-ghost use Rattle.lease_disk.specs.Moving.{IsHalfMoved, IsMigrated, content_at, move_faults, moved_half, moves, refusal, succeeds};
-ghost use Rattle.lease_disk.specs.Region.{IsClean, effective, faults_after, synced, written};
+ghost use Rattle.lease_disk.specs.Moving.{IsHalfMoved, IsMigrated, MakesMoveCalls, content_at, moved_half, moves, refusal, succeeds};
+ghost use Rattle.lease_disk.specs.Region.{IsClean, synced, written};
 
 use crate::bytes::{overwrite, put};
 use crate::content::Content;
@@ -44,20 +44,17 @@ fn write_halves(slots: &Slots, halves: &mut [u8])
     }
 }
 
-/// Writes the halves of all slots, and then the byte of the format, each with its sync. One of these four calls
-/// that fails is the last.
+/// Writes the halves of all slots, and then the byte of the format, each with its sync. None of these four calls
+/// follows one that fails.
 fn write_moved<D: Disk>(region: u16, disk: &mut D, halves: &[u8]) -> Result<(), Fault>
     requires exists { region < (D.device disk.old).count }
     requires all { length halves.now ≡ 16384 }
-    ensures ok { D.tells ≡ true → OnOk result ((D.device disk.new).region region ≡ synced (written 8192 (2 ∷ []) (synced (written 16384 halves.now ((D.device disk.old).region region))))) }
-    ensures err { D.tells ≡ true → OnErr result (IsHalfMoved ((D.device disk.old).fuse region) halves.now ((D.device disk.old).region region) ((D.device disk.new).region region)) }
-    ensures answer { D.tells ≡ true → is_ok result ≡ (effective 4 ((D.device disk.old).fuse region) == 0) }
-    ensures fuse { D.tells ≡ true → OnOk result ((D.device disk.new).fuse region ≡ (D.device disk.old).fuse region - 4) }
+    ensures ok { D.tells ≡ true → OnOk result ((D.device disk.new).region region
+        ≡ synced (written 8192 (2 ∷ []) (synced (written 16384 halves.now ((D.device disk.old).region region))))) }
+    ensures err { D.tells ≡ true → OnErr result (IsHalfMoved ((D.device disk.old).fuse region) halves.now
+        ((D.device disk.old).region region) ((D.device disk.new).region region)) }
     ensures frame { Touches D.tells region (D.device disk.old) (D.device disk.new) }
-    ensures writes { OnOk result ((D.device disk.new).writes ≡ (D.device disk.old).writes + 4) }
-    ensures most { (D.device disk.new).writes ≤ (D.device disk.old).writes + 4 }
-    ensures last { D.tells ≡ true → OnErr result ((D.device disk.new).writes ≡ (D.device disk.old).writes + (D.device disk.old).fuse region) }
-    ensures failures { (D.device disk.new).failures ≡ faults_after region result (D.device disk.old).failures }
+    ensures calls { MakesCalls D.tells 4 region result (D.device disk.old) (D.device disk.new) }
 {
     write_synced(region, disk, HALVES_AT, halves)?;
     write_synced(region, disk, FORMAT_AT, &[FORMAT])
@@ -75,18 +72,17 @@ pub fn migrate<D: Disk>(
 ) -> Result<(), RecoverFault>
     requires exists { region < (D.device disk.old).count }
     requires buffer { length buffer.old ≡ 16384 }
-    requires clean { D.tells ≡ true → ((D.device disk.old).region region).readable ≡ true → IsClean ((D.device disk.old).region region) }
+    requires clean { D.tells ≡ true → ((D.device disk.old).region region).readable ≡ true
+        → IsClean ((D.device disk.old).region region) }
     ensures answer { D.tells ≡ true → is_ok result ≡ succeeds counts ((D.device disk.old).fuse region) ((D.device disk.old).region region) }
     ensures refusal { D.tells ≡ true → IfErr result (λ fault. fault ≡ refusal counts ((D.device disk.old).region region)) }
-    ensures still { D.tells ≡ true → moves counts ((D.device disk.old).region region) ≡ false → (D.device disk.new).region region ≡ (D.device disk.old).region region }
-    ensures region { D.tells ≡ true → ((D.device disk.old).region region).readable ≡ true → IsMigrated counts ((D.device disk.old).fuse region) ((D.device disk.old).region region) ((D.device disk.new).region region) }
-    ensures fuse { D.tells ≡ true → OnOk result ((D.device disk.new).fuse region ≡ (D.device disk.old).fuse region - (if moves counts ((D.device disk.old).region region) then 4 else 0)) }
+    ensures still { D.tells ≡ true → moves counts ((D.device disk.old).region region) ≡ false
+        → (D.device disk.new).region region ≡ (D.device disk.old).region region }
+    ensures region { D.tells ≡ true → ((D.device disk.old).region region).readable ≡ true
+        → IsMigrated counts ((D.device disk.old).fuse region) ((D.device disk.old).region region) ((D.device disk.new).region region) }
     ensures frame { ChangesOne D.tells region (D.device disk.old) (D.device disk.new) }
     ensures reads { (D.device disk.new).reads ≤ (D.device disk.old).reads + 3 }
-    ensures writes { D.tells ≡ true → OnOk result ((D.device disk.new).writes ≡ (D.device disk.old).writes + (if moves counts ((D.device disk.old).region region) then 4 else 0)) }
-    ensures most { (D.device disk.new).writes ≤ (D.device disk.old).writes + 4 }
-    ensures last { D.tells ≡ true → moves counts ((D.device disk.old).region region) ≡ true → OnErr result ((D.device disk.new).writes ≡ (D.device disk.old).writes + (D.device disk.old).fuse region) }
-    ensures failures { (D.device disk.new).failures ≡ move_faults region result (D.device disk.old).failures }
+    ensures calls { MakesMoveCalls D.tells counts region result (D.device disk.old) (D.device disk.new) }
 {
     let Ok(two) = has_format2(region, disk) else {
         return Err(RecoverFault::DiskFault);

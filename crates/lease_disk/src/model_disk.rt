@@ -43,7 +43,14 @@ impl Model for ModelDisk {
 
     ghost Value = { ModelDiskValue };
 
-    ghost view = { λ d. record { regions = d.regions.items; fuses = d.fuses.items; reads = d.reads.count; writes = d.writes.count; failures = d.failures.regions; syncs = d.syncs } };
+    ghost view = { λ d. record {
+      regions = d.regions.items;
+      fuses = d.fuses.items;
+      reads = d.reads.count;
+      writes = d.writes.count;
+      failures = d.failures.regions;
+      syncs = d.syncs;
+    } };
 
     ghost invariant = { λ d. (length d.regions.items < 65536) × (length d.fuses.items ≡ length d.regions.items) };
 }
@@ -75,7 +82,8 @@ fn burn(fuse: &mut u8) -> bool
 fn burn_all(fuses: &mut [u8], regions: &[u16]) -> bool
     requires { (r : ℕ) → is_in regions.now r ≡ true → r < length fuses.old }
     ensures fails { result ≡ list_any (λ r. slice_index fuses.old r == 1) regions.now }
-    ensures fuses { (r : ℕ) → slice_index fuses.new r ≡ (if is_in regions.now r then slice_index fuses.old r - 1 else slice_index fuses.old r) }
+    ensures fuses { (r : ℕ) → slice_index fuses.new r
+        ≡ (if is_in regions.now r then slice_index fuses.old r - 1 else slice_index fuses.old r) }
     ensures size { length fuses.new ≡ length fuses.old }
 {
     let mut fails = false;
@@ -92,7 +100,8 @@ fn burn_all(fuses: &mut [u8], regions: &[u16]) -> bool
 /// Syncs each of these regions.
 fn clear_all(stored: &mut [Stored], regions: &[u16])
     requires { (r : ℕ) → is_in regions.now r ≡ true → r < length stored.old }
-    ensures synced { (r : ℕ) → region_of (stored_at stored.new r) ≡ (if is_in regions.now r then synced (region_of (stored_at stored.old r)) else region_of (stored_at stored.old r)) }
+    ensures synced { (r : ℕ) → region_of (stored_at stored.new r)
+        ≡ (if is_in regions.now r then synced (region_of (stored_at stored.old r)) else region_of (stored_at stored.old r)) }
     ensures size { length stored.new ≡ length stored.old }
 {
     'regions: for index in 0..regions.len() {
@@ -236,8 +245,10 @@ impl Disk for ModelDisk {
     fn write_at(&mut self, region: u16, at: usize, bytes: &[u8]) -> Result<(), Fault>
         requires exists { region < length self.old.regions }
         requires fits { at + length bytes.now ≤ 32768 }
-        ensures ok { true ≡ true → OnOk result ((device_of self.new).region region ≡ written at bytes.now ((device_of self.old).region region)) }
-        ensures err { true ≡ true → OnErr result (IsTorn at (length bytes.now) ((device_of self.old).region region) ((device_of self.new).region region)) }
+        ensures ok { true ≡ true → OnOk result
+            ((device_of self.new).region region ≡ written at bytes.now ((device_of self.old).region region)) }
+        ensures err { true ≡ true → OnErr result
+            (IsTorn at (length bytes.now) ((device_of self.old).region region) ((device_of self.new).region region)) }
         ensures answer { true ≡ true → is_ok result ≡ not ((device_of self.old).fuse region == 1) }
         ensures fuse { true ≡ true → (device_of self.new).fuse region ≡ (device_of self.old).fuse region - 1 }
         ensures frame { Touches true region (device_of self.old) (device_of self.new) }

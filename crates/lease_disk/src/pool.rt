@@ -6,7 +6,8 @@ ghost use Rattle.lease_disk.specs.Book.{IsBook};
 ghost use Rattle.lease_disk.specs.Halves.{clock_by};
 ghost use Rattle.lease_disk.specs.Layout.{half2, with_halves};
 ghost use Rattle.lease_disk.specs.declared.half.Half.TheVariants.{First, Second};
-ghost use Rattle.lease_disk.specs.Recovered.{book_in, contents_at, counting_clock, entry, latest, pool_entries, saved_at, slot4_of, slot6_of};
+ghost use Rattle.lease_disk.specs.Recovered.{book_in, contents_at, counting_clock, entry, latest, pool_entries, saved_at};
+ghost use Rattle.lease_disk.specs.Recovered.{slot4_of, slot6_of};
 
 use crate::entry::{Entry, Slot, read_entry};
 use crate::half::{CLOCK_AT, Half};
@@ -107,7 +108,8 @@ fn has_no_twins<S: Slot>(slots: &[S]) -> bool
 /// whole, for pools of so many addresses; `None` where they are damaged.
 fn read_slots(halves: &[u8], clock: Moment, counts: [u8; 2]) -> Option<Slots>
     requires { length halves.now ≡ 16384 }
-    ensures slots { result ≡ book_in counts (Some clock) (entry slot4_of (with_halves halves.now)) (entry slot6_of (with_halves halves.now)) }
+    ensures slots { result ≡ book_in counts (Some clock)
+        (entry slot4_of (with_halves halves.now)) (entry slot6_of (with_halves halves.now)) }
     ensures book { IfSome result (IsBook counts) }
 {
     let four = read_pool::<Slot4>(halves, clock, 0, counts[0])?;
@@ -145,7 +147,8 @@ fn bank_clock(halves: &[u8]) -> Option<Moment>
 /// and the region none.
 pub fn read_region_slots(halves: &[u8], is_format2: bool, counts: [u8; 2]) -> Option<Slots>
     requires { length halves.now ≡ 16384 }
-    ensures slots { result ≡ book_in counts (clock_by is_format2 halves.now) (entry slot4_of (with_halves halves.now)) (entry slot6_of (with_halves halves.now)) }
+    ensures slots { result ≡ book_in counts (clock_by is_format2 halves.now)
+        (entry slot4_of (with_halves halves.now)) (entry slot6_of (with_halves halves.now)) }
     ensures book { IfSome result (IsBook counts) }
 {
     if is_format2 {

@@ -71,8 +71,10 @@ fn read_region<D: Disk>(
     counts: [u8; 2],
 ) -> Result<Option<(Slots, Marks)>, Fault>
     requires { region < (D.device disk.old).count }
-    ensures slots { D.tells ≡ true → IfOk result (λ found. recovered counts ((D.device disk.old).region region).byte ≡ option_map (λ f. f.0) found) }
-    ensures marks { D.tells ≡ true → layout.is_format2 ((D.device disk.old).region region).byte ≡ true → IfOk result (λ found. IfSome found (λ f. AreMarks counts ((D.device disk.old).region region).byte f.1)) }
+    ensures slots { D.tells ≡ true
+        → IfOk result (λ found. recovered counts ((D.device disk.old).region region).byte ≡ option_map (λ f. f.0) found) }
+    ensures marks { D.tells ≡ true → layout.is_format2 ((D.device disk.old).region region).byte ≡ true
+        → IfOk result (λ found. IfSome found (λ f. AreMarks counts ((D.device disk.old).region region).byte f.1)) }
     ensures book { IfOk result (λ found. IfSome found (λ f. IsBook counts f.0)) }
     ensures answer { D.tells ≡ true → is_ok result ≡ ((D.device disk.old).region region).readable }
     ensures frame { TouchesNothing D.tells (D.device disk.old) (D.device disk.new) }

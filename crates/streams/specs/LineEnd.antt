@@ -48,6 +48,18 @@ pub record HoldsLast (held : List ℕ) (left : Option (List ℕ)) (len : ℕ) : 
   pub plain : lacks 10 held ≡ true
   pub end : IsAtEnd left
 
+-- the length of the line; nothing of one that is too long is used
+abbrev pub len_of : LineEnd → ℕ
+len_of (Newline len) = len
+len_of (EndOfInput len) = len
+len_of TooLong = 0
+
+-- how many line feeds are held after it
+abbrev pub feeds_of : LineEnd → ℕ
+feeds_of (Newline len) = 1
+feeds_of (EndOfInput len) = 0
+feeds_of TooLong = 0
+
 -- The first line of the bytes that are held ends so, whatever follows them.
 abbrev pub IsFirstEnd : List ℕ → LineEnd → Type 0
 IsFirstEnd held (Newline len) = HoldsLine held len
@@ -59,6 +71,12 @@ abbrev pub IsLineEnd : List ℕ → Option (List ℕ) → LineEnd → Type 0
 IsLineEnd held left (Newline len) = HoldsLine held len
 IsLineEnd held left (EndOfInput len) = HoldsLast held left len
 IsLineEnd held left TooLong = HoldsLong held
+
+-- The first line that is held ends so, where this is left to read.
+pub record IsLineRead (held : List ℕ) (left : Option (List ℕ)) (result : LineEnd) : Type 0 where
+  pub end : IsLineEnd held left result
+  pub within : len_of result ≤ 8192
+  pub inside : len_of result + feeds_of result ≤ length held
 
 -- The rest of a text begins with the line that is held and ends so.
 abbrev pub Fits : List ℕ → LineEnd → List ℕ → Type 0
@@ -76,15 +94,3 @@ pub record IsCounted (old new : Option (List ℕ)) (before after : ℕ) : Type 0
   pub bytes : List ℕ
   pub read : Consumes old new bytes
   pub count : after ≡ before + length bytes
-
--- the length of the line; nothing of one that is too long is used
-abbrev pub len_of : LineEnd → ℕ
-len_of (Newline len) = len
-len_of (EndOfInput len) = len
-len_of TooLong = 0
-
--- how many line feeds are held after it
-abbrev pub feeds_of : LineEnd → ℕ
-feeds_of (Newline len) = 1
-feeds_of (EndOfInput len) = 0
-feeds_of TooLong = 0

@@ -1,7 +1,7 @@
 //! Lines of input.
 ghost use Rattle.std.specs.Prelude.{◌≡◌, ◌+◌, ◌⊎◌, ◌<◌, ◌≤◌, length, true, IfOk, IfSome, IfNone, OnOk, OnErr};
 ghost use Rattle.std.specs.Io.KnownBytes.{Keeps, prepend_known};
-ghost use Rattle.streams.specs.LineEnd.{IsCounted, IsLineEnd, IsFirstEnd, len_of, feeds_of};
+ghost use Rattle.streams.specs.LineEnd.{IsCounted, IsLineRead, IsFirstEnd};
 ghost use Rattle.streams.specs.Lines.{lacks};
 ghost use Rattle.streams.specs.ReadAhead.{held};
 
@@ -43,10 +43,9 @@ fn first_end(text: &[u8]) -> Option<LineEnd>
 /// Reads until the first line is held or is too long.
 pub fn read_line<R: ByteReader>(ahead: &mut ReadAhead, reader: &mut R) -> Result<LineEnd, Failed>
     requires { ahead.old.count < 18446744073709551615 }
-    ensures end { IfOk result (IsLineEnd (held ahead.new) (R.remaining reader.new)) }
-    ensures within { IfOk result (λ end. len_of end ≤ 8192) }
-    ensures inside { IfOk result (λ end. len_of end + feeds_of end ≤ length (held ahead.new)) }
-    ensures kept { Keeps (prepend_known (held ahead.old) (R.remaining reader.old)) (prepend_known (held ahead.new) (R.remaining reader.new)) }
+    ensures line { IfOk result (IsLineRead (held ahead.new) (R.remaining reader.new)) }
+    ensures kept { Keeps (prepend_known (held ahead.old) (R.remaining reader.old))
+        (prepend_known (held ahead.new) (R.remaining reader.new)) }
     ensures grown { length (held ahead.old) + ahead.new.count ≡ length (held ahead.new) + ahead.old.count }
     ensures counted { IsCounted (R.remaining reader.old) (R.remaining reader.new) ahead.old.count ahead.new.count }
     ensures below { OnOk result (ahead.new.count < 18446744073709551615) }
@@ -69,25 +68,25 @@ pub fn read_line<R: ByteReader>(ahead: &mut ReadAhead, reader: &mut R) -> Result
     unreachable!()
 }
 
-/// The same for a line whose predecessors were answered. What was written is flushed before a read, which
-/// may wait for input.
+/// Reads until the first line is held or is too long, where all lines before it were answered. What was written is
+/// flushed before a read, which may wait for input.
 pub fn flush_and_read_line<R: ByteReader, W: ByteWriter>(
     ahead: &mut ReadAhead,
     reader: &mut R,
     writer: &mut W,
 ) -> Result<LineEnd, Failed>
     requires { ahead.old.count < 18446744073709551615 }
-    ensures end { IfOk result (IsLineEnd (held ahead.new) (R.remaining reader.new)) }
-    ensures within { IfOk result (λ end. len_of end ≤ 8192) }
-    ensures inside { IfOk result (λ end. len_of end + feeds_of end ≤ length (held ahead.new)) }
-    ensures kept { Keeps (prepend_known (held ahead.old) (R.remaining reader.old)) (prepend_known (held ahead.new) (R.remaining reader.new)) }
+    ensures line { IfOk result (IsLineRead (held ahead.new) (R.remaining reader.new)) }
+    ensures kept { Keeps (prepend_known (held ahead.old) (R.remaining reader.old))
+        (prepend_known (held ahead.new) (R.remaining reader.new)) }
     ensures written { Keeps (W.contents writer.old) (W.contents writer.new) }
     ensures grown { length (held ahead.old) + ahead.new.count ≡ length (held ahead.new) + ahead.old.count }
     ensures counted { IsCounted (R.remaining reader.old) (R.remaining reader.new) ahead.old.count ahead.new.count }
     ensures below { OnOk result (ahead.new.count < 18446744073709551615) }
     ensures quiet { OnOk result (R.failures reader.new ≡ R.failures reader.old) }
     ensures writer_quiet { OnOk result (W.failures writer.new ≡ W.failures writer.old) }
-    ensures cause { OnErr result ((R.failures reader.new ≡ R.failures reader.old + 1) ⊎ (ahead.new.count ≡ 18446744073709551615) ⊎ (W.failures writer.new ≡ W.failures writer.old + 1)) }
+    ensures cause { OnErr result ((R.failures reader.new ≡ R.failures reader.old + 1)
+        ⊎ (ahead.new.count ≡ 18446744073709551615) ⊎ (W.failures writer.new ≡ W.failures writer.old + 1)) }
 {
     if first_end(ahead.as_slice()).is_none() {
         writer.flush()?;

@@ -43,7 +43,7 @@ fn read_between<R: ByteReader>(
 }
 
 impl ReadAhead {
-    ghost use Rattle.streams.specs.ReadAhead.{held};
+    ghost use Rattle.streams.specs.ReadAhead.{IsFilled, held};
 
     /// Nothing was read yet.
     pub fn new() -> ReadAhead
@@ -97,11 +97,10 @@ impl ReadAhead {
     pub fn fill<R: ByteReader>(&mut self, reader: &mut R) -> Result<bool, Failed>
         requires room { length (held self.old) ≤ 8192 }
         requires few { self.old.count < 18446744073709551615 }
-        ensures kept { Keeps (prepend_known (held self.old) (R.remaining reader.old)) (prepend_known (held self.new) (R.remaining reader.new)) }
+        ensures kept { Keeps (prepend_known (held self.old) (R.remaining reader.old))
+            (prepend_known (held self.new) (R.remaining reader.new)) }
         ensures grown { length (held self.old) + self.new.count ≡ length (held self.new) + self.old.count }
-        ensures more { IfOk result (λ more. more ≡ true → self.old.count < self.new.count) }
-        ensures end { IfOk result (λ more. more ≡ false → IsAtEnd (R.remaining reader.new)) }
-        ensures same { IfOk result (λ more. more ≡ false → held self.new ≡ held self.old) }
+        ensures filled { IfOk result (IsFilled self.old self.new (R.remaining reader.new)) }
         ensures counted { IsCounted (R.remaining reader.old) (R.remaining reader.new) self.old.count self.new.count }
         ensures below { OnOk result (self.new.count < 18446744073709551615) }
         ensures quiet { OnOk result (R.failures reader.new ≡ R.failures reader.old) }

@@ -9,24 +9,28 @@ ghost use Rattle.v4_options.specs.Spelling.{spelling, look_up, without, AreOptio
 ghost use Rattle.v4_options.specs.Suboptions.{AreDistinct, SpellsSuboptions, FailsSuboptions};
 ghost use Rattle.v4_options.specs.Subreading.{suboptions_of};
 
-/// The codes as the standards' numbers.
+/// The codes of what is read, as the standards' numbers: of options and of the suboptions of option 82.
 pub fn code_values()
     ensures pad { code.PAD ≡ 0 }
-    ensures mask { code.SUBNET_MASK ≡ 1 }
-    ensures router { code.ROUTER ≡ 3 }
-    ensures name_server { code.DOMAIN_NAME_SERVER ≡ 6 }
     ensures requested { code.REQUESTED_ADDRESS ≡ 50 }
-    ensures lease { code.LEASE_TIME ≡ 51 }
     ensures overload { code.OPTION_OVERLOAD ≡ 52 }
     ensures message_type { code.MESSAGE_TYPE ≡ 53 }
     ensures server { code.SERVER_IDENTIFIER ≡ 54 }
-    ensures renewal { code.RENEWAL_TIME ≡ 58 }
-    ensures rebinding { code.REBINDING_TIME ≡ 59 }
     ensures client { code.CLIENT_IDENTIFIER ≡ 61 }
     ensures agent { code.RELAY_AGENT_INFORMATION ≡ 82 }
     ensures end { code.END ≡ 255 }
     ensures circuit { code.CIRCUIT_ID ≡ 1 }
     ensures server_override { code.SERVER_IDENTIFIER_OVERRIDE ≡ 11 }
+{}
+
+/// The codes of the options that are only sent, as the standards' numbers.
+pub fn reply_code_values()
+    ensures mask { code.SUBNET_MASK ≡ 1 }
+    ensures router { code.ROUTER ≡ 3 }
+    ensures name_server { code.DOMAIN_NAME_SERVER ≡ 6 }
+    ensures lease { code.LEASE_TIME ≡ 51 }
+    ensures renewal { code.RENEWAL_TIME ≡ 58 }
+    ensures rebinding { code.REBINDING_TIME ≡ 59 }
 {}
 
 /// Reading any bytes returns a list exactly where they spell it, and a fault exactly where they have

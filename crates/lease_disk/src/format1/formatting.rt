@@ -1,9 +1,8 @@
 //! Formatting a region as earlier versions did.
-ghost use Rattle.std.specs.Prelude.{◌≡◌, ◌<◌, ◌≤◌, ◌+◌, ◌-◌, ◌==◌, ℕ, true, length, is_ok, slice_index, if◌then◌else◌, OnOk, OnErr};
+ghost use Rattle.std.specs.Prelude.{◌≡◌, ◌<◌, ◌==◌, ℕ, true, length, slice_index, if◌then◌else◌, OnOk, OnErr};
 ghost use Rattle.lease_disk.specs.Crash.{IsFormattedOld, IsHalfFormattedOld, IsHalfWritten};
-ghost use Rattle.lease_disk.specs.Device.{Touches};
+ghost use Rattle.lease_disk.specs.Device.{MakesCalls, Touches};
 ghost use Rattle.lease_disk.specs.Layout.{formatted_old};
-ghost use Rattle.lease_disk.specs.Region.{effective, faults_after};
 
 use crate::bytes::{overwrite, put};
 use crate::device::{Disk, Fault, REGION};
@@ -26,15 +25,12 @@ pub fn format_old<D: Disk>(region: u16, disk: &mut D) -> Result<(), Fault>
     requires { region < (D.device disk.old).count }
     ensures ok { D.tells ≡ true → OnOk result (IsFormattedOld ((D.device disk.new).region region)) }
     ensures err { D.tells ≡ true → OnErr result (IsHalfFormattedOld ((D.device disk.old).fuse region) ((D.device disk.new).region region)) }
-    ensures left { D.tells ≡ true → OnErr result (IsHalfWritten 0 formatted_old ((D.device disk.old).fuse region) ((D.device disk.new).region region)) }
-    ensures readable { D.tells ≡ true → ((D.device disk.new).region region).readable ≡ ((D.device disk.old).region region).readable }
-    ensures answer { D.tells ≡ true → is_ok result ≡ (effective 4 ((D.device disk.old).fuse region) == 0) }
-    ensures fuse { D.tells ≡ true → OnOk result ((D.device disk.new).fuse region ≡ (D.device disk.old).fuse region - 4) }
+    ensures left { D.tells ≡ true
+        → OnErr result (IsHalfWritten 0 formatted_old ((D.device disk.old).fuse region) ((D.device disk.new).region region)) }
+    ensures readable { D.tells ≡ true
+        → ((D.device disk.new).region region).readable ≡ ((D.device disk.old).region region).readable }
     ensures frame { Touches D.tells region (D.device disk.old) (D.device disk.new) }
-    ensures writes { OnOk result ((D.device disk.new).writes ≡ (D.device disk.old).writes + 4) }
-    ensures most { (D.device disk.new).writes ≤ (D.device disk.old).writes + 4 }
-    ensures last { D.tells ≡ true → OnErr result ((D.device disk.new).writes ≡ (D.device disk.old).writes + (D.device disk.old).fuse region) }
-    ensures failures { (D.device disk.new).failures ≡ faults_after region result (D.device disk.old).failures }
+    ensures calls { MakesCalls D.tells 4 region result (D.device disk.old) (D.device disk.new) }
 {
     let mut bytes = [0; REGION];
     closed_banks(&mut bytes);

@@ -24,7 +24,8 @@ pub fn halves_of_banks(banks: &[u8]) -> [u8; HALVES_SIZE]
 /// Reads what both banks of a region have of all slots, as halves.
 pub fn read_banks<D: Disk>(region: u16, disk: &mut D) -> Result<[u8; HALVES_SIZE], Fault>
     requires { region < (D.device disk.old).count }
-    ensures halves { D.tells ≡ true → is_format2 ((D.device disk.old).region region).byte ≡ false → IfOk result (λ halves. AreHalves halves ((D.device disk.old).region region).byte) }
+    ensures halves { D.tells ≡ true → is_format2 ((D.device disk.old).region region).byte ≡ false
+        → IfOk result (λ halves. AreHalves halves ((D.device disk.old).region region).byte) }
     ensures answer { D.tells ≡ true → is_ok result ≡ ((D.device disk.old).region region).readable }
     ensures frame { TouchesNothing D.tells (D.device disk.old) (D.device disk.new) }
     ensures reads { (D.device disk.new).reads ≡ (D.device disk.old).reads + 1 }

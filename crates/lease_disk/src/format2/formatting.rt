@@ -1,5 +1,6 @@
 //! Formatting a region.
-ghost use Rattle.std.specs.Prelude.{◌≡◌, ◌<◌, ◌≤◌, ◌+◌, ◌%◌, ◌-◌, ◌==◌, ◌&&◌, ℕ, true, length, is_ok, slice_index, nat_le, nat_lt, if◌then◌else◌, OnOk, OnErr};
+ghost use Rattle.std.specs.Prelude.{◌≡◌, ◌<◌, ◌≤◌, ◌+◌, ◌%◌, ◌-◌, ◌==◌, ◌&&◌, ℕ, true, nat_le, nat_lt, if◌then◌else◌};
+ghost use Rattle.std.specs.Prelude.{length, is_ok, slice_index, OnOk, OnErr};
 ghost use Rattle.lease_disk.specs.Crash.{IsFormatted, IsHalfFormatted, IsHalfWritten};
 ghost use Rattle.lease_disk.specs.Device.{Touches};
 ghost use Rattle.lease_disk.specs.Layout.{formatted};
@@ -38,14 +39,16 @@ pub fn format<D: Disk>(region: u16, disk: &mut D) -> Result<(), Fault>
     requires { region < (D.device disk.old).count }
     ensures ok { D.tells ≡ true → OnOk result (IsFormatted ((D.device disk.new).region region)) }
     ensures err { D.tells ≡ true → OnErr result (IsHalfFormatted ((D.device disk.old).fuse region) ((D.device disk.new).region region)) }
-    ensures left { D.tells ≡ true → OnErr result (IsHalfWritten 8192 formatted ((D.device disk.old).fuse region) ((D.device disk.new).region region)) }
+    ensures left { D.tells ≡ true
+        → OnErr result (IsHalfWritten 8192 formatted ((D.device disk.old).fuse region) ((D.device disk.new).region region)) }
     ensures readable { D.tells ≡ true → ((D.device disk.new).region region).readable ≡ ((D.device disk.old).region region).readable }
     ensures answer { D.tells ≡ true → is_ok result ≡ (effective 4 ((D.device disk.old).fuse region) == 0) }
     ensures fuse { D.tells ≡ true → OnOk result ((D.device disk.new).fuse region ≡ (D.device disk.old).fuse region - 4) }
     ensures frame { Touches D.tells region (D.device disk.old) (D.device disk.new) }
     ensures writes { OnOk result ((D.device disk.new).writes ≡ (D.device disk.old).writes + 4) }
     ensures most { (D.device disk.new).writes ≤ (D.device disk.old).writes + 4 }
-    ensures last { D.tells ≡ true → OnErr result ((D.device disk.new).writes ≡ (D.device disk.old).writes + (D.device disk.old).fuse region) }
+    ensures last { D.tells ≡ true
+        → OnErr result ((D.device disk.new).writes ≡ (D.device disk.old).writes + (D.device disk.old).fuse region) }
     ensures failures { (D.device disk.new).failures ≡ faults_after region result (D.device disk.old).failures }
 {
     let mut bytes = [0; REGION];

@@ -1,16 +1,16 @@
-//! The three writes of a save, each by itself and without its sync.
+//! The three writes of a save, each by itself, with its sync or without it.
 ghost use Rattle.std.specs.Prelude.{◌≡◌, ◌<◌, ◌≤◌, ◌+◌, true, length};
+ghost use Rattle.lease_disk.specs.Device.{IsWritten};
 ghost use Rattle.lease_disk.specs.Keys.{HasKey};
-ghost use Rattle.lease_disk.specs.Save.{Fits, mark_at};
-ghost use Rattle.lease_disk.specs.SaveSteps.{IsWrite, bytes_of, place_of, saved_half};
+ghost use Rattle.lease_disk.specs.Save.{mark_at};
+ghost use Rattle.lease_disk.specs.SaveSteps.{IsWritable, IsWrite, bytes_of, place_of, saved_half};
 
 use super::layout::half_at;
 use super::write_half::{HalfBytes, write_half};
-use crate::content::Content;
 use crate::device::{Disk, Fault};
 use crate::half::{GATE_OPEN, sequence_after};
-use crate::marks::{Mark, Marks};
-use types::Moment;
+use crate::saving::Saving;
+use crate::writing::write_synced;
 
 /// The three writes of a save. A sync of the region follows each.
 #[derive(Clone, Copy, PartialEq, Eq)]
@@ -25,19 +25,15 @@ pub enum SaveStep {
 }
 
 /// Where a step of a save writes, and what, by the half that is saved.
-pub fn write_of<'a>(
-    step: SaveStep,
-    slot: usize,
-    mark: Mark,
-    half: &'a HalfBytes,
-) -> (usize, &'a [u8])
-    requires exists { slot < 32 }
+fn write_of<'a>(step: SaveStep, saving: &Saving, half: &'a HalfBytes) -> (usize, &'a [u8])
+    requires exists { saving.now.slot < 32 }
     requires whole { length half.now.items ≡ 256 }
-    ensures place { result.0 ≡ place_of step slot mark }
-    ensures bytes { result.1.now ≡ bytes_of step mark half.now.items }
+    ensures place { result.0 ≡ place_of step saving.now.slot (mark_at saving.now.marks saving.now.slot) }
+    ensures bytes { result.1.now ≡ bytes_of step (mark_at saving.now.marks saving.now.slot) half.now.items }
     ensures fits { result.0 + length result.1.now ≤ 32768 }
 {
-    let gate = half_at(slot, mark.half.other());
+    let mark = saving.marks.slots[saving.slot];
+    let gate = half_at(saving.slot, mark.half.other());
     match step {
         SaveStep::Close if mark.other_open => (gate, &[0]),
         SaveStep::Close => (gate, &[]),
@@ -46,26 +42,36 @@ pub fn write_of<'a>(
     }
 }
 
-/// Makes one of the three writes of a save of a slot, without the sync that has to follow it.
-pub fn write_step<D: Disk>(
+/// Makes one of the three writes of a save, of this half, and the sync that follows it.
+pub fn save_step<D: Disk>(
     step: SaveStep,
-    region: u16,
+    half: &HalfBytes,
+    saving: &Saving,
     disk: &mut D,
-    marks: &Marks,
-    clock: Moment,
-    slot: usize,
-    content: &Content,
 ) -> Result<(), Fault>
-    requires exists { region < (D.device disk.old).count }
-    requires fits { Fits slot content.now }
-    requires mark { D.tells ≡ true → (mark_at marks.now slot).sequence ≤ 2 }
-    ensures write { let mark = mark_at marks.now slot in IsWrite D.tells region (place_of step slot mark) (bytes_of step mark (saved_half mark clock content.now)) result (D.device disk.old) (D.device disk.new) }
-    ensures key { HasKey content.now }
-    ensures clock { clock ≤ 1099511627775 }
-    ensures size { length (saved_half (mark_at marks.now slot) clock content.now) ≡ 256 }
+    requires exists { saving.now.region < (D.device disk.old).count }
+    requires slot { saving.now.slot < 32 }
+    requires whole { length half.now.items ≡ 256 }
+    ensures { let mark = mark_at saving.now.marks saving.now.slot in
+        IsWritten D.tells saving.now.region (place_of step saving.now.slot mark) (bytes_of step mark half.now.items) result
+        (D.device disk.old) (D.device disk.new) }
 {
-    let mark = marks.slots[slot];
-    let half = write_half(sequence_after(mark.sequence), clock, content);
-    let (at, bytes) = write_of(step, slot, mark, &half);
-    disk.write_at(region, at, bytes)
+    let (at, bytes) = write_of(step, saving, half);
+    write_synced(saving.region, disk, at, bytes)
+}
+
+/// Makes one of the three writes of a save, without the sync that has to follow it.
+pub fn write_step<D: Disk>(step: SaveStep, saving: &Saving, disk: &mut D) -> Result<(), Fault>
+    requires { IsWritable D.tells (D.device disk.old).count saving.now }
+    ensures write { let mark = mark_at saving.now.marks saving.now.slot in
+        IsWrite D.tells saving.now.region (place_of step saving.now.slot mark)
+        (bytes_of step mark (saved_half mark saving.now.clock saving.now.content)) result (D.device disk.old) (D.device disk.new) }
+    ensures key { HasKey saving.now.content }
+    ensures clock { saving.now.clock ≤ 1099511627775 }
+    ensures size { length (saved_half (mark_at saving.now.marks saving.now.slot) saving.now.clock saving.now.content) ≡ 256 }
+{
+    let mark = saving.marks.slots[saving.slot];
+    let half = write_half(sequence_after(mark.sequence), saving.clock, &saving.content);
+    let (at, bytes) = write_of(step, saving, &half);
+    disk.write_at(saving.region, at, bytes)
 }

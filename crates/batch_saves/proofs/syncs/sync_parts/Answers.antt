@@ -1,7 +1,7 @@
 use Rattle.std.proofs.Common.{add-zero, ◌≡◌, ◌==◌, ◌+◌, if◌then◌else◌, ℕ, true, false, List, is_ok, refl, sym, ap, subst, ◌∙◌, arith}
 use Rattle.std.proofs.lemmas.List.{nil_from_length}
 use Rattle.lease_disk.specs.Device.{is_in}
-use Rattle.batch_saves.specs.declared.saving.Saving.{Saving}
+use Rattle.lease_disk.specs.declared.saving.Saving.{Saving}
 use Rattle.batch_saves.specs.Batch.{part_at}
 use Rattle.batch_saves.specs.Steps.{AreSaving}
 use Rattle.batch_saves.proofs.Syncing.{any_found, any_none, kept_zero, none_saving, one_saving, seen_fuse, synced_part, to_false, to_true, where_err, where_ok}

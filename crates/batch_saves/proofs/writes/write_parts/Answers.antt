@@ -1,6 +1,6 @@
 use Rattle.std.proofs.Common.{sym, ap, ◌∙◌, ◌<◌, subst, arith}
 use Rattle.std.proofs.lemmas.List.{get_or_default}
-use Rattle.batch_saves.specs.declared.saving.Saving.{Saving}
+use Rattle.lease_disk.specs.declared.saving.Saving.{Saving}
 use Rattle.batch_saves.specs.Batch.{no_part}
 use Rattle.batch_saves.proofs.Going.{going_next, one_more}
 use Rattle.batch_saves.proofs.writes.write_parts.Goals as goal

@@ -47,7 +47,7 @@ returns-in-Ok-write_moved-clause-region g c = λ tells readable.
     })
     _ ((g.D.Disk.device c.write_moved.new.disk).region c.args.region)
     (c.in-Ok-write_moved.ensures.ok tells ∙ ap (λ r. synced (written 8192 (2 ∷ []) (synced (written 16384 c.write_halves.new.halves r)))) same)
-    (c.in-Ok-write_moved.ensures.answer tells ∙ ap (λ k. effective 4 k == 0) fuse)
+    (c.in-Ok-write_moved.ensures.calls.answer tells ∙ ap (λ k. effective 4 k == 0) fuse)
 
 pub returns-in-Err-clause-region : goal.returns-in-Err-clause-region
 returns-in-Err-clause-region g c = λ tells readable.
@@ -73,4 +73,4 @@ returns-in-Err-clause-region g c = λ tells readable.
     _ ((g.D.Disk.device c.write_moved.new.disk).region c.args.region)
     (subst (λ (r : Region). IsHalfMoved ((g.D.Disk.device c.args.disk.now).fuse c.args.region) c.write_halves.new.halves r ((g.D.Disk.device c.write_moved.new.disk).region c.args.region)) same
     (subst (λ k. IsHalfMoved k c.write_halves.new.halves ((g.D.Disk.device c.recover.new.disk).region c.args.region) ((g.D.Disk.device c.write_moved.new.disk).region c.args.region)) fuse (c.in-Err.ensures.err tells)))
-    (c.in-Err.ensures.answer tells ∙ ap (λ k. effective 4 k == 0) fuse)
+    (c.in-Err.ensures.calls.answer tells ∙ ap (λ k. effective 4 k == 0) fuse)

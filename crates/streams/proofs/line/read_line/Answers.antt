@@ -5,16 +5,20 @@ use Rattle.streams.specs.ReadAhead.{held}
 use Rattle.streams.proofs.ReadLemmas.{counted_more}
 use Rattle.streams.proofs.line.read_line.Goals as goal
 
-pub returns-in-Ok-false-clause-end : goal.returns-in-Ok-false-clause-end
-returns-in-Ok-false-clause-end g c =
-    let done = rw c.in-Ok-false.field-0-test at c.in-Ok-false.ensures.end in
-    let same = rw c.in-Ok-false.field-0-test at c.in-Ok-false.ensures.same in
+pub returns-in-Ok-false-clause-line : goal.returns-in-Ok-false-clause-line
+returns-in-Ok-false-clause-line g c =
+    let filled = rw c.in-Ok-false.field-0-test at c.in-Ok-false.ensures.filled in
     let text = c.as_slice-text.ensures in
+    let size = ap length (filled.same refl ∙ sym text) in
     record {
-      size = ap length (same refl ∙ sym text);
-      short = c.in_default.ensures.short;
-      plain = ap (lacks 10) (same refl ∙ sym text) ∙ c.in_default.ensures.plain;
-      end = done refl;
+      end = record {
+        size = size;
+        short = c.in_default.ensures.short;
+        plain = ap (lacks 10) (filled.same refl ∙ sym text) ∙ c.in_default.ensures.plain;
+        end = filled.end refl;
+      };
+      within = c.in_default.ensures.short;
+      inside = omega (arith, size);
     }
 
 pub returns-in-Ok-false-clause-counted : goal.returns-in-Ok-false-clause-counted
@@ -25,9 +29,9 @@ returns-in-Err-clause-counted g c = counted_more _ _ _ _ _ _ c.reads.invariant.c
 
 pub reads-preserved : goal.reads-preserved
 reads-preserved g c =
-    let more = rw c.in-Ok-true.field-0-test at c.in-Ok-true.ensures.more in
+    let filled = rw c.in-Ok-true.field-0-test at c.in-Ok-true.ensures.filled in
     let short : length (held c.reads.ahead) ≤ 8192 = rw c.as_slice-text.ensures at c.in_default.ensures.short in
-    let read = more refl in
+    let read = filled.more refl in
     let grown = c.fill.ensures.grown in
     let long = c.reads.invariant.long in
     record {

@@ -5,7 +5,7 @@ use Rattle.lease_disk.proofs.format2.formatting.format.Goals as goal
 
 pub returns-in_err-write_synced-clause-err : goal.returns-in_err-write_synced-clause-err
 returns-in_err-write_synced-clause-err g c = λ tells.
-    at_err c.from_residual.result (left_first ((g.D.Disk.device c.args.disk.now).fuse c.args.region) ((g.D.Disk.device c.write_synced.new.disk).region c.args.region) (c.in_err-write_synced.ensures.answer tells))
+    at_err c.from_residual.result (left_first ((g.D.Disk.device c.args.disk.now).fuse c.args.region) ((g.D.Disk.device c.write_synced.new.disk).region c.args.region) (c.in_err-write_synced.ensures.calls.answer tells))
 
 pub returns-clause-ok : goal.returns-clause-ok
 returns-clause-ok g c = λ tells.
@@ -22,7 +22,7 @@ returns-in_err-write_synced-clause-left g c = λ tells.
     let e = c.in_err-write_synced.ensures in
     let bytes = c.open_first_halves.new.bytes in
     at_err c.from_residual.result (half_first 8192 formatted bytes ((g.D.Disk.device c.args.disk.now).region c.args.region) (search rules) (omega arith) (open_rest bytes c.open_first_halves.ensures) (c.open_first_halves.ensures 8192)
-    ((g.D.Disk.device c.args.disk.now).fuse c.args.region) ((g.D.Disk.device c.write_synced.new.disk).region c.args.region) (e.answer tells) (e.err tells) (e.reads tells))
+    ((g.D.Disk.device c.args.disk.now).fuse c.args.region) ((g.D.Disk.device c.write_synced.new.disk).region c.args.region) (e.calls.answer tells) (e.err tells) (e.reads tells))
 
 pub returns-clause-left : goal.returns-clause-left
 returns-clause-left g c = λ tells.
@@ -32,4 +32,4 @@ returns-clause-left g c = λ tells.
     on_fault c.write_synced-2.result (λ failed torn.
     half_second 8192 formatted bytes ((g.D.Disk.device c.args.disk.now).region c.args.region) (search rules) (omega arith) (open_rest bytes c.open_first_halves.ensures) (c.open_first_halves.ensures 8192)
     ((g.D.Disk.device c.args.disk.now).fuse c.args.region) ((g.D.Disk.device c.write_synced.new.disk).fuse c.args.region) ((g.D.Disk.device c.write_synced.new.disk).region c.args.region) ((g.D.Disk.device c.write_synced-2.new.disk).region c.args.region)
-    2 refl (e.ok tells) (e.fuse tells) (failed ∙ last.answer tells) torn (last.reads tells)) (last.err tells)
+    2 refl (e.ok tells) (e.calls.fuse tells) (failed ∙ last.calls.answer tells) torn (last.reads tells)) (last.err tells)

@@ -1,4 +1,4 @@
-use Rattle.std.proofs.Common.{◌+◌, slice_range, arith}
+use Rattle.std.proofs.Common.{◌≡◌, ◌<◌, ◌+◌, slice_range, arith}
 use Rattle.streams.specs.ReadAhead.{held}
 use Rattle.streams.proofs.AheadLemmas.{slice_range_more, moved_kept, moved_grown, moved_same, moved_counted}
 use Rattle.streams.proofs.read_ahead.ReadAhead.fill.Goals as goal
@@ -36,8 +36,12 @@ returns-clause-grown g c =
 pub returns-clause-counted : goal.returns-clause-counted
 returns-clause-counted g c = moved_counted _ _ _ _ _ c.in-Ok.n c.in-Ok.ensures.ok c.in-Ok.ensures.size c.move_to_front.ensures.count
 
-pub returns-clause-same : goal.returns-clause-same
-returns-clause-same g c =
+pub returns-clause-filled : goal.returns-clause-filled
+returns-clause-filled g c =
     let w = c.move_to_front.new.self in
-    λ none. moved_same (held c.args.self.now) (held w) _ (slice_range c.read_between.new.bytes w.end (w.end + c.in-Ok.n)) c.in-Ok.n c.move_to_front.ensures.held
-    (slice_range_more w.bytes c.read_between.new.bytes w.start w.end c.in-Ok.n c.move_to_front.ensures.start c.read_between.ensures.front) c.in-Ok.ensures.size none
+    record {
+      more = λ some. let least : 0 < c.in-Ok.n = grind (arith, some) in omega (arith, least, c.move_to_front.ensures.count);
+      end = λ none. let n : c.in-Ok.n ≡ 0 = grind (arith, none) in c.in-Ok.ensures.end n;
+      same = λ none. moved_same (held c.args.self.now) (held w) _ (slice_range c.read_between.new.bytes w.end (w.end + c.in-Ok.n)) c.in-Ok.n c.move_to_front.ensures.held
+          (slice_range_more w.bytes c.read_between.new.bytes w.start w.end c.in-Ok.n c.move_to_front.ensures.start c.read_between.ensures.front) c.in-Ok.ensures.size none;
+    }
