@@ -15,6 +15,6 @@ pub record IsCalledToSave (regions : List ℕ) (old new : Device) : Type 0 where
   pub most : new.writes ≤ old.writes + save_calls (length regions)
   pub failures : (r : ℕ) → new.failures r ≡ old.failures r + (if is_in regions r && has_failed old new r then 1 else 0)
 
--- the same of one region, or of none
+-- This region is saved to, if there is one, and the device is called for nothing else.
 abbrev pub IsCalledToSaveAt : Option ℕ → Device → Device → Type 0
 IsCalledToSaveAt saves = IsCalledToSave (cons_option saves [])

@@ -20,7 +20,7 @@ held_until o s =
     if nat_lt s 16 then option_map until_of (slice_index_or o.four.slots s None)
     else option_map until_of (slice_index_or o.six.slots (s - 16) None)
 
--- the same of a circuit, which may be closed
+-- until when a slot of a circuit is held: one that is closed holds nothing
 abbrev pub held_in : Option OpenCircuitValue → ℕ → Option ℕ
 held_in None s = None
 held_in (Some o) s = held_until o s

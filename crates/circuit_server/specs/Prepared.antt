@@ -11,6 +11,7 @@ use Rattle.lease_disk.specs.Book.{IsBook}
 use Rattle.lease_disk.specs.Device.{Device, Touches}
 use Rattle.lease_disk.specs.Region.{Region, effective, faults_after}
 use Rattle.lease_disk.specs.Save.{IsSaveOf}
+use Rattle.batch_saves.specs.Batch.{IsReady}
 use Rattle.batch_saves.specs.declared.saving.Saving.{Saving}
 use Rattle.circuit_server.specs.Answered.{IsAnswer, answered, circuit_saves}
 use Rattle.circuit_server.specs.CircuitDecision.{FitsCircuit, IsWithin, KeepsItsSlot, answer_of, kept_in, served_by, with_decision}
@@ -44,6 +45,11 @@ pub record IsApplied (part : CircuitPart) (decision : CircuitDecision) (before :
   -- what is saved is a book, its own
   pub book : (kept : ℕ × Content) → kept_in decision ≡ Some kept → IsBook (counts_in after) (kept_slots after)
   pub means : (kept : ℕ × Content) → kept_in decision ≡ Some kept → book_in part (kept_slots after) ≡ kept_book (open_book after)
+
+-- The device is ready for the save of whatever a decision of this circuit calls for.
+abbrev pub CanSave : Bool → Device → CircuitPart → CircuitDecision → Option OpenCircuitValue → Type 0
+CanSave tells device part decision old =
+    (new : Option OpenCircuitValue) (saving : Option Saving) → HasPools part new → ((before : OpenCircuitValue) → old ≡ Some before → IsApplied part decision before new saving) → IfSome saving (IsReady tells device)
 
 -- An open circuit decided on a datagram: its books have the decision's changes, and this is to be saved.
 pub record IsPrepared (part : CircuitPart) (d : DeliveryValue) (old new : Option OpenCircuitValue) (prepared : Prepared) : Type 0 where

@@ -5,8 +5,8 @@ use Rattle.lease_disk.specs.Device.{Device}
 use Rattle.circuit_server.specs.CircuitServerValue.{IsReadyFor, OpenCircuitValue, leases_of}
 use Rattle.circuit_server.specs.Leases.{IsRegionMigrated, counts_of, found_leases}
 
--- Where the device tells, a circuit of this part has what its region held, in either format, and the region is of format 2 if
--- that could be done.
+-- Where the device tells: the leases are those that the region held, an open circuit's region can be saved to, and one of
+-- format 1 is moved to format 2.
 pub record IsRestarted (tells : Bool) (part : CircuitPart) (state : Option OpenCircuitValue) (was later : Device) : Type 0 where
   pub leases : tells ≡ true → leases_of later.region (record { part = part; state = state }) ≡ found_leases was.region was.fuse part
   pub ready : tells ≡ true → IsReadyFor (later.region part.region) state

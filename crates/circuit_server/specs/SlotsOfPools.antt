@@ -9,7 +9,7 @@ use Rattle.circuit_server.specs.CircuitServerValue.{CircuitServerValue, HasPools
 abbrev pub HasSlots : OpenCircuitValue → Type 0
 HasSlots o = slots4.AreSlots o.four.pool o.four.slots × slots6.AreSlots o.six.pool o.six.slots
 
--- the same, and the pools are those of this part
+-- the slots of an open circuit are those of this part's pools
 abbrev pub HasSlotsOfPools : CircuitPart → OpenCircuitValue → Type 0
 HasSlotsOfPools part o = HasSlots o × HasPools part (Some o)
 

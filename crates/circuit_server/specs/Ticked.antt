@@ -6,7 +6,7 @@ use Rattle.circuit_server.specs.CircuitServerValue.{OpenCircuitValue}
 abbrev pub open_at : ℕ → OpenCircuitValue → OpenCircuitValue
 open_at now o = record o { clock = max o.clock now }
 
--- the same of a circuit, which may be closed
+-- a circuit, open or closed, after its clock was moved to this moment
 abbrev pub state_at : ℕ → Option OpenCircuitValue → Option OpenCircuitValue
 state_at now state = option_map (open_at now) state
 

@@ -7,6 +7,6 @@ use Rattle.circuit_server.specs.CircuitServerValue.{OpenCircuitValue}
 abbrev pub open_unoffered : OpenCircuitValue → OpenCircuitValue
 open_unoffered o = record o { four = record o.four { slots = without_offers o.four.slots } }
 
--- the same of a circuit, which may be closed
+-- a circuit, open or closed, without its offers
 abbrev pub state_unoffered : Option OpenCircuitValue → Option OpenCircuitValue
 state_unoffered state = option_map open_unoffered state

@@ -8,11 +8,9 @@ ghost use Rattle.circuit_server.specs.Served.{IsServed};
 ghost use Rattle.timers.specs.Deadlines.{DeadlinesValue, deadline};
 ghost use Rattle.types.specs.Slots.{last_until};
 ghost use Rattle.requests.specs.RelayedMessage.{IsRelayedMessage};
-ghost use Rattle.circuit_server.specs.Prepared.{IsApplied, IsAppliedAndSaved, IsDecided, IsDropped, IsPrepared};
+ghost use Rattle.circuit_server.specs.Prepared.{CanSave, IsApplied, IsAppliedAndSaved, IsDecided, IsDropped, IsPrepared};
 ghost use Rattle.circuit_server.specs.Prepared.{IsDecisionSettled, IsSettled, with_marks};
 ghost use Rattle.circuit_server.specs.CircuitDecision.{FitsCircuit, with_decision};
-ghost use Rattle.batch_saves.specs.Batch.{IsReady};
-ghost use Rattle.batch_saves.specs.declared.saving.Saving as saved;
 ghost use Rattle.circuit_server.specs.CircuitServerValue.{HasPools, IsReadyFor, OpenCircuitValue, kept_slots, open_book};
 ghost use Rattle.circuit_server.specs.Ticked.{IsLater, state_at};
 ghost use Rattle.circuit_server.specs.Unoffered.{state_unoffered};
@@ -32,9 +30,9 @@ use types::{Circuit, Delivery, Discard, Moment, Slots};
 use wire::PacketBuf;
 
 /// The server of one circuit: what it has while the circuit is open. A part is the circuit's part of the
-/// configuration, the same at each call, and a device the one that its region is on, which nobody else writes to
-/// meanwhile. The table is that of all circuits, in seconds, and each call that is given one is told which circuit
-/// of them this is. No call takes memory.
+/// configuration, and a device the one that its region is on, which nobody else writes to meanwhile. A table is that
+/// of the deadlines of all circuits, in seconds, and `circuit` says which of them this one is. Both are the same at
+/// each call. No call takes memory.
 #[derive(Drop)]
 pub struct CircuitServer {
     pub(crate) state: Option<OpenCircuit>,
@@ -94,8 +92,8 @@ impl CircuitServer {
         self.state = OpenCircuit::recover(part, disk);
     }
 
-    /// Moves the clock of an open circuit to the moment of a datagram of it, of which this was read, and decides on that. The
-    /// error is the reason for which the datagram is dropped.
+    /// Moves the clock of an open circuit to the moment of a datagram of it, and decides on what was read of that. The error
+    /// is the reason for which the datagram is dropped.
     #[inline(always)]
     fn decide<C: Decide>(
         &mut self,
@@ -171,9 +169,7 @@ impl CircuitServer {
         requires entries { HasEntries table.old circuit self.old }
         requires pools { HasPools part.now self.old }
         requires fits { IfSome self.old (FitsCircuit (C.decision decision.now)) }
-        requires ready { (new : Option OpenCircuitValue) (saving : Option saved.Saving) → HasPools part.now new
-            → ((before : OpenCircuitValue) → self.old ≡ Some before → IsApplied part.now (C.decision decision.now) before new saving)
-            → IfSome saving (IsReady D.tells (D.device disk.old)) }
+        requires ready { CanSave D.tells (D.device disk.old) part.now (C.decision decision.now) self.old }
         ensures later { (moment : ℕ) → IsLater moment self.old → IsLater moment self.new }
         ensures pools { HasPools part.now self.new }
         ensures entries { KeepsEntries circuit table.old table.new self.new }
@@ -188,8 +184,8 @@ impl CircuitServer {
         save_alone(&saving, disk)
     }
 
-    /// Decides on a datagram of the circuit, of which this was read, at the moment of its delivery, and makes what it changes
-    /// of the books and the deadlines. Nothing is saved yet, and nothing sent: what is prepared has to be settled once its
+    /// Decides on what was read of a datagram of the circuit, at the moment of its delivery, and makes what that changes of
+    /// the books and the deadlines. Nothing is saved yet, and nothing sent: what is prepared has to be settled once its
     /// save is done, before any other call. The error is the reason for which the datagram is dropped.
     pub fn prepare<'a>(
         &mut self,
@@ -271,13 +267,13 @@ impl CircuitServer {
         ensures { self.new ≡ with_marks marks self.old }
     {
         if let (Some(circuit), Some(marks)) = (&mut self.state, marks) {
-            circuit.set_marks(marks);
+            circuit.marks = marks;
         }
     }
 
-    /// Answers a datagram of the circuit, of which this was read, at the moment of its delivery. A save that fails closes
-    /// the circuit, until a restart. At `Ok` the reply's datagram is in `out`, which stays empty otherwise; the error is
-    /// the reason for which the datagram is dropped.
+    /// Answers what was read of a datagram of the circuit, at the moment of its delivery. A save that fails closes the
+    /// circuit, until a restart. At `Ok` the reply's datagram is in `out`, which stays empty otherwise; the error is the
+    /// reason for which the datagram is dropped.
     pub fn answer<D: Disk>(
         &mut self,
         part: &CircuitPart,
@@ -308,7 +304,7 @@ impl CircuitServer {
         }
     }
 
-    /// Answers a datagram of the circuit by a decision of this type: of either protocol alone.
+    /// Answers a datagram of the circuit by a decision of this type: that of one protocol alone.
     fn answer_with<C: Decide, D: Disk>(
         &mut self,
         part: &CircuitPart,
@@ -340,18 +336,6 @@ impl CircuitServer {
         }
     }
 
-    /// Until when a slot of the circuit is held, live or expired, in seconds; `None` where the circuit is closed.
-    fn until(&self, slot: usize) -> Option<u64>
-        requires { slot < 32 }
-        ensures value { result ≡ held_in self.now slot }
-        ensures most { IfSome result (λ until. until ≤ last_until) }
-    {
-        match &self.state {
-            Some(circuit) => circuit.until(slot),
-            None => None,
-        }
-    }
-
     /// Gives all slots of the circuit their deadlines.
     pub fn set_deadlines(&self, table: &mut Deadlines, circuit: Circuit)
         requires room { 32 * circuit + 32 ≤ length table.old.slots }
@@ -359,7 +343,11 @@ impl CircuitServer {
         ensures entries { KeepsEntries circuit table.old table.new self.now }
     {
         'slots: for slot in 0..SLOTS {
-            put(table, circuit, slot, self.until(slot));
+            let until = match &self.state {
+                Some(state) => state.until(slot),
+                None => None,
+            };
+            put(table, circuit, slot, until);
         }
     }
 
@@ -379,7 +367,7 @@ impl CircuitServer {
         ensures { self.new ≡ state_unoffered self.old }
     {
         if let Some(circuit) = &mut self.state {
-            circuit.withdraw_offers();
+            circuit.four.withdraw_offers();
         }
     }
 

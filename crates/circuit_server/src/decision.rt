@@ -70,7 +70,7 @@ pub(crate) trait Decide: Drop + Sized {
         requires { HasPools part.now (Some circuit.now) }
         ensures ok { (proto : Proto) (bytes : List ℕ) → IsRelayedMessage proto bytes (relayed read)
             → IfOk result (λ made. datagram_served part.now proto bytes (open_book circuit.now)
-                ≡ served_by part.now circuit.now (decision made)) }
+            ≡ served_by part.now circuit.now (decision made)) }
         ensures err { (proto : Proto) (bytes : List ℕ) → IsRelayedMessage proto bytes (relayed read)
             → IfErr result (λ why. datagram_served part.now proto bytes (open_book circuit.now) ≡ drop why (open_book circuit.now)) }
         ensures fits { IfOk result (λ made. FitsCircuit (decision made) circuit.now) };
@@ -85,7 +85,7 @@ pub(crate) trait Decide: Drop + Sized {
         requires { IfSome (kept_in (decision self.now)) (λ kept. kept.0 < 32) }
         ensures { result ≡ kept_in (decision self.now) };
 
-    /// Whether there is such a slot.
+    /// Whether a slot has to be saved before the reply leaves.
     fn saves(&self) -> bool
         ensures { result ≡ is_some (kept_in (decision self.now)) };
 
@@ -123,7 +123,7 @@ impl<'a> Decide for CircuitDecision4<'a> {
     }
 
     fn commit(&self, circuit: &mut OpenCircuit) {
-        circuit.commit4(&self.decision);
+        circuit.four.commit(&self.decision);
     }
 
     fn kept(&self) -> Option<(usize, Content)> {
@@ -138,12 +138,13 @@ impl<'a> Decide for CircuitDecision4<'a> {
     }
 
     fn set_deadlines(&self, table: &mut Deadlines, circuit: Circuit) {
-        match &self.decision.change {
-            Change4::Nothing => {}
-            Change4::Offers(OfferChange::Made(slot, _, until)) => put(table, circuit, *slot, Some(*until)),
-            Change4::Offers(OfferChange::Withdrawn(slot)) => put(table, circuit, *slot, None),
-            Change4::Keeps(kept) => put(table, circuit, kept.slot, until4(&kept.content)),
-        }
+        let (slot, until) = match &self.decision.change {
+            Change4::Nothing => return,
+            Change4::Offers(OfferChange::Made(slot, _, until)) => (*slot, Some(*until)),
+            Change4::Offers(OfferChange::Withdrawn(slot)) => (*slot, None),
+            Change4::Keeps(kept) => (kept.slot, until4(&kept.content)),
+        };
+        put(table, circuit, slot, until);
     }
 
     fn reply(&self, part: &CircuitPart, out: &mut PacketBuf) -> Result<(), Discard> {
@@ -172,7 +173,7 @@ impl<'a> Decide for CircuitDecision6<'a> {
     }
 
     fn commit(&self, circuit: &mut OpenCircuit) {
-        circuit.commit6(&self.decision);
+        circuit.six.commit(&self.decision);
     }
 
     fn kept(&self) -> Option<(usize, Content)> {
@@ -186,7 +187,8 @@ impl<'a> Decide for CircuitDecision6<'a> {
 
     fn set_deadlines(&self, table: &mut Deadlines, circuit: Circuit) {
         if let Some(kept) = &self.decision.keep {
-            put(table, circuit, FIRST_SLOT6 + kept.slot, until6(&kept.content));
+            let slot = FIRST_SLOT6 + kept.slot;
+            put(table, circuit, slot, until6(&kept.content));
         }
     }
 
@@ -214,8 +216,14 @@ impl<'a> Decide for CircuitDecision<'a> {
         read: RelayedMessage<'a>,
     ) -> Result<CircuitDecision<'a>, Discard> {
         match read {
-            RelayedMessage::V4(message) => Ok(CircuitDecision::V4(circuit.decide4(message)?)),
-            RelayedMessage::V6(forward) => Ok(CircuitDecision::V6(circuit.decide6(part, forward)?)),
+            RelayedMessage::V4(message) => match circuit.decide4(message) {
+                Ok(made) => Ok(CircuitDecision::V4(made)),
+                Err(why) => Err(why),
+            },
+            RelayedMessage::V6(forward) => match circuit.decide6(part, forward) {
+                Ok(made) => Ok(CircuitDecision::V6(made)),
+                Err(why) => Err(why),
+            },
         }
     }
 

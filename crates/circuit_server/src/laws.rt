@@ -3,20 +3,13 @@ ghost use Rattle.std.specs.Prelude.{IfSome};
 ghost use Rattle.circuit_server.specs.SlotsOfPools.{HasSlots};
 
 use crate::circuit_server::CircuitServer;
-use crate::open_circuit::OpenCircuit;
 
 /// An open circuit has slots of its books' pools.
 pub fn has_slots(server: &CircuitServer)
     ensures { IfSome server.now HasSlots }
 {
     if let Some(circuit) = &server.state {
-        books_have_slots(circuit);
+        let _four = circuit.four.slots();
+        let _six = circuit.six.slots();
     }
-}
-
-fn books_have_slots(circuit: &OpenCircuit)
-    ensures { HasSlots circuit.now }
-{
-    let _four = circuit.four.slots();
-    let _six = circuit.six.slots();
 }

@@ -1,5 +1,5 @@
 //! What the server has of an open circuit.
-ghost use Rattle.std.specs.Prelude.{◌≡◌, ◌<◌, ◌≤◌, ◌+◌, ℕ, true, option_map, List, IfOk, IfErr, IfSome, Some, Err};
+ghost use Rattle.std.specs.Prelude.{◌≡◌, ◌<◌, ◌≤◌, ◌+◌, ℕ, true, option_map, List, IfOk, IfErr, IfSome, Some, Ok, Err};
 ghost use Rattle.types.specs.Slots.{IsWithin4, IsWithin6, last_until};
 ghost use Rattle.bindings_v4.specs.Slots4 as slots4;
 ghost use Rattle.bindings_v4.specs.Decision4.{kept_slot, offer_change};
@@ -16,7 +16,7 @@ ghost use Rattle.circuit_server.specs.Leases.{book_in, found_book};
 ghost use Rattle.circuit_server.specs.Prepared.{saving_of};
 ghost use Rattle.requests.specs.RelayedMessage.{IsRelayedMessage};
 ghost use Rattle.requests.specs.Request4.{request4_in};
-ghost use Rattle.circuit_server.specs.Server.{book_at, datagram_served, drop, kept_book, message6_served, request4_served};
+ghost use Rattle.circuit_server.specs.Server.{book_at, drop, forward_served, kept_book, message4_served};
 ghost use Rattle.circuit_server.specs.CircuitServerValue.{HasPools, IsReadyFor, counts_in, kept_slots, open_book};
 ghost use Rattle.circuit_server.specs.Ticked.{open_at};
 ghost use Rattle.circuit_server.specs.Unoffered.{open_unoffered};
@@ -44,7 +44,7 @@ pub(crate) struct OpenCircuit {
     clock: Moment,
     pub(crate) four: Book4,
     pub(crate) six: Book6,
-    marks: Marks,
+    pub(crate) marks: Marks,
 }
 
 impl Model for OpenCircuit {
@@ -85,12 +85,7 @@ impl OpenCircuit {
     /// Moves the clock to this moment, where it is a later one.
     pub(crate) fn tick(&mut self, now: Moment)
         ensures value { self.new ≡ open_at now self.old }
-        ensures pool4 { self.new.four.pool ≡ self.old.four.pool }
-        ensures pool6 { self.new.six.pool ≡ self.old.six.pool }
-        ensures four { self.new.four ≡ self.old.four }
-        ensures six { self.new.six ≡ self.old.six }
         ensures later { self.old.clock ≤ self.new.clock }
-        ensures marks { self.new.marks ≡ self.old.marks }
         ensures book { open_book self.new ≡ book_at now (open_book self.old) }
         ensures ready { (region : Region) → IsReadyFor region (Some self.old) → IsReadyFor region (Some self.new) }
     {
@@ -98,13 +93,6 @@ impl OpenCircuit {
         bindings_v4::laws::expires_by_the_clock(&self.four, self.clock, later);
         bindings_v6::laws::expires_by_the_clock(&self.six, self.clock, later);
         self.clock = later;
-    }
-
-    /// Drops every offer, live or expired. Bindings, bars and the clock stay.
-    pub(crate) fn withdraw_offers(&mut self)
-        ensures { self.new ≡ open_unoffered self.old }
-    {
-        self.four.withdraw_offers();
     }
 
     /// Until when a slot of the circuit is held, live or expired, in seconds.
@@ -138,13 +126,15 @@ impl OpenCircuit {
     // inlined, as is all that hands the decision on: to move it three times takes longer than to decide
     #[inline(always)]
     pub(crate) fn decide4<'a>(&self, message: Message<'a>) -> Result<CircuitDecision4<'a>, Discard>
-        ensures ok { (part : parts.CircuitPart) → HasPools part (Some self.now)
-            → IfOk result (λ made. request4_served part message.entry (open_book self.now) (request4_in message.entry)
-                ≡ served_by part self.now (either.V4 made)) }
+        ensures ok { (part : parts.CircuitPart) → HasPools part (Some self.now) → IfOk result (λ made.
+            message4_served part (open_book self.now) (Ok message.entry) ≡ served_by part self.now (either.V4 made)) }
         ensures err { IfErr result (λ why. request4_in message.entry ≡ Err why) }
         ensures fits { IfOk result (λ made. FitsCircuit (either.V4 made) self.now) }
     {
-        let request = request4_in(&message)?;
+        let request = match request4_in(&message) {
+            Ok(request) => request,
+            Err(why) => return Err(why),
+        };
         let decision = self.four.decide(&request, self.clock);
         Ok(CircuitDecision4 { message, decision })
     }
@@ -157,17 +147,18 @@ impl OpenCircuit {
     ) -> Result<CircuitDecision6<'a>, Discard>
         requires { HasPools part.now (Some self.now) }
         ensures ok { IfOk result (λ made.
-            message6_served part.now forward.entry (open_book self.now) (look_up RELAY_MESSAGE forward.entry.options)
-            ≡ served_by part.now self.now (either.V6 made)) }
+            forward_served part.now (open_book self.now) (Ok forward.entry) ≡ served_by part.now self.now (either.V6 made)) }
         ensures err { IfErr result (λ why.
-            message6_served part.now forward.entry (open_book self.now) (look_up RELAY_MESSAGE forward.entry.options)
-            ≡ drop why (open_book self.now)) }
+            forward_served part.now (open_book self.now) (Ok forward.entry) ≡ drop why (open_book self.now)) }
         ensures fits { IfOk result (λ made. FitsCircuit (either.V6 made) self.now) }
     {
         let Some(bytes) = forward.relay_message() else {
             return Err(Discard::Malformed);
         };
-        let (message, request) = request6_in(part, bytes)?;
+        let (message, request) = match request6_in(part, bytes) {
+            Ok(asked) => asked,
+            Err(why) => return Err(why),
+        };
         let decision = self.six.decide(&request, self.clock);
         Ok(CircuitDecision6 {
             forward,
@@ -175,23 +166,6 @@ impl OpenCircuit {
             client: request.key,
             decision,
         })
-    }
-
-    /// Makes a decision's change of the DHCPv4 book.
-    pub(crate) fn commit4(&mut self, decision: &Decision4)
-        requires { IfSome (kept_slot decision.now.change) (λ kept. IsWithin4 kept.content)
-            × IfSome (offer_change decision.now.change) slots4.IsOfferWithin }
-        ensures { self.new ≡ record self.old { four = slots4.with_decision decision.now self.old.four } }
-    {
-        self.four.commit(decision);
-    }
-
-    /// Makes a decision's change of the DHCPv6 book.
-    pub(crate) fn commit6(&mut self, decision: &Decision6)
-        requires { IfSome decision.now.keep (λ kept. IsWithin6 kept.content) }
-        ensures { self.new ≡ record self.old { six = slots6.with_decision decision.now self.old.six } }
-    {
-        self.six.commit(decision);
     }
 
     /// What a save is to be given, where this slot of the region is to hold this from the circuit's clock on. What the region
@@ -212,12 +186,5 @@ impl OpenCircuit {
             marks: self.marks,
             failed: 0,
         }
-    }
-
-    /// The marks of its region after a save.
-    pub(crate) fn set_marks(&mut self, marks: Marks)
-        ensures { self.new ≡ record self.old { marks = marks } }
-    {
-        self.marks = marks;
     }
 }

@@ -1,10 +1,10 @@
 use Rattle.std.proofs.Common.{◌≡◌, ◌*◌, sym, ap, subst, ◌∙◌}
-use Rattle.std.specs.Prelude.{IfSome, Some, None, option_map}
+use Rattle.std.specs.Prelude.{IfSome, Some, option_map}
 use Rattle.timers.specs.Deadlines.{DeadlinesValue}
 use Rattle.circuit_server.specs.CircuitDecision.{FitsCircuit, with_decision}
 use Rattle.circuit_server.specs.CircuitServerValue.{OpenCircuitValue}
 use Rattle.circuit_server.specs.Deadlines.{HasEntries, KeepsEntries, with_deadlines}
-use Rattle.circuit_server.proofs.DeadlineLemmas.{decided_entries, slots_inside, unchanged_entries}
+use Rattle.circuit_server.proofs.DeadlineLemmas.{decided_entries}
 use Rattle.circuit_server.proofs.circuit_server.CircuitServer.apply.Goals as goal
 
 pub returns-clause-entries : goal.returns-clause-entries

@@ -1,6 +1,6 @@
 use Rattle.std.proofs.Common.{◌≡◌, sym, ap, subst, ◌∙◌}
 use Rattle.types.specs.Delivery.{DeliveryValue}
-use Rattle.circuit_server.specs.CircuitServerValue.{open_book}
+use Rattle.circuit_server.specs.CircuitServerValue.{OpenCircuitValue, open_book}
 use Rattle.circuit_server.specs.Deadlines.{HasEntries}
 use Rattle.circuit_server.specs.Server.{book_at}
 use Rattle.circuit_server.specs.Ticked.{open_at}
@@ -10,7 +10,7 @@ use Rattle.circuit_server.proofs.circuit_server.CircuitServer.decide.Goals as go
 
 pub returns-clause-entries : goal.returns-clause-entries
 returns-clause-entries g c = λ table circuit has.
-    ticked_entries table circuit c.in-Some.circuit c.tick.new.self c.tick.ensures.four c.tick.ensures.six c.tick.ensures.later
+    ticked_entries table circuit c.in-Some.circuit c.tick.new.self (ap (λ (o : OpenCircuitValue). o.four) c.tick.ensures.value) (ap (λ (o : OpenCircuitValue). o.six) c.tick.ensures.value) c.tick.ensures.later
     (subst (HasEntries table circuit) (sym c.self.view_is ∙ c.in-Some.is) has)
 
 pub returns-clause-dropped : goal.returns-clause-dropped
