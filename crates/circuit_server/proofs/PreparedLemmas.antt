@@ -14,7 +14,7 @@ use Rattle.lease_disk.specs.Region.{Region, effective}
 use Rattle.lease_disk.specs.Save.{IsSaveOf}
 use Rattle.lease_disk.proofs.Frames.{touches_none}
 use Rattle.batch_saves.specs.Batch.{IsReady}
-use Rattle.batch_saves.specs.declared.saving.Saving.{Saving}
+use Rattle.lease_disk.specs.declared.saving.Saving.{Saving}
 use Rattle.circuit_server.specs.Answered.{IsAnswer, answered, saves}
 use Rattle.circuit_server.specs.Calls.{IsCalledToSaveAt}
 use Rattle.circuit_server.specs.CircuitDecision.{FitsCircuit, IsToSave, is_kept, kept_in, served_by, with_decision}
@@ -173,12 +173,14 @@ module _ (part : CircuitPart) (d : DeliveryValue) (old new : Option OpenCircuitV
         let to_save : tells ≡ true → IsToSave (device.region part.region) kept.0 kept.1 p.after =
         λ told. is_to_save prepared.decision (open_at d.moment p.before) p.after (device.region part.region) kept.0 kept.1 p.decided p.keeps (p.ready (device.region part.region) (ready told)) is in
         record {
-          exists = exists;
-          fits = is_fit prepared.decision (open_at d.moment p.before) kept.0 kept.1 p.keeps is;
           fresh = refl;
-          format = λ told. (to_save told).format;
-          clean = λ told. (to_save told).clean;
-          mark = λ told. (to_save told).marks kept.0 (to_save told).below;
+          save = record {
+            exists = exists;
+            fits = is_fit prepared.decision (open_at d.moment p.before) kept.0 kept.1 p.keeps is;
+            format = λ told. (to_save told).format;
+            clean = λ told. (to_save told).clean;
+            mark = λ told. (to_save told).marks kept.0 (to_save told).below;
+          };
         }
 
   module _ (tells : Bool) (was later : Device) (saved : Result (Option Marks) Fault) (nothing : prepared.saving ≡ None → (saved ≡ Ok None) × (later ≡ was)) (some : IfSome prepared.saving (IsSavedAlone tells saved was later)) where

@@ -12,7 +12,7 @@ use Rattle.lease_disk.specs.Device.{Device, Touches}
 use Rattle.lease_disk.specs.Region.{Region, effective, faults_after}
 use Rattle.lease_disk.specs.Save.{IsSaveOf}
 use Rattle.batch_saves.specs.Batch.{IsReady}
-use Rattle.batch_saves.specs.declared.saving.Saving.{Saving}
+use Rattle.lease_disk.specs.declared.saving.Saving.{Saving}
 use Rattle.circuit_server.specs.Answered.{IsAnswer, answered, circuit_saves}
 use Rattle.circuit_server.specs.CircuitDecision.{FitsCircuit, IsWithin, KeepsItsSlot, answer_of, kept_in, served_by, with_decision}
 use Rattle.circuit_server.specs.CircuitServerValue.{HasPools, IsReadyFor, OpenCircuitValue, counts_in, kept_slots, leases_of, open_book}

@@ -5,7 +5,7 @@ ghost use Rattle.circuit_server.specs.Prepared.{IsSavedAlone};
 
 use crate::decision::CircuitDecision;
 use batch_saves::Saving;
-use lease_disk::{Disk, Fault, Marks, save};
+use lease_disk::{Disk, Fault, Marks};
 
 /// A decision whose changes of the circuit's books are made, and the save that has to be done before its reply leaves.
 #[derive(Drop)]
@@ -27,8 +27,7 @@ pub(crate) fn save_alone<D: Disk>(
     let Some(saving) = saving else {
         return Ok(None);
     };
-    let (region, clock, slot) = (saving.region, saving.clock, saving.slot);
-    let mut marks = saving.marks;
-    save(region, disk, &mut marks, clock, slot, &saving.content)?;
-    Ok(Some(marks))
+    let mut saving = *saving;
+    saving.save(disk)?;
+    Ok(Some(saving.marks))
 }

@@ -8,7 +8,7 @@ use Rattle.types.specs.declared.discard.Discard.{Discard}
 use Rattle.lease_disk.specs.declared.device.Fault.{Fault}
 use Rattle.lease_disk.specs.declared.marks.Marks.{Marks}
 use Rattle.batch_saves.specs.Batch.{part_at}
-use Rattle.batch_saves.specs.declared.saving.Saving.{Saving}
+use Rattle.lease_disk.specs.declared.saving.Saving.{Saving}
 use Rattle.config.specs.Topology.{Topology}
 use Rattle.circuit_server.specs.CircuitServerValue.{OpenCircuitValue}
 use Rattle.circuit_server.specs.Prepared.{IsSettled}

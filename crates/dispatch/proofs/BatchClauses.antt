@@ -9,7 +9,7 @@ use Rattle.lease_disk.specs.Device.{Device, is_in}
 use Rattle.lease_disk.specs.Region.{effective}
 use Rattle.batch_saves.specs.Batch.{AreApart, batch_calls, failed_of, first_of, fuses_of, regions_of, shared_fault}
 use Rattle.batch_saves.specs.Batch as saves
-use Rattle.batch_saves.specs.declared.saving.Saving.{Saving}
+use Rattle.lease_disk.specs.declared.saving.Saving.{Saving}
 use Rattle.config.specs.CircuitPart.{CircuitPart}
 use Rattle.config.specs.Topology.{IsTopology}
 use Rattle.circuit_server.specs.Calls.{IsCalledToSave}

@@ -14,7 +14,7 @@ use Rattle.lease_disk.specs.Device.{Device, has_failed, is_in}
 use Rattle.lease_disk.specs.Region.{effective}
 use Rattle.lease_disk.specs.Save.{IsSaveOf}
 use Rattle.batch_saves.specs.Batch.{IsSavedPart, first_of, fuses_of, no_part, part_at, regions_of, shared_fault}
-use Rattle.batch_saves.specs.declared.saving.Saving.{Saving}
+use Rattle.lease_disk.specs.declared.saving.Saving.{Saving}
 use Rattle.config.specs.CircuitPart.{CircuitPart}
 use Rattle.config.specs.Topology.{IsTopology, Topology}
 use Rattle.requests.specs.Addressee.{addressee}

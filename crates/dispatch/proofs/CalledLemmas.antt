@@ -6,7 +6,7 @@ use Rattle.std.proofs.lemmas.Bool.{eq-eqb, eqb-true}
 use Rattle.std.proofs.lemmas.List.{length-map}
 use Rattle.lease_disk.specs.Device.{Device, has_failed, is_in}
 use Rattle.batch_saves.specs.Batch.{batch_calls, comes_to, failed_of, part_at, regions_of, step_calls}
-use Rattle.batch_saves.specs.declared.saving.Saving.{Saving}
+use Rattle.lease_disk.specs.declared.saving.Saving.{Saving}
 use Rattle.circuit_server.specs.Calls.{IsCalledToSave, save_calls}
 use Rattle.circuit_server.proofs.PreparedLemmas.{not_not}
 use Rattle.dispatch.specs.Parts.{AreSavedTogether}

@@ -10,7 +10,7 @@ use Rattle.types.specs.declared.discard.Discard.{Discard}
 use Rattle.lease_disk.specs.declared.content.Content.{Content}
 use Rattle.lease_disk.specs.Device.{Device}
 use Rattle.batch_saves.specs.Batch.{AreApart, AreReady, IsReady, no_part, part_at, regions_of}
-use Rattle.batch_saves.specs.declared.saving.Saving.{Saving}
+use Rattle.lease_disk.specs.declared.saving.Saving.{Saving}
 use Rattle.config.specs.CircuitPart.{CircuitPart}
 use Rattle.config.specs.Topology.{IsTopology, Topology}
 use Rattle.requests.specs.Addressee.{addressee}

@@ -8,7 +8,7 @@ use Rattle.lease_disk.specs.declared.device.Fault.{Fault}
 use Rattle.lease_disk.specs.declared.marks.Marks.{Marks}
 use Rattle.lease_disk.specs.Device.{Device, TouchesAll, has_failed, is_in}
 use Rattle.batch_saves.specs.Batch.{IsSavedPart, fuses_of, part_at, regions_of, shared_fault}
-use Rattle.batch_saves.specs.declared.saving.Saving.{Saving}
+use Rattle.lease_disk.specs.declared.saving.Saving.{Saving}
 use Rattle.config.specs.CircuitPart.{CircuitPart}
 use Rattle.config.specs.Topology.{Topology}
 use Rattle.requests.specs.Addressee.{addressee}

@@ -18,7 +18,7 @@ pub(super) struct Savings {
 
 impl Model for Savings {
     ghost use Rattle.std.specs.Prelude.{List, take};
-    ghost use Rattle.batch_saves.specs.declared.saving.Saving.{Saving};
+    ghost use Rattle.lease_disk.specs.declared.saving.Saving.{Saving};
     ghost use Rattle.dispatch.specs.Parts.{AreCounted, places_in};
 
     ghost Value = { List Saving };

@@ -2,7 +2,7 @@ use Rattle.std.proofs.Common.{◌≡◌, ◌<◌, ◌≤◌, ◌==◌, ℕ, Bool
 use Rattle.lease_disk.specs.declared.content.Content.{Content}
 use Rattle.lease_disk.specs.declared.content.Content.TheVariants.{Four, Six}
 use Rattle.lease_disk.specs.declared.marks.Marks.{Marks}
-use Rattle.batch_saves.specs.declared.saving.Saving.{Saving}
+use Rattle.lease_disk.specs.declared.saving.Saving.{Saving}
 use Rattle.lease_disk.specs.Crash.{formatted_region}
 use Rattle.lease_disk.specs.Device.{Device}
 use Rattle.lease_disk.specs.Model.{ModelDiskValue, SameBut, device_of, region_of, state_of}
@@ -32,13 +32,15 @@ kept r old new here others q = by (q == r) refl where
 is_ready : (device : Device) (marks : Marks) (p : Saving) → device.count ≡ 3 → p.region < 3 → ((q : ℕ) → q < 3 → device.region q ≡ formatted_region) → AreMarks (16 ∷ 16 ∷ []) formatted_region.byte marks
     → p.marks ≡ marks → p.failed ≡ 0 → Fits p.slot p.content → IsReady true device p
 is_ready device marks p count within formatted are marks_are fresh fits = record {
-  exists = subst (λ n. p.region < n) (sym count) within;
-  fits = fits;
   fresh = fresh;
-  format = λ t. subst (λ (r : Region). is_format2 r.byte ≡ true) (sym (formatted p.region within)) refl;
-  clean = λ t. subst (λ (r : Region). IsClean r) (sym (formatted p.region within)) (record { each = λ i. refl });
-  mark = λ t. subst (λ (r : Region). IsMark r.byte p.slot (mark_at p.marks p.slot)) (sym (formatted p.region within))
-      (subst (λ (m : Marks). IsMark formatted_region.byte p.slot (mark_at m p.slot)) (sym marks_are) (are p.slot (below p.slot p.content fits)));
+  save = record {
+    exists = subst (λ n. p.region < n) (sym count) within;
+    fits = fits;
+    format = λ t. subst (λ (r : Region). is_format2 r.byte ≡ true) (sym (formatted p.region within)) refl;
+    clean = λ t. subst (λ (r : Region). IsClean r) (sym (formatted p.region within)) (record { each = λ i. refl });
+    mark = λ t. subst (λ (r : Region). IsMark r.byte p.slot (mark_at p.marks p.slot)) (sym (formatted p.region within))
+        (subst (λ (m : Marks). IsMark formatted_region.byte p.slot (mark_at m p.slot)) (sym marks_are) (are p.slot (below p.slot p.content fits)));
+  };
 }
 
 module _ (device : Device) (a b c : Saving) (ready_a : IsReady true device a) (ready_b : IsReady true device b) (ready_c : IsReady true device c) where

@@ -112,9 +112,9 @@ lines-preserved g c =
     let left = ap length c.consume.ensures.held ∙ length-drop (c.in-Newline.len + 1) (held c.lines.ahead) in
     record {
       plans_known = λ set knows. c.in_default.ensures.known set (c.lines.invariant.plans_known set knows);
-      end = c.in-Ok.ensures.end;
-      within = c.in-Ok.ensures.within;
-      inside = c.in-Ok.ensures.inside;
+      end = c.in-Ok.ensures.line.end;
+      within = c.in-Ok.ensures.line.within;
+      inside = c.in-Ok.ensures.line.inside;
       known = tt;
       lines = omega (arith, inside, left, c.consume.ensures.count, c.flush_and_read_line.ensures.grown, c.lines.invariant.lines);
       below = c.in-Ok.ensures.below;

@@ -38,7 +38,7 @@ returns-in-TooLong-clause-prepared g c = λ quota.
     (prepared_begun c.args.plans.now quota (c.lines.earlier + 1) _ _ (device_of c.lines.disk) _
     (prepared_kept c.args.plans.now quota (c.lines.earlier + 1) false _ _ _ (device_of c.lines.disk) _ (c.lines.invariant.so_far quota) c.read_line.ensures.kept)
     (subst (λ e. IsBegun c.args.plans.now quota (c.lines.earlier + 1) (Fits (held c.read_line.new.ahead) e)) (sym c.in-TooLong.is)
-    (begun_long c.args.plans.now quota (c.lines.earlier + 1) (held c.read_line.new.ahead) (rw c.in-TooLong.is at c.in-Ok.ensures.end))))
+    (begun_long c.args.plans.now quota (c.lines.earlier + 1) (held c.read_line.new.ahead) (rw c.in-TooLong.is at c.in-Ok.ensures.line.end))))
 
 pub returns-in-TooLong-clause-counted : goal.returns-in-TooLong-clause-counted
 returns-in-TooLong-clause-counted g c = counted_more _ _ _ _ _ _ c.lines.invariant.counted c.read_line.ensures.counted
@@ -52,13 +52,13 @@ prepare_last-end-requires-clause-regions g c = λ n circuit there. let e = c.lin
 pub returns-in-EndOfInput-clause-prepared : goal.returns-in-EndOfInput-clause-prepared
 returns-in-EndOfInput-clause-prepared g c = λ quota.
     rw c.new-in-EndOfInput.ensures
-    (c.prepare_last-end.ensures.prepared quota (c.lines.earlier + 1) _ _ (rw c.in-EndOfInput.is at c.in-Ok.ensures.end)
+    (c.prepare_last-end.ensures.prepared quota (c.lines.earlier + 1) _ _ (rw c.in-EndOfInput.is at c.in-Ok.ensures.line.end)
     (prepared_kept c.args.plans.now quota (c.lines.earlier + 1) false _ _ _ (device_of c.lines.disk) _ (c.lines.invariant.so_far quota) c.read_line.ensures.kept))
 
 pub returns-in-EndOfInput-clause-end : goal.returns-in-EndOfInput-clause-end
 returns-in-EndOfInput-clause-end g c =
     rw c.new-in-EndOfInput.ensures
-    (c.prepare_last-end.ensures.end _ (rw c.in-EndOfInput.is at c.in-Ok.ensures.end))
+    (c.prepare_last-end.ensures.end _ (rw c.in-EndOfInput.is at c.in-Ok.ensures.line.end))
 
 pub returns-in-EndOfInput-clause-lines : goal.returns-in-EndOfInput-clause-lines
 returns-in-EndOfInput-clause-lines g c =
@@ -70,7 +70,7 @@ returns-in-EndOfInput-clause-counted g c = rw c.prepare_last-end.ensures.count (
 
 pub returns-in-Some-clause-prepared : goal.returns-in-Some-clause-prepared
 returns-in-Some-clause-prepared g c = λ quota.
-    let feeds = rw c.in-Newline.is at c.in-Ok.ensures.end in
+    let feeds = rw c.in-Newline.is at c.in-Ok.ensures.line.end in
     rw c.new-in-Some.ensures (subst (λ d. PreparedSoFar c.args.plans.now quota (c.lines.earlier + 1) true (g.R.ByteReader.remaining c.args.reader.now) (prepend_known (held c.read_line.new.ahead) (g.R.ByteReader.remaining c.read_line.new.reader)) (device_of d) (Fits (held c.read_line.new.ahead) (Newline c.in-Newline.len)))
     (sym c.in-Some.ensures.same)
     (prepared_begun c.args.plans.now quota (c.lines.earlier + 1) _ _ (device_of c.lines.disk) _
@@ -88,7 +88,7 @@ returns-in-Some-clause-parsed g c =
 
 pub lines-preserved : goal.lines-preserved
 lines-preserved g c =
-    let feeds = rw c.in-Newline.is at c.in-Ok.ensures.end in
+    let feeds = rw c.in-Newline.is at c.in-Ok.ensures.line.end in
     let inside = feeds.inside in
     let text = c.as_slice.result.now in
     let left = ap length c.consume.ensures.held ∙ length-drop (c.in-Newline.len + 1) (held c.read_line.new.ahead) in

@@ -7,7 +7,7 @@ use Rattle.types.specs.Delivery.{delivery}
 use Rattle.requests.specs.Addressee.{addressee}
 use Rattle.dispatch.specs.Batch.{is_circuit, is_named}
 use Rattle.dispatch.specs.Deadlines.{KeepsDeadlines}
-use Rattle.batch_saves.specs.declared.saving.Saving.{Saving}
+use Rattle.lease_disk.specs.declared.saving.Saving.{Saving}
 use Rattle.dispatch.specs.Parts.{AreDecided, IsPart, has_named, saving_in, savings_of}
 use Rattle.dispatch.proofs.HeldDeadlines.{kept_all}
 use Rattle.dispatch.proofs.PartLemmas.{held_more, kept_more, made_more, made_none}

@@ -4,7 +4,7 @@ use Rattle.std.proofs.lemmas.List.{length-map}
 use Rattle.types.specs.Delivery.{delivery}
 use Rattle.batch_saves.specs.Batch.{AreApart}
 use Rattle.batch_saves.specs.Batch as saves
-use Rattle.batch_saves.specs.declared.saving.Saving.{Saving}
+use Rattle.lease_disk.specs.declared.saving.Saving.{Saving}
 use Rattle.config.specs.Topology.{IsTopology, Topology}
 use Rattle.dispatch.specs.Batch.{is_named}
 use Rattle.dispatch.specs.Parts.{AreAnswered, AreSavedTogether, AreToSettle, IsReceivedBatch, is_of}
