@@ -6,7 +6,6 @@ ghost use Rattle.circuit_server.specs.Deadlines.{HasEntries, KeepsEntries, held_
 ghost use Rattle.circuit_server.specs.Restarted.{IsRestarted};
 ghost use Rattle.circuit_server.specs.Served.{IsServed};
 ghost use Rattle.timers.specs.Deadlines.{DeadlinesValue, deadline};
-ghost use Rattle.types.specs.Slots.{last_until};
 ghost use Rattle.requests.specs.RelayedMessage.{IsRelayedMessage};
 ghost use Rattle.circuit_server.specs.Prepared.{CanSave, IsApplied, IsAppliedAndSaved, IsDecided, IsDropped, IsPrepared};
 ghost use Rattle.circuit_server.specs.Prepared.{IsDecisionSettled, IsSettled, with_marks};
@@ -20,9 +19,8 @@ ghost use Rattle.lease_disk.specs.Region.{IsClean};
 use crate::decision::{CircuitDecision, CircuitDecision4, CircuitDecision6, Decide, SLOTS, put};
 use crate::open_circuit::OpenCircuit;
 use crate::prepared::{Prepared, save_alone};
-use batch_saves::Saving;
 use config::CircuitPart;
-use lease_disk::{Disk, Fault, Marks, migrate};
+use lease_disk::{Disk, Fault, Marks, Saving, migrate};
 use requests::RelayedMessage;
 use std::marker::Model;
 use timers::Deadlines;
@@ -123,8 +121,9 @@ impl CircuitServer {
         ensures entries { KeepsEntries circuit table.old table.new self.new }
         ensures applied { self.new ≡ option_map (with_decision (C.decision decision.now)) self.old }
     {
-        let Some(state) = &mut self.state else {
-            return;
+        let state = match &mut self.state {
+            Some(state) => state,
+            None => return,
         };
         decision.commit(state);
         decision.set_deadlines(table, circuit);

@@ -4,8 +4,7 @@ ghost use Rattle.batch_saves.specs.Batch.{IsReady};
 ghost use Rattle.circuit_server.specs.Prepared.{IsSavedAlone};
 
 use crate::decision::CircuitDecision;
-use batch_saves::Saving;
-use lease_disk::{Disk, Fault, Marks};
+use lease_disk::{Disk, Fault, Marks, Saving};
 
 /// A decision whose changes of the circuit's books are made, and the save that has to be done before its reply leaves.
 #[derive(Drop)]

@@ -1,5 +1,5 @@
 -- What is left of circuits that turn off, and that every other one stays as it is.
-use Rattle.std.proofs.Common.{◌≡◌, ℕ, zero, suc, ◌+◌, ◌*◌, ◌<◌, ◌==◌, nat_lt, Bool, true, false, List, [], ◌∷◌, length, map, set, refl, sym, ap, subst, ◌∙◌, arith}
+use Rattle.std.proofs.Common.{◌≤◌, ◌≡◌, ℕ, zero, suc, ◌+◌, ◌*◌, ◌<◌, ◌==◌, nat_lt, Bool, true, false, List, [], ◌∷◌, length, map, set, refl, sym, ap, subst, ◌∙◌, arith}
 use Rattle.std.specs.Prelude.{◌&&◌, All, if◌then◌else◌, not, Option, Some, None, option_map, slice_get}
 use Rattle.std.proofs.lemmas.List.{get_or-set_other, get_or-set_same, length-set}
 use Rattle.std.proofs.lemmas.Option.{none-some, same_Some, slice_get-map, slice_get_within}
@@ -13,7 +13,7 @@ use Rattle.timers.specs.Deadlines.{DeadlinesValue, deadline}
 use Rattle.bindings_v4.proofs.OfferLemmas.{same_kept, shown_without}
 use Rattle.bindings_v6.specs.Slots6 as slots6
 use Rattle.circuit_server.specs.Deadlines.{HasDeadlines, OthersUnchanged, held_in}
-use Rattle.dispatch.specs.ServerValue.{with_states}
+use Rattle.dispatch.specs.ServerValue.{HoldsDeadlines, with_states}
 use Rattle.circuit_server.specs.Leases.{Leases, formats_of, restarts_of, turned}
 use Rattle.circuit_server.specs.Server.{kept_book}
 use Rattle.circuit_server.specs.CircuitServerValue.{CircuitServerValue, HasItsPools, IsReady, IsReadyFor, OpenCircuitValue, leases_of, open_book}
@@ -93,6 +93,43 @@ after_all off n c below = let less : nat_lt c n ≡ true = grind (arith, below) 
 and_false : (b : Bool) → (b && false) ≡ false
 and_false true = refl
 and_false false = refl
+
+-- none has turned off yet
+pub none_yet : (off : ℕ → Bool) (states : List (Option OpenCircuitValue)) (table : DeadlinesValue) → HoldsDeadlines table states → AreTurned (so_far off 0) states states table table
+none_yet off states table held = record {
+  count = refl;
+  states = λ c. ap (λ b. state_turned b (state_of states c)) (sym (at_first off c));
+  left = λ c s inside is below. let never : true ≡ false = sym is ∙ at_first off c in absurd cc;
+  others = λ c s is below. refl;
+  looks = refl;
+  held = held;
+}
+
+past_none : (states : List (Option OpenCircuitValue)) (c : ℕ) → length states ≤ c → state_of states c ≡ None
+past_none [] c past = refl
+past_none (state ∷ states) zero past = absurd (omega (arith, past))
+past_none (state ∷ states) (suc c) past = past_none states c (omega (arith, past))
+
+still_none : (b : Bool) → state_turned b None ≡ None
+still_none true = refl
+still_none false = refl
+
+-- all have, that have to
+pub turned_all : (off : ℕ → Bool) (n : ℕ) (old new : List (Option OpenCircuitValue)) (before after : DeadlinesValue) → length old ≤ n → AreTurned (so_far off n) old new before after → AreTurned off old new before after
+turned_all off n old new before after whole are = record {
+  count = are.count;
+  states = λ c. at c (nat_lt c n) refl;
+  left = λ c s inside is below. are.left c s inside (after_all off n c (let size = are.count in omega (arith, inside, size, whole)) ∙ is) below;
+  others = λ c s is below. are.others c s (ap (λ b. nat_lt c n && b) is ∙ and_false (nat_lt c n)) below;
+  looks = are.looks;
+  held = are.held;
+} where
+  at : (c : ℕ) (b : Bool) → nat_lt c n ≡ b → state_of new c ≡ state_turned (off c) (state_of old c)
+  at c true e = let fits : c < n = grind arith in are.states c ∙ ap (λ b. state_turned b (state_of old c)) (after_all off n c fits)
+  at c false e =
+      let past : n ≤ c = grind arith in
+      let size = are.count in
+      past_none new c (omega (arith, past, size, whole)) ∙ sym (ap (state_turned (off c)) (past_none old c (omega (arith, past, whole))) ∙ still_none (off c))
 
 -- one more that stays
 pub one_stays : (off : ℕ → Bool) (n : ℕ) (old new : List (Option OpenCircuitValue)) (before after : DeadlinesValue) → off n ≡ false

@@ -1,5 +1,5 @@
 -- What a restart of these circuits needs, and what it leaves. No public call speaks of this.
-use Rattle.std.specs.Prelude.{◌≡◌, ℕ, ◌+◌, ◌*◌, ◌≤◌, Bool, true, List, length, map, Option, All}
+use Rattle.std.specs.Prelude.{◌≡◌, ◌+◌, ◌*◌, ◌≤◌, Bool, true, List, length, map, Option, All}
 use Rattle.lease_disk.specs.Device.{Device}
 use Rattle.timers.specs.Deadlines.{DeadlinesValue}
 use Rattle.config.specs.CircuitPart.{CircuitPart, IsPart}

@@ -26,9 +26,8 @@ mod batch;
 mod batch_answers;
 mod savings;
 
-pub use batch_answers::{Answer, BatchAnswers};
-
 use crate::circuit_servers::{closed_servers, have_slots, restart_all, turn_off_all};
+pub use batch_answers::{Answer, BatchAnswers};
 use circuit_server::CircuitServer;
 use config::{CircuitPart, Circuits, Config, Plans};
 use lease_disk::{Disk, HALVES_SIZE};
@@ -358,7 +357,13 @@ impl Server {
             return false;
         }
         let table = &mut self.deadlines;
-        turn_off_all(&mut self.servers, self.ticked, &self.circuits, number, table);
+        turn_off_all(
+            &mut self.servers,
+            self.ticked,
+            &self.circuits,
+            number,
+            table,
+        );
         self.circuits.reload(number)
     }
 
@@ -380,6 +385,12 @@ impl Server {
     {
         // each begins with the clock that its region keeps, however late the last tick was
         self.ticked = Moment::first();
-        restart_all(self.circuits.parts(), &mut self.servers, disk, &mut self.buffer, &mut self.deadlines);
+        restart_all(
+            self.circuits.parts(),
+            &mut self.servers,
+            disk,
+            &mut self.buffer,
+            &mut self.deadlines,
+        );
     }
 }

@@ -1,6 +1,5 @@
 //! Several datagrams at one moment, whose saves share their syncs.
 ghost use Rattle.std.specs.Prelude.{◌≡◌, ◌<◌, ◌≤◌, ◌==◌, ◌&&◌, ◌||◌, ◌+◌, ◌∷◌, ◌++◌, not, ℕ, List, [], Result, Ok, Err, true, false, length, take, slice_get, slice_set, IfOk, IfErr, Some};
-
 ghost use Rattle.types.specs.declared.discard.Discard as discard;
 ghost use Rattle.lease_disk.specs.Device.{has_failed, is_in};
 ghost use Rattle.dispatch.specs.Batch.{IsBatch, IsBatchOfLeases, IsWrittenTogether, batch_fault, batch_saves, deliveries, is_circuit, is_named};

@@ -5,7 +5,8 @@ use Rattle.std.proofs.lemmas.Option.{slice_get_read}
 use Rattle.std.proofs.lemmas.List.Elements.{All-more}
 use Rattle.config.specs.CircuitPart.{CircuitPart, IsPart}
 use Rattle.lease_disk.specs.Region.{IsClean, Region}
-use Rattle.circuit_server.specs.Deadlines.{held_in}
+use Rattle.timers.specs.Deadlines.{deadline}
+use Rattle.circuit_server.specs.Deadlines.{OthersUnchanged, held_in}
 use Rattle.circuit_server.specs.Leases.{found_leases}
 use Rattle.circuit_server.specs.CircuitServerValue.{CircuitServerValue, HasItsPools}
 use Rattle.dispatch.specs.ServerValue.{with_states}
@@ -71,6 +72,7 @@ circuits-preserved g c =
     let within : i < length xs = omega (arith, c.circuits-test.true, size_with parts states) in
     let inside : i < length states = omega (arith, c.circuits-test.true, loop.size, c.requires.size) in
     let written = set_with parts states i part c.restart.new.self there inside in
+    let entries : OthersUnchanged (32 * i) c.circuits.table c.set_deadlines.new.table = subst (λ n. OthersUnchanged (32 * n) c.circuits.table c.set_deadlines.new.table) c.at.ensures c.set_deadlines.ensures.entries.others in
     record {
       up = λ tells. one_more_up g.D.Disk.tells tells parts c.requires.can.differ i part there states inside (g.D.Disk.device c.args.disk.now) (g.D.Disk.device c.circuits.disk) (g.D.Disk.device c.restart.new.disk) (loop.up tells)
           c.restart.ensures.frame c.restart.new.self (c.restart.ensures.restarted.leases tells) (c.restart.ensures.restarted.ready tells) (c.restart.ensures.restarted.region tells);
@@ -79,16 +81,16 @@ circuits-preserved g c =
       reads = five_more _ _ _ i loop.reads c.restart.ensures.reads;
       writes = four_more _ _ _ i loop.writes c.restart.ensures.writes;
       buffer = search rules;
-      room = c.set_deadlines.ensures.entries.others.size ∙ loop.room;
+      room = entries.size ∙ loop.room;
       deadlines =
           set_more i c.circuits.table c.set_deadlines.new.table states c.restart.new.self inside loop.deadlines
-          (λ s below. c.set_deadlines.ensures.own s below ∙ ap (λ state. held_in state s) (get_or-set_same states i c.restart.new.self c.index-servers-index-in-circuits.result inside)) c.set_deadlines.ensures.entries.others;
-      looks = c.set_deadlines.ensures.entries.others.looks ∙ loop.looks;
+          (λ s below. ap (λ n. deadline c.set_deadlines.new.table (32 * n + s)) (sym c.at.ensures) ∙ c.set_deadlines.ensures.own s below ∙ ap (λ state. held_in state s) (get_or-set_same states i c.restart.new.self c.index-servers-index-in-circuits.result inside)) entries;
+      looks = entries.looks ∙ loop.looks;
       size = length-set states i c.restart.new.self ∙ loop.size;
     }
 
-pub set_deadlines-requires-clause-room : goal.set_deadlines-requires-clause-room
-set_deadlines-requires-clause-room g c = omega (arith, c.circuits-test.true, c.circuits.invariant.room)
+pub set_deadlines-requires : goal.set_deadlines-requires
+set_deadlines-requires g c = let at = c.at.ensures in omega (arith, at, c.circuits-test.true, c.circuits.invariant.room)
 
 pub returns-clause-table : goal.returns-clause-table
 returns-clause-table g c =

@@ -1,8 +1,7 @@
-use Rattle.std.proofs.Common.{◌≡◌, inl, ◌<◌, ◌==◌, ℕ, false, List, map, set, length, sym, ap, subst, ◌∙◌, arith, Err, refl}
+use Rattle.std.proofs.Common.{◌≡◌, inl, ◌<◌, ◌==◌, ℕ, false, List, map, set, length, sym, ap, subst, ◌∙◌, Err, refl}
 use Rattle.std.specs.Prelude.{Option, Some, Result, Ok, slice_get, option_map, All}
-use Rattle.std.proofs.lemmas.List.{length-set, map-set}
-use Rattle.std.proofs.lemmas.List.Elements.{All-set}
-use Rattle.std.proofs.lemmas.Option.{slice_get-map, slice_get_within}
+use Rattle.std.proofs.lemmas.List.{map-set}
+use Rattle.std.proofs.lemmas.Option.{slice_get-map}
 use Rattle.types.specs.Delivery.{DeliveryValue, delivery}
 use Rattle.types.specs.declared.discard.Discard.{Discard}
 use Rattle.config.specs.CircuitPart.{CircuitPart}
@@ -15,12 +14,14 @@ use Rattle.dispatch.specs.Deadlines.{AllUnchangedOrUntilHeld, KeepsDeadlines}
 use Rattle.dispatch.specs.Received.{Received, addressee_answered, addressee_leases, addressee_saves, received, received_leases, received_saves}
 use Rattle.circuit_server.specs.Answered.{IsAnswer, fails_at}
 use Rattle.circuit_server.specs.Calls.{IsCalledToSaveAt}
-use Rattle.circuit_server.specs.CircuitServerValue.{CircuitServerValue, HasItsPools, IsReady, IsReadyFor, OpenCircuitValue, book_of, leases_of, part_of}
-use Rattle.dispatch.specs.ServerValue.{HoldsDeadlines, ServerValue, books_in, circuits_in, leases_in, with_states}
-use Rattle.circuit_server.specs.Ticked.{state_of}
+use Rattle.circuit_server.specs.CircuitServerValue.{CircuitServerValue, IsReady, IsReadyFor, OpenCircuitValue, book_of, leases_of, part_of}
+use Rattle.dispatch.specs.ServerValue.{ServerValue, books_in, circuits_in, leases_in, with_states}
+use Rattle.circuit_server.specs.Served.{IsServed}
+use Rattle.circuit_server.specs.Ticked.{state_at, state_of}
 use Rattle.circuit_server.proofs.AnswerLemmas.{because_err, because_ok, not_more}
 use Rattle.circuit_server.proofs.CalledLemmas.{called_none}
-use Rattle.dispatch.proofs.HeldDeadlines.{held_all, kept_all, kept_beside, one_held}
+use Rattle.dispatch.proofs.HeldDeadlines.{held_all, kept_all, kept_beside}
+use Rattle.dispatch.proofs.OneServer.{IsOne, after_call, its_entries, its_pools, its_ready, still_held, still_sound}
 use Rattle.dispatch.proofs.PartLemmas.{not_both, same_number}
 use Rattle.dispatch.proofs.ReceivedLemmas.{received_at, leases_at, saves_at}
 use Rattle.dispatch.proofs.ServerLemmas.{all_moved, one_moved}
@@ -75,67 +76,67 @@ returns-in-Err-clause-unchanged g c = because_err _ _ _ (none_of g c) (refl, ref
 
 -- ---- the server of the datagram's circuit, before
 
-abbrev asks : (g : given.Over) (c : goal.After-answer g) → DeliveryValue
+abbrev asks : (g : given.Over) (c : goal.After-self-1 g) → DeliveryValue
 asks g c = delivery c.args.proto c.args.source c.args.now c.args.datagram.now
 
-abbrev topology : (g : given.Over) (c : goal.After-answer g) → Topology
+abbrev topology : (g : given.Over) (c : goal.After-self-1 g) → Topology
 topology g c = c.self.inside.circuits
 
--- the states that show of all, whose clocks the ticks have moved, and the place of the datagram's circuit
-abbrev states : (g : given.Over) (c : goal.After-answer g) → List (Option OpenCircuitValue)
+-- the place of the datagram's circuit
+abbrev place : (g : given.Over) (c : goal.After-self-1 g) → ℕ
+place g c = c.in-Ok.found.0
+
+-- the states that show of all, whose clocks the ticks have moved, before and after
+abbrev states : (g : given.Over) (c : goal.After-self-1 g) → List (Option OpenCircuitValue)
 states g c = map (state_at c.self.inside.ticked) c.self.inside.servers.items
 
-abbrev place : (g : given.Over) (c : goal.After-answer g) → ℕ
-place g c = c.index-index.result
+abbrev after : (g : given.Over) (c : goal.After-self-1 g) → List (Option OpenCircuitValue)
+after g c = map (state_at c.self.inside.ticked) (set c.self.inside.servers.items c.index.result c.answer.new.self)
 
-there_in : (g : given.Over) (c : goal.After-answer g) → slice_get (topology g c).circuits (place g c) ≡ Some c.part-part.result.now
-there_in g c = ap (slice_get (topology g c).circuits) c.index-index.ensures.value ∙ c.part-part.ensures
+its_one : (g : given.Over) (c : goal.After-self-1 g) → IsOne c.tick.new.self c.answer.new.self (place g c) (states g c) (after g c)
+its_one g c =
+    after_call c.self.inside.circuits c.self.inside.ticked c.self.inside.servers.items c.self.invariant.0 (place g c) c.index.result c.index.ensures.value c.part-part.result.now c.part-part.ensures
+    c.index_mut-server.result.now c.tick.new.self c.index_mut-server.ensures.value c.tick.ensures c.answer.new.self c.answer.ensures.later
 
-within : (g : given.Over) (c : goal.After-answer g) → (place g c) < length (states g c)
-within g c = omega (arith, c.self.invariant.0.size, slice_get_within (topology g c).circuits (place g c) c.part-part.result.now (there_in g c))
+there_in : (g : given.Over) (c : goal.After-self-1 g) → slice_get (topology g c).circuits (place g c) ≡ Some c.part-part.result.now
+there_in g c = c.part-part.ensures
 
-among : (g : given.Over) (c : goal.After-answer g) → (place g c) < length c.self.inside.servers.items
-among g c = subst (λ n. place g c < n) (length-map c.self.inside.servers.items (state_at c.self.inside.ticked)) (within g c)
+within : (g : given.Over) (c : goal.After-self-1 g) → (place g c) < length (states g c)
+within g c = (its_one g c).inside
 
-abbrev before : (g : given.Over) (c : goal.After-answer g) → List CircuitServerValue
+abbrev before : (g : given.Over) (c : goal.After-self-1 g) → List CircuitServerValue
 before g c = with_states (topology g c).circuits (states g c)
 
-abbrev asked : (g : given.Over) (c : goal.After-answer g) → CircuitServerValue
+abbrev asked : (g : given.Over) (c : goal.After-self-1 g) → CircuitServerValue
 asked g c = server c.part-part.result.now (state_of (states g c) (place g c))
 
-its_server : (g : given.Over) (c : goal.After-answer g) → slice_get (before g c) (place g c) ≡ Some (asked g c)
+its_server : (g : given.Over) (c : goal.After-self-1 g) → slice_get (before g c) (place g c) ≡ Some (asked g c)
 its_server g c =
-    there_with (topology g c).circuits (states g c) (place g c) c.part-part.result.now (state_of (states g c) (place g c))
-    (there_in g c) (within g c) (own_state (states g c) (place g c) (within g c))
-
--- all servers, after
-abbrev after : (g : given.Over) (c : goal.After-answer g) → List (Option OpenCircuitValue)
-after g c = map (state_at c.self.inside.ticked) (set c.self.inside.servers.items (place g c) c.answer.new.self)
-
-its_one : (g : given.Over) (c : goal.After-answer g) → IsOne c.tick.new.self c.answer.new.self (place g c) (states g c) (after g c)
-its_one g c = one c.self.inside.ticked c.self.inside.servers.items (place g c) c.index_mut-server.result.now c.tick.new.self c.answer.new.self (among g c) c.index_mut-server.ensures.value c.tick.ensures c.answer.ensures.later
+    there_with (topology g c).circuits (states g c) (place g c) c.part-part.result.now (state_of (states g c) (place g c)) (there_in g c) (within g c) (own_state (states g c) (place g c) (within g c))
 
 -- what the answer does, to the state that is shown
-done : (g : given.Over) (c : goal.After-answer g)
+done : (g : given.Over) (c : goal.After-self-1 g)
     → IsServed g.D.Disk.tells c.part-part.result.now (asks g c) (state_of (states g c) (place g c)) c.answer.new.self c.answer.result c.answer.new.out (g.D.Disk.device c.args.disk.now) (g.D.Disk.device c.answer.new.disk)
 done g c =
     subst (λ was. IsServed g.D.Disk.tells c.part-part.result.now (asks g c) was c.answer.new.self c.answer.result c.answer.new.out (g.D.Disk.device c.args.disk.now) (g.D.Disk.device c.answer.new.disk))
     (sym (its_one g c).before) c.answer.ensures.served
 
-written : (g : given.Over) (c : goal.After-answer g) → with_states (topology g c).circuits (after g c) ≡ set (before g c) (place g c) (server c.part-part.result.now c.answer.new.self)
-written g c = ap (with_states (topology g c).circuits) (its_one g c).others ∙ set_with (topology g c).circuits (states g c) (place g c) c.part-part.result.now c.answer.new.self (there_in g c) (within g c)
+written : (g : given.Over) (c : goal.After-self-1 g) → with_states (topology g c).circuits (after g c) ≡ set (before g c) (place g c) (server c.part-part.result.now c.answer.new.self)
+written g c =
+    ap (with_states (topology g c).circuits) (its_one g c).others
+    ∙ set_with (topology g c).circuits (states g c) (place g c) c.part-part.result.now c.answer.new.self (there_in g c) (within g c)
 
-its : {B : Type 0} (f : CircuitServerValue → B) (g : given.Over) (c : goal.After-answer g) → slice_get (map f (before g c)) (place g c) ≡ Some (f (asked g c))
+its : {B : Type 0} (f : CircuitServerValue → B) (g : given.Over) (c : goal.After-self-1 g) → slice_get (map f (before g c)) (place g c) ≡ Some (f (asked g c))
 its f g c = slice_get-map f (before g c) (place g c) ∙ ap (option_map f) (its_server g c)
 
-found : (g : given.Over) (c : goal.After-answer g) → addressee (topology g c) (asks g c) ≡ Ok (place g c)
-found g c = c.in-Ok.ensures.circuit ∙ ap Ok (sym c.index-index.ensures.value)
+found : (g : given.Over) (c : goal.After-self-1 g) → addressee (topology g c) (asks g c) ≡ Ok (place g c)
+found g c = c.in-Ok.ensures.circuit
 
-found_in : (g : given.Over) (c : goal.After-answer g) → addressee c.args.self.now.topology (asks g c) ≡ Ok (place g c)
+found_in : (g : given.Over) (c : goal.After-self-1 g) → addressee c.args.self.now.topology (asks g c) ≡ Ok (place g c)
 found_in g c = subst (λ (s : ServerValue). addressee s.topology (asks g c) ≡ Ok (place g c)) c.self.view_is (found g c)
 
 -- another circuit's region is another one
-elsewhere : (g : given.Over) (c : goal.After-answer g) (k : ℕ) (x : CircuitServerValue) → slice_get (before g c) k ≡ Some x → (k ≡ (place g c) → ⊥)
+elsewhere : (g : given.Over) (c : goal.After-self-1 g) (k : ℕ) (x : CircuitServerValue) → slice_get (before g c) k ≡ Some x → (k ≡ (place g c) → ⊥)
     → x.part.region ≡ c.part-part.result.now.region → ⊥
 elsewhere g c k x there apart same =
     let of_part = ap (λ parts. slice_get parts k) (sym (parts_with (topology g c).circuits (states g c))) ∙ slice_get-map part_of (before g c) k ∙ ap (option_map part_of) there in
@@ -150,35 +151,27 @@ answer-requires-clause-exists g c =
     (subst (λ (s : ServerValue). All P s.topology.circuits) (sym c.self.view_is) c.requires.regions)
 
 pub answer-requires-clause-entries : goal.answer-requires-clause-entries
-answer-requires-clause-entries g c = record {
-  room = omega (arith, c.self.invariant.1.size, shown_within g c);
-  deadlines = subst (HasDeadlines c.self.inside.deadlines (32 * asked_place g c)) (shown g c) (c.self.invariant.1.each (asked_place g c) _ (slice_get-get_or _ (asked_place g c) None (shown_within g c)));
-}
+answer-requires-clause-entries g c =
+    its_entries c.self.inside.circuits c.self.inside.ticked c.self.inside.servers.items c.self.invariant.0 c.in-Ok.found.0 c.index.result c.index.ensures.value c.part-part.result.now c.part-part.ensures
+    c.index_mut-server.result.now c.tick.new.self c.index_mut-server.ensures.value c.tick.ensures c.self.inside.deadlines c.self.invariant.1
 
 pub answer-requires-clause-pools : goal.answer-requires-clause-pools
 answer-requires-clause-pools g c =
-    subst (HasPools c.part-part.result.now) (shown g c) (at_index HasItsPools (with_states c.self.inside.circuits.circuits (shown_states g c)) (asked_place g c) (shown_server g c) (shown_there g c) c.self.invariant.0.pools)
+    its_pools c.self.inside.circuits c.self.inside.ticked c.self.inside.servers.items c.self.invariant.0 c.in-Ok.found.0 c.index.result c.index.ensures.value c.part-part.result.now c.part-part.ensures
+    c.index_mut-server.result.now c.tick.new.self c.index_mut-server.ensures.value c.tick.ensures
 
 pub answer-requires-clause-ready : goal.answer-requires-clause-ready
 answer-requires-clause-ready g c tells =
-    let regions = (g.D.Disk.device c.args.disk.now).region in
-    subst (IsReadyFor (regions c.part-part.result.now.region)) (shown g c)
-    (at_index (IsReady regions) (with_states c.self.inside.circuits.circuits (shown_states g c)) (asked_place g c) (shown_server g c) (shown_there g c)
-    (subst (λ (s : ServerValue). All (IsReady regions) (circuits_in s)) (sym c.self.view_is) (c.requires.ready tells)))
+    its_ready c.self.inside.circuits c.self.inside.ticked c.self.inside.servers.items c.self.invariant.0 c.in-Ok.found.0 c.index.result c.index.ensures.value c.part-part.result.now c.part-part.ensures
+    c.index_mut-server.result.now c.tick.new.self c.index_mut-server.ensures.value c.tick.ensures (g.D.Disk.device c.args.disk.now).region
+    (subst (λ (s : ServerValue). All (IsReady (g.D.Disk.device c.args.disk.now).region) (circuits_in s)) (sym c.self.view_is) (c.requires.ready tells))
 
 -- ---- after the answer
 
 pub invariant_of-self : goal.invariant_of-self
 invariant_of-self g c = (
-  record {
-    sound = c.self.invariant.0.sound;
-    size = ap (λ (xs : List (Option OpenCircuitValue)). length xs) (its_one g c).others ∙ length-set (states g c) (place g c) c.answer.new.self ∙ c.self.invariant.0.size;
-    pools =
-        subst (All HasItsPools) (sym (written g c))
-        (All-set HasItsPools (before g c) (place g c) (server c.part-part.result.now c.answer.new.self) (done g c).pools c.self.invariant.0.pools);
-  },
-  subst (HoldsDeadlines c.answer.new.table) (sym (its_one g c).others)
-      (one_held (place g c) c.self.inside.deadlines c.answer.new.table (states g c) c.answer.new.self (within g c) c.self.invariant.1 c.answer.ensures.entries.deadlines c.answer.ensures.entries.others),
+  still_sound (topology g c) (states g c) (after g c) (place g c) c.part-part.result.now c.tick.new.self c.answer.new.self c.self.invariant.0 (its_one g c) (there_in g c) (done g c).pools,
+  still_held (states g c) (after g c) (place g c) c.tick.new.self c.answer.new.self c.self.inside.deadlines c.answer.new.table (its_one g c) c.self.invariant.1 c.answer.ensures.entries,
   c.self.invariant.2,
 )
 
@@ -203,7 +196,7 @@ returns-clause-books g c =
     let fails = has_failed (g.D.Disk.device c.args.disk.now) (g.D.Disk.device c.answer.new.disk) in
     let x = asked g c in
     let items = before g c in
-    let k = (place g c) in
+    let k = place g c in
     let new = server x.part c.answer.new.self in
     let P : ServerValue → Type 0 = λ s. map book_of (set items k new) ≡ (received s.topology (asks g c) fails (books_in s)).books in
     ap (map book_of) (written g c)
@@ -254,7 +247,7 @@ returns-clause-leases g c tells =
     let faults = (g.D.Disk.device c.args.disk.now).fuse in
     let x = asked g c in
     let items = before g c in
-    let k = (place g c) in
+    let k = place g c in
     let new = server x.part c.answer.new.self in
     let P : ServerValue → Type 0 = λ s. map (leases_of later) (set items k new) ≡ received_leases s.topology (asks g c) faults (leases_in regions s) in
     ap (map (leases_of later)) (written g c)
@@ -278,7 +271,7 @@ not_named c k found is none same = not_both (ap (λ n. c == n) same ∙ same_num
 
 pub returns-clause-deadlines : goal.returns-clause-deadlines
 returns-clause-deadlines g c =
-    let k = (place g c) in
+    let k = place g c in
     let P : ServerValue → Type 0 = λ s. KeepsDeadlines (λ n. is_circuit n (addressee s.topology (asks g c))) s.deadlines c.answer.new.table in
     subst P c.self.view_is
     (kept_beside k (λ n. is_circuit n (addressee (topology g c) (asks g c))) c.self.inside.deadlines c.answer.new.table
@@ -289,6 +282,6 @@ returns-in-Err-clause-held g c = λ k state there s below. inl refl
 
 pub returns-clause-held : goal.returns-clause-held
 returns-clause-held g c =
-    let k = (place g c) in
+    let k = place g c in
     let P : ServerValue → Type 0 = λ v. AllUnchangedOrUntilHeld v.deadlines c.answer.new.table (after g c) in
     subst P c.self.view_is (held_all k (after g c) c.answer.new.self c.self.inside.deadlines c.answer.new.table (sym (its_one g c).after) c.answer.ensures.entries.others c.answer.ensures.entries.own)
