@@ -14,7 +14,7 @@ use Rattle.config.specs.CircuitPart.{CircuitPart, IsPart}
 use Rattle.config.specs.Membership.{has}
 use Rattle.config.specs.Topology.{Topology, is_relay, serves}
 use Rattle.config.proofs.TopologyLemmas.{is_known}
-use Rattle.circuit_server.specs.Leases.{IsBroughtUp, Leases, counts_of, after_datagram, after_restart, after_tick, formats_of, found_leases, restarts_of}
+use Rattle.circuit_server.specs.Leases.{IsRegionMigrated, Leases, counts_of, after_datagram, after_restart, after_tick, formats_of, found_leases, restarts_of}
 use Rattle.dispatch.specs.Regions.{HasRegions}
 use Rattle.circuit_server.specs.Answered.{IsAnswer}
 use Rattle.circuit_server.specs.Server.{book_at, served}
@@ -346,7 +346,7 @@ unfolding alone_step
 restart_is setup a comeback = refl
 
 pub restart_done : (k : ℕ) (w new : WorldValue) (p : CircuitPart) (l : Leases) (comeback : Comeback) (out : List ℕ) → new.relays ≡ w.relays → new.net ≡ w.net → out ≡ []
-    → disk.fuse_of new.disk p.region ≡ 0 → IsBroughtUp (counts_of p) comeback.move_fault (crashed comeback.image (disk.state_of w.disk p.region)) (disk.state_of new.disk p.region)
+    → disk.fuse_of new.disk p.region ≡ 0 → IsRegionMigrated (counts_of p) comeback.move_fault (crashed comeback.image (disk.state_of w.disk p.region)) (disk.state_of new.disk p.region)
     → StepsAs k (Restart comeback) (state_of w k p l) (state_of new k p (after_restart comeback.image comeback.move_fault l)) outcome.Done out
 restart_done k w new p l comeback out relays net empty cleared brought =
     let topology = ap (λ (r : RelaysValue). r.topology) relays in
@@ -553,7 +553,7 @@ pub all_restart : (w new : WorldValue) (comebacks : ℕ → Comeback) (regions :
     → ((c : ℕ) (part : CircuitPart) → slice_get w.server.topology.circuits c ≡ Some part → regions part.region ≡ crashed (comebacks c).image (disk.state_of w.disk part.region))
     → ((c : ℕ) (part : CircuitPart) → slice_get w.server.topology.circuits c ≡ Some part → faults part.region ≡ (comebacks c).move_fault)
     → ((c : ℕ) (part : CircuitPart) → slice_get w.server.topology.circuits c ≡ Some part → disk.fuse_of new.disk part.region ≡ 0)
-    → All (λ (part : CircuitPart). IsBroughtUp (counts_of part) (faults part.region) (regions part.region) (disk.state_of new.disk part.region)) w.server.topology.circuits
+    → All (λ (part : CircuitPart). IsRegionMigrated (counts_of part) (faults part.region) (regions part.region) (disk.state_of new.disk part.region)) w.server.topology.circuits
     → AllMove (λ c. Restart (comebacks c)) (states w) (states new) outcome.Done out
 all_restart w new comebacks regions faults out relays net empty parts leases crash fails cleared brought =
     all_move w new (λ c. Restart (comebacks c)) (λ c. after_restart (comebacks c).image (comebacks c).move_fault) out parts (ap length leases ∙ length-map w.server.topology.circuits (found_leases regions faults))
@@ -567,8 +567,8 @@ all_restart w new comebacks regions faults out relays net empty parts leases cra
     (λ c part l there. restart_done c w new part l (comebacks c) out relays net empty (cleared c part there) (its_region c part there))
   where
     its_region : (c : ℕ) (part : CircuitPart) → slice_get w.server.topology.circuits c ≡ Some part
-        → IsBroughtUp (counts_of part) (comebacks c).move_fault (crashed (comebacks c).image (disk.state_of w.disk part.region)) (disk.state_of new.disk part.region)
+        → IsRegionMigrated (counts_of part) (comebacks c).move_fault (crashed (comebacks c).image (disk.state_of w.disk part.region)) (disk.state_of new.disk part.region)
     its_region c part there =
-        let P : CircuitPart → Type 0 = λ p. IsBroughtUp (counts_of p) (faults p.region) (regions p.region) (disk.state_of new.disk p.region) in
-        let Q : ℕ → Region → Type 0 = λ fault region. IsBroughtUp (counts_of part) fault region (disk.state_of new.disk part.region) in
+        let P : CircuitPart → Type 0 = λ p. IsRegionMigrated (counts_of p) (faults p.region) (regions p.region) (disk.state_of new.disk p.region) in
+        let Q : ℕ → Region → Type 0 = λ fault region. IsRegionMigrated (counts_of part) fault region (disk.state_of new.disk part.region) in
         subst₂ Q (fails c part there) (crash c part there) (all_at P w.server.topology.circuits c part brought there)

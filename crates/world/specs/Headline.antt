@@ -5,7 +5,7 @@ use Rattle.std.specs.List.{filter_map}
 use Rattle.std.specs.Option.{option_map_or}
 use Rattle.std.specs.Result.{is_err}
 use Rattle.config.specs.Topology.{Topology, reloaded}
-use Rattle.circuit_server.specs.Leases.{IsBroughtUp, Leases, counts_of}
+use Rattle.circuit_server.specs.Leases.{IsRegionMigrated, Leases, counts_of}
 use Rattle.circuit_server.specs.Server.{Book}
 use Rattle.lease_disk.specs.Crash.{crashed}
 use Rattle.lease_disk.specs.Region.{Region}
@@ -117,7 +117,7 @@ is_discarded state seen = false
 
 -- A restart makes of a circuit's region its image, byte for byte; one that then is of format 1 and holds a book is moved.
 abbrev pub ComesBack : Seen → CircuitState → CircuitState → Type 0
-ComesBack (Restart comeback) old new = IsBroughtUp (counts_of old.setup.part) comeback.move_fault (crashed comeback.image old.region) new.region
+ComesBack (Restart comeback) old new = IsRegionMigrated (counts_of old.setup.part) comeback.move_fault (crashed comeback.image old.region) new.region
 ComesBack seen old new = ⊤
 
 -- What becomes of the rest of a circuit's state, beside what a machine shows of it, with what the circuit sees.

@@ -1,7 +1,7 @@
 //! A world: its relays, the network, the server and a disk.
 ghost use Rattle.std.specs.Prelude.{◌≡◌, ℕ, ◌+◌, ◌*◌, ◌<◌, ◌≤◌, [], Some, length, nat_lt, if◌then◌else◌, slice_get, take, IfOk, IfErr, IfSome, OnOk};
 ghost use Rattle.config.specs.CircuitPart.{CircuitPart, parts_of};
-ghost use Rattle.dispatch.specs.Regions.{AreBroughtUp, AreSynced, HasRegions, KeepsOthers};
+ghost use Rattle.dispatch.specs.Regions.{AreRegionsMigrated, AreSynced, HasRegions, KeepsOthers};
 ghost use Rattle.dispatch.specs.declared.server.OpenFault.TheVariants as fault;
 ghost use Rattle.lease_disk.specs.Crash.{crashed};
 ghost use Rattle.lease_disk.specs.Model.{device_of, fuse_of, state_of};
@@ -152,7 +152,7 @@ impl World {
         requires synced { AreSynced (parts_of config.now) (state_of disk) }
         ensures starts { IfOk result (λ world. Starts (one_plan config.now) quota (device_of disk) (states world)) }
         ensures topology { IfOk result (λ world. world.relays.topology ≡ topology_of config.now) }
-        ensures regions { IfOk result (λ world. AreBroughtUp (parts_of config.now) (device_of disk) (device_of world.disk)) }
+        ensures regions { IfOk result (λ world. AreRegionsMigrated (parts_of config.now) (device_of disk) (device_of world.disk)) }
         ensures others { IfOk result (λ world. KeepsOthers (parts_of config.now) (device_of disk) (device_of world.disk)) }
         ensures faults { IfOk result (λ world. (c : ℕ) (part : CircuitPart) → slice_get (parts_of config.now) c ≡ Some part → fuse_of world.disk part.region ≡ 0) }
         ensures small { IfErr result (λ why. why ≡ fault.DiskTooSmall → ¬ HasRegions (parts_of config.now) (length disk.regions)) }
@@ -190,7 +190,7 @@ impl World {
         requires synced { AreSynced (parts_of plans.now.union) (state_of disk) }
         ensures starts { IfOk result (λ world. Starts plans.now quota (device_of disk) (states world)) }
         ensures topology { IfOk result (λ world. world.relays.topology ≡ plans_topology plans.now) }
-        ensures regions { IfOk result (λ world. AreBroughtUp (parts_of plans.now.union) (device_of disk) (device_of world.disk)) }
+        ensures regions { IfOk result (λ world. AreRegionsMigrated (parts_of plans.now.union) (device_of disk) (device_of world.disk)) }
         ensures others { IfOk result (λ world. KeepsOthers (parts_of plans.now.union) (device_of disk) (device_of world.disk)) }
         ensures faults { IfOk result (λ world. (c : ℕ) (part : CircuitPart) → slice_get (parts_of plans.now.union) c ≡ Some part → fuse_of world.disk part.region ≡ 0) }
         ensures small { IfErr result (λ why. why ≡ fault.DiskTooSmall → ¬ HasRegions (parts_of plans.now.union) (length disk.regions)) }

@@ -3,7 +3,7 @@ use Rattle.std.specs.Prelude.{All}
 use Rattle.config.specs.CircuitPart.{CircuitPart, parts_of}
 use Rattle.settings.specs.Settings.{Settings}
 use Rattle.config.specs.Topology.{Topology}
-use Rattle.circuit_server.specs.Leases.{IsBroughtUp, counts_of}
+use Rattle.circuit_server.specs.Leases.{IsRegionMigrated, counts_of}
 use Rattle.dispatch.specs.Regions.{HasRegions, KeepsOthers}
 use Rattle.dispatch.specs.ServerValue.{AreReady, leases_in}
 use Rattle.lease_disk.specs.Region.{Region}
@@ -37,7 +37,7 @@ returns-in-Ok-open_plans-clause-starts c =
 
 pub returns-in-Ok-open_plans-clause-regions : goal.returns-in-Ok-open_plans-clause-regions
 returns-in-Ok-open_plans-clause-regions c =
-    subst (λ (regions : ℕ → Region). All (λ (part : CircuitPart). IsBroughtUp (counts_of part) (disk.fuse_of c.args.disk part.region) (disk.state_of c.args.disk part.region) (regions part.region)) (parts_of c.args.plans.now.union))
+    subst (λ (regions : ℕ → Region). All (λ (part : CircuitPart). IsRegionMigrated (counts_of part) (disk.fuse_of c.args.disk part.region) (disk.state_of c.args.disk part.region) (regions part.region)) (parts_of c.args.plans.now.union))
     (sym c.over.ensures.states) (c.in-Ok-open_plans.ensures.regions refl)
 
 pub returns-in-Ok-open_plans-clause-others : goal.returns-in-Ok-open_plans-clause-others

@@ -2,7 +2,7 @@ use Rattle.std.proofs.Common.{◌≤◌, ℕ, length, refl, sym, ap, subst, ◌�
 use Rattle.std.specs.Prelude.{All, slice_get}
 use Rattle.config.specs.CircuitPart.{CircuitPart}
 use Rattle.config.specs.Topology.{Topology}
-use Rattle.circuit_server.specs.Leases.{IsBroughtUp, counts_of}
+use Rattle.circuit_server.specs.Leases.{IsRegionMigrated, counts_of}
 use Rattle.dispatch.specs.Regions.{HasRegions, KeepsOthers}
 use Rattle.dispatch.specs.ServerValue.{AreReady, leases_in}
 use Rattle.lease_disk.specs.Model as disk
@@ -21,8 +21,8 @@ returns-clause-moves c =
     let new : WorldValue = record w { server = c.restart.new.self; disk = c.clear_faults.new.disk } in
     let regions = disk.state_of c.crash_all.new.disk in
     let faults = disk.fuse_of c.crash_all.new.disk in
-    let brought : All (λ (part : CircuitPart). IsBroughtUp (counts_of part) (faults part.region) (regions part.region) (disk.state_of new.disk part.region)) w.server.topology.circuits =
-    subst (λ (states : ℕ → Region). All (λ (part : CircuitPart). IsBroughtUp (counts_of part) (faults part.region) (regions part.region) (states part.region)) w.server.topology.circuits)
+    let brought : All (λ (part : CircuitPart). IsRegionMigrated (counts_of part) (faults part.region) (regions part.region) (disk.state_of new.disk part.region)) w.server.topology.circuits =
+    subst (λ (states : ℕ → Region). All (λ (part : CircuitPart). IsRegionMigrated (counts_of part) (faults part.region) (regions part.region) (states part.region)) w.server.topology.circuits)
     (sym c.clear_faults.ensures.states) (c.restart.ensures.regions refl) in
     let P : WorldValue → Type 0 = λ v. AllMove (λ n. Restart (comeback_at n c.args.comebacks.now)) (states v) (states new) outcome.Done c.clear.new.self in
     subst P c.self.view_is (
