@@ -1,15 +1,18 @@
 -- What shows of relay and server over sockets, and what a turn does.
-use Rattle.std.specs.Prelude.{◌≡◌, ◌≤◌, ◌<◌, ◌+◌, ◌++◌, ℕ, zero, suc, All, true, List, length, map, Option, Some, None, option_map, slice_get, Result, ⊤}
+use Rattle.std.specs.Prelude.{◌≡◌, ◌≤◌, ◌<◌, ◌+◌, ◌*◌, ◌++◌, ℕ, zero, suc, All, true, List, length, map, Option, Some, None, option_map, slice_get, Result, ⊤}
 use Rattle.types.specs.declared.addr.Source.{Source}
 use Rattle.types.specs.declared.dest.Proto.{Proto}
+use Rattle.types.specs.declared.dest.Proto.TheVariants.{V4}
 use Rattle.types.specs.declared.discard.Discard.{Discard}
 use Rattle.lease_disk.specs.FileDisk.{FileDiskValue}
 use Rattle.dispatch.specs.Regions.{HasRegions}
 use Rattle.circuit_server.specs.Server.{Book, book_at}
 use Rattle.dispatch.specs.ServerValue.{ServerValue, books_in}
-use Rattle.config.specs.Topology.{Topology, serves}
+use Rattle.config.specs.CircuitPart.{parts_of}
+use Rattle.config.specs.Topology.{IsTopology, Topology, serves, topology_of}
+use Rattle.settings.specs.Settings.{Settings}
 use Rattle.udp.specs.History.{Entry, Ticked, with_entry}
-use Rattle.counts.specs.Counts.{counted_all}
+use Rattle.counts.specs.Counts.{counted_all, none}
 use Rattle.access.specs.Batch.{AreReceived, AreReceivedAgain, AreReplied, HasTried, Serving, serving}
 use Rattle.access.specs.Moments.{HasRead}
 use Rattle.access.specs.Polling.{IsPolled, deliveries_in}
@@ -69,6 +72,31 @@ RefusesSocket Bound fault.Memory = ⊤
 RefusesSocket Bound fault.Disk = ⊤
 RefusesSocket Bound (fault.Socket at) = Bound at
 RefusesSocket Bound fault.TooManyCircuits = ⊤
+
+-- Relay and server of this configuration, over this device, before the first turn: they go on with the history of their sockets.
+pub record IsOpened (config : Settings) (disk : FileDiskValue) (port batch : ℕ) (opening : List Entry) (access : AccessValue) : Type 0 where
+  pub topology : access.topology ≡ topology_of config
+  pub sound : IsTopology access.topology
+  pub served : access.server.topology ≡ topology_of config
+  pub large : HasRegions (parts_of config) access.disk.regions
+  pub formats : length access.formats ≡ length config.circuits
+  pub reads : access.disk.reads ≤ disk.reads + 6 * length config.circuits
+  pub writes : access.disk.writes ≤ disk.writes + 4 * length config.circuits
+  pub counts : access.counts ≡ none
+  pub port_is : access.port ≡ port
+  pub batch_is : access.batch ≡ batch
+  pub first : access.first ≡ V4
+  pub history : access.history ≡ opening
+  pub turns : access.turns ≡ 0
+
+-- What relay and server were opened with stays.
+pub record StaysSetUp (old new : AccessValue) : Type 0 where
+  pub topology : new.topology ≡ old.topology
+  pub served : new.server.topology ≡ old.server.topology
+  pub regions : new.disk.regions ≡ old.disk.regions
+  pub formats : new.formats ≡ old.formats
+  pub port : new.port ≡ old.port
+  pub batch : new.batch ≡ old.batch
 
 -- ---- sockets
 

@@ -1,6 +1,6 @@
 //! Relay and server over sockets.
 ghost use Rattle.std.specs.Prelude.{◌≡◌, ◌≤◌, ◌<◌, ◌+◌, ◌*◌, ◌↔◌, ℕ, [], length, map, true, is_some, Some, slice_get, All, Err, IfOk, IfErr};
-ghost use Rattle.access.specs.Access.{HasCarried, HasCounted, HasReached, HasServed, HasServedTurns, HasTurned, RefusesSocket, StayClosed, books_at};
+ghost use Rattle.access.specs.Access.{HasCarried, HasCounted, HasReached, HasServed, HasServedTurns, HasTurned, IsOpened, RefusesSocket, StayClosed, StaysSetUp, books_at};
 ghost use Rattle.counts.specs.Counts.{more_by, none};
 ghost use Rattle.opening.specs.Opening.{found_format, was_old};
 ghost use Rattle.sockets.specs.Sockets.{AreBound, IsSocket, Refuses, WasRefused};
@@ -224,19 +224,7 @@ impl Access {
         requires most { port ≤ 65472 }
         requires some { 1 ≤ batch }
         requires few { batch ≤ 16 }
-        ensures topology { IfOk result (λ access. access.topology ≡ topology_of config.now) }
-        ensures sound { IfOk result (λ access. IsTopology access.topology) }
-        ensures served { IfOk result (λ access. access.server.topology ≡ topology_of config.now) }
-        ensures large { IfOk result (λ access. HasRegions (parts_of config.now) access.disk.regions) }
-        ensures formats { IfOk result (λ access. length access.formats ≡ length config.now.circuits) }
-        ensures reads { IfOk result (λ access. access.disk.reads ≤ disk.reads + 6 * length config.now.circuits) }
-        ensures writes { IfOk result (λ access. access.disk.writes ≤ disk.writes + 4 * length config.now.circuits) }
-        ensures counts { IfOk result (λ access. access.counts ≡ none) }
-        ensures port { IfOk result (λ access. access.port ≡ port) }
-        ensures batch { IfOk result (λ access. access.batch ≡ batch) }
-        ensures first { IfOk result (λ access. access.first ≡ Proto.V4) }
-        ensures silent { IfOk result (λ access. access.history ≡ opening.old.entries) }
-        ensures turns { IfOk result (λ access. access.turns ≡ 0) }
+        ensures opened { IfOk result (IsOpened config.now disk port batch opening.old.entries) }
         ensures circuits { result ≡ Err fault.TooManyCircuits ↔ (16 < length config.now.circuits) }
         ensures small { IfErr result (λ why. why ≡ fault.Disk → ¬ HasRegions (parts_of config.now) disk.regions) }
         ensures socket { IfErr result (RefusesSocket (λ at. IsSocket config.now port at × HasRegions (parts_of config.now) disk.regions × WasRefused opening.old.entries opening.new.entries at)) }
@@ -280,12 +268,7 @@ impl Access {
     pub fn serve<R: Clock, W: Watch>(&mut self, rt: &R, turns: u32, pause: u16, watch: &mut W)
         ensures turned { (now : ℕ) × HasServedTurns turns now self.old self.new }
         ensures turns { self.new.turns ≡ self.old.turns + turns }
-        ensures topology { self.new.topology ≡ self.old.topology }
-        ensures served { self.new.server.topology ≡ self.old.server.topology }
-        ensures regions { self.new.disk.regions ≡ self.old.disk.regions }
-        ensures formats { self.new.formats ≡ self.old.formats }
-        ensures port { self.new.port ≡ self.old.port }
-        ensures batch { self.new.batch ≡ self.old.batch }
+        ensures set_up { StaysSetUp self.old self.new }
         ensures closed { StayClosed self.old.server self.new.server }
     {
         let mut now = Moment::first();
@@ -306,18 +289,13 @@ impl Access {
     pub fn turn(&mut self, now: Moment) -> u32
         ensures most { result ≤ 40 + self.old.batch }
         ensures turned { HasTurned now result self.old self.new }
-        ensures port { self.new.port ≡ self.old.port }
-        ensures batch { self.new.batch ≡ self.old.batch }
+        ensures set_up { StaysSetUp self.old self.new }
         ensures turns { self.new.turns ≡ self.old.turns + 1 }
         ensures counts { HasCounted result self.old.counts self.new.counts }
         ensures received { self.new.counts.received ≡ more_by result self.old.counts.received }
         ensures quiet { result ≡ 0 → books_in self.new.server ≡ books_at now (books_in self.old.server) }
         ensures closed { StayClosed self.old.server self.new.server }
         ensures clocks { HasReached now self.new.server }
-        ensures topology { self.new.topology ≡ self.old.topology }
-        ensures served { self.new.server.topology ≡ self.old.server.topology }
-        ensures regions { self.new.disk.regions ≡ self.old.disk.regions }
-        ensures formats { self.new.formats ≡ self.old.formats }
     {
         let frames = self.take_from_circuits();
         let datagrams = self.take_at_server(now);

@@ -1,5 +1,5 @@
 -- The formats in which an opening finds the regions of its circuits.
-use Rattle.std.specs.Prelude.{◌==◌, ◌&&◌, ℕ, Bool, false, not, List, Option, Some, None, map, nat_lt, if◌then◌else◌}
+use Rattle.std.specs.Prelude.{◌≡◌, ◌≤◌, ◌+◌, ◌*◌, ◌==◌, ◌&&◌, ℕ, Bool, false, not, List, Option, Some, None, map, nat_lt, if◌then◌else◌}
 use Rattle.settings.specs.declared.settings.CircuitConfig.{CircuitConfig}
 use Rattle.lease_disk.specs.Device.{Device}
 
@@ -20,3 +20,9 @@ found_format (Some format) = format
 abbrev pub was_old : Option ℕ → Bool
 was_old None = false
 was_old (Some format) = not (format == 2)
+
+-- How often a device is called to open a server of so many circuits: no region is added.
+pub record IsCalledToOpen (circuits : ℕ) (old new : Device) : Type 0 where
+  pub count : new.count ≡ old.count
+  pub reads : new.reads ≤ old.reads + 6 * circuits
+  pub writes : new.writes ≤ old.writes + 4 * circuits

@@ -1,6 +1,6 @@
 //! Opening the server over a device, some of whose regions may be of the format of an earlier version.
 ghost use Rattle.std.specs.Prelude.{◌≡◌, ◌≤◌, ◌+◌, ◌*◌, true, length, IfOk, IfErr, OnErr};
-ghost use Rattle.opening.specs.Opening.{format_of, formats_of};
+ghost use Rattle.opening.specs.Opening.{IsCalledToOpen, format_of, formats_of};
 ghost use Rattle.config.specs.CircuitPart.{parts_of};
 ghost use Rattle.config.specs.Topology.{topology_of};
 ghost use Rattle.dispatch.specs.Regions.{AreSynced, HasRegions};
@@ -64,9 +64,7 @@ pub fn open_server<D: Disk>(
     ensures large { IfOk result (λ opened. HasRegions (parts_of config.now) (D.device disk.new).count) }
     ensures small { IfErr result (λ why. why ≡ fault.DiskTooSmall → ¬ HasRegions (parts_of config.now) (D.device disk.old).count) }
     ensures untouched { OnErr result (TouchesNothing D.tells (D.device disk.old) (D.device disk.new)) }
-    ensures count { (D.device disk.new).count ≡ (D.device disk.old).count }
-    ensures reads { (D.device disk.new).reads ≤ (D.device disk.old).reads + 6 * length config.now.circuits }
-    ensures writes { (D.device disk.new).writes ≤ (D.device disk.old).writes + 4 * length config.now.circuits }
+    ensures calls { IsCalledToOpen (length config.now.circuits) (D.device disk.old) (D.device disk.new) }
 {
     let formats = formats_of(config, disk);
     match Server::open(alloc, config, disk) {

@@ -1,7 +1,7 @@
 use Rattle.std.proofs.Common.{◌≡◌, ◌∙◌, ◌+◌, sym, ap, subst, arith, rules}
 use Rattle.std.specs.Prelude.{Some, None, slice_get}
 use Rattle.dispatch.specs.ServerValue.{books_in}
-use Rattle.access.specs.Access.{AccessValue, HasServedTurns, StayClosed}
+use Rattle.access.specs.Access.{AccessValue, HasServedTurns, StayClosed, StaysSetUp}
 use Rattle.access.proofs.TurnLemmas.{served_once}
 use Rattle.access.proofs.access.Access.serve.Goals as goal
 use Rattle.access.proofs.access.Access.serve.Goals.{then-turn-eq0+then-pause-gt0, else-turn-eq0}
@@ -15,12 +15,16 @@ turns-preserved g c =
     record {
       counter = search rules;
       turns = back (λ s. s.turns ≡ c.args.self.now.turns + (c.turns.counter + 1)) (let before = ap (λ (s : AccessValue). s.turns) c.self.view_is ∙ was.turns in let one = after.turns in omega (arith, before, one));
-      topology = back (λ s. s.topology ≡ c.args.self.now.topology) (after.topology ∙ (ap (λ (s : AccessValue). s.topology) c.self.view_is ∙ was.topology));
-      served = back (λ s. s.server.topology ≡ c.args.self.now.server.topology) (after.served ∙ (ap (λ (s : AccessValue). s.server.topology) c.self.view_is ∙ was.served));
-      regions = back (λ s. s.disk.regions ≡ c.args.self.now.disk.regions) (after.regions ∙ (ap (λ (s : AccessValue). s.disk.regions) c.self.view_is ∙ was.regions));
-      formats = back (λ s. s.formats ≡ c.args.self.now.formats) (after.formats ∙ (ap (λ (s : AccessValue). s.formats) c.self.view_is ∙ was.formats));
-      port = back (λ s. s.port ≡ c.args.self.now.port) (after.port ∙ (ap (λ (s : AccessValue). s.port) c.self.view_is ∙ was.port));
-      batch = back (λ s. s.batch ≡ c.args.self.now.batch) (after.batch ∙ (ap (λ (s : AccessValue). s.batch) c.self.view_is ∙ was.batch));
+      set_up =
+          back (StaysSetUp c.args.self.now)
+          (record {
+            topology = after.set_up.topology ∙ (ap (λ (s : AccessValue). s.topology) c.self.view_is ∙ was.set_up.topology);
+            served = after.set_up.served ∙ (ap (λ (s : AccessValue). s.server.topology) c.self.view_is ∙ was.set_up.served);
+            regions = after.set_up.regions ∙ (ap (λ (s : AccessValue). s.disk.regions) c.self.view_is ∙ was.set_up.regions);
+            formats = after.set_up.formats ∙ (ap (λ (s : AccessValue). s.formats) c.self.view_is ∙ was.set_up.formats);
+            port = after.set_up.port ∙ (ap (λ (s : AccessValue). s.port) c.self.view_is ∙ was.set_up.port);
+            batch = after.set_up.batch ∙ (ap (λ (s : AccessValue). s.batch) c.self.view_is ∙ was.set_up.batch);
+          });
       turned = back (HasServedTurns (c.turns.counter + 1) c.moment-now.result c.args.self.now)
           (served_once c.turns.counter c.turns.now c.moment-now.result c.turn.result c.args.self.now c.turns.self _ c.turn.new.self _ was.turned c.self.view_is c.moment-now.ensures.read after.turned);
       closed = back (λ s. StayClosed c.args.self.now.server s.server)
