@@ -13,13 +13,13 @@ use Rattle.config.specs.Topology.{Topology}
 use Rattle.types.specs.declared.dest.Proto.TheVariants.{V4, V6}
 use Rattle.udp.specs.declared.history.Role.TheVariants as role
 use Rattle.counts.specs.declared.counts.Counts.{Counts}
-use Rattle.counts.specs.declared.counts.Outcome.{Outcome}
+use Rattle.counts.specs.declared.counts.Fate.{Fate}
 
-pub counted_append : (a b : List Outcome) (c : Counts) → counted_all (a ++ b) c ≡ counted_all b (counted_all a c)
+pub counted_append : (a b : List Fate) (c : Counts) → counted_all (a ++ b) c ≡ counted_all b (counted_all a c)
 counted_append [] b c = refl
 counted_append (o ∷ a) b c = counted_append a b (counted o c)
 
-pub length_append : (a b : List Outcome) → length (a ++ b) ≡ length a + length b
+pub length_append : (a b : List Fate) → length (a ++ b) ≡ length a + length b
 length_append [] b = omega arith
 length_append (o ∷ a) b = let inside : length (a ++ b) ≡ length a + length b = length_append a b in omega (arith, inside)
 
@@ -60,13 +60,13 @@ idle_attempt socket buffer old new attempt.Empty none added = inl added
 idle_attempt socket buffer old new attempt.Failed none added = inr added
 
 -- a socket from which nothing was taken
-pub carried_idle : (role : Role) (Made : Source → List ℕ → List Entry → Outcome → Type 0) (old : AccessValue) (history : List Entry)
+pub carried_idle : (role : Role) (Made : Source → List ℕ → List Entry → Fate → Type 0) (old : AccessValue) (history : List Entry)
     → (history ≡ with_entry (Empty role) old.history) ⊎ (history ≡ with_entry (Failed role) old.history) → HasCarried (IsTried role Made) 0 old (record old { history = history })
 carried_idle role Made old history (inl empty) = record { entries = Empty role ∷ []; outcomes = []; tried = inl (inl refl, refl); many = refl; after = ap (λ (h : List Entry). record old { history = h }) empty }
 carried_idle role Made old history (inr failed) = record { entries = Failed role ∷ []; outcomes = []; tried = inl (inr refl, refl); many = refl; after = ap (λ (h : List Entry). record old { history = h }) failed }
 
 -- a socket from which a datagram was taken, something was made of it, and that was counted
-pub carried_taken : (role : Role) (Made : Source → List ℕ → List Entry → Outcome → Type 0) (old : AccessValue) (taken history rest : List Entry) (counts : Counts) (from : Source) (bytes : List ℕ) (became : Outcome)
+pub carried_taken : (role : Role) (Made : Source → List ℕ → List Entry → Fate → Type 0) (old : AccessValue) (taken history rest : List Entry) (counts : Counts) (from : Source) (bytes : List ℕ) (became : Fate)
     → taken ≡ with_entry (Took role from bytes) old.history → history ≡ taken ++ rest → counts ≡ counted became old.counts → Made from bytes rest became
     → HasCarried (IsTried role Made) 1 old (record old { counts = counts; history = history })
 carried_taken role Made old taken history rest counts from bytes became took added count made = record {

@@ -4,13 +4,13 @@ use Rattle.std.specs.Prelude.{Option, Some, None, option_map, slice_get}
 use Rattle.std.proofs.lemmas.Option.{same_Some}
 use Rattle.circuit_server.specs.Leases.{Leases, after_tick}
 use Rattle.circuit_server.specs.Server.{Book, book_at}
-use Rattle.circuit_server.specs.CircuitServerValue.{CircuitServerValue, book_of, leases_of}
+use Rattle.circuit_server.specs.CircuitServerValue.{CircuitServerValue, server_book, leases_of}
 use Rattle.lease_disk.specs.Region.{Region}
 use Rattle.access.specs.Access.{books_at}
 
 -- by the leases after a tick, the books after it
 pub ticked : (regions : ℕ → Region) (now : ℕ) (after before : List CircuitServerValue)
-    → map (leases_of regions) after ≡ map (after_tick now) (map (leases_of regions) before) → map book_of after ≡ books_at now (map book_of before)
+    → map (leases_of regions) after ≡ map (after_tick now) (map (leases_of regions) before) → map server_book after ≡ books_at now (map server_book before)
 ticked regions now [] [] same = refl
 ticked regions now [] (b ∷ bs) same = absurd cc
 ticked regions now (a ∷ rest) [] same = absurd cc

@@ -14,8 +14,8 @@ use Rattle.udp.specs.declared.history.Role.{Role}
 use Rattle.udp.specs.declared.history.Role.TheVariants as role
 use Rattle.counts.specs.Counts.{counted, counted_all}
 use Rattle.counts.specs.declared.counts.Counts.{Counts}
-use Rattle.counts.specs.declared.counts.Outcome.{Outcome}
-use Rattle.counts.specs.declared.counts.Outcome.TheVariants as outcome
+use Rattle.counts.specs.declared.counts.Fate.{Fate}
+use Rattle.counts.specs.declared.counts.Fate.TheVariants as outcome
 use Rattle.access.specs.Batch.{HasTried, IsReplied, IsRepliedAt, is_repeated}
 use Rattle.access.specs.Taken.{all_delivered, delivered}
 use Rattle.access.specs.Turn.{GoesOn, HasSentOn, InOrder, Tries}
@@ -66,7 +66,7 @@ replied_later true d answer counts history is = record { entries = []; outcomes 
 replied_later false d answer counts history is = absurd cc
 
 -- its answer is sent
-pub replied_now : (b : Bool) (socket : Role) (d : DeliveryValue) (answer : Result (List ℕ) Discard) (before after : Counts) (old new : List Entry) (became : Outcome) → b ≡ false → socket ≡ role.Server d.proto
+pub replied_now : (b : Bool) (socket : Role) (d : DeliveryValue) (answer : Result (List ℕ) Discard) (before after : Counts) (old new : List Entry) (became : Fate) → b ≡ false → socket ≡ role.Server d.proto
     → HasSentOn socket d.source outcome.Answered answer old new became → after ≡ counted became before → HasTried (IsReplied b d answer) before after old new
 replied_now true socket d answer before after old new became is own sent count = absurd cc
 replied_now false socket d answer before after old new became is own sent count = record {

@@ -15,7 +15,7 @@ use Rattle.dispatch.proofs.BatchLemmas.{circuit_is, first_there}
 use Rattle.udp.specs.History.{Entry}
 use Rattle.counts.specs.Counts.{counted_all}
 use Rattle.counts.specs.declared.counts.Counts.{Counts}
-use Rattle.counts.specs.declared.counts.Outcome.{Outcome}
+use Rattle.counts.specs.declared.counts.Fate.{Fate}
 use Rattle.sockets.specs.Sockets.{AreBound}
 use Rattle.sockets.specs.declared.sockets.Sockets.{Sockets}
 use Rattle.types.specs.declared.addr.Source.{Source}
@@ -48,12 +48,12 @@ module _ (taken : List DeliveryValue) (answers : List (Result (List ℕ) Discard
   repeated zero = 0
   repeated (suc n) = repeated n + one_repeated (slice_get answers n)
 
-  one_replied : (b : Bool) (d : DeliveryValue) (answer : Result (List ℕ) Discard) (entries : List Entry) (outcomes : List Outcome) → IsReplied b d answer entries outcomes → length outcomes + one_if b ≡ 1
-  one_replied true d answer entries outcomes replied = ap (λ (os : List Outcome). length os + 1) replied.1
-  one_replied false d answer entries outcomes replied = ap (λ (os : List Outcome). length os + 0) replied.1
+  one_replied : (b : Bool) (d : DeliveryValue) (answer : Result (List ℕ) Discard) (entries : List Entry) (outcomes : List Fate) → IsReplied b d answer entries outcomes → length outcomes + one_if b ≡ 1
+  one_replied true d answer entries outcomes replied = ap (λ (os : List Fate). length os + 1) replied.1
+  one_replied false d answer entries outcomes replied = ap (λ (os : List Fate). length os + 0) replied.1
 
-  many_replied : (n : ℕ) (entries : List Entry) (outcomes : List Outcome) → AreReplied taken answers n entries outcomes → length outcomes + repeated n ≡ n
-  many_replied zero entries outcomes replied = ap (λ (os : List Outcome). length os + 0) replied.1
+  many_replied : (n : ℕ) (entries : List Entry) (outcomes : List Fate) → AreReplied taken answers n entries outcomes → length outcomes + repeated n ≡ n
+  many_replied zero entries outcomes replied = ap (λ (os : List Fate). length os + 0) replied.1
   many_replied (suc n) entries outcomes both =
       let before = many_replied n both.before both.done both.one in
       let last = both.other in

@@ -8,8 +8,8 @@ use Rattle.counts.specs.Counts.{counted_all, more_by}
 use Rattle.access.specs.Moments.{HasRead}
 use Rattle.access.specs.Turn.{Tries}
 use Rattle.counts.specs.declared.counts.Counts.{Counts}
-use Rattle.counts.specs.declared.counts.Outcome.{Outcome}
-use Rattle.counts.specs.declared.counts.Outcome.TheVariants as outcome
+use Rattle.counts.specs.declared.counts.Fate.{Fate}
+use Rattle.counts.specs.declared.counts.Fate.TheVariants as outcome
 use Rattle.access.proofs.ClockLemmas.{ticked_closed}
 use Rattle.access.proofs.ServedLemmas.{counted_then, idle_server, served_closed, served_counts}
 
@@ -26,7 +26,7 @@ turned_counts now n old new t =
     let all = counted_then (t.frames + t.datagrams) t.answers _ _ _ (counted_then t.frames t.datagrams _ _ _ frames served) answers in
     subst (λ k. HasCounted k old.counts new.counts) (sym t.many) (subst (λ counts. HasCounted (t.frames + t.datagrams + t.answers) old.counts counts) (sym t.counts) all)
 
-received_by : (outcomes : List Outcome) (a : Counts) → (counted_all outcomes a).received ≤ 18446744073709551615
+received_by : (outcomes : List Fate) (a : Counts) → (counted_all outcomes a).received ≤ 18446744073709551615
     → (counted_all outcomes a).received ≡ more_by (length outcomes) a.received
 received_by [] a most = omega (arith, most)
 received_by (outcome.Relayed ∷ os) a most = let rest = received_by os _ most in omega (arith, rest)

@@ -25,7 +25,7 @@ use Rattle.sockets.specs.declared.sockets.SocketFault.{SocketFault}
 use Rattle.sockets.specs.declared.sockets.SocketFault.TheVariants as socket
 use Rattle.sockets.specs.declared.sockets.Sockets.{Sockets}
 use Rattle.counts.specs.declared.counts.Counts.{Counts}
-use Rattle.counts.specs.declared.counts.Outcome.{Outcome}
+use Rattle.counts.specs.declared.counts.Fate.{Fate}
 use Rattle.access.specs.Turn.{CircuitsSockets, RelaysSockets, Tries}
 
 pub record AccessValue : Type 0 where
@@ -103,7 +103,7 @@ pub record StaysSetUp (old new : AccessValue) : Type 0 where
 -- Some sockets were tried, and nothing else changed than the counts and the history.
 pub record HasCarried (Try : Tries) (count : ℕ) (old new : AccessValue) : Type 0 where
   pub entries : List Entry
-  pub outcomes : List Outcome
+  pub outcomes : List Fate
   pub tried : Try entries outcomes
   pub many : length outcomes ≡ count
   pub after : new ≡ record old { counts = counted_all outcomes old.counts; history = old.history ++ entries }
@@ -189,6 +189,6 @@ StayClosed old new = (c : ℕ) → slice_get (books_in old) c ≡ Some None → 
 
 -- something became of each of so many datagrams, and is counted
 pub record HasCounted (count : ℕ) (old new : Counts) : Type 0 where
-  pub outcomes : List Outcome
+  pub outcomes : List Fate
   pub many : length outcomes ≡ count
   pub after : new ≡ counted_all outcomes old

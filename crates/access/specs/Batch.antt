@@ -13,8 +13,8 @@ use Rattle.udp.specs.History.{Entry}
 use Rattle.udp.specs.declared.history.Role.TheVariants as role
 use Rattle.counts.specs.Counts.{counted, counted_all}
 use Rattle.counts.specs.declared.counts.Counts.{Counts}
-use Rattle.counts.specs.declared.counts.Outcome.{Outcome}
-use Rattle.counts.specs.declared.counts.Outcome.TheVariants as outcome
+use Rattle.counts.specs.declared.counts.Fate.{Fate}
+use Rattle.counts.specs.declared.counts.Fate.TheVariants as outcome
 use Rattle.access.specs.Turn.{GoesOn, InOrder, Tries}
 
 -- what serving changes: the server, its device, the counts and the history
@@ -62,10 +62,10 @@ is_repeated answer = false
 -- and it isn't counted yet.
 abbrev pub IsReplied : Bool → DeliveryValue → Result (List ℕ) Discard → Tries
 IsReplied true d answer entries outcomes = (entries ≡ []) × (outcomes ≡ [])
-IsReplied false d answer entries outcomes = (became : Outcome) × (outcomes ≡ became ∷ []) × GoesOn (role.Server d.proto) d.source outcome.Answered answer entries became
+IsReplied false d answer entries outcomes = (became : Fate) × (outcomes ≡ became ∷ []) × GoesOn (role.Server d.proto) d.source outcome.Answered answer entries became
 
 -- the same of the datagram of an index
-pub record IsRepliedAt (taken : List DeliveryValue) (answers : List (Result (List ℕ) Discard)) (j : ℕ) (entries : List Entry) (outcomes : List Outcome) : Type 0 where
+pub record IsRepliedAt (taken : List DeliveryValue) (answers : List (Result (List ℕ) Discard)) (j : ℕ) (entries : List Entry) (outcomes : List Fate) : Type 0 where
   pub its_datagram : DeliveryValue
   pub its_answer : Result (List ℕ) Discard
   pub taken_at : slice_get taken j ≡ Some its_datagram
@@ -79,7 +79,7 @@ AreReplied taken answers = InOrder (IsRepliedAt taken answers)
 -- Some sockets were tried, by the counts and the history before and after.
 pub record HasTried (Try : Tries) (before after : Counts) (old new : List Entry) : Type 0 where
   pub entries : List Entry
-  pub outcomes : List Outcome
+  pub outcomes : List Fate
   pub tried : Try entries outcomes
   pub counts : after ≡ counted_all outcomes before
   pub history : new ≡ old ++ entries
@@ -94,7 +94,7 @@ made_of d old new = received old.server.topology d (failed_in old new) (books_in
 -- or not. The device is called for that save, and for nothing else.
 pub record IsAnswered (d : DeliveryValue) (old new : Serving) : Type 0 where
   pub rest : List Entry
-  pub became : Outcome
+  pub became : Fate
   pub books : books_in new.server ≡ (made_of d old new).books
   pub calls : IsCalledToSaveAt (received_saves old.server.topology d (books_in old.server)) (device_of old.disk) (device_of new.disk)
   pub goes_on : GoesOn (role.Server d.proto) d.source outcome.Answered (made_of d old new).answer rest became

@@ -11,19 +11,19 @@ use Rattle.udp.specs.History.{Entry, Empty, Failed, Sent, Took}
 use Rattle.udp.specs.declared.history.Role.{Role}
 use Rattle.udp.specs.declared.history.Role.TheVariants as role
 use Rattle.sockets.specs.Sockets.{client_port, framed, proto_of}
-use Rattle.counts.specs.declared.counts.Outcome.{Outcome}
-use Rattle.counts.specs.declared.counts.Outcome.TheVariants as outcome
+use Rattle.counts.specs.declared.counts.Fate.{Fate}
+use Rattle.counts.specs.declared.counts.Fate.TheVariants as outcome
 
 -- What happens at some sockets, with what becomes of the datagrams that are taken.
 abbrev pub Tries : Type 1
-Tries = List Entry → List Outcome → Type 0
+Tries = List Entry → List Fate → Type 0
 
 -- first the one, then the other
-pub record Both (First Second : Tries) (entries : List Entry) (outcomes : List Outcome) : Type 0 where
+pub record Both (First Second : Tries) (entries : List Entry) (outcomes : List Fate) : Type 0 where
   pub before : List Entry
   pub after : List Entry
-  pub done : List Outcome
-  pub more : List Outcome
+  pub done : List Fate
+  pub more : List Fate
   pub one : First before done
   pub other : Second after more
   pub entries_are : entries ≡ before ++ after
@@ -39,25 +39,25 @@ abbrev pub IsIdle : Role → Tries
 IsIdle socket entries outcomes = ((entries ≡ Empty socket ∷ []) ⊎ (entries ≡ Failed socket ∷ [])) × (outcomes ≡ [])
 
 -- or a datagram was taken, and something is made of its source and its bytes
-pub record IsTaken (socket : Role) (Made : Source → List ℕ → List Entry → Outcome → Type 0) (entries : List Entry) (outcomes : List Outcome) : Type 0 where
+pub record IsTaken (socket : Role) (Made : Source → List ℕ → List Entry → Fate → Type 0) (entries : List Entry) (outcomes : List Fate) : Type 0 where
   pub from : Source
   pub bytes : List ℕ
   pub rest : List Entry
-  pub outcome : Outcome
+  pub outcome : Fate
   pub entries_are : entries ≡ Took socket from bytes ∷ rest
   pub outcomes_are : outcomes ≡ outcome ∷ []
   pub made : Made from bytes rest outcome
 
-abbrev pub IsTried : Role → (Source → List ℕ → List Entry → Outcome → Type 0) → Tries
+abbrev pub IsTried : Role → (Source → List ℕ → List Entry → Fate → Type 0) → Tries
 IsTried socket Made entries outcomes = IsIdle socket entries outcomes ⊎ IsTaken socket Made entries outcomes
 
 -- Bytes go from a socket to an address, or nothing goes for a reason.
-abbrev pub GoesOn : Role → Source → Outcome → Result (List ℕ) Discard → List Entry → Outcome → Type 0
+abbrev pub GoesOn : Role → Source → Fate → Result (List ℕ) Discard → List Entry → Fate → Type 0
 GoesOn socket to done (Err why) rest became = (rest ≡ []) × (became ≡ outcome.Dropped why)
 GoesOn socket to done (Ok bytes) rest became = (accepted : Bool) × (rest ≡ Sent socket to bytes accepted ∷ []) × (became ≡ (if accepted then done else outcome.Unsent))
 
 -- The same by the history before and after it.
-pub record HasSentOn (socket : Role) (to : Source) (done : Outcome) (made : Result (List ℕ) Discard) (old new : List Entry) (became : Outcome) : Type 0 where
+pub record HasSentOn (socket : Role) (to : Source) (done : Fate) (made : Result (List ℕ) Discard) (old new : List Entry) (became : Fate) : Type 0 where
   pub rest : List Entry
   pub history : new ≡ old ++ rest
   pub goes_on : GoesOn socket to done made rest became
@@ -70,7 +70,7 @@ with_bytes (Err why) bytes = Err why
 -- ---- a client's frame
 
 -- It goes on from the socket of the circuit's own relay to where the server listens.
-pub record IsSentUp (topology : Topology) (c : ℕ) (proto : Proto) (frame : List ℕ) (rest : List Entry) (became : Outcome) : Type 0 where
+pub record IsSentUp (topology : Topology) (c : ℕ) (proto : Proto) (frame : List ℕ) (rest : List Entry) (became : Fate) : Type 0 where
   pub part : CircuitPart
   pub relay : ℕ
   pub its_part : slice_get topology.circuits c ≡ Some part
@@ -87,7 +87,7 @@ CircuitsSockets topology = InOrder (λ c. Both (CircuitSocket topology c V4) (Ci
 -- ---- a datagram at a relay
 
 -- What it has for a circuit goes on from that circuit's own socket to its client's port.
-abbrev pub IsSentDown : ℕ → Result CircuitFrame Discard → List Entry → Outcome → Type 0
+abbrev pub IsSentDown : ℕ → Result CircuitFrame Discard → List Entry → Fate → Type 0
 IsSentDown port (Err why) rest became = (rest ≡ []) × (became ≡ outcome.Dropped why)
 IsSentDown port (Ok sent) rest became =
     let proto = proto_of sent.frame.dest in

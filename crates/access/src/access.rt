@@ -17,7 +17,7 @@ use crate::batch::Batch;
 use crate::clock::moment;
 use crate::sending::send_on;
 use config::Config;
-use counts::{CircuitCounts, Counts, Outcome};
+use counts::{CircuitCounts, Counts, Fate};
 use dispatch::{OpenFault, Server};
 use lease_disk::{FORMAT, FileDisk, OLD_FORMAT};
 use opening::{Formats, open_server};
@@ -441,7 +441,7 @@ impl Access {
             .up(Circuit::at(index), proto, frame, &mut self.out);
         let from = &self.sockets.relays[self.sockets.circuits[index].relay];
         let out = self.out.as_slice();
-        let outcome = send_on(made, from, to, out, Outcome::Relayed, &mut self.history);
+        let outcome = send_on(made, from, to, out, Fate::Relayed, &mut self.history);
         self.waiter.mark_ready(self.sockets.server(proto));
         self.counts.count(outcome);
         self.by_circuit.count_for(index, outcome);
@@ -500,11 +500,11 @@ impl Access {
                 let to = client(self.port, sent.0, proto);
                 let (made, bytes) = (Ok(()), frame.as_slice());
                 let circuit = sent.0.index();
-                let outcome = send_on(made, from, to, bytes, Outcome::Delivered, &mut self.history);
+                let outcome = send_on(made, from, to, bytes, Fate::Delivered, &mut self.history);
                 self.by_circuit.count_for(circuit, outcome);
                 outcome
             }
-            Err(why) => Outcome::Dropped(why),
+            Err(why) => Fate::Dropped(why),
         };
         self.counts.count(outcome);
         1

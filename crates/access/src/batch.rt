@@ -5,7 +5,7 @@ ghost use Rattle.access.specs.Taken.{HasTaken, HasTriedNext, all_delivered, deli
 ghost use Rattle.access.specs.Polling.{next_of};
 ghost use Rattle.access.specs.Turn.{HasSentOn};
 ghost use Rattle.counts.specs.declared.counts.Counts as total;
-ghost use Rattle.counts.specs.declared.counts.Outcome.TheVariants as outcome;
+ghost use Rattle.counts.specs.declared.counts.Fate.TheVariants as outcome;
 ghost use Rattle.dispatch.specs.Answers.{answer_of};
 ghost use Rattle.dispatch.specs.Regions.{HasRegions};
 ghost use Rattle.sockets.specs.Sockets.{IsBound};
@@ -13,15 +13,14 @@ ghost use Rattle.types.specs.Delivery.{delivery};
 ghost use Rattle.udp.specs.History as entry;
 ghost use Rattle.udp.specs.declared.history.Role.TheVariants as role;
 
-use crate::datagrams::{Datagram, Datagrams, NOWHERE};
+use crate::datagrams::{Datagram, Datagrams, Source::UNSPECIFIED};
 use crate::polling::{Polling, Waiting};
 use crate::sending::send_on;
-use batch_saves::MAX_BATCH;
-use counts::{CircuitCounts, Counts, Outcome};
+use counts::{CircuitCounts, Counts, Fate};
 use dispatch::{Answer, BatchAnswers, Server};
 use lease_disk::FileDisk;
 use sockets::Sockets;
-use types::{Delivery, Discard, Moment, Proto, Source};
+use types::{Delivery, Discard, MAX_BATCH, Moment, Proto, Source};
 use udp::{Attempt, DatagramSocket, History, Waiter};
 use wire::PacketBuf;
 
@@ -212,7 +211,7 @@ fn parts_of<'a>(taken: &'a [Datagram]) -> [(Proto, Source, &'a [u8]); MAX_BATCH]
     ensures { (now : ℕ) → map (λ d. delivery d.0 d.1 now d.2.now) (take (length taken.now) result) ≡ all_delivered now taken.now }
 {
     let none: &[u8] = &[];
-    let mut parts = [(Proto::V4, NOWHERE, none); MAX_BATCH];
+    let mut parts = [(Proto::V4, Source::UNSPECIFIED, none); MAX_BATCH];
     'parts: for index in 0..taken.len() {
         let datagram = &taken[index];
         parts[index] = (datagram.proto, datagram.source, datagram.bytes());
@@ -233,14 +232,14 @@ fn send_answer(
     socket: &DatagramSocket,
     to: Source,
     history: &mut History,
-) -> Outcome
+) -> Fate
     requires { history.old.id ≡ socket.now.history }
     ensures sent { HasSentOn socket.now.role to outcome.Answered (answer_of answer.now) history.old.entries history.new.entries result }
     ensures same { history.new.id ≡ history.old.id }
 {
     match answer.reply() {
-        Ok(reply) => Outcome::Answered.if_sent(socket.send(reply.as_slice(), to, history)),
-        Err(why) => Outcome::Dropped(why),
+        Ok(reply) => Fate::Answered.if_sent(socket.send(reply.as_slice(), to, history)),
+        Err(why) => Fate::Dropped(why),
     }
 }
 
@@ -284,7 +283,7 @@ fn receive_alone(
     let (proto, from, bytes) = (datagram.proto, datagram.source, datagram.bytes());
     let made = server.receive(proto, from, bytes, now, disk, &mut out);
     let reply = out.as_slice();
-    let outcome = send_on(made, socket, from, reply, Outcome::Answered, history);
+    let outcome = send_on(made, socket, from, reply, Fate::Answered, history);
     counts.count(outcome);
     count_if_dropped(datagram, outcome, server, by_circuit);
 }
@@ -300,20 +299,20 @@ fn count_dropped(datagram: &Datagram, why: Discard, server: &Server, by_circuit:
         bytes: datagram.bytes(),
     };
     if let Ok(circuit) = server.addressee(&delivery) {
-        by_circuit.count_for(circuit.index(), Outcome::Dropped(why));
+        by_circuit.count_for(circuit.index(), Fate::Dropped(why));
     }
 }
 
 /// Counts a datagram for the circuit that it is of, if the server dropped it.
 fn count_if_dropped(
     datagram: &Datagram,
-    outcome: Outcome,
+    outcome: Fate,
     server: &Server,
     by_circuit: &mut CircuitCounts,
 )
     requires fits { datagram.now.len ≤ 1281 }
 {
-    if let Outcome::Dropped(why) = outcome {
+    if let Fate::Dropped(why) = outcome {
         count_dropped(datagram, why, server, by_circuit);
     }
 }

@@ -3,13 +3,12 @@ ghost use Rattle.std.specs.Prelude.{◌≡◌, ◌≤◌, ◌<◌, ◌++◌, ℕ
 ghost use Rattle.access.specs.Taken.{attempt_datagrams};
 ghost use Rattle.udp.specs.History.{attempt_entry, with_entry};
 
-use batch_saves::MAX_BATCH;
 use std::marker::Model;
-use types::{Addr4, Proto, Source};
+use types::{Addr4, MAX_BATCH, Proto, Source};
 use udp::{Attempt, BUFFER_LEN, DatagramSocket, History, Waiter};
 
 /// The source of nothing.
-pub(crate) const NOWHERE: Source = Source {
+pub(crate) const Source::UNSPECIFIED: Source = Source {
     addr: Addr4::UNSPECIFIED,
     port: 0,
 };
@@ -31,7 +30,7 @@ impl Datagram {
     {
         Datagram {
             proto: Proto::V4,
-            source: NOWHERE,
+            source: Source::UNSPECIFIED,
             len: 0,
             buffer: [0; BUFFER_LEN],
         }

@@ -10,7 +10,7 @@ mod sending;
 
 pub use access::{Access, AccessFault, Watch, try_sockets};
 pub use clock::moment_of;
-pub use counts::{CircuitCounts, Counts, Outcome, REASONS};
+pub use counts::{CircuitCounts, Counts, Fate, REASONS};
 pub use opening::{DeviceFault, device_of};
 pub use sockets::{Warning, warn};
 pub use udp::History;

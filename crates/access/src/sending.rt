@@ -2,7 +2,7 @@
 ghost use Rattle.std.specs.Prelude.{◌≡◌};
 ghost use Rattle.access.specs.Turn.{HasSentOn, with_bytes};
 
-use counts::Outcome;
+use counts::Fate;
 use types::{Discard, Source};
 use udp::{DatagramSocket, History};
 
@@ -12,15 +12,15 @@ pub(crate) fn send_on(
     socket: &DatagramSocket,
     to: Source,
     bytes: &[u8],
-    done: Outcome,
+    done: Fate,
     history: &mut History,
-) -> Outcome
+) -> Fate
     requires { history.old.id ≡ socket.now.history }
     ensures sent { HasSentOn socket.now.role to done (with_bytes made bytes.now) history.old.entries history.new.entries result }
     ensures same { history.new.id ≡ history.old.id }
 {
     match made {
         Ok(()) => done.if_sent(socket.send(bytes, to, history)),
-        Err(why) => Outcome::Dropped(why),
+        Err(why) => Fate::Dropped(why),
     }
 }

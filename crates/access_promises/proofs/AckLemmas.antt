@@ -8,9 +8,9 @@ use Rattle.types.specs.declared.addr.Addr4.{Addr4}
 use Rattle.types.specs.declared.dest.Proto.{Proto}
 use Rattle.types.specs.declared.dest.Proto.TheVariants.{V4, V6}
 use Rattle.types.specs.declared.discard.Discard.{Discard}
-use Rattle.types.specs.declared.request4.Reply4.{Reply4}
-use Rattle.types.specs.declared.request4.Reply4.TheVariants as reply
-use Rattle.types.specs.declared.request4.Request4.{Request4}
+use Rattle.exchange.specs.declared.request4.Reply4.{Reply4}
+use Rattle.exchange.specs.declared.request4.Reply4.TheVariants as reply
+use Rattle.exchange.specs.declared.request4.Request4.{Request4}
 use Rattle.v4_message.specs.declared.fault.MessageFault.{MessageFault}
 use Rattle.v4_message.specs.Header.{IsSized}
 use Rattle.v4_message.specs.Reading.{message_of}

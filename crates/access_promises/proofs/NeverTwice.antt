@@ -16,9 +16,9 @@ use Rattle.types.specs.declared.kind4.Kind4.{Kind4}
 use Rattle.types.specs.declared.kind4.Kind4.TheVariants.{Discover, Offer, Request, Decline, Ack, Nak, Release, Inform}
 use Rattle.types.specs.declared.kind6.Kind6.{Kind6}
 use Rattle.types.specs.declared.kind6.Kind6.TheVariants as kind6
-use Rattle.types.specs.declared.request4.Request4.{Request4}
-use Rattle.types.specs.declared.request6.Reply6.{Reply6}
-use Rattle.types.specs.declared.request6.Request6.{Request6}
+use Rattle.exchange.specs.declared.request4.Request4.{Request4}
+use Rattle.exchange.specs.declared.request6.Reply6.{Reply6}
+use Rattle.exchange.specs.declared.request6.Request6.{Request6}
 use Rattle.v4_message.specs.declared.fault.MessageFault.{MessageFault}
 use Rattle.v4_message.specs.Reading.{message_of}
 use Rattle.v4_message.specs.Spelling.{MessageValue}

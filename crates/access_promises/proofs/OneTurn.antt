@@ -5,7 +5,7 @@ use Rattle.std.specs.List.{filter_map}
 use Rattle.std.specs.List.Sorted.{IsPermutation}
 use Rattle.config.specs.CircuitPart.{CircuitPart}
 use Rattle.config.specs.Topology.{Topology}
-use Rattle.circuit_server.specs.CircuitServerValue.{OpenCircuitValue, book_of}
+use Rattle.circuit_server.specs.CircuitServerValue.{OpenCircuitValue, server_book}
 use Rattle.circuit_server.specs.Server.{Book}
 use Rattle.dispatch.specs.ServerValue.{ServerValue, books_in, with_states}
 use Rattle.udp.specs.History.{Entry, Read, Ticked}
@@ -21,10 +21,10 @@ use Rattle.access_promises.proofs.TurnEntries.{IsTurn, polls_of}
 
 -- each circuit has a book, or is closed
 has_state : (parts : List CircuitPart) (states : List (Option OpenCircuitValue)) (c : ℕ) (part : CircuitPart) → slice_get parts c ≡ Some part
-    → (b : Option Book) × (slice_get (map book_of (with_states parts states)) c ≡ Some b)
+    → (b : Option Book) × (slice_get (map server_book (with_states parts states)) c ≡ Some b)
 has_state [] states c part there = absurd cc
-has_state (p ∷ parts) [] zero part there = (book_of (record { part = p; state = None }), refl)
-has_state (p ∷ parts) (state ∷ states) zero part there = (book_of (record { part = p; state = state }), refl)
+has_state (p ∷ parts) [] zero part there = (server_book (record { part = p; state = None }), refl)
+has_state (p ∷ parts) (state ∷ states) zero part there = (server_book (record { part = p; state = state }), refl)
 has_state (p ∷ parts) [] (suc c) part there = has_state parts [] c part there
 has_state (p ∷ parts) (state ∷ states) (suc c) part there = has_state parts states c part there
 

@@ -17,8 +17,8 @@ use Rattle.udp.specs.History.{Entry}
 use Rattle.udp.specs.declared.history.Role.TheVariants as role
 use Rattle.counts.specs.Counts.{counted_all}
 use Rattle.counts.specs.declared.counts.Counts.{Counts}
-use Rattle.counts.specs.declared.counts.Outcome.{Outcome}
-use Rattle.counts.specs.declared.counts.Outcome.TheVariants as outcome
+use Rattle.counts.specs.declared.counts.Fate.{Fate}
+use Rattle.counts.specs.declared.counts.Fate.TheVariants as outcome
 use Rattle.access.specs.Batch.{AreReceived, AreReceivedAgain, AreReplied, HasTried, IsAnswered, IsReceived, IsReceivedAgain, IsReplied, Serving, failed_in, is_repeated, made_of, serving}
 use Rattle.access.specs.Turn.{GoesOn}
 use Rattle.access_promises.specs.Exchanges.{Exchange, DropsStray, reply_of}
@@ -83,7 +83,7 @@ sent_then xs ys one two first second = record {
 }
 
 -- an answer goes on, or there is none
-pub answer_sent : (x : Exchange) (entries : List Entry) (became : Outcome) (a : Answer) → x.answer ≡ a → GoesOn (role.Server x.datagram.proto) x.datagram.source outcome.Answered a entries became
+pub answer_sent : (x : Exchange) (entries : List Entry) (became : Fate) (a : Answer) → x.answer ≡ a → GoesOn (role.Server x.datagram.proto) x.datagram.source outcome.Answered a entries became
     → AreSent (x ∷ []) entries
 answer_sent x entries became (Err why) is goes = subst (AreSent (x ∷ [])) (sym goes.0) (record { replies = ap (λ a. filter_map reply_of (record x { answer = a } ∷ [])) (sym is); kinds = tt })
 answer_sent x entries became (Ok bytes) is goes = subst (AreSent (x ∷ [])) (sym goes.1) (record { replies = ap (λ a. filter_map reply_of (record x { answer = a } ∷ [])) (sym is); kinds = (refl, tt) })
@@ -92,11 +92,11 @@ module _ (topology : Topology) (fails : ℕ → Bool) (old : List (Option Book))
   abbrev mades : List Pair → List Exchange
   mades = made topology fails old
 
-  replied_one : (d : DeliveryValue) (a : Answer) (repeated : Bool) (entries : List Entry) (outcomes : List Outcome) → IsReplied repeated d a entries outcomes → AreSent (mades (cond repeated [] ((d, a) ∷ []))) entries
+  replied_one : (d : DeliveryValue) (a : Answer) (repeated : Bool) (entries : List Entry) (outcomes : List Fate) → IsReplied repeated d a entries outcomes → AreSent (mades (cond repeated [] ((d, a) ∷ []))) entries
   replied_one d a true entries outcomes goes = sent_none entries goes.0
   replied_one d a false entries outcomes goes = answer_sent (exchange topology fails d a) entries goes.0 a refl goes.2
 
-  replied_all : (n : ℕ) (entries : List Entry) (outcomes : List Outcome) → AreReplied taken answers n entries outcomes → AreSent (mades (firsts (take n taken) (take n answers))) entries
+  replied_all : (n : ℕ) (entries : List Entry) (outcomes : List Fate) → AreReplied taken answers n entries outcomes → AreSent (mades (firsts (take n taken) (take n answers))) entries
   replied_all zero entries outcomes goes = sent_none entries goes.0
   replied_all (suc n) entries outcomes goes =
       let one = goes.other in

@@ -15,7 +15,7 @@ use Rattle.bindings_v4.specs.Slots4 as slots4
 use Rattle.bindings_v6.proofs.ShownBook as six_shown
 use Rattle.bindings_v6.specs.Slots6 as slots6
 use Rattle.config.specs.CircuitPart.{CircuitPart}
-use Rattle.circuit_server.specs.CircuitServerValue.{HasPools, OpenCircuitValue, book_of, open_book}
+use Rattle.circuit_server.specs.CircuitServerValue.{HasPools, OpenCircuitValue, server_book, open_book}
 use Rattle.circuit_server.specs.SlotsOfPools.{HasItsSlots, HasSlotsOfPools}
 use Rattle.circuit_server.specs.Server.{Book}
 use Rattle.dispatch.specs.ServerValue.{ServerValue, circuits_in, with_states}
@@ -42,7 +42,7 @@ module _ (part : CircuitPart) (o : OpenCircuitValue) (four : slots4.AreSlots o.f
     by : Between (number6 (record { 0 = part.first6 })) part.count6 a → IsInPool part V6 a
     by p = record { from = p.0; below = p.1 }
 
-  pooled4 : IsPooled4 part (slots4.book_of o.clock o.four)
+  pooled4 : IsPooled4 part (slots4.book4_of o.clock o.four)
   pooled4 =
       let first = number4 o.four.pool.first in
       later4 part o.clock (slots4.book_of_slots first o.four.slots) (record {
@@ -50,7 +50,7 @@ module _ (part : CircuitPart) (o : OpenCircuitValue) (four : slots4.AreSlots o.f
         offers = leases_inside key4_is_key (IsInPool part V4) offered_to first o.four.pool.count o.four.slots in_pool4 (λ i past. ap offered_to (past_end o.four.slots o.four.pool.count four.size i past));
       })
 
-  pooled6 : IsPooled6 part (slots6.book_of o.clock o.six)
+  pooled6 : IsPooled6 part (slots6.book6_of o.clock o.six)
   pooled6 =
       let first = number6 o.six.pool.first in
       later6 part o.clock (slots6.book_of_slots first o.six.slots)
@@ -67,7 +67,7 @@ module _ (part : CircuitPart) (o : OpenCircuitValue) (four : slots4.AreSlots o.f
 -- ---- of a server's circuit
 
 book_at_index : (parts : List CircuitPart) (states : List (Option OpenCircuitValue)) (c : ℕ) (part : CircuitPart) → slice_get parts c ≡ Some part
-    → slice_get (map book_of (with_states parts states)) c ≡ Some (option_map open_book (slice_index_or states c None))
+    → slice_get (map server_book (with_states parts states)) c ≡ Some (option_map open_book (slice_index_or states c None))
 book_at_index [] states c part there = absurd cc
 book_at_index (p ∷ parts) [] zero part there = refl
 book_at_index (p ∷ parts) (state ∷ states) zero part there = refl

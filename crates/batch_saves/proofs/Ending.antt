@@ -105,21 +105,21 @@ module _ (tells : Bool) (p : Saving) (s : Seen) (given : tells ≡ true → IsGi
   -- what is left, where the k-th call failed, or none
   pub record Ends (shared k : ℕ) (new : Seen) : Type 0 where
     pub most : k ≤ 6
-    pub failed : tells ≡ true → k ≡ first_of (effective 6 s.fuse) shared
-    pub fuse : tells ≡ true → new.fuse ≡ s.fuse - (if k == 0 then 6 else k)
+    pub failed : tells ≡ true → k ≡ first_of (effective 6 s.failing_call) shared
+    pub failing_call : tells ≡ true → new.failing_call ≡ s.failing_call - (if k == 0 then 6 else k)
     pub failures : new.failures ≡ s.failures + (if k == 0 then 0 else 1)
     pub left : tells ≡ true → k ≢ 0 → IsSaveOf k p.clock p.slot p.content p.marks p.marks s.region new.region
     pub done : tells ≡ true → k ≡ 0 → p.slot < length p.marks.slots → IsSaveOf 0 p.clock p.slot p.content p.marks (marks_after p.marks p.slot) s.region new.region
 
   -- a call of the first step failed
   closing : (shared k : ℕ) (new : Seen) → 1 ≤ k → k ≤ 2
-      → (tells ≡ true → k ≡ first_of (effective 6 s.fuse) shared) → (tells ≡ true → new.fuse ≡ s.fuse - k) → new.failures ≡ s.failures + 1
+      → (tells ≡ true → k ≡ first_of (effective 6 s.failing_call) shared) → (tells ≡ true → new.failing_call ≡ s.failing_call - k) → new.failures ≡ s.failures + 1
       → (tells ≡ true → IsTorn (place_in Close (change_of p)) (length (bytes_in Close (change_of p))) s.region new.region)
       → (tells ≡ true → k ≡ 2 → new.region ≡ written (place_in Close (change_of p)) (bytes_in Close (change_of p)) s.region) → Ends shared k new
-  closing shared k new least most failed fuse failures torn reads = record {
+  closing shared k new least most failed failing_call failures torn reads = record {
     most = omega (arith, most);
     failed = failed;
-    fuse = λ t. fuse t ∙ calls k s.fuse least;
+    failing_call = λ t. failing_call t ∙ calls k s.failing_call least;
     failures = failures ∙ counted k s.failures least;
     left = λ t some. save_closing p.slot p.marks (gate_at p.slot (mark_at p.marks p.slot)) (next (mark_at p.marks p.slot).sequence) p.clock p.content (saved_half (mark_at p.marks p.slot) p.clock p.content) (drop 1 (saved_half (mark_at p.marks p.slot) p.clock p.content)) s.region
         (is_save t) k new.region some (grind (arith, least, most)) (torn t) (reads t);
@@ -128,14 +128,14 @@ module _ (tells : Bool) (p : Saving) (s : Seen) (given : tells ≡ true → IsGi
 
   -- a call of the second
   filling : (shared k : ℕ) (mid new : Seen) → 3 ≤ k → k ≤ 4
-      → (tells ≡ true → k ≡ first_of (effective 6 s.fuse) shared) → (tells ≡ true → new.fuse ≡ s.fuse - k) → new.failures ≡ s.failures + 1
+      → (tells ≡ true → k ≡ first_of (effective 6 s.failing_call) shared) → (tells ≡ true → new.failing_call ≡ s.failing_call - k) → new.failures ≡ s.failures + 1
       → (tells ≡ true → mid.region ≡ synced (written (place_in Close (change_of p)) (bytes_in Close (change_of p)) s.region))
       → (tells ≡ true → IsTorn (place_in Fill (change_of p)) (length (bytes_in Fill (change_of p))) mid.region new.region)
       → (tells ≡ true → k ≡ 4 → new.region ≡ written (place_in Fill (change_of p)) (bytes_in Fill (change_of p)) mid.region) → Ends shared k new
-  filling shared k mid new least most failed fuse failures closed torn reads = record {
+  filling shared k mid new least most failed failing_call failures closed torn reads = record {
     most = omega (arith, most);
     failed = failed;
-    fuse = λ t. fuse t ∙ calls k s.fuse (omega (arith, least));
+    failing_call = λ t. failing_call t ∙ calls k s.failing_call (omega (arith, least));
     failures = failures ∙ counted k s.failures (omega (arith, least));
     left = λ t some. save_writing p.slot p.marks (gate_at p.slot (mark_at p.marks p.slot)) (next (mark_at p.marks p.slot).sequence) p.clock p.content (saved_half (mark_at p.marks p.slot) p.clock p.content) (drop 1 (saved_half (mark_at p.marks p.slot) p.clock p.content)) s.region
         (is_save t) mid.region (closed t) k (k - 2) new.region some refl (grind (arith, least, most)) (torn t) (λ two. reads t (omega (arith, two, least)));
@@ -144,15 +144,15 @@ module _ (tells : Bool) (p : Saving) (s : Seen) (given : tells ≡ true → IsGi
 
   -- a call of the third
   opening : (shared k : ℕ) (mid full new : Seen) → 5 ≤ k → k ≤ 6
-      → (tells ≡ true → k ≡ first_of (effective 6 s.fuse) shared) → (tells ≡ true → new.fuse ≡ s.fuse - k) → new.failures ≡ s.failures + 1
+      → (tells ≡ true → k ≡ first_of (effective 6 s.failing_call) shared) → (tells ≡ true → new.failing_call ≡ s.failing_call - k) → new.failures ≡ s.failures + 1
       → (tells ≡ true → mid.region ≡ synced (written (place_in Close (change_of p)) (bytes_in Close (change_of p)) s.region))
       → (tells ≡ true → full.region ≡ synced (written (place_in Fill (change_of p)) (bytes_in Fill (change_of p)) mid.region))
       → (tells ≡ true → IsTorn (place_in Open (change_of p)) 1 full.region new.region)
       → (tells ≡ true → k ≡ 6 → new.region ≡ written (place_in Open (change_of p)) (bytes_in Open (change_of p)) full.region) → Ends shared k new
-  opening shared k mid full new least most failed fuse failures closed filled torn reads = record {
+  opening shared k mid full new least most failed failing_call failures closed filled torn reads = record {
     most = most;
     failed = failed;
-    fuse = λ t. fuse t ∙ calls k s.fuse (omega (arith, least));
+    failing_call = λ t. failing_call t ∙ calls k s.failing_call (omega (arith, least));
     failures = failures ∙ counted k s.failures (omega (arith, least));
     left = λ t some. save_opening p.slot p.marks (gate_at p.slot (mark_at p.marks p.slot)) (next (mark_at p.marks p.slot).sequence) p.clock p.content (saved_half (mark_at p.marks p.slot) p.clock p.content) (drop 1 (saved_half (mark_at p.marks p.slot) p.clock p.content)) s.region
         (is_save t) mid.region (closed t) full.region (filled t) k (k - 2) (k - 2 - 2) new.region some refl refl (grind (arith, least, most)) (torn t) (λ two. reads t (omega (arith, two, least)));
@@ -161,14 +161,14 @@ module _ (tells : Bool) (p : Saving) (s : Seen) (given : tells ≡ true → IsGi
 
   -- none failed
   saving : (shared : ℕ) (mid full new : Seen)
-      → (tells ≡ true → 0 ≡ first_of (effective 6 s.fuse) shared) → (tells ≡ true → new.fuse ≡ s.fuse - 6) → new.failures ≡ s.failures
+      → (tells ≡ true → 0 ≡ first_of (effective 6 s.failing_call) shared) → (tells ≡ true → new.failing_call ≡ s.failing_call - 6) → new.failures ≡ s.failures
       → (tells ≡ true → mid.region ≡ synced (written (place_in Close (change_of p)) (bytes_in Close (change_of p)) s.region))
       → (tells ≡ true → full.region ≡ synced (written (place_in Fill (change_of p)) (bytes_in Fill (change_of p)) mid.region))
       → (tells ≡ true → new.region ≡ synced (written (place_in Open (change_of p)) (bytes_in Open (change_of p)) full.region)) → Ends shared 0 new
-  saving shared mid full new failed fuse failures closed filled opened = record {
+  saving shared mid full new failed failing_call failures closed filled opened = record {
     most = omega arith;
     failed = failed;
-    fuse = fuse;
+    failing_call = failing_call;
     failures = omega (arith, failures);
     left = λ t some. absurd (some refl);
     done = λ t zero there. save_done p.slot p.marks (gate_at p.slot (mark_at p.marks p.slot)) (next (mark_at p.marks p.slot).sequence) p.clock p.content (saved_half (mark_at p.marks p.slot) p.clock p.content) (drop 1 (saved_half (mark_at p.marks p.slot) p.clock p.content)) s.region
@@ -179,10 +179,10 @@ module _ (tells : Bool) (p : Saving) (s : Seen) (given : tells ≡ true → IsGi
 
   module _ (b1 b2 b3 : Bool) (f0 f1 f2 f3 : ℕ) (s1 s2 s3 : Seen) (zero : f0 ≡ 0)
       (pass1 : Pass tells (change_of p) Close b1 f0 f1 s s1) (pass2 : Pass tells (change_of p) Fill b2 f1 f2 s1 s2) (pass3 : Pass tells (change_of p) Open b3 f2 f3 s2 s3)
-      (quiet1 : tells ≡ true → b1 ≡ false → s.fuse ≢ 2) (quiet2 : tells ≡ true → b2 ≡ false → f1 ≡ 0 → s1.fuse ≢ 2) (quiet3 : tells ≡ true → b3 ≡ false → f2 ≡ 0 → s2.fuse ≢ 2) where
-    first_is : (x y z : Bool) → b1 ≡ x → b2 ≡ y → b3 ≡ z → (k : ℕ) → k ≡ first_of (effective 6 s.fuse) (shared_of x y z) → k ≡ first_of (effective 6 s.fuse) (shared_of b1 b2 b3)
+      (quiet1 : tells ≡ true → b1 ≡ false → s.failing_call ≢ 2) (quiet2 : tells ≡ true → b2 ≡ false → f1 ≡ 0 → s1.failing_call ≢ 2) (quiet3 : tells ≡ true → b3 ≡ false → f2 ≡ 0 → s2.failing_call ≢ 2) where
+    first_is : (x y z : Bool) → b1 ≡ x → b2 ≡ y → b3 ≡ z → (k : ℕ) → k ≡ first_of (effective 6 s.failing_call) (shared_of x y z) → k ≡ first_of (effective 6 s.failing_call) (shared_of b1 b2 b3)
     first_is x y z e1 e2 e3 k is =
-        is ∙ sym (ap (λ b. first_of (effective 6 s.fuse) (shared_of b b2 b3)) e1 ∙ ap (λ b. first_of (effective 6 s.fuse) (shared_of x b b3)) e2 ∙ ap (λ b. first_of (effective 6 s.fuse) (shared_of x y b)) e3)
+        is ∙ sym (ap (λ b. first_of (effective 6 s.failing_call) (shared_of b b2 b3)) e1 ∙ ap (λ b. first_of (effective 6 s.failing_call) (shared_of x b b3)) e2 ∙ ap (λ b. first_of (effective 6 s.failing_call) (shared_of x y b)) e3)
 
     ended : (k : ℕ) (t : Seen) (m : ℕ) (u : Seen) → m ≡ k → u ≡ t → Ends (shared_of b1 b2 b3) k t → Ends (shared_of b1 b2 b3) m u
     ended k t m u number place e = subst (λ n. Ends (shared_of b1 b2 b3) n u) (sym number) (subst (λ (x : Seen). Ends (shared_of b1 b2 b3) k x) (sym place) e)
@@ -197,58 +197,58 @@ module _ (tells : Bool) (p : Saving) (s : Seen) (given : tells ≡ true → IsGi
 
     write1 : WriteFailed tells (change_of p) Close f1 s s1 → Ends (shared_of b1 b2 b3) f3 s3
     write1 w = after1 (λ z. absurd (omega (arith, z, w.failed))) (ended 1 s1 f1 s1 w.failed refl
-        (closing (shared_of b1 b2 b3) 1 s1 (omega arith) (omega arith) (λ t. first_1 s.fuse b1 b2 b3 (w.one t)) w.fuse w.failures w.torn (λ t two. absurd (omega (arith, two)))))
+        (closing (shared_of b1 b2 b3) 1 s1 (omega arith) (omega arith) (λ t. first_1 s.failing_call b1 b2 b3 (w.one t)) w.failing_call w.failures w.torn (λ t two. absurd (omega (arith, two)))))
 
     sync1 : SyncFailed tells (change_of p) Close b1 f1 s s1 → Ends (shared_of b1 b2 b3) f3 s3
     sync1 y = after1 (λ z. absurd (omega (arith, z, y.failed))) (ended 2 s1 f1 s1 y.failed refl
-        (closing (shared_of b1 b2 b3) 2 s1 (omega arith) (omega arith) (λ t. first_is true b2 b3 y.does_fail refl refl 2 (first_2 s.fuse b2 b3 (y.other t))) y.fuse y.failures
+        (closing (shared_of b1 b2 b3) 2 s1 (omega arith) (omega arith) (λ t. first_is true b2 b3 y.does_fail refl refl 2 (first_2 s.failing_call b2 b3 (y.other t))) y.failing_call y.failures
         (λ t. torn_written (place_in Close (change_of p)) (bytes_in Close (change_of p)) s.region s1.region (y.region t)) (λ t two. y.region t)))
 
     module _ (x1 : Passed tells (change_of p) Close b1 f1 s s1) where
-      not_2 : tells ≡ true → s.fuse ≢ 2
+      not_2 : tells ≡ true → s.failing_call ≢ 2
       not_2 t = quiet1 t x1.does_not_fail
 
       write2 : WriteFailed tells (change_of p) Fill f2 s1 s2 → Ends (shared_of b1 b2 b3) f3 s3
       write2 w = after2 (λ z. absurd (omega (arith, z, w.failed))) (ended 3 s2 f2 s2 w.failed refl
           (filling (shared_of b1 b2 b3) 3 s1 s2 (omega arith) (omega arith)
-          (λ t. first_is false b2 b3 x1.does_not_fail refl refl 3 (first_3 s.fuse b2 b3 (let a = x1.fuse t in let b = w.one t in omega (arith, a, b))))
-          (λ t. let a = x1.fuse t in let b = w.fuse t in omega (arith, a, b)) (let a = x1.failures in let b = w.failures in omega (arith, a, b)) x1.region w.torn (λ t four. absurd (omega (arith, four)))))
+          (λ t. first_is false b2 b3 x1.does_not_fail refl refl 3 (first_3 s.failing_call b2 b3 (let a = x1.failing_call t in let b = w.one t in omega (arith, a, b))))
+          (λ t. let a = x1.failing_call t in let b = w.failing_call t in omega (arith, a, b)) (let a = x1.failures in let b = w.failures in omega (arith, a, b)) x1.region w.torn (λ t four. absurd (omega (arith, four)))))
 
       sync2 : SyncFailed tells (change_of p) Fill b2 f2 s1 s2 → Ends (shared_of b1 b2 b3) f3 s3
       sync2 y = after2 (λ z. absurd (omega (arith, z, y.failed))) (ended 4 s2 f2 s2 y.failed refl
           (filling (shared_of b1 b2 b3) 4 s1 s2 (omega arith) (omega arith)
-          (λ t. first_is false true b3 x1.does_not_fail y.does_fail refl 4 (first_4 s.fuse (x1.other t) (not_2 t) (λ three. let a = x1.fuse t in y.other t (omega (arith, a, three)))))
-          (λ t. let a = x1.fuse t in let b = y.fuse t in omega (arith, a, b)) (let a = x1.failures in let b = y.failures in omega (arith, a, b)) x1.region
+          (λ t. first_is false true b3 x1.does_not_fail y.does_fail refl 4 (first_4 s.failing_call (x1.other t) (not_2 t) (λ three. let a = x1.failing_call t in y.other t (omega (arith, a, three)))))
+          (λ t. let a = x1.failing_call t in let b = y.failing_call t in omega (arith, a, b)) (let a = x1.failures in let b = y.failures in omega (arith, a, b)) x1.region
           (λ t. torn_written (place_in Fill (change_of p)) (bytes_in Fill (change_of p)) s1.region s2.region (y.region t)) (λ t four. y.region t)))
 
       module _ (x2 : Passed tells (change_of p) Fill b2 f2 s1 s2) where
-        not_3 : tells ≡ true → s.fuse ≢ 3
-        not_3 t three = let a = x1.fuse t in x2.other t (omega (arith, a, three))
+        not_3 : tells ≡ true → s.failing_call ≢ 3
+        not_3 t three = let a = x1.failing_call t in x2.other t (omega (arith, a, three))
 
-        not_4 : tells ≡ true → s.fuse ≢ 4
-        not_4 t four = let a = x1.fuse t in quiet2 t x2.does_not_fail x1.failed (omega (arith, a, four))
+        not_4 : tells ≡ true → s.failing_call ≢ 4
+        not_4 t four = let a = x1.failing_call t in quiet2 t x2.does_not_fail x1.failed (omega (arith, a, four))
 
         write3 : WriteFailed tells (change_of p) Open f3 s2 s3 → Ends (shared_of b1 b2 b3) f3 s3
         write3 w = ended 5 s3 f3 s3 w.failed refl
             (opening (shared_of b1 b2 b3) 5 s1 s2 s3 (omega arith) (omega arith)
-            (λ t. first_is false false b3 x1.does_not_fail x2.does_not_fail refl 5 (first_5 s.fuse b3 (let a = x1.fuse t in let b = x2.fuse t in let d = w.one t in omega (arith, a, b, d))))
-            (λ t. let a = x1.fuse t in let b = x2.fuse t in let d = w.fuse t in omega (arith, a, b, d)) (let a = x1.failures in let b = x2.failures in let d = w.failures in omega (arith, a, b, d)) x1.region x2.region w.torn (λ t six. absurd (omega (arith, six))))
+            (λ t. first_is false false b3 x1.does_not_fail x2.does_not_fail refl 5 (first_5 s.failing_call b3 (let a = x1.failing_call t in let b = x2.failing_call t in let d = w.one t in omega (arith, a, b, d))))
+            (λ t. let a = x1.failing_call t in let b = x2.failing_call t in let d = w.failing_call t in omega (arith, a, b, d)) (let a = x1.failures in let b = x2.failures in let d = w.failures in omega (arith, a, b, d)) x1.region x2.region w.torn (λ t six. absurd (omega (arith, six))))
 
         sync3 : SyncFailed tells (change_of p) Open b3 f3 s2 s3 → Ends (shared_of b1 b2 b3) f3 s3
         sync3 y = ended 6 s3 f3 s3 y.failed refl
             (opening (shared_of b1 b2 b3) 6 s1 s2 s3 (omega arith) (omega arith)
             (λ t. first_is false false true x1.does_not_fail x2.does_not_fail y.does_fail 6
-            (first_6 s.fuse (x1.other t) (not_2 t) (not_3 t) (not_4 t) (λ five. let a = x1.fuse t in let b = x2.fuse t in y.other t (omega (arith, a, b, five)))))
-            (λ t. let a = x1.fuse t in let b = x2.fuse t in let d = y.fuse t in omega (arith, a, b, d)) (let a = x1.failures in let b = x2.failures in let d = y.failures in omega (arith, a, b, d)) x1.region x2.region
+            (first_6 s.failing_call (x1.other t) (not_2 t) (not_3 t) (not_4 t) (λ five. let a = x1.failing_call t in let b = x2.failing_call t in y.other t (omega (arith, a, b, five)))))
+            (λ t. let a = x1.failing_call t in let b = x2.failing_call t in let d = y.failing_call t in omega (arith, a, b, d)) (let a = x1.failures in let b = x2.failures in let d = y.failures in omega (arith, a, b, d)) x1.region x2.region
             (λ t. torn_written (place_in Open (change_of p)) (bytes_in Open (change_of p)) s2.region s3.region (y.region t)) (λ t six. y.region t))
 
         none3 : Passed tells (change_of p) Open b3 f3 s2 s3 → Ends (shared_of b1 b2 b3) f3 s3
         none3 x3 = ended 0 s3 f3 s3 x3.failed refl
             (saving (shared_of b1 b2 b3) s1 s2 s3
             (λ t. first_is false false false x1.does_not_fail x2.does_not_fail x3.does_not_fail 0
-            (first_none s.fuse (x1.other t) (not_2 t) (not_3 t) (not_4 t) (λ five. let a = x1.fuse t in let b = x2.fuse t in x3.other t (omega (arith, a, b, five)))
-            (λ six. let a = x1.fuse t in let b = x2.fuse t in quiet3 t x3.does_not_fail x2.failed (omega (arith, a, b, six)))))
-            (λ t. let a = x1.fuse t in let b = x2.fuse t in let d = x3.fuse t in omega (arith, a, b, d)) (let a = x1.failures in let b = x2.failures in let d = x3.failures in omega (arith, a, b, d)) x1.region x2.region x3.region)
+            (first_none s.failing_call (x1.other t) (not_2 t) (not_3 t) (not_4 t) (λ five. let a = x1.failing_call t in let b = x2.failing_call t in x3.other t (omega (arith, a, b, five)))
+            (λ six. let a = x1.failing_call t in let b = x2.failing_call t in quiet3 t x3.does_not_fail x2.failed (omega (arith, a, b, six)))))
+            (λ t. let a = x1.failing_call t in let b = x2.failing_call t in let d = x3.failing_call t in omega (arith, a, b, d)) (let a = x1.failures in let b = x2.failures in let d = x3.failures in omega (arith, a, b, d)) x1.region x2.region x3.region)
 
         ends3 : Ends (shared_of b1 b2 b3) f3 s3
         ends3 = pass_cases tells (change_of p) Open b3 f2 f3 s2 s3 pass3 x2.failed (Ends (shared_of b1 b2 b3) f3 s3) write3 sync3 none3

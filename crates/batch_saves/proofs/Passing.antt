@@ -21,24 +21,24 @@ module _ (tells : Bool) (c : Change) where
   pub record WriteFailed (step : SaveStep) (now : ℕ) (old new : Seen) : Type 0 where
     pub failed : now ≡ call_of step
     pub torn : tells ≡ true → IsTorn (place_in step c) (length (bytes_in step c)) old.region new.region
-    pub one : tells ≡ true → old.fuse ≡ 1
-    pub fuse : tells ≡ true → new.fuse ≡ old.fuse - 1
+    pub one : tells ≡ true → old.failing_call ≡ 1
+    pub failing_call : tells ≡ true → new.failing_call ≡ old.failing_call - 1
     pub failures : new.failures ≡ old.failures + 1
 
   pub record SyncFailed (step : SaveStep) (fails : Bool) (now : ℕ) (old new : Seen) : Type 0 where
     pub failed : now ≡ call_of step + 1
     pub does_fail : fails ≡ true
     pub region : tells ≡ true → new.region ≡ written (place_in step c) (bytes_in step c) old.region
-    pub other : tells ≡ true → old.fuse ≢ 1
-    pub fuse : tells ≡ true → new.fuse ≡ old.fuse - 2
+    pub other : tells ≡ true → old.failing_call ≢ 1
+    pub failing_call : tells ≡ true → new.failing_call ≡ old.failing_call - 2
     pub failures : new.failures ≡ old.failures + 1
 
   pub record Passed (step : SaveStep) (fails : Bool) (now : ℕ) (old new : Seen) : Type 0 where
     pub failed : now ≡ 0
     pub does_not_fail : fails ≡ false
     pub region : tells ≡ true → new.region ≡ synced (written (place_in step c) (bytes_in step c) old.region)
-    pub other : tells ≡ true → old.fuse ≢ 1
-    pub fuse : tells ≡ true → new.fuse ≡ old.fuse - 2
+    pub other : tells ≡ true → old.failing_call ≢ 1
+    pub failing_call : tells ≡ true → new.failing_call ≡ old.failing_call - 2
     pub failures : new.failures ≡ old.failures
 
   -- one that failed before is left alone
@@ -56,7 +56,7 @@ module _ (tells : Bool) (c : Change) where
       does_fail = is;
       region = λ t. y.region t ∙ w.ok t refl;
       other = λ t one. let answer = w.answer t in absurd (grind (arith, answer, one));
-      fuse = λ t. let a = y.fuse t in let b = w.fuse t in omega (arith, a, b);
+      failing_call = λ t. let a = y.failing_call t in let b = w.failing_call t in omega (arith, a, b);
       failures = y.failures ∙ ap (λ n. n + 1) w.failures;
     })
     by_sync false is w y = on_none (record {
@@ -64,7 +64,7 @@ module _ (tells : Bool) (c : Change) where
       does_not_fail = is;
       region = λ t. y.region t ∙ ap synced (w.ok t refl);
       other = λ t one. let answer = w.answer t in absurd (grind (arith, answer, one));
-      fuse = λ t. let a = y.fuse t in let b = w.fuse t in omega (arith, a, b);
+      failing_call = λ t. let a = y.failing_call t in let b = w.failing_call t in omega (arith, a, b);
       failures = y.failures ∙ w.failures;
     })
 
@@ -75,7 +75,7 @@ module _ (tells : Bool) (c : Change) where
           failed = rest.0 ∙ w.failed;
           torn = λ t. subst (λ (s : Seen). IsTorn (place_in step c) (length (bytes_in step c)) old.region s.region) (sym rest.1) (w.err t refl);
           one = λ t. let answer = w.answer t in grind (arith, answer);
-          fuse = λ t. ap (λ (s : Seen). s.fuse) rest.1 ∙ w.fuse t;
+          failing_call = λ t. ap (λ (s : Seen). s.failing_call) rest.1 ∙ w.failing_call t;
           failures = ap (λ (s : Seen). s.failures) rest.1 ∙ w.failures;
         })
     by_write false w = by_sync fails refl w (pass.sync.still w.failed)

@@ -80,23 +80,23 @@ module _ (tells : Bool) (step : SaveStep) (was mid now : List Saving) (old betwe
         sync = subst (λ r. IsSyncOf tells step synced.fails (part_at mid i).failed (part_at now i).failed (seen tells between r) (seen tells new r)) (region_is i below) second.sync;
       }
 
-  -- the fuse before the write, of a part that is still saving after it
-  cause_at : (i : ℕ) → i < length was → tells ≡ true → (part_at mid i).failed ≡ 0 → (seen tells between (part_at mid i).region).fuse ≡ 1
-      → (i : ℕ) × ((i < length was) × ((part_at was i).failed ≡ 0) × ((seen tells old (part_at was i).region).fuse ≡ 2))
+  -- the failing_call before the write, of a part that is still saving after it
+  cause_at : (i : ℕ) → i < length was → tells ≡ true → (part_at mid i).failed ≡ 0 → (seen tells between (part_at mid i).region).failing_call ≡ 1
+      → (i : ℕ) × ((i < length was) × ((part_at was i).failed ≡ 0) × ((seen tells old (part_at was i).region).failing_call ≡ 2))
   cause_at i below t zero one =
       let first = (written i below).write in
       let before = was_saving tells step (change_of (part_at was i)) (part_at was i).failed (part_at mid i).failed (seen tells old (part_at was i).region) (seen tells between (part_at was i).region) first zero in
-      let burnt = (first.still before).1.fuse t in
-      let is : (seen tells between (part_at was i).region).fuse ≡ 1 = sym (ap (λ r. (seen tells between r).fuse) (region_is i below)) ∙ one in
+      let burnt = (first.still before).1.failing_call t in
+      let is : (seen tells between (part_at was i).region).failing_call ≡ 1 = sym (ap (λ r. (seen tells between r).failing_call) (region_is i below)) ∙ one in
       (i, (below, before, omega (arith, burnt, is)))
 
-  quiet_at : (i : ℕ) → i < length was → tells ≡ true → (part_at was i).failed ≡ 0 → (seen tells old (part_at was i).region).fuse ≡ 2
-      → ((part_at mid i).failed ≡ 0 → (seen tells between (part_at mid i).region).fuse ≢ 1) → ⊥
+  quiet_at : (i : ℕ) → i < length was → tells ≡ true → (part_at was i).failed ≡ 0 → (seen tells old (part_at was i).region).failing_call ≡ 2
+      → ((part_at mid i).failed ≡ 0 → (seen tells between (part_at mid i).region).failing_call ≢ 1) → ⊥
   quiet_at i below t zero two none =
       let write = (written i below).write.still zero in
       let fine : write.0 ≡ false = write.1.answer t ∙ ap (λ n. n == 1) two in
       let after : (part_at mid i).failed ≡ 0 = write.1.failed ∙ ap (λ b. if b then call_of step else 0) fine in
-      none after (ap (λ r. (seen tells between r).fuse) (region_is i below) ∙ write.1.fuse t ∙ ap (λ n. n - 1) two)
+      none after (ap (λ r. (seen tells between r).failing_call) (region_is i below) ∙ write.1.failing_call t ∙ ap (λ n. n - 1) two)
 
   pub stepped : AreStepped tells step was now old new
   stepped = record {

@@ -55,20 +55,20 @@ pub seen_region : (tells : Bool) (device : Device) (r : ℕ) → tells ≡ true 
 seen_region true device r t = refl
 seen_region false device r t = absurd cc
 
-pub seen_fuse : (tells : Bool) (device : Device) (r : ℕ) → tells ≡ true → (seen tells device r).fuse ≡ device.fuse r
-seen_fuse true device r t = refl
-seen_fuse false device r t = absurd cc
+pub seen_failing_call : (tells : Bool) (device : Device) (r : ℕ) → tells ≡ true → (seen tells device r).failing_call ≡ device.failing_call r
+seen_failing_call true device r t = refl
+seen_failing_call false device r t = absurd cc
 
 pub seen_failures : (tells : Bool) (device : Device) (r : ℕ) → (seen tells device r).failures ≡ device.failures r
 seen_failures true device r = refl
 seen_failures false device r = refl
 
-pub seen_kept : (tells : Bool) (old new : Device) (r : ℕ) → (tells ≡ true → new.region r ≡ old.region r) → (tells ≡ true → new.fuse r ≡ old.fuse r) → new.failures r ≡ old.failures r
+pub seen_kept : (tells : Bool) (old new : Device) (r : ℕ) → (tells ≡ true → new.region r ≡ old.region r) → (tells ≡ true → new.failing_call r ≡ old.failing_call r) → new.failures r ≡ old.failures r
     → seen tells new r ≡ seen tells old r
-seen_kept true old new r region fuse failures = made (new.region r) (old.region r) (new.fuse r) (old.fuse r) (new.failures r) (old.failures r) (region refl) (fuse refl) failures where
-  made : (a b : Region) (m n x y : ℕ) → a ≡ b → m ≡ n → x ≡ y → ◌≡◌ {A = Seen} (record { region = a; fuse = m; failures = x }) (record { region = b; fuse = n; failures = y })
+seen_kept true old new r region failing_call failures = made (new.region r) (old.region r) (new.failing_call r) (old.failing_call r) (new.failures r) (old.failures r) (region refl) (failing_call refl) failures where
+  made : (a b : Region) (m n x y : ℕ) → a ≡ b → m ≡ n → x ≡ y → ◌≡◌ {A = Seen} (record { region = a; failing_call = m; failures = x }) (record { region = b; failing_call = n; failures = y })
   made a b m n x y e f g = rw (e, f, g) refl
-seen_kept false old new r region fuse failures = ap (λ n. record { region = unknown; fuse = 0; failures = n }) failures
+seen_kept false old new r region failing_call failures = ap (λ n. record { region = unknown; failing_call = 0; failures = n }) failures
 
 -- ---- what the sync leaves of each part's region
 
@@ -89,7 +89,7 @@ none_saving parts regions saving none = none_passes is_saving parts (λ i within
 
 module _ (tells : Bool) (step : SaveStep) (fails : Bool) (parts : List Saving) (regions : List ℕ) (saving : AreSaving parts regions) (apart : AreApart parts) (old new : Device)
     (region : tells ≡ true → (r : ℕ) → is_in regions r ≡ true → new.region r ≡ (if fails then old.region r else synced (old.region r)))
-    (fuse : tells ≡ true → (r : ℕ) → is_in regions r ≡ true → new.fuse r ≡ old.fuse r - 1)
+    (failing_call : tells ≡ true → (r : ℕ) → is_in regions r ≡ true → new.failing_call r ≡ old.failing_call r - 1)
     (frame : TouchesAll tells regions old new)
     (failures : new.failures ≡ (if fails then (λ q. if is_in regions q then old.failures q + 1 else old.failures q) else old.failures)) where
   not_in : (i : ℕ) → i < length parts → (part_at parts i).failed ≢ 0 → is_in regions (part_at parts i).region ≡ false
@@ -114,13 +114,13 @@ module _ (tells : Bool) (step : SaveStep) (fails : Bool) (parts : List Saving) (
   same_if false n = refl
 
   pub synced_out : (q : ℕ) → is_in regions q ≡ false → seen tells new q ≡ seen tells old q
-  synced_out q outside = seen_kept tells old new q (λ t. frame.region t q outside) (λ t. frame.fuse t q outside) (count q false outside ∙ same_if fails (old.failures q))
+  synced_out q outside = seen_kept tells old new q (λ t. frame.region t q outside) (λ t. frame.failing_call t q outside) (count q false outside ∙ same_if fails (old.failures q))
 
   pub synced_in : (q : ℕ) → is_in regions q ≡ true → IsSyncPart tells step fails (if fails then call_of step + 1 else 0) (seen tells old q) (seen tells new q)
   synced_in q inside = record {
     failed = refl;
     region = λ t. seen_region tells new q t ∙ region t q inside ∙ sym (ap (λ r. if fails then r else synced r) (seen_region tells old q t));
-    fuse = λ t. seen_fuse tells new q t ∙ fuse t q inside ∙ sym (ap (λ n. n - 1) (seen_fuse tells old q t));
+    failing_call = λ t. seen_failing_call tells new q t ∙ failing_call t q inside ∙ sym (ap (λ n. n - 1) (seen_failing_call tells old q t));
     failures = seen_failures tells new q ∙ count q true inside ∙ sym (ap (λ n. if fails then n + 1 else n) (seen_failures tells old q));
   }
 

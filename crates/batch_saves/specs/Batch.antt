@@ -1,7 +1,7 @@
 -- Slots of different regions that are saved together, and which of its calls fails for each.
 use Rattle.std.specs.Prelude.{◌≡◌, ◌≢◌, ℕ, ◌+◌, ◌-◌, ◌==◌, ◌<◌, ◌≤◌, min, Bool, true, ◌||◌, nat_le, if◌then◌else◌, List, [], length, map, slice_index_or}
 use Rattle.std.specs.List.{count_by, list_any}
-use Rattle.types.specs.declared.slots.Slot6.TheVariants as S6
+use Rattle.types.specs.declared.slot6.Slot6.TheVariants as S6
 use Rattle.lease_disk.specs.declared.content.Content.TheVariants.{Six}
 use Rattle.lease_disk.specs.declared.saving.Saving.{Saving}
 use Rattle.lease_disk.specs.Device.{Device}
@@ -26,7 +26,7 @@ AreApart parts = (i j : ℕ) → i < j → j < length parts → (part_at parts i
 
 -- which shared sync fails, none where it is 0: the first that is the failing call of one of the regions
 abbrev pub shared_fault : List ℕ → ℕ
-shared_fault fuses = if list_any (λ f. f == 2) fuses then 2 else if list_any (λ f. f == 4) fuses then 4 else if list_any (λ f. f == 6) fuses then 6 else 0
+shared_fault failing_calls = if list_any (λ f. f == 2) failing_calls then 2 else if list_any (λ f. f == 4) failing_calls then 4 else if list_any (λ f. f == 6) failing_calls then 6 else 0
 
 -- the first of two calls, each 0 for none
 abbrev pub first_of : ℕ → ℕ → ℕ
@@ -56,8 +56,8 @@ is_write_fault f = f == 0 || f == 1 || f == 3 || f == 5
 abbrev pub is_sync_fault : ℕ → Bool
 is_sync_fault f = f == 0 || f == 2 || f == 4 || f == 6
 
-abbrev pub fuses_of : Device → List Saving → List ℕ
-fuses_of device parts = map (λ p. device.fuse p.region) parts
+abbrev pub failing_calls_of : Device → List Saving → List ℕ
+failing_calls_of device parts = map (λ p. device.failing_call p.region) parts
 
 -- what a part has to be before its batch is saved
 pub record IsReady (tells : Bool) (device : Device) (p : Saving) : Type 0 where
@@ -72,9 +72,9 @@ AreReady tells device parts = (i : ℕ) → i < length parts → IsReady tells d
 -- region follows it.
 pub record IsSavedPart (tells : Bool) (shared : ℕ) (was now : Saving) (old new : Device) : Type 0 where
   pub part : now ≡ record was { marks = now.marks; failed = now.failed }
-  pub failed : tells ≡ true → now.failed ≡ first_of (effective 6 (old.fuse was.region)) shared
+  pub failed : tells ≡ true → now.failed ≡ first_of (effective 6 (old.failing_call was.region)) shared
   pub most : now.failed ≤ 6
   pub saved : tells ≡ true → IsSaveOf now.failed was.clock was.slot was.content was.marks now.marks (old.region was.region) (new.region was.region)
-  pub fuse : tells ≡ true → new.fuse was.region ≡ old.fuse was.region - (if now.failed == 0 then 6 else now.failed)
+  pub failing_call : tells ≡ true → new.failing_call was.region ≡ old.failing_call was.region - (if now.failed == 0 then 6 else now.failed)
   pub kept : now.failed ≢ 0 → now.marks ≡ was.marks
   pub failures : new.failures was.region ≡ old.failures was.region + (if now.failed == 0 then 0 else 1)

@@ -40,8 +40,8 @@ pub record IsWritePart (tells : Bool) (step : SaveStep) (c : Change) (fails : Bo
   pub failed : now ≡ (if fails then call_of step else 0)
   pub ok : tells ≡ true → fails ≡ false → new.region ≡ written (place_in step c) (bytes_in step c) old.region
   pub err : tells ≡ true → fails ≡ true → IsTorn (place_in step c) (length (bytes_in step c)) old.region new.region
-  pub answer : tells ≡ true → fails ≡ (old.fuse == 1)
-  pub fuse : tells ≡ true → new.fuse ≡ old.fuse - 1
+  pub answer : tells ≡ true → fails ≡ (old.failing_call == 1)
+  pub failing_call : tells ≡ true → new.failing_call ≡ old.failing_call - 1
   pub failures : new.failures ≡ (if fails then old.failures + 1 else old.failures)
   pub key : HasKey c.content
   pub clock : c.clock ≤ 1099511627775
@@ -51,7 +51,7 @@ pub record IsWritePart (tells : Bool) (step : SaveStep) (c : Change) (fails : Bo
 pub record IsSyncPart (tells : Bool) (step : SaveStep) (fails : Bool) (now : ℕ) (old new : Seen) : Type 0 where
   pub failed : now ≡ (if fails then call_of step + 1 else 0)
   pub region : tells ≡ true → new.region ≡ (if fails then old.region else synced old.region)
-  pub fuse : tells ≡ true → new.fuse ≡ old.fuse - 1
+  pub failing_call : tells ≡ true → new.failing_call ≡ old.failing_call - 1
   pub failures : new.failures ≡ (if fails then old.failures + 1 else old.failures)
 
 -- the write of a step: of a part that failed before nothing
@@ -93,8 +93,8 @@ AreWritten tells step was now old new = (i : ℕ) → i < length was → IsWritt
 pub record AreSynced (tells : Bool) (step : SaveStep) (was now : List Saving) (old new : Device) : Type 0 where
   pub fails : Bool
   pub parts : (i : ℕ) → i < length was → IsSyncedPart tells step fails (part_at was i) (part_at now i) (seen tells old (part_at was i).region) (seen tells new (part_at was i).region)
-  pub cause : tells ≡ true → fails ≡ true → (i : ℕ) × ((i < length was) × ((part_at was i).failed ≡ 0) × ((seen tells old (part_at was i).region).fuse ≡ 1))
-  pub quiet : tells ≡ true → fails ≡ false → (i : ℕ) → i < length was → (part_at was i).failed ≡ 0 → (seen tells old (part_at was i).region).fuse ≢ 1
+  pub cause : tells ≡ true → fails ≡ true → (i : ℕ) × ((i < length was) × ((part_at was i).failed ≡ 0) × ((seen tells old (part_at was i).region).failing_call ≡ 1))
+  pub quiet : tells ≡ true → fails ≡ false → (i : ℕ) → i < length was → (part_at was i).failed ≡ 0 → (seen tells old (part_at was i).region).failing_call ≢ 1
 
 -- what a whole step makes of one part: a write, then the sync
 pub record IsSteppedPart (tells : Bool) (step : SaveStep) (fails : Bool) (was now : Saving) (old new : Seen) : Type 0 where
@@ -110,8 +110,8 @@ pub record IsSteppedPart (tells : Bool) (step : SaveStep) (fails : Bool) (was no
 pub record AreStepped (tells : Bool) (step : SaveStep) (was now : List Saving) (old new : Device) : Type 0 where
   pub fails : Bool
   pub parts : (i : ℕ) → i < length was → IsSteppedPart tells step fails (part_at was i) (part_at now i) (seen tells old (part_at was i).region) (seen tells new (part_at was i).region)
-  pub cause : tells ≡ true → fails ≡ true → (i : ℕ) × ((i < length was) × ((part_at was i).failed ≡ 0) × ((seen tells old (part_at was i).region).fuse ≡ 2))
-  pub quiet : tells ≡ true → fails ≡ false → (i : ℕ) → i < length was → (part_at was i).failed ≡ 0 → (seen tells old (part_at was i).region).fuse ≢ 2
+  pub cause : tells ≡ true → fails ≡ true → (i : ℕ) × ((i < length was) × ((part_at was i).failed ≡ 0) × ((seen tells old (part_at was i).region).failing_call ≡ 2))
+  pub quiet : tells ≡ true → fails ≡ false → (i : ℕ) → i < length was → (part_at was i).failed ≡ 0 → (seen tells old (part_at was i).region).failing_call ≢ 2
 
 -- what the writes of a step need of the parts, on a device with so many regions
 abbrev pub AreWritable : Bool → ℕ → List Saving → Type 0

@@ -2,7 +2,7 @@
 ghost use Rattle.std.specs.Prelude.{◌≡◌, ℕ, ◌<◌, ◌≤◌, ◌+◌, false, length};
 ghost use Rattle.lease_disk.specs.Device.{TouchesAll, is_in};
 ghost use Rattle.batch_saves.specs.Batch.{AreApart, AreReady, IsSavedPart};
-ghost use Rattle.batch_saves.specs.Batch.{batch_calls, failed_of, fuses_of, part_at, regions_of, shared_fault};
+ghost use Rattle.batch_saves.specs.Batch.{batch_calls, failed_of, failing_calls_of, part_at, regions_of, shared_fault};
 ghost use Rattle.batch_saves.specs.Steps.{IsTurned};
 
 use crate::steps::make_step;
@@ -38,7 +38,7 @@ pub fn save_many<D: Disk>(parts: &mut [Saving], disk: &mut D)
     requires apart { AreApart parts.old }
     requires ready { AreReady D.tells (D.device disk.old) parts.old }
     ensures parts { (i : ℕ) → i < length parts.old
-        → IsSavedPart D.tells (shared_fault (fuses_of (D.device disk.old) parts.old))
+        → IsSavedPart D.tells (shared_fault (failing_calls_of (D.device disk.old) parts.old))
         (part_at parts.old i) (part_at parts.new i) (D.device disk.old) (D.device disk.new) }
     ensures frame { TouchesAll D.tells (regions_of parts.old) (D.device disk.old) (D.device disk.new) }
     ensures others { (q : ℕ) → is_in (regions_of parts.old) q ≡ false → (D.device disk.new).failures q ≡ (D.device disk.old).failures q }

@@ -18,7 +18,7 @@ use Rattle.slots.proofs.ShownLemmas.{live_slots, distinct_live, bound_sort, offe
 use Rattle.types.specs.Addr.{number4}
 use Rattle.types.specs.Pool4.{PoolValue}
 use Rattle.bindings_v4.specs.Book4.{Book4, is_free, lowest_free, where_free, pick}
-use Rattle.bindings_v4.specs.Slots4.{Holders4, PoolSlots, book_of_slots, book_of, AreSlots}
+use Rattle.bindings_v4.specs.Slots4.{Holders4, PoolSlots, book_of_slots, book4_of, AreSlots}
 use Rattle.bindings_v4.proofs.ShownLemmas.{shown}
 
 -- the slot for a client
@@ -98,33 +98,33 @@ module _ (pool : PoolValue) (t : ℕ) (ss : Holders4) (are : AreSlots pool ss) w
 -- ---- of a book at a clock
 
 pub pick_is : (v : PoolSlots) (t : ℕ) (k : List ℕ) (wanted : Option ℕ) → AreSlots v.pool v.slots
-    → pick v.pool (book_of t v) k wanted ≡ from (number4 v.pool.first) (picked t v.pool v.slots k wanted)
+    → pick v.pool (book4_of t v) k wanted ≡ from (number4 v.pool.first) (picked t v.pool v.slots k wanted)
 pick_is v t k wanted are =
     ap (λ b. pick v.pool b k wanted) (shown (number4 v.pool.first) t v.slots are.distinct) ∙ pick_of_live v.pool t v.slots are k wanted
 
 pub bound_is : (v : PoolSlots) (t : ℕ) (k : List ℕ) → AreSlots v.pool v.slots
-    → address_of (get (book_of t v).bindings k) ≡ from (number4 v.pool.first) (position (is_bound_to bytes_eq t k) v.slots)
+    → address_of (get (book4_of t v).bindings k) ≡ from (number4 v.pool.first) (position (is_bound_to bytes_eq t k) v.slots)
 bound_is v t k are =
     ap (λ b. address_of (get b.bindings k)) (shown (number4 v.pool.first) t v.slots are.distinct) ∙ binding_is key4_is_key t k (number4 v.pool.first) v.slots
 
 pub offered_is : (v : PoolSlots) (t : ℕ) (k : List ℕ) → AreSlots v.pool v.slots
-    → address_of (get (book_of t v).offers k) ≡ from (number4 v.pool.first) (position (is_offered_to bytes_eq t k) v.slots)
+    → address_of (get (book4_of t v).offers k) ≡ from (number4 v.pool.first) (position (is_offered_to bytes_eq t k) v.slots)
 offered_is v t k are =
     ap (λ b. address_of (get b.offers k)) (shown (number4 v.pool.first) t v.slots are.distinct) ∙ offer_is key4_is_key t k (number4 v.pool.first) v.slots
 
 -- ---- for the code, whose slots and clock are a copy
 
 pub bound_found : (v : PoolSlots) (t : ℕ) (k : List ℕ) → AreSlots v.pool v.slots → (ss : Holders4) (now : ℕ) (o : Option ℕ) → ss ≡ v.slots → now ≡ t → o ≡ position (is_bound_to bytes_eq now k) ss
-    → from (number4 v.pool.first) o ≡ address_of (get (book_of t v).bindings k)
+    → from (number4 v.pool.first) o ≡ address_of (get (book4_of t v).bindings k)
 bound_found v t k are ss now o same clock e =
     ap (from (number4 v.pool.first)) (e ∙ ap (λ n. position (is_bound_to bytes_eq n k) ss) clock ∙ ap (position (is_bound_to bytes_eq t k)) same) ∙ sym (bound_is v t k are)
 
 pub offered_found : (v : PoolSlots) (t : ℕ) (k : List ℕ) → AreSlots v.pool v.slots → (ss : Holders4) (now : ℕ) (o : Option ℕ) → ss ≡ v.slots → now ≡ t → o ≡ position (is_offered_to bytes_eq now k) ss
-    → from (number4 v.pool.first) o ≡ address_of (get (book_of t v).offers k)
+    → from (number4 v.pool.first) o ≡ address_of (get (book4_of t v).offers k)
 offered_found v t k are ss now o same clock e =
     ap (from (number4 v.pool.first)) (e ∙ ap (λ n. position (is_offered_to bytes_eq n k) ss) clock ∙ ap (position (is_offered_to bytes_eq t k)) same) ∙ sym (offered_is v t k are)
 
 pub pick_found : (v : PoolSlots) (t : ℕ) (k : List ℕ) (wanted : Option ℕ) → AreSlots v.pool v.slots → (ss : Holders4) (now : ℕ) (o : Option ℕ) → ss ≡ v.slots → now ≡ t
-    → o ≡ picked now v.pool ss k wanted → from (number4 v.pool.first) o ≡ pick v.pool (book_of t v) k wanted
+    → o ≡ picked now v.pool ss k wanted → from (number4 v.pool.first) o ≡ pick v.pool (book4_of t v) k wanted
 pick_found v t k wanted are ss now o same clock e =
     ap (from (number4 v.pool.first)) (e ∙ ap (λ n. picked n v.pool ss k wanted) clock ∙ ap (λ xs. picked t v.pool xs k wanted) same) ∙ sym (pick_is v t k wanted are)

@@ -22,7 +22,7 @@ use Rattle.types.specs.declared.slot4.Slot4.TheVariants as slot4
 use Rattle.types.specs.declared.slots.Slots.{Slots as RegionSlots}
 use Rattle.bindings_v4.specs.Book4.{book4_at}
 use Rattle.bindings_v4.specs.Kept4.{kept_book, book4_in, slot_of, kept_slots}
-use Rattle.bindings_v4.specs.Slots4.{Holders4, PoolSlots, book_of_slots, book_of, AreSlots, holder_of}
+use Rattle.bindings_v4.specs.Slots4.{Holders4, PoolSlots, book_of_slots, book4_of, AreSlots, holder_of}
 use Rattle.bindings_v4.proofs.ShownLemmas.{shown}
 
 -- ---- a slot of a region and its holder
@@ -104,11 +104,11 @@ module _ (pool : PoolValue) (region : RegionSlots) (t n : ℕ) (ss : Holders4) (
         distinct = begun_distinct once;
       }
 
-  pub begun_book : ((i : ℕ) → pool.count ≤ i → get_or region.four i slot4.Free ≡ slot4.Free) → book_of region.clock (record { pool = pool; slots = ss }) ≡ book4_in pool region
+  pub begun_book : ((i : ℕ) → pool.count ≤ i → get_or region.four i slot4.Free ≡ slot4.Free) → book4_of region.clock (record { pool = pool; slots = ss }) ≡ book4_in pool region
   begun_book past =
       let all = map (held form4 region.clock) region.four in
       let there : (i : ℕ) → get_or all i None ≡ held form4 region.clock (get_or region.four i slot4.Free) = λ i. get_or-map (held form4 region.clock) region.four i slot4.Free in
-      ap (λ xs. book_of region.clock (record { pool = pool; slots = xs })) (begun_is form4 region.four region.clock pool.count t n ss clock count e)
+      ap (λ xs. book4_of region.clock (record { pool = pool; slots = xs })) (begun_is form4 region.four region.clock pool.count t n ss clock count e)
       ∙ ap (book4_at region.clock) (same_book (number4 pool.first) (take pool.count all) all (take_at pool.count all (λ i h. there i ∙ ap (held form4 region.clock) (past i h))))
 
   pub begun_kept : length region.four ≡ 16 → length ss ≡ n → ((i : ℕ) → pool.count ≤ i → get_or region.four i slot4.Free ≡ slot4.Free) → kept_slots region.clock ss ≡ map (live4 region.clock) region.four
@@ -160,9 +160,9 @@ module _ (a t : ℕ) (ss : Holders4) (d : AreDistinct bytes_eq ss) where
   put_book : book4_at t (book_of_slots a again) ≡ kept_book (book4_at t (book_of_slots a ss))
   put_book = shown a t again (again_distinct form4 key4_is_key t ss d) ∙ book_without_offers a (live_slots t again) (live_slots t ss) unoffered_at ∙ ap kept_book (sym (shown a t ss d))
 
-pub book_put : (v : PoolSlots) → AreSlots v.pool v.slots → (region : RegionSlots) → region.four ≡ kept_slots region.clock v.slots → book4_in v.pool region ≡ kept_book (book_of region.clock v)
+pub book_put : (v : PoolSlots) → AreSlots v.pool v.slots → (region : RegionSlots) → region.four ≡ kept_slots region.clock v.slots → book4_in v.pool region ≡ kept_book (book4_of region.clock v)
 book_put v are region four =
-    ap (λ xs. book_of region.clock (record { pool = v.pool; slots = map (held form4 region.clock) xs })) four
+    ap (λ xs. book4_of region.clock (record { pool = v.pool; slots = map (held form4 region.clock) xs })) four
     ∙ put_book (number4 v.pool.first) region.clock v.slots are.distinct
 
 pub past_free : (pool : PoolValue) (t : ℕ) (ss : Holders4) (xs : List Slot4) → AreSlots pool ss → xs ≡ kept_slots t ss → (i : ℕ) → pool.count ≤ i → get_or xs i slot4.Free ≡ slot4.Free
@@ -173,6 +173,6 @@ past_free pool t ss xs are e i h = form.past_free form4 t ss xs e i (omega (arit
 pub kept_size : (pool : PoolValue) (t : ℕ) (ss : Holders4) → AreSlots pool ss → length (kept_slots t ss) ≡ 16
 kept_size pool t ss are = form.kept_length form4 t ss (omega (arith, are.size, are.limits.most))
 
-pub book_kept : (v : PoolSlots) (t : ℕ) → AreSlots v.pool v.slots → (region : RegionSlots) → region.four ≡ kept_slots t v.slots → region.clock ≡ t → book4_in v.pool region ≡ kept_book (book_of t v)
+pub book_kept : (v : PoolSlots) (t : ℕ) → AreSlots v.pool v.slots → (region : RegionSlots) → region.four ≡ kept_slots t v.slots → region.clock ≡ t → book4_in v.pool region ≡ kept_book (book4_of t v)
 book_kept v t are region four clock =
-    book_put v are region (four ∙ ap (λ n. kept_slots n v.slots) (sym clock)) ∙ ap (λ n. kept_book (book_of n v)) clock
+    book_put v are region (four ∙ ap (λ n. kept_slots n v.slots) (sym clock)) ∙ ap (λ n. kept_book (book4_of n v)) clock

@@ -9,7 +9,7 @@ use Rattle.slots.proofs.FitLemmas.{offered_own}
 use Rattle.slots.proofs.KeptLemmas.{slot_within, slot_offered_within, no_offer_within}
 use Rattle.types.specs.Addr.{number4}
 use Rattle.types.specs.Slots.{IsWithin4}
-use Rattle.types.specs.declared.request4.Request4.{Request4}
+use Rattle.exchange.specs.declared.request4.Request4.{Request4}
 use Rattle.bindings_v4.specs.declared.decision4.Decision4.{Decision4}
 use Rattle.bindings_v4.specs.declared.decision4.KeptSlot.{KeptSlot}
 use Rattle.bindings_v4.specs.declared.decision4.OfferChange.{OfferChange}

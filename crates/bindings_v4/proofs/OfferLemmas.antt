@@ -16,7 +16,7 @@ use Rattle.types.specs.Addr.{number4}
 use Rattle.types.specs.Pool4.{PoolValue}
 use Rattle.bindings_v4.specs.Book4.{book4_at}
 use Rattle.bindings_v4.specs.Kept4.{kept_book, slot_of, kept_slots}
-use Rattle.bindings_v4.specs.Slots4.{Holders4, PoolSlots, book_of_slots, book_of, AreSlots, without_offers}
+use Rattle.bindings_v4.specs.Slots4.{Holders4, PoolSlots, book_of_slots, book4_of, AreSlots, without_offers}
 use Rattle.bindings_v4.proofs.KeptBook.{kept_later}
 use Rattle.bindings_v4.proofs.KeptLemmas.{unoffered_offered, book_without_offers}
 
@@ -77,7 +77,7 @@ still_slots pool ss xs are e =
 
 -- ---- what they show and what is kept of them
 
-pub shown_without : (t : ℕ) (v : PoolSlots) → book_of t (record v { slots = without_offers v.slots }) ≡ kept_book (book_of t v)
+pub shown_without : (t : ℕ) (v : PoolSlots) → book4_of t (record v { slots = without_offers v.slots }) ≡ kept_book (book4_of t v)
 shown_without t v =
     let a = number4 v.pool.first in
     ap (book4_at t) (book_without_offers a (without_offers v.slots) v.slots (unoffered_at v.slots)) ∙ sym (kept_later t (book_of_slots a v.slots))

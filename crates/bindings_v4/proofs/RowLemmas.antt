@@ -21,11 +21,11 @@ use Rattle.types.specs.Addr.{number4}
 use Rattle.types.specs.declared.kind4.Kind4.{Kind4}
 use Rattle.types.specs.declared.kind4.Kind4.TheVariants.{Discover, Offer, Request, Decline, Ack, Nak, Release, Inform}
 use Rattle.types.specs.Pool4.{PoolValue}
-use Rattle.types.specs.declared.request4.Reply4.TheVariants as reply
-use Rattle.types.specs.declared.request4.Request4.{Request4}
+use Rattle.exchange.specs.declared.request4.Reply4.TheVariants as reply
+use Rattle.exchange.specs.declared.request4.Request4.{Request4}
 use Rattle.types.specs.declared.slot4.Slot4.{Slot4}
 use Rattle.types.specs.declared.slot4.Slot4.TheVariants as slot4
-use Rattle.types.specs.declared.request4.Reply4.{Reply4}
+use Rattle.exchange.specs.declared.request4.Reply4.{Reply4}
 use Rattle.bindings_v4.specs.declared.decision4.Decision4.{Decision4}
 use Rattle.bindings_v4.specs.declared.decision4.KeptSlot.{KeptSlot}
 use Rattle.bindings_v4.specs.declared.decision4.OfferChange.{OfferChange}
@@ -33,7 +33,7 @@ use Rattle.bindings_v4.specs.declared.decision4.OfferChange.TheVariants as offer
 use Rattle.bindings_v4.specs.Book4.{Book4, in_pool}
 use Rattle.bindings_v4.specs.Decision4.{decision_of, keep_of, kept_slot, offer_of}
 use Rattle.bindings_v4.specs.Kept4.{keep_in, slot_of, kept_slots}
-use Rattle.bindings_v4.specs.Slots4.{Holders4, PoolSlots, book_of_slots, book_of, AreSlots, with_offer, holder_of, with_kept, with_decision, with_written, with_written_offer, with_written_slot}
+use Rattle.bindings_v4.specs.Slots4.{Holders4, PoolSlots, book_of_slots, book4_of, AreSlots, with_offer, holder_of, with_kept, with_decision, with_written, with_written_offer, with_written_slot}
 use Rattle.bindings_v4.specs.declared.server4.Server4.{Server4}
 use Rattle.bindings_v4.specs.declared.server4.Server4.TheVariants.{Anybody, This, Another}
 use Rattle.slots.specs.Row.{Change, Unchanged, Offers, Withdraws, Binds, Bars, Frees, is_kept, Row, replies}
@@ -72,7 +72,7 @@ no_address None e = refl
 no_address (Some x) e = absurd cc
 
 offered_book : (v : PoolSlots) (t : ℕ) (k : List ℕ) (u i : ℕ) → AreSlots v.pool v.slots → Fit key4_is_key t k v.slots i → position (is_bound_to bytes_eq t k) v.slots ≡ None → is_live t u ≡ true
-    → book_of t (record v { slots = with_slot bytes_eq i (Some (Offered k u)) v.slots }) ≡ with_change k (Offers (number4 v.pool.first + i) u) (book_of t v)
+    → book4_of t (record v { slots = with_slot bytes_eq i (Some (Offered k u)) v.slots }) ≡ with_change k (Offers (number4 v.pool.first + i) u) (book4_of t v)
 offered_book v t k u i are fit none lasts =
     let a = number4 v.pool.first in
     let ss = v.slots in
@@ -102,7 +102,7 @@ not_bound t k (Some (Offered key u)) e = refl
 not_bound t k (Some (Barred u)) e = refl
 
 bound_book : (v : PoolSlots) (t : ℕ) (k : List ℕ) (u i : ℕ) → AreSlots v.pool v.slots → Fit key4_is_key t k v.slots i → is_live t u ≡ true
-    → book_of t (record v { slots = with_slot bytes_eq i (Some (Bound k u)) v.slots }) ≡ with_change k (Binds (number4 v.pool.first + i) u) (book_of t v)
+    → book4_of t (record v { slots = with_slot bytes_eq i (Some (Bound k u)) v.slots }) ≡ with_change k (Binds (number4 v.pool.first + i) u) (book4_of t v)
 bound_book v t k u i are fit lasts =
     let a = number4 v.pool.first in
     let ss = v.slots in
@@ -117,7 +117,7 @@ bound_book v t k u i are fit lasts =
     shown a t (with_slot bytes_eq i new ss) (are_with_slot v.pool i new ss are).distinct ∙ middle ∙ ap (with_change k (Binds (a + i) u)) (sym (shown a t ss are.distinct))
 
 barred_book : (v : PoolSlots) (t : ℕ) (k : List ℕ) (u i : ℕ) → AreSlots v.pool v.slots → position (is_bound_to bytes_eq t k) v.slots ≡ Some i → is_live t u ≡ true
-    → book_of t (record v { slots = with_slot bytes_eq i (Some (Barred u)) v.slots }) ≡ with_change k (Bars (number4 v.pool.first + i) u) (book_of t v)
+    → book4_of t (record v { slots = with_slot bytes_eq i (Some (Barred u)) v.slots }) ≡ with_change k (Bars (number4 v.pool.first + i) u) (book4_of t v)
 barred_book v t k u i are found lasts =
     let a = number4 v.pool.first in
     let ss = v.slots in
@@ -135,7 +135,7 @@ barred_book v t k u i are found lasts =
     shown a t (with_slot bytes_eq i new ss) (are_with_slot v.pool i new ss are).distinct ∙ middle ∙ ap (with_change k (Bars (a + i) u)) (sym (shown a t ss are.distinct))
 
 freed_book : (v : PoolSlots) (t : ℕ) (k : List ℕ) (i : ℕ) → AreSlots v.pool v.slots → position (is_bound_to bytes_eq t k) v.slots ≡ Some i
-    → book_of t (record v { slots = with_slot bytes_eq i None v.slots }) ≡ with_change k (Frees (number4 v.pool.first + i)) (book_of t v)
+    → book4_of t (record v { slots = with_slot bytes_eq i None v.slots }) ≡ with_change k (Frees (number4 v.pool.first + i)) (book4_of t v)
 freed_book v t k i are found =
     let a = number4 v.pool.first in
     let ss = v.slots in
@@ -151,7 +151,7 @@ freed_book v t k i are found =
     shown a t (with_slot bytes_eq i None ss) (are_with_slot v.pool i None ss are).distinct ∙ middle ∙ ap (with_change k (Frees (a + i))) (sym (shown a t ss are.distinct))
 
 withdrawn_book : (v : PoolSlots) (t : ℕ) (k : List ℕ) (i : ℕ) → AreSlots v.pool v.slots → position (is_offered_to bytes_eq t k) v.slots ≡ Some i
-    → book_of t (record v { slots = with_slot bytes_eq i None v.slots }) ≡ with_change k (Withdraws (number4 v.pool.first + i)) (book_of t v)
+    → book4_of t (record v { slots = with_slot bytes_eq i None v.slots }) ≡ with_change k (Withdraws (number4 v.pool.first + i)) (book4_of t v)
 withdrawn_book v t k i are found =
     let a = number4 v.pool.first in
     let ss = v.slots in
@@ -308,11 +308,11 @@ module _ (v : PoolSlots) (t : ℕ) (k : List ℕ) (are : AreSlots v.pool v.slots
 
   -- the slots with it show the book with it
   abbrev ShowsItsBook : Change → Type 0
-  ShowsItsBook c = book_of t (record v { slots = changed_by c }) ≡ with_change k c (book_of t v)
+  ShowsItsBook c = book4_of t (record v { slots = changed_by c }) ≡ with_change k c (book4_of t v)
 
   shows_its_book : OfChanges ShowsItsBook
   shows_its_book =
-      let written : ℕ → Option (Holder (List ℕ)) → Book4 = λ n new. book_of t (record v { slots = with_slot bytes_eq n new v.slots }) in
+      let written : ℕ → Option (Holder (List ℕ)) → Book4 = λ n new. book4_of t (record v { slots = with_slot bytes_eq n new v.slots }) in
       let term : 0 < v.pool.lease = omega (arith, are.limits.shortest) in
       record {
         unchanged = refl;
@@ -388,7 +388,7 @@ kept_is first k (Frees address) = refl
 
 module _ (v : PoolSlots) (t : ℕ) (m : Request4) (are : AreSlots v.pool v.slots) where
   abbrev pub found : Lookup
-  found = lookup_in v.pool (book_of t v) m
+  found = lookup_in v.pool (book4_of t v) m
 
   found_is : found ≡ by_slots v t m.key are (option_map number4 m.wanted)
   found_is =
@@ -408,17 +408,17 @@ module _ (v : PoolSlots) (t : ℕ) (m : Request4) (are : AreSlots v.pool v.slots
   decision_is pool looked_up d same is e =
       e ∙ ap (λ (p : PoolValue). decision_of (number4 p.first) t m.key (row p looked_up)) same ∙ ap (λ f. decision_of (number4 v.pool.first) t m.key (row v.pool f)) is
 
-  pub answer_is : (d : Decision4) → d ≡ decision_of (number4 v.pool.first) t m.key (row v.pool found) → d.answer ≡ (answer4 v.pool t (book_of t v) m).answer
+  pub answer_is : (d : Decision4) → d ≡ decision_of (number4 v.pool.first) t m.key (row v.pool found) → d.answer ≡ (answer4 v.pool t (book4_of t v) m).answer
   unfolding answer4
   answer_is d e = ap (λ (x : Decision4). x.answer) e
 
-  pub keep_is : (d : Decision4) → d ≡ decision_of (number4 v.pool.first) t m.key (row v.pool found) → is_some (kept_slot d.change) ≡ (answer4 v.pool t (book_of t v) m).is_kept
+  pub keep_is : (d : Decision4) → d ≡ decision_of (number4 v.pool.first) t m.key (row v.pool found) → is_some (kept_slot d.change) ≡ (answer4 v.pool t (book4_of t v) m).is_kept
   unfolding answer4
   keep_is d e = ap (λ (x : Decision4). is_some (kept_slot x.change)) e ∙ kept_is (number4 v.pool.first) m.key (row v.pool found).change
 
-  pub book_is : (d : Decision4) → d ≡ decision_of (number4 v.pool.first) t m.key (row v.pool found) → book_of t (with_decision d v) ≡ (answer4 v.pool t (book_of t v) m).book
+  pub book_is : (d : Decision4) → d ≡ decision_of (number4 v.pool.first) t m.key (row v.pool found) → book4_of t (with_decision d v) ≡ (answer4 v.pool t (book4_of t v) m).book
   unfolding answer4
-  book_is d e = ap (λ (x : Decision4). book_of t (with_decision x v)) e ∙ of_row (ShowsItsBook v t m.key are) (shows_its_book v t m.key are)
+  book_is d e = ap (λ (x : Decision4). book4_of t (with_decision x v)) e ∙ of_row (ShowsItsBook v t m.key are) (shows_its_book v t m.key are)
 
   pub slot_is : (d : Decision4) → d ≡ decision_of (number4 v.pool.first) t m.key (row v.pool found) → IfSome (kept_slot d.change) (λ kept. kept.slot < v.pool.count)
   slot_is d e =

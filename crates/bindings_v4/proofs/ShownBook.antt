@@ -15,7 +15,7 @@ use Rattle.slots.proofs.WriteLemmas.{other_sort}
 use Rattle.types.specs.Addr.{number4}
 use Rattle.bindings_v4.specs.Book4.{Book4, book4_at}
 use Rattle.bindings_v4.specs.IsBook4.{Entry, TheBinding, TheOffer, TheBar, Names, IsBook4}
-use Rattle.bindings_v4.specs.Slots4.{Holders4, PoolSlots, book_of_slots, book_of}
+use Rattle.bindings_v4.specs.Slots4.{Holders4, PoolSlots, book_of_slots, book4_of}
 use Rattle.bindings_v4.proofs.LaterBook.{kept_is_live, bar_is_live}
 use Rattle.bindings_v4.proofs.ShownLemmas.{shown}
 
@@ -105,13 +105,13 @@ apart_slots a ss d q = by (get (leases key4_cmp bound_to a ss) q) refl where
 
 -- ---- the book
 
-pub slots_show_a_book : (t : ℕ) (v : PoolSlots) → AreDistinct bytes_eq v.slots → IsBook4 t (book_of t v)
+pub slots_show_a_book : (t : ℕ) (v : PoolSlots) → AreDistinct bytes_eq v.slots → IsBook4 t (book4_of t v)
 unfolding book4_at
 slots_show_a_book t v distinct =
     let a = number4 v.pool.first in
     let b = book_of_slots a v.slots in
     let ls = live_slots t v.slots in
-    let e : book_of t v ≡ book_of_slots a ls = shown a t v.slots distinct in
+    let e : book4_of t v ≡ book_of_slots a ls = shown a t v.slots distinct in
     record {
       bindings = λ q. subst (λ o. IfSome o (λ (lease : Lease). t < lease.until)) (sym (get-live_clients key4_is_key t b.bindings q)) (kept_is_live t (get b.bindings q));
       offers = λ q. subst (λ o. IfSome o (λ (lease : Lease). t < lease.until)) (sym (get-live_clients key4_is_key t b.offers q)) (kept_is_live t (get b.offers q));

@@ -2,7 +2,7 @@
 -- the disk. Slot i is the pool's address i; `first` is the address of slot 0.
 use Rattle.std.specs.Prelude.{ℕ, ◌+◌, ◌-◌, ◌<◌, ◌≤◌, List, Option, Some, None}
 use Rattle.types.specs.declared.slot4.Slot4.TheVariants as content
-use Rattle.types.specs.declared.request4.Reply4.{Reply4}
+use Rattle.exchange.specs.declared.request4.Reply4.{Reply4}
 use Rattle.bindings_v4.specs.declared.decision4.Change4.{Change4}
 use Rattle.bindings_v4.specs.declared.decision4.Change4.TheVariants as change
 use Rattle.bindings_v4.specs.declared.decision4.Decision4.{Decision4}

@@ -6,8 +6,8 @@ use Rattle.types.specs.Addr.{number4, addr4}
 use Rattle.types.specs.declared.addr.Addr4.{Addr4}
 use Rattle.types.specs.declared.kind4.Kind4.TheVariants.{Request, Decline, Release}
 use Rattle.types.specs.Pool4.{PoolValue}
-use Rattle.types.specs.declared.request4.Reply4.TheVariants as reply
-use Rattle.types.specs.declared.request4.Request4.{Request4}
+use Rattle.exchange.specs.declared.request4.Reply4.TheVariants as reply
+use Rattle.exchange.specs.declared.request4.Request4.{Request4}
 use Rattle.bindings_v4.specs.declared.server4.Server4.TheVariants.{Anybody}
 use Rattle.bindings_v4.specs.Book4.{Book4, in_pool}
 use Rattle.bindings_v4.specs.Table4.{where_specified, server_of, answer4}

@@ -11,7 +11,7 @@ use Rattle.types.specs.declared.slot4.Slot4.TheVariants as slot4
 use Rattle.types.specs.declared.slots.Slots.{Slots}
 use Rattle.bindings_v4.specs.declared.decision4.KeptSlot.{KeptSlot}
 use Rattle.bindings_v4.specs.Book4.{Book4}
-use Rattle.bindings_v4.specs.Slots4.{Holders4, holder_of, book_of}
+use Rattle.bindings_v4.specs.Slots4.{Holders4, holder_of, book4_of}
 
 -- The book without its offers, which are in memory only.
 abbrev pub kept_book : Book4 → Book4
@@ -21,7 +21,7 @@ kept_book b = record b { offers = empty }
 -- i, the lowest is 0, and what has expired is left out.
 abbrev pub book4_in : PoolValue → Slots → Book4
 book4_in pool region =
-    book_of region.clock (record { pool = pool; slots = map (λ slot. holder_of (live4 region.clock slot)) region.four })
+    book4_of region.clock (record { pool = pool; slots = map (λ slot. holder_of (live4 region.clock slot)) region.four })
 
 -- a holder as a region writes it; an offer is in memory only
 abbrev pub slot_of : Option (Holder (List ℕ)) → Slot4

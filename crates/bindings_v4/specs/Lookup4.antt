@@ -2,7 +2,7 @@
 use Rattle.std.specs.Prelude.{◌≡◌, ℕ, ◌+◌, Option, option_map, IfSome}
 use Rattle.types.specs.Addr.{number4, addr4}
 use Rattle.types.specs.Pool4.{PoolValue}
-use Rattle.types.specs.declared.request4.Reply4.{Reply4}
+use Rattle.exchange.specs.declared.request4.Reply4.{Reply4}
 use Rattle.bindings_v4.specs.declared.decision4.Decision4.{Decision4}
 use Rattle.bindings_v4.specs.declared.case4.Case4.{Case4}
 use Rattle.bindings_v4.specs.declared.table4.Lookup4.{Lookup4}

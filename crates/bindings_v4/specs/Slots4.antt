@@ -33,8 +33,8 @@ book_of_slots first slots =
     record { bindings = leases key4_cmp bound_to first slots; offers = leases key4_cmp offered_to first slots; bars = bars_of first slots }
 
 -- The book that a pool's slots show at a clock.
-abbrev pub book_of : ℕ → PoolSlots → Book4
-book_of clock v = book4_at clock (book_of_slots (number4 v.pool.first) v.slots)
+abbrev pub book4_of : ℕ → PoolSlots → Book4
+book4_of clock v = book4_at clock (book_of_slots (number4 v.pool.first) v.slots)
 
 -- the slots of this pool
 pub record AreSlots (pool : PoolValue) (slots : Holders4) : Type 0 where

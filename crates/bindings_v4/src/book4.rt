@@ -8,7 +8,7 @@ ghost use Rattle.types.specs.declared.slot4.Slot4.TheVariants.{Free};
 ghost use Rattle.bindings_v4.specs.Decision4.{IsOffer, decision_of, kept_slot, offer_change};
 ghost use Rattle.bindings_v4.specs.Kept4.{EndsBy, book4_in, keep_in, kept_book, kept_slots};
 ghost use Rattle.bindings_v4.specs.Lookup4.{IsAt, IsLookup, lookup_of};
-ghost use Rattle.bindings_v4.specs.Slots4.{AreSlots, IsOfferWithin, book_of, with_decision, with_written, without_offers};
+ghost use Rattle.bindings_v4.specs.Slots4.{AreSlots, IsOfferWithin, book4_of, with_decision, with_written, without_offers};
 ghost use Rattle.bindings_v4.specs.Table4.{answer4, lookup_in, row4};
 
 use crate::case4::{Case4, SlotAddress};
@@ -18,7 +18,8 @@ use crate::table4::{Lookup4, decision_for};
 use crate::write::{withdraw_offers, write_change};
 use slots::{Holder, SlotTable};
 use std::marker::Model;
-use types::{Addr4, Key4, Moment, Pool4, Request4, Slots};
+use exchange::Request4;
+use types::{Addr4, Key4, Moment, Pool4, Slots};
 
 /// The leases of one circuit's pool, by slot. It has no clock: what has expired counts no longer, and
 /// stays until its slot or its client gets something new.
@@ -46,7 +47,7 @@ impl Book4 {
         requires past { (i : ℕ) → pool.count ≤ i → slice_index_or slots.now.four i Free ≡ Free }
         requires once { none_twice same_client4 (map (live4 slots.now.clock) slots.now.four) ≡ true }
         ensures pool { result.pool ≡ pool }
-        ensures book { book_of slots.now.clock result ≡ book4_in pool slots.now }
+        ensures book { book4_of slots.now.clock result ≡ book4_in pool slots.now }
         ensures within { All IsWithin4 slots.now.four → AreWithin result.slots }
         ensures offers { AreOffersWithin result.slots }
         ensures kept { kept_slots slots.now.clock result.slots ≡ map (live4 slots.now.clock) slots.now.four }
@@ -64,7 +65,7 @@ impl Book4 {
         ensures four { slots.new.four ≡ kept_slots slots.old.clock self.now.slots }
         ensures six { slots.new.six ≡ slots.old.six }
         ensures clock { slots.new.clock ≡ slots.old.clock }
-        ensures book { book4_in self.now.pool slots.new ≡ kept_book (book_of slots.old.clock self.now) }
+        ensures book { book4_in self.now.pool slots.new ≡ kept_book (book4_of slots.old.clock self.now) }
         ensures past { (i : ℕ) → self.now.pool.count ≤ i → slice_index_or slots.new.four i Free ≡ Free }
         ensures live { All (λ slot. live4 slots.old.clock slot ≡ slot) slots.new.four }
         ensures once { none_twice same_client4 slots.new.four ≡ true }
@@ -75,11 +76,11 @@ impl Book4 {
 
     /// What a client's message calls for at this clock. Nothing is changed.
     pub fn decide(&self, request: &Request4, clock: Moment) -> Decision4
-        ensures exact { result ≡ decision_of (number4 self.now.pool.first) clock request.now.key (row4 self.now.pool clock (book_of clock self.now) request.now) }
+        ensures exact { result ≡ decision_of (number4 self.now.pool.first) clock request.now.key (row4 self.now.pool clock (book4_of clock self.now) request.now) }
         ensures clock { result.clock ≡ clock }
-        ensures keep { is_some (kept_slot result.change) ≡ (answer4 self.now.pool clock (book_of clock self.now) request.now).is_kept }
-        ensures answer { result.answer ≡ (answer4 self.now.pool clock (book_of clock self.now) request.now).answer }
-        ensures book { book_of clock (with_decision result self.now) ≡ (answer4 self.now.pool clock (book_of clock self.now) request.now).book }
+        ensures keep { is_some (kept_slot result.change) ≡ (answer4 self.now.pool clock (book4_of clock self.now) request.now).is_kept }
+        ensures answer { result.answer ≡ (answer4 self.now.pool clock (book4_of clock self.now) request.now).answer }
+        ensures book { book4_of clock (with_decision result self.now) ≡ (answer4 self.now.pool clock (book4_of clock self.now) request.now).book }
         ensures within { IfSome (kept_slot result.change) (λ kept. EndsBy (clock + 604800) kept.content) }
         ensures slot { IfSome (kept_slot result.change) (λ kept. kept.slot < self.now.pool.count) }
         ensures offer { IfSome (offer_change result.change) (IsOffer clock self.now.pool.count) }
@@ -111,7 +112,7 @@ impl Book4 {
     pub fn withdraw_offers(&mut self)
         ensures slots { self.new ≡ record self.old { slots = without_offers self.old.slots } }
         ensures pool { self.new.pool ≡ self.old.pool }
-        ensures book { (clock : ℕ) → book_of clock self.new ≡ kept_book (book_of clock self.old) }
+        ensures book { (clock : ℕ) → book4_of clock self.new ≡ kept_book (book4_of clock self.old) }
         ensures kept { (clock : ℕ) → kept_slots clock self.new.slots ≡ kept_slots clock self.old.slots }
         ensures within { AreWithin self.old.slots → AreWithin self.new.slots }
         ensures offers { AreOffersWithin self.new.slots }
@@ -132,7 +133,7 @@ impl Book4 {
 
     /// What the table looks at of this client.
     fn look_up(&self, request: &Request4, clock: Moment) -> Lookup4
-        ensures found { lookup_of result ≡ lookup_in self.now.pool (book_of clock self.now) request.now }
+        ensures found { lookup_of result ≡ lookup_in self.now.pool (book4_of clock self.now) request.now }
         ensures at { IsLookup self.now.pool result }
         ensures slots { AreSlots self.now.pool self.now.slots }
     {

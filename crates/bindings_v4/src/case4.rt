@@ -2,13 +2,14 @@
 ghost use Rattle.std.specs.Prelude.{◌≡◌, ◌+◌};
 ghost use Rattle.types.specs.Addr.{number4, addr4};
 ghost use Rattle.types.specs.declared.discard.Discard.TheVariants.{NothingToSay, OtherServer};
-ghost use Rattle.types.specs.declared.request4.Reply4.TheVariants.{Offer};
+ghost use Rattle.exchange.specs.declared.request4.Reply4.TheVariants.{Offer};
 ghost use Rattle.bindings_v4.specs.Lookup4.{IsAt, decision_in};
 ghost use Rattle.slots.specs.Row.{Unchanged, Offers, Withdraws, Bars, Frees, drops, replies};
 ghost use Rattle.bindings_v4.specs.Table4.{grants};
 
 use crate::decision4::{Change4, Decision4, KeptSlot, OfferChange};
-use types::{Addr4, Discard, Key4, Moment, Pool4, Reply4, Slot4};
+use exchange::Reply4;
+use types::{Addr4, Discard, Key4, Moment, Pool4, Slot4};
 
 /// How long an offer holds its address, in seconds.
 const OFFER_TIME: u64 = 60;
@@ -55,7 +56,7 @@ impl Case4<'_> {
     }
 
     /// A DHCPOFFER of the client's binding.
-    pub fn shows(&self, held: SlotAddress) -> Decision4
+    pub fn reoffers(&self, held: SlotAddress) -> Decision4
         requires { IsAt self.now.pool held }
         ensures { result ≡ decision_in self.now (replies (Offer (addr4 (number4 held.address))) Unchanged) }
     {

@@ -1,5 +1,6 @@
 //! What a book decides on a client's message.
-use types::{Discard, Key4, Moment, Reply4, Slot4};
+use exchange::Reply4;
+use types::{Discard, Key4, Moment, Slot4};
 
 /// What a client is answered, and what the answer changes. Nothing is changed until `Book4::commit`.
 #[derive(Clone, Copy, PartialEq, Eq)]

@@ -5,8 +5,8 @@ ghost use Rattle.slots.specs.Kept.{AreWithin};
 ghost use Rattle.slots.specs.Maps.{Lease};
 ghost use Rattle.types.specs.Pool4.{IsPool4, PoolValue};
 ghost use Rattle.types.specs.declared.addr.Addr4.{Addr4};
-ghost use Rattle.types.specs.declared.request4.Reply4.TheVariants as reply;
-ghost use Rattle.types.specs.declared.request4.Request4.{Request4};
+ghost use Rattle.exchange.specs.declared.request4.Reply4.TheVariants as reply;
+ghost use Rattle.exchange.specs.declared.request4.Request4.{Request4};
 ghost use Rattle.types.specs.Slots.{IsWithin4, live4, none_twice, same_client4};
 ghost use Rattle.types.specs.declared.slot4.Slot4.TheVariants.{Free};
 ghost use Rattle.types.specs.declared.slots.Slots.{Slots};
@@ -14,23 +14,24 @@ ghost use Rattle.bindings_v4.specs.Book4.{book4_at, empty_book};
 ghost use Rattle.bindings_v4.specs.Book4 as maps;
 ghost use Rattle.bindings_v4.specs.IsBook4.{IsBook4, LeavesABook, KeepsOthers, ChangesOffersAlone, GrantsItsOwn, RenewsInTime, KeepsItsLease};
 ghost use Rattle.bindings_v4.specs.Kept4.{book4_in, kept_book, kept_slots};
-ghost use Rattle.bindings_v4.specs.Slots4.{book_of};
+ghost use Rattle.bindings_v4.specs.Slots4.{book4_of};
 ghost use Rattle.bindings_v4.specs.Table4.{answer4};
 
 use crate::book4::Book4;
-use types::{Moment, Pool4, Request4};
+use exchange::Request4;
+use types::{Moment, Pool4};
 
 /// A book at a later clock is what that clock leaves of the book at an earlier one: a caller whose
 /// clock moves has nothing to do.
 pub fn expires_by_the_clock(book: &Book4, clock: Moment, later: Moment)
     requires { clock ≤ later }
-    ensures book { book4_at later (book_of clock book.now) ≡ book_of later book.now }
+    ensures book { book4_at later (book4_of clock book.now) ≡ book4_of later book.now }
     ensures kept { kept_slots later book.now.slots ≡ map (live4 later) (kept_slots clock book.now.slots) }
 {}
 
 /// What a book shows is a book: nothing has to be known of how it came about.
 pub fn is_a_book(book: &Book4, clock: Moment)
-    ensures { IsBook4 clock (book_of clock book.now) }
+    ensures { IsBook4 clock (book4_of clock book.now) }
 {
     let _slots = book.slots();
 }
@@ -90,7 +91,7 @@ pub fn keeps_a_book(book: &Book4, clock: Moment)
     ensures live { All (λ slot. live4 clock slot ≡ slot) (kept_slots clock book.now.slots) }
     ensures once { none_twice same_client4 (kept_slots clock book.now.slots) ≡ true }
     ensures within { AreWithin book.now.slots → All IsWithin4 (kept_slots clock book.now.slots) }
-    ensures book { (region : Slots) → region.four ≡ kept_slots clock book.now.slots → region.clock ≡ clock → book4_in book.now.pool region ≡ kept_book (book_of clock book.now) }
+    ensures book { (region : Slots) → region.four ≡ kept_slots clock book.now.slots → region.clock ≡ clock → book4_in book.now.pool region ≡ kept_book (book4_of clock book.now) }
 {
     let _slots = book.slots();
 }

@@ -8,7 +8,8 @@ ghost use Rattle.bindings_v4.specs.Table4.{discover_row, other_server_row, selec
 use crate::case4::{Case4, SlotAddress};
 use crate::decision4::Decision4;
 use crate::server4::{Server4, server_of};
-use types::{Addr4, Discard, Kind4, Reply4, Request4};
+use exchange::{Reply4, Request4};
+use types::{Addr4, Discard, Kind4};
 
 /// What the table looks at of a client: its live binding, its live offer, and its pick.
 #[derive(Clone, Copy)]
@@ -60,7 +61,7 @@ fn discover_row(case: &Case4<'_>, found: &Lookup4) -> Decision4
     //     pick        binding
     match (found.pick, found.binding) {
           (None,       _)       => case.drops(Discard::NoAddress),
-          (Some(pick), Some(_)) => case.shows(pick),
+          (Some(pick), Some(_)) => case.reoffers(pick),
           (Some(pick), None)    => case.offers(pick),
     }
 }

@@ -18,7 +18,7 @@ use Rattle.types.specs.Addr.{number6}
 use Rattle.types.specs.Key6.{Key6Value, same_key6}
 use Rattle.types.specs.Pool6.{Pool6Value}
 use Rattle.bindings_v6.specs.Book6.{Book6, is_free, lowest_free, where_free, pick}
-use Rattle.bindings_v6.specs.Slots6.{Holders6, PoolSlots, book_of_slots, book_of, AreSlots}
+use Rattle.bindings_v6.specs.Slots6.{Holders6, PoolSlots, book_of_slots, book6_of, AreSlots}
 use Rattle.bindings_v6.proofs.ShownLemmas.{shown}
 
 -- the slot for a client
@@ -91,23 +91,23 @@ module _ (pool : Pool6Value) (t : ℕ) (ss : Holders6) (are : AreSlots pool ss) 
 -- ---- of a book at a clock
 
 pub pick_is : (v : PoolSlots) (t : ℕ) (k : Key6Value) (wanted : Option ℕ) → AreSlots v.pool v.slots
-    → pick v.pool (book_of t v) k wanted ≡ from (number6 v.pool.first) (picked t v.pool v.slots k wanted)
+    → pick v.pool (book6_of t v) k wanted ≡ from (number6 v.pool.first) (picked t v.pool v.slots k wanted)
 pick_is v t k wanted are =
     ap (λ b. pick v.pool b k wanted) (shown (number6 v.pool.first) t v.slots are.distinct) ∙ pick_of_live v.pool t v.slots are k wanted
 
 pub bound_is : (v : PoolSlots) (t : ℕ) (k : Key6Value) → AreSlots v.pool v.slots
-    → address_of (get (book_of t v).bindings k) ≡ from (number6 v.pool.first) (position (is_bound_to same_key6 t k) v.slots)
+    → address_of (get (book6_of t v).bindings k) ≡ from (number6 v.pool.first) (position (is_bound_to same_key6 t k) v.slots)
 bound_is v t k are =
     ap (λ b. address_of (get b.bindings k)) (shown (number6 v.pool.first) t v.slots are.distinct) ∙ binding_is key6_is_key t k (number6 v.pool.first) v.slots
 
 -- ---- for the code, whose slots and clock are a copy
 
 pub bound_found : (v : PoolSlots) (t : ℕ) (k : Key6Value) → AreSlots v.pool v.slots → (ss : Holders6) (now : ℕ) (o : Option ℕ) → ss ≡ v.slots → now ≡ t → o ≡ position (is_bound_to same_key6 now k) ss
-    → from (number6 v.pool.first) o ≡ address_of (get (book_of t v).bindings k)
+    → from (number6 v.pool.first) o ≡ address_of (get (book6_of t v).bindings k)
 bound_found v t k are ss now o same clock e =
     ap (from (number6 v.pool.first)) (e ∙ ap (λ n. position (is_bound_to same_key6 n k) ss) clock ∙ ap (position (is_bound_to same_key6 t k)) same) ∙ sym (bound_is v t k are)
 
 pub pick_found : (v : PoolSlots) (t : ℕ) (k : Key6Value) (wanted : Option ℕ) → AreSlots v.pool v.slots → (ss : Holders6) (now : ℕ) (o : Option ℕ) → ss ≡ v.slots → now ≡ t
-    → o ≡ picked now v.pool ss k wanted → from (number6 v.pool.first) o ≡ pick v.pool (book_of t v) k wanted
+    → o ≡ picked now v.pool ss k wanted → from (number6 v.pool.first) o ≡ pick v.pool (book6_of t v) k wanted
 pick_found v t k wanted are ss now o same clock e =
     ap (from (number6 v.pool.first)) (e ∙ ap (λ n. picked n v.pool ss k wanted) clock ∙ ap (λ xs. picked t v.pool xs k wanted) same) ∙ sym (pick_is v t k wanted are)

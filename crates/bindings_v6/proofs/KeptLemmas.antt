@@ -17,12 +17,12 @@ use Rattle.types.specs.Addr.{number6}
 use Rattle.types.specs.Key6.{Key6Value, same_key6}
 use Rattle.types.specs.Pool6.{IsPool6, Pool6Value}
 use Rattle.types.specs.Slots.{IsWithin6, live6, none_twice, same_client6}
-use Rattle.types.specs.declared.slots.Slot6.{Slot6}
-use Rattle.types.specs.declared.slots.Slot6.TheVariants as slot6
+use Rattle.types.specs.declared.slot6.Slot6.{Slot6}
+use Rattle.types.specs.declared.slot6.Slot6.TheVariants as slot6
 use Rattle.types.specs.declared.slots.Slots.{Slots as RegionSlots}
 use Rattle.bindings_v6.specs.Book6.{book6_at}
 use Rattle.bindings_v6.specs.Kept6.{book6_in, slot_of, kept_slots}
-use Rattle.bindings_v6.specs.Slots6.{Holders6, PoolSlots, book_of_slots, book_of, AreSlots, holder_of}
+use Rattle.bindings_v6.specs.Slots6.{Holders6, PoolSlots, book_of_slots, book6_of, AreSlots, holder_of}
 use Rattle.bindings_v6.proofs.ShownLemmas.{shown}
 
 -- ---- a slot of a region and its holder
@@ -104,11 +104,11 @@ module _ (pool : Pool6Value) (region : RegionSlots) (t n : ℕ) (ss : Holders6) 
         no_offers = λ i. ap (λ xs. offered_to (get_or xs i None)) e ∙ held_none form6 t i (take n region.six);
       }
 
-  pub begun_book : ((i : ℕ) → pool.count ≤ i → get_or region.six i slot6.Free ≡ slot6.Free) → book_of region.clock (record { pool = pool; slots = ss }) ≡ book6_in pool region
+  pub begun_book : ((i : ℕ) → pool.count ≤ i → get_or region.six i slot6.Free ≡ slot6.Free) → book6_of region.clock (record { pool = pool; slots = ss }) ≡ book6_in pool region
   begun_book past =
       let all = map (held form6 region.clock) region.six in
       let there : (i : ℕ) → get_or all i None ≡ held form6 region.clock (get_or region.six i slot6.Free) = λ i. get_or-map (held form6 region.clock) region.six i slot6.Free in
-      ap (λ xs. book_of region.clock (record { pool = pool; slots = xs })) (begun_is form6 region.six region.clock pool.count t n ss clock count e)
+      ap (λ xs. book6_of region.clock (record { pool = pool; slots = xs })) (begun_is form6 region.six region.clock pool.count t n ss clock count e)
       ∙ ap (book6_at region.clock) (same_book (number6 pool.first) (take pool.count all) all (take_at pool.count all (λ i h. there i ∙ ap (held form6 region.clock) (past i h))))
 
   pub begun_kept : length region.six ≡ 16 → length ss ≡ n → ((i : ℕ) → pool.count ≤ i → get_or region.six i slot6.Free ≡ slot6.Free) → kept_slots region.clock ss ≡ map (live6 region.clock) region.six
@@ -138,9 +138,9 @@ module _ (a t : ℕ) (ss : Holders6) (d : AreDistinct same_key6 ss) (none : (i :
   put_book : book6_at t (book_of_slots a again) ≡ book6_at t (book_of_slots a ss)
   put_book = shown a t again (again_distinct form6 key6_is_key t ss d) ∙ same_book a (live_slots t again) (live_slots t ss) same_at ∙ sym (shown a t ss d)
 
-pub book_put : (v : PoolSlots) → AreSlots v.pool v.slots → (region : RegionSlots) → region.six ≡ kept_slots region.clock v.slots → book6_in v.pool region ≡ book_of region.clock v
+pub book_put : (v : PoolSlots) → AreSlots v.pool v.slots → (region : RegionSlots) → region.six ≡ kept_slots region.clock v.slots → book6_in v.pool region ≡ book6_of region.clock v
 book_put v are region six =
-    ap (λ xs. book_of region.clock (record { pool = v.pool; slots = map (held form6 region.clock) xs })) six
+    ap (λ xs. book6_of region.clock (record { pool = v.pool; slots = map (held form6 region.clock) xs })) six
     ∙ put_book (number6 v.pool.first) region.clock v.slots are.distinct are.no_offers
 
 pub past_free : (pool : Pool6Value) (t : ℕ) (ss : Holders6) (xs : List Slot6) → AreSlots pool ss → xs ≡ kept_slots t ss → (i : ℕ) → pool.count ≤ i → get_or xs i slot6.Free ≡ slot6.Free
@@ -151,5 +151,5 @@ past_free pool t ss xs are e i h = form.past_free form6 t ss xs e i (omega (arit
 pub kept_size : (pool : Pool6Value) (t : ℕ) (ss : Holders6) → AreSlots pool ss → length (kept_slots t ss) ≡ 16
 kept_size pool t ss are = form.kept_length form6 t ss (omega (arith, are.size, are.limits.most))
 
-pub book_kept : (v : PoolSlots) (t : ℕ) → AreSlots v.pool v.slots → (region : RegionSlots) → region.six ≡ kept_slots t v.slots → region.clock ≡ t → book6_in v.pool region ≡ book_of t v
-book_kept v t are region six clock = book_put v are region (six ∙ ap (λ n. kept_slots n v.slots) (sym clock)) ∙ ap (λ n. book_of n v) clock
+pub book_kept : (v : PoolSlots) (t : ℕ) → AreSlots v.pool v.slots → (region : RegionSlots) → region.six ≡ kept_slots t v.slots → region.clock ≡ t → book6_in v.pool region ≡ book6_of t v
+book_kept v t are region six clock = book_put v are region (six ∙ ap (λ n. kept_slots n v.slots) (sym clock)) ∙ ap (λ n. book6_of n v) clock

@@ -12,7 +12,7 @@ use Rattle.types.specs.declared.addr.Addr6.{Addr6}
 use Rattle.types.specs.declared.discard.Discard.TheVariants as reason
 use Rattle.types.specs.declared.kind6.Kind6.{Kind6}
 use Rattle.types.specs.declared.kind6.Kind6.TheVariants.{Solicit, Request, Confirm, Renew, Rebind, Release, Decline}
-use Rattle.types.specs.declared.request6.Request6.{Request6}
+use Rattle.exchange.specs.declared.request6.Request6.{Request6}
 use Rattle.bindings_v6.specs.Book6.{Book6, pick, book6_at}
 use Rattle.bindings_v6.specs.IsBook6.{KeepsItsLease}
 use Rattle.slots.specs.Row.{Change, Unchanged, Offers, Withdraws, Binds, Bars, Frees, is_kept, drops}

@@ -6,7 +6,7 @@ use Rattle.slots.proofs.KeptLemmas.{slot_within, slot_offered_within, no_offer_w
 use Rattle.types.specs.Addr.{number6}
 use Rattle.types.specs.Key6.{Key6Value, same_key6}
 use Rattle.types.specs.Slots.{IsWithin6}
-use Rattle.types.specs.declared.request6.Request6.{Request6}
+use Rattle.exchange.specs.declared.request6.Request6.{Request6}
 use Rattle.bindings_v6.specs.declared.decision6.Decision6.{Decision6}
 use Rattle.bindings_v6.specs.declared.decision6.KeptSlot.{KeptSlot}
 use Rattle.bindings_v6.specs.Kept6.{EndsBy}

@@ -10,8 +10,8 @@ use Rattle.types.specs.declared.discard.Discard.{Discard}
 use Rattle.types.specs.declared.discard.Discard.TheVariants as reason
 use Rattle.types.specs.declared.kind6.Kind6.{Kind6}
 use Rattle.types.specs.declared.kind6.Kind6.TheVariants.{Solicit, Request, Confirm, Renew, Rebind, Release, Decline}
-use Rattle.types.specs.declared.request6.Reply6.{Reply6}
-use Rattle.types.specs.declared.request6.Request6.{Request6}
+use Rattle.exchange.specs.declared.request6.Reply6.{Reply6}
+use Rattle.exchange.specs.declared.request6.Request6.{Request6}
 use Rattle.bindings_v6.specs.IsBook6.{AreWhole, IsWholeIa, GivesWholeAddresses}
 use Rattle.slots.specs.Row.{Unchanged, Row, drops}
 use Rattle.bindings_v6.specs.Table6.{others, solicit_row, request_row, renew_row, confirm_row, release_row, decline_row, is_off_link, where_listed, Lookup, lookup_in, row_of, is_for_us, answer6}

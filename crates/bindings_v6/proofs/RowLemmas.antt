@@ -22,15 +22,15 @@ use Rattle.types.specs.declared.addr.Addr6.{Addr6}
 use Rattle.types.specs.declared.discard.Discard.TheVariants as reason
 use Rattle.types.specs.declared.kind6.Kind6.{Kind6}
 use Rattle.types.specs.declared.kind6.Kind6.TheVariants.{Solicit, Request, Confirm, Renew, Rebind, Release, Decline}
-use Rattle.types.specs.declared.request6.Request6.{Request6}
-use Rattle.types.specs.declared.slots.Slot6.{Slot6}
-use Rattle.types.specs.declared.slots.Slot6.TheVariants as slot6
-use Rattle.types.specs.declared.request6.Reply6.{Reply6}
+use Rattle.exchange.specs.declared.request6.Request6.{Request6}
+use Rattle.types.specs.declared.slot6.Slot6.{Slot6}
+use Rattle.types.specs.declared.slot6.Slot6.TheVariants as slot6
+use Rattle.exchange.specs.declared.request6.Reply6.{Reply6}
 use Rattle.bindings_v6.specs.declared.decision6.Decision6.{Decision6}
 use Rattle.bindings_v6.specs.Book6.{Book6}
 use Rattle.bindings_v6.specs.Decision6.{keep_of, decision_of}
 use Rattle.bindings_v6.specs.Kept6.{keep_in, slot_of, kept_slots}
-use Rattle.bindings_v6.specs.Slots6.{Holders6, PoolSlots, book_of_slots, book_of, HaveNoOffers, AreSlots, holder_of, with_kept, with_decision, with_written, with_written_slot}
+use Rattle.bindings_v6.specs.Slots6.{Holders6, PoolSlots, book_of_slots, book6_of, HaveNoOffers, AreSlots, holder_of, with_kept, with_decision, with_written, with_written_slot}
 use Rattle.slots.specs.Row.{Change, Unchanged, Offers, Withdraws, Binds, Bars, Frees, is_kept, Row, drops}
 use Rattle.bindings_v6.specs.Table6.{with_change, solicit_row, request_row, renew_row, confirm_row, release_row, decline_row, first_listed, where_listed, is_off_link, Lookup, lookup_in, row_of, is_for_us, answer6}
 use Rattle.bindings_v6.proofs.FreeLemmas.{picked, pick_is, bound_is}
@@ -69,7 +69,7 @@ are_with_slot pool i new ss e are =
 -- ---- a lease, a bar, a free slot
 
 bound_book : (v : PoolSlots) (t : ℕ) (k : Key6Value) (u i : ℕ) → AreSlots v.pool v.slots → Fit key6_is_key t k v.slots i → is_live t u ≡ true
-    → book_of t (record v { slots = with_slot same_key6 i (Some (Bound k u)) v.slots }) ≡ with_change k (Binds (number6 v.pool.first + i) u) (book_of t v)
+    → book6_of t (record v { slots = with_slot same_key6 i (Some (Bound k u)) v.slots }) ≡ with_change k (Binds (number6 v.pool.first + i) u) (book6_of t v)
 bound_book v t k u i are fit lasts =
     let a = number6 v.pool.first in
     let ss = v.slots in
@@ -83,7 +83,7 @@ bound_book v t k u i are fit lasts =
     shown a t (with_slot same_key6 i new ss) (are_with_slot v.pool i new ss refl are).distinct ∙ middle ∙ ap (with_change k (Binds (a + i) u)) (sym (shown a t ss are.distinct))
 
 barred_book : (v : PoolSlots) (t : ℕ) (k : Key6Value) (u i : ℕ) → AreSlots v.pool v.slots → position (is_bound_to same_key6 t k) v.slots ≡ Some i → is_live t u ≡ true
-    → book_of t (record v { slots = with_slot same_key6 i (Some (Barred u)) v.slots }) ≡ with_change k (Bars (number6 v.pool.first + i) u) (book_of t v)
+    → book6_of t (record v { slots = with_slot same_key6 i (Some (Barred u)) v.slots }) ≡ with_change k (Bars (number6 v.pool.first + i) u) (book6_of t v)
 barred_book v t k u i are found lasts =
     let a = number6 v.pool.first in
     let ss = v.slots in
@@ -100,7 +100,7 @@ barred_book v t k u i are found lasts =
     shown a t (with_slot same_key6 i new ss) (are_with_slot v.pool i new ss refl are).distinct ∙ middle ∙ ap (with_change k (Bars (a + i) u)) (sym (shown a t ss are.distinct))
 
 freed_book : (v : PoolSlots) (t : ℕ) (k : Key6Value) (i : ℕ) → AreSlots v.pool v.slots → position (is_bound_to same_key6 t k) v.slots ≡ Some i
-    → book_of t (record v { slots = with_slot same_key6 i None v.slots }) ≡ with_change k (Frees (number6 v.pool.first + i)) (book_of t v)
+    → book6_of t (record v { slots = with_slot same_key6 i None v.slots }) ≡ with_change k (Frees (number6 v.pool.first + i)) (book6_of t v)
 freed_book v t k i are found =
     let a = number6 v.pool.first in
     let ss = v.slots in
@@ -203,11 +203,11 @@ module _ (v : PoolSlots) (t : ℕ) (k : Key6Value) (are : AreSlots v.pool v.slot
 
   -- the slots with it show the book with it
   abbrev ShowsItsBook : Change → Type 0
-  ShowsItsBook c = book_of t (record v { slots = with_kept (keep_of a k c) v.slots }) ≡ with_change k c (book_of t v)
+  ShowsItsBook c = book6_of t (record v { slots = with_kept (keep_of a k c) v.slots }) ≡ with_change k c (book6_of t v)
 
   shows_its_book : OfChanges ShowsItsBook
   shows_its_book =
-      let written : ℕ → Option (Holder Key6Value) → Book6 = λ n new. book_of t (record v { slots = with_slot same_key6 n new v.slots }) in
+      let written : ℕ → Option (Holder Key6Value) → Book6 = λ n new. book6_of t (record v { slots = with_slot same_key6 n new v.slots }) in
       let term : 0 < v.pool.lease = omega (arith, are.limits.shortest) in
       record {
         unchanged = refl;
@@ -277,7 +277,7 @@ other_server = drops reason.OtherServer Unchanged
 
 module _ (v : PoolSlots) (t : ℕ) (m : Request6) (are : AreSlots v.pool v.slots) where
   abbrev pub found : Lookup
-  found = lookup_in v.pool (book_of t v) m
+  found = lookup_in v.pool (book6_of t v) m
 
   found_is : found ≡ by_slots v t m.key are (first_listed m.listed.items)
   found_is =
@@ -303,17 +303,17 @@ module _ (v : PoolSlots) (t : ℕ) (m : Request6) (are : AreSlots v.pool v.slots
   decision_is pool looked_up d same is e =
       e ∙ ap (λ (p : Pool6Value). decision_of (number6 p.first) t m.key (row p looked_up)) same ∙ ap (λ f. decision_of (number6 v.pool.first) t m.key (row v.pool f)) is
 
-  pub answer_is : (d : Decision6) → d ≡ decision_of (number6 v.pool.first) t m.key (row v.pool found) → d.answer ≡ (answer6 v.pool t (book_of t v) m).answer
+  pub answer_is : (d : Decision6) → d ≡ decision_of (number6 v.pool.first) t m.key (row v.pool found) → d.answer ≡ (answer6 v.pool t (book6_of t v) m).answer
   unfolding answer6
   answer_is d e = ap (λ (x : Decision6). x.answer) e
 
-  pub keep_is : (d : Decision6) → d ≡ decision_of (number6 v.pool.first) t m.key (row v.pool found) → is_some d.keep ≡ (answer6 v.pool t (book_of t v) m).is_kept
+  pub keep_is : (d : Decision6) → d ≡ decision_of (number6 v.pool.first) t m.key (row v.pool found) → is_some d.keep ≡ (answer6 v.pool t (book6_of t v) m).is_kept
   unfolding answer6
   keep_is d e = ap (λ (x : Decision6). is_some x.keep) e ∙ kept_is (number6 v.pool.first) m.key (row v.pool found).change
 
-  pub book_is : (d : Decision6) → d ≡ decision_of (number6 v.pool.first) t m.key (row v.pool found) → book_of t (with_decision d v) ≡ (answer6 v.pool t (book_of t v) m).book
+  pub book_is : (d : Decision6) → d ≡ decision_of (number6 v.pool.first) t m.key (row v.pool found) → book6_of t (with_decision d v) ≡ (answer6 v.pool t (book6_of t v) m).book
   unfolding answer6
-  book_is d e = ap (λ (x : Decision6). book_of t (with_decision x v)) e ∙ of_row (ShowsItsBook v t m.key are) (shows_its_book v t m.key are)
+  book_is d e = ap (λ (x : Decision6). book6_of t (with_decision x v)) e ∙ of_row (ShowsItsBook v t m.key are) (shows_its_book v t m.key are)
 
   pub slot_is : (d : Decision6) → d ≡ decision_of (number6 v.pool.first) t m.key (row v.pool found) → IfSome d.keep (λ kept. kept.slot < v.pool.count)
   slot_is d e =

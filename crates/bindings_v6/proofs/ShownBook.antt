@@ -18,7 +18,7 @@ use Rattle.types.specs.declared.slots.Slots.{Slots as RegionSlots}
 use Rattle.bindings_v6.specs.Book6.{Book6, book6_at}
 use Rattle.bindings_v6.specs.IsBook6.{Entry, TheBinding, TheBar, Names, IsBook6}
 use Rattle.bindings_v6.specs.Kept6.{book6_in}
-use Rattle.bindings_v6.specs.Slots6.{Holders6, PoolSlots, book_of_slots, book_of}
+use Rattle.bindings_v6.specs.Slots6.{Holders6, PoolSlots, book_of_slots, book6_of}
 use Rattle.bindings_v6.proofs.KeptLemmas.{form6}
 use Rattle.bindings_v6.proofs.LaterBook.{kept_is_live, bar_is_live}
 use Rattle.bindings_v6.proofs.ShownLemmas.{shown}
@@ -82,13 +82,13 @@ named_once a ss n x y f g =
     let same : p.0 ≡ r.0 = omega (arith, p.1, r.1) in
     one_entry (get_or ss r.0 None) x y (subst (λ i. Makes (get_or ss i None) x) same p.2) r.2
 
-pub slots_show_a_book : (t : ℕ) (v : PoolSlots) → AreDistinct same_key6 v.slots → IsBook6 t (book_of t v)
+pub slots_show_a_book : (t : ℕ) (v : PoolSlots) → AreDistinct same_key6 v.slots → IsBook6 t (book6_of t v)
 unfolding book6_at
 slots_show_a_book t v distinct =
     let a = number6 v.pool.first in
     let b = book_of_slots a v.slots in
     let ls = live_slots t v.slots in
-    let e : book_of t v ≡ book_of_slots a ls = shown a t v.slots distinct in
+    let e : book6_of t v ≡ book_of_slots a ls = shown a t v.slots distinct in
     record {
       bindings = λ q. subst (λ o. IfSome o (λ (lease : Lease). t < lease.until)) (sym (get-live_clients key6_is_key t b.bindings q)) (kept_is_live t (get b.bindings q));
       bars = λ x. subst (λ o. IfSome o (λ until. t < until)) (sym (get-live_bars t b.bars x)) (bar_is_live t (get b.bars x));

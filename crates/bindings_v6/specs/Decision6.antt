@@ -2,8 +2,8 @@
 -- address i; `first` is the address of slot 0.
 use Rattle.std.specs.Prelude.{ℕ, ◌-◌, Option, Some, None}
 use Rattle.types.specs.Key6.{Key6Value}
-use Rattle.types.specs.declared.slots.Slot6.TheVariants as content
-use Rattle.types.specs.declared.request6.Reply6.{Reply6}
+use Rattle.types.specs.declared.slot6.Slot6.TheVariants as content
+use Rattle.exchange.specs.declared.request6.Reply6.{Reply6}
 use Rattle.bindings_v6.specs.declared.decision6.Decision6.{Decision6}
 use Rattle.bindings_v6.specs.declared.decision6.KeptSlot.{KeptSlot}
 use Rattle.slots.specs.Row.{Change, Binds, Bars, Frees, Row}

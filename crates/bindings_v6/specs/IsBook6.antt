@@ -7,11 +7,11 @@ use Rattle.types.specs.Key6.{Key6Value}
 use Rattle.types.specs.declared.addr.Addr6.{Addr6}
 use Rattle.types.specs.declared.kind6.Kind6.TheVariants.{Renew, Rebind, Release, Decline}
 use Rattle.types.specs.Pool6.{Pool6Value}
-use Rattle.types.specs.declared.request6.Reply6.{Reply6}
-use Rattle.types.specs.declared.request6.ReplyIa.{ReplyIa}
-use Rattle.types.specs.declared.request6.ReplyIa.TheVariants as ia
-use Rattle.types.specs.declared.request6.ReplyKind6.TheVariants.{Reply}
-use Rattle.types.specs.declared.request6.Request6.{Request6}
+use Rattle.exchange.specs.declared.request6.Reply6.{Reply6}
+use Rattle.exchange.specs.declared.request6.ReplyIa.{ReplyIa}
+use Rattle.exchange.specs.declared.request6.ReplyIa.TheVariants as ia
+use Rattle.exchange.specs.declared.request6.ReplyKind6.TheVariants.{Reply}
+use Rattle.exchange.specs.declared.request6.Request6.{Request6}
 use Rattle.bindings_v6.specs.Book6.{Book6}
 use Rattle.bindings_v6.specs.Table6.{assignment, is_listed, is_for_us, others, answer6}
 

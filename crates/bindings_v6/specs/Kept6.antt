@@ -6,18 +6,18 @@ use Rattle.slots.specs.declared.holder.Holder.TheVariants.{Bound, Offered, Barre
 use Rattle.types.specs.Key6.{Key6Value}
 use Rattle.types.specs.Pool6.{Pool6Value}
 use Rattle.types.specs.Slots.{live6}
-use Rattle.types.specs.declared.slots.Slot6.{Slot6}
-use Rattle.types.specs.declared.slots.Slot6.TheVariants as slot6
+use Rattle.types.specs.declared.slot6.Slot6.{Slot6}
+use Rattle.types.specs.declared.slot6.Slot6.TheVariants as slot6
 use Rattle.types.specs.declared.slots.Slots.{Slots}
 use Rattle.bindings_v6.specs.declared.decision6.KeptSlot.{KeptSlot}
 use Rattle.bindings_v6.specs.Book6.{Book6}
-use Rattle.bindings_v6.specs.Slots6.{Holders6, holder_of, book_of}
+use Rattle.bindings_v6.specs.Slots6.{Holders6, holder_of, book6_of}
 
 -- The book that the slots of a region mean for a pool, at their own clock: slot i is the pool's address
 -- i, the lowest is 0, and what has expired is left out.
 abbrev pub book6_in : Pool6Value → Slots → Book6
 book6_in pool region =
-    book_of region.clock (record { pool = pool; slots = map (λ slot. holder_of (live6 region.clock slot)) region.six })
+    book6_of region.clock (record { pool = pool; slots = map (λ slot. holder_of (live6 region.clock slot)) region.six })
 
 -- a holder as a region writes it; an offer is in memory only
 abbrev pub slot_of : Option (Holder Key6Value) → Slot6

@@ -2,7 +2,7 @@
 use Rattle.std.specs.Prelude.{◌≡◌, ℕ, ◌+◌, Option, option_map, IfSome}
 use Rattle.types.specs.Addr.{number6, addr6}
 use Rattle.types.specs.Pool6.{Pool6Value}
-use Rattle.types.specs.declared.request6.Reply6.{Reply6}
+use Rattle.exchange.specs.declared.request6.Reply6.{Reply6}
 use Rattle.bindings_v6.specs.declared.decision6.Decision6.{Decision6}
 use Rattle.bindings_v6.specs.declared.case6.Case6.{Case6}
 use Rattle.bindings_v6.specs.declared.table6.Lookup6.{Lookup6}

@@ -7,8 +7,8 @@ use Rattle.slots.specs.declared.holder.Holder.TheVariants.{Bound, Barred}
 use Rattle.types.specs.Addr.{number6}
 use Rattle.types.specs.Key6.{Key6Value, same_key6}
 use Rattle.types.specs.Pool6.{IsPool6, Pool6Value}
-use Rattle.types.specs.declared.slots.Slot6.{Slot6}
-use Rattle.types.specs.declared.slots.Slot6.TheVariants as slot6
+use Rattle.types.specs.declared.slot6.Slot6.{Slot6}
+use Rattle.types.specs.declared.slot6.Slot6.TheVariants as slot6
 use Rattle.bindings_v6.specs.declared.decision6.Decision6.{Decision6}
 use Rattle.bindings_v6.specs.declared.decision6.KeptSlot.{KeptSlot}
 use Rattle.bindings_v6.specs.Book6.{Book6, book6_at}
@@ -27,8 +27,8 @@ abbrev pub book_of_slots : ℕ → Holders6 → Book6
 book_of_slots first slots = record { bindings = leases key6_cmp bound_to first slots; bars = bars_of first slots }
 
 -- The book that a pool's slots show at a clock.
-abbrev pub book_of : ℕ → PoolSlots → Book6
-book_of clock v = book6_at clock (book_of_slots (number6 v.pool.first) v.slots)
+abbrev pub book6_of : ℕ → PoolSlots → Book6
+book6_of clock v = book6_at clock (book_of_slots (number6 v.pool.first) v.slots)
 
 -- no slot is offered: DHCPv6 has bindings and bars alone
 abbrev pub HaveNoOffers : Holders6 → Type 0

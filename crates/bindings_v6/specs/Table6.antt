@@ -13,15 +13,15 @@ use Rattle.types.specs.declared.addr.Addr6.{Addr6}
 use Rattle.types.specs.declared.discard.Discard.TheVariants as reason
 use Rattle.types.specs.declared.kind6.Kind6.{Kind6}
 use Rattle.types.specs.declared.kind6.Kind6.TheVariants.{Solicit, Request, Confirm, Renew, Rebind, Release, Decline}
-use Rattle.types.specs.declared.request6.Reply6.{Reply6}
-use Rattle.types.specs.declared.request6.ReplyIa.TheVariants as reply_ia
-use Rattle.types.specs.declared.request6.ReplyKind6.{ReplyKind6}
-use Rattle.types.specs.declared.request6.ReplyKind6.TheVariants.{Advertise, Reply}
-use Rattle.types.specs.declared.request6.Request6.{Request6}
-use Rattle.types.specs.declared.request6.ServerId.{ServerId}
-use Rattle.types.specs.declared.request6.ServerId.TheVariants as server_id
-use Rattle.types.specs.declared.request6.Status6.{Status6}
-use Rattle.types.specs.declared.request6.Status6.TheVariants.{Success, NoAddrsAvail, NoBinding, NotOnLink}
+use Rattle.exchange.specs.declared.request6.Reply6.{Reply6}
+use Rattle.exchange.specs.declared.request6.ReplyIa.TheVariants as reply_ia
+use Rattle.exchange.specs.declared.request6.ReplyKind6.{ReplyKind6}
+use Rattle.exchange.specs.declared.request6.ReplyKind6.TheVariants.{Advertise, Reply}
+use Rattle.exchange.specs.declared.request6.Request6.{Request6}
+use Rattle.exchange.specs.declared.request6.ServerId.{ServerId}
+use Rattle.exchange.specs.declared.request6.ServerId.TheVariants as server_id
+use Rattle.exchange.specs.declared.request6.Status6.{Status6}
+use Rattle.exchange.specs.declared.request6.Status6.TheVariants.{Success, NoAddrsAvail, NoBinding, NotOnLink}
 use Rattle.bindings_v6.specs.Book6.{Book6, in_pool, pick}
 
 abbrev pub with_change : Key6Value → Change → Book6 → Book6

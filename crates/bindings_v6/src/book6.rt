@@ -4,11 +4,11 @@ ghost use Rattle.slots.specs.Kept.{AreOffersWithin, AreWithin};
 ghost use Rattle.slots.specs.Lookup.{live, slot_in, until_of};
 ghost use Rattle.types.specs.Addr.{number6};
 ghost use Rattle.types.specs.Slots.{IsWithin6, live6, none_twice, same_client6};
-ghost use Rattle.types.specs.declared.slots.Slot6.TheVariants.{Free};
+ghost use Rattle.types.specs.declared.slot6.Slot6.TheVariants.{Free};
 ghost use Rattle.bindings_v6.specs.Decision6.{decision_of};
 ghost use Rattle.bindings_v6.specs.Kept6.{EndsBy, book6_in, keep_in, kept_slots};
 ghost use Rattle.bindings_v6.specs.Lookup6.{IsAt, IsLookup, lookup_of};
-ghost use Rattle.bindings_v6.specs.Slots6.{AreSlots, book_of, with_decision, with_written};
+ghost use Rattle.bindings_v6.specs.Slots6.{AreSlots, book6_of, with_decision, with_written};
 ghost use Rattle.bindings_v6.specs.Table6.{answer6, lookup_in, row6};
 
 use crate::case6::{Case6, SlotAddress};
@@ -17,7 +17,8 @@ use crate::kept::{holder_of, kept_slots, live_holders};
 use crate::table6::{Lookup6, decision_for, first_listed};
 use slots::{Holder, SlotTable};
 use std::marker::Model;
-use types::{Addr6, Key6, Moment, Pool6, Request6, Slots};
+use exchange::Request6;
+use types::{Addr6, Key6, Moment, Pool6, Slots};
 
 /// The leases of one circuit's pool, by slot. It has no clock: what has expired counts no longer, and
 /// stays until its slot or its client gets something new.
@@ -45,7 +46,7 @@ impl Book6 {
         requires past { (i : ℕ) → pool.count ≤ i → slice_index_or slots.now.six i Free ≡ Free }
         requires once { none_twice same_client6 (map (live6 slots.now.clock) slots.now.six) ≡ true }
         ensures pool { result.pool ≡ pool }
-        ensures book { book_of slots.now.clock result ≡ book6_in pool slots.now }
+        ensures book { book6_of slots.now.clock result ≡ book6_in pool slots.now }
         ensures within { All IsWithin6 slots.now.six → AreWithin result.slots }
         ensures offers { AreOffersWithin result.slots }
         ensures kept { kept_slots slots.now.clock result.slots ≡ map (live6 slots.now.clock) slots.now.six }
@@ -62,7 +63,7 @@ impl Book6 {
         ensures six { slots.new.six ≡ kept_slots slots.old.clock self.now.slots }
         ensures four { slots.new.four ≡ slots.old.four }
         ensures clock { slots.new.clock ≡ slots.old.clock }
-        ensures book { book6_in self.now.pool slots.new ≡ book_of slots.old.clock self.now }
+        ensures book { book6_in self.now.pool slots.new ≡ book6_of slots.old.clock self.now }
         ensures past { (i : ℕ) → self.now.pool.count ≤ i → slice_index_or slots.new.six i Free ≡ Free }
         ensures live { All (λ slot. live6 slots.old.clock slot ≡ slot) slots.new.six }
         ensures once { none_twice same_client6 slots.new.six ≡ true }
@@ -73,11 +74,11 @@ impl Book6 {
 
     /// What a client's message calls for at this clock. Nothing is changed.
     pub fn decide(&self, request: &Request6, clock: Moment) -> Decision6
-        ensures exact { result ≡ decision_of (number6 self.now.pool.first) clock request.now.key (row6 self.now.pool clock (book_of clock self.now) request.now) }
+        ensures exact { result ≡ decision_of (number6 self.now.pool.first) clock request.now.key (row6 self.now.pool clock (book6_of clock self.now) request.now) }
         ensures clock { result.clock ≡ clock }
-        ensures keep { is_some result.keep ≡ (answer6 self.now.pool clock (book_of clock self.now) request.now).is_kept }
-        ensures answer { result.answer ≡ (answer6 self.now.pool clock (book_of clock self.now) request.now).answer }
-        ensures book { book_of clock (with_decision result self.now) ≡ (answer6 self.now.pool clock (book_of clock self.now) request.now).book }
+        ensures keep { is_some result.keep ≡ (answer6 self.now.pool clock (book6_of clock self.now) request.now).is_kept }
+        ensures answer { result.answer ≡ (answer6 self.now.pool clock (book6_of clock self.now) request.now).answer }
+        ensures book { book6_of clock (with_decision result self.now) ≡ (answer6 self.now.pool clock (book6_of clock self.now) request.now).book }
         ensures within { IfSome result.keep (λ kept. EndsBy (clock + 604800) kept.content) }
         ensures slot { IfSome result.keep (λ kept. kept.slot < self.now.pool.count) }
         ensures few { self.now.pool.count ≤ 16 }
@@ -119,7 +120,7 @@ impl Book6 {
 
     /// What the table looks at of this client.
     fn look_up(&self, request: &Request6, clock: Moment) -> Lookup6
-        ensures found { lookup_of result ≡ lookup_in self.now.pool (book_of clock self.now) request.now }
+        ensures found { lookup_of result ≡ lookup_in self.now.pool (book6_of clock self.now) request.now }
         ensures at { IsLookup self.now.pool result }
         ensures slots { AreSlots self.now.pool self.now.slots }
     {

@@ -1,16 +1,15 @@
 //! The replies and the decisions that the rows of the table have.
 ghost use Rattle.std.specs.Prelude.{◌≡◌, ◌+◌, Some, None};
 ghost use Rattle.types.specs.Addr.{number6, addr6};
-ghost use Rattle.types.specs.declared.request6.Status6.TheVariants.{Success};
+ghost use Rattle.exchange.specs.declared.request6.Status6.TheVariants.{Success};
 ghost use Rattle.bindings_v6.specs.Lookup6.{IsAt, decision_in};
 ghost use Rattle.slots.specs.Row.{Unchanged, Bars, Frees, drops, replies};
 ghost use Rattle.bindings_v6.specs.Table6.{grants, refusal, assignment, message_status};
 
 use crate::decision6::{Decision6, KeptSlot};
 use arrayvec::ArrayVec;
-use types::{
-    Addr6, Discard, Key6, MAX_LISTED, Moment, Pool6, Reply6, ReplyIa, ReplyKind6, Slot6, Status6,
-};
+use exchange::{MAX_LISTED, Reply6, ReplyIa, ReplyKind6, Status6};
+use types::{Addr6, Discard, Key6, Moment, Pool6, Slot6};
 
 /// How long an address that a client declined is given to nobody, in seconds.
 const BAR_TIME: u64 = 3600;

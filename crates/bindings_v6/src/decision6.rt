@@ -1,5 +1,6 @@
 //! What a book decides on a client's message.
-use types::{Discard, Moment, Reply6, Slot6};
+use exchange::Reply6;
+use types::{Discard, Moment, Slot6};
 
 /// What a client is answered, and what the answer changes. Nothing is changed until `Book6::commit`.
 #[derive(Drop)]

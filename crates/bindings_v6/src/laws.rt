@@ -5,30 +5,31 @@ ghost use Rattle.slots.specs.Kept.{AreWithin};
 ghost use Rattle.slots.specs.Maps.{Lease};
 ghost use Rattle.types.specs.Key6.{Key6Value};
 ghost use Rattle.types.specs.Pool6.{IsPool6, Pool6Value};
-ghost use Rattle.types.specs.declared.request6.Request6.{Request6};
+ghost use Rattle.exchange.specs.declared.request6.Request6.{Request6};
 ghost use Rattle.types.specs.Slots.{IsWithin6, live6, none_twice, same_client6};
-ghost use Rattle.types.specs.declared.slots.Slot6.TheVariants.{Free};
+ghost use Rattle.types.specs.declared.slot6.Slot6.TheVariants.{Free};
 ghost use Rattle.types.specs.declared.slots.Slots.{Slots};
 ghost use Rattle.bindings_v6.specs.Book6.{book6_at, empty_book};
 ghost use Rattle.bindings_v6.specs.Book6 as maps;
 ghost use Rattle.bindings_v6.specs.IsBook6.{IsBook6, LeavesABook, KeepsOthers, ChangesNothing, GivesWholeAddresses, GrantsItsOwn, RenewsInTime, KeepsItsLease};
 ghost use Rattle.bindings_v6.specs.Kept6.{book6_in, kept_slots};
-ghost use Rattle.bindings_v6.specs.Slots6.{book_of};
+ghost use Rattle.bindings_v6.specs.Slots6.{book6_of};
 
 use crate::book6::Book6;
-use types::{Moment, Pool6, Request6};
+use exchange::Request6;
+use types::{Moment, Pool6};
 
 /// A book at a later clock is what that clock leaves of the book at an earlier one: a caller whose
 /// clock moves has nothing to do.
 pub fn expires_by_the_clock(book: &Book6, clock: Moment, later: Moment)
     requires { clock ≤ later }
-    ensures book { book6_at later (book_of clock book.now) ≡ book_of later book.now }
+    ensures book { book6_at later (book6_of clock book.now) ≡ book6_of later book.now }
     ensures kept { kept_slots later book.now.slots ≡ map (live6 later) (kept_slots clock book.now.slots) }
 {}
 
 /// What a book shows is a book: nothing has to be known of how it came about.
 pub fn is_a_book(book: &Book6, clock: Moment)
-    ensures { IsBook6 clock (book_of clock book.now) }
+    ensures { IsBook6 clock (book6_of clock book.now) }
 {
     let _slots = book.slots();
 }
@@ -84,7 +85,7 @@ pub fn keeps_a_book(book: &Book6, clock: Moment)
     ensures live { All (λ slot. live6 clock slot ≡ slot) (kept_slots clock book.now.slots) }
     ensures once { none_twice same_client6 (kept_slots clock book.now.slots) ≡ true }
     ensures within { AreWithin book.now.slots → All IsWithin6 (kept_slots clock book.now.slots) }
-    ensures book { (region : Slots) → region.six ≡ kept_slots clock book.now.slots → region.clock ≡ clock → book6_in book.now.pool region ≡ book_of clock book.now }
+    ensures book { (region : Slots) → region.six ≡ kept_slots clock book.now.slots → region.clock ≡ clock → book6_in book.now.pool region ≡ book6_of clock book.now }
 {
     let _slots = book.slots();
 }

@@ -2,7 +2,8 @@
 ghost use Rattle.std.specs.Prelude.{◌≡◌};
 ghost use Rattle.bindings_v6.specs.Table6.{is_for_us};
 
-use types::{Kind6, ServerId};
+use exchange::ServerId;
+use types::Kind6;
 
 /// Whether a message names a server as its type has to: none where any server may answer, else this one
 /// (RFC 8415, sections 16.2 and 16.4 to 16.9).

@@ -11,9 +11,8 @@ use crate::case6::{Case6, SlotAddress, assignment, message_status, refusal};
 use crate::decision6::Decision6;
 use crate::server6::is_for_us;
 use arrayvec::ArrayVec;
-use types::{
-    Addr6, Discard, Kind6, MAX_LISTED, Pool6, Reply6, ReplyIa, ReplyKind6, Request6, Status6,
-};
+use exchange::{MAX_LISTED, Reply6, ReplyIa, ReplyKind6, Request6, Status6};
+use types::{Addr6, Discard, Kind6, Pool6};
 
 /// What the table looks at of a client: its live binding, and its pick.
 #[derive(Clone, Copy)]

@@ -17,7 +17,7 @@ use Rattle.lease_disk.specs.Region.{Region, effective, faults_after}
 use Rattle.circuit_server.specs.Leases.{Leases, after_datagram, formats_of, kept, restarts_of, restarts_after}
 use Rattle.circuit_server.specs.Answered.{after_save, answered, circuit_saves, fails_at, saves}
 use Rattle.circuit_server.specs.Server.{Book, Served, book_at, datagram_served, message4_served, request4_served, served}
-use Rattle.circuit_server.specs.CircuitServerValue.{CircuitServerValue, OpenCircuitValue, book_of, leases_of, open_book}
+use Rattle.circuit_server.specs.CircuitServerValue.{CircuitServerValue, OpenCircuitValue, server_book, leases_of, open_book}
 
 -- ---- by whom a datagram is for
 
@@ -87,13 +87,13 @@ save_held fails done held = rw held (rw (and_false done.is_kept) refl)
 pub save_failed : (fails : Bool) (done : Served) → fails ≡ true → done.is_kept ≡ true → after_save fails done ≡ record { answer = Err DiskFault; book = None }
 save_failed fails done failed is = rw failed (rw is refl)
 
--- whether a decision's save fails, by the fuse of its region
+-- whether a decision's save fails, by the failing_call of its region
 abbrev pub save_fails : ℕ → Served → Bool
-save_fails fuse done = done.is_kept && not (effective 6 fuse == 0)
+save_fails failing_call done = done.is_kept && not (effective 6 failing_call == 0)
 
-fails_where : (fuses : ℕ → ℕ) (region q : ℕ) (is_kept : Bool) → (region == q && (is_kept && not (effective 6 (fuses region) == 0))) ≡ fails_at fuses (if is_kept then Some region else None) q
-fails_where fuses region q true = refl
-fails_where fuses region q false = and_false (region == q)
+fails_where : (failing_calls : ℕ → ℕ) (region q : ℕ) (is_kept : Bool) → (region == q && (is_kept && not (effective 6 (failing_calls region) == 0))) ≡ fails_at failing_calls (if is_kept then Some region else None) q
+fails_where failing_calls region q true = refl
+fails_where failing_calls region q false = and_false (region == q)
 
 pub either_way : (r q : ℕ) → (q == r) ≡ (r == q)
 either_way r q = by (q == r) (r == q) refl refl where
@@ -121,17 +121,17 @@ left part region book = record { book = book; restarts = restarts_of part region
 abbrev before : CircuitPart → (ℕ → Region) → Book → Leases
 before part regions b = left part (regions part.region) (Some b)
 
-module _ (part : CircuitPart) (regions later : ℕ → Region) (b : Book) (done : Served) (fuse : ℕ) (ok : Bool) where
+module _ (part : CircuitPart) (regions later : ℕ → Region) (b : Book) (done : Served) (failing_call : ℕ) (ok : Bool) where
   leases_after : (is_kept : Bool) → done.is_kept ≡ is_kept
-      → (is_kept ≡ true → restarts_of part (later part.region) ≡ restarts_after (effective 6 fuse) done.book (restarts_of part (regions part.region)))
+      → (is_kept ≡ true → restarts_of part (later part.region) ≡ restarts_after (effective 6 failing_call) done.book (restarts_of part (regions part.region)))
       → (is_kept ≡ false → later ≡ regions)
-      → ok ≡ not (is_kept && not (effective 6 fuse == 0))
+      → ok ≡ not (is_kept && not (effective 6 failing_call == 0))
       → formats_of (later part.region) ≡ formats_of (regions part.region)
-      → left part (later part.region) (if ok then Some done.book else None) ≡ kept fuse done (before part regions b)
+      → left part (later part.region) (if ok then Some done.book else None) ≡ kept failing_call done (before part regions b)
   leases_after false is saves stays answer formats =
       rw is (rw answer (λ i. left part (stays refl i part.region) (Some done.book)))
   leases_after true is saves stays answer formats =
-      rw is (rw (answer ∙ not_not (effective 6 fuse == 0)) (λ i. record { book = if effective 6 fuse == 0 then Some done.book else None; restarts = saves refl i; is_new = formats i }))
+      rw is (rw (answer ∙ not_not (effective 6 failing_call == 0)) (λ i. record { book = if effective 6 failing_call == 0 then Some done.book else None; restarts = saves refl i; is_new = formats i }))
 
 -- ---- what is written
 
@@ -148,38 +148,38 @@ pub record WasAsked (s : CircuitServerValue) (d : DeliveryValue) (part : Circuit
   pub served_so : served part d (open_book o) ≡ done
 
 module _ {s : CircuitServerValue} {d : DeliveryValue} {part : CircuitPart} {o : OpenCircuitValue} {done : Served} (case : WasAsked s d part o done) where
-  pub as_served : (fails : Bool) → answered s.part d fails (book_of s) ≡ after_save fails done
-  as_served fails = ap (λ v. answered v.part d fails (book_of v)) case.was ∙ ap (after_save fails) case.served_so
+  pub as_served : (fails : Bool) → answered s.part d fails (server_book s) ≡ after_save fails done
+  as_served fails = ap (λ v. answered v.part d fails (server_book v)) case.was ∙ ap (after_save fails) case.served_so
 
-  pub held : (fails : Bool) → fails ≡ false → answered s.part d fails (book_of s) ≡ record { answer = done.answer; book = Some done.book }
+  pub held : (fails : Bool) → fails ≡ false → answered s.part d fails (server_book s) ≡ record { answer = done.answer; book = Some done.book }
   held fails saved = as_served fails ∙ save_held fails done saved
 
-  pub failed : (fails : Bool) → fails ≡ true → done.is_kept ≡ true → answered s.part d fails (book_of s) ≡ record { answer = Err DiskFault; book = None }
+  pub failed : (fails : Bool) → fails ≡ true → done.is_kept ≡ true → answered s.part d fails (server_book s) ≡ record { answer = Err DiskFault; book = None }
   failed fails unsaved keeps = as_served fails ∙ save_failed fails done unsaved keeps
 
   -- what is saved, and where
-  pub saves_so : circuit_saves d (Some s.part) (Some (book_of s)) ≡ saves part done
-  saves_so = ap (λ v. circuit_saves d (Some v.part) (Some (book_of v))) case.was ∙ ap (saves part) case.served_so
+  pub saves_so : circuit_saves d (Some s.part) (Some (server_book s)) ≡ saves part done
+  saves_so = ap (λ v. circuit_saves d (Some v.part) (Some (server_book v))) case.was ∙ ap (saves part) case.served_so
 
-  pub fails_as : (fuses : ℕ → ℕ) (q : ℕ) (fails : Bool) → fails ≡ (part.region == q && save_fails (fuses part.region) done) → fails ≡ fails_at fuses (circuit_saves d (Some s.part) (Some (book_of s))) q
-  fails_as fuses q fails by_decision = by_decision ∙ fails_where fuses part.region q done.is_kept ∙ sym (ap (λ (saved : Option ℕ). fails_at fuses saved q) saves_so)
+  pub fails_as : (failing_calls : ℕ → ℕ) (q : ℕ) (fails : Bool) → fails ≡ (part.region == q && save_fails (failing_calls part.region) done) → fails ≡ fails_at failing_calls (circuit_saves d (Some s.part) (Some (server_book s))) q
+  fails_as failing_calls q fails by_decision = by_decision ∙ fails_where failing_calls part.region q done.is_kept ∙ sym (ap (λ (saved : Option ℕ). fails_at failing_calls saved q) saves_so)
 
   pub writes_as : (tells : Bool) (old new : Device) → (done.is_kept ≡ false → new ≡ old) → Touches tells part.region old new
-      → WritesAt tells (circuit_saves d (Some s.part) (Some (book_of s))) old new
+      → WritesAt tells (circuit_saves d (Some s.part) (Some (server_book s))) old new
   writes_as tells old new stays touches =
       subst (λ (region : Option ℕ). WritesAt tells region old new)
       (sym saves_so)
       (writes_if tells done.is_kept part.region old new stays touches)
 
-  pub leases_as : (regions later : ℕ → Region) (fuses : ℕ → ℕ) (b : Book) (ok : Bool) → b ≡ done.book
-      → (done.is_kept ≡ true → restarts_of part (later part.region) ≡ restarts_after (effective 6 (fuses part.region)) b (restarts_of part (regions part.region)))
+  pub leases_as : (regions later : ℕ → Region) (failing_calls : ℕ → ℕ) (b : Book) (ok : Bool) → b ≡ done.book
+      → (done.is_kept ≡ true → restarts_of part (later part.region) ≡ restarts_after (effective 6 (failing_calls part.region)) b (restarts_of part (regions part.region)))
       → (done.is_kept ≡ false → later ≡ regions)
-      → ok ≡ not (save_fails (fuses part.region) done)
+      → ok ≡ not (save_fails (failing_calls part.region) done)
       → formats_of (later part.region) ≡ formats_of (regions part.region)
-      → left part (later part.region) (if ok then Some b else None) ≡ after_datagram s.part d (fuses s.part.region) (leases_of regions s)
-  leases_as regions later fuses b ok book saves stays answer formats =
-      let K : Book → Type 0 = λ x. restarts_of part (later part.region) ≡ restarts_after (effective 6 (fuses part.region)) x (restarts_of part (regions part.region)) in
+      → left part (later part.region) (if ok then Some b else None) ≡ after_datagram s.part d (failing_calls s.part.region) (leases_of regions s)
+  leases_as regions later failing_calls b ok book saves stays answer formats =
+      let K : Book → Type 0 = λ x. restarts_of part (later part.region) ≡ restarts_after (effective 6 (failing_calls part.region)) x (restarts_of part (regions part.region)) in
       ap (λ x. left part (later part.region) (if ok then Some x else None)) book
-      ∙ leases_after part regions later (open_book o) done (fuses part.region) ok done.is_kept refl (λ keeps. subst K book (saves keeps)) stays answer formats
-      ∙ ap (λ d. kept (fuses part.region) d (before part regions (open_book o))) (sym case.served_so)
-      ∙ sym (ap (λ v. after_datagram v.part d (fuses v.part.region) (leases_of regions v)) case.was)
+      ∙ leases_after part regions later (open_book o) done (failing_calls part.region) ok done.is_kept refl (λ keeps. subst K book (saves keeps)) stays answer formats
+      ∙ ap (λ d. kept (failing_calls part.region) d (before part regions (open_book o))) (sym case.served_so)
+      ∙ sym (ap (λ v. after_datagram v.part d (failing_calls v.part.region) (leases_of regions v)) case.was)

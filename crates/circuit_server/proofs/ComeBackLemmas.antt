@@ -5,7 +5,7 @@ use Rattle.config.specs.CircuitPart.{CircuitPart, IsPart}
 use Rattle.lease_disk.specs.Layout.{is_format2}
 use Rattle.lease_disk.specs.Moving.{HasAddress, IsMigrated, moves, succeeds}
 use Rattle.lease_disk.specs.Recovered.{recovered}
-use Rattle.lease_disk.specs.Region.{Region, effective, image, IsClean, IsCrash, SameBeside}
+use Rattle.lease_disk.specs.Region.{Region, effective, image, IsClean, IsCrash, OthersUnchanged}
 use Rattle.lease_disk.specs.declared.marks.Mark.{Mark}
 use Rattle.lease_disk.specs.Save.{gate_at, other}
 use Rattle.lease_disk.proofs.Halves.{format_apart}
@@ -73,7 +73,7 @@ module _ (part : CircuitPart) (has : HasAddress (counts_of part)) (fault : ℕ) 
   same_formats clean = λ j. λ byte. same_format clean byte (is_moved (recovered_book part old.byte) (is_format2 old.byte)) refl j
 
 -- a save leaves the format
-pub formats_same : (s : ℕ) (mark : Mark) (old new : Region) → SameBeside (gate_at s mark) 256 old new → formats_of new ≡ formats_of old
+pub formats_same : (s : ℕ) (mark : Mark) (old new : Region) → OthersUnchanged (gate_at s mark) 256 old new → formats_of new ≡ formats_of old
 formats_same s mark old new beside =
     let apart = format_apart s (other mark.half) in
     λ j. λ byte. (if beside.unsynced 8192 apart j then byte else beside.byte 8192 apart j) == 2

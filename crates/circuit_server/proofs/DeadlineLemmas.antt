@@ -111,7 +111,7 @@ one_more first count state old before after until below room is put set_before =
       own = λ s h. by s h (s == count) refl;
       beside = record {
         size = length-set before.slots (first + count) until ∙ set_before.beside.size;
-        looks = set_before.beside.looks;
+        examined = set_before.beside.examined;
         beside = λ n out. put_other before (first + count) n until (λ same. apart n same out) ∙ set_before.beside.beside n out;
       };
     }) where
@@ -344,7 +344,7 @@ beside_one : (first n : ℕ) (until : Option ℕ) (old table : DeadlinesValue) �
 beside_one first n until old table least below same =
     record {
       size = length-set table.slots n until ∙ same.size;
-      looks = same.looks;
+      examined = same.examined;
       beside = λ m out. put_other table n m until (λ e. apart m e out) ∙ same.beside m out;
     } where
       apart : (m : ℕ) → m ≡ n → (m < first) ⊎ (first + 32 ≤ m) → ⊥
@@ -364,7 +364,7 @@ beside_kept6 None first old table its same = same
 beside_kept6 (Some kept) first old table its same = beside_one first (first + (16 + kept.slot)) _ old table (omega arith) (omega (arith, its)) same
 
 pub unchanged : (first : ℕ) (table : DeadlinesValue) → OthersUnchanged first table table
-unchanged first table = record { size = refl; looks = refl; beside = λ n out. refl }
+unchanged first table = record { size = refl; examined = refl; beside = λ n out. refl }
 
 pub beside_decision : (d : CircuitDecision) (table : DeadlinesValue) (first : ℕ) → HasItsSlots d → OthersUnchanged first table (with_deadlines d first table)
 beside_decision (V4 made) table first its = beside_kept4 (kept_slot made.decision.change) first table (with_offered first (offer_change made.decision.change) table) its.0 (beside_offered (offer_change made.decision.change) first table table its.1 (unchanged first table))

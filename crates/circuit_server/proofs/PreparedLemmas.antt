@@ -231,15 +231,15 @@ module _ (part : CircuitPart) (d : DeliveryValue) (old new : Option OpenCircuitV
           subst (λ b. IsCalledToSaveAt (if b then Some part.region else None) was later) (sym (keeps_some prepared.decision kept is)) (called_one tells part.region saved was later one.frame one.writes one.most one.failures)
 
     module _ (told : tells ≡ true) where
-      pub alone_ok : not (is_ok saved) ≡ (is_kept prepared.decision && not (effective 6 (was.fuse part.region) == 0))
+      pub alone_ok : not (is_ok saved) ≡ (is_kept prepared.decision && not (effective 6 (was.failing_call part.region) == 0))
       alone_ok = by (kept_in prepared.decision) refl where
-        by : (kept : Option (ℕ × Content)) → kept_in prepared.decision ≡ kept → not (is_ok saved) ≡ (is_kept prepared.decision && not (effective 6 (was.fuse part.region) == 0))
-        by None is = fine (none_is is).0 ∙ sym (ap (λ b. b && not (effective 6 (was.fuse part.region) == 0)) (keeps_none prepared.decision is))
-        by (Some kept) is = ap not ((some_is kept is).answer told) ∙ sym (ap (λ b. b && not (effective 6 (was.fuse part.region) == 0)) (keeps_some prepared.decision kept is))
+        by : (kept : Option (ℕ × Content)) → kept_in prepared.decision ≡ kept → not (is_ok saved) ≡ (is_kept prepared.decision && not (effective 6 (was.failing_call part.region) == 0))
+        by None is = fine (none_is is).0 ∙ sym (ap (λ b. b && not (effective 6 (was.failing_call part.region) == 0)) (keeps_none prepared.decision is))
+        by (Some kept) is = ap not ((some_is kept is).answer told) ∙ sym (ap (λ b. b && not (effective 6 (was.failing_call part.region) == 0)) (keeps_some prepared.decision kept is))
 
-      pub alone_saved : WasSaved prepared.saving saved (was.fuse part.region) (was.region part.region) (later.region part.region)
-      alone_saved = subst (λ s. WasSaved s saved (was.fuse part.region) (was.region part.region) (later.region part.region)) (sym p.saving) (by (kept_in prepared.decision) refl) where
-        by : (kept : Option (ℕ × Content)) → kept_in prepared.decision ≡ kept → WasSaved (option_map (saving_of part p.after) kept) saved (was.fuse part.region) (was.region part.region) (later.region part.region)
+      pub alone_saved : WasSaved prepared.saving saved (was.failing_call part.region) (was.region part.region) (later.region part.region)
+      alone_saved = subst (λ s. WasSaved s saved (was.failing_call part.region) (was.region part.region) (later.region part.region)) (sym p.saving) (by (kept_in prepared.decision) refl) where
+        by : (kept : Option (ℕ × Content)) → kept_in prepared.decision ≡ kept → WasSaved (option_map (saving_of part p.after) kept) saved (was.failing_call part.region) (was.region part.region) (later.region part.region)
         by None is = let none = none_is is in (none.0, ap (λ (device : Device). device.region part.region) none.1)
         by (Some kept) is = let one = some_is kept is in (one.saved told, one.answer told, one.marks)
 
@@ -360,5 +360,5 @@ pub answered_entries : (part : CircuitPart) (prepared : Prepared) (saved : Resul
 answered_entries part prepared saved circuit old middle new state final result out settled before after = record {
   deadlines = after.deadlines;
   own = answered_own part prepared saved (32 * circuit) old middle new state final result out settled before.own after.own after.deadlines;
-  others = record { size = after.others.size ∙ before.others.size; looks = after.others.looks ∙ before.others.looks; beside = λ n out. after.others.beside n out ∙ before.others.beside n out };
+  others = record { size = after.others.size ∙ before.others.size; examined = after.others.examined ∙ before.others.examined; beside = λ n out. after.others.beside n out ∙ before.others.beside n out };
 }

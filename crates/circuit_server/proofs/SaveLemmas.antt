@@ -4,7 +4,7 @@ use Rattle.std.specs.Prelude.{Some, IfSome, Option, None, option_map, slice_set,
 use Rattle.std.proofs.lemmas.Bool.{eqb-true, leb-true}
 use Rattle.std.proofs.lemmas.List.Folds.{map_fixed}
 use Rattle.types.specs.declared.slot4.Slot4.{Slot4}
-use Rattle.types.specs.declared.slots.Slot6.{Slot6}
+use Rattle.types.specs.declared.slot6.Slot6.{Slot6}
 use Rattle.types.specs.declared.slots.Slots.{Slots}
 use Rattle.types.specs.Slots.{live4, live6}
 use Rattle.config.specs.CircuitPart.{CircuitPart}
@@ -38,37 +38,37 @@ module _ (part : CircuitPart) (b : Book) (before slots : Slots) (old new : Regio
   after_ok saved = λ j. λ byte.
       (ap (recovered_book part) (clean_image new saved.clean byte) ∙ ap (option_map (book_in part)) saved.kept ∙ ap Some means) j
 
-  module _ (fuse gate : ℕ) (clean : IsClean old) (left : IsLeft fuse gate (Some before) (Some slots) (counts_of part) new) where
+  module _ (failing_call gate : ℕ) (clean : IsClean old) (left : IsLeft failing_call gate (Some before) (Some slots) (counts_of part) new) where
     crash : (byte : ℕ) → IsCrash new (image byte new)
     crash byte = record { same = λ i synced. ap (λ u. cond u byte (new.byte i)) synced }
 
-    by_gate : (byte : ℕ) (late : Bool) → nat_le 5 fuse ≡ late → (late && image byte new gate == 165) ≡ (late && byte == 165)
+    by_gate : (byte : ℕ) (late : Bool) → nat_le 5 failing_call ≡ late → (late && image byte new gate == 165) ≡ (late && byte == 165)
     by_gate byte false is = refl
-    by_gate byte true is = ap (λ u. cond u byte (new.byte gate) == 165) (left.doubt (leb-true 5 fuse is))
+    by_gate byte true is = ap (λ u. cond u byte (new.byte gate) == 165) (left.doubt (leb-true 5 failing_call is))
 
     either : (byte : ℕ) (there : Bool)
         → option_map (book_in part) (if there then Some slots else Some before) ≡ (if there then Some (kept_book b) else restarts_of part old byte)
     either byte true = ap Some means
     either byte false = ap (option_map (book_in part)) (sym was) ∙ ap (recovered_book part) (sym (clean_image old clean byte))
 
-    left_at : (byte : ℕ) → restarts_of part new byte ≡ (if nat_le 5 fuse && byte == 165 then Some (kept_book b) else restarts_of part old byte)
+    left_at : (byte : ℕ) → restarts_of part new byte ≡ (if nat_le 5 failing_call && byte == 165 then Some (kept_book b) else restarts_of part old byte)
     left_at byte =
-        ap (option_map (book_in part)) (left.crash (image byte new) (crash byte) ∙ ap (λ x. if x then Some slots else Some before) (by_gate byte (nat_le 5 fuse) refl))
-        ∙ either byte (nat_le 5 fuse && byte == 165)
+        ap (option_map (book_in part)) (left.crash (image byte new) (crash byte) ∙ ap (λ x. if x then Some slots else Some before) (by_gate byte (nat_le 5 failing_call) refl))
+        ∙ either byte (nat_le 5 failing_call && byte == 165)
 
-    pub after_err : (few : Bool) → nat_le fuse 6 ≡ few → ((if few then fuse else 0) == 0) ≡ false
-        → restarts_of part new ≡ restarts_after (if few then fuse else 0) b (restarts_of part old)
+    pub after_err : (few : Bool) → nat_le failing_call 6 ≡ few → ((if few then failing_call else 0) == 0) ≡ false
+        → restarts_of part new ≡ restarts_after (if few then failing_call else 0) b (restarts_of part old)
     after_err false is fails = absurd cc
     after_err true is fails = λ j. λ byte.
-        (left_at byte ∙ sym (ap (λ zero. if zero || (nat_le 5 fuse && byte == 165) then Some (kept_book b) else restarts_of part old byte) fails)) j
+        (left_at byte ∙ sym (ap (λ zero. if zero || (nat_le 5 failing_call && byte == 165) then Some (kept_book b) else restarts_of part old byte) fails)) j
 
-  pub after_save : (fuse gate : ℕ) (result : Result (Unit {0}) Fault) → IsClean old
-      → is_ok result ≡ (effective 6 fuse == 0) → OnOk result (IsSaved (counts_of part) slots new)
-      → OnErr result (IsLeft fuse gate (Some before) (Some slots) (counts_of part) new)
-      → restarts_of part new ≡ restarts_after (effective 6 fuse) b (restarts_of part old)
-  after_save fuse gate (Ok done) clean answer saved left =
-      subst (λ n. restarts_of part new ≡ restarts_after n b (restarts_of part old)) (sym (eqb-true (effective 6 fuse) 0 (sym answer))) (after_ok saved)
-  after_save fuse gate (Err fault) clean answer saved left = after_err fuse gate clean left (nat_le fuse 6) refl (sym answer)
+  pub after_save : (failing_call gate : ℕ) (result : Result (Unit {0}) Fault) → IsClean old
+      → is_ok result ≡ (effective 6 failing_call == 0) → OnOk result (IsSaved (counts_of part) slots new)
+      → OnErr result (IsLeft failing_call gate (Some before) (Some slots) (counts_of part) new)
+      → restarts_of part new ≡ restarts_after (effective 6 failing_call) b (restarts_of part old)
+  after_save failing_call gate (Ok done) clean answer saved left =
+      subst (λ n. restarts_of part new ≡ restarts_after n b (restarts_of part old)) (sym (eqb-true (effective 6 failing_call) 0 (sym answer))) (after_ok saved)
+  after_save failing_call gate (Err fault) clean answer saved left = after_err failing_call gate clean left (nat_le failing_call 6) refl (sym answer)
 
 -- what is kept at a later clock, by what was kept
 

@@ -26,8 +26,8 @@ dropped_served part d old new why tells device out dropped pools ready empty =
       pools = pools;
       answer = subst (λ (a : Answered). IsAnswer a.answer (Err why) out) (sym answers) (refl, empty);
       book = sym (ap (λ (a : Answered). a.book) answers);
-      fails = λ told r. not_more (device.failures r) ∙ sym (ap (λ (saved : Option ℕ). fails_at device.fuse saved r) dropped.saves);
-      leases = λ told. dropped.leases (device.region part.region) (device.fuse part.region);
+      fails = λ told r. not_more (device.failures r) ∙ sym (ap (λ (saved : Option ℕ). fails_at device.failing_call saved r) dropped.saves);
+      leases = λ told. dropped.leases (device.region part.region) (device.failing_call part.region);
       ready = λ told. dropped.ready (device.region part.region) (ready told);
       writes = subst (λ (saved : Option ℕ). WritesAt tells saved device device) (sym dropped.saves) refl;
       frame = touches_none tells part.region device;
@@ -46,12 +46,12 @@ module _ (part : CircuitPart) (d : DeliveryValue) (old middle : Option OpenCircu
       let fails = λ (q : ℕ). alone_fails part d old middle prepared p tells was later saved nothing some q in
       let came_so = came part d old middle prepared p (has_failed was later part.region) saved final result out (not_not _ ∙ sym (ap not here)) (λ fails. cause (sym here ∙ fails)) end in
       let alone = λ (told : tells ≡ true). alone_saved part d old middle prepared p tells was later saved nothing some told in
-      let by = λ (told : tells ≡ true). settled part d old middle prepared p (was.region part.region) (ready told) (was.fuse part.region) (later.region part.region) saved final result out (alone told) end in
+      let by = λ (told : tells ≡ true). settled part d old middle prepared p (was.region part.region) (ready told) (was.failing_call part.region) (later.region part.region) saved final result out (alone told) end in
       record {
         pools = pools;
         answer = came_so.0;
         book = came_so.1;
-        fails = λ told q. fails_as own was.fuse q _ (fails q ∙ ap (λ b. part.region == q && b) (alone_ok part d old middle prepared p tells was later saved nothing some told));
+        fails = λ told q. fails_as own was.failing_call q _ (fails q ∙ ap (λ b. part.region == q && b) (alone_ok part d old middle prepared p tells was later saved nothing some told));
         leases = λ told. (by told).0;
         ready = λ told. (by told).1;
         writes = writes_as own tells was later (alone_stays part d old middle prepared p tells was later saved nothing some) touches;

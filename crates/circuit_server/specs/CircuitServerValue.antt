@@ -29,17 +29,17 @@ pub record CircuitServerValue : Type 0 where
 
 -- its book, by what the slots of its pools hold
 abbrev pub open_book : OpenCircuitValue → Book
-open_book o = record { clock = o.clock; four = slots4.book_of o.clock o.four; six = slots6.book_of o.clock o.six }
+open_book o = record { clock = o.clock; four = slots4.book4_of o.clock o.four; six = slots6.book6_of o.clock o.six }
 
-abbrev pub book_of : CircuitServerValue → Option Book
-book_of s = option_map open_book s.state
+abbrev pub server_book : CircuitServerValue → Option Book
+server_book s = option_map open_book s.state
 
 abbrev pub part_of : CircuitServerValue → CircuitPart
 part_of s = s.part
 
 -- its leases, by its book and its region
 abbrev pub leases_of : (ℕ → Region) → CircuitServerValue → Leases
-leases_of regions s = record { book = book_of s; restarts = restarts_of s.part (regions s.part.region); is_new = formats_of (regions s.part.region) }
+leases_of regions s = record { book = server_book s; restarts = restarts_of s.part (regions s.part.region); is_new = formats_of (regions s.part.region) }
 
 -- the slots of an open circuit are those of its pools
 abbrev pub HasPools : CircuitPart → Option OpenCircuitValue → Type 0

@@ -44,7 +44,7 @@ UnchangedOrUntilHeld first old new state = (s : ℕ) → s < 32 → (deadline ne
 -- all but the 32 slots from this number on have the deadlines that they had, and no entry was looked at
 pub record OthersUnchanged (first : ℕ) (old new : DeadlinesValue) : Type 0 where
   pub size : length new.slots ≡ length old.slots
-  pub looks : new.looks ≡ old.looks
+  pub examined : new.examined ≡ old.examined
   pub beside : (n : ℕ) → (n < first) ⊎ (first + 32 ≤ n) → deadline new n ≡ deadline old n
 
 -- The circuit's 32 entries are in the table, and say what its state says.

@@ -83,8 +83,8 @@ marks_by result known = known
 
 -- A slot was saved alone: its k-th call failed, or none.
 pub record IsSavedAlone (tells : Bool) (result : Result (Option Marks) Fault) (old new : Device) (s : Saving) : Type 0 where
-  pub saved : tells ≡ true → IsSaveOf (effective 6 (old.fuse s.region)) s.clock s.slot s.content s.marks (marks_by result s.marks) (old.region s.region) (new.region s.region)
-  pub answer : tells ≡ true → is_ok result ≡ (effective 6 (old.fuse s.region) == 0)
+  pub saved : tells ≡ true → IsSaveOf (effective 6 (old.failing_call s.region)) s.clock s.slot s.content s.marks (marks_by result s.marks) (old.region s.region) (new.region s.region)
+  pub answer : tells ≡ true → is_ok result ≡ (effective 6 (old.failing_call s.region) == 0)
   pub marks : IfOk result (λ marks. is_some marks ≡ true)
   pub frame : Touches tells s.region old new
   pub writes : OnOk result (new.writes ≡ old.writes + 6)

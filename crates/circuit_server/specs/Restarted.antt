@@ -8,6 +8,6 @@ use Rattle.circuit_server.specs.Leases.{IsRegionMigrated, counts_of, found_lease
 -- Where the device tells: the leases are those that the region held, an open circuit's region can be saved to, and one of
 -- format 1 is moved to format 2.
 pub record IsRestarted (tells : Bool) (part : CircuitPart) (state : Option OpenCircuitValue) (was later : Device) : Type 0 where
-  pub leases : tells ≡ true → leases_of later.region (record { part = part; state = state }) ≡ found_leases was.region was.fuse part
+  pub leases : tells ≡ true → leases_of later.region (record { part = part; state = state }) ≡ found_leases was.region was.failing_call part
   pub ready : tells ≡ true → IsReadyFor (later.region part.region) state
-  pub region : tells ≡ true → IsRegionMigrated (counts_of part) (was.fuse part.region) (was.region part.region) (later.region part.region)
+  pub region : tells ≡ true → IsRegionMigrated (counts_of part) (was.failing_call part.region) (was.region part.region) (later.region part.region)

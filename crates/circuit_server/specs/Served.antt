@@ -23,9 +23,9 @@ pub record IsServed (tells : Bool) (part : CircuitPart) (d : DeliveryValue) (old
   pub answer : IsAnswer (answered_over was later part d old).answer result out
   pub book : option_map open_book new ≡ (answered_over was later part d old).book
   -- where the device tells: which call fails, what the region then holds, and that it can be saved to again
-  pub fails : tells ≡ true → (r : ℕ) → has_failed was later r ≡ fails_at was.fuse (saved_region part d old) r
+  pub fails : tells ≡ true → (r : ℕ) → has_failed was later r ≡ fails_at was.failing_call (saved_region part d old) r
   pub leases : tells ≡ true
-      → leases_of later.region (record { part = part; state = new }) ≡ after_datagram part d (was.fuse part.region) (leases_of was.region (record { part = part; state = old }))
+      → leases_of later.region (record { part = part; state = new }) ≡ after_datagram part d (was.failing_call part.region) (leases_of was.region (record { part = part; state = old }))
   pub ready : tells ≡ true → IsReadyFor (later.region part.region) new
   pub writes : WritesAt tells (saved_region part d old) was later
   pub frame : Touches tells part.region was later

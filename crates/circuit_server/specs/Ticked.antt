@@ -15,5 +15,5 @@ abbrev pub IsLater : ℕ → Option OpenCircuitValue → Type 0
 IsLater moment state = IfSome state (λ o. moment ≤ o.clock)
 
 -- what a circuit has while it is open; one that there is not is closed
-abbrev pub state_of : List (Option OpenCircuitValue) → ℕ → Option OpenCircuitValue
-state_of states c = slice_index_or states c None
+abbrev pub server_state : List (Option OpenCircuitValue) → ℕ → Option OpenCircuitValue
+server_state states c = slice_index_or states c None

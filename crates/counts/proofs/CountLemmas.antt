@@ -10,8 +10,8 @@ use Rattle.types.specs.declared.discard.Discard.{Discard}
 use Rattle.types.specs.declared.discard.Discard.TheVariants.{TooLong, MalformedUp, NotRequest, HasGiaddr, HasOption82, Hops, WrongType, NestedRelay, UnknownSource, Malformed, NotRelayed, UnknownCircuit, WrongLink, NoOverride, ClientKey, OtherServer, NoAddress, NoRecord, CircuitClosed, NotServed, DiskFault, NothingToSay, BatchTwice, NotServer, MalformedDown, UnknownCircuitDown, WrongLinkDown}
 use Rattle.counts.specs.Counts.{HasRoom, counted, counted_all, one_more, total}
 use Rattle.counts.specs.declared.counts.Counts.{Counts}
-use Rattle.counts.specs.declared.counts.Outcome.{Outcome}
-use Rattle.counts.specs.declared.counts.Outcome.TheVariants as outcome
+use Rattle.counts.specs.declared.counts.Fate.{Fate}
+use Rattle.counts.specs.declared.counts.Fate.TheVariants as outcome
 
 -- each reason has its counter
 within : (why : Discard) → number_of why < 35
@@ -60,7 +60,7 @@ rooms_before counts at inside rooms k d lt = by (cases_eq k at)
         (subst (λ n. n < 18446744073709551615) (get_or_default counts at 0 d inside) (room_before (slice_index counts at) here))
     by (inr other) = subst (λ n. n < 18446744073709551615) (get_or-set_other counts at k (one_more (slice_index counts at)) d other) (rooms k d (subst (λ n. k < n) (sym (length-set counts at _)) lt))
 
-counted_length : (o : Outcome) (c : Counts) → length (counted o c).dropped ≡ length c.dropped
+counted_length : (o : Fate) (c : Counts) → length (counted o c).dropped ≡ length c.dropped
 counted_length outcome.Relayed c = refl
 counted_length outcome.Answered c = refl
 counted_length outcome.Delivered c = refl
@@ -70,7 +70,7 @@ counted_length (outcome.Dropped why) c = length-set c.dropped (number_of why) _
 counter_of : (why : Discard) (c : Counts) → length c.dropped ≡ 35 → number_of why < length c.dropped
 counter_of why c many = subst (λ n. number_of why < n) (sym many) (within why)
 
-counted_before : (o : Outcome) (c : Counts) → length c.dropped ≡ 35 → HasRoom (counted o c) → HasRoom c
+counted_before : (o : Fate) (c : Counts) → length c.dropped ≡ 35 → HasRoom (counted o c) → HasRoom c
 counted_before outcome.Relayed c many room = record { relayed = room_before c.relayed room.relayed; answered = room.answered; delivered = room.delivered; unsent = room.unsent; dropped = room.dropped }
 counted_before outcome.Answered c many room = record { relayed = room.relayed; answered = room_before c.answered room.answered; delivered = room.delivered; unsent = room.unsent; dropped = room.dropped }
 counted_before outcome.Delivered c many room = record { relayed = room.relayed; answered = room.answered; delivered = room_before c.delivered room.delivered; unsent = room.unsent; dropped = room.dropped }
@@ -87,7 +87,7 @@ counted_before (outcome.Dropped why) c many room = record {
 grows : (n : ℕ) → one_more n < 18446744073709551615 → one_more n ≡ n + 1
 grows n room = omega (arith, room)
 
-counted_total : (o : Outcome) (c : Counts) → length c.dropped ≡ 35 → HasRoom (counted o c) → total (counted o c) ≡ total c + 1
+counted_total : (o : Fate) (c : Counts) → length c.dropped ≡ 35 → HasRoom (counted o c) → total (counted o c) ≡ total c + 1
 counted_total outcome.Relayed c many room = let more = grows c.relayed room.relayed in omega (arith, more)
 counted_total outcome.Answered c many room = let more = grows c.answered room.answered in omega (arith, more)
 counted_total outcome.Delivered c many room = let more = grows c.delivered room.delivered in omega (arith, more)
@@ -102,11 +102,11 @@ counted_total (outcome.Dropped why) c many room =
     let change : sum (slice_set c.dropped at next) + slice_index c.dropped at ≡ sum c.dropped + next = sum_by-set (λ n. n) c.dropped at next 0 inside in
     omega (arith, more, change)
 
-all_before : (outcomes : List Outcome) (c : Counts) → length c.dropped ≡ 35 → HasRoom (counted_all outcomes c) → HasRoom c
+all_before : (outcomes : List Fate) (c : Counts) → length c.dropped ≡ 35 → HasRoom (counted_all outcomes c) → HasRoom c
 all_before [] c many room = room
 all_before (o ∷ os) c many room = counted_before o c many (all_before os (counted o c) (counted_length o c ∙ many) room)
 
-pub grow_together : (outcomes : List Outcome) (c : Counts) → length c.dropped ≡ 35 → HasRoom (counted_all outcomes c) → total (counted_all outcomes c) ≡ total c + length outcomes
+pub grow_together : (outcomes : List Fate) (c : Counts) → length c.dropped ≡ 35 → HasRoom (counted_all outcomes c) → total (counted_all outcomes c) ≡ total c + length outcomes
 grow_together [] c many room = omega arith
 grow_together (o ∷ os) c many room =
     let many_after = counted_length o c ∙ many in

@@ -2,13 +2,13 @@
 use Rattle.std.specs.Prelude.{ℕ, List, Option, Some, None, slice_get, slice_set}
 use Rattle.counts.specs.Counts.{counted}
 use Rattle.counts.specs.declared.counts.Counts.{Counts}
-use Rattle.counts.specs.declared.counts.Outcome.{Outcome}
+use Rattle.counts.specs.declared.counts.Fate.{Fate}
 
 -- one more datagram for what is counted in a place, if there is one
-abbrev pub counted_at : List Counts → ℕ → Outcome → Option Counts → List Counts
+abbrev pub counted_at : List Counts → ℕ → Fate → Option Counts → List Counts
 counted_at counts c outcome None = counts
 counted_at counts c outcome (Some own) = slice_set counts c (counted outcome own)
 
 -- one more datagram of a circuit, by what became of it; every other circuit's counts stay
-abbrev pub counted_for : ℕ → Outcome → List Counts → List Counts
+abbrev pub counted_for : ℕ → Fate → List Counts → List Counts
 counted_for c outcome counts = counted_at counts c outcome (slice_get counts c)

@@ -5,8 +5,8 @@ use Rattle.types.specs.declared.discard.Discard.{Discard}
 use Rattle.types.specs.declared.discard.Discard.TheVariants.{TooLong, MalformedUp, NotRequest, HasGiaddr, HasOption82, Hops, WrongType, NestedRelay, UnknownSource, Malformed, NotRelayed, UnknownCircuit, WrongLink, NoOverride, ClientKey, OtherServer, NoAddress, NoRecord, CircuitClosed, NotServed, DiskFault, NothingToSay, BatchTwice, NotServer, MalformedDown, UnknownCircuitDown, WrongLinkDown}
 use Rattle.types.specs.Discard.{number_of, words_of}
 use Rattle.counts.specs.declared.counts.Counts.{Counts}
-use Rattle.counts.specs.declared.counts.Outcome.{Outcome}
-use Rattle.counts.specs.declared.counts.Outcome.TheVariants as outcome
+use Rattle.counts.specs.declared.counts.Fate.{Fate}
+use Rattle.counts.specs.declared.counts.Fate.TheVariants as outcome
 
 -- one more, up to the greatest 64-bit number
 abbrev pub one_more : ℕ → ℕ
@@ -25,7 +25,7 @@ abbrev pub none : Counts
 none = record { received = 0; relayed = 0; answered = 0; delivered = 0; unsent = 0; dropped = replicate 35 0 }
 
 -- one more datagram that was taken, by what became of it
-abbrev pub counted : Outcome → Counts → Counts
+abbrev pub counted : Fate → Counts → Counts
 counted outcome.Relayed c = record c { received = one_more c.received; relayed = one_more c.relayed }
 counted outcome.Answered c = record c { received = one_more c.received; answered = one_more c.answered }
 counted outcome.Delivered c = record c { received = one_more c.received; delivered = one_more c.delivered }
@@ -33,7 +33,7 @@ counted outcome.Unsent c = record c { received = one_more c.received; unsent = o
 counted (outcome.Dropped why) c = record c { received = one_more c.received; dropped = one_more_for why c.dropped }
 
 -- one datagram after the other
-abbrev pub counted_all : List Outcome → Counts → Counts
+abbrev pub counted_all : List Fate → Counts → Counts
 counted_all [] c = c
 counted_all (o ∷ os) c = counted_all os (counted o c)
 

@@ -3,7 +3,7 @@ ghost use Rattle.std.specs.Prelude.{◌≡◌, ◌<◌, replicate};
 ghost use Rattle.counts.specs.CircuitCounts.{counted_for};
 ghost use Rattle.counts.specs.Counts.{none};
 
-use crate::counts::{Counts, Outcome};
+use crate::counts::{Counts, Fate};
 
 /// How many circuits are counted, the first ones.
 pub const COUNTED_CIRCUITS: usize = 16;
@@ -26,7 +26,7 @@ impl CircuitCounts {
 
     /// One more datagram of the circuit of this index was taken, and this became of it. Nothing is counted for the
     /// circuits after the first 16.
-    pub fn count_for(&mut self, circuit: usize, outcome: Outcome)
+    pub fn count_for(&mut self, circuit: usize, outcome: Fate)
         ensures { self.new.circuits ≡ counted_for circuit outcome self.old.circuits }
     {
         if circuit < COUNTED_CIRCUITS {

@@ -4,7 +4,7 @@ ghost use Rattle.std.specs.Fmt.{WritesOnOk};
 ghost use Rattle.std.specs.List.{flat_map};
 ghost use Rattle.types.specs.Discard.{number_of};
 ghost use Rattle.counts.specs.Counts.{counted, counts_text, dropped_text, none, one_more, reasons, totals_text};
-ghost use Rattle.counts.specs.declared.counts.Outcome.TheVariants as outcome;
+ghost use Rattle.counts.specs.declared.counts.Fate.TheVariants as outcome;
 
 use std::fmt;
 use types::Discard;
@@ -42,7 +42,7 @@ pub const REASONS: [Discard; 27] = [
 
 /// What became of a datagram that was taken from a socket.
 #[derive(Clone, Copy, PartialEq, Eq)]
-pub enum Outcome {
+pub enum Fate {
     /// A relay sent the frame on to the server.
     Relayed,
     /// The server answered it.
@@ -54,12 +54,12 @@ pub enum Outcome {
     Dropped(Discard),
 }
 
-impl Outcome {
+impl Fate {
     /// What became of a datagram by whether the system took what was to be sent.
-    pub fn if_sent(self, sent: bool) -> Outcome
+    pub fn if_sent(self, sent: bool) -> Fate
         ensures { result ≡ (if sent then self else outcome.Unsent) }
     {
-        if sent { self } else { Outcome::Unsent }
+        if sent { self } else { Fate::Unsent }
     }
 }
 
@@ -106,16 +106,16 @@ impl Counts {
     }
 
     /// One more datagram was taken, and this became of it.
-    pub fn count(&mut self, outcome: Outcome)
+    pub fn count(&mut self, outcome: Fate)
         ensures { self.new ≡ counted outcome self.old }
     {
         count(&mut self.received);
         match outcome {
-            Outcome::Relayed => count(&mut self.relayed),
-            Outcome::Answered => count(&mut self.answered),
-            Outcome::Delivered => count(&mut self.delivered),
-            Outcome::Unsent => count(&mut self.unsent),
-            Outcome::Dropped(why) => count(&mut self.dropped[usize::from(why.number())]),
+            Fate::Relayed => count(&mut self.relayed),
+            Fate::Answered => count(&mut self.answered),
+            Fate::Delivered => count(&mut self.delivered),
+            Fate::Unsent => count(&mut self.unsent),
+            Fate::Dropped(why) => count(&mut self.dropped[usize::from(why.number())]),
         }
     }
 

@@ -6,4 +6,4 @@ mod counts;
 pub mod laws;
 
 pub use circuit_counts::{COUNTED_CIRCUITS, CircuitCounts};
-pub use counts::{Counts, Outcome, REASONS};
+pub use counts::{Counts, Fate, REASONS};

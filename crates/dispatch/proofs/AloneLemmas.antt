@@ -14,7 +14,7 @@ use Rattle.config.specs.Topology.{Topology}
 use Rattle.requests.specs.Addressee.{addressee}
 use Rattle.circuit_server.specs.Answered.{IsAnswer, circuit_saves, fails_at}
 use Rattle.circuit_server.specs.Calls.{IsCalledToSave, IsCalledToSaveAt}
-use Rattle.circuit_server.specs.CircuitServerValue.{CircuitServerValue, book_of, leases_of}
+use Rattle.circuit_server.specs.CircuitServerValue.{CircuitServerValue, server_book, leases_of}
 use Rattle.circuit_server.specs.Leases.{Leases, after_datagram, after_saving, kept, served_leases}
 use Rattle.circuit_server.specs.Server.{Book, Served, served}
 use Rattle.dispatch.specs.Answers.{answer_by}
@@ -98,7 +98,7 @@ written_alone tells None old new same = record {
     count = ap (λ (x : Device). x.count) same;
     reads = ap (λ (x : Device). x.reads) same;
     region = λ t q other. ap (λ (x : Device). x.region q) same;
-    fuse = λ t q other. ap (λ (x : Device). x.fuse q) same;
+    failing_call = λ t q other. ap (λ (x : Device). x.failing_call q) same;
   };
   nothing = λ none. same;
 }
@@ -107,7 +107,7 @@ written_alone tells (Some r) old new touched = record {
     count = touched.count;
     reads = touched.reads;
     region = λ t q other. touched.region t q (apart q other);
-    fuse = λ t q other. touched.fuse t q (apart q other);
+    failing_call = λ t q other. touched.failing_call t q (apart q other);
   };
   nothing = λ none. absurd cc;
 } where
@@ -169,16 +169,16 @@ module _ (d : DeliveryValue) (faults : ℕ → ℕ) where
 -- ---- what the clauses say
 
 -- a circuit's book is that of its leases
-books_shown : (regions : ℕ → Region) (xs : List CircuitServerValue) (c : ℕ) → slice_get (map book_of xs) c ≡ option_map (λ (l : Leases). l.book) (slice_get (map (leases_of regions) xs) c)
-books_shown regions xs c = slice_get-map book_of xs c ∙ one (slice_get xs c) ∙ sym (ap (option_map (λ (l : Leases). l.book)) (slice_get-map (leases_of regions) xs c)) where
-  one : (x : Option CircuitServerValue) → option_map book_of x ≡ option_map (λ (l : Leases). l.book) (option_map (leases_of regions) x)
+books_shown : (regions : ℕ → Region) (xs : List CircuitServerValue) (c : ℕ) → slice_get (map server_book xs) c ≡ option_map (λ (l : Leases). l.book) (slice_get (map (leases_of regions) xs) c)
+books_shown regions xs c = slice_get-map server_book xs c ∙ one (slice_get xs c) ∙ sym (ap (option_map (λ (l : Leases). l.book)) (slice_get-map (leases_of regions) xs c)) where
+  one : (x : Option CircuitServerValue) → option_map server_book x ≡ option_map (λ (l : Leases). l.book) (option_map (leases_of regions) x)
   one None = refl
   one (Some x) = refl
 
 pub received_batch_of_one : (tells : Bool) (d : DeliveryValue) (s later_s : ServerValue) (was later : Device) (result : Result (Unit {0}) Discard) (out : List ℕ) (given : List (Result (List ℕ) Discard))
     → IsAnswer (received s.topology d (has_failed was later) (books_in s)).answer result out → books_in later_s ≡ (received s.topology d (has_failed was later) (books_in s)).books
-    → (tells ≡ true → (r : ℕ) → has_failed was later r ≡ fails_at was.fuse (received_saves s.topology d (books_in s)) r)
-    → (tells ≡ true → leases_in later.region later_s ≡ received_leases s.topology d was.fuse (leases_in was.region s)) → (tells ≡ true → AreReady later.region later_s)
+    → (tells ≡ true → (r : ℕ) → has_failed was later r ≡ fails_at was.failing_call (received_saves s.topology d (books_in s)) r)
+    → (tells ≡ true → leases_in later.region later_s ≡ received_leases s.topology d was.failing_call (leases_in was.region s)) → (tells ≡ true → AreReady later.region later_s)
     → WritesAt tells (received_saves s.topology d (books_in s)) was later → IsCalledToSaveAt (received_saves s.topology d (books_in s)) was later → given ≡ answer_by result out ∷ [] → IsReceivedBatch tells (d ∷ []) given s later_s was later
 received_batch_of_one tells d s later_s was later result out given answer books fails leases ready frame calls is =
     let t = s.topology in
@@ -190,10 +190,10 @@ received_batch_of_one tells d s later_s was later result out given answer books 
           (is ∙ ap (λ a. a ∷ []) (sym (answer_is (received t d (has_failed was later) (books_in s)).answer result out answer))) books;
       frame = subst (λ regions. IsWrittenTogether tells regions was later) (sym its) (written_alone tells saves was later frame);
       calls = subst (λ regions. IsCalledToSave regions was later) (sym its) calls;
-      fails = λ told r. fails told r ∙ fails_alone was.fuse saves r ∙ ap (λ regions. is_in regions r && not (batch_fault was.fuse regions r == 0)) (sym its);
+      fails = λ told r. fails told r ∙ fails_alone was.failing_call saves r ∙ ap (λ regions. is_in regions r && not (batch_fault was.failing_call regions r == 0)) (sym its);
       leases = λ told.
-          subst (λ regions. IsBatchOfLeases t (d ∷ []) (batch_fault was.fuse regions) (leases_in was.region s) (leases_in later.region later_s)) (sym its)
-          (leases_alone d (batch_fault was.fuse (alone saves)) t (leases_in was.region s) (leases_in later.region later_s)
-          (leases told ∙ received_alone d was.fuse t (leases_in was.region s) (books_in s) (books_shown was.region (circuits_in s))));
+          subst (λ regions. IsBatchOfLeases t (d ∷ []) (batch_fault was.failing_call regions) (leases_in was.region s) (leases_in later.region later_s)) (sym its)
+          (leases_alone d (batch_fault was.failing_call (alone saves)) t (leases_in was.region s) (leases_in later.region later_s)
+          (leases told ∙ received_alone d was.failing_call t (leases_in was.region s) (books_in s) (books_shown was.region (circuits_in s))));
       ready = ready;
     }

@@ -12,7 +12,7 @@ use Rattle.lease_disk.specs.declared.saving.Saving.{Saving}
 use Rattle.config.specs.Topology.{Topology}
 use Rattle.circuit_server.specs.CircuitServerValue.{OpenCircuitValue}
 use Rattle.circuit_server.specs.Prepared.{IsSettled}
-use Rattle.circuit_server.specs.Ticked.{state_of}
+use Rattle.circuit_server.specs.Ticked.{server_state}
 use Rattle.circuit_server.specs.declared.prepared.Prepared.{Prepared}
 use Rattle.timers.specs.Deadlines.{DeadlinesValue}
 use Rattle.dispatch.specs.Deadlines.{KeepsDeadlines}
@@ -26,7 +26,7 @@ Part = Result (ℕ × Prepared) Discard
 abbrev States : Type 0
 States = List (Option OpenCircuitValue)
 
-from_now : {topology : Topology} {prepared : Prepared} {saved : Result (Option Marks) Fault} {c : ℕ} {old now new : States} {answer : Result (List ℕ) Discard} → state_of now c ≡ state_of old c
+from_now : {topology : Topology} {prepared : Prepared} {saved : Result (Option Marks) Fault} {c : ℕ} {old now new : States} {answer : Result (List ℕ) Discard} → server_state now c ≡ server_state old c
     → IsSettledSo topology prepared saved c now new answer → IsSettledSo topology prepared saved c old new answer
 from_now {prepared = prepared} {saved = saved} {c = c} {new = new} same its = record {
   part = its.part;
@@ -34,10 +34,10 @@ from_now {prepared = prepared} {saved = saved} {c = c} {new = new} same its = re
   result = its.result;
   out = its.out;
   given = its.given;
-  settled = subst (λ state. IsSettled its.part prepared saved state (state_of new c) its.result its.out) same its.settled;
+  settled = subst (λ state. IsSettled its.part prepared saved state (server_state new c) its.result its.out) same its.settled;
 }
 
-to_new : {topology : Topology} {prepared : Prepared} {saved : Result (Option Marks) Fault} {c : ℕ} {old now new : States} {answer : Result (List ℕ) Discard} → state_of new c ≡ state_of now c
+to_new : {topology : Topology} {prepared : Prepared} {saved : Result (Option Marks) Fault} {c : ℕ} {old now new : States} {answer : Result (List ℕ) Discard} → server_state new c ≡ server_state now c
     → IsSettledSo topology prepared saved c old now answer → IsSettledSo topology prepared saved c old new answer
 to_new {prepared = prepared} {saved = saved} {c = c} {old = old} same its = record {
   part = its.part;
@@ -45,12 +45,12 @@ to_new {prepared = prepared} {saved = saved} {c = c} {old = old} same its = reco
   result = its.result;
   out = its.out;
   given = its.given;
-  settled = subst (λ state. IsSettled its.part prepared saved (state_of old c) state its.result its.out) (sym same) its.settled;
+  settled = subst (λ state. IsSettled its.part prepared saved (server_state old c) state its.result its.out) (sym same) its.settled;
 }
 
 module _ (topology : Topology) (parts : List (Option Part)) (savings : List Saving) (i : ℕ) (old now new : States) (given : List (Result (List ℕ) Discard)) (part : Part)
     (here : slice_get parts i ≡ Some (Some part)) (settles : AreToSettle topology parts) (was : AreAnswered topology parts savings i old now given)
-    (size : length new ≡ length now) (keeps : (k : ℕ) → is_of k (Some part) ≡ false → state_of new k ≡ state_of now k) (answer : Result (List ℕ) Discard) where
+    (size : length new ≡ length now) (keeps : (k : ℕ) → is_of k (Some part) ≡ false → server_state new k ≡ server_state now k) (answer : Result (List ℕ) Discard) where
   -- a part before it is of another circuit
   other : (j c : ℕ) (prepared : Prepared) → j < i → slice_get parts j ≡ Some (Some (Ok (c, prepared))) → (p : Part) → slice_get parts i ≡ Some (Some p) → is_of c (Some p) ≡ false
   other j c prepared less there (Err why) at = refl

@@ -7,14 +7,14 @@ use Rattle.types.specs.Delivery.{DeliveryValue}
 use Rattle.types.specs.declared.discard.Discard.{Discard}
 use Rattle.lease_disk.specs.Device.{Device, is_in}
 use Rattle.lease_disk.specs.Region.{effective}
-use Rattle.batch_saves.specs.Batch.{AreApart, batch_calls, failed_of, first_of, fuses_of, regions_of, shared_fault}
+use Rattle.batch_saves.specs.Batch.{AreApart, batch_calls, failed_of, first_of, failing_calls_of, regions_of, shared_fault}
 use Rattle.batch_saves.specs.Batch as saves
 use Rattle.lease_disk.specs.declared.saving.Saving.{Saving}
 use Rattle.config.specs.CircuitPart.{CircuitPart}
 use Rattle.config.specs.Topology.{IsTopology}
 use Rattle.circuit_server.specs.Calls.{IsCalledToSave}
-use Rattle.circuit_server.specs.CircuitServerValue.{CircuitServerValue, IsReady, IsReadyFor, OpenCircuitValue, book_of, leases_of}
-use Rattle.circuit_server.specs.Ticked.{state_of}
+use Rattle.circuit_server.specs.CircuitServerValue.{CircuitServerValue, IsReady, IsReadyFor, OpenCircuitValue, server_book, leases_of}
+use Rattle.circuit_server.specs.Ticked.{server_state}
 use Rattle.circuit_server.specs.declared.prepared.Prepared.{Prepared}
 use Rattle.dispatch.specs.Batch.{IsWrittenTogether, batch_fault, batch_saves}
 use Rattle.dispatch.specs.Parts.{AreAnswered, AreDecided, AreSavedTogether, IsReceivedBatch, savings_of}
@@ -32,14 +32,14 @@ Part = Result (ℕ × Prepared) Discard
 
 -- ---- one circuit of a server
 
-there_in : (s : ServerValue) → length s.states ≡ length s.topology.circuits → (c : ℕ) (part : CircuitPart) → slice_get s.topology.circuits c ≡ Some part → slice_get (circuits_in s) c ≡ Some (server part (state_of s.states c))
+there_in : (s : ServerValue) → length s.states ≡ length s.topology.circuits → (c : ℕ) (part : CircuitPart) → slice_get s.topology.circuits c ≡ Some part → slice_get (circuits_in s) c ≡ Some (server part (server_state s.states c))
 there_in s size c part there =
     let inside = slice_get_within s.topology.circuits c part there in
     let within : c < length s.states = omega (arith, inside, size) in
-    there_with s.topology.circuits s.states c part (state_of s.states c) there within (own_state s.states c within)
+    there_with s.topology.circuits s.states c part (server_state s.states c) there within (own_state s.states c within)
 
 module _ {B : Type 0} (f : CircuitServerValue → B) (s : ServerValue) where
-  shown_in : length s.states ≡ length s.topology.circuits → (c : ℕ) (part : CircuitPart) → slice_get s.topology.circuits c ≡ Some part → slice_get (map f (circuits_in s)) c ≡ Some (f (server part (state_of s.states c)))
+  shown_in : length s.states ≡ length s.topology.circuits → (c : ℕ) (part : CircuitPart) → slice_get s.topology.circuits c ≡ Some part → slice_get (map f (circuits_in s)) c ≡ Some (f (server part (server_state s.states c)))
   shown_in size c part there = slice_get-map f (circuits_in s) c ∙ ap (option_map f) (there_in s size c part there)
 
   past_in : (c : ℕ) → slice_get s.topology.circuits c ≡ None → slice_get (map f (circuits_in s)) c ≡ None
@@ -57,8 +57,8 @@ exist : (s : ServerValue) (device : Device) → HasRegions s.topology.circuits d
 exist s device regions c part there = at_index (λ (p : CircuitPart). p.region < device.count) s.topology.circuits c part there regions
 
 ready_in : (tells : Bool) (s : ServerValue) (device : Device) → length s.states ≡ length s.topology.circuits → (tells ≡ true → AreReady device.region s) → (c : ℕ) (part : CircuitPart) → slice_get s.topology.circuits c ≡ Some part → tells ≡ true
-    → IsReadyFor (device.region part.region) (state_of s.states c)
-ready_in tells s device size ready c part there told = at_index (IsReady device.region) (circuits_in s) c (server part (state_of s.states c)) (there_in s size c part there) (ready told)
+    → IsReadyFor (device.region part.region) (server_state s.states c)
+ready_in tells s device size ready c part there told = at_index (IsReady device.region) (circuits_in s) c (server part (server_state s.states c)) (there_in s size c part there) (ready told)
 
 module _ (s : ServerValue) (ds : List DeliveryValue) (i : ℕ) (named : List ℕ) (middle : List (Option OpenCircuitValue)) (parts : List (Option Part)) (whole : length ds ≡ i) (made : AreDecided s.topology ds i named s.states middle parts)
     (sound : IsTopology s.topology) (size : length s.states ≡ length s.topology.circuits) where
@@ -83,37 +83,37 @@ module _ (s : ServerValue) (ds : List DeliveryValue) (i : ℕ) (named : List ℕ
     both_past f g c none = past_in g later_s c (ap (λ t. slice_get t.circuits c) same ∙ none) ∙ sym (past_in f s c none)
 
     regions_are : batch_saves s.topology ds (books_in s) ≡ regions_of (savings_of parts)
-    regions_are = saves_are s.topology ds i named s.states middle parts (books_in s) whole made (shown_in book_of s size)
+    regions_are = saves_are s.topology ds i named s.states middle parts (books_in s) whole made (shown_in server_book s size)
 
     map_twice : (f : ℕ → ℕ) (ss : List Saving) → map f (regions_of ss) ≡ map (λ (p : Saving). f p.region) ss
     map_twice f [] = refl
     map_twice f (p ∷ ss) = ap (λ ns. f p.region ∷ ns) (map_twice f ss)
 
-    faults_are : (r : ℕ) → batch_fault was.fuse (batch_saves s.topology ds (books_in s)) r ≡ first_of (effective 6 (was.fuse r)) (shared_fault (fuses_of was (savings_of parts)))
-    faults_are r = ap (λ regions. batch_fault was.fuse regions r) regions_are ∙ ap (λ fuses. first_of (effective 6 (was.fuse r)) (shared_fault fuses)) (map_twice was.fuse (savings_of parts))
+    faults_are : (r : ℕ) → batch_fault was.failing_call (batch_saves s.topology ds (books_in s)) r ≡ first_of (effective 6 (was.failing_call r)) (shared_fault (failing_calls_of was (savings_of parts)))
+    faults_are r = ap (λ regions. batch_fault was.failing_call regions r) regions_are ∙ ap (λ failing_calls. first_of (effective 6 (was.failing_call r)) (shared_fault failing_calls)) (map_twice was.failing_call (savings_of parts))
 
     pub received_batch : IsReceivedBatch tells ds given s later_s was later
     received_batch = record {
       answers =
           batch_answered s.topology ds i named s.states middle later_s.states parts whole made sound savings tells was later saved given ended (ready_in tells s was size ready)
-          (books_in s) (books_in later_s) (shown_in book_of s size) (λ c part there. shown_in book_of later_s later_size c part (there_later c part there)) (both_past book_of book_of);
+          (books_in s) (books_in later_s) (shown_in server_book s size) (λ c part there. shown_in server_book later_s later_size c part (there_later c part there)) (both_past server_book server_book);
       frame =
           subst (λ regions. IsWrittenTogether tells regions was later) (sym regions_are)
           (batch_written s.topology ds i named s.states middle later_s.states parts whole made sound savings tells was later saved given ended (ready_in tells s was size ready));
       calls = subst (λ regions. IsCalledToSave regions was later) (sym regions_are) (saved_called tells (savings_of parts) savings was later saved calls);
       fails = λ told r.
           batch_failed s.topology ds i named s.states middle later_s.states parts whole made sound savings tells was later saved given ended (ready_in tells s was size ready) told
-          (batch_fault was.fuse (batch_saves s.topology ds (books_in s))) faults_are r
-          ∙ ap (λ regions. is_in regions r && not (batch_fault was.fuse (batch_saves s.topology ds (books_in s)) r == 0)) (sym regions_are);
+          (batch_fault was.failing_call (batch_saves s.topology ds (books_in s))) faults_are r
+          ∙ ap (λ regions. is_in regions r && not (batch_fault was.failing_call (batch_saves s.topology ds (books_in s)) r == 0)) (sym regions_are);
       leases = λ told.
           batch_leased s.topology ds i named s.states middle later_s.states parts whole made sound savings tells was later saved given ended (ready_in tells s was size ready) told
-          (batch_fault was.fuse (batch_saves s.topology ds (books_in s))) faults_are (leases_in was.region s) (leases_in later.region later_s)
+          (batch_fault was.failing_call (batch_saves s.topology ds (books_in s))) faults_are (leases_in was.region s) (leases_in later.region later_s)
           (shown_in (leases_of was.region) s size) (λ c part there. shown_in (leases_of later.region) later_s later_size c part (there_later c part there)) (both_past (leases_of was.region) (leases_of later.region));
       ready = λ told k d inside.
           let count = size_with later_s.topology.circuits later_s.states in
           let one = there_is later_s.topology.circuits k (omega (arith, inside, count)) in
           let there = sym (ap (λ t. slice_get t.circuits k) same) ∙ one.1 in
-          subst (IsReady later.region) (sym (get_or_from_slice_get (circuits_in later_s) k (server one.0 (state_of later_s.states k)) d (there_in later_s later_size k one.0 one.1)))
+          subst (IsReady later.region) (sym (get_or_from_slice_get (circuits_in later_s) k (server one.0 (server_state later_s.states k)) d (there_in later_s later_size k one.0 one.1)))
           (batch_ready s.topology ds i named s.states middle later_s.states parts whole made sound savings tells was later saved given ended (ready_in tells s was size ready) told
-          (batch_fault was.fuse (batch_saves s.topology ds (books_in s))) faults_are k one.0 there);
+          (batch_fault was.failing_call (batch_saves s.topology ds (books_in s))) faults_are k one.0 there);
     }

@@ -13,7 +13,7 @@ use Rattle.lease_disk.specs.declared.marks.Marks.{Marks}
 use Rattle.lease_disk.specs.Device.{Device, has_failed, is_in}
 use Rattle.lease_disk.specs.Region.{effective}
 use Rattle.lease_disk.specs.Save.{IsSaveOf}
-use Rattle.batch_saves.specs.Batch.{IsSavedPart, first_of, fuses_of, no_part, part_at, regions_of, shared_fault}
+use Rattle.batch_saves.specs.Batch.{IsSavedPart, first_of, failing_calls_of, no_part, part_at, regions_of, shared_fault}
 use Rattle.lease_disk.specs.declared.saving.Saving.{Saving}
 use Rattle.config.specs.CircuitPart.{CircuitPart}
 use Rattle.config.specs.Topology.{IsTopology, Topology}
@@ -24,7 +24,7 @@ use Rattle.circuit_server.specs.CircuitServerValue.{IsReadyFor, OpenCircuitValue
 use Rattle.circuit_server.specs.Leases.{Leases, after_datagram}
 use Rattle.circuit_server.specs.Prepared.{IsDropped, IsPrepared, IsSettled, marks_by}
 use Rattle.circuit_server.specs.Server.{Book}
-use Rattle.circuit_server.specs.Ticked.{state_of}
+use Rattle.circuit_server.specs.Ticked.{server_state}
 use Rattle.circuit_server.specs.declared.prepared.Prepared.{Prepared}
 use Rattle.circuit_server.proofs.AnswerLemmas.{not_more}
 use Rattle.circuit_server.proofs.PreparedLemmas.{WasSaved, came, left, not_not, settled}
@@ -156,13 +156,13 @@ module _ (tells : Bool) (was later : Device) (part : CircuitPart) (d : DeliveryV
       }
 
   saved_done : (shared : ℕ) (s now : Saving) → prepared.saving ≡ Some s → IsSavedPart tells shared s now was later → IsSettled part prepared (saved_by (Some s) now) middle new result out
-      → IsDone tells was later (first_of (effective 6 (was.fuse part.region)) shared) part d old new answer
+      → IsDone tells was later (first_of (effective 6 (was.failing_call part.region)) shared) part d old new answer
   saved_done shared s now some one end =
       let here : s.region ≡ part.region = own_region part d old middle prepared s p some in
       let fails : has_failed was later part.region ≡ not (now.failed == 0)
       = subst (λ r. nat_lt (was.failures r) (later.failures r) ≡ not (now.failed == 0)) here (ap (nat_lt (was.failures s.region)) one.failures ∙ raised (now.failed == 0) (was.failures s.region)) in
-      let fault = first_of (effective 6 (was.fuse part.region)) shared in
-      let its : tells ≡ true → now.failed ≡ fault = λ told. one.failed told ∙ ap (λ r. first_of (effective 6 (was.fuse r)) shared) here in
+      let fault = first_of (effective 6 (was.failing_call part.region)) shared in
+      let its : tells ≡ true → now.failed ≡ fault = λ told. one.failed told ∙ ap (λ r. first_of (effective 6 (was.failing_call r)) shared) here in
       let same : tells ≡ true → now.failed ≡ effective 6 fault = λ told. sym (effective_is now.failed one.most) ∙ ap (effective 6) (its told) in
       let kept_so : (now.failed == 0) ≡ false → now.marks ≡ s.marks = λ some_failed. one.kept (λ none. absurd (grind (arith, none, some_failed))) in
       let both : tells ≡ true → (left part (later.region part.region) new ≡ after_datagram part d fault (left part (was.region part.region) old)) × IsReadyFor (later.region part.region) new
@@ -186,14 +186,14 @@ module _ (tells : Bool) (was later : Device) (part : CircuitPart) (d : DeliveryV
 pub record IsFinished (tells : Bool) (was later : Device) (shared : ℕ) (old new : States) (given : List (Result (List ℕ) Discard)) (j c : ℕ) (d : DeliveryValue) (part : CircuitPart) : Type 0 where
   pub answer : Result (List ℕ) Discard
   pub there : slice_get given j ≡ Some answer
-  pub done : IsDone tells was later (first_of (effective 6 (was.fuse part.region)) shared) part d (state_of old c) (state_of new c) answer
+  pub done : IsDone tells was later (first_of (effective 6 (was.failing_call part.region)) shared) part d (server_state old c) (server_state new c) answer
 
 module _ (topology : Topology) (ds : List DeliveryValue) (i : ℕ) (named : List ℕ) (old middle new : States) (parts : List (Option Part)) (whole : length ds ≡ i) (made : AreDecided topology ds i named old middle parts)
     (sound : IsTopology topology) (savings : List Saving) (tells : Bool) (was later : Device) (saved : AreSavedTogether tells (savings_of parts) savings was later)
     (given : List (Result (List ℕ) Discard)) (ended : AreAnswered topology parts savings (length parts) middle new given)
-    (ready : (c : ℕ) (part : CircuitPart) → slice_get topology.circuits c ≡ Some part → tells ≡ true → IsReadyFor (was.region part.region) (state_of old c)) where
+    (ready : (c : ℕ) (part : CircuitPart) → slice_get topology.circuits c ≡ Some part → tells ≡ true → IsReadyFor (was.region part.region) (server_state old c)) where
   abbrev shared : ℕ
-  shared = shared_fault (fuses_of was (savings_of parts))
+  shared = shared_fault (failing_calls_of was (savings_of parts))
 
   -- no part of circuit c saves
   abbrev NoneSaves : ℕ → Type 0
@@ -220,7 +220,7 @@ module _ (topology : Topology) (ds : List DeliveryValue) (i : ℕ) (named : List
   abbrev NoneSettles : ℕ → Type 0
   NoneSettles c = (j : ℕ) (p : Prepared) → slice_get parts j ≡ Some (Some (Ok (c, p))) → ⊥
 
-  unsettled : (c : ℕ) → NoneSettles c → state_of new c ≡ state_of middle c
+  unsettled : (c : ℕ) → NoneSettles c → server_state new c ≡ server_state middle c
   unsettled c none = ended.others c (by (list_any (is_of c) (take (length parts) parts)) refl) where
     by : (b : Bool) → list_any (is_of c) (take (length parts) parts) ≡ b → list_any (is_of c) (take (length parts) parts) ≡ false
     by false e = e
@@ -235,7 +235,7 @@ module _ (topology : Topology) (ds : List DeliveryValue) (i : ℕ) (named : List
         let its = settles_at topology ds i named old middle parts whole made k c p at in
         one_first topology ds i named old middle parts whole made k j c its.d d its.given here its.found found its.first first
 
-    dropped_part : (why : Discard) → slice_get parts j ≡ Some (Some (Err why)) → IsDropped part d (state_of old c) (state_of middle c) why → IsAnswered topology (part_at savings (place_of parts j)) middle new (Err why) (Err why)
+    dropped_part : (why : Discard) → slice_get parts j ≡ Some (Some (Err why)) → IsDropped part d (server_state old c) (server_state middle c) why → IsAnswered topology (part_at savings (place_of parts j)) middle new (Err why) (Err why)
         → (answer : Result (List ℕ) Discard) → slice_get given j ≡ Some answer → answer ≡ Err why → IsFinished tells was later shared old new given j c d part
     dropped_part why at dropped answered_so answer said is =
         let none : NoneSettles c = λ k p settles. not_dropped (Some (Err why)) why c p refl (same_Some (Some (Err why)) (Some (Ok (c, p))) (sym at ∙ (ap (slice_get parts) (sym (same_part k p settles)) ∙ settles))) in
@@ -243,19 +243,19 @@ module _ (topology : Topology) (ds : List DeliveryValue) (i : ℕ) (named : List
         record {
           answer = answer;
           there = said;
-          done = dropped_done tells was later (first_of (effective 6 (was.fuse part.region)) shared) part d (state_of old c) (state_of middle c) (state_of new c) why answer dropped (unsettled c none) is (stays part.region out) (ready c part there);
+          done = dropped_done tells was later (first_of (effective 6 (was.failing_call part.region)) shared) part d (server_state old c) (server_state middle c) (server_state new c) why answer dropped (unsettled c none) is (stays part.region out) (ready c part there);
         }
 
-    settled_part : (p : Prepared) → slice_get parts j ≡ Some (Some (Ok (c, p))) → IsPrepared part d (state_of old c) (state_of middle c) p → (answer : Result (List ℕ) Discard) → slice_get given j ≡ Some answer
+    settled_part : (p : Prepared) → slice_get parts j ≡ Some (Some (Ok (c, p))) → IsPrepared part d (server_state old c) (server_state middle c) p → (answer : Result (List ℕ) Discard) → slice_get given j ≡ Some answer
         → IsSettledSo topology p (saved_by p.saving (part_at savings (place_of parts j))) c middle new answer → IsFinished tells was later shared old new given j c d part
     settled_part p at prepared answer said so = by p.saving refl where
       its_part : so.part ≡ part
       its_part = same_Some so.part part (sym so.there ∙ there)
 
-      end : (saving : Option Saving) → p.saving ≡ saving → IsSettled part p (saved_by saving (part_at savings (place_of parts j))) (state_of middle c) (state_of new c) so.result so.out
+      end : (saving : Option Saving) → p.saving ≡ saving → IsSettled part p (saved_by saving (part_at savings (place_of parts j))) (server_state middle c) (server_state new c) so.result so.out
       end saving e =
-          subst (λ x. IsSettled part p (saved_by x (part_at savings (place_of parts j))) (state_of middle c) (state_of new c) so.result so.out) e
-          (subst (λ x. IsSettled x p (saved_by p.saving (part_at savings (place_of parts j))) (state_of middle c) (state_of new c) so.result so.out) its_part so.settled)
+          subst (λ x. IsSettled part p (saved_by x (part_at savings (place_of parts j))) (server_state middle c) (server_state new c) so.result so.out) e
+          (subst (λ x. IsSettled x p (saved_by p.saving (part_at savings (place_of parts j))) (server_state middle c) (server_state new c) so.result so.out) its_part so.settled)
 
       by : (saving : Option Saving) → p.saving ≡ saving → IsFinished tells was later shared old new given j c d part
       by None e =
@@ -264,8 +264,8 @@ module _ (topology : Topology) (ds : List DeliveryValue) (i : ℕ) (named : List
           record {
             answer = answer;
             there = said;
-            done = unsaved_done tells was later part d (state_of old c) (state_of middle c) (state_of new c) p prepared so.result so.out answer so.given (ready c part there)
-                (first_of (effective 6 (was.fuse part.region)) shared) e (end None e) (held part.region out) (stays part.region out);
+            done = unsaved_done tells was later part d (server_state old c) (server_state middle c) (server_state new c) p prepared so.result so.out answer so.given (ready c part there)
+                (first_of (effective 6 (was.failing_call part.region)) shared) e (end None e) (held part.region out) (stays part.region out);
           }
       by (Some s) e =
           let place : slice_get (savings_of parts) (place_of parts j) ≡ Some s = placed saving_in parts j (Some (Ok (c, p))) s at e in
@@ -274,7 +274,7 @@ module _ (topology : Topology) (ds : List DeliveryValue) (i : ℕ) (named : List
           record {
             answer = answer;
             there = said;
-            done = saved_done tells was later part d (state_of old c) (state_of middle c) (state_of new c) p prepared so.result so.out answer so.given (ready c part there) shared s (part_at savings (place_of parts j)) e its (end (Some s) e);
+            done = saved_done tells was later part d (server_state old c) (server_state middle c) (server_state new c) p prepared so.result so.out answer so.given (ready c part there) shared s (part_at savings (place_of parts j)) e its (end (Some s) e);
           }
 
   -- so is every first part
@@ -287,13 +287,13 @@ module _ (topology : Topology) (ds : List DeliveryValue) (i : ℕ) (named : List
   first_by j c d here found first (Err why) at (inr (inr dropped)) answer said is =
       let same : dropped.0 ≡ c = one_circuit (addressee topology d) dropped.0 c dropped.2.found found in
       let there = subst (λ k. slice_get topology.circuits k ≡ Some dropped.1) same dropped.3 in
-      (dropped.1, there, dropped_part j c d dropped.1 here found first there why at (subst (λ k. IsDropped dropped.1 d (state_of old k) (state_of middle k) why) same dropped.4) refl answer said is)
+      (dropped.1, there, dropped_part j c d dropped.1 here found first there why at (subst (λ k. IsDropped dropped.1 d (server_state old k) (server_state middle k) why) same dropped.4) refl answer said is)
   first_by j c d here found first (Ok (k, p)) at m answer said so =
       let same : k ≡ c = one_circuit (addressee topology d) k c m.1.found found in
       let there = subst (λ n. slice_get topology.circuits n ≡ Some m.0) same m.2 in (
         m.0,
         there,
-        settled_part j c d m.0 here found first there p (subst (λ n. slice_get parts j ≡ Some (Some (Ok (n, p)))) same at) (subst (λ n. IsPrepared m.0 d (state_of old n) (state_of middle n) p) same m.3) answer said
+        settled_part j c d m.0 here found first there p (subst (λ n. slice_get parts j ≡ Some (Some (Ok (n, p)))) same at) (subst (λ n. IsPrepared m.0 d (server_state old n) (server_state middle n) p) same m.3) answer said
             (subst (λ n. IsSettledSo topology p (saved_by p.saving (part_at savings (place_of parts j))) n middle new answer) same so),
       )
 
@@ -326,7 +326,7 @@ module _ (topology : Topology) (ds : List DeliveryValue) (i : ℕ) (named : List
       let named_there = any_there (λ x. is_circuit c (addressee topology x)) ds (length ds) j its.d inside its.given (ap (is_circuit c) its.found ∙ same_number c) in
       not_both (sym (ap (λ xs. is_named topology xs c) (take_all (length ds) ds (omega arith))) ∙ named_there) none
 
-  unnamed_state : (c : ℕ) → is_named topology ds c ≡ false → state_of new c ≡ state_of old c
+  unnamed_state : (c : ℕ) → is_named topology ds c ≡ false → server_state new c ≡ server_state old c
   unnamed_state c none =
       unsettled c (unnamed c none)
       ∙ made.others c (ap (λ xs. is_named topology xs c) (take_all i ds (omega (arith, whole))) ∙ none)
@@ -336,8 +336,8 @@ module _ (topology : Topology) (ds : List DeliveryValue) (i : ℕ) (named : List
 
   -- ---- what the clauses say
 
-  module _ (books after : List (Option Book)) (shown : (c : ℕ) (part : CircuitPart) → slice_get topology.circuits c ≡ Some part → slice_get books c ≡ Some (option_map open_book (state_of old c)))
-      (shown_after : (c : ℕ) (part : CircuitPart) → slice_get topology.circuits c ≡ Some part → slice_get after c ≡ Some (option_map open_book (state_of new c)))
+  module _ (books after : List (Option Book)) (shown : (c : ℕ) (part : CircuitPart) → slice_get topology.circuits c ≡ Some part → slice_get books c ≡ Some (option_map open_book (server_state old c)))
+      (shown_after : (c : ℕ) (part : CircuitPart) → slice_get topology.circuits c ≡ Some part → slice_get after c ≡ Some (option_map open_book (server_state new c)))
       (past : (c : ℕ) → slice_get topology.circuits c ≡ None → slice_get after c ≡ slice_get books c) where
     abbrev fails : ℕ → Bool
     fails = has_failed was later
@@ -351,7 +351,7 @@ module _ (topology : Topology) (ds : List DeliveryValue) (i : ℕ) (named : List
         ∙ ap (λ (x : Received). Some x.answer)
         (sym (ap (λ r. if comes_again topology (take j ds) r then drop_all BatchTwice books else received topology d fails books) found
         ∙ ap (λ b. if b then drop_all BatchTwice books else received topology d fails books) first
-        ∙ received_at topology d c f.0 found f.1 fails books (option_map open_book (state_of old c)) (shown c f.0 f.1)))
+        ∙ received_at topology d c f.0 found f.1 fails books (option_map open_book (server_state old c)) (shown c f.0 f.1)))
 
     answer_by_part : (j : ℕ) (d : DeliveryValue) → slice_get ds j ≡ Some d → (p : Part) → IsDecided topology (take j ds) d old middle p → (answer : Result (List ℕ) Discard) → slice_get given j ≡ Some answer → IsAnswered topology (part_at savings (place_of parts j)) middle new answer p
         → slice_get given j ≡ Some (part_received topology (take j ds) d fails books).answer
@@ -374,26 +374,26 @@ module _ (topology : Topology) (ds : List DeliveryValue) (i : ℕ) (named : List
           let f = first_done j c d here found first in
           shown_after c f.0 f.1
           ∙ ap (λ (x : Answered). Some x.book) (sym f.2.done.answered_so)
-          ∙ sym (get_set books c (option_map open_book (state_of old c)) (answered f.0 d (fails f.0.region) (option_map open_book (state_of old c))).book (shown c f.0 f.1))
-          ∙ ap (λ (x : Received). slice_get x.books c) (sym (received_at topology d c f.0 found f.1 fails books (option_map open_book (state_of old c)) (shown c f.0 f.1)));
+          ∙ sym (get_set books c (option_map open_book (server_state old c)) (answered f.0 d (fails f.0.region) (option_map open_book (server_state old c))).book (shown c f.0 f.1))
+          ∙ ap (λ (x : Received). slice_get x.books c) (sym (received_at topology d c f.0 found f.1 fails books (option_map open_book (server_state old c)) (shown c f.0 f.1)));
       others = λ c none. other c none (slice_get topology.circuits c) refl;
     } where
       other : (c : ℕ) → is_named topology ds c ≡ false → (x : Option CircuitPart) → slice_get topology.circuits c ≡ x → slice_get after c ≡ slice_get books c
       other c none None e = past c e
       other c none (Some part) e = shown_after c part e ∙ ap (λ s. Some (option_map open_book s)) (unnamed_state c none) ∙ sym (shown c part e)
 
-  module _ (told : tells ≡ true) (faults : ℕ → ℕ) (faults_are : (r : ℕ) → faults r ≡ first_of (effective 6 (was.fuse r)) shared) where
-    pub batch_leased : (all after : List Leases) → ((c : ℕ) (part : CircuitPart) → slice_get topology.circuits c ≡ Some part → slice_get all c ≡ Some (left part (was.region part.region) (state_of old c)))
-        → ((c : ℕ) (part : CircuitPart) → slice_get topology.circuits c ≡ Some part → slice_get after c ≡ Some (left part (later.region part.region) (state_of new c)))
+  module _ (told : tells ≡ true) (faults : ℕ → ℕ) (faults_are : (r : ℕ) → faults r ≡ first_of (effective 6 (was.failing_call r)) shared) where
+    pub batch_leased : (all after : List Leases) → ((c : ℕ) (part : CircuitPart) → slice_get topology.circuits c ≡ Some part → slice_get all c ≡ Some (left part (was.region part.region) (server_state old c)))
+        → ((c : ℕ) (part : CircuitPart) → slice_get topology.circuits c ≡ Some part → slice_get after c ≡ Some (left part (later.region part.region) (server_state new c)))
         → ((c : ℕ) → slice_get topology.circuits c ≡ None → slice_get after c ≡ slice_get all c) → IsBatchOfLeases topology ds faults all after
     batch_leased all after shown shown_after past = record {
       leases = λ j c d here found first.
           let f = first_done j c d here found first in
           shown_after c f.0 f.1
           ∙ ap Some (f.2.done.leases told)
-          ∙ ap (λ n. Some (after_datagram f.0 d n (left f.0 (was.region f.0.region) (state_of old c)))) (sym (faults_are f.0.region))
-          ∙ sym (get_set all c (left f.0 (was.region f.0.region) (state_of old c)) (after_datagram f.0 d (faults f.0.region) (left f.0 (was.region f.0.region) (state_of old c))) (shown c f.0 f.1))
-          ∙ ap (λ xs. slice_get xs c) (sym (leases_at topology d c f.0 found f.1 faults all (left f.0 (was.region f.0.region) (state_of old c)) (shown c f.0 f.1)));
+          ∙ ap (λ n. Some (after_datagram f.0 d n (left f.0 (was.region f.0.region) (server_state old c)))) (sym (faults_are f.0.region))
+          ∙ sym (get_set all c (left f.0 (was.region f.0.region) (server_state old c)) (after_datagram f.0 d (faults f.0.region) (left f.0 (was.region f.0.region) (server_state old c))) (shown c f.0 f.1))
+          ∙ ap (λ xs. slice_get xs c) (sym (leases_at topology d c f.0 found f.1 faults all (left f.0 (was.region f.0.region) (server_state old c)) (shown c f.0 f.1)));
       others = λ c none. other c none (slice_get topology.circuits c) refl;
     } where
       other : (c : ℕ) → is_named topology ds c ≡ false → (x : Option CircuitPart) → slice_get topology.circuits c ≡ x → slice_get after c ≡ slice_get all c
@@ -410,17 +410,17 @@ module _ (topology : Topology) (ds : List DeliveryValue) (i : ℕ) (named : List
           let s = part_at (savings_of parts) n.0 in
           let now = part_at savings n.0 in
           let fails : has_failed was later r ≡ not (now.failed == 0) = subst (λ q. nat_lt (was.failures q) (later.failures q) ≡ not (now.failed == 0)) n.2 (ap (nat_lt (was.failures s.region)) one.failures ∙ raised (now.failed == 0) (was.failures s.region)) in
-          let its : now.failed ≡ faults r = one.failed told ∙ ap (λ q. first_of (effective 6 (was.fuse q)) shared) n.2 ∙ sym (faults_are r) in
+          let its : now.failed ≡ faults r = one.failed told ∙ ap (λ q. first_of (effective 6 (was.failing_call q)) shared) n.2 ∙ sym (faults_are r) in
           fails ∙ ap (λ k. not (k == 0)) its ∙ sym (ap (λ b. b && not (faults r == 0)) e)
 
-    pub batch_ready : (c : ℕ) (part : CircuitPart) → slice_get topology.circuits c ≡ Some part → IsReadyFor (later.region part.region) (state_of new c)
+    pub batch_ready : (c : ℕ) (part : CircuitPart) → slice_get topology.circuits c ≡ Some part → IsReadyFor (later.region part.region) (server_state new c)
     batch_ready c part there = by (is_named topology ds c) refl where
-      by : (b : Bool) → is_named topology ds c ≡ b → IsReadyFor (later.region part.region) (state_of new c)
-      by false e = subst (IsReadyFor (later.region part.region)) (sym (unnamed_state c e)) (subst (λ r. IsReadyFor r (state_of old c)) (sym (unnamed_region c part there e told)) (ready c part there told))
+      by : (b : Bool) → is_named topology ds c ≡ b → IsReadyFor (later.region part.region) (server_state new c)
+      by false e = subst (IsReadyFor (later.region part.region)) (sym (unnamed_state c e)) (subst (λ r. IsReadyFor r (server_state old c)) (sym (unnamed_region c part there e told)) (ready c part there told))
       by true e =
           let one = first_there (λ x. is_circuit c (addressee topology x)) ds e in
           let f = first_done one.0 c one.1 one.2 (circuit_is c (addressee topology one.1) one.3) one.4 in
-          subst (λ (p : CircuitPart). IsReadyFor (later.region p.region) (state_of new c)) (same_Some f.0 part (sym f.1 ∙ there)) (f.2.done.ready told)
+          subst (λ (p : CircuitPart). IsReadyFor (later.region p.region) (server_state new c)) (same_Some f.0 part (sym f.1 ∙ there)) (f.2.done.ready told)
 
   pub batch_written : IsWrittenTogether tells (regions_of (savings_of parts)) was later
   batch_written = record { touches = saved.frame; nothing = λ none. saved.nothing (empty (savings_of parts) none) } where

@@ -9,7 +9,7 @@ use Rattle.lease_disk.specs.declared.marks.Marks.{Marks}
 use Rattle.config.specs.CircuitPart.{CircuitPart}
 use Rattle.circuit_server.specs.Deadlines.{UnchangedOrUntilHeld, HasDeadlines, OthersUnchanged, held_in}
 use Rattle.circuit_server.specs.Prepared.{IsSettled}
-use Rattle.circuit_server.specs.Ticked.{state_of}
+use Rattle.circuit_server.specs.Ticked.{server_state}
 use Rattle.circuit_server.specs.declared.prepared.Prepared.{Prepared}
 use Rattle.circuit_server.proofs.DeadlineLemmas.{after_sweep_at}
 use Rattle.circuit_server.proofs.PreparedLemmas.{answered_own}
@@ -57,27 +57,27 @@ aside c k s other below = by (sides c k other) where
 -- ---- the deadlines of other circuits
 
 pub kept_beside : (k : ℕ) (among : ℕ → Bool) (old new : DeadlinesValue) → ((c : ℕ) → among c ≡ false → c ≡ k → ⊥) → OthersUnchanged (32 * k) old new → KeepsDeadlines among old new
-kept_beside k among old new apart same = record { looks = same.looks; others = λ c s is below. same.beside (32 * c + s) (aside c k s (apart c is) below) }
+kept_beside k among old new apart same = record { examined = same.examined; others = λ c s is below. same.beside (32 * c + s) (aside c k s (apart c is) below) }
 
 pub kept_wider : (among wide : ℕ → Bool) (old new : DeadlinesValue) → ((c : ℕ) → wide c ≡ false → among c ≡ false) → KeepsDeadlines among old new → KeepsDeadlines wide old new
-kept_wider among wide old new narrower keeps = record { looks = keeps.looks; others = λ c s is below. keeps.others c s (narrower c is) below }
+kept_wider among wide old new narrower keeps = record { examined = keeps.examined; others = λ c s is below. keeps.others c s (narrower c is) below }
 
 pub kept_both : (among : ℕ → Bool) (old middle new : DeadlinesValue) → KeepsDeadlines among old middle → KeepsDeadlines among middle new → KeepsDeadlines among old new
-kept_both among old middle new one other = record { looks = other.looks ∙ one.looks; others = λ c s is below. other.others c s is below ∙ one.others c s is below }
+kept_both among old middle new one other = record { examined = other.examined ∙ one.examined; others = λ c s is below. other.others c s is below ∙ one.others c s is below }
 
 pub kept_all : (among : ℕ → Bool) (table : DeadlinesValue) → KeepsDeadlines among table table
-kept_all among table = record { looks = refl; others = λ c s is below. refl }
+kept_all among table = record { examined = refl; others = λ c s is below. refl }
 
 -- ---- what was so before, or is held now
 
 -- one circuit's are so, and those of the others stay
-pub held_all : (k : ℕ) (states : List (Option OpenCircuitValue)) (own : Option OpenCircuitValue) (old new : DeadlinesValue) → own ≡ state_of states k → OthersUnchanged (32 * k) old new → UnchangedOrUntilHeld (32 * k) old new own
+pub held_all : (k : ℕ) (states : List (Option OpenCircuitValue)) (own : Option OpenCircuitValue) (old new : DeadlinesValue) → own ≡ server_state states k → OthersUnchanged (32 * k) old new → UnchangedOrUntilHeld (32 * k) old new own
     → AllUnchangedOrUntilHeld old new states
 held_all k states own old new is same one c state there s below = by (c == k) refl where
   by : (b : Bool) → (c == k) ≡ b → (deadline new (32 * c + s) ≡ deadline old (32 * c + s)) ⊎ (deadline new (32 * c + s) ≡ held_in state s)
   by true e =
       let at : c ≡ k = grind arith in
-      let own_is : own ≡ state = is ∙ ap (state_of states) (sym at) ∙ get_or_from_slice_get states c state None there in
+      let own_is : own ≡ state = is ∙ ap (server_state states) (sym at) ∙ get_or_from_slice_get states c state None there in
       subst (λ n. (deadline new (32 * n + s) ≡ deadline old (32 * n + s)) ⊎ (deadline new (32 * n + s) ≡ held_in state s)) (sym at)
       (subst (λ (x : Option OpenCircuitValue). (deadline new (32 * k + s) ≡ deadline old (32 * k + s)) ⊎ (deadline new (32 * k + s) ≡ held_in x s)) own_is (one s below))
   by false e = let other : c ≡ k → ⊥ = λ at. grind arith in inl (same.beside (32 * c + s) (aside c k s other below))
@@ -89,16 +89,16 @@ then_held before middle later held (inr was) (inl still) = inr (still ∙ was)
 
 -- one circuit is settled, and the others stay
 pub settled_all : (k : ℕ) (states left : List (Option OpenCircuitValue)) (own : Option OpenCircuitValue) (before old new : DeadlinesValue) (part : CircuitPart) (prepared : Prepared) (saved : Result (Option Marks) Fault)
-    (result : Result (Unit {0}) Discard) (out : List ℕ) → left ≡ slice_set states k own → k < length states → OthersUnchanged (32 * k) old new → IsSettled part prepared saved (state_of states k) own result out → UnchangedOrUntilHeld (32 * k) old new own
+    (result : Result (Unit {0}) Discard) (out : List ℕ) → left ≡ slice_set states k own → k < length states → OthersUnchanged (32 * k) old new → IsSettled part prepared saved (server_state states k) own result out → UnchangedOrUntilHeld (32 * k) old new own
     → HasDeadlines new (32 * k) own → AllUnchangedOrUntilHeld before old states → AllUnchangedOrUntilHeld before new left
 settled_all k states left own before old new part prepared saved result out is within same settled one has was c state there = by (c == k) refl where
   by : (b : Bool) → (c == k) ≡ b → UnchangedOrUntilHeld (32 * c) before new state
   by true e =
       let at : c ≡ k = grind arith in
       let own_is : own ≡ state = same_Some own state (sym (get_set_same states k own within) ∙ ap (λ (xs : List (Option OpenCircuitValue)). slice_get xs k) (sym is) ∙ ap (slice_get left) (sym at) ∙ there) in
-      let its = was k (state_of states k) (slice_get-get_or states k None within) in
+      let its = was k (server_state states k) (slice_get-get_or states k None within) in
       subst (λ n. UnchangedOrUntilHeld (32 * n) before new state) (sym at)
-      (subst (UnchangedOrUntilHeld (32 * k) before new) own_is (answered_own part prepared saved (32 * k) before old new (state_of states k) own result out settled its one has))
+      (subst (UnchangedOrUntilHeld (32 * k) before new) own_is (answered_own part prepared saved (32 * k) before old new (server_state states k) own result out settled its one has))
   by false e =
       let other : c ≡ k → ⊥ = λ at. grind arith in
       let still = sym (get_set_other states k c own other) ∙ ap (λ (xs : List (Option OpenCircuitValue)). slice_get xs c) (sym is) ∙ there in

@@ -10,7 +10,7 @@ use Rattle.lease_disk.specs.Region.{Region}
 use Rattle.timers.specs.Deadlines.{DeadlinesValue}
 use Rattle.circuit_server.specs.CircuitServerValue.{HasItsPools, HasPools, IsReady, IsReadyFor, OpenCircuitValue}
 use Rattle.circuit_server.specs.Deadlines.{HasDeadlines, HasEntries, KeepsEntries}
-use Rattle.circuit_server.specs.Ticked.{IsLater, state_at, state_of}
+use Rattle.circuit_server.specs.Ticked.{IsLater, state_at, server_state}
 use Rattle.dispatch.specs.ServerValue.{HoldsDeadlines, IsServer, with_states}
 use Rattle.dispatch.proofs.HeldDeadlines.{one_held}
 use Rattle.dispatch.proofs.TickLemmas.{at_is_later, own_state, shown_at, shown_new, shown_set}
@@ -18,8 +18,8 @@ use Rattle.dispatch.proofs.WithStates.{at_index, server, set_with, there_with}
 
 -- The states show it before and after, and every other one stays.
 pub record IsOne (was is : Option OpenCircuitValue) (c : ℕ) (old new : List (Option OpenCircuitValue)) : Type 0 where
-  pub before : state_of old c ≡ was
-  pub after : state_of new c ≡ is
+  pub before : server_state old c ≡ was
+  pub after : server_state new c ≡ is
   pub others : new ≡ set old c is
   pub inside : c < length old
 
@@ -43,8 +43,8 @@ module _ (t : Topology) (ticked : ℕ) (servers : List (Option OpenCircuitValue)
       let size = sym (length-map servers (state_at ticked)) ∙ sound.size in
       omega (arith, few, size, same)
 
-  shown : state_of (map (state_at ticked) servers) c ≡ moved
-  shown = ap (state_of (map (state_at ticked) servers)) (sym same) ∙ shown_at ticked servers k found within is ∙ sym ticks
+  shown : server_state (map (state_at ticked) servers) c ≡ moved
+  shown = ap (server_state (map (state_at ticked) servers)) (sym same) ∙ shown_at ticked servers k found within is ∙ sym ticks
 
   inside : c < length (map (state_at ticked) servers)
   inside = let size = length-map servers (state_at ticked) in let few = within in omega (arith, few, size, same)
@@ -53,13 +53,13 @@ module _ (t : Topology) (ticked : ℕ) (servers : List (Option OpenCircuitValue)
   its_pools =
       let states = map (state_at ticked) servers in
       subst (HasPools part) shown
-      (at_index HasItsPools (with_states t.circuits states) c (server part (state_of states c)) (there_with t.circuits states c part (state_of states c) there inside (own_state states c inside)) sound.pools)
+      (at_index HasItsPools (with_states t.circuits states) c (server part (server_state states c)) (there_with t.circuits states c part (server_state states c) there inside (own_state states c inside)) sound.pools)
 
   pub its_ready : (regions : ℕ → Region) → All (IsReady regions) (with_states t.circuits (map (state_at ticked) servers)) → IsReadyFor (regions part.region) moved
   its_ready regions ready =
       let states = map (state_at ticked) servers in
       subst (IsReadyFor (regions part.region)) shown
-      (at_index (IsReady regions) (with_states t.circuits states) c (server part (state_of states c)) (there_with t.circuits states c part (state_of states c) there inside (own_state states c inside)) ready)
+      (at_index (IsReady regions) (with_states t.circuits states) c (server part (server_state states c)) (there_with t.circuits states c part (server_state states c) there inside (own_state states c inside)) ready)
 
   pub its_entries : (table : DeadlinesValue) → HoldsDeadlines table (map (state_at ticked) servers) → HasEntries table c moved
   its_entries table holds =
@@ -68,7 +68,7 @@ module _ (t : Topology) (ticked : ℕ) (servers : List (Option OpenCircuitValue)
       let size = holds.size in
       record {
         room = omega (arith, few, size);
-        deadlines = subst (HasDeadlines table (32 * c)) shown (holds.each c (state_of states c) (slice_get-get_or states c None inside));
+        deadlines = subst (HasDeadlines table (32 * c)) shown (holds.each c (server_state states c) (slice_get-get_or states c None inside));
       }
 
   pub after_call : (left : Option OpenCircuitValue) → ((moment : ℕ) → IsLater moment moved → IsLater moment left)

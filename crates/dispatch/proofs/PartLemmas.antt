@@ -12,7 +12,7 @@ use Rattle.config.specs.Topology.{Topology}
 use Rattle.requests.specs.Addressee.{addressee}
 use Rattle.circuit_server.specs.CircuitServerValue.{OpenCircuitValue}
 use Rattle.circuit_server.specs.Prepared.{IsDropped, IsPrepared}
-use Rattle.circuit_server.specs.Ticked.{state_of}
+use Rattle.circuit_server.specs.Ticked.{server_state}
 use Rattle.circuit_server.specs.declared.prepared.Prepared.{Prepared}
 use Rattle.timers.specs.Deadlines.{DeadlinesValue, deadline}
 use Rattle.circuit_server.specs.Deadlines.{held_in}
@@ -93,22 +93,22 @@ module _ (topology : Topology) (ds : List DeliveryValue) (i : ℕ) (d : Delivery
   first : (c : ℕ) → has_named named c ≡ false → is_named topology (take i ds) c ≡ false
   first c fresh = sym (made.names c) ∙ fresh
 
-  of_keeps : (c : ℕ) → IsOf topology named d c now new → (k : ℕ) → (is_named topology (take i ds) k ≡ true) ⊎ (is_circuit k (addressee topology d) ≡ false) → state_of new k ≡ state_of now k
+  of_keeps : (c : ℕ) → IsOf topology named d c now new → (k : ℕ) → (is_named topology (take i ds) k ≡ true) ⊎ (is_circuit k (addressee topology d) ≡ false) → server_state new k ≡ server_state now k
   of_keeps c its k which =
-      ap (λ (s : States). state_of s k) its.others ∙ get_or-set_other now c k (state_of new c) None (apart topology ds i c k d its.found (first c its.fresh) which)
+      ap (λ (s : States). server_state s k) its.others ∙ get_or-set_other now c k (server_state new c) None (apart topology ds i c k d its.found (first c its.fresh) which)
 
   -- every circuit but that of the part keeps its state
-  keeps : (part : Part) → IsPart topology named d now new part → (k : ℕ) → (is_named topology (take i ds) k ≡ true) ⊎ (is_circuit k (addressee topology d) ≡ false) → state_of new k ≡ state_of now k
-  keeps (Err why) (inl none) k which = ap (λ (s : States). state_of s k) none.0
-  keeps (Err why) (inr (inl again)) k which = ap (λ (s : States). state_of s k) again.0
+  keeps : (part : Part) → IsPart topology named d now new part → (k : ℕ) → (is_named topology (take i ds) k ≡ true) ⊎ (is_circuit k (addressee topology d) ≡ false) → server_state new k ≡ server_state now k
+  keeps (Err why) (inl none) k which = ap (λ (s : States). server_state s k) none.0
+  keeps (Err why) (inr (inl again)) k which = ap (λ (s : States). server_state s k) again.0
   keeps (Err why) (inr (inr dropped)) k which = of_keeps dropped.0 dropped.2 k which
   keeps (Ok (c, prepared)) prepared_is k which = of_keeps c prepared_is.1 k which
 
   sizes : (part : Part) → IsPart topology named d now new part → length new ≡ length now
   sizes (Err why) (inl none) = ap (λ (s : States). length s) none.0
   sizes (Err why) (inr (inl again)) = ap (λ (s : States). length s) again.0
-  sizes (Err why) (inr (inr dropped)) = ap (λ (s : States). length s) dropped.2.others ∙ length-set now dropped.0 (state_of new dropped.0)
-  sizes (Ok (c, prepared)) prepared_is = ap (λ (s : States). length s) prepared_is.1.others ∙ length-set now c (state_of new c)
+  sizes (Err why) (inr (inr dropped)) = ap (λ (s : States). length s) dropped.2.others ∙ length-set now dropped.0 (server_state new dropped.0)
+  sizes (Ok (c, prepared)) prepared_is = ap (λ (s : States). length s) prepared_is.1.others ∙ length-set now c (server_state new c)
 
   -- the part itself
   own : (part : Part) → IsPart topology named d now new part → IsDecided topology (take i ds) d old new part
@@ -117,10 +117,10 @@ module _ (topology : Topology) (ds : List DeliveryValue) (i : ℕ) (d : Delivery
   own (Err why) (inr (inr dropped)) =
       let c = dropped.0 in
       let fresh = first c dropped.2.fresh in
-      inr (inr (c, dropped.1, record { found = dropped.2.found; first = fresh }, dropped.3, subst (λ before. IsDropped dropped.1 d before (state_of new c) why) (made.others c fresh) dropped.4))
+      inr (inr (c, dropped.1, record { found = dropped.2.found; first = fresh }, dropped.3, subst (λ before. IsDropped dropped.1 d before (server_state new c) why) (made.others c fresh) dropped.4))
   own (Ok (c, prepared)) prepared_is =
       let fresh = first c prepared_is.1.fresh in
-      (prepared_is.0, record { found = prepared_is.1.found; first = fresh }, prepared_is.2, subst (λ before. IsPrepared prepared_is.0 d before (state_of new c) prepared) (made.others c fresh) prepared_is.3)
+      (prepared_is.0, record { found = prepared_is.1.found; first = fresh }, prepared_is.2, subst (λ before. IsPrepared prepared_is.0 d before (server_state new c) prepared) (made.others c fresh) prepared_is.3)
 
   -- and those before it
   earlier : (j : ℕ) (other : DeliveryValue) → j < i → slice_get ds j ≡ Some other → (before : Part) → IsDecided topology (take j ds) other old now before → IsDecided topology (take j ds) other old new before
@@ -129,10 +129,10 @@ module _ (topology : Topology) (ds : List DeliveryValue) (i : ℕ) (d : Delivery
   earlier j other less there (Err why) (inr (inr dropped)) =
       let c = dropped.0 in
       let named_there = any_there (λ x. is_circuit c (addressee topology x)) ds i j other less there (ap (is_circuit c) dropped.2.found ∙ same_number c) in
-      inr (inr (c, dropped.1, dropped.2, dropped.3, subst (λ after. IsDropped dropped.1 other (state_of old c) after why) (sym (keeps part is c (inl named_there))) dropped.4))
+      inr (inr (c, dropped.1, dropped.2, dropped.3, subst (λ after. IsDropped dropped.1 other (server_state old c) after why) (sym (keeps part is c (inl named_there))) dropped.4))
   earlier j other less there (Ok (c, prepared)) prepared_is =
       let named_there = any_there (λ x. is_circuit c (addressee topology x)) ds i j other less there (ap (is_circuit c) prepared_is.1.found ∙ same_number c) in
-      (prepared_is.0, prepared_is.1, prepared_is.2, subst (λ after. IsPrepared prepared_is.0 other (state_of old c) after prepared) (sym (keeps part is c (inl named_there))) prepared_is.3)
+      (prepared_is.0, prepared_is.1, prepared_is.2, subst (λ after. IsPrepared prepared_is.0 other (server_state old c) after prepared) (sym (keeps part is c (inl named_there))) prepared_is.3)
 
   each : (j : ℕ) (other : DeliveryValue) → j < i + 1 → slice_get ds j ≡ Some other → (b : Bool) → (j == i) ≡ b
       → (p : Part) × (slice_get (parts ++ Some part ∷ []) j ≡ Some (Some p)) × IsDecided topology (take j ds) other old new p
@@ -166,9 +166,9 @@ module _ (topology : Topology) (ds : List DeliveryValue) (i : ℕ) (d : Delivery
         let inside = slice_get_within new k state there in
         let size = sizes part is in
         let at = slice_get-get_or now k None (omega (arith, inside, size)) in
-        let same : state_of now k ≡ state = sym (keeps part is k (inl e)) ∙ get_or_from_slice_get new k state None there in
+        let same : server_state now k ≡ state = sym (keeps part is k (inl e)) ∙ get_or_from_slice_get new k state None there in
         then_held (deadline start (32 * k + s)) (deadline middle (32 * k + s)) (deadline later (32 * k + s)) (held_in state s)
-        (subst (λ (x : Option OpenCircuitValue). (deadline middle (32 * k + s) ≡ deadline start (32 * k + s)) ⊎ (deadline middle (32 * k + s) ≡ held_in x s)) same (before k (state_of now k) at s below)) (step k state there s below)
+        (subst (λ (x : Option OpenCircuitValue). (deadline middle (32 * k + s) ≡ deadline start (32 * k + s)) ⊎ (deadline middle (32 * k + s) ≡ held_in x s)) same (before k (server_state now k) at s below)) (step k state there s below)
     by false e =
         then_held (deadline start (32 * k + s)) (deadline middle (32 * k + s)) (deadline later (32 * k + s)) (held_in state s) (inl (kept.others k s e below)) (step k state there s below)
 

@@ -11,12 +11,12 @@ use Rattle.circuit_server.specs.Leases.{IsRegionMigrated, counts_of, found_lease
 use Rattle.dispatch.specs.Regions.{AreRegionsMigrated, KeepsOthers}
 use Rattle.circuit_server.specs.CircuitServerValue.{CircuitServerValue, IsReady, IsReadyFor, OpenCircuitValue, leases_of}
 use Rattle.dispatch.specs.ServerValue.{with_states}
-use Rattle.circuit_server.specs.Ticked.{state_of}
+use Rattle.circuit_server.specs.Ticked.{server_state}
 use Rattle.dispatch.proofs.WithStates.{at_index, get_with, server, size_with, there_is}
 
 -- what holds of each part with its state
 pub all_with : (P : CircuitServerValue → Type 0) (parts : List CircuitPart) (states : List (Option OpenCircuitValue)) → length states ≡ length parts
-    → ((c : ℕ) (part : CircuitPart) → slice_get parts c ≡ Some part → P (server part (state_of states c))) → All P (with_states parts states)
+    → ((c : ℕ) (part : CircuitPart) → slice_get parts c ≡ Some part → P (server part (server_state states c))) → All P (with_states parts states)
 all_with P parts states size h k d within =
     let few : k < length parts = subst (λ n. k < n) (size_with parts states) within in
     let t = there_is parts k few in
@@ -31,42 +31,42 @@ all_parts P parts h k d within =
 
 -- a circuit whose region was brought up, between two devices
 pub record IsUp (first now : Device) (part : CircuitPart) (state : Option OpenCircuitValue) : Type 0 where
-  pub leases : leases_of now.region (server part state) ≡ found_leases first.region first.fuse part
+  pub leases : leases_of now.region (server part state) ≡ found_leases first.region first.failing_call part
   pub ready : IsReadyFor (now.region part.region) state
-  pub region : IsRegionMigrated (counts_of part) (first.fuse part.region) (first.region part.region) (now.region part.region)
+  pub region : IsRegionMigrated (counts_of part) (first.failing_call part.region) (first.region part.region) (now.region part.region)
 
 -- the first n circuits are up, and all else is as it was
 pub record AreUp (parts : List CircuitPart) (n : ℕ) (states : List (Option OpenCircuitValue)) (first now : Device) : Type 0 where
-  pub up : (c : ℕ) (part : CircuitPart) → c < n → slice_get parts c ≡ Some part → IsUp first now part (state_of states c)
+  pub up : (c : ℕ) (part : CircuitPart) → c < n → slice_get parts c ≡ Some part → IsUp first now part (server_state states c)
   pub region : (c : ℕ) (part : CircuitPart) → n ≤ c → slice_get parts c ≡ Some part → now.region part.region ≡ first.region part.region
-  pub fuse : (c : ℕ) (part : CircuitPart) → n ≤ c → slice_get parts c ≡ Some part → now.fuse part.region ≡ first.fuse part.region
+  pub failing_call : (c : ℕ) (part : CircuitPart) → n ≤ c → slice_get parts c ≡ Some part → now.failing_call part.region ≡ first.failing_call part.region
   pub others : KeepsOthers parts first now
 
 pub none_up : (parts : List CircuitPart) (states : List (Option OpenCircuitValue)) (first : Device) → AreUp parts 0 states first first
 none_up parts states first = record {
   up = λ c part h. absurd (omega (arith, h));
   region = λ c part h there. refl;
-  fuse = λ c part h there. refl;
-  others = record { region = λ r h. refl; fuse = λ r h. refl };
+  failing_call = λ c part h there. refl;
+  others = record { region = λ r h. refl; failing_call = λ r h. refl };
 }
 
 -- one more circuit
 module _ (tells : Bool) (told : tells ≡ true) (parts : List CircuitPart) (differ : RegionsDiffer parts) (n : ℕ) (part : CircuitPart) (here : slice_get parts n ≡ Some part) (states : List (Option OpenCircuitValue)) (within : n < length states)
     (first now next : Device) (are : AreUp parts n states first now) (frame : ChangesOne tells part.region now next) (new : Option OpenCircuitValue)
-    (leases : leases_of next.region (server part new) ≡ found_leases now.region now.fuse part) (ready : IsReadyFor (next.region part.region) new)
-    (region : IsRegionMigrated (counts_of part) (now.fuse part.region) (now.region part.region) (next.region part.region)) where
+    (leases : leases_of next.region (server part new) ≡ found_leases now.region now.failing_call part) (ready : IsReadyFor (next.region part.region) new)
+    (region : IsRegionMigrated (counts_of part) (now.failing_call part.region) (now.region part.region) (next.region part.region)) where
   region_is : now.region part.region ≡ first.region part.region
   region_is = are.region n part (omega arith) here
 
-  fuse_is : now.fuse part.region ≡ first.fuse part.region
-  fuse_is = are.fuse n part (omega arith) here
+  failing_call_is : now.failing_call part.region ≡ first.failing_call part.region
+  failing_call_is = are.failing_call n part (omega arith) here
 
   own : IsUp first next part new
   own = record {
-    leases = leases ∙ (λ j. region_leases part (fuse_is j) (region_is j) (region_is j).readable);
+    leases = leases ∙ (λ j. region_leases part (failing_call_is j) (region_is j) (region_is j).readable);
     ready = ready;
-    region = subst (λ (r : Region). IsRegionMigrated (counts_of part) (first.fuse part.region) r (next.region part.region)) region_is
-        (subst (λ k. IsRegionMigrated (counts_of part) k (now.region part.region) (next.region part.region)) fuse_is region);
+    region = subst (λ (r : Region). IsRegionMigrated (counts_of part) (first.failing_call part.region) r (next.region part.region)) region_is
+        (subst (λ k. IsRegionMigrated (counts_of part) k (now.region part.region) (next.region part.region)) failing_call_is region);
   }
 
   apart : (c : ℕ) (other : CircuitPart) → slice_get parts c ≡ Some other → (c ≡ n → ⊥) → other.region ≢ part.region
@@ -75,20 +75,20 @@ module _ (tells : Bool) (told : tells ≡ true) (parts : List CircuitPart) (diff
   stays : (c : ℕ) (other : CircuitPart) → slice_get parts c ≡ Some other → (c ≡ n → ⊥) → next.region other.region ≡ now.region other.region
   stays c other there ne = frame.region told other.region (apart c other there ne)
 
-  up_before : (c : ℕ) (other : CircuitPart) → slice_get parts c ≡ Some other → (c ≡ n → ⊥) → IsUp first now other (state_of states c) → IsUp first next other (state_of states c)
+  up_before : (c : ℕ) (other : CircuitPart) → slice_get parts c ≡ Some other → (c ≡ n → ⊥) → IsUp first now other (server_state states c) → IsUp first next other (server_state states c)
   up_before c other there ne is =
       let same = stays c other there ne in record {
-        leases = ap (λ (r : Region). leases_of (λ any. r) (server other (state_of states c))) same ∙ is.leases;
-        ready = subst (λ (r : Region). IsReadyFor r (state_of states c)) (sym same) is.ready;
-        region = subst (λ (r : Region). IsRegionMigrated (counts_of other) (first.fuse other.region) (first.region other.region) r) (sym same) is.region;
+        leases = ap (λ (r : Region). leases_of (λ any. r) (server other (server_state states c))) same ∙ is.leases;
+        ready = subst (λ (r : Region). IsReadyFor r (server_state states c)) (sym same) is.ready;
+        region = subst (λ (r : Region). IsRegionMigrated (counts_of other) (first.failing_call other.region) (first.region other.region) r) (sym same) is.region;
       }
 
-  state_at : (c : ℕ) (b : Bool) → (c == n) ≡ b → c < n + 1 → (other : CircuitPart) → slice_get parts c ≡ Some other → IsUp first next other (state_of (slice_set states n new) c)
+  state_at : (c : ℕ) (b : Bool) → (c == n) ≡ b → c < n + 1 → (other : CircuitPart) → slice_get parts c ≡ Some other → IsUp first next other (server_state (slice_set states n new) c)
   state_at c true e h other there =
       let is : c ≡ n = grind (arith, e) in
       let same : part ≡ other = same_Some part other (sym here ∙ ap (slice_get parts) (sym is) ∙ there) in
-      subst (λ (p : CircuitPart). IsUp first next p (state_of (slice_set states n new) c)) same
-      (subst (λ s. IsUp first next part s) (sym (ap (state_of (slice_set states n new)) is ∙ get_or-set_same states n new None within)) own)
+      subst (λ (p : CircuitPart). IsUp first next p (server_state (slice_set states n new) c)) same
+      (subst (λ s. IsUp first next part s) (sym (ap (server_state (slice_set states n new)) is ∙ get_or-set_same states n new None within)) own)
   state_at c false e h other there =
       let ne : c ≡ n → ⊥ = λ is. absurd (grind (arith, e, is)) in
       subst (λ s. IsUp first next other s) (sym (get_or-set_other states n c new None ne)) (up_before c other there ne (are.up c other (less ne) there)) where
@@ -99,23 +99,23 @@ module _ (tells : Bool) (told : tells ≡ true) (parts : List CircuitPart) (diff
   one_more_up = record {
     up = λ c other h there. state_at c (c == n) refl h other there;
     region = λ c other h there. stays c other there (λ is. absurd (omega (arith, h, is))) ∙ are.region c other (omega (arith, h)) there;
-    fuse = λ c other h there. frame.fuse told other.region (apart c other there (λ is. absurd (omega (arith, h, is)))) ∙ are.fuse c other (omega (arith, h)) there;
+    failing_call = λ c other h there. frame.failing_call told other.region (apart c other there (λ is. absurd (omega (arith, h, is)))) ∙ are.failing_call c other (omega (arith, h)) there;
     others = record {
       region = λ r h. frame.region told r (λ same. at_index (λ (p : CircuitPart). p.region ≢ r) parts n part here h (sym same)) ∙ are.others.region r h;
-      fuse = λ r h. frame.fuse told r (λ same. at_index (λ (p : CircuitPart). p.region ≢ r) parts n part here h (sym same)) ∙ are.others.fuse r h;
+      failing_call = λ r h. frame.failing_call told r (λ same. at_index (λ (p : CircuitPart). p.region ≢ r) parts n part here h (sym same)) ∙ are.others.failing_call r h;
     };
   }
 
 -- all circuits
 module _ (parts : List CircuitPart) (n : ℕ) (states : List (Option OpenCircuitValue)) (first now : Device) (size : length states ≡ length parts) (all : length parts ≤ n) (are : AreUp parts n states first now) where
-  each_up : (c : ℕ) (part : CircuitPart) → slice_get parts c ≡ Some part → IsUp first now part (state_of states c)
+  each_up : (c : ℕ) (part : CircuitPart) → slice_get parts c ≡ Some part → IsUp first now part (server_state states c)
   each_up c part there = let within = slice_get_within parts c part there in are.up c part (omega (arith, within, all)) there
 
   pub all_ready : All (IsReady now.region) (with_states parts states)
   all_ready = all_with (IsReady now.region) parts states size (λ c part there. (each_up c part there).ready)
 
-  pub all_leases : All (λ s. leases_of now.region s ≡ found_leases first.region first.fuse s.part) (with_states parts states)
-  all_leases = all_with (λ s. leases_of now.region s ≡ found_leases first.region first.fuse s.part) parts states size (λ c part there. (each_up c part there).leases)
+  pub all_leases : All (λ s. leases_of now.region s ≡ found_leases first.region first.failing_call s.part) (with_states parts states)
+  all_leases = all_with (λ s. leases_of now.region s ≡ found_leases first.region first.failing_call s.part) parts states size (λ c part there. (each_up c part there).leases)
 
   pub all_regions : AreRegionsMigrated parts first now
-  all_regions = all_parts (λ part. IsRegionMigrated (counts_of part) (first.fuse part.region) (first.region part.region) (now.region part.region)) parts (λ c part there. (each_up c part there).region)
+  all_regions = all_parts (λ part. IsRegionMigrated (counts_of part) (first.failing_call part.region) (first.region part.region) (now.region part.region)) parts (λ c part there. (each_up c part there).region)

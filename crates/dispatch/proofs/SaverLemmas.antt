@@ -18,7 +18,7 @@ use Rattle.circuit_server.specs.CircuitDecision.{is_kept, kept_in}
 use Rattle.circuit_server.specs.CircuitServerValue.{IsReadyFor, OpenCircuitValue, open_book}
 use Rattle.circuit_server.specs.Prepared.{IsPrepared, saving_of}
 use Rattle.circuit_server.specs.Server.{Book}
-use Rattle.circuit_server.specs.Ticked.{state_of}
+use Rattle.circuit_server.specs.Ticked.{server_state}
 use Rattle.circuit_server.specs.declared.prepared.Prepared.{Prepared}
 use Rattle.circuit_server.proofs.AnswerLemmas.{saves_so}
 use Rattle.circuit_server.proofs.PreparedLemmas.{case, keeps_none, keeps_some, prepared_ready}
@@ -81,7 +81,7 @@ pub record Settles (topology : Topology) (ds : List DeliveryValue) (old new : St
   pub found : addressee topology d ≡ Ok c
   pub first : is_named topology (take j ds) c ≡ false
   pub there : slice_get topology.circuits c ≡ Some part
-  pub prepared_so : IsPrepared part d (state_of old c) (state_of new c) prepared
+  pub prepared_so : IsPrepared part d (server_state old c) (server_state new c) prepared
 
 -- The part whose save is the n-th.
 pub record Saves (topology : Topology) (ds : List DeliveryValue) (old new : States) (parts : List (Option Part)) (n : ℕ) : Type 0 where
@@ -170,7 +170,7 @@ module _ (topology : Topology) (ds : List DeliveryValue) (i : ℕ) (named : List
         saving = s.3;
         place = r.place;
         is = get_or_from_slice_get (savings_of parts) n r.y no_part there;
-        region = own_region its.part its.d (state_of old s.0) (state_of new s.0) s.1 r.y its.prepared_so s.3;
+        region = own_region its.part its.d (server_state old s.0) (server_state new s.0) s.1 r.y its.prepared_so s.3;
       }
 
   -- ---- no two are to one region
@@ -191,18 +191,18 @@ module _ (topology : Topology) (ds : List DeliveryValue) (i : ℕ) (named : List
 
   -- what each has to be before it is saved
   pub ready_savings : (tells : Bool) (device : Device) → ((c : ℕ) (part : CircuitPart) → slice_get topology.circuits c ≡ Some part → part.region < device.count)
-      → ((c : ℕ) (part : CircuitPart) → slice_get topology.circuits c ≡ Some part → tells ≡ true → IsReadyFor (device.region part.region) (state_of old c)) → AreReady tells device (savings_of parts)
+      → ((c : ℕ) (part : CircuitPart) → slice_get topology.circuits c ≡ Some part → tells ≡ true → IsReadyFor (device.region part.region) (server_state old c)) → AreReady tells device (savings_of parts)
   ready_savings tells device exist ready n less =
       let a = saver n less in
       let p = a.settles in
       subst (IsReady tells device) (sym a.is)
       (subst (λ s. IfSome s (IsReady tells device)) a.saving
-      (prepared_ready p.part p.d (state_of old a.c) (state_of new a.c) a.prepared p.prepared_so tells device (exist a.c p.part p.there) (ready a.c p.part p.there)))
+      (prepared_ready p.part p.d (server_state old a.c) (server_state new a.c) a.prepared p.prepared_so tells device (exist a.c p.part p.there) (ready a.c p.part p.there)))
 
 -- ---- and where they save
 
 part_saved : (topology : Topology) (earlier : List DeliveryValue) (d : DeliveryValue) (old new : States) (books : List (Option Book)) (p : Part) → IsDecided topology earlier d old new p
-    → ((c : ℕ) (part : CircuitPart) → slice_get topology.circuits c ≡ Some part → slice_get books c ≡ Some (option_map open_book (state_of old c)))
+    → ((c : ℕ) (part : CircuitPart) → slice_get topology.circuits c ≡ Some part → slice_get books c ≡ Some (option_map open_book (server_state old c)))
     → part_saves topology earlier d books ≡ option_map (λ (s : Saving). s.region) (saving_in (Some p))
 part_saved topology earlier d old new books (Err why) (inl none) shown =
     ap (λ r. if comes_again topology earlier r then None else addressee_saves topology d books r) none
@@ -213,14 +213,14 @@ part_saved topology earlier d old new books (Err why) (inr (inr dropped)) shown 
     let c = dropped.0 in
     ap (λ r. if comes_again topology earlier r then None else received_saves topology d books) dropped.2.found
     ∙ ap (λ b. if b then None else received_saves topology d books) dropped.2.first
-    ∙ saves_at topology d c dropped.1 dropped.2.found dropped.3 books (option_map open_book (state_of old c)) (shown c dropped.1 dropped.3)
+    ∙ saves_at topology d c dropped.1 dropped.2.found dropped.3 books (option_map open_book (server_state old c)) (shown c dropped.1 dropped.3)
     ∙ dropped.4.saves
 part_saved topology earlier d old new books (Ok (c, prepared)) m shown =
     ap (λ r. if comes_again topology earlier r then None else received_saves topology d books) m.1.found
     ∙ ap (λ b. if b then None else received_saves topology d books) m.1.first
-    ∙ saves_at topology d c m.0 m.1.found m.2 books (option_map open_book (state_of old c)) (shown c m.0 m.2)
-    ∙ saves_so (case m.0 d (state_of old c) (state_of new c) prepared m.3)
-    ∙ saves_where m.0 d (state_of old c) (state_of new c) prepared m.3
+    ∙ saves_at topology d c m.0 m.1.found m.2 books (option_map open_book (server_state old c)) (shown c m.0 m.2)
+    ∙ saves_so (case m.0 d (server_state old c) (server_state new c) prepared m.3)
+    ∙ saves_where m.0 d (server_state old c) (server_state new c) prepared m.3
 
 map_option : (o : Option Saving) (ss : List Saving) → regions_of (cons_option o ss) ≡ cons_option (option_map (λ (s : Saving). s.region) o) (regions_of ss)
 map_option None ss = refl
@@ -245,7 +245,7 @@ saved_from topology books earlier (d ∷ ds) (x ∷ parts) size each =
 
 -- the regions that a batch saves to
 pub saves_are : (topology : Topology) (ds : List DeliveryValue) (i : ℕ) (named : List ℕ) (old new : States) (parts : List (Option Part)) (books : List (Option Book)) → length ds ≡ i → AreDecided topology ds i named old new parts
-    → ((c : ℕ) (part : CircuitPart) → slice_get topology.circuits c ≡ Some part → slice_get books c ≡ Some (option_map open_book (state_of old c)))
+    → ((c : ℕ) (part : CircuitPart) → slice_get topology.circuits c ≡ Some part → slice_get books c ≡ Some (option_map open_book (server_state old c)))
     → batch_saves topology ds books ≡ regions_of (savings_of parts)
 saves_are topology ds i named old new parts books whole made shown =
     saved_from topology books [] ds parts (made.count ∙ sym whole)

@@ -8,7 +8,7 @@ use Rattle.std.proofs.lemmas.List.Elements.{All-nil, All-cons, All-head, All-tai
 use Rattle.lease_disk.specs.Region.{Region}
 use Rattle.config.specs.CircuitPart.{CircuitPart}
 use Rattle.circuit_server.specs.Leases.{Leases}
-use Rattle.circuit_server.specs.CircuitServerValue.{CircuitServerValue, book_of, leases_of, part_of}
+use Rattle.circuit_server.specs.CircuitServerValue.{CircuitServerValue, server_book, leases_of, part_of}
 use Rattle.std.proofs.lemmas.List.{length-map, length-take-le, map-append, get_or-map, take_more}
 use Rattle.std.proofs.Math.Seq.{take-append_seam, drop-cons, get_or-append_seam}
 
@@ -73,18 +73,18 @@ written_through len new rest is = subst (λ n. take n (new ++ rest) ≡ new) (sy
 
 -- ---- which circuits are open
 
-seen_open : (xs : List CircuitServerValue) (c : ℕ) → slice_get (map is_some (map book_of xs)) c ≡ option_map (λ o. is_some o) (option_map book_of (slice_get xs c))
-seen_open xs c = slice_get-map (λ o. is_some o) (map book_of xs) c ∙ ap (option_map (λ o. is_some o)) (slice_get-map book_of xs c)
+seen_open : (xs : List CircuitServerValue) (c : ℕ) → slice_get (map is_some (map server_book xs)) c ≡ option_map (λ o. is_some o) (option_map server_book (slice_get xs c))
+seen_open xs c = slice_get-map (λ o. is_some o) (map server_book xs) c ∙ ap (option_map (λ o. is_some o)) (slice_get-map server_book xs c)
 
-pub open_at : (xs : List CircuitServerValue) (c : ℕ) (s : CircuitServerValue) (b : Bool) → c < length xs → s ≡ slice_index_or xs c s → b ≡ is_some (book_of s)
-    → (b ≡ true) ↔ (slice_get (map is_some (map book_of xs)) c ≡ Some true)
+pub open_at : (xs : List CircuitServerValue) (c : ℕ) (s : CircuitServerValue) (b : Bool) → c < length xs → s ≡ slice_index_or xs c s → b ≡ is_some (server_book s)
+    → (b ≡ true) ↔ (slice_get (map is_some (map server_book xs)) c ≡ Some true)
 open_at xs c s b within is seen =
-    let found : slice_get (map is_some (map book_of xs)) c ≡ Some b =
-    seen_open xs c ∙ ap (λ o. option_map (λ o. is_some o) (option_map book_of o)) (slice_get_read xs (length xs) c s refl within is) ∙ ap Some (sym seen) in
+    let found : slice_get (map is_some (map server_book xs)) c ≡ Some b =
+    seen_open xs c ∙ ap (λ o. option_map (λ o. is_some o) (option_map server_book o)) (slice_get_read xs (length xs) c s refl within is) ∙ ap Some (sym seen) in
     (λ yes. found ∙ ap Some yes, λ there. same_Some b true (sym found ∙ there))
 
-pub none_past : (xs : List CircuitServerValue) (c n : ℕ) → n ≡ length xs → n ≤ c → (nat_lt c n ≡ true) ↔ (slice_get (map is_some (map book_of xs)) c ≡ Some true)
+pub none_past : (xs : List CircuitServerValue) (c n : ℕ) → n ≡ length xs → n ≤ c → (nat_lt c n ≡ true) ↔ (slice_get (map is_some (map server_book xs)) c ≡ Some true)
 none_past xs c n size past =
-    let none : slice_get (map is_some (map book_of xs)) c ≡ None =
-    seen_open xs c ∙ ap (λ o. option_map (λ o. is_some o) (option_map book_of o)) (slice_get_past xs c (omega (arith, size, past))) in
+    let none : slice_get (map is_some (map server_book xs)) c ≡ None =
+    seen_open xs c ∙ ap (λ o. option_map (λ o. is_some o) (option_map server_book o)) (slice_get_past xs c (omega (arith, size, past))) in
     (λ less. let within : c < n = ltb-true c n less in absurd (omega (arith, within, past)), λ there. absurd (none-some true (sym none ∙ there)))

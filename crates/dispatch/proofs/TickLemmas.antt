@@ -20,7 +20,7 @@ use Rattle.dispatch.specs.ServerValue.{HoldsDeadlines, with_states}
 use Rattle.circuit_server.specs.Leases.{after_tick, formats_of, restarts_of}
 use Rattle.circuit_server.specs.Server.{book_at}
 use Rattle.circuit_server.specs.CircuitServerValue.{CircuitServerValue, HasItsPools, IsReady, IsReadyFor, OpenCircuitValue, leases_of, open_book}
-use Rattle.circuit_server.specs.Ticked.{IsLater, open_at, state_at, state_of}
+use Rattle.circuit_server.specs.Ticked.{IsLater, open_at, state_at, server_state}
 use Rattle.circuit_server.proofs.DeadlineLemmas.{stays_closed, stays_held}
 use Rattle.circuit_server.proofs.SaveLemmas.{later_ready}
 use Rattle.dispatch.proofs.WithStates.{server}
@@ -125,7 +125,7 @@ at_is_later now None = tt
 at_is_later now (Some o) = reached o.clock now
 
 -- the state that is shown of one
-pub shown_at : (now : ℕ) (states : List (Option OpenCircuitValue)) (c : ℕ) (state : Option OpenCircuitValue) → c < length states → state ≡ get_or states c state → state_of (map (state_at now) states) c ≡ state_at now state
+pub shown_at : (now : ℕ) (states : List (Option OpenCircuitValue)) (c : ℕ) (state : Option OpenCircuitValue) → c < length states → state ≡ get_or states c state → server_state (map (state_at now) states) c ≡ state_at now state
 shown_at now states c state within is = get_or-map (state_at now) states c state None within ∙ ap (state_at now) (sym is)
 
 -- one of them is replaced, by one whose clock is not before the tick
@@ -133,13 +133,13 @@ module _ (now : ℕ) (states : List (Option OpenCircuitValue)) (c : ℕ) (new : 
   pub shown_set : map (state_at now) (set states c new) ≡ set (map (state_at now) states) c new
   shown_set = map-set (state_at now) states c new ∙ ap (set (map (state_at now) states) c) (is_at now new later)
 
-  pub shown_new : state_of (map (state_at now) (set states c new)) c ≡ new
+  pub shown_new : server_state (map (state_at now) (set states c new)) c ≡ new
   shown_new =
-      ap (λ xs. state_of xs c) shown_set
+      ap (λ xs. server_state xs c) shown_set
       ∙ get_or-set_same (map (state_at now) states) c new None (subst (λ n. c < n) (sym (length-map states (state_at now))) within)
 
 -- what is read of one that is there, whatever stands for one that is not
-pub own_state : (states : List (Option OpenCircuitValue)) (c : ℕ) → c < length states → state_of states c ≡ get_or states c (state_of states c)
+pub own_state : (states : List (Option OpenCircuitValue)) (c : ℕ) → c < length states → server_state states c ≡ get_or states c (server_state states c)
 own_state [] c within = absurd (omega (arith, within))
 own_state (state ∷ states) zero within = refl
 own_state (state ∷ states) (suc c) within = own_state states c (omega (arith, within))

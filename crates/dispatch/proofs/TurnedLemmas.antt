@@ -17,7 +17,7 @@ use Rattle.dispatch.specs.ServerValue.{HoldsDeadlines, with_states}
 use Rattle.circuit_server.specs.Leases.{Leases, formats_of, restarts_of, turned}
 use Rattle.circuit_server.specs.Server.{kept_book}
 use Rattle.circuit_server.specs.CircuitServerValue.{CircuitServerValue, HasItsPools, IsReady, IsReadyFor, OpenCircuitValue, leases_of, open_book}
-use Rattle.circuit_server.specs.Ticked.{IsLater, state_of}
+use Rattle.circuit_server.specs.Ticked.{IsLater, server_state}
 use Rattle.circuit_server.specs.Unoffered.{state_unoffered}
 use Rattle.dispatch.specs.Turned.{AreTurned, state_turned}
 use Rattle.dispatch.proofs.HeldDeadlines.{aside, one_held}
@@ -44,7 +44,7 @@ ready_turned true region (Some o) ready =
 
 book_unoffered : (state : Option OpenCircuitValue) → option_map open_book (state_unoffered state) ≡ option_map kept_book (option_map open_book state)
 book_unoffered None = refl
-book_unoffered (Some o) = λ i. Some (record { clock = o.clock; four = shown_without o.clock o.four i; six = slots6.book_of o.clock o.six })
+book_unoffered (Some o) = λ i. Some (record { clock = o.clock; four = shown_without o.clock o.four i; six = slots6.book6_of o.clock o.six })
 
 leases_turned : (before now : Bool) (regions : ℕ → Region) (part : CircuitPart) (state : Option OpenCircuitValue)
     → leases_of regions (server part (state_turned (before && not now) state)) ≡ turned before now (leases_of regions (server part state))
@@ -98,14 +98,14 @@ and_false false = refl
 pub none_yet : (off : ℕ → Bool) (states : List (Option OpenCircuitValue)) (table : DeadlinesValue) → HoldsDeadlines table states → AreTurned (so_far off 0) states states table table
 none_yet off states table held = record {
   count = refl;
-  states = λ c. ap (λ b. state_turned b (state_of states c)) (sym (at_first off c));
+  states = λ c. ap (λ b. state_turned b (server_state states c)) (sym (at_first off c));
   left = λ c s inside is below. let never : true ≡ false = sym is ∙ at_first off c in absurd cc;
   others = λ c s is below. refl;
-  looks = refl;
+  examined = refl;
   held = held;
 }
 
-past_none : (states : List (Option OpenCircuitValue)) (c : ℕ) → length states ≤ c → state_of states c ≡ None
+past_none : (states : List (Option OpenCircuitValue)) (c : ℕ) → length states ≤ c → server_state states c ≡ None
 past_none [] c past = refl
 past_none (state ∷ states) zero past = absurd (omega (arith, past))
 past_none (state ∷ states) (suc c) past = past_none states c (omega (arith, past))
@@ -121,11 +121,11 @@ turned_all off n old new before after whole are = record {
   states = λ c. at c (nat_lt c n) refl;
   left = λ c s inside is below. are.left c s inside (after_all off n c (let size = are.count in omega (arith, inside, size, whole)) ∙ is) below;
   others = λ c s is below. are.others c s (ap (λ b. nat_lt c n && b) is ∙ and_false (nat_lt c n)) below;
-  looks = are.looks;
+  examined = are.examined;
   held = are.held;
 } where
-  at : (c : ℕ) (b : Bool) → nat_lt c n ≡ b → state_of new c ≡ state_turned (off c) (state_of old c)
-  at c true e = let fits : c < n = grind arith in are.states c ∙ ap (λ b. state_turned b (state_of old c)) (after_all off n c fits)
+  at : (c : ℕ) (b : Bool) → nat_lt c n ≡ b → server_state new c ≡ state_turned (off c) (server_state old c)
+  at c true e = let fits : c < n = grind arith in are.states c ∙ ap (λ b. state_turned b (server_state old c)) (after_all off n c fits)
   at c false e =
       let past : n ≤ c = grind arith in
       let size = are.count in
@@ -145,34 +145,34 @@ one_stays off n old new before after stays are = subst (λ (p : ℕ → Bool). A
 
 -- one more that turns off
 module _ (off : ℕ → Bool) (n : ℕ) (old mid : List (Option OpenCircuitValue)) (before table after : DeadlinesValue) (goes : off n ≡ true) (within : n < length mid)
-    (are : AreTurned (so_far off n) old mid before table) (own : (s : ℕ) → s < 32 → deadline after (32 * n + s) ≡ held_in (state_unoffered (state_of mid n)) s)
-    (has : HasDeadlines after (32 * n) (state_unoffered (state_of mid n))) (same : OthersUnchanged (32 * n) table after) where
+    (are : AreTurned (so_far off n) old mid before table) (own : (s : ℕ) → s < 32 → deadline after (32 * n + s) ≡ held_in (state_unoffered (server_state mid n)) s)
+    (has : HasDeadlines after (32 * n) (state_unoffered (server_state mid n))) (same : OthersUnchanged (32 * n) table after) where
   abbrev its : Option OpenCircuitValue
-  its = state_unoffered (state_of mid n)
+  its = state_unoffered (server_state mid n)
 
   abbrev new : List (Option OpenCircuitValue)
   new = set mid n its
 
-  here : state_of new n ≡ its
+  here : server_state new n ≡ its
   here = get_or-set_same mid n its None within
 
-  elsewhere : (c : ℕ) → (c ≡ n → ⊥) → state_of new c ≡ state_of mid c
+  elsewhere : (c : ℕ) → (c ≡ n → ⊥) → server_state new c ≡ server_state mid c
   elsewhere c other = get_or-set_other mid n c its None other
 
-  turned_at : (c : ℕ) (b : Bool) → (c == n) ≡ b → state_of new c ≡ state_turned (so_far off (n + 1) c) (state_of old c)
+  turned_at : (c : ℕ) (b : Bool) → (c == n) ≡ b → server_state new c ≡ state_turned (so_far off (n + 1) c) (server_state old c)
   turned_at c true e =
       let is : c ≡ n = grind arith in
-      let was : state_of mid n ≡ state_of old n = are.states n ∙ ap (λ b. state_turned b (state_of old n)) (not_yet off n) in
-      ap (state_of new) is ∙ here ∙ ap state_unoffered was ∙ ap (λ b. state_turned b (state_of old n)) (sym (just_now off n ∙ goes))
-      ∙ ap (λ k. state_turned (so_far off (n + 1) k) (state_of old k)) (sym is)
+      let was : server_state mid n ≡ server_state old n = are.states n ∙ ap (λ b. state_turned b (server_state old n)) (not_yet off n) in
+      ap (server_state new) is ∙ here ∙ ap state_unoffered was ∙ ap (λ b. state_turned b (server_state old n)) (sym (just_now off n ∙ goes))
+      ∙ ap (λ k. state_turned (so_far off (n + 1) k) (server_state old k)) (sym is)
   turned_at c false e =
       let other : c ≡ n → ⊥ = λ is. grind arith in
-      elsewhere c other ∙ are.states c ∙ ap (λ b. state_turned b (state_of old c)) (sym (others_as off n c other))
+      elsewhere c other ∙ are.states c ∙ ap (λ b. state_turned b (server_state old c)) (sym (others_as off n c other))
 
-  left_at : (c s : ℕ) → c < length new → so_far off (n + 1) c ≡ true → s < 32 → (b : Bool) → (c == n) ≡ b → deadline after (32 * c + s) ≡ held_in (state_of new c) s
+  left_at : (c s : ℕ) → c < length new → so_far off (n + 1) c ≡ true → s < 32 → (b : Bool) → (c == n) ≡ b → deadline after (32 * c + s) ≡ held_in (server_state new c) s
   left_at c s inside is below true e =
       let at : c ≡ n = grind arith in
-      ap (λ k. deadline after (32 * k + s)) at ∙ own s below ∙ ap (λ state. held_in state s) (sym here) ∙ ap (λ k. held_in (state_of new k) s) (sym at)
+      ap (λ k. deadline after (32 * k + s)) at ∙ own s below ∙ ap (λ state. held_in state s) (sym here) ∙ ap (λ k. held_in (server_state new k) s) (sym at)
   left_at c s inside is below false e =
       let other : c ≡ n → ⊥ = λ at. grind arith in
       same.beside (32 * c + s) (aside c n s other below)
@@ -194,20 +194,20 @@ module _ (off : ℕ → Bool) (n : ℕ) (old mid : List (Option OpenCircuitValue
     states = λ c. turned_at c (c == n) refl;
     left = λ c s inside is below. left_at c s inside is below (c == n) refl;
     others = λ c s is below. others_at c s is below (c == n) refl;
-    looks = same.looks ∙ are.looks;
+    examined = same.examined ∙ are.examined;
     held = one_held n table after mid its within are.held has same;
   }
 
 -- ---- what shows of all circuits
 
-pub same_state : (old new : List (Option OpenCircuitValue)) (c : ℕ) → length new ≡ length old → state_of new c ≡ state_of old c → slice_get new c ≡ slice_get old c
+pub same_state : (old new : List (Option OpenCircuitValue)) (c : ℕ) → length new ≡ length old → server_state new c ≡ server_state old c → slice_get new c ≡ slice_get old c
 same_state [] [] c size is = refl
 same_state [] (x ∷ new) c size is = absurd (omega (arith, size))
 same_state (x ∷ old) [] c size is = absurd (omega (arith, size))
 same_state (x ∷ old) (y ∷ new) zero size is = ap Some is
 same_state (x ∷ old) (y ∷ new) (suc c) size is = same_state old new c (omega (arith, size)) is
 
-with_at : (parts : List CircuitPart) (states : List (Option OpenCircuitValue)) (c : ℕ) → slice_get (with_states parts states) c ≡ option_map (λ part. server part (state_of states c)) (slice_get parts c)
+with_at : (parts : List CircuitPart) (states : List (Option OpenCircuitValue)) (c : ℕ) → slice_get (with_states parts states) c ≡ option_map (λ part. server part (server_state states c)) (slice_get parts c)
 with_at [] states c = refl
 with_at (part ∷ parts) [] zero = refl
 with_at (part ∷ parts) [] (suc c) = with_at parts [] c
@@ -215,31 +215,31 @@ with_at (part ∷ parts) (state ∷ states) zero = refl
 with_at (part ∷ parts) (state ∷ states) (suc c) = with_at parts states c
 
 module _ (regions : ℕ → Region) (parts : List CircuitPart) (old new : List (Option OpenCircuitValue)) (c : ℕ) (before now : Bool)
-    (is : state_of new c ≡ state_turned (before && not now) (state_of old c)) where
+    (is : server_state new c ≡ state_turned (before && not now) (server_state old c)) where
   seen : (states : List (Option OpenCircuitValue)) (found : Option CircuitPart) → slice_get parts c ≡ found
-      → slice_get (map (leases_of regions) (with_states parts states)) c ≡ option_map (leases_of regions) (option_map (λ part. server part (state_of states c)) found)
-  seen states found at = slice_get-map (leases_of regions) (with_states parts states) c ∙ ap (option_map (leases_of regions)) (with_at parts states c ∙ ap (option_map (λ part. server part (state_of states c))) at)
+      → slice_get (map (leases_of regions) (with_states parts states)) c ≡ option_map (leases_of regions) (option_map (λ part. server part (server_state states c)) found)
+  seen states found at = slice_get-map (leases_of regions) (with_states parts states) c ∙ ap (option_map (leases_of regions)) (with_at parts states c ∙ ap (option_map (λ part. server part (server_state states c))) at)
 
   by_part : (l : Leases) (found : Option CircuitPart) → slice_get parts c ≡ found → slice_get (map (leases_of regions) (with_states parts old)) c ≡ Some l
       → slice_get (map (leases_of regions) (with_states parts new)) c ≡ Some (turned before now l)
   by_part l None at there = absurd (none-some l (sym (seen old None at) ∙ there))
   by_part l (Some part) at there =
-      let its : leases_of regions (server part (state_of old c)) ≡ l = same_Some _ _ (sym (seen old (Some part) at) ∙ there) in
+      let its : leases_of regions (server part (server_state old c)) ≡ l = same_Some _ _ (sym (seen old (Some part) at) ∙ there) in
       seen new (Some part) at ∙ ap (λ state. Some (leases_of regions (server part state))) is
-      ∙ ap Some (leases_turned before now regions part (state_of old c) ∙ ap (turned before now) its)
+      ∙ ap Some (leases_turned before now regions part (server_state old c) ∙ ap (turned before now) its)
 
   pub leases_at : (l : Leases) → slice_get (map (leases_of regions) (with_states parts old)) c ≡ Some l → slice_get (map (leases_of regions) (with_states parts new)) c ≡ Some (turned before now l)
   leases_at l there = by_part l (slice_get parts c) refl there
 
 module _ (off : ℕ → Bool) (parts : List CircuitPart) (old new : List (Option OpenCircuitValue)) (size : length old ≡ length parts) (count : length new ≡ length old)
-    (states : (c : ℕ) → state_of new c ≡ state_turned (off c) (state_of old c)) where
+    (states : (c : ℕ) → server_state new c ≡ state_turned (off c) (server_state old c)) where
   all_kept : (P : CircuitServerValue → Type 0) → ((b : Bool) (part : CircuitPart) (state : Option OpenCircuitValue) → P (server part state) → P (server part (state_turned b state)))
       → All P (with_states parts old) → All P (with_states parts new)
   all_kept P step all =
       all_with P parts new (count ∙ size) (λ c part there.
       let within : c < length old = let inside = slice_get_within parts c part there in omega (arith, inside, size) in
-      let was = at_index P (with_states parts old) c (server part (state_of old c)) (there_with parts old c part (state_of old c) there within (own_state old c within)) all in
-      subst (λ state. P (server part state)) (sym (states c)) (step (off c) part (state_of old c) was))
+      let was = at_index P (with_states parts old) c (server part (server_state old c)) (there_with parts old c part (server_state old c) there within (own_state old c within)) all in
+      subst (λ state. P (server part state)) (sym (states c)) (step (off c) part (server_state old c) was))
 
   pub all_pools : All HasItsPools (with_states parts old) → All HasItsPools (with_states parts new)
   all_pools = all_kept HasItsPools pools_turned

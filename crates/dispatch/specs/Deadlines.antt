@@ -6,7 +6,7 @@ use Rattle.circuit_server.specs.Deadlines.{UnchangedOrUntilHeld, held_in}
 
 -- No entry is looked at, and the slots of every circuit that is not among these keep their deadlines.
 pub record KeepsDeadlines (among : ℕ → Bool) (old new : DeadlinesValue) : Type 0 where
-  pub looks : new.looks ≡ old.looks
+  pub examined : new.examined ≡ old.examined
   pub others : (c s : ℕ) → among c ≡ false → s < 32 → deadline new (32 * c + s) ≡ deadline old (32 * c + s)
 
 -- Each deadline of each circuit is what it was, or until when its slot is held now.

@@ -7,7 +7,7 @@ use Rattle.types.specs.declared.discard.Discard.TheVariants.{BatchTwice}
 use Rattle.lease_disk.specs.declared.device.Fault.{Fault}
 use Rattle.lease_disk.specs.declared.marks.Marks.{Marks}
 use Rattle.lease_disk.specs.Device.{Device, TouchesAll, has_failed, is_in}
-use Rattle.batch_saves.specs.Batch.{IsSavedPart, fuses_of, part_at, regions_of, shared_fault}
+use Rattle.batch_saves.specs.Batch.{IsSavedPart, failing_calls_of, part_at, regions_of, shared_fault}
 use Rattle.lease_disk.specs.declared.saving.Saving.{Saving}
 use Rattle.config.specs.CircuitPart.{CircuitPart}
 use Rattle.config.specs.Topology.{Topology}
@@ -15,7 +15,7 @@ use Rattle.requests.specs.Addressee.{addressee}
 use Rattle.circuit_server.specs.Calls.{IsCalledToSave}
 use Rattle.circuit_server.specs.CircuitServerValue.{OpenCircuitValue}
 use Rattle.circuit_server.specs.Prepared.{IsDropped, IsPrepared, IsSettled}
-use Rattle.circuit_server.specs.Ticked.{state_of}
+use Rattle.circuit_server.specs.Ticked.{server_state}
 use Rattle.dispatch.specs.Answers.{answer_by}
 use Rattle.dispatch.specs.Batch.{IsBatch, IsBatchOfLeases, IsWrittenTogether, batch_fault, batch_saves, is_named}
 use Rattle.dispatch.specs.ServerValue.{AreReady, ServerValue, books_in, leases_in}
@@ -28,20 +28,20 @@ has_named named c = list_any (λ n. n == c) named
 pub record IsOf (topology : Topology) (named : List ℕ) (d : DeliveryValue) (c : ℕ) (old new : List (Option OpenCircuitValue)) : Type 0 where
   pub found : addressee topology d ≡ Ok c
   pub fresh : has_named named c ≡ false
-  pub others : new ≡ slice_set old c (state_of new c)
+  pub others : new ≡ slice_set old c (server_state new c)
 
 -- a part that is dropped: of no circuit, of one that an earlier part is of, or of one that decided on nothing
 abbrev pub IsDroppedPart : Topology → List ℕ → DeliveryValue → List (Option OpenCircuitValue) → List (Option OpenCircuitValue) → Discard → Type 0
 IsDroppedPart topology named d old new why =
     ((new ≡ old) × (addressee topology d ≡ Err why))
     ⊎ ((new ≡ old) × (why ≡ BatchTwice) × ((c : ℕ) × (addressee topology d ≡ Ok c) × (has_named named c ≡ true)))
-    ⊎ ((c : ℕ) × (part : CircuitPart) × IsOf topology named d c old new × (slice_get topology.circuits c ≡ Some part) × IsDropped part d (state_of old c) (state_of new c) why)
+    ⊎ ((c : ℕ) × (part : CircuitPart) × IsOf topology named d c old new × (slice_get topology.circuits c ≡ Some part) × IsDropped part d (server_state old c) (server_state new c) why)
 
 -- what was made of a part, after parts of these circuits
 abbrev pub IsPart : Topology → List ℕ → DeliveryValue → List (Option OpenCircuitValue) → List (Option OpenCircuitValue) → Result (ℕ × Prepared) Discard → Type 0
 IsPart topology named d old new (Err why) = IsDroppedPart topology named d old new why
 IsPart topology named d old new (Ok (c, prepared)) =
-    (part : CircuitPart) × IsOf topology named d c old new × (slice_get topology.circuits c ≡ Some part) × IsPrepared part d (state_of old c) (state_of new c) prepared
+    (part : CircuitPart) × IsOf topology named d c old new × (slice_get topology.circuits c ≡ Some part) × IsPrepared part d (server_state old c) (server_state new c) prepared
 
 -- ---- all parts so far
 
@@ -55,9 +55,9 @@ abbrev pub IsDecided : Topology → List DeliveryValue → DeliveryValue → Lis
 IsDecided topology earlier d old new (Err why) =
     (addressee topology d ≡ Err why)
     ⊎ ((why ≡ BatchTwice) × ((c : ℕ) × (addressee topology d ≡ Ok c) × (is_named topology earlier c ≡ true)))
-    ⊎ ((c : ℕ) × (part : CircuitPart) × IsFirst topology earlier d c × (slice_get topology.circuits c ≡ Some part) × IsDropped part d (state_of old c) (state_of new c) why)
+    ⊎ ((c : ℕ) × (part : CircuitPart) × IsFirst topology earlier d c × (slice_get topology.circuits c ≡ Some part) × IsDropped part d (server_state old c) (server_state new c) why)
 IsDecided topology earlier d old new (Ok (c, prepared)) =
-    (part : CircuitPart) × IsFirst topology earlier d c × (slice_get topology.circuits c ≡ Some part) × IsPrepared part d (state_of old c) (state_of new c) prepared
+    (part : CircuitPart) × IsFirst topology earlier d c × (slice_get topology.circuits c ≡ Some part) × IsPrepared part d (server_state old c) (server_state new c) prepared
 
 -- Of the first parts of a batch, so many: the circuits that they are of, and what was decided on each. Every other circuit's state stays.
 pub record AreDecided (topology : Topology) (ds : List DeliveryValue) (i : ℕ) (named : List ℕ) (old new : List (Option OpenCircuitValue)) (parts : List (Option (Result (ℕ × Prepared) Discard))) : Type 0 where
@@ -66,7 +66,7 @@ pub record AreDecided (topology : Topology) (ds : List DeliveryValue) (i : ℕ) 
   pub few : length named ≤ i
   pub names : (c : ℕ) → has_named named c ≡ is_named topology (take i ds) c
   pub each : (j : ℕ) (d : DeliveryValue) → j < i → slice_get ds j ≡ Some d → (part : Result (ℕ × Prepared) Discard) × (slice_get parts j ≡ Some (Some part)) × IsDecided topology (take j ds) d old new part
-  pub others : (c : ℕ) → is_named topology (take i ds) c ≡ false → state_of new c ≡ state_of old c
+  pub others : (c : ℕ) → is_named topology (take i ds) c ≡ false → server_state new c ≡ server_state old c
 
 -- ---- what they save
 
@@ -90,7 +90,7 @@ AreCounted (Some places) count = (1 ≤ count) × (count ≤ 16)
 -- These were saved together.
 pub record AreSavedTogether (tells : Bool) (was now : List Saving) (old new : Device) : Type 0 where
   pub count : length now ≡ length was
-  pub each : (n : ℕ) → n < length was → IsSavedPart tells (shared_fault (fuses_of old was)) (part_at was n) (part_at now n) old new
+  pub each : (n : ℕ) → n < length was → IsSavedPart tells (shared_fault (failing_calls_of old was)) (part_at was n) (part_at now n) old new
   pub frame : TouchesAll tells (regions_of was) old new
   pub others : (q : ℕ) → is_in (regions_of was) q ≡ false → new.failures q ≡ old.failures q
   pub nothing : was ≡ [] → new ≡ old
@@ -112,7 +112,7 @@ pub record IsSettledSo (topology : Topology) (prepared : Prepared) (saved : Resu
   pub there : slice_get topology.circuits c ≡ Some part
   pub result : Result (Unit {0}) Discard
   pub out : List ℕ
-  pub settled : IsSettled part prepared saved (state_of old c) (state_of new c) result out
+  pub settled : IsSettled part prepared saved (server_state old c) (server_state new c) result out
   pub given : answer ≡ answer_by result out
 
 abbrev pub IsAnswered : Topology → Saving → List (Option OpenCircuitValue) → List (Option OpenCircuitValue) → Result (List ℕ) Discard → Result (ℕ × Prepared) Discard → Type 0
@@ -136,7 +136,7 @@ pub record AreAnswered (topology : Topology) (parts : List (Option (Result (ℕ 
   pub count : length answers ≡ i
   pub each : (j : ℕ) (part : Result (ℕ × Prepared) Discard) → j < i → slice_get parts j ≡ Some (Some part)
       → (answer : Result (List ℕ) Discard) × (slice_get answers j ≡ Some answer) × IsAnswered topology (part_at savings (place_of parts j)) old new answer part
-  pub others : (c : ℕ) → list_any (is_of c) (take i parts) ≡ false → state_of new c ≡ state_of old c
+  pub others : (c : ℕ) → list_any (is_of c) (take i parts) ≡ false → server_state new c ≡ server_state old c
 
 -- ---- all together
 
@@ -145,6 +145,6 @@ pub record IsReceivedBatch (tells : Bool) (ds : List DeliveryValue) (given : Lis
   pub answers : IsBatch server.topology ds (has_failed device later_device) (books_in server) (books_in later_server) given
   pub frame : IsWrittenTogether tells (batch_saves server.topology ds (books_in server)) device later_device
   pub calls : IsCalledToSave (batch_saves server.topology ds (books_in server)) device later_device
-  pub fails : tells ≡ true → (r : ℕ) → has_failed device later_device r ≡ (is_in (batch_saves server.topology ds (books_in server)) r && not (batch_fault device.fuse (batch_saves server.topology ds (books_in server)) r == 0))
-  pub leases : tells ≡ true → IsBatchOfLeases server.topology ds (batch_fault device.fuse (batch_saves server.topology ds (books_in server))) (leases_in device.region server) (leases_in later_device.region later_server)
+  pub fails : tells ≡ true → (r : ℕ) → has_failed device later_device r ≡ (is_in (batch_saves server.topology ds (books_in server)) r && not (batch_fault device.failing_call (batch_saves server.topology ds (books_in server)) r == 0))
+  pub leases : tells ≡ true → IsBatchOfLeases server.topology ds (batch_fault device.failing_call (batch_saves server.topology ds (books_in server))) (leases_in device.region server) (leases_in later_device.region later_server)
   pub ready : tells ≡ true → AreReady later_device.region later_server

@@ -1,8 +1,8 @@
 -- What a circuit's server answers to a DHCPv6 datagram, as it reads back.
 use Rattle.std.specs.Prelude.{◌≡◌, ℕ, ◌≤◌, List, length, Some, Ok}
 use Rattle.types.specs.Delivery.{DeliveryValue}
-use Rattle.types.specs.declared.request6.Reply6.{Reply6}
-use Rattle.types.specs.declared.request6.Request6.{Request6}
+use Rattle.exchange.specs.declared.request6.Reply6.{Reply6}
+use Rattle.exchange.specs.declared.request6.Request6.{Request6}
 use Rattle.v6_options.specs.Codes.{RELAY_MESSAGE}
 use Rattle.v6_options.specs.Spelling.{look_up}
 use Rattle.v6_message.specs.Message.{MessageValue, SpellsMessage, message_bytes}

@@ -11,12 +11,12 @@ HasRegions parts count = All (λ part. part.region < count) parts
 
 -- what a restart does to the region of each circuit
 abbrev pub AreRegionsMigrated : List CircuitPart → Device → Device → Type 0
-AreRegionsMigrated parts old new = All (λ part. IsRegionMigrated (counts_of part) (old.fuse part.region) (old.region part.region) (new.region part.region)) parts
+AreRegionsMigrated parts old new = All (λ part. IsRegionMigrated (counts_of part) (old.failing_call part.region) (old.region part.region) (new.region part.region)) parts
 
 -- regions of no circuit stay as they are
 pub record KeepsOthers (parts : List CircuitPart) (old new : Device) : Type 0 where
   pub region : (r : ℕ) → All (λ part. part.region ≢ r) parts → new.region r ≡ old.region r
-  pub fuse : (r : ℕ) → All (λ part. part.region ≢ r) parts → new.fuse r ≡ old.fuse r
+  pub failing_call : (r : ℕ) → All (λ part. part.region ≢ r) parts → new.failing_call r ≡ old.failing_call r
 
 -- of a circuit's region that can be read no byte is unsynced
 abbrev pub AreSynced : List CircuitPart → (ℕ → Region) → Type 0

@@ -20,7 +20,7 @@ pub record CanRestart (tells : Bool) (parts : List CircuitPart) (device : Device
 -- Each circuit has what its region held.
 pub record AreRestarted (tells : Bool) (parts : List CircuitPart) (states : List (Option OpenCircuitValue)) (old new : Device) : Type 0 where
   pub pools : All HasItsPools (with_states parts states)
-  pub leases : tells ≡ true → map (leases_of new.region) (with_states parts states) ≡ map (found_leases old.region old.fuse) parts
+  pub leases : tells ≡ true → map (leases_of new.region) (with_states parts states) ≡ map (found_leases old.region old.failing_call) parts
   pub ready : tells ≡ true → All (IsReady new.region) (with_states parts states)
   pub regions : tells ≡ true → AreRegionsMigrated parts old new
 
@@ -35,11 +35,11 @@ pub record IsRestartOf (tells : Bool) (parts : List CircuitPart) (old new : Devi
 pub record IsTableAnew (old new : DeadlinesValue) (states : List (Option OpenCircuitValue)) : Type 0 where
   pub held : HoldsDeadlines new states
   pub anew : AreSetAnew new states
-  pub looks : new.looks ≡ old.looks
+  pub examined : new.examined ≡ old.examined
 
 -- A server that began with what the regions of these circuits held.
 pub record IsOpened (tells : Bool) (parts : List CircuitPart) (server : ServerValue) (old new : Device) : Type 0 where
-  pub leases : tells ≡ true → leases_in new.region server ≡ map (found_leases old.region old.fuse) parts
+  pub leases : tells ≡ true → leases_in new.region server ≡ map (found_leases old.region old.failing_call) parts
   pub ready : tells ≡ true → AreReady new.region server
   pub deadlines : AreSetAnew server.deadlines server.states
   pub large : HasRegions parts new.count

@@ -4,7 +4,7 @@ use Rattle.config.specs.CircuitPart.{CircuitPart}
 use Rattle.config.specs.Topology.{IsTopology, Topology}
 use Rattle.lease_disk.specs.Region.{Region}
 use Rattle.timers.specs.Deadlines.{DeadlinesValue}
-use Rattle.circuit_server.specs.CircuitServerValue.{CircuitServerValue, HasItsPools, IsReady, OpenCircuitValue, book_of, leases_of}
+use Rattle.circuit_server.specs.CircuitServerValue.{CircuitServerValue, HasItsPools, IsReady, OpenCircuitValue, server_book, leases_of}
 use Rattle.circuit_server.specs.Deadlines.{HasDeadlines}
 use Rattle.circuit_server.specs.Leases.{Leases}
 use Rattle.circuit_server.specs.Server.{Book}
@@ -27,7 +27,7 @@ circuits_in s = with_states s.topology.circuits s.states
 
 -- each circuit's book, and its leases
 abbrev pub books_in : ServerValue → List (Option Book)
-books_in s = map book_of (circuits_in s)
+books_in s = map server_book (circuits_in s)
 
 abbrev pub leases_in : (ℕ → Region) → ServerValue → List Leases
 leases_in regions s = map (leases_of regions) (circuits_in s)

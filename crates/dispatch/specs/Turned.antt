@@ -6,7 +6,7 @@ use Rattle.timers.specs.Deadlines.{DeadlinesValue, deadline}
 use Rattle.circuit_server.specs.Deadlines.{held_in}
 use Rattle.dispatch.specs.ServerValue.{HoldsDeadlines}
 use Rattle.circuit_server.specs.CircuitServerValue.{OpenCircuitValue}
-use Rattle.circuit_server.specs.Ticked.{state_of}
+use Rattle.circuit_server.specs.Ticked.{server_state}
 use Rattle.circuit_server.specs.Unoffered.{state_unoffered}
 
 -- whether a circuit turns off when this plan comes into force
@@ -21,8 +21,8 @@ state_turned false state = state
 -- These circuits turned off, and no other: their deadlines are those of what is left of them, and those of the others stay.
 pub record AreTurned (off : ℕ → Bool) (old new : List (Option OpenCircuitValue)) (before after : DeadlinesValue) : Type 0 where
   pub count : length new ≡ length old
-  pub states : (c : ℕ) → state_of new c ≡ state_turned (off c) (state_of old c)
-  pub left : (c s : ℕ) → c < length new → off c ≡ true → s < 32 → deadline after (32 * c + s) ≡ held_in (state_of new c) s
+  pub states : (c : ℕ) → server_state new c ≡ state_turned (off c) (server_state old c)
+  pub left : (c s : ℕ) → c < length new → off c ≡ true → s < 32 → deadline after (32 * c + s) ≡ held_in (server_state new c) s
   pub others : (c s : ℕ) → off c ≡ false → s < 32 → deadline after (32 * c + s) ≡ deadline before (32 * c + s)
-  pub looks : after.looks ≡ before.looks
+  pub examined : after.examined ≡ before.examined
   pub held : HoldsDeadlines after new

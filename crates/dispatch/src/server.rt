@@ -15,7 +15,7 @@ ghost use Rattle.dispatch.specs.Received.{received, received_leases, received_sa
 ghost use Rattle.circuit_server.specs.Answered.{IsAnswer, fails_at};
 ghost use Rattle.circuit_server.specs.Calls.{IsCalledToSaveAt};
 ghost use Rattle.circuit_server.specs.CircuitServerValue.{OpenCircuitValue, kept_slots};
-ghost use Rattle.circuit_server.specs.Ticked.{state_of};
+ghost use Rattle.circuit_server.specs.Ticked.{server_state};
 ghost use Rattle.dispatch.specs.declared.server.OpenFault.TheVariants as fault;
 ghost use Rattle.lease_disk.specs.Device.{WritesAt, has_failed};
 ghost use Rattle.types.specs.Delivery.{delivery};
@@ -123,7 +123,7 @@ impl Server {
         requires synced { D.tells ≡ true → AreSynced (parts_of config.now) (D.device disk.old).region }
         ensures topology { IfOk result (λ server. server.topology ≡ topology_of config.now) }
         ensures sound { IfOk result (λ server. IsTopology (topology_of config.now)) }
-        ensures leases { D.tells ≡ true → IfOk result (λ server. leases_in (D.device disk.new).region server ≡ map (found_leases (D.device disk.old).region (D.device disk.old).fuse) (parts_of config.now)) }
+        ensures leases { D.tells ≡ true → IfOk result (λ server. leases_in (D.device disk.new).region server ≡ map (found_leases (D.device disk.old).region (D.device disk.old).failing_call) (parts_of config.now)) }
         ensures ready { D.tells ≡ true → IfOk result (λ server. AreReady (D.device disk.new).region server) }
         ensures deadlines { IfOk result (λ server. AreSetAnew server.deadlines server.states) }
         ensures large { IfOk result (λ server. HasRegions (parts_of config.now) (D.device disk.new).count) }
@@ -151,7 +151,7 @@ impl Server {
         requires synced { D.tells ≡ true → AreSynced (parts_of plans.now.union) (D.device disk.old).region }
         ensures topology { IfOk result (λ server. server.topology ≡ plans_topology plans.now) }
         ensures sound { IfOk result (λ server. IsTopology (plans_topology plans.now)) }
-        ensures leases { D.tells ≡ true → IfOk result (λ server. leases_in (D.device disk.new).region server ≡ map (found_leases (D.device disk.old).region (D.device disk.old).fuse) (parts_of plans.now.union)) }
+        ensures leases { D.tells ≡ true → IfOk result (λ server. leases_in (D.device disk.new).region server ≡ map (found_leases (D.device disk.old).region (D.device disk.old).failing_call) (parts_of plans.now.union)) }
         ensures ready { D.tells ≡ true → IfOk result (λ server. AreReady (D.device disk.new).region server) }
         ensures deadlines { IfOk result (λ server. AreSetAnew server.deadlines server.states) }
         ensures large { IfOk result (λ server. HasRegions (parts_of plans.now.union) (D.device disk.new).count) }
@@ -234,7 +234,7 @@ impl Server {
     /// `None` where the circuit is closed.
     pub fn slots(&self, circuit: Circuit) -> Option<Slots>
         requires { circuit < length self.now.topology.circuits }
-        ensures { result ≡ option_map kept_slots (state_of self.now.states circuit) }
+        ensures { result ≡ option_map kept_slots (server_state self.now.states circuit) }
     {
         self.servers[circuit.index()].slots_at(self.ticked)
     }
@@ -293,8 +293,8 @@ impl Server {
         ensures held { AllUnchangedOrUntilHeld self.old.deadlines self.new.deadlines self.new.states }
 
         // Over a device that tells its bytes: when the save fails, and what restarts then find.
-        ensures fails { D.tells ≡ true → (r : ℕ) → has_failed (D.device disk.old) (D.device disk.new) r ≡ fails_at (D.device disk.old).fuse (received_saves self.old.topology (delivery proto source now datagram.now) (books_in self.old)) r }
-        ensures leases { D.tells ≡ true → leases_in (D.device disk.new).region self.new ≡ received_leases self.old.topology (delivery proto source now datagram.now) (D.device disk.old).fuse (leases_in (D.device disk.old).region self.old) }
+        ensures fails { D.tells ≡ true → (r : ℕ) → has_failed (D.device disk.old) (D.device disk.new) r ≡ fails_at (D.device disk.old).failing_call (received_saves self.old.topology (delivery proto source now datagram.now) (books_in self.old)) r }
+        ensures leases { D.tells ≡ true → leases_in (D.device disk.new).region self.new ≡ received_leases self.old.topology (delivery proto source now datagram.now) (D.device disk.old).failing_call (leases_in (D.device disk.old).region self.old) }
         ensures ready { D.tells ≡ true → AreReady (D.device disk.new).region self.new }
 
         // What is written: nothing, over every device, where nothing is saved; else the circuit's region, alone over one that tells its bytes.
@@ -328,7 +328,7 @@ impl Server {
         ensures ready { (regions : ℕ → Region) → AreReady regions self.old → AreReady regions self.new }
         ensures due { (n until : ℕ) → deadline self.new.deadlines n ≡ Some until → now < until }
         ensures deadlines { self.new.deadlines.slots ≡ map (entry_after_sweep now) self.old.deadlines.slots }
-        ensures looks { self.new.deadlines.looks ≡ self.old.deadlines.looks + count_by (is_due now) self.old.deadlines.slots + 1 }
+        ensures examined { self.new.deadlines.examined ≡ self.old.deadlines.examined + count_by (is_due now) self.old.deadlines.slots + 1 }
     {
         self.ticked = self.ticked.later(now);
         self.deadlines.sweep(now);
@@ -350,7 +350,7 @@ impl Server {
         ensures deadlines { (c : ℕ) → serves self.old.topology c ≡ serves self.new.topology c → (s : ℕ) → s < 32 → deadline self.new.deadlines (32 * c + s) ≡ deadline self.old.deadlines (32 * c + s) }
         ensures left { (c : ℕ) (state : Option OpenCircuitValue) → serves self.old.topology c ≡ true → serves self.new.topology c ≡ false → slice_get self.new.states c ≡ Some state
             → (s : ℕ) → s < 32 → deadline self.new.deadlines (32 * c + s) ≡ held_in state s }
-        ensures looks { self.new.deadlines.looks ≡ self.old.deadlines.looks }
+        ensures examined { self.new.deadlines.examined ≡ self.old.deadlines.examined }
     {
         let number = usize::from(plan);
         if !self.circuits.has_plan(number) {
@@ -373,10 +373,10 @@ impl Server {
         requires regions { HasRegions self.old.topology.circuits (D.device disk.old).count }
         requires synced { D.tells ≡ true → AreSynced self.old.topology.circuits (D.device disk.old).region }
         ensures topology { self.new.topology ≡ self.old.topology }
-        ensures leases { D.tells ≡ true → leases_in (D.device disk.new).region self.new ≡ map (found_leases (D.device disk.old).region (D.device disk.old).fuse) self.old.topology.circuits }
+        ensures leases { D.tells ≡ true → leases_in (D.device disk.new).region self.new ≡ map (found_leases (D.device disk.old).region (D.device disk.old).failing_call) self.old.topology.circuits }
         ensures ready { D.tells ≡ true → AreReady (D.device disk.new).region self.new }
         ensures deadlines { AreSetAnew self.new.deadlines self.new.states }
-        ensures looks { self.new.deadlines.looks ≡ self.old.deadlines.looks }
+        ensures examined { self.new.deadlines.examined ≡ self.old.deadlines.examined }
         ensures regions { D.tells ≡ true → AreRegionsMigrated self.old.topology.circuits (D.device disk.old) (D.device disk.new) }
         ensures others { D.tells ≡ true → KeepsOthers self.old.topology.circuits (D.device disk.old) (D.device disk.new) }
         ensures count { (D.device disk.new).count ≡ (D.device disk.old).count }

@@ -2,8 +2,7 @@
 ghost use Rattle.std.specs.Prelude.{◌≡◌};
 ghost use Rattle.events.specs.Batch.{are_apart, is_batch, is_named, part_fault};
 
-use batch_saves::MAX_BATCH;
-use types::{Circuit, Discard};
+use types::{Circuit, Discard, MAX_BATCH};
 
 /// The part of one circuit in a batch: a datagram of that circuit towards the server.
 #[derive(Clone, Copy, PartialEq, Eq)]

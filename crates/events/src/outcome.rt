@@ -1,7 +1,6 @@
 //! What comes of an event.
 use crate::batch::PartOutcome;
-use batch_saves::MAX_BATCH;
-use types::{Circuit, Dest, Discard};
+use types::{Circuit, Dest, Discard, MAX_BATCH};
 
 /// What came of an event.
 #[derive(Clone, Copy, PartialEq, Eq)]

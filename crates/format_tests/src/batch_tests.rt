@@ -1,6 +1,6 @@
 ghost use Rattle.std.specs.Prelude.{ℕ, ◌≡◌, ◌<◌, ◌≤◌, [], ◌∷◌, length};
 ghost use Rattle.lease_disk.specs.Crash.{formatted_region};
-ghost use Rattle.lease_disk.specs.Model.{state_of};
+ghost use Rattle.lease_disk.specs.Model.{disk_region};
 ghost use Rattle.lease_disk.specs.Save.{AreMarks, Fits};
 
 use crate::recovery_tests::finds;
@@ -14,7 +14,7 @@ use types::Slots;
 /// A device of three formatted regions, and the marks of each.
 fn formatted_regions(rt: &(impl Abort + AllocGlobal)) -> (ModelDisk, Marks)
     ensures count { length result.0.regions ≡ 3 }
-    ensures formatted { (q : ℕ) → q < 3 → state_of result.0 q ≡ formatted_region }
+    ensures formatted { (q : ℕ) → q < 3 → disk_region result.0 q ≡ formatted_region }
     ensures marks { AreMarks (16 ∷ 16 ∷ []) formatted_region.byte result.1 }
 {
     let mut disk = new_disk(rt, 3);

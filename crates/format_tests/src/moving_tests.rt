@@ -1,6 +1,6 @@
 //! Regions of format 1: what is damaged, and moves to format 2 with their bytes and where they stop.
 ghost use Rattle.std.specs.Prelude.{◌≡◌, length};
-ghost use Rattle.lease_disk.specs.Model.{state_of};
+ghost use Rattle.lease_disk.specs.Model.{disk_region};
 ghost use Rattle.lease_disk.specs.Region.{IsClean};
 
 use crate::recovery_tests::{change, clock_of, finds};
@@ -25,7 +25,7 @@ const LEASE: [(usize, u8); 8] = [
 /// A device of one region of format 1 that holds that lease, with some bytes changed.
 fn old_disk(rt: &(impl Abort + AllocGlobal), bytes: &[(usize, u8)]) -> ModelDisk
     ensures count { length result.regions ≡ 1 }
-    ensures clean { IsClean (state_of result 0) }
+    ensures clean { IsClean (disk_region result 0) }
 {
     let mut disk = new_disk(rt, 1);
     format_old(0, &mut disk).expect(rt, "formatting");
@@ -38,7 +38,7 @@ fn old_disk(rt: &(impl Abort + AllocGlobal), bytes: &[(usize, u8)]) -> ModelDisk
 /// Moves the region of a device, where the k-th call fails.
 fn move_region(disk: &mut ModelDisk, counts: [u8; 2], k: u8) -> Result<(), RecoverFault>
     requires count { length disk.old.regions ≡ 1 }
-    requires clean { IsClean (state_of disk.old 0) }
+    requires clean { IsClean (disk_region disk.old 0) }
     ensures count { length disk.new.regions ≡ 1 }
 {
     let mut buffer = [0; HALVES_SIZE];

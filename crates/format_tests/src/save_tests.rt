@@ -1,7 +1,7 @@
 ghost use Rattle.std.specs.Prelude.{◌≡◌, ◌<◌, ◌≤◌, ℕ, true, [], ◌∷◌, length, IfOk, OnOk};
 ghost use Rattle.lease_disk.specs.Crash.{formatted_region};
 ghost use Rattle.lease_disk.specs.Layout.{is_format2};
-ghost use Rattle.lease_disk.specs.Model.{state_of};
+ghost use Rattle.lease_disk.specs.Model.{disk_region};
 ghost use Rattle.lease_disk.specs.Region.{IsClean};
 ghost use Rattle.lease_disk.specs.Save.{AreMarks, Fits};
 
@@ -113,8 +113,8 @@ fn is_formatted(bytes: &[u8]) -> bool {
 /// A device of so many formatted regions.
 pub fn new_disk(rt: &(impl Abort + AllocGlobal), regions: u16) -> ModelDisk
     ensures count { length result.regions ≡ regions }
-    ensures formatted { (q : ℕ) → q < regions → state_of result q ≡ formatted_region }
-    ensures clean { (q : ℕ) → IsClean (state_of result q) }
+    ensures formatted { (q : ℕ) → q < regions → disk_region result q ≡ formatted_region }
+    ensures clean { (q : ℕ) → IsClean (disk_region result q) }
 {
     ModelDisk::new(rt.alloc(), regions).expect(rt, "memory")
 }
@@ -123,11 +123,11 @@ pub fn new_disk(rt: &(impl Abort + AllocGlobal), regions: u16) -> ModelDisk
 /// format 2.
 pub fn read_back(disk: &mut ModelDisk) -> Result<(Slots, Marks), RecoverFault>
     requires count { length disk.old.regions ≡ 1 }
-    requires clean { IsClean (state_of disk.old 0) }
+    requires clean { IsClean (disk_region disk.old 0) }
     ensures count { length disk.new.regions ≡ 1 }
-    ensures clean { IsClean (state_of disk.new 0) }
-    ensures format { IfOk result (λ found. is_format2 (state_of disk.new 0).byte ≡ true) }
-    ensures marks { IfOk result (λ found. AreMarks (16 ∷ 16 ∷ []) (state_of disk.new 0).byte found.1) }
+    ensures clean { IsClean (disk_region disk.new 0) }
+    ensures format { IfOk result (λ found. is_format2 (disk_region disk.new 0).byte ≡ true) }
+    ensures marks { IfOk result (λ found. AreMarks (16 ∷ 16 ∷ []) (disk_region disk.new 0).byte found.1) }
 {
     if disk.bytes(0)[FORMAT_AT] != FORMAT {
         return Err(RecoverFault::Damaged);
@@ -138,9 +138,9 @@ pub fn read_back(disk: &mut ModelDisk) -> Result<(Slots, Marks), RecoverFault>
 /// A device of one formatted region, and its marks.
 pub fn formatted_disk(rt: &(impl Abort + AllocGlobal)) -> (ModelDisk, Marks)
     ensures count { length result.0.regions ≡ 1 }
-    ensures clean { IsClean (state_of result.0 0) }
-    ensures format { is_format2 (state_of result.0 0).byte ≡ true }
-    ensures marks { AreMarks (16 ∷ 16 ∷ []) (state_of result.0 0).byte result.1 }
+    ensures clean { IsClean (disk_region result.0 0) }
+    ensures format { is_format2 (disk_region result.0 0).byte ≡ true }
+    ensures marks { AreMarks (16 ∷ 16 ∷ []) (disk_region result.0 0).byte result.1 }
 {
     let mut disk = new_disk(rt, 1);
     let (_, marks) = read_back(&mut disk).expect(rt, "a formatted region");
@@ -150,14 +150,14 @@ pub fn formatted_disk(rt: &(impl Abort + AllocGlobal)) -> (ModelDisk, Marks)
 /// Saves a slot of the region of a device.
 pub fn keep(disk: &mut ModelDisk, marks: &mut Marks, change: &Change) -> Result<(), Fault>
     requires count { length disk.old.regions ≡ 1 }
-    requires clean { IsClean (state_of disk.old 0) }
-    requires format { is_format2 (state_of disk.old 0).byte ≡ true }
-    requires marks { AreMarks (16 ∷ 16 ∷ []) (state_of disk.old 0).byte marks.old }
+    requires clean { IsClean (disk_region disk.old 0) }
+    requires format { is_format2 (disk_region disk.old 0).byte ≡ true }
+    requires marks { AreMarks (16 ∷ 16 ∷ []) (disk_region disk.old 0).byte marks.old }
     requires fits { Fits change.now.slot change.now.content }
     ensures count { length disk.new.regions ≡ 1 }
-    ensures format { is_format2 (state_of disk.new 0).byte ≡ true }
-    ensures clean { OnOk result (IsClean (state_of disk.new 0)) }
-    ensures marks { OnOk result (AreMarks (16 ∷ 16 ∷ []) (state_of disk.new 0).byte marks.new) }
+    ensures format { is_format2 (disk_region disk.new 0).byte ≡ true }
+    ensures clean { OnOk result (IsClean (disk_region disk.new 0)) }
+    ensures marks { OnOk result (AreMarks (16 ∷ 16 ∷ []) (disk_region disk.new 0).byte marks.new) }
 {
     save(0, disk, marks, change.clock, change.slot, &change.content)
 }

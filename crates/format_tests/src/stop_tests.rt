@@ -1,6 +1,6 @@
 ghost use Rattle.std.specs.Prelude.{◌≡◌, ◌≤◌, ◌<◌, true, [], ◌∷◌, length, OnOk, OnSome};
 ghost use Rattle.lease_disk.specs.Layout.{is_format2};
-ghost use Rattle.lease_disk.specs.Model.{state_of};
+ghost use Rattle.lease_disk.specs.Model.{disk_region};
 ghost use Rattle.lease_disk.specs.Region.{IsClean};
 ghost use Rattle.lease_disk.specs.Save.{AreMarks, Fits};
 
@@ -34,7 +34,7 @@ impl Cut {
 pub fn settle(disk: &mut ModelDisk, byte: Option<u8>) -> Result<(), Fault>
     requires count { length disk.old.regions ≡ 1 }
     ensures count { length disk.new.regions ≡ 1 }
-    ensures clean { OnOk result (IsClean (state_of disk.new 0)) }
+    ensures clean { OnOk result (IsClean (disk_region disk.new 0)) }
 {
     if let Some(byte) = byte {
         disk.crash(0, Image::Byte(byte));
@@ -46,14 +46,14 @@ pub fn settle(disk: &mut ModelDisk, byte: Option<u8>) -> Result<(), Fault>
 /// Saves, stops there, and reads the region back.
 fn stop(disk: &mut ModelDisk, marks: &mut Marks, change: &Change, cut: Cut) -> Option<Slots>
     requires count { length disk.old.regions ≡ 1 }
-    requires clean { IsClean (state_of disk.old 0) }
-    requires format { is_format2 (state_of disk.old 0).byte ≡ true }
-    requires marks { AreMarks (16 ∷ 16 ∷ []) (state_of disk.old 0).byte marks.old }
+    requires clean { IsClean (disk_region disk.old 0) }
+    requires format { is_format2 (disk_region disk.old 0).byte ≡ true }
+    requires marks { AreMarks (16 ∷ 16 ∷ []) (disk_region disk.old 0).byte marks.old }
     requires fits { Fits change.now.slot change.now.content }
     ensures count { length disk.new.regions ≡ 1 }
-    ensures format { OnSome result (is_format2 (state_of disk.new 0).byte ≡ true) }
-    ensures clean { OnSome result (IsClean (state_of disk.new 0)) }
-    ensures marks { OnSome result (AreMarks (16 ∷ 16 ∷ []) (state_of disk.new 0).byte marks.new) }
+    ensures format { OnSome result (is_format2 (disk_region disk.new 0).byte ≡ true) }
+    ensures clean { OnSome result (IsClean (disk_region disk.new 0)) }
+    ensures marks { OnSome result (AreMarks (16 ∷ 16 ∷ []) (disk_region disk.new 0).byte marks.new) }
 {
     disk.fail_at(0, cut.k);
     if keep(disk, marks, change).is_ok() != (cut.k == 0) {
@@ -129,9 +129,9 @@ fn two_stops(
     second: Cut,
 ) -> bool
     requires count { length disk.old.regions ≡ 1 }
-    requires clean { IsClean (state_of disk.old 0) }
-    requires format { is_format2 (state_of disk.old 0).byte ≡ true }
-    requires marks { AreMarks (16 ∷ 16 ∷ []) (state_of disk.old 0).byte marks.old }
+    requires clean { IsClean (disk_region disk.old 0) }
+    requires format { is_format2 (disk_region disk.old 0).byte ≡ true }
+    requires marks { AreMarks (16 ∷ 16 ∷ []) (disk_region disk.old 0).byte marks.old }
 {
     let Some(found) = stop(disk, marks, &lease_at(101), first) else {
         return false;

@@ -18,7 +18,7 @@ use Rattle.lease_disk.specs.Crash.{filled, formatted_region, IsFormattedOld}
 use Rattle.lease_disk.specs.Crash as crash
 use Rattle.lease_disk.specs.Device.{Device, ChangesOne}
 use Rattle.lease_disk.specs.Layout.{formatted_old}
-use Rattle.lease_disk.specs.Model.{ModelDiskValue, SameBut, device_of, fuse_of, region_of, state_of}
+use Rattle.lease_disk.specs.Model.{ModelDiskValue, SameBut, device_of, failing_call_of, region_of, disk_region}
 use Rattle.lease_disk.specs.Region.{Region, is_within}
 use Rattle.world.specs.Alone.{Setup, setup_of}
 use Rattle.world.specs.Headline.{CircuitState}
@@ -48,7 +48,7 @@ formatted_are_ready count regions formatted = λ q inside. formatted_ready (regi
 
 -- before the first line
 pub formatted_over : (plans : PlansValue) (quota count : ℕ) (device : Device) → ((c : ℕ) (part : CircuitPart) → part_in plans.union c ≡ Some part → part.region < count)
-    → ((q : ℕ) → q < count → device.region q ≡ formatted_region) → ((q : ℕ) → q < count → device.fuse q ≡ 0) → AreOver plans quota device first_openings
+    → ((q : ℕ) → q < count → device.region q ≡ formatted_region) → ((q : ℕ) → q < count → device.failing_call q ≡ 0) → AreOver plans quota device first_openings
 formatted_over plans quota count device within formatted none = record {
   each = λ c setup h.
       let inside = within c setup.part (its_part plans quota c setup h) in
@@ -63,16 +63,16 @@ abbrev Changes : ℕ → ModelDiskValue → ModelDiskValue → Type 0
 Changes region old new = ChangesOne true region (device_of old) (device_of new)
 
 pub but_one : (region : ℕ) (old new : ModelDiskValue) → SameBut region old new → Changes region old new
-but_one region old new others = record { count = others.count; region = λ tells q apart. ap region_of (others.others q apart); fuse = λ tells q apart. others.fuses q apart }
+but_one region old new others = record { count = others.count; region = λ tells q apart. ap region_of (others.others q apart); failing_call = λ tells q apart. others.failing_calls q apart }
 
-pub ready_after : (region : ℕ) (old new : ModelDiskValue) → Changes region old new → (IsReady (state_of old region) → IsReady (state_of new region))
-    → AreReady (length old.regions) (state_of old) → AreReady (length new.regions) (state_of new)
+pub ready_after : (region : ℕ) (old new : ModelDiskValue) → Changes region old new → (IsReady (disk_region old region) → IsReady (disk_region new region))
+    → AreReady (length old.regions) (disk_region old) → AreReady (length new.regions) (disk_region new)
 ready_after region old new changes here ready q inside = by (cases_eq q region) where
   within : q < length old.regions
   within = let e = changes.count in omega arith
 
-  by : (q ≡ region) ⊎ (q ≡ region → ⊥) → IsReady (state_of new q)
-  by (inl same) = subst (λ p. IsReady (state_of new p)) (sym same) (here (subst (λ p. IsReady (state_of old p)) same (ready q within)))
+  by : (q ≡ region) ⊎ (q ≡ region → ⊥) → IsReady (disk_region new q)
+  by (inl same) = subst (λ p. IsReady (disk_region new p)) (sym same) (here (subst (λ p. IsReady (disk_region old p)) same (ready q within)))
   by (inr apart) = subst IsReady (sym (changes.region refl q apart)) (ready q within)
 
 pub fill_ready : (byte : ℕ) (old new : Region) → new ≡ filled byte old → IsReady old → IsReady new
@@ -109,7 +109,7 @@ opening_at plans quota c d region one other old new next openings false sound e 
     let f : true ≡ false = sym (eq-eqb c d (regions_differ plans.union (one_of plans.union) sound (one_is plans.union) c d one other.part is (its_part plans quota d other there) (at ∙ sym same))) ∙ e in absurd (cc) in
     record {
       byte = λ i l. over.byte i l ∙ ap (λ (r : Region). r.byte i) (sym (changes.region refl other.part.region apart));
-      move_fault = over.move_fault ∙ sym (changes.fuse refl other.part.region apart);
+      move_fault = over.move_fault ∙ sym (changes.failing_call refl other.part.region apart);
     }
 
 module _ (plans : PlansValue) (sound : IsSound plans.union) (c : ℕ) (circuit : CircuitConfig) (there : slice_get plans.union.circuits c ≡ Some circuit) where
@@ -129,32 +129,32 @@ module _ (plans : PlansValue) (sound : IsSound plans.union) (c : ℕ) (circuit :
       own : IsOpening (device_of old) circuit.region (openings c)
       own = over.each c (setup_of quota one (begins_on plans c)) (setup_at plans quota c one is_part)
 
-    pub fill_over : (byte : ℕ) → state_of new circuit.region ≡ filled byte (state_of old circuit.region) → fuse_of new circuit.region ≡ fuse_of old circuit.region
+    pub fill_over : (byte : ℕ) → disk_region new circuit.region ≡ filled byte (disk_region old circuit.region) → failing_call_of new circuit.region ≡ failing_call_of old circuit.region
         → AreOver plans quota (device_of new) (with_opening c (record (openings c) { byte = λ i. byte }) openings)
-    fill_over byte state fuse = over_after (record (openings c) { byte = λ i. byte }) (λ own. record {
+    fill_over byte state failing_call = over_after (record (openings c) { byte = λ i. byte }) (λ own. record {
       byte = λ i l. let few : nat_lt i 32768 ≡ true = grind (arith, l) in sym (ap (λ (r : Region). r.byte i) state ∙ ap (λ b. if b then byte else 0) few);
-      move_fault = own.move_fault ∙ sym fuse;
+      move_fault = own.move_fault ∙ sym failing_call;
     })
 
-    pub old_over : IsFormattedOld (state_of new circuit.region) → fuse_of new circuit.region ≡ fuse_of old circuit.region
+    pub old_over : IsFormattedOld (disk_region new circuit.region) → failing_call_of new circuit.region ≡ failing_call_of old circuit.region
         → AreOver plans quota (device_of new) (with_opening c (record (openings c) { byte = formatted_old }) openings)
-    old_over is fuse = over_after (record (openings c) { byte = formatted_old }) (λ own. record {
+    old_over is failing_call = over_after (record (openings c) { byte = formatted_old }) (λ own. record {
       byte = λ i l. sym (is.byte i l);
-      move_fault = own.move_fault ∙ sym fuse;
+      move_fault = own.move_fault ∙ sym failing_call;
     })
 
-    pub load_over : (at : ℕ) (bytes : List ℕ) → state_of new circuit.region ≡ crash.loaded at bytes (state_of old circuit.region) → fuse_of new circuit.region ≡ fuse_of old circuit.region
+    pub load_over : (at : ℕ) (bytes : List ℕ) → disk_region new circuit.region ≡ crash.loaded at bytes (disk_region old circuit.region) → failing_call_of new circuit.region ≡ failing_call_of old circuit.region
         → AreOver plans quota (device_of new) (with_opening c (record (openings c) { byte = loaded at bytes (openings c).byte }) openings)
-    load_over at bytes state fuse = over_after (record (openings c) { byte = loaded at bytes (openings c).byte }) (λ own. record {
+    load_over at bytes state failing_call = over_after (record (openings c) { byte = loaded at bytes (openings c).byte }) (λ own. record {
       byte = λ i l. ap (λ b. if is_within at (length bytes) i then slice_index bytes (i - at) else b) (own.byte i l) ∙ sym (ap (λ (r : Region). r.byte i) state);
-      move_fault = own.move_fault ∙ sym fuse;
+      move_fault = own.move_fault ∙ sym failing_call;
     })
 
-    pub move_over : (fault : ℕ) → state_of new circuit.region ≡ state_of old circuit.region → fuse_of new circuit.region ≡ fault
+    pub move_over : (fault : ℕ) → disk_region new circuit.region ≡ disk_region old circuit.region → failing_call_of new circuit.region ≡ fault
         → AreOver plans quota (device_of new) (with_opening c (record (openings c) { move_fault = fault }) openings)
-    move_over fault state fuse = over_after (record (openings c) { move_fault = fault }) (λ own. record {
+    move_over fault state failing_call = over_after (record (openings c) { move_fault = fault }) (λ own. record {
       byte = λ i l. own.byte i l ∙ sym (ap (λ (r : Region). r.byte i) state);
-      move_fault = sym fuse;
+      move_fault = sym failing_call;
     })
 
 -- the lines before events are these

@@ -26,7 +26,7 @@ AreWithin settings count = (c : ℕ) (circuit : CircuitConfig) → slice_get set
 -- This is what an opening finds of a region: its bytes, and the call that fails.
 pub record IsOpening (device : Device) (region : ℕ) (opening : Opening) : Type 0 where
   pub byte : (i : ℕ) → i < 32768 → opening.byte i ≡ (device.region region).byte i
-  pub move_fault : opening.move_fault ≡ device.fuse region
+  pub move_fault : opening.move_fault ≡ device.failing_call region
 
 -- each circuit's opening finds this
 pub record AreOver (plans : PlansValue) (quota : ℕ) (device : Device) (openings : ℕ → Opening) : Type 0 where

@@ -7,7 +7,7 @@ ghost use Rattle.lab_engine.specs.Run.{IsPartial, IsStatus, HasCause, HasNoCause
 ghost use Rattle.config.specs.Topology.{plans_topology};
 ghost use Rattle.lab_engine.specs.Preparations.{AreOver, AreReady, AreWithin};
 ghost use Rattle.lab_engine.specs.Progress.{AllRepresent};
-ghost use Rattle.lease_disk.specs.Model.{device_of, state_of};
+ghost use Rattle.lease_disk.specs.Model.{device_of, disk_region};
 ghost use Rattle.world.specs.Start.{Opening};
 ghost use Rattle.world.specs.World.{states};
 
@@ -28,7 +28,7 @@ fn opened(alloc: Global, plans: &Plans, disk: ModelDisk, quota: u16) -> Result<W
     requires some { 1 ≤ quota }
     requires most { quota ≤ 256 }
     requires regions { AreWithin plans.now.union (length disk.regions) }
-    requires ready { AreReady (length disk.regions) (state_of disk) }
+    requires ready { AreReady (length disk.regions) (disk_region disk) }
     ensures represents { IfOk result (λ world. (openings : ℕ → Opening) → AreOver plans.now quota (device_of disk) openings → AllRepresent plans.now quota (states world) (first_machines plans.now quota openings)) }
     ensures topology { IfOk result (λ world. world.relays.topology ≡ plans_topology plans.now) }
     ensures memory { IfErr result (λ why. why ≡ fault.Memory) }

@@ -3,7 +3,7 @@ ghost use Rattle.std.specs.Prelude.{◌≡◌, ◌+◌, ◌⊎◌, ◌<◌, ◌�
 ghost use Rattle.std.specs.Io.KnownBytes.{prepend_known};
 ghost use Rattle.lease_disk.specs.Crash.{formatted_region, IsFormattedOld};
 ghost use Rattle.lease_disk.specs.Device.{ChangesOne};
-ghost use Rattle.lease_disk.specs.Model.{device_of, fuse_of, state_of};
+ghost use Rattle.lease_disk.specs.Model.{device_of, failing_call_of, disk_region};
 ghost use Rattle.world.specs.Start.{Opening};
 ghost use Rattle.lab_engine.specs.Progress.{IsParsed};
 ghost use Rattle.lab_engine.specs.Lab.{prepared};
@@ -25,9 +25,9 @@ use streams::{ByteReader, Failed, LineEnd, MAX_TEXT, ReadAhead, read_line};
 /// Formats a region in format 1, whichever call is to fail in its move.
 fn format_region(disk: &mut ModelDisk, region: u16)
     requires { region < length disk.old.regions }
-    ensures formatted { IsFormattedOld (state_of disk.new region) }
-    ensures readable { (state_of disk.new region).readable ≡ (state_of disk.old region).readable }
-    ensures fuse { fuse_of disk.new region ≡ fuse_of disk.old region }
+    ensures formatted { IsFormattedOld (disk_region disk.new region) }
+    ensures readable { (disk_region disk.new region).readable ≡ (disk_region disk.old region).readable }
+    ensures failing_call { failing_call_of disk.new region ≡ failing_call_of disk.old region }
     ensures frame { ChangesOne true region (device_of disk.old) (device_of disk.new) }
 {
     let fault = disk.fault(region);
@@ -46,14 +46,14 @@ fn prepare_region(
 ) -> Option<Parsed>
     requires named { IsWithin plans.now.union plans.now.count parsed }
     requires regions { AreWithin plans.now.union (length disk.old.regions) }
-    requires ready { AreReady (length disk.old.regions) (state_of disk.old) }
+    requires ready { AreReady (length disk.old.regions) (disk_region disk.old) }
     ensures prepared { IfNone result ((quota : ℕ) (openings : ℕ → Opening) → AreOver plans.now quota (device_of disk.old) openings
         → ArePrepared plans.now quota (device_of disk.new) (prepared (line_of parsed bytes.now) openings)) }
     ensures event { IfSome result (λ _. (openings : ℕ → Opening) → prepared (line_of parsed bytes.now) openings ≡ None) }
     ensures parsed { IfSome result (λ event. event ≡ Event parsed) }
     ensures same { IfSome result (λ _. disk.new ≡ disk.old) }
     ensures count { length disk.new.regions ≡ length disk.old.regions }
-    ensures ready { AreReady (length disk.new.regions) (state_of disk.new) }
+    ensures ready { AreReady (length disk.new.regions) (disk_region disk.new) }
 {
     match parsed {
         ParsedLine::Ignored => {}
@@ -87,14 +87,14 @@ fn prepare(
 ) -> Option<Parsed>
     requires short { length line.now ≤ 8192 }
     requires regions { AreWithin plans.now.union (length disk.old.regions) }
-    requires ready { AreReady (length disk.old.regions) (state_of disk.old) }
+    requires ready { AreReady (length disk.old.regions) (disk_region disk.old) }
     ensures event { IfSome result (λ _. (openings : ℕ → Opening) → prepared (line_of_text plans.now.union plans.now.count line.now) openings ≡ None) }
     ensures parsed { IfSome result (IsParsed plans.now buffers.new.bytes buffers.new.comebacks buffers.new.parts line.now) }
     ensures prepared { IfNone result ((quota : ℕ) (openings : ℕ → Opening) → AreOver plans.now quota (device_of disk.old) openings
         → ArePrepared plans.now quota (device_of disk.new) (prepared (line_of_text plans.now.union plans.now.count line.now) openings)) }
     ensures same { IfSome result (λ _. disk.new ≡ disk.old) }
     ensures count { length disk.new.regions ≡ length disk.old.regions }
-    ensures ready { AreReady (length disk.new.regions) (state_of disk.new) }
+    ensures ready { AreReady (length disk.new.regions) (disk_region disk.new) }
 {
     let parsed = match buffers.parse(plans, line) {
         Parsed::Event(parsed) => parsed,
@@ -116,7 +116,7 @@ fn prepare_last(
     requires short { len ≤ 8192 }
     requires inside { len ≤ length (held ahead.old) }
     requires regions { AreWithin plans.now.union (length disk.old.regions) }
-    requires ready { AreReady (length disk.old.regions) (state_of disk.old) }
+    requires ready { AreReady (length disk.old.regions) (disk_region disk.old) }
     ensures prepared { (quota number : ℕ) (given left : Option (List ℕ)) → HoldsLast (held ahead.old) left len
         → PreparedSoFar plans.now quota number false given (prepend_known (held ahead.old) left) (device_of disk.old) (λ rest. ⊤)
         → PreparedSoFar plans.now quota number true given (prepend_known (held ahead.new) left) (device_of disk.new) (Fits (held ahead.new) result.0) }
@@ -127,7 +127,7 @@ fn prepare_last(
     ensures shorter { length (held ahead.new) ≤ length (held ahead.old) }
     ensures count { ahead.new.count ≡ ahead.old.count }
     ensures regions { length disk.new.regions ≡ length disk.old.regions }
-    ensures ready { AreReady (length disk.new.regions) (state_of disk.new) }
+    ensures ready { AreReady (length disk.new.regions) (disk_region disk.new) }
 {
     let line = &ahead.as_slice()[..len];
     if let Some(parsed) = prepare(disk, plans, line, buffers) {
@@ -147,8 +147,8 @@ pub(crate) fn prepare_all<R: ByteReader>(
     reader: &mut R,
 ) -> Result<NextLine, Failed>
     requires regions { AreWithin plans.now.union (length disk.old.regions) }
-    requires formatted { (q : ℕ) → q < length disk.old.regions → state_of disk.old q ≡ formatted_region }
-    requires sound { (q : ℕ) → q < length disk.old.regions → fuse_of disk.old q ≡ 0 }
+    requires formatted { (q : ℕ) → q < length disk.old.regions → disk_region disk.old q ≡ formatted_region }
+    requires sound { (q : ℕ) → q < length disk.old.regions → failing_call_of disk.old q ≡ 0 }
     requires held { held ahead.old ≡ [] }
     requires count { ahead.old.count ≡ 0 }
     ensures prepared { IfOk result (λ next. (quota : ℕ)
@@ -160,7 +160,7 @@ pub(crate) fn prepare_all<R: ByteReader>(
     ensures lines { IfOk result (λ next. next.earlier + length (held ahead.new) ≤ ahead.new.count) }
     ensures below { OnOk result (ahead.new.count < 18446744073709551615) }
     ensures regions { length disk.new.regions ≡ length disk.old.regions }
-    ensures ready { AreReady (length disk.new.regions) (state_of disk.new) }
+    ensures ready { AreReady (length disk.new.regions) (disk_region disk.new) }
     ensures counted { IsCounted (R.remaining reader.old) (R.remaining reader.new) 0 ahead.new.count }
     ensures quiet { OnOk result (R.failures reader.new ≡ R.failures reader.old) }
     ensures cause { OnErr result ((R.failures reader.new ≡ R.failures reader.old + 1) ⊎ (ahead.new.count ≡ 18446744073709551615)) }

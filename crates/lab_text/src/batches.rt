@@ -10,11 +10,10 @@ use crate::circuits::circuit_named;
 use crate::digits::{datagram_number, fault_number, moment};
 use crate::fields::next_field;
 use crate::parting::parted_last;
-use batch_saves::MAX_BATCH;
 use config::Config;
 use events::{BatchPart, is_batch};
 use std::marker::Model;
-use types::{Circuit, Moment};
+use types::{Circuit, MAX_BATCH, Moment};
 
 /// The parts of a batch, at most 16.
 #[derive(Drop)]

@@ -9,12 +9,11 @@ use crate::forms::{offset, plan_number, protocol};
 use crate::hexadecimal::{MAX_BYTES, byte};
 use crate::parting::{parted, parted_last};
 use crate::sources::source;
-use batch_saves::MAX_BATCH;
 use config::Config;
 use lease_disk::REGION;
 use std::fmt;
 use streams::MAX_LINE;
-use types::MAX_CIRCUITS;
+use types::{MAX_BATCH, MAX_CIRCUITS};
 
 /// How many bytes of a field are shown.
 const MAX_SHOWN: usize = 40;

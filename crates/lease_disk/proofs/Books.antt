@@ -6,8 +6,8 @@ use Rattle.std.specs.Int.{w32, from_be_bytes}
 use Rattle.types.specs.Key6.{Key6Value}
 use Rattle.types.specs.declared.slot4.Slot4.{Slot4}
 use Rattle.types.specs.declared.slot4.Slot4.TheVariants as S4
-use Rattle.types.specs.declared.slots.Slot6.{Slot6}
-use Rattle.types.specs.declared.slots.Slot6.TheVariants as S6
+use Rattle.types.specs.declared.slot6.Slot6.{Slot6}
+use Rattle.types.specs.declared.slot6.Slot6.TheVariants as S6
 use Rattle.types.specs.declared.slots.Slots.{Slots}
 use Rattle.types.specs.Slots.{IsWithin4, IsWithin6, live4, live6, same_client4, same_client6, none_twice, last_until}
 use Rattle.lease_disk.specs.declared.entry.Entry.{Entry}
@@ -15,7 +15,7 @@ use Rattle.lease_disk.specs.declared.half.Half.TheVariants.{First, Second}
 use Rattle.lease_disk.specs.Book.{IsBook, empty_book}
 use Rattle.lease_disk.specs.Crash.{IsFormatted}
 use Rattle.lease_disk.specs.Layout.{bank_place, formatted_old, with_halves, half, half1, half2, is_format2}
-use Rattle.lease_disk.specs.Recovered.{is_counting, bytes_at, clock_of, until_of, slot4_of, slot6_of, saved_at, held, entry_of, entry, all_from, latest, contents_at, pool_entries, book_at, book_of, book_in, region_clock, counting_clock, recovered, last_clock}
+use Rattle.lease_disk.specs.Recovered.{is_counting, bytes_at, clock_of, until_of, slot4_of, slot6_of, saved_at, held, entry_of, entry, all_from, latest, contents_at, pool_entries, book_at, recovered_slots, book_in, region_clock, counting_clock, recovered, last_clock}
 use Rattle.lease_disk.specs.Region.{Region}
 use Rattle.lease_disk.proofs.Halves.{half_in1, half_in2}
 use Rattle.lease_disk.proofs.Entries.{same_some, all_at, all_size, are_entries, live_later4, live_later6}
@@ -180,15 +180,15 @@ module _ (counts : List ℕ) (halves : List ℕ) (base : ℕ) where
   four_is : (o : Option (List (Entry Slot4))) → o ≡ pool_entries base S4.Free (slice_index counts 0) (λ i. entry slot4_of (with_halves halves) (0 + i)) → o ≡ four_entries
   four_is o e = e ∙ ap (pool_entries base S4.Free (slice_index counts 0)) (λ j. λ i. entry slot4_of (with_halves halves) (zero-add i j))
 
-  without_six : (o : Option (List (Entry Slot4))) → book_of o None ≡ None
+  without_six : (o : Option (List (Entry Slot4))) → recovered_slots o None ≡ None
   without_six None = refl
   without_six (Some x) = refl
 
   pub no_four : None ≡ pool_entries base S4.Free (slice_index counts 0) (λ i. entry slot4_of (with_halves halves) (0 + i)) → None ≡ meant
-  no_four e = ap (λ o. book_of o six_entries) (four_is None e)
+  no_four e = ap (λ o. recovered_slots o six_entries) (four_is None e)
 
   pub no_six : None ≡ six_entries → None ≡ meant
-  no_six e = sym (without_six four_entries) ∙ ap (λ o. book_of four_entries o) e
+  no_six e = sym (without_six four_entries) ∙ ap (λ o. recovered_slots four_entries o) e
 
   module _ (es4 : List (Entry Slot4)) (es6 : List (Entry Slot6)) (clock l4 l6 : ℕ) (four : List Slot4) (six : List Slot6)
       (e4 : Some es4 ≡ pool_entries base S4.Free (slice_index counts 0) (λ i. entry slot4_of (with_halves halves) (0 + i))) (e6 : Some es6 ≡ six_entries)
@@ -196,10 +196,10 @@ module _ (counts : List ℕ) (halves : List ℕ) (base : ℕ) where
     clock_is : max (latest es4) (latest es6) ≡ clock
     clock_is = (λ j. max (sym m4 j) (sym m6 j)) ∙ sym c
 
-    pools : book_of (Some es4) (Some es6) ≡ meant
-    pools = λ j. book_of (four_is (Some es4) e4 j) (e6 j)
+    pools : recovered_slots (Some es4) (Some es6) ≡ meant
+    pools = λ j. recovered_slots (four_is (Some es4) e4 j) (e6 j)
 
-    at_clock : book_of (Some es4) (Some es6) ≡ book_at clock four six
+    at_clock : recovered_slots (Some es4) (Some es6) ≡ book_at clock four six
     at_clock = (λ j. book_at (clock_is j) (contents_at live4 (clock_is j) es4) (contents_at live6 (clock_is j) es6)) ∙ (λ j. book_at clock (sym f4 j) (sym f6 j))
 
     pub book_whole : true ≡ none_twice same_client4 four → true ≡ none_twice same_client6 six → Some (record { four = four; six = six; clock = clock }) ≡ meant
@@ -256,7 +256,7 @@ either_way false o x e = refl
 is_empty_book : (counts : List ℕ) (region : ℕ → ℕ) → IsEmpty region → recovered counts region ≡ Some empty_book
 unfolding recovered
 is_empty_book counts region empty =
-    ap (λ t. book_in counts t (entry slot4_of region) (entry slot6_of region)) empty.clock ∙ (λ j. book_of (four j) (six j)) where
+    ap (λ t. book_in counts t (entry slot4_of region) (entry slot6_of region)) empty.clock ∙ (λ j. recovered_slots (four j) (six j)) where
       free4 : (s : ℕ) → s < 32 → entry slot4_of region s ≡ Some (saved_at 0 S4.Free)
       free4 s few = let a = empty.first s few in let b = empty.second s few in λ j. entry_of slot4_of (a j) (b j)
 

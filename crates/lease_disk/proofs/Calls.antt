@@ -18,19 +18,19 @@ stops_within m n k less e = grind (arith, less, e)
 pub calls_then : {T E A B : Type 0} → (tells : Bool) (m n r : ℕ) (x : A) (result : Result T E) (old middle new : Device)
     → MakesCalls {T = A} {E = B} tells m r (Ok x) old middle → MakesCalls tells n r result middle new → MakesCalls tells (m + n) r result old new
 calls_then tells m n r x (Ok y) old middle new f g = record {
-  answer = λ t. both_answer m n (old.fuse r) (middle.fuse r) true (f.fuse t) (f.answer t) (g.answer t);
-  fuse = λ t. let a = f.fuse t in let b = g.fuse t in omega (arith, a, b);
+  answer = λ t. both_answer m n (old.failing_call r) (middle.failing_call r) true (f.failing_call t) (f.answer t) (g.answer t);
+  failing_call = λ t. let a = f.failing_call t in let b = g.failing_call t in omega (arith, a, b);
   writes = omega (arith, f.writes, g.writes);
   most = omega (arith, f.most, g.most);
   last = λ t. tt;
   failures = g.failures ∙ f.failures;
 }
 calls_then tells m n r x (Err e) old middle new f g = record {
-  answer = λ t. both_answer m n (old.fuse r) (middle.fuse r) false (f.fuse t) (f.answer t) (g.answer t);
-  fuse = λ t. tt;
+  answer = λ t. both_answer m n (old.failing_call r) (middle.failing_call r) false (f.failing_call t) (f.answer t) (g.answer t);
+  failing_call = λ t. tt;
   writes = tt;
   most = omega (arith, f.most, g.most);
-  last = λ t. let past = comes_past m n (old.fuse r) (middle.fuse r) (f.fuse t) (g.answer t) in let last = g.last t in omega (arith, past, last, f.writes);
+  last = λ t. let past = comes_past m n (old.failing_call r) (middle.failing_call r) (f.failing_call t) (g.answer t) in let last = g.last t in omega (arith, past, last, f.writes);
   failures = g.failures ∙ ap (one_more_at r) f.failures;
 }
 
@@ -39,8 +39,8 @@ pub calls_stop : {T E A B : Type 0} → (tells : Bool) (m n r : ℕ) (e : B) (re
     → MakesCalls {T = A} {E = B} tells m r (Err e) old new → MakesCalls tells n r result old new
 calls_stop tells m n r e (Ok x) old new is less f = absurd cc
 calls_stop tells m n r e (Err d) old new is less f = record {
-  answer = λ t. stops_within m n (old.fuse r) less (f.answer t);
-  fuse = λ t. tt;
+  answer = λ t. stops_within m n (old.failing_call r) less (f.answer t);
+  failing_call = λ t. tt;
   writes = tt;
   most = omega (arith, f.most, less);
   last = f.last;

@@ -4,13 +4,13 @@ use Rattle.std.specs.Prelude.{◌&&◌, All, if◌then◌else◌, max}
 use Rattle.std.proofs.lemmas.List.{length-map, length-set, get_or-set_same}
 use Rattle.types.specs.declared.slot4.Slot4.{Slot4}
 use Rattle.types.specs.declared.slot4.Slot4.TheVariants as S4
-use Rattle.types.specs.declared.slots.Slot6.{Slot6}
-use Rattle.types.specs.declared.slots.Slot6.TheVariants as S6
+use Rattle.types.specs.declared.slot6.Slot6.{Slot6}
+use Rattle.types.specs.declared.slot6.Slot6.TheVariants as S6
 use Rattle.types.specs.declared.slots.Slots.{Slots}
 use Rattle.types.specs.Slots.{live4, live6}
 use Rattle.lease_disk.specs.declared.content.Content.TheVariants.{Four, Six}
 use Rattle.lease_disk.specs.declared.entry.Entry.{Entry}
-use Rattle.lease_disk.specs.Recovered.{saved_at, latest, contents_at, pool_entries, book_of, book_in}
+use Rattle.lease_disk.specs.Recovered.{saved_at, latest, contents_at, pool_entries, recovered_slots, book_in}
 use Rattle.lease_disk.specs.Save.{IsChange, with_slot}
 use Rattle.lease_disk.proofs.Entries.{max_is, max_so, are_entries, book_by, all_alike, all_set, all_size, latest_set, contents_size, contents_later, contents_set, live_later4, live_later6}
 
@@ -37,7 +37,7 @@ book_alike counts None four four' six six' h k = refl
 book_alike counts (Some clock) four four' six six' h k =
     let a = pool_alike clock S4.Free (slice_index counts 0) four four' (λ j l. h j (omega arith)) in
     let b = pool_alike clock S6.Free (slice_index counts 1) (λ i. six (16 + i)) (λ i. six' (16 + i)) (λ j l. k (16 + j) (omega arith)) in
-    λ i. book_of (a i) (b i)
+    λ i. recovered_slots (a i) (b i)
 
 left_most : (a b t : ℕ) → max a b ≡ t → a ≤ t
 left_most a b t e = grind (arith, e)

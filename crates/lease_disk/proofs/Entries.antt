@@ -4,12 +4,12 @@ use Rattle.std.specs.Prelude.{if◌then◌else◌, max}
 use Rattle.std.proofs.lemmas.List.{map-set, length-map}
 use Rattle.types.specs.declared.slot4.Slot4.{Slot4}
 use Rattle.types.specs.declared.slot4.Slot4.TheVariants as S4
-use Rattle.types.specs.declared.slots.Slot6.{Slot6}
-use Rattle.types.specs.declared.slots.Slot6.TheVariants as S6
+use Rattle.types.specs.declared.slot6.Slot6.{Slot6}
+use Rattle.types.specs.declared.slot6.Slot6.TheVariants as S6
 use Rattle.types.specs.declared.slots.Slots.{Slots}
 use Rattle.types.specs.Slots.{live4, live6, same_client4, same_client6, none_twice}
 use Rattle.lease_disk.specs.declared.entry.Entry.{Entry}
-use Rattle.lease_disk.specs.Recovered.{saved_at, cons_some, all_from, latest, contents_at, pool_entries, book_at, book_of, book_in}
+use Rattle.lease_disk.specs.Recovered.{saved_at, cons_some, all_from, latest, contents_at, pool_entries, book_at, recovered_slots, book_in}
 
 abbrev some_or : {A : Type 0} → A → Option A → A
 some_or d None = d
@@ -143,7 +143,7 @@ pub record HasEntries (four : List (Entry Slot4)) (six : List (Entry Slot6)) (sl
   pub once4 : none_twice same_client4 slots.four ≡ true
   pub once6 : none_twice same_client6 slots.six ≡ true
 
-pub has_entries : (four : List (Entry Slot4)) (six : List (Entry Slot6)) (slots : Slots) → book_of (Some four) (Some six) ≡ Some slots → HasEntries four six slots
+pub has_entries : (four : List (Entry Slot4)) (six : List (Entry Slot6)) (slots : Slots) → recovered_slots (Some four) (Some six) ≡ Some slots → HasEntries four six slots
 has_entries four six slots e =
     let clock = max (latest four) (latest six) in
     let p = passes (none_twice same_client4 (contents_at live4 clock four)) (none_twice same_client6 (contents_at live6 clock six)) (record { four = contents_at live4 clock four; six = contents_at live6 clock six; clock = clock }) slots e in
@@ -157,7 +157,7 @@ has_entries four six slots e =
       once6 = ap (λ (s : Slots). none_twice same_client6 s.six) (sym k) ∙ p.1;
     }
 
-pub book_is : (four : List (Entry Slot4)) (six : List (Entry Slot6)) (slots : Slots) → HasEntries four six slots → book_of (Some four) (Some six) ≡ Some slots
+pub book_is : (four : List (Entry Slot4)) (six : List (Entry Slot6)) (slots : Slots) → HasEntries four six slots → recovered_slots (Some four) (Some six) ≡ Some slots
 book_is four six slots h =
     (λ i. book_at (h.clock_is i) (contents_at live4 (h.clock_is i) four) (contents_at live6 (h.clock_is i) six))
     ∙ (λ i. book_at slots.clock (h.four_is i) (h.six_is i))
@@ -174,7 +174,7 @@ pub record AreEntries (counts : List ℕ) (base : Option ℕ) (four : ℕ → Op
   pub has : HasEntries entries4 entries6 slots
 
 by_both : (counts : List ℕ) (clock : ℕ) (four : ℕ → Option (Entry Slot4)) (six : ℕ → Option (Entry Slot6)) (slots : Slots) (a : Option (List (Entry Slot4))) (b : Option (List (Entry Slot6)))
-    → pool_entries clock S4.Free (slice_index counts 0) four ≡ a → pool_entries clock S6.Free (slice_index counts 1) (λ i. six (16 + i)) ≡ b → book_of a b ≡ Some slots → AreEntries counts (Some clock) four six slots
+    → pool_entries clock S4.Free (slice_index counts 0) four ≡ a → pool_entries clock S6.Free (slice_index counts 1) (λ i. six (16 + i)) ≡ b → recovered_slots a b ≡ Some slots → AreEntries counts (Some clock) four six slots
 by_both counts clock four six slots (Some xs) (Some ys) e f h = record { clock = clock; base_is = refl; entries4 = xs; entries6 = ys; four_are = e; six_are = f; has = has_entries xs ys slots h }
 by_both counts clock four six slots (Some xs) None e f h = absurd cc
 by_both counts clock four six slots None b e f h = absurd cc
@@ -185,4 +185,4 @@ are_entries counts None four six slots e = absurd cc
 
 pub book_by : (counts : List ℕ) (base : Option ℕ) (four : ℕ → Option (Entry Slot4)) (six : ℕ → Option (Entry Slot6)) (slots : Slots) → AreEntries counts base four six slots → book_in counts base four six ≡ Some slots
 book_by counts base four six slots h =
-    ap (λ b. book_in counts b four six) h.base_is ∙ (λ i. book_of (h.four_are i) (h.six_are i)) ∙ book_is h.entries4 h.entries6 slots h.has
+    ap (λ b. book_in counts b four six) h.base_is ∙ (λ i. recovered_slots (h.four_are i) (h.six_are i)) ∙ book_is h.entries4 h.entries6 slots h.has

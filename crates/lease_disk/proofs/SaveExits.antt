@@ -7,7 +7,7 @@ use Rattle.lease_disk.specs.declared.half.Half.{Half}
 use Rattle.lease_disk.specs.declared.marks.Marks.{Marks}
 use Rattle.lease_disk.specs.Layout.{gate_open, half_at, is_format2}
 use Rattle.lease_disk.specs.Recovered.{recovered}
-use Rattle.lease_disk.specs.Region.{Region, IsClean, IsTorn, SameBeside, effective, is_within, synced, written}
+use Rattle.lease_disk.specs.Region.{Region, IsClean, IsTorn, OthersUnchanged, effective, is_within, synced, written}
 use Rattle.lease_disk.specs.Save.{IsChange, IsLeft, IsSaveOf, IsStopped, gate_at, mark_at, other, with_slot}
 use Rattle.lease_disk.proofs.Exits.{IsSave, exit_bytes, exit_closing, exit_marks, exit_opening, exit_saved, exit_writing}
 use Rattle.lease_disk.proofs.Halves.{format_apart}
@@ -21,23 +21,23 @@ IsWithin gate at m = (i : ℕ) → is_within gate 256 i ≡ false → is_within 
 within : (gate at m : ℕ) → gate ≤ at → at + m ≤ gate + 256 → IsWithin gate at m
 within gate at m start end i outside = grind (arith, start, end, outside)
 
-beside_none : (gate : ℕ) (r : Region) → SameBeside gate 256 r r
+beside_none : (gate : ℕ) (r : Region) → OthersUnchanged gate 256 r r
 beside_none gate r = record { byte = λ i h. refl; unsynced = λ i h. refl }
 
-beside_written : (gate at : ℕ) (bytes : List ℕ) (r0 r1 r2 : Region) → IsWithin gate at (length bytes) → IsClean r0 → SameBeside gate 256 r0 r1 → r2 ≡ synced (written at bytes r1) → SameBeside gate 256 r0 r2
+beside_written : (gate at : ℕ) (bytes : List ℕ) (r0 r1 r2 : Region) → IsWithin gate at (length bytes) → IsClean r0 → OthersUnchanged gate 256 r0 r1 → r2 ≡ synced (written at bytes r1) → OthersUnchanged gate 256 r0 r2
 beside_written gate at bytes r0 r1 r2 narrow clean beside is = record {
   byte = λ i h. ap (λ (r : Region). r.byte i) is ∙ ap (λ b. if b then slice_index bytes (i - at) else r1.byte i) (narrow i h) ∙ beside.byte i h;
   unsynced = λ i h. ap (λ (r : Region). r.unsynced i) is ∙ sym (clean.each i);
 }
 
-beside_torn : (gate at m : ℕ) (r0 r1 r : Region) → IsWithin gate at m → SameBeside gate 256 r0 r1 → IsTorn at m r1 r → SameBeside gate 256 r0 r
+beside_torn : (gate at m : ℕ) (r0 r1 r : Region) → IsWithin gate at m → OthersUnchanged gate 256 r0 r1 → IsTorn at m r1 r → OthersUnchanged gate 256 r0 r
 beside_torn gate at m r0 r1 r narrow beside torn = record {
   byte = λ i h. torn.byte i (narrow i h) ∙ beside.byte i h;
   unsynced = λ i h. torn.unsynced i ∙ ap (λ b. b || r1.unsynced i) (narrow i h) ∙ beside.unsynced i h;
 }
 
 -- the byte of the format stands outside every half
-format_stays : (s gate : ℕ) (which : Half) (old new : Region) → gate ≡ half_at s which → is_format2 old.byte ≡ true → SameBeside gate 256 old new → is_format2 new.byte ≡ true
+format_stays : (s gate : ℕ) (which : Half) (old new : Region) → gate ≡ half_at s which → is_format2 old.byte ≡ true → OthersUnchanged gate 256 old new → is_format2 new.byte ≡ true
 format_stays s gate which old new is two beside = (λ j. beside.byte 8192 (subst (λ a. is_within a 256 8192 ≡ false) (sym is) (format_apart s which)) j == 2) ∙ two
 
 few : (was_open : Bool) → length {A = ℕ} (if was_open then 0 ∷ [] else []) ≤ 1
@@ -123,7 +123,7 @@ module _ (s : ℕ) (known : Marks) (at n clock : ℕ) (content : Content) (whole
   -- a call failed, and this is what is left
   failing : (k : ℕ) (r : Region) → k ≢ 0
       → ((counts : List ℕ) (slots : Slots) → recovered counts r0.byte ≡ Some slots → IsChange counts clock s content slots → IsLeft k gate (Some slots) (Some (with_slot clock s content slots)) counts r)
-      → SameBeside gate 256 r0 r → IsStopped k s (mark_at known s) clock content r0 r → IsSaveOf k clock s content known known r0 r
+      → OthersUnchanged gate 256 r0 r → IsStopped k s (mark_at known s) clock content r0 r → IsSaveOf k clock s content known known r0 r
   failing k r some left beside stopped = record {
     saved = λ none. absurd (some none);
     bytes = λ none. absurd (some none);
@@ -144,7 +144,7 @@ module _ (s : ℕ) (known : Marks) (at n clock : ℕ) (content : Content) (whole
       (stops_closing s (mark_at known s) at n clock content whole bytes r0 given k r most torn (λ even. reads (early_sync k some most even)))
 
   module _ (r1 : Region) (is1 : r1 ≡ synced (written at closed r0)) where
-    beside1 : SameBeside gate 256 r0 r1
+    beside1 : OthersUnchanged gate 256 r0 r1
     beside1 = beside_written gate at closed r0 r0 r1 near given.clean (beside_none gate r0) is1
 
     pub save_writing : (k k1 : ℕ) (r : Region) → k ≢ 0 → k1 ≡ k - 2 → false ≡ (effective 2 k1 == 0) → IsTorn (at + 1) (length bytes) r1 r → (k1 ≡ 2 → r ≡ written (at + 1) bytes r1)
@@ -157,7 +157,7 @@ module _ (s : ℕ) (known : Marks) (at n clock : ℕ) (content : Content) (whole
         (stops_filling s (mark_at known s) at n clock content whole bytes r0 given size r1 is1 k r least most torn (λ even. reads (middle_sync k k1 f least most even)))
 
     module _ (r2 : Region) (is2 : r2 ≡ synced (written (at + 1) bytes r1)) where
-      beside2 : SameBeside gate 256 r0 r2
+      beside2 : OthersUnchanged gate 256 r0 r2
       beside2 = beside_written gate (at + 1) bytes r0 r1 r2 behind given.clean beside1 is2
 
       pub save_opening : (k k1 k2 : ℕ) (r : Region) → k ≢ 0 → k1 ≡ k - 2 → k2 ≡ k1 - 2 → false ≡ (effective 2 k2 == 0) → IsTorn at 1 r2 r → (k2 ≡ 2 → r ≡ written at (gate_open ∷ []) r2)
@@ -171,7 +171,7 @@ module _ (s : ℕ) (known : Marks) (at n clock : ℕ) (content : Content) (whole
       pub save_done : (r3 : Region) → r3 ≡ synced (written at (gate_open ∷ []) r2) → (o : Half) → o ≡ other (mark_at known s).half → s < length known.slots
           → IsSaveOf 0 clock s content known (record { slots = set known.slots s (record { half = o; sequence = n; other_open = true }) }) r0 r3
       save_done r3 is3 o half there =
-          let beside : SameBeside gate 256 r0 r3 = beside_written gate at (gate_open ∷ []) r0 r2 r3 first given.clean beside2 is3 in
+          let beside : OthersUnchanged gate 256 r0 r3 = beside_written gate at (gate_open ∷ []) r0 r2 r3 first given.clean beside2 is3 in
           record {
             saved = λ none counts slots was change. exit_saved s (mark_at known s) at n clock content whole bytes r0 given r1 is1 r2 is2 r3 is3 counts slots was change;
             bytes = λ none. exit_bytes s (mark_at known s) at n clock content whole bytes r0 given r1 is1 r2 is2 r3 is3;

@@ -1,5 +1,5 @@
 -- A device of regions as contracts see it, and what a call leaves as it was. What is said of regions
--- and fuses is said of a device that tells; of one that does not, the counts alone are.
+-- and failing_calls is said of a device that tells; of one that does not, the counts alone are.
 use Rattle.std.specs.Prelude.{◌≡◌, ◌≢◌, ℕ, ◌+◌, ◌-◌, ◌==◌, ◌≤◌, Bool, true, false, List, length, nat_lt, Option, Some, None, Result, is_ok, OnOk, OnErr, if◌then◌else◌}
 use Rattle.std.specs.List.{list_any}
 use Rattle.lease_disk.specs.Region.{Region, written, synced, IsTorn, effective, faults_after}
@@ -9,7 +9,7 @@ pub record Device : Type 0 where
   pub count : ℕ
   pub region : ℕ → Region
   -- which of the writes and syncs of a region from now on fails: 1 the next one, 0 none
-  pub fuse : ℕ → ℕ
+  pub failing_call : ℕ → ℕ
   -- how many reads there were
   pub reads : ℕ
   -- how many writes and syncs there were
@@ -26,20 +26,20 @@ pub record TouchesNothing (tells : Bool) (old new : Device) : Type 0 where
   pub count : new.count ≡ old.count
   pub writes : new.writes ≡ old.writes
   pub region : tells ≡ true → new.region ≡ old.region
-  pub fuse : tells ≡ true → new.fuse ≡ old.fuse
+  pub failing_call : tells ≡ true → new.failing_call ≡ old.failing_call
 
 -- nothing but one region, and the counts of writes and of failures
 pub record Touches (tells : Bool) (r : ℕ) (old new : Device) : Type 0 where
   pub count : new.count ≡ old.count
   pub reads : new.reads ≡ old.reads
   pub region : tells ≡ true → (q : ℕ) → q ≢ r → new.region q ≡ old.region q
-  pub fuse : tells ≡ true → (q : ℕ) → q ≢ r → new.fuse q ≡ old.fuse q
+  pub failing_call : tells ≡ true → (q : ℕ) → q ≢ r → new.failing_call q ≡ old.failing_call q
 
 -- nothing but one region, and the counts
 pub record ChangesOne (tells : Bool) (r : ℕ) (old new : Device) : Type 0 where
   pub count : new.count ≡ old.count
   pub region : tells ≡ true → (q : ℕ) → q ≢ r → new.region q ≡ old.region q
-  pub fuse : tells ≡ true → (q : ℕ) → q ≢ r → new.fuse q ≡ old.fuse q
+  pub failing_call : tells ≡ true → (q : ℕ) → q ≢ r → new.failing_call q ≡ old.failing_call q
 
 -- one of these regions
 abbrev pub is_in : List ℕ → ℕ → Bool
@@ -50,7 +50,7 @@ pub record TouchesAll (tells : Bool) (regions : List ℕ) (old new : Device) : T
   pub count : new.count ≡ old.count
   pub reads : new.reads ≡ old.reads
   pub region : tells ≡ true → (q : ℕ) → is_in regions q ≡ false → new.region q ≡ old.region q
-  pub fuse : tells ≡ true → (q : ℕ) → is_in regions q ≡ false → new.fuse q ≡ old.fuse q
+  pub failing_call : tells ≡ true → (q : ℕ) → is_in regions q ≡ false → new.failing_call q ≡ old.failing_call q
 
 -- a fault of a call that names these regions raises the count of each by one, and nothing else does
 abbrev pub set_faults : {T E : Type 0} → List ℕ → Result T E → (ℕ → ℕ) → ℕ → ℕ
@@ -63,11 +63,11 @@ WritesAt tells (Some r) old new = Touches tells r old new
 
 -- A function makes n writes and syncs of region r, and none after one that fails. It returns Ok where none does.
 pub record MakesCalls {T E : Type 0} (tells : Bool) (n r : ℕ) (result : Result T E) (old new : Device) : Type 0 where
-  pub answer : tells ≡ true → is_ok result ≡ (effective n (old.fuse r) == 0)
-  pub fuse : tells ≡ true → OnOk result (new.fuse r ≡ old.fuse r - n)
+  pub answer : tells ≡ true → is_ok result ≡ (effective n (old.failing_call r) == 0)
+  pub failing_call : tells ≡ true → OnOk result (new.failing_call r ≡ old.failing_call r - n)
   pub writes : OnOk result (new.writes ≡ old.writes + n)
   pub most : new.writes ≤ old.writes + n
-  pub last : tells ≡ true → OnErr result (new.writes ≡ old.writes + old.fuse r)
+  pub last : tells ≡ true → OnErr result (new.writes ≡ old.writes + old.failing_call r)
   pub failures : new.failures ≡ faults_after r result old.failures
 
 -- Bytes of region r were written from an offset on and synced; after a fault the range is in doubt.
@@ -75,6 +75,6 @@ pub record IsWritten {T E : Type 0} (tells : Bool) (r at : ℕ) (bytes : List �
   pub ok : tells ≡ true → OnOk result (new.region r ≡ synced (written at bytes (old.region r)))
   pub err : tells ≡ true → OnErr result (IsTorn at (length bytes) (old.region r) (new.region r))
   -- where the sync failed, reads give them
-  pub reads : tells ≡ true → old.fuse r ≡ 2 → new.region r ≡ written at bytes (old.region r)
+  pub reads : tells ≡ true → old.failing_call r ≡ 2 → new.region r ≡ written at bytes (old.region r)
   pub frame : Touches tells r old new
   pub calls : MakesCalls tells 2 r result old new

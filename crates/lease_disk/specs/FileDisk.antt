@@ -27,4 +27,4 @@ untold = record { byte = λ i. 0; unsynced = λ i. false; readable = false }
 
 -- the device as the contracts of every device see it
 abbrev pub device_of : FileDiskValue → Device
-device_of disk = record { count = disk.regions; region = λ r. untold; fuse = λ r. 0; reads = disk.reads; writes = disk.writes; failures = count_in disk.failures }
+device_of disk = record { count = disk.regions; region = λ r. untold; failing_call = λ r. 0; reads = disk.reads; writes = disk.writes; failures = count_in disk.failures }

@@ -7,7 +7,7 @@ use Rattle.lease_disk.specs.Region.{Region, is_within}
 
 pub record ModelDiskValue : Type 0 where
   pub regions : List Stored
-  pub fuses : List ℕ
+  pub failing_calls : List ℕ
   pub reads : ℕ
   pub writes : ℕ
   -- the regions whose calls returned a fault, the last one first
@@ -25,26 +25,26 @@ absent = record { bytes = []; unsynced = []; readable = false }
 abbrev pub stored_at : List Stored → ℕ → Stored
 stored_at regions region = slice_index_or regions region absent
 
-abbrev pub state_of : ModelDiskValue → ℕ → Region
-state_of disk region = region_of (stored_at disk.regions region)
+abbrev pub disk_region : ModelDiskValue → ℕ → Region
+disk_region disk region = region_of (stored_at disk.regions region)
 
 -- which of a region's writes and syncs from now on fails
-abbrev pub fuse_of : ModelDiskValue → ℕ → ℕ
-fuse_of disk region = slice_index disk.fuses region
+abbrev pub failing_call_of : ModelDiskValue → ℕ → ℕ
+failing_call_of disk region = slice_index disk.failing_calls region
 
 -- the device as the contracts of every device see it
 abbrev pub device_of : ModelDiskValue → Device
-device_of disk = record { count = length disk.regions; region = state_of disk; fuse = fuse_of disk; reads = disk.reads; writes = disk.writes; failures = count_in disk.failures }
+device_of disk = record { count = length disk.regions; region = disk_region disk; failing_call = failing_call_of disk; reads = disk.reads; writes = disk.writes; failures = count_in disk.failures }
 
 -- a region after a write of n bytes that failed
 abbrev pub left_in_doubt : ℕ → ℕ → Region → Region
 left_in_doubt at n r = record { byte = r.byte; unsynced = λ i. is_within at n i || r.unsynced i; readable = r.readable }
 
--- the same device but for one region's contents and fuse
+-- the same device but for one region's contents and failing_call
 pub record SameBut (region : ℕ) (old new : ModelDiskValue) : Type 0 where
   pub count : length new.regions ≡ length old.regions
   pub others : (q : ℕ) → q ≢ region → stored_at new.regions q ≡ stored_at old.regions q
-  pub fuses : (q : ℕ) → q ≢ region → fuse_of new q ≡ fuse_of old q
+  pub failing_calls : (q : ℕ) → q ≢ region → failing_call_of new q ≡ failing_call_of old q
   pub reads : new.reads ≡ old.reads
   pub writes : new.writes ≡ old.writes
   pub failures : new.failures ≡ old.failures

@@ -1,7 +1,7 @@
 -- Moving a region from format 1 to format 2.
 use Rattle.std.specs.Prelude.{◌≡◌, ◌<◌, ◌≤◌, ◌⊎◌, ℕ, ◌+◌, ◌-◌, ◌/◌, ◌%◌, ◌==◌, Bool, true, false, not, ◌&&◌, ◌||◌, nat_le, nat_lt, is_some, if◌then◌else◌, List, [], ◌∷◌, slice_index, slice_index_or, Option, Some, None, Result, Ok, Err, OnOk, OnErr}
 use Rattle.types.specs.declared.slot4.Slot4.TheVariants as S4
-use Rattle.types.specs.declared.slots.Slot6.TheVariants as S6
+use Rattle.types.specs.declared.slot6.Slot6.TheVariants as S6
 use Rattle.types.specs.declared.slots.Slots.{Slots}
 use Rattle.lease_disk.specs.declared.content.Content.{Content}
 use Rattle.lease_disk.specs.declared.content.Content.TheVariants.{Four, Six}
@@ -52,10 +52,10 @@ move_calls counts r = if moves counts r then 4 else 0
 
 -- A move makes so many writes and syncs of region r, and none after one that fails.
 pub record MakesMoveCalls {T : Type 0} (tells : Bool) (counts : List ℕ) (r : ℕ) (result : Result T RecoverFault) (old new : Device) : Type 0 where
-  pub fuse : tells ≡ true → OnOk result (new.fuse r ≡ old.fuse r - move_calls counts (old.region r))
+  pub failing_call : tells ≡ true → OnOk result (new.failing_call r ≡ old.failing_call r - move_calls counts (old.region r))
   pub writes : tells ≡ true → OnOk result (new.writes ≡ old.writes + move_calls counts (old.region r))
   pub most : new.writes ≤ old.writes + 4
-  pub last : tells ≡ true → moves counts (old.region r) ≡ true → OnErr result (new.writes ≡ old.writes + old.fuse r)
+  pub last : tells ≡ true → moves counts (old.region r) ≡ true → OnErr result (new.writes ≡ old.writes + old.failing_call r)
   pub failures : new.failures ≡ move_faults r result old.failures
 
 -- What is left

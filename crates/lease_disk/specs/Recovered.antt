@@ -4,8 +4,8 @@ use Rattle.std.specs.Prelude.{ℕ, ◌+◌, ◌%◌, ◌==◌, Bool, not, ◌&&�
 use Rattle.std.specs.Int.{w32, w64, from_be_bytes}
 use Rattle.types.specs.declared.slot4.Slot4.{Slot4}
 use Rattle.types.specs.declared.slot4.Slot4.TheVariants as S4
-use Rattle.types.specs.declared.slots.Slot6.{Slot6}
-use Rattle.types.specs.declared.slots.Slot6.TheVariants as S6
+use Rattle.types.specs.declared.slot6.Slot6.{Slot6}
+use Rattle.types.specs.declared.slot6.Slot6.TheVariants as S6
 use Rattle.types.specs.declared.slots.Slots.{Slots}
 use Rattle.types.specs.Slots.{last_until, live4, live6, none_twice, same_client4, same_client6}
 use Rattle.lease_disk.specs.declared.entry.Entry.{Entry}
@@ -144,16 +144,16 @@ book_at clock four six =
     else None
 
 -- the kept clock is the greatest of all entries
-abbrev pub book_of : Option (List (Entry Slot4)) → Option (List (Entry Slot6)) → Option Slots
-book_of (Some four) (Some six) =
+abbrev pub recovered_slots : Option (List (Entry Slot4)) → Option (List (Entry Slot6)) → Option Slots
+recovered_slots (Some four) (Some six) =
     book_at (max (latest four) (latest six)) (contents_at live4 (max (latest four) (latest six)) four) (contents_at live6 (max (latest four) (latest six)) six)
-book_of _ _ = None
+recovered_slots _ _ = None
 
 -- by entries, in a region with this clock
 abbrev pub book_in : List ℕ → Option ℕ → (ℕ → Option (Entry Slot4)) → (ℕ → Option (Entry Slot6)) → Option Slots
 book_in counts None four six = None
 book_in counts (Some clock) four six =
-    book_of (pool_entries clock S4.Free (slice_index counts 0) four) (pool_entries clock S6.Free (slice_index counts 1) (λ i. six (16 + i)))
+    recovered_slots (pool_entries clock S4.Free (slice_index counts 0) four) (pool_entries clock S6.Free (slice_index counts 1) (λ i. six (16 + i)))
 
 -- for pools of so many addresses
 unfoldable pub recovered : List ℕ → (ℕ → ℕ) → Option Slots

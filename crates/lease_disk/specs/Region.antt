@@ -56,10 +56,10 @@ pub record IsTorn (at n : ℕ) (old new : Region) : Type 0 where
   pub readable : new.readable ≡ old.readable
 
 -- every byte outside n from an offset on is as it was, and as sure as it was
-pub record SameBeside (at n : ℕ) (old new : Region) : Type 0 where
+pub record OthersUnchanged (at n : ℕ) (old new : Region) : Type 0 where
   pub byte : (i : ℕ) → is_within at n i ≡ false → new.byte i ≡ old.byte i
   pub unsynced : (i : ℕ) → is_within at n i ≡ false → new.unsynced i ≡ old.unsynced i
 
--- of the next n calls the one that fails, by a fuse; 0 where none of them does
+-- of the next n calls the one that fails, by a failing_call; 0 where none of them does
 abbrev pub effective : ℕ → ℕ → ℕ
-effective n fuse = if nat_le fuse n then fuse else 0
+effective n failing_call = if nat_le failing_call n then failing_call else 0

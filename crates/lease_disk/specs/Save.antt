@@ -14,7 +14,7 @@ use Rattle.lease_disk.specs.Device.{Device}
 use Rattle.lease_disk.specs.HalfBytes.{half_bytes}
 use Rattle.lease_disk.specs.Layout.{gate_open, half_at, half2, is_format2}
 use Rattle.lease_disk.specs.Recovered.{is_open, sequence, next, is_counting, recovered}
-use Rattle.lease_disk.specs.Region.{Region, SameBeside, is_within, IsCrash, IsClean}
+use Rattle.lease_disk.specs.Region.{Region, OthersUnchanged, is_within, IsCrash, IsClean}
 
 abbrev pub other : Half → Half
 other First = Second
@@ -118,4 +118,4 @@ pub record IsSaveOf (k clock s : ℕ) (content : Content) (known left : Marks) (
       → IsLeft k (gate_at s (mark_at known s)) (Some slots) (Some (with_slot clock s content slots)) counts new
   pub stopped : k ≢ 0 → IsStopped k s (mark_at known s) clock content old new
   pub format : is_format2 new.byte ≡ true
-  pub beside : SameBeside (gate_at s (mark_at known s)) 256 old new
+  pub beside : OthersUnchanged (gate_at s (mark_at known s)) 256 old new

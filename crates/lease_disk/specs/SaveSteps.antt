@@ -39,8 +39,8 @@ pub record IsWritable (tells : Bool) (count : ℕ) (saving : Saving) : Type 0 wh
 pub record IsWrite {T E : Type 0} (tells : Bool) (r at : ℕ) (bytes : List ℕ) (result : Result T E) (old new : Device) : Type 0 where
   pub ok : tells ≡ true → OnOk result (new.region r ≡ written at bytes (old.region r))
   pub err : tells ≡ true → OnErr result (IsTorn at (length bytes) (old.region r) (new.region r))
-  pub answer : tells ≡ true → is_ok result ≡ not (old.fuse r == 1)
-  pub fuse : tells ≡ true → new.fuse r ≡ old.fuse r - 1
+  pub answer : tells ≡ true → is_ok result ≡ not (old.failing_call r == 1)
+  pub failing_call : tells ≡ true → new.failing_call r ≡ old.failing_call r - 1
   pub frame : Touches tells r old new
   pub writes : new.writes ≡ old.writes + 1
   pub failures : new.failures ≡ faults_after r result old.failures

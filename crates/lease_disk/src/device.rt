@@ -48,8 +48,8 @@ pub trait Disk {
         ensures ok { tells ≡ true → OnOk result ((device self.new).region region ≡ written at bytes.now ((device self.old).region region)) }
         ensures err { tells ≡ true → OnErr result
             (IsTorn at (length bytes.now) ((device self.old).region region) ((device self.new).region region)) }
-        ensures answer { tells ≡ true → is_ok result ≡ not ((device self.old).fuse region == 1) }
-        ensures fuse { tells ≡ true → (device self.new).fuse region ≡ (device self.old).fuse region - 1 }
+        ensures answer { tells ≡ true → is_ok result ≡ not ((device self.old).failing_call region == 1) }
+        ensures failing_call { tells ≡ true → (device self.new).failing_call region ≡ (device self.old).failing_call region - 1 }
         ensures frame { Touches tells region (device self.old) (device self.new) }
         ensures writes { (device self.new).writes ≡ (device self.old).writes + 1 }
         ensures failures { (device self.new).failures ≡ faults_after region result (device self.old).failures };
@@ -59,8 +59,8 @@ pub trait Disk {
         requires exists { region < (device self.old).count }
         ensures ok { tells ≡ true → OnOk result ((device self.new).region region ≡ synced ((device self.old).region region)) }
         ensures err { tells ≡ true → OnErr result ((device self.new).region region ≡ (device self.old).region region) }
-        ensures answer { tells ≡ true → is_ok result ≡ not ((device self.old).fuse region == 1) }
-        ensures fuse { tells ≡ true → (device self.new).fuse region ≡ (device self.old).fuse region - 1 }
+        ensures answer { tells ≡ true → is_ok result ≡ not ((device self.old).failing_call region == 1) }
+        ensures failing_call { tells ≡ true → (device self.new).failing_call region ≡ (device self.old).failing_call region - 1 }
         ensures frame { Touches tells region (device self.old) (device self.new) }
         ensures writes { (device self.new).writes ≡ (device self.old).writes + 1 }
         ensures failures { (device self.new).failures ≡ faults_after region result (device self.old).failures };
@@ -72,8 +72,8 @@ pub trait Disk {
             ((r : ℕ) → is_in regions.now r ≡ true → (device self.new).region r ≡ synced ((device self.old).region r)) }
         ensures err { tells ≡ true → OnErr result
             ((r : ℕ) → is_in regions.now r ≡ true → (device self.new).region r ≡ (device self.old).region r) }
-        ensures answer { tells ≡ true → is_ok result ≡ not (list_any (λ r. (device self.old).fuse r == 1) regions.now) }
-        ensures fuse { tells ≡ true → (r : ℕ) → is_in regions.now r ≡ true → (device self.new).fuse r ≡ (device self.old).fuse r - 1 }
+        ensures answer { tells ≡ true → is_ok result ≡ not (list_any (λ r. (device self.old).failing_call r == 1) regions.now) }
+        ensures failing_call { tells ≡ true → (r : ℕ) → is_in regions.now r ≡ true → (device self.new).failing_call r ≡ (device self.old).failing_call r - 1 }
         ensures frame { TouchesAll tells regions.now (device self.old) (device self.new) }
         ensures writes { (device self.new).writes ≡ (device self.old).writes + 1 }
         ensures failures { (device self.new).failures ≡ set_faults regions.now result (device self.old).failures };

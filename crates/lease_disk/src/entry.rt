@@ -2,7 +2,7 @@
 ghost use Rattle.std.specs.Prelude.{◌≡◌, ◌<◌, ℕ, Bool, length, slice_index, Option};
 ghost use Rattle.types.specs.Slots.{live4, live6, same_client4, same_client6};
 ghost use Rattle.types.specs.declared.slot4.Slot4.TheVariants as S4;
-ghost use Rattle.types.specs.declared.slots.Slot6.TheVariants as S6;
+ghost use Rattle.types.specs.declared.slot6.Slot6.TheVariants as S6;
 ghost use Rattle.lease_disk.specs.Layout.{with_halves};
 ghost use Rattle.lease_disk.specs.Recovered.{entry, held, slot4_of, slot6_of};
 

@@ -30,7 +30,7 @@ pub struct ModelDisk {
     regions: Vec<Stored>,
     // which write or sync of each region fails, counted from now on; 0 for none. They lie apart from the
     // bytes, so that setting one touches no memory of its region.
-    fuses: Vec<u8>,
+    failing_calls: Vec<u8>,
     reads: Count,
     writes: Count,
     failures: Failures,
@@ -45,14 +45,14 @@ impl Model for ModelDisk {
 
     ghost view = { λ d. record {
       regions = d.regions.items;
-      fuses = d.fuses.items;
+      failing_calls = d.failing_calls.items;
       reads = d.reads.count;
       writes = d.writes.count;
       failures = d.failures.regions;
       syncs = d.syncs;
     } };
 
-    ghost invariant = { λ d. (length d.regions.items < 65536) × (length d.fuses.items ≡ length d.regions.items) };
+    ghost invariant = { λ d. (length d.regions.items < 65536) × (length d.failing_calls.items ≡ length d.regions.items) };
 }
 
 /// A region that was just formatted.
@@ -69,29 +69,29 @@ fn fresh() -> Stored
 }
 
 /// Counts one call, and tells whether it is the one that fails.
-fn burn(fuse: &mut u8) -> bool
-    ensures fails { result ≡ (fuse.old == 1) }
-    ensures fuse { fuse.new ≡ fuse.old - 1 }
+fn burn(failing_call: &mut u8) -> bool
+    ensures fails { result ≡ (failing_call.old == 1) }
+    ensures failing_call { failing_call.new ≡ failing_call.old - 1 }
 {
-    let fails = *fuse == 1;
-    *fuse = fuse.saturating_sub(1);
+    let fails = *failing_call == 1;
+    *failing_call = failing_call.saturating_sub(1);
     fails
 }
 
 /// Counts one call of each of these regions, and tells whether it is the one that fails of any.
-fn burn_all(fuses: &mut [u8], regions: &[u16]) -> bool
-    requires { (r : ℕ) → is_in regions.now r ≡ true → r < length fuses.old }
-    ensures fails { result ≡ list_any (λ r. slice_index fuses.old r == 1) regions.now }
-    ensures fuses { (r : ℕ) → slice_index fuses.new r
-        ≡ (if is_in regions.now r then slice_index fuses.old r - 1 else slice_index fuses.old r) }
-    ensures size { length fuses.new ≡ length fuses.old }
+fn burn_all(failing_calls: &mut [u8], regions: &[u16]) -> bool
+    requires { (r : ℕ) → is_in regions.now r ≡ true → r < length failing_calls.old }
+    ensures fails { result ≡ list_any (λ r. slice_index failing_calls.old r == 1) regions.now }
+    ensures failing_calls { (r : ℕ) → slice_index failing_calls.new r
+        ≡ (if is_in regions.now r then slice_index failing_calls.old r - 1 else slice_index failing_calls.old r) }
+    ensures size { length failing_calls.new ≡ length failing_calls.old }
 {
     let mut fails = false;
     'regions: for index in 0..regions.len() {
         let region = regions[index];
         // a region that stands twice is called once
         if !regions[..index].contains(&region) {
-            fails |= burn(&mut fuses[usize::from(region)]);
+            fails |= burn(&mut failing_calls[usize::from(region)]);
         }
     }
     fails
@@ -112,16 +112,16 @@ fn clear_all(stored: &mut [Stored], regions: &[u16])
 impl ModelDisk {
     ghost use Rattle.std.specs.Prelude.{ℕ, ◌≡◌, ◌+◌, ◌<◌, ◌≤◌, [], length, IfOk};
     ghost use Rattle.lease_disk.specs.Crash.{crashed, filled, formatted_region, loaded};
-    ghost use Rattle.lease_disk.specs.Model.{state_of, fuse_of, SameBut};
+    ghost use Rattle.lease_disk.specs.Model.{disk_region, failing_call_of, SameBut};
     ghost use Rattle.lease_disk.specs.Region.{IsClean, IsRead};
 
     /// A device of so many formatted regions, in which nothing is unsynced. Its memory is all taken here;
     /// an error where some is refused.
     pub fn new(alloc: Global, regions: u16) -> Result<ModelDisk, AllocError>
         ensures count { IfOk result (λ disk. length disk.regions ≡ regions) }
-        ensures formatted { IfOk result (λ disk. (q : ℕ) → q < regions → state_of disk q ≡ formatted_region) }
-        ensures synced { IfOk result (λ disk. (q : ℕ) → IsClean (state_of disk q)) }
-        ensures fuses { IfOk result (λ disk. (q : ℕ) → q < regions → fuse_of disk q ≡ 0) }
+        ensures formatted { IfOk result (λ disk. (q : ℕ) → q < regions → disk_region disk q ≡ formatted_region) }
+        ensures synced { IfOk result (λ disk. (q : ℕ) → IsClean (disk_region disk q)) }
+        ensures failing_calls { IfOk result (λ disk. (q : ℕ) → q < regions → failing_call_of disk q ≡ 0) }
         ensures reads { IfOk result (λ disk. disk.reads ≡ 0) }
         ensures writes { IfOk result (λ disk. disk.writes ≡ 0) }
         ensures failures { IfOk result (λ disk. disk.failures ≡ []) }
@@ -131,10 +131,10 @@ impl ModelDisk {
         'regions: for _ in 0..regions {
             stored.push(fresh())?;
         }
-        let fuses = Vec::from_elem(alloc, 0, usize::from(regions))?;
+        let failing_calls = Vec::from_elem(alloc, 0, usize::from(regions))?;
         Ok(ModelDisk {
             regions: stored,
-            fuses,
+            failing_calls,
             reads: Count::new(),
             writes: Count::new(),
             failures: Failures::new(),
@@ -145,18 +145,18 @@ impl ModelDisk {
     /// From now on the k-th write or sync of this region fails; none where k is 0.
     pub fn fail_at(&mut self, region: u16, k: u8)
         requires { region < length self.old.regions }
-        ensures fuse { fuse_of self.new region ≡ k }
-        ensures state { state_of self.new region ≡ state_of self.old region }
+        ensures failing_call { failing_call_of self.new region ≡ k }
+        ensures state { disk_region self.new region ≡ disk_region self.old region }
         ensures others { SameBut region self.old self.new }
     {
-        self.fuses[usize::from(region)] = k;
+        self.failing_calls[usize::from(region)] = k;
     }
 
     /// Stops the device and starts it again: a region then is as the image says.
     pub fn crash(&mut self, region: u16, image: Image)
         requires { region < length self.old.regions }
-        ensures state { state_of self.new region ≡ crashed image (state_of self.old region) }
-        ensures fuse { fuse_of self.new region ≡ fuse_of self.old region }
+        ensures state { disk_region self.new region ≡ crashed image (disk_region self.old region) }
+        ensures failing_call { failing_call_of self.new region ≡ failing_call_of self.old region }
         ensures others { SameBut region self.old self.new }
     {
         let stored = &mut self.regions[usize::from(region)];
@@ -173,9 +173,9 @@ impl ModelDisk {
     /// Gives each byte of a region one value, as if it had always been there.
     pub fn fill(&mut self, region: u16, byte: u8)
         requires { region < length self.old.regions }
-        ensures state { state_of self.new region ≡ filled byte (state_of self.old region) }
-        ensures synced { ((q : ℕ) → IsClean (state_of self.old q)) → (q : ℕ) → IsClean (state_of self.new q) }
-        ensures fuse { fuse_of self.new region ≡ fuse_of self.old region }
+        ensures state { disk_region self.new region ≡ filled byte (disk_region self.old region) }
+        ensures synced { ((q : ℕ) → IsClean (disk_region self.old q)) → (q : ℕ) → IsClean (disk_region self.new q) }
+        ensures failing_call { failing_call_of self.new region ≡ failing_call_of self.old region }
         ensures others { SameBut region self.old self.new }
     {
         overwrite(&mut self.regions[usize::from(region)].bytes, byte);
@@ -185,8 +185,8 @@ impl ModelDisk {
     pub fn load(&mut self, region: u16, at: usize, bytes: &[u8])
         requires exists { region < length self.old.regions }
         requires fits { at + length bytes.now ≤ 32768 }
-        ensures state { state_of self.new region ≡ loaded at bytes.now (state_of self.old region) }
-        ensures fuse { fuse_of self.new region ≡ fuse_of self.old region }
+        ensures state { disk_region self.new region ≡ loaded at bytes.now (disk_region self.old region) }
+        ensures failing_call { failing_call_of self.new region ≡ failing_call_of self.old region }
         ensures others { SameBut region self.old self.new }
     {
         put(&mut self.regions[usize::from(region)].bytes, at, bytes);
@@ -195,9 +195,9 @@ impl ModelDisk {
     /// Which write or sync of this region from now on fails; 0 for none.
     pub fn fault(&self, region: u16) -> u8
         requires { region < length self.now.regions }
-        ensures { result ≡ fuse_of self.now region }
+        ensures { result ≡ failing_call_of self.now region }
     {
-        self.fuses[usize::from(region)]
+        self.failing_calls[usize::from(region)]
     }
 
     /// How many syncs there were, of one region or of several by one call; it stays at its greatest value.
@@ -210,7 +210,7 @@ impl ModelDisk {
     /// The bytes of a region as a read gives them, though none is made.
     pub fn bytes(&self, region: u16) -> &[u8]
         requires { region < length self.now.regions }
-        ensures bytes { IsRead (state_of self.now region) 0 result.now }
+        ensures bytes { IsRead (disk_region self.now region) 0 result.now }
         ensures all { length result.now ≡ 32768 }
     {
         &self.regions[usize::from(region)].bytes
@@ -220,7 +220,7 @@ impl ModelDisk {
 impl Disk for ModelDisk {
     ghost use Rattle.std.specs.Prelude.{◌≡◌, ◌+◌, ◌-◌, ◌==◌, ◌<◌, ◌≤◌, not, true, length, is_ok, OnOk, OnErr};
     ghost use Rattle.lease_disk.specs.Device.{Touches};
-    ghost use Rattle.lease_disk.specs.Model.{device_of, left_in_doubt, state_of};
+    ghost use Rattle.lease_disk.specs.Model.{device_of, left_in_doubt, disk_region};
     ghost use Rattle.lease_disk.specs.Region.{IsTorn, faults_after, written};
 
     ghost tells = { true };
@@ -249,16 +249,16 @@ impl Disk for ModelDisk {
             ((device_of self.new).region region ≡ written at bytes.now ((device_of self.old).region region)) }
         ensures err { true ≡ true → OnErr result
             (IsTorn at (length bytes.now) ((device_of self.old).region region) ((device_of self.new).region region)) }
-        ensures answer { true ≡ true → is_ok result ≡ not ((device_of self.old).fuse region == 1) }
-        ensures fuse { true ≡ true → (device_of self.new).fuse region ≡ (device_of self.old).fuse region - 1 }
+        ensures answer { true ≡ true → is_ok result ≡ not ((device_of self.old).failing_call region == 1) }
+        ensures failing_call { true ≡ true → (device_of self.new).failing_call region ≡ (device_of self.old).failing_call region - 1 }
         ensures frame { Touches true region (device_of self.old) (device_of self.new) }
         ensures writes { (device_of self.new).writes ≡ (device_of self.old).writes + 1 }
         ensures failures { (device_of self.new).failures ≡ faults_after region result (device_of self.old).failures }
         // and the bytes stay after a fault
-        ensures left_in_doubt { OnErr result (state_of self.new region ≡ left_in_doubt at (length bytes.now) (state_of self.old region)) }
+        ensures left_in_doubt { OnErr result (disk_region self.new region ≡ left_in_doubt at (length bytes.now) (disk_region self.old region)) }
     {
         self.writes.tick();
-        let fails = burn(&mut self.fuses[usize::from(region)]);
+        let fails = burn(&mut self.failing_calls[usize::from(region)]);
         let stored = &mut self.regions[usize::from(region)];
         stored.unsynced.mark(at, bytes.len());
         if fails {
@@ -272,7 +272,7 @@ impl Disk for ModelDisk {
     fn sync(&mut self, region: u16) -> Result<(), Fault> {
         self.writes.tick();
         self.syncs = self.syncs.saturating_add(1);
-        if burn(&mut self.fuses[usize::from(region)]) {
+        if burn(&mut self.failing_calls[usize::from(region)]) {
             self.failures.note(region);
             return Err(Fault);
         }
@@ -283,7 +283,7 @@ impl Disk for ModelDisk {
     fn sync_set(&mut self, regions: &[u16]) -> Result<(), Fault> {
         self.writes.tick();
         self.syncs = self.syncs.saturating_add(1);
-        if burn_all(&mut self.fuses, regions) {
+        if burn_all(&mut self.failing_calls, regions) {
             self.failures.note_all(regions);
             return Err(Fault);
         }

@@ -43,7 +43,7 @@ impl Saving {
     pub fn save<D: Disk>(&mut self, disk: &mut D) -> Result<(), Fault>
         requires { CanSave D.tells (D.device disk.old) self.old }
         ensures part { self.new ≡ record self.old { marks = self.new.marks } }
-        ensures saved { D.tells ≡ true → IsSaveOf (effective 6 ((D.device disk.old).fuse self.old.region))
+        ensures saved { D.tells ≡ true → IsSaveOf (effective 6 ((D.device disk.old).failing_call self.old.region))
             self.old.clock self.old.slot self.old.content self.old.marks self.new.marks
             ((D.device disk.old).region self.old.region) ((D.device disk.new).region self.old.region) }
         ensures kept { OnErr result (self.new ≡ self.old) }
@@ -75,15 +75,15 @@ pub fn save<D: Disk>(
     requires format { D.tells ≡ true → is_format2 ((D.device disk.old).region region).byte ≡ true }
     requires clean { D.tells ≡ true → IsClean ((D.device disk.old).region region) }
     requires mark { D.tells ≡ true → IsMark ((D.device disk.old).region region).byte slot (mark_at marks.old slot) }
-    ensures saved { D.tells ≡ true → IsSaveOf (effective 6 ((D.device disk.old).fuse region)) clock slot content.now marks.old marks.new
+    ensures saved { D.tells ≡ true → IsSaveOf (effective 6 ((D.device disk.old).failing_call region)) clock slot content.now marks.old marks.new
         ((D.device disk.old).region region) ((D.device disk.new).region region) }
-    ensures answer { D.tells ≡ true → is_ok result ≡ (effective 6 ((D.device disk.old).fuse region) == 0) }
+    ensures answer { D.tells ≡ true → is_ok result ≡ (effective 6 ((D.device disk.old).failing_call region) == 0) }
     ensures kept { OnErr result (marks.new ≡ marks.old) }
     ensures frame { Touches D.tells region (D.device disk.old) (D.device disk.new) }
     ensures writes { OnOk result ((D.device disk.new).writes ≡ (D.device disk.old).writes + 6) }
     ensures most { (D.device disk.new).writes ≤ (D.device disk.old).writes + 6 }
     ensures last { D.tells ≡ true
-        → OnErr result ((D.device disk.new).writes ≡ (D.device disk.old).writes + (D.device disk.old).fuse region) }
+        → OnErr result ((D.device disk.new).writes ≡ (D.device disk.old).writes + (D.device disk.old).failing_call region) }
     ensures failures { (D.device disk.new).failures ≡ faults_after region result (D.device disk.old).failures }
 {
     let mut saving = Saving {

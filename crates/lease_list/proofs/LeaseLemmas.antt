@@ -4,7 +4,7 @@ use Rattle.std.proofs.lemmas.List.{append-nil, drop_all, drop_more}
 use Rattle.types.specs.Addr.{addr4, addr6}
 use Rattle.types.specs.Slots.{live4, live6}
 use Rattle.types.specs.declared.slot4.Slot4.{Slot4}
-use Rattle.types.specs.declared.slots.Slot6.{Slot6}
+use Rattle.types.specs.declared.slot6.Slot6.{Slot6}
 use Rattle.lease_list.specs.declared.lease.Lease.{Lease}
 use Rattle.lease_list.specs.Lease.{lease4, lease6, leases4, leases6, with_lease}
 

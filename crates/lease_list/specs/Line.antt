@@ -33,10 +33,10 @@ with_end until date left members =
 
 -- ---- a circuit whose leases are not known
 
-abbrev pub state_of : Closed → List ℕ
-state_of Damaged = codes "closed"
-state_of Unreadable = codes "closed"
-state_of Busy = codes "busy"
+abbrev pub closed_words : Closed → List ℕ
+closed_words Damaged = codes "closed"
+closed_words Unreadable = codes "closed"
+closed_words Busy = codes "busy"
 
 abbrev pub why_of : Closed → List ℕ
 why_of Damaged = codes "its region is damaged"
@@ -44,12 +44,12 @@ why_of Unreadable = codes "its region can't be read"
 why_of Busy = codes "no two in a row of 100 readings of its region were equal"
 
 abbrev pub closed_text : List ℕ → Closed → List ℕ
-closed_text circuit why = circuit ++ (codes " " ++ (state_of why ++ (codes ": " ++ why_of why)))
+closed_text circuit why = circuit ++ (codes " " ++ (closed_words why ++ (codes ": " ++ why_of why)))
 
 abbrev pub closed_data : List ℕ → Closed → Data
 closed_data circuit why =
     object (member (codes "circuit") (string circuit)
-    (member (codes "state") (string (state_of why))
+    (member (codes "state") (string (closed_words why))
     (member (codes "why") (string (why_of why)) no_members)))
 
 abbrev pub closed_written : List ℕ → Closed → Form → List ℕ

@@ -1,7 +1,7 @@
 //! A line for a lease, or for a circuit whose leases are not known.
 ghost use Rattle.std.specs.Prelude.{◌≡◌, IfOk, OnOk, option_map, string_bytes};
 ghost use Rattle.serde_json.specs.View.{members_view, view};
-ghost use Rattle.lease_list.specs.Line.{IsLeaseLine, closed_data, closed_written, state_of, why_of, with_client, with_end, with_place, written};
+ghost use Rattle.lease_list.specs.Line.{IsLeaseLine, closed_data, closed_written, closed_words, why_of, with_client, with_end, with_place, written};
 ghost use Rattle.lease_list.specs.Row.{line_data};
 
 use crate::form::Form;
@@ -89,8 +89,8 @@ pub fn lease_line(
     row_line(alloc, row, form)
 }
 
-fn state_of(why: Closed) -> &'static str
-    ensures { result.now ≡ state_of why }
+fn closed_words(why: Closed) -> &'static str
+    ensures { result.now ≡ closed_words why }
 {
     match why {
         Closed::Damaged | Closed::Unreadable => "closed",
@@ -112,7 +112,7 @@ fn why_of(why: Closed) -> &'static str
 fn closed_value(alloc: Global, circuit: &str, why: Closed) -> Result<Value, AllocError>
     ensures { IfOk result (λ value. view value ≡ closed_data circuit.now why) }
 {
-    let (state, why) = (state_of(why), why_of(why));
+    let (state, why) = (closed_words(why), why_of(why));
     json!(in alloc; {"circuit": circuit, "state": state, "why": why})
 }
 
@@ -127,7 +127,7 @@ pub fn closed_line(
 {
     match form {
         Form::Text => {
-            let (state, why) = (state_of(why), why_of(why));
+            let (state, why) = (closed_words(why), why_of(why));
             format!(in alloc; "{circuit} {state}: {why}")
         }
         Form::Json => closed_value(alloc, circuit, why)?.to_string(alloc),

@@ -6,8 +6,8 @@ use Rattle.types.specs.declared.addr.Addr4.{Addr4}
 use Rattle.types.specs.declared.addr.Addr6.{Addr6}
 use Rattle.types.specs.declared.slot4.Slot4.{Slot4}
 use Rattle.types.specs.declared.slot4.Slot4.TheVariants as S4
-use Rattle.types.specs.declared.slots.Slot6.{Slot6}
-use Rattle.types.specs.declared.slots.Slot6.TheVariants as S6
+use Rattle.types.specs.declared.slot6.Slot6.{Slot6}
+use Rattle.types.specs.declared.slot6.Slot6.TheVariants as S6
 use Rattle.lease_log.specs.declared.change.Change.{Change}
 use Rattle.lease_log.specs.declared.change.Happened.{Happened}
 use Rattle.lease_log.specs.declared.change.Happened.TheVariants.{Leased, Released, Declined, Ended}

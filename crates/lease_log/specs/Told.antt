@@ -3,8 +3,8 @@ use Rattle.std.specs.Prelude.{ℕ, List, Option, Some, None}
 use Rattle.types.specs.Key6.{Key6Value}
 use Rattle.types.specs.declared.slot4.Slot4.{Slot4}
 use Rattle.types.specs.declared.slot4.Slot4.TheVariants as S4
-use Rattle.types.specs.declared.slots.Slot6.{Slot6}
-use Rattle.types.specs.declared.slots.Slot6.TheVariants as S6
+use Rattle.types.specs.declared.slot6.Slot6.{Slot6}
+use Rattle.types.specs.declared.slot6.Slot6.TheVariants as S6
 use Rattle.lease_log.specs.declared.change.Change.{Change}
 use Rattle.lease_log.specs.declared.change.Holder.{Holder}
 use Rattle.lease_log.specs.declared.change.Holder.TheVariants.{V4, V6}

@@ -16,7 +16,7 @@ use config::{CircuitPart, Config};
 use dispatch::region_count;
 use lease_disk::REGION;
 use lease_list::{Form, What, circuit_lines, moment_of};
-use region_reader::{Closed, FileFault, RegionFile, circuit_slots};
+use region_reader::{Closed, ReadFault, RegionFile, circuit_slots};
 use std::alloc::AllocError;
 use std::process::ExitCode;
 use std::rt::Clock;
@@ -26,12 +26,12 @@ use types::{Circuit, Slots};
 const CLOSED: u8 = 3;
 
 /// Reports that the file is not read, and returns the status.
-fn refuse_file(rt: &HostRuntime, path: &str, fault: FileFault) -> u8
+fn refuse_file(rt: &HostRuntime, path: &str, fault: ReadFault) -> u8
     ensures { result ≡ file_status fault }
 {
     match fault {
-        FileFault::File => complain_of(rt, path, fault, reading_cause(rt, path)),
-        FileFault::Memory => {
+        ReadFault::File => complain_of(rt, path, fault, reading_cause(rt, path)),
+        ReadFault::Memory => {
             let _ = eprint!(rt; "{path}: ");
             complain(rt, fault, UNOPENED)
         }

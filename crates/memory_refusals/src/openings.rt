@@ -1,6 +1,6 @@
 //! What is opened over configurations and a disk, for a count of the requests for memory that it makes.
 ghost use Rattle.std.specs.Prelude.{ℕ};
-ghost use Rattle.lease_disk.specs.Model.{state_of};
+ghost use Rattle.lease_disk.specs.Model.{disk_region};
 ghost use Rattle.lease_disk.specs.Region.{IsClean};
 
 use config::Plans;
@@ -54,7 +54,7 @@ impl Opening {
 
     /// Whether this is opened over the disk.
     fn succeeds_over(self, alloc: Global, plans: &Plans, mut disk: ModelDisk) -> bool
-        requires synced { (q : ℕ) → IsClean (state_of disk q) }
+        requires synced { (q : ℕ) → IsClean (disk_region disk q) }
     {
         match self {
             Opening::Disk => true,

@@ -1,7 +1,7 @@
 //! What takes memory before a world runs, one after the other. Each step either gives what it should, or
 //! reports that memory ran out and has done nothing.
 ghost use Rattle.std.specs.Prelude.{◌≡◌, ℕ, length, IfOk};
-ghost use Rattle.lease_disk.specs.Model.{state_of};
+ghost use Rattle.lease_disk.specs.Model.{disk_region};
 ghost use Rattle.lease_disk.specs.Region.{IsClean};
 
 use config::{Config, Plans};
@@ -107,7 +107,7 @@ fn plans(alloc: Global) -> Result<Plans, Trouble> {
 
 fn disk(alloc: Global) -> Result<ModelDisk, Trouble>
     ensures count { IfOk result (λ disk. length disk.regions ≡ 1) }
-    ensures synced { IfOk result (λ disk. (q : ℕ) → IsClean (state_of disk q)) }
+    ensures synced { IfOk result (λ disk. (q : ℕ) → IsClean (disk_region disk q)) }
 {
     match ModelDisk::new(alloc, 1) {
         Ok(disk) => Ok(disk),
@@ -117,7 +117,7 @@ fn disk(alloc: Global) -> Result<ModelDisk, Trouble>
 
 /// A server, over a disk in which nothing is unsynced. That one which is refused has not called its device is in its contract.
 fn server(alloc: Global, config: &Config, mut disk: ModelDisk) -> Result<(), Trouble>
-    requires { (q : ℕ) → IsClean (state_of disk q) }
+    requires { (q : ℕ) → IsClean (disk_region disk q) }
 {
     match Server::open(alloc, config, &mut disk) {
         Ok(server) => {
@@ -132,13 +132,13 @@ fn server(alloc: Global, config: &Config, mut disk: ModelDisk) -> Result<(), Tro
 /// A world over a disk in which nothing is unsynced, whose network keeps 16 datagrams of a circuit and
 /// direction.
 fn open_over(alloc: Global, plans: &Plans, disk: ModelDisk) -> Result<World, OpenFault>
-    requires synced { (q : ℕ) → IsClean (state_of disk q) }
+    requires synced { (q : ℕ) → IsClean (disk_region disk q) }
 {
     World::open_plans(alloc, plans, disk, 16)
 }
 
 fn world(alloc: Global, plans: &Plans, disk: ModelDisk) -> Result<World, Trouble>
-    requires synced { (q : ℕ) → IsClean (state_of disk q) }
+    requires synced { (q : ℕ) → IsClean (disk_region disk q) }
 {
     match open_over(alloc, plans, disk) {
         Ok(world) => Ok(world),

@@ -12,10 +12,10 @@ use Rattle.types.specs.declared.addr.Addr6.{Addr6}
 use Rattle.types.specs.declared.dest.Proto.TheVariants.{V6}
 use Rattle.types.specs.declared.kind6.Kind6.{Kind6}
 use Rattle.types.specs.declared.kind6.Kind6.TheVariants.{Solicit, Request, Confirm, Renew, Rebind, Release, Decline}
-use Rattle.types.specs.declared.request6.Reply6.{Reply6}
-use Rattle.types.specs.declared.request6.Request6.{Request6}
-use Rattle.types.specs.declared.request6.ServerId.{ServerId}
-use Rattle.types.specs.declared.request6.ServerId.TheVariants as server_id
+use Rattle.exchange.specs.declared.request6.Reply6.{Reply6}
+use Rattle.exchange.specs.declared.request6.Request6.{Request6}
+use Rattle.exchange.specs.declared.request6.ServerId.{ServerId}
+use Rattle.exchange.specs.declared.request6.ServerId.TheVariants as server_id
 use Rattle.v6_options.specs.Codes.{RELAY_MESSAGE}
 use Rattle.v6_options.specs.Reading.{listed_from, cut_from}
 use Rattle.v6_options.specs.Spelling.{look_up}

@@ -9,12 +9,12 @@ use Rattle.types.specs.declared.discard.Discard.{Discard}
 use Rattle.types.specs.declared.discard.Discard.TheVariants as reason
 use Rattle.types.specs.declared.kind6.Kind6.{Kind6}
 use Rattle.types.specs.declared.kind6.Kind6.TheVariants.{Solicit, Request, Confirm, Renew, Rebind, Release, Decline}
-use Rattle.types.specs.declared.request6.Reply6.{Reply6}
-use Rattle.types.specs.declared.request6.ReplyIa.{ReplyIa}
-use Rattle.types.specs.declared.request6.ReplyIa.TheVariants as reply_ia
-use Rattle.types.specs.declared.request6.ReplyKind6.{ReplyKind6}
-use Rattle.types.specs.declared.request6.ReplyKind6.TheVariants.{Advertise, Reply}
-use Rattle.types.specs.declared.request6.Request6.{Request6}
+use Rattle.exchange.specs.declared.request6.Reply6.{Reply6}
+use Rattle.exchange.specs.declared.request6.ReplyIa.{ReplyIa}
+use Rattle.exchange.specs.declared.request6.ReplyIa.TheVariants as reply_ia
+use Rattle.exchange.specs.declared.request6.ReplyKind6.{ReplyKind6}
+use Rattle.exchange.specs.declared.request6.ReplyKind6.TheVariants.{Advertise, Reply}
+use Rattle.exchange.specs.declared.request6.Request6.{Request6}
 use Rattle.bindings_v6.specs.Book6.{Book6}
 use Rattle.bindings_v6.specs.IsBook6.{Entry, TheBinding, Names, IsBook6}
 use Rattle.slots.specs.Row.{Unchanged, is_kept, Row, drops}

@@ -13,12 +13,12 @@ use Rattle.types.specs.Slots.{live4}
 use Rattle.types.specs.declared.dest.Proto.TheVariants.{V4}
 use Rattle.types.specs.declared.kind4.Kind4.{Kind4}
 use Rattle.types.specs.declared.kind4.Kind4.TheVariants.{Discover, Offer, Request, Decline, Ack, Nak, Release, Inform}
-use Rattle.types.specs.declared.request4.Reply4.TheVariants as reply
-use Rattle.types.specs.declared.request4.Request4.{Request4}
+use Rattle.exchange.specs.declared.request4.Reply4.TheVariants as reply
+use Rattle.exchange.specs.declared.request4.Request4.{Request4}
 use Rattle.types.specs.declared.slot4.Slot4.{Slot4}
 use Rattle.types.specs.declared.slot4.Slot4.TheVariants as slot4
 use Rattle.types.specs.declared.slots.Slots.{Slots}
-use Rattle.types.specs.declared.request4.Reply4.{Reply4}
+use Rattle.exchange.specs.declared.request4.Reply4.{Reply4}
 use Rattle.slots.specs.declared.holder.Holder.{Holder}
 use Rattle.slots.specs.KeyLaws.{key4_is_key}
 use Rattle.slots.specs.Maps.{Lease, address_of}

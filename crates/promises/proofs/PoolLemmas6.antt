@@ -13,12 +13,12 @@ use Rattle.types.specs.declared.dest.Proto.TheVariants.{V6}
 use Rattle.types.specs.declared.discard.Discard.TheVariants as reason
 use Rattle.types.specs.declared.kind6.Kind6.{Kind6}
 use Rattle.types.specs.declared.kind6.Kind6.TheVariants.{Solicit, Request, Confirm, Renew, Rebind, Release, Decline}
-use Rattle.types.specs.declared.request6.Request6.{Request6}
-use Rattle.types.specs.declared.slots.Slot6.{Slot6}
-use Rattle.types.specs.declared.slots.Slot6.TheVariants as slot6
+use Rattle.exchange.specs.declared.request6.Request6.{Request6}
+use Rattle.types.specs.declared.slot6.Slot6.{Slot6}
+use Rattle.types.specs.declared.slot6.Slot6.TheVariants as slot6
 use Rattle.types.specs.declared.slots.Slots.{Slots}
 use Rattle.types.proofs.NumberLemmas.{from_be_bytes-to_be_bytes_16}
-use Rattle.types.specs.declared.request6.Reply6.{Reply6}
+use Rattle.exchange.specs.declared.request6.Reply6.{Reply6}
 use Rattle.slots.specs.declared.holder.Holder.{Holder}
 use Rattle.slots.specs.KeyLaws.{key6_is_key}
 use Rattle.slots.specs.Maps.{Lease, address_of}

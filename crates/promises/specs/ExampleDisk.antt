@@ -2,8 +2,8 @@
 use Rattle.std.specs.Prelude.{ℕ, ◌-◌, List, [], ◌∷◌, ◌++◌, length, replicate, slice_index, if◌then◌else◌}
 use Rattle.types.specs.declared.slot4.Slot4.{Slot4}
 use Rattle.types.specs.declared.slot4.Slot4.TheVariants as S4
-use Rattle.types.specs.declared.slots.Slot6.{Slot6}
-use Rattle.types.specs.declared.slots.Slot6.TheVariants as S6
+use Rattle.types.specs.declared.slot6.Slot6.{Slot6}
+use Rattle.types.specs.declared.slot6.Slot6.TheVariants as S6
 use Rattle.types.specs.declared.slots.Slots.{Slots}
 use Rattle.lease_disk.specs.Region.{is_within}
 use Rattle.promises.specs.Examples.{client}

@@ -11,15 +11,15 @@ use Rattle.types.specs.declared.kind4.Kind4.{Kind4}
 use Rattle.types.specs.declared.kind4.Kind4.TheVariants as kind4
 use Rattle.types.specs.declared.kind6.Kind6.{Kind6}
 use Rattle.types.specs.declared.kind6.Kind6.TheVariants as kind6
-use Rattle.types.specs.declared.request4.Reply4.{Reply4}
-use Rattle.types.specs.declared.request4.Reply4.TheVariants as reply4
-use Rattle.types.specs.declared.request4.Request4.{Request4}
-use Rattle.types.specs.declared.request6.Reply6.{Reply6}
-use Rattle.types.specs.declared.request6.ReplyIa.{ReplyIa}
-use Rattle.types.specs.declared.request6.ReplyIa.TheVariants as reply_ia
-use Rattle.types.specs.declared.request6.ReplyKind6.{ReplyKind6}
-use Rattle.types.specs.declared.request6.ReplyKind6.TheVariants.{Advertise, Reply}
-use Rattle.types.specs.declared.request6.Request6.{Request6}
+use Rattle.exchange.specs.declared.request4.Reply4.{Reply4}
+use Rattle.exchange.specs.declared.request4.Reply4.TheVariants as reply4
+use Rattle.exchange.specs.declared.request4.Request4.{Request4}
+use Rattle.exchange.specs.declared.request6.Reply6.{Reply6}
+use Rattle.exchange.specs.declared.request6.ReplyIa.{ReplyIa}
+use Rattle.exchange.specs.declared.request6.ReplyIa.TheVariants as reply_ia
+use Rattle.exchange.specs.declared.request6.ReplyKind6.{ReplyKind6}
+use Rattle.exchange.specs.declared.request6.ReplyKind6.TheVariants.{Advertise, Reply}
+use Rattle.exchange.specs.declared.request6.Request6.{Request6}
 use Rattle.v4_message.specs.declared.fault.MessageFault.{MessageFault}
 use Rattle.v4_message.specs.Reading.{message_of}
 use Rattle.v4_message.specs.Spelling.{MessageValue}

@@ -4,7 +4,7 @@ ghost use Rattle.std.specs.Prelude.{◌≡◌, [], ◌∷◌, Some, None, true, 
 ghost use Rattle.std.specs.FinMap.{empty};
 ghost use Rattle.types.specs.Delivery.{delivery};
 ghost use Rattle.types.specs.declared.slot4.Slot4.TheVariants as slot4;
-ghost use Rattle.types.specs.declared.slots.Slot6.TheVariants as slot6;
+ghost use Rattle.types.specs.declared.slot6.Slot6.TheVariants as slot6;
 ghost use Rattle.types.specs.declared.dest.Proto.TheVariants.{V4, V6};
 ghost use Rattle.types.specs.declared.discard.Discard.TheVariants as reason;
 ghost use Rattle.requests.specs.Addressee.{addressee};

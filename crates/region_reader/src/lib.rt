@@ -8,6 +8,6 @@ mod slots;
 mod steady;
 
 pub use closed::Closed;
-pub use region_file::{FileFault, RegionFile};
+pub use region_file::{ReadFault, RegionFile};
 pub use slots::circuit_slots;
 pub use steady::RegionReader;

@@ -14,7 +14,7 @@ use types::Count;
 
 /// Why a file is not read.
 #[derive(Clone, Copy, Debug, Error)]
-pub enum FileFault {
+pub enum ReadFault {
     #[error("the file can't be read")]
     File,
     #[error("out of memory")]
@@ -22,12 +22,12 @@ pub enum FileFault {
 }
 
 /// What an error of the system says of the file.
-fn fault_of(error: io::Error) -> FileFault
-    ensures { (result ≡ FileFault.Memory) ↔ (error_kind error ≡ ErrorKind.OutOfMemory) }
+fn fault_of(error: io::Error) -> ReadFault
+    ensures { (result ≡ ReadFault.Memory) ↔ (error_kind error ≡ ErrorKind.OutOfMemory) }
 {
     match error.kind() {
-        ErrorKind::OutOfMemory => FileFault::Memory,
-        _ => FileFault::File,
+        ErrorKind::OutOfMemory => ReadFault::Memory,
+        _ => ReadFault::File,
     }
 }
 
@@ -43,7 +43,7 @@ pub struct RegionFile {
 
 impl RegionFile {
     /// Opens a file for reading. What is no regular file, as a folder or a FIFO, is refused.
-    pub fn open<R: Files<File = File>>(rt: &R, path: &str) -> Result<RegionFile, FileFault>
+    pub fn open<R: Files<File = File>>(rt: &R, path: &str) -> Result<RegionFile, ReadFault>
         ensures unread { IfOk result (λ file. file.readings.items ≡ []) }
         ensures quiet { IfOk result (λ file. file.failures.count ≡ 0) }
     {

@@ -5,12 +5,12 @@ use Rattle.std.specs.Int.{w16, w32, to_be_bytes}
 use Rattle.std.proofs.lemmas.List.{length-append}
 use Rattle.std.proofs.lemmas.List.Elements.{All-head, All-tail}
 use Rattle.types.specs.Key6.{Key6Value}
-use Rattle.types.specs.Reply6.{code_of_status6}
+use Rattle.exchange.specs.Reply6.{code_of_status6}
 use Rattle.types.specs.declared.addr.Addr6.{Addr6}
-use Rattle.types.specs.declared.request6.Reply6.{Reply6}
-use Rattle.types.specs.declared.request6.ReplyIa.{ReplyIa}
-use Rattle.types.specs.declared.request6.ReplyIa.TheVariants as variants
-use Rattle.types.specs.declared.request6.Status6.{Status6}
+use Rattle.exchange.specs.declared.request6.Reply6.{Reply6}
+use Rattle.exchange.specs.declared.request6.ReplyIa.{ReplyIa}
+use Rattle.exchange.specs.declared.request6.ReplyIa.TheVariants as variants
+use Rattle.exchange.specs.declared.request6.Status6.{Status6}
 use Rattle.v6_options.specs.Spelling.{option, spelling, look_up, AreOptions, Spells}
 use Rattle.v6_options.specs.Reading.{listed}
 use Rattle.v6_options.proofs.Exact.{one_list}

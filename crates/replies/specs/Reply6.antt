@@ -3,12 +3,12 @@ use Rattle.std.specs.Prelude.{◌≡◌, ℕ, ◌+◌, ◌*◌, ◌/◌, ◌≤�
 use Rattle.std.specs.Int.{w16, to_be_bytes}
 use Rattle.std.specs.Option.{option_map_or}
 use Rattle.types.specs.Key6.{Key6Value}
-use Rattle.types.specs.Reply6.{code_of_reply6, code_of_status6}
+use Rattle.exchange.specs.Reply6.{code_of_reply6, code_of_status6}
 use Rattle.types.specs.declared.addr.Addr6.{Addr6}
-use Rattle.types.specs.declared.request6.Reply6.{Reply6}
-use Rattle.types.specs.declared.request6.ReplyIa.{ReplyIa}
-use Rattle.types.specs.declared.request6.ReplyIa.TheVariants as variants
-use Rattle.types.specs.declared.request6.Status6.{Status6}
+use Rattle.exchange.specs.declared.request6.Reply6.{Reply6}
+use Rattle.exchange.specs.declared.request6.ReplyIa.{ReplyIa}
+use Rattle.exchange.specs.declared.request6.ReplyIa.TheVariants as variants
+use Rattle.exchange.specs.declared.request6.Status6.{Status6}
 use Rattle.v6_options.specs.Codes.{CLIENT_ID, SERVER_ID, IA_NA, IA_ADDRESS, RELAY_MESSAGE, STATUS_CODE, INTERFACE_ID}
 use Rattle.v6_message.specs.declared.fault.MessageFault.{MessageFault}
 use Rattle.v6_message.specs.declared.fault.MessageFault.TheVariants.{IaCount, AddrCount}

@@ -2,8 +2,8 @@
 ghost use Rattle.std.specs.Prelude.{◌≡◌, ◌≤◌, length, Ok, Some};
 ghost use Rattle.config.specs.CircuitPart.{CircuitPart, IsPart};
 ghost use Rattle.types.specs.Key6.{Key6Value};
-ghost use Rattle.types.specs.declared.request4.Reply4.{Reply4};
-ghost use Rattle.types.specs.declared.request6.Reply6.{Reply6};
+ghost use Rattle.exchange.specs.declared.request4.Reply4.{Reply4};
+ghost use Rattle.exchange.specs.declared.request6.Reply6.{Reply6};
 ghost use Rattle.v4_message.specs.Header.{IsSized};
 ghost use Rattle.v4_message.specs.Reading.{message_of};
 ghost use Rattle.v4_message.specs.Spelling.{MessageValue};

@@ -11,7 +11,8 @@ ghost use Rattle.replies.specs.Reply4.{ciaddr_in, echo, flags_in, inform_options
 
 use arrayvec::ArrayVec;
 use config::{CircuitPart, MAX_DNS};
-use types::{Addr4, Kind4, Reply4};
+use exchange::Reply4;
+use types::{Addr4, Kind4};
 use v4_message::field::{FILE_LEN, SNAME_LEN};
 use v4_message::{BROADCAST, Header, Message, OP_REPLY};
 use v4_options::code;

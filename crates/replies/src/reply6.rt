@@ -1,6 +1,6 @@
 //! The datagrams of DHCPv6 replies (RFC 8415, sections 18.3 and 19.3).
 ghost use Rattle.std.specs.Prelude.{◌≡◌, ◌≤◌, ◌+◌, [], ◌∷◌, ◌++◌, length, map, None, Ok};
-ghost use Rattle.types.specs.declared.request6.ReplyIa.TheVariants.{Given};
+ghost use Rattle.exchange.specs.declared.request6.ReplyIa.TheVariants.{Given};
 ghost use Rattle.v6_options.specs.Codes.{IA_NA, INTERFACE_ID, RELAY_MESSAGE};
 ghost use Rattle.v6_options.specs.Spelling.{option, spelling};
 ghost use Rattle.v6_message.specs.Ia.{ia_header};
@@ -14,7 +14,8 @@ ghost use Rattle.replies.specs.Reply6.{IsReplyIa, address_option, ia_options, ia
 use crate::laws::reply6_is_read;
 use arrayvec::ArrayVec;
 use config::CircuitPart;
-use types::{Addr6, Key6, MAX_LISTED, Reply6, ReplyIa, Status6};
+use exchange::{MAX_LISTED, Reply6, ReplyIa, Status6};
+use types::{Addr6, Key6};
 use v6_message::{IaAddress, IaHeader, Message6, MessageHeader, RELAY_REPLY, Relay6, RelayHeader};
 use v6_options::code;
 use wire::PacketBuf;

@@ -2,7 +2,7 @@
 ghost use Rattle.std.specs.Prelude.{◌≡◌, ◌+◌, ◌<◌, ◌≤◌, ℕ, Bool, true, false, List, count_by, length, nat_le, take, if◌then◌else◌};
 ghost use Rattle.std.specs.List.{list_all, list_any};
 ghost use Rattle.types.specs.declared.slot4.Slot4.{Slot4};
-ghost use Rattle.types.specs.declared.slots.Slot6.{Slot6};
+ghost use Rattle.types.specs.declared.slot6.Slot6.{Slot6};
 ghost use Rattle.types.specs.declared.slots.Slots.{Slots};
 ghost use Rattle.reports.specs.declared.schedule.Schedule.{Schedule};
 ghost use Rattle.reports.specs.Declined.{declined_between};

@@ -11,7 +11,7 @@ use Rattle.types.specs.declared.addr.Addr6.{Addr6}
 use Rattle.types.specs.declared.discard.Discard.{Discard}
 use Rattle.types.specs.declared.discard.Discard.TheVariants as reason
 use Rattle.types.specs.declared.kind6.Kind6.{Kind6}
-use Rattle.types.specs.declared.request6.Request6.{Request6}
+use Rattle.exchange.specs.declared.request6.Request6.{Request6}
 use Rattle.v6_options.specs.Codes.{CLIENT_ID, IA_ADDRESS, IA_NA}
 use Rattle.v6_options.specs.Reading.{cut_from, listed}
 use Rattle.v6_options.specs.Spelling.{look_up}

@@ -7,7 +7,7 @@ use Rattle.types.specs.declared.discard.Discard.{Discard}
 use Rattle.types.specs.declared.discard.Discard.TheVariants as reason
 use Rattle.types.specs.declared.kind4.Kind4.{Kind4}
 use Rattle.types.specs.declared.kind4.Kind4.TheVariants.{Offer, Ack, Nak}
-use Rattle.types.specs.declared.request4.Request4.{Request4}
+use Rattle.exchange.specs.declared.request4.Request4.{Request4}
 use Rattle.v4_options.specs.Codes.{MESSAGE_TYPE, REQUESTED_ADDRESS, SERVER_IDENTIFIER, CLIENT_IDENTIFIER}
 use Rattle.v4_options.specs.Spelling.{look_up}
 use Rattle.v4_message.specs.Reading.{kind_in}

@@ -7,9 +7,9 @@ use Rattle.types.specs.Kind6.{kind6_of_code}
 use Rattle.types.specs.declared.discard.Discard.{Discard}
 use Rattle.types.specs.declared.discard.Discard.TheVariants as reason
 use Rattle.types.specs.declared.kind6.Kind6.{Kind6}
-use Rattle.types.specs.declared.request6.Request6.{Request6}
-use Rattle.types.specs.declared.request6.ServerId.{ServerId}
-use Rattle.types.specs.declared.request6.ServerId.TheVariants as server
+use Rattle.exchange.specs.declared.request6.Request6.{Request6}
+use Rattle.exchange.specs.declared.request6.ServerId.{ServerId}
+use Rattle.exchange.specs.declared.request6.ServerId.TheVariants as server
 use Rattle.v6_options.specs.Codes.{CLIENT_ID, SERVER_ID, IA_NA}
 use Rattle.v6_options.specs.Spelling.{look_up}
 use Rattle.v6_message.specs.declared.fault.MessageFault.{MessageFault}

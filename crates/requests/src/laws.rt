@@ -1,7 +1,7 @@
 //! What holds of every request: functions that do nothing, for their contracts.
 ghost use Rattle.std.specs.Prelude.{◌≡◌, ◌≤◌, ℕ, List, length, All, Ok};
 ghost use Rattle.types.specs.declared.addr.Addr6.{Addr6};
-ghost use Rattle.types.specs.declared.request6.Request6.{Request6};
+ghost use Rattle.exchange.specs.declared.request6.Request6.{Request6};
 ghost use Rattle.v6_message.specs.Message.{MessageValue};
 ghost use Rattle.requests.specs.Request6.{request6_in};
 

@@ -2,7 +2,8 @@
 ghost use Rattle.std.specs.Prelude.{◌≡◌, true, false, IfSome, IfNone};
 ghost use Rattle.requests.specs.Request4.{is_from_server, is_key, key_of, request4_in};
 
-use types::{Discard, Key4, Kind4, Request4};
+use exchange::Request4;
+use types::{Discard, Key4, Kind4};
 use v4_message::Message;
 use v4_message::field::ETHERNET;
 

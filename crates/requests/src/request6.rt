@@ -9,7 +9,8 @@ ghost use Rattle.requests.specs.Request6.{client_request, request6_in, server_in
 
 use arrayvec::ArrayVec;
 use config::CircuitPart;
-use types::{Addr6, Discard, Key6, Kind6, MAX_LISTED, Request6, ServerId};
+use exchange::{MAX_LISTED, Request6, ServerId};
+use types::{Addr6, Discard, Key6, Kind6};
 use v6_message::{Ia6, Message6};
 
 /// The bytes before a message's options: without them it has no type.

@@ -1,6 +1,6 @@
 //! When the slot of a client's address is due, from its offer to the end of its lease.
 ghost use Rattle.std.specs.Prelude.{IfOk, ℕ};
-ghost use Rattle.lease_disk.specs.Model.{device_of, state_of};
+ghost use Rattle.lease_disk.specs.Model.{device_of, disk_region};
 ghost use Rattle.lease_disk.specs.Region.{IsClean};
 ghost use Rattle.dispatch.specs.Regions.{HasRegions};
 ghost use Rattle.dispatch.specs.ServerValue.{AreReady};
@@ -44,7 +44,7 @@ fn moment(seconds: u64) -> Moment {
 
 /// A server over a disk in which nothing is unsynced.
 fn open_over(alloc: Global, config: &Config, disk: &mut ModelDisk) -> Result<Server, OpenFault>
-    requires synced { (q : ℕ) → IsClean (state_of disk.old q) }
+    requires synced { (q : ℕ) → IsClean (disk_region disk.old q) }
     ensures regions { IfOk result (λ server. HasRegions server.topology.circuits (device_of disk.new).count) }
     ensures ready { IfOk result (λ server. AreReady (device_of disk.new).region server) }
 {
@@ -128,7 +128,7 @@ fn ends(alloc: Global, server: &mut Server, disk: &mut ModelDisk) -> bool
 
 /// Whether all of it is so for a server of one circuit.
 fn follows_the_slot(alloc: Global, config: &Config, disk: &mut ModelDisk) -> bool
-    requires synced { (q : ℕ) → IsClean (state_of disk.old q) }
+    requires synced { (q : ℕ) → IsClean (disk_region disk.old q) }
 {
     let Ok(mut server) = open_over(alloc, config, disk) else {
         return false;

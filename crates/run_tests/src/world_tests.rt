@@ -1,7 +1,7 @@
 //! What no line of text brings about: a sink that refuses, a disk that is too small, the bytes of a
 //! region, and events that name what does not exist.
 ghost use Rattle.std.specs.Prelude.{◌≤◌, ℕ, [], true, false};
-ghost use Rattle.lease_disk.specs.Model.{state_of};
+ghost use Rattle.lease_disk.specs.Model.{disk_region};
 ghost use Rattle.lease_disk.specs.Region.{IsClean};
 
 use config::Config;
@@ -18,7 +18,7 @@ const SELECTS: &[u8] = &[54, 4, 10, 0, 0, 1, 50, 4, 10, 0, 0, 10];
 
 /// A world over a disk in which nothing is unsynced.
 fn open_over(alloc: Global, config: &Config, disk: ModelDisk) -> Result<World, OpenFault>
-    requires synced { (q : ℕ) → IsClean (state_of disk q) }
+    requires synced { (q : ℕ) → IsClean (disk_region disk q) }
 {
     World::open(alloc, config, disk, 16)
 }

@@ -31,25 +31,25 @@ until_of_entry number until entry = elim (cases_lt number NEVER) [
 
 -- the table that is shown, as `view` has it
 abbrev pub shown : List ℕ → ℕ → DeadlinesValue
-shown numbers looks = record { slots = map entry_of numbers; looks = looks }
+shown numbers examined = record { slots = map entry_of numbers; examined = examined }
 
-pub shown-set : (numbers written : List ℕ) (looks slot number : ℕ) (entry : Option ℕ) (old : DeadlinesValue)
-    → shown numbers looks ≡ old → written ≡ set numbers slot number → entry_of number ≡ entry
-    → shown written looks ≡ record { slots = set old.slots slot entry; looks = old.looks }
-shown-set numbers written looks slot number entry old view write same =
-    let P : DeadlinesValue → Type 0 = λ o. shown written looks ≡ record { slots = set o.slots slot entry; looks = o.looks } in
+pub shown-set : (numbers written : List ℕ) (examined slot number : ℕ) (entry : Option ℕ) (old : DeadlinesValue)
+    → shown numbers examined ≡ old → written ≡ set numbers slot number → entry_of number ≡ entry
+    → shown written examined ≡ record { slots = set old.slots slot entry; examined = old.examined }
+shown-set numbers written examined slot number entry old view write same =
+    let P : DeadlinesValue → Type 0 = λ o. shown written examined ≡ record { slots = set o.slots slot entry; examined = o.examined } in
     let slots : map entry_of written ≡ set (map entry_of numbers) slot entry =
     ap (map entry_of) write ∙ map-set entry_of numbers slot number ∙ ap (set (map entry_of numbers) slot) same in
-    let made : List (Option ℕ) → DeadlinesValue = λ s. record { slots = s; looks = looks } in
+    let made : List (Option ℕ) → DeadlinesValue = λ s. record { slots = s; examined = examined } in
     subst P view (ap made slots)
 
 none_at_first : (count : ℕ) → map entry_of (replicate count NEVER) ≡ replicate count None
 none_at_first zero = refl
 none_at_first (suc count) = ap (λ (rest : List (Option ℕ)). None ∷ rest) (none_at_first count)
 
-pub shown_at_first : (numbers : List ℕ) (looks count : ℕ) → numbers ≡ replicate count NEVER → looks ≡ 0 → shown numbers looks ≡ record { slots = replicate count None; looks = 0 }
-shown_at_first numbers looks count all none =
-    let made : List (Option ℕ) → ℕ → DeadlinesValue = λ s n. record { slots = s; looks = n } in
+pub shown_at_first : (numbers : List ℕ) (examined count : ℕ) → numbers ≡ replicate count NEVER → examined ≡ 0 → shown numbers examined ≡ record { slots = replicate count None; examined = 0 }
+shown_at_first numbers examined count all none =
+    let made : List (Option ℕ) → ℕ → DeadlinesValue = λ s n. record { slots = s; examined = n } in
     ap₂ made (ap (map entry_of) all ∙ none_at_first count) none
 
 entry_there : (numbers : List ℕ) (slot : ℕ) → slot < length numbers → get_or (map entry_of numbers) slot None ≡ entry_of (get_or numbers slot 0)
@@ -59,7 +59,7 @@ entry_past : (numbers : List ℕ) (slot : ℕ) → length numbers ≤ slot → g
 entry_past numbers slot past = get_or_past (map entry_of numbers) slot None (let count = length-map numbers entry_of in omega arith)
 
 -- `table` is what numbers show
-module _ (numbers : List ℕ) (looks : ℕ) (table : DeadlinesValue) (view : shown numbers looks ≡ table) where
+module _ (numbers : List ℕ) (examined : ℕ) (table : DeadlinesValue) (view : shown numbers examined ≡ table) where
   entry_is : (slot : ℕ) → get_or (map entry_of numbers) slot None ≡ deadline table slot
   entry_is slot = ap (λ t. deadline t slot) view
 
@@ -140,30 +140,30 @@ one_less now slot until slots has low past =
 -- a sweep has come from one table to another: it will leave the same, and each look so far removed an entry
 pub record HasSwept (now : ℕ) (old reached : DeadlinesValue) : Type 0 where
   pub left : map (entry_after_sweep now) reached.slots ≡ map (entry_after_sweep now) old.slots
-  pub looks : reached.looks + count_by (is_due now) reached.slots ≡ old.looks + count_by (is_due now) old.slots
+  pub examined : reached.examined + count_by (is_due now) reached.slots ≡ old.examined + count_by (is_due now) old.slots
 
 -- a look changes no entry
 pub record IsLook (old looked : DeadlinesValue) : Type 0 where
   pub slots : looked.slots ≡ old.slots
-  pub looks : looked.looks ≡ old.looks + 1
+  pub examined : looked.examined ≡ old.examined + 1
 
 module _ {now : ℕ} {old reached looked : DeadlinesValue} (so_far : HasSwept now old reached) (look : IsLook reached looked) where
   -- the last look finds nothing that is due
   pub swept : ((slot until : ℕ) → deadline reached slot ≡ Some until → now < until)
-      → (looked.slots ≡ map (entry_after_sweep now) old.slots) × (looked.looks ≡ old.looks + count_by (is_due now) old.slots + 1)
+      → (looked.slots ≡ map (entry_after_sweep now) old.slots) × (looked.examined ≡ old.examined + count_by (is_due now) old.slots + 1)
   swept later =
       let none = none_due now reached.slots later in
-      (look.slots ∙ sym none.0 ∙ so_far.left, omega (arith, none.1, so_far.looks, look.looks))
+      (look.slots ∙ sym none.0 ∙ so_far.left, omega (arith, none.1, so_far.examined, look.examined))
 
   -- each look before it finds an entry that is due
-  pub one_removed : (slot until : ℕ) (cleared : DeadlinesValue) → cleared ≡ record { slots = set looked.slots slot None; looks = looked.looks }
+  pub one_removed : (slot until : ℕ) (cleared : DeadlinesValue) → cleared ≡ record { slots = set looked.slots slot None; examined = looked.examined }
       → deadline reached slot ≡ Some until → slot < length reached.slots → until ≤ now → HasSwept now old cleared
   one_removed slot until cleared clear has low past =
       let less = one_less now slot until reached.slots has low past in
       let same : cleared.slots ≡ set reached.slots slot None = ap (λ (d : DeadlinesValue). d.slots) clear ∙ ap (λ s. set s slot None) look.slots in
-      let counted : cleared.looks ≡ looked.looks = ap (λ (d : DeadlinesValue). d.looks) clear in
+      let counted : cleared.examined ≡ looked.examined = ap (λ (d : DeadlinesValue). d.examined) clear in
       let fewer : count_by (is_due now) cleared.slots ≡ count_by (is_due now) (set reached.slots slot None) = ap (count_by (is_due now)) same in
       record {
         left = ap (map (entry_after_sweep now)) same ∙ less.0 ∙ so_far.left;
-        looks = omega (arith, less.1, counted, fewer, so_far.looks, look.looks);
+        examined = omega (arith, less.1, counted, fewer, so_far.examined, look.examined);
       }

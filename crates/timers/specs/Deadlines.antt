@@ -5,7 +5,7 @@ use Rattle.std.specs.Prelude.{ℕ, Bool, false, nat_le, if◌then◌else◌, Lis
 -- looks: how often an entry was looked at since the table was made
 pub record DeadlinesValue : Type 0 where
   pub slots : List (Option ℕ)
-  pub looks : ℕ
+  pub examined : ℕ
 
 -- until when a slot has its deadline; None where it has none, or is not there
 abbrev pub deadline : DeadlinesValue → ℕ → Option ℕ

@@ -16,7 +16,7 @@ const NEVER: u64 = u64::MAX;
 #[derive(Drop)]
 pub struct Deadlines {
     rows: Rows,
-    looks: Count,
+    examined: Count,
 }
 
 impl Model for Deadlines {
@@ -26,7 +26,7 @@ impl Model for Deadlines {
 
     ghost Value = { DeadlinesValue };
 
-    ghost view = { λ d. record { slots = map entry_of d.rows; looks = d.looks.count } };
+    ghost view = { λ d. record { slots = map entry_of d.rows; examined = d.examined.count } };
 }
 
 impl Deadlines {
@@ -35,11 +35,11 @@ impl Deadlines {
     pub fn new(alloc: Global, slots: usize) -> Result<Deadlines, AllocError>
         requires least { 1 ≤ slots }
         requires most { slots ≤ 32768 }
-        ensures { IfOk result (λ d. d ≡ record { slots = replicate slots None; looks = 0 }) }
+        ensures { IfOk result (λ d. d ≡ record { slots = replicate slots None; examined = 0 }) }
     {
         Ok(Deadlines {
             rows: Rows::new(alloc, slots, NEVER)?,
-            looks: Count::new(),
+            examined: Count::new(),
         })
     }
 
@@ -71,23 +71,23 @@ impl Deadlines {
         requires { slot < length self.old.slots }
         ensures value { result ≡ deadline self.old slot }
         ensures slots { self.new.slots ≡ self.old.slots }
-        ensures looks { self.new.looks ≡ self.old.looks + 1 }
+        ensures examined { self.new.examined ≡ self.old.examined + 1 }
     {
         let until = self.until(slot);
-        self.looks.tick();
+        self.examined.tick();
         until
     }
 
     /// A slot with the least deadline, and that deadline. Counts as one look.
     pub fn last(&mut self) -> Option<(usize, u64)>
         ensures slots { self.new.slots ≡ self.old.slots }
-        ensures looks { self.new.looks ≡ self.old.looks + 1 }
+        ensures examined { self.new.examined ≡ self.old.examined + 1 }
         ensures none { IsNone result ↔ ((slot : ℕ) → deadline self.old slot ≡ None) }
         ensures within { IfSome result (λ entry. entry.0 < length self.old.slots) }
         ensures entry { IfSome result (λ entry. deadline self.old entry.0 ≡ Some entry.1) }
         ensures least { IfSome result (λ entry. (slot until : ℕ) → deadline self.old slot ≡ Some until → entry.1 ≤ until) }
     {
-        self.looks.tick();
+        self.examined.tick();
         let slot = self.rows.least_below(NEVER)?;
         Some((slot, self.rows.get(slot)))
     }
@@ -95,12 +95,12 @@ impl Deadlines {
     /// A slot with the least deadline, where that is due, which is at most `now`. Counts as one look.
     pub(crate) fn due(&mut self, now: Moment) -> Option<usize>
         ensures slots { self.new.slots ≡ self.old.slots }
-        ensures looks { self.new.looks ≡ self.old.looks + 1 }
+        ensures examined { self.new.examined ≡ self.old.examined + 1 }
         ensures none { IfNone result ((slot until : ℕ) → deadline self.old slot ≡ Some until → now < until) }
         ensures within { IfSome result (λ slot. slot < length self.old.slots) }
         ensures due { IfSome result (λ slot. (until : ℕ) × (deadline self.old slot ≡ Some until) × (until ≤ now)) }
     {
-        self.looks.tick();
+        self.examined.tick();
         self.rows.least_below(now.seconds() + 1)
     }
 

@@ -9,7 +9,7 @@ impl Deadlines {
     /// Removes every deadline that is due, which is at most `now`. It looks at each of them, and then once more.
     pub fn sweep(&mut self, now: Moment)
         ensures slots { self.new.slots ≡ map (entry_after_sweep now) self.old.slots }
-        ensures looks { self.new.looks ≡ self.old.looks + count_by (is_due now) self.old.slots + 1 }
+        ensures examined { self.new.examined ≡ self.old.examined + count_by (is_due now) self.old.slots + 1 }
     {
         while let Some(slot) = self.due(now) {
             self.clear(slot);

@@ -17,7 +17,7 @@ use Rattle.dispatch.specs.Batch.{batch_fault, comes_again, is_named}
 use Rattle.dispatch.specs.Received.{Received, addressee_saves, drop_all, received, received_leases, received_saves}
 use Rattle.dispatch.specs.ServerValue.{books_in}
 use Rattle.lease_disk.specs.Device.{is_in}
-use Rattle.lease_disk.specs.Model.{fuse_of, state_of}
+use Rattle.lease_disk.specs.Model.{failing_call_of, disk_region}
 use Rattle.lease_disk.specs.Region.{effective}
 use Rattle.lossy_net.specs.Net.{Datagram, NetValue, datagrams}
 use Rattle.lossy_net.specs.declared.dir.Dir.TheVariants as dir
@@ -218,10 +218,10 @@ module _ (w : WorldValue) (is : IsWorld w) (sync now : ℕ) (ws : List Waiting) 
   all_saves_are = saves_are topology books deliver ws addressed apart
 
   abbrev faults : ℕ → ℕ
-  faults = faults_after true ws (fuse_of w.disk)
+  faults = faults_after true ws (failing_call_of w.disk)
 
   its_fault : (j : ℕ) (x : Waiting) → slice_get ws j ≡ Some x → faults x.region ≡ x.fault
-  its_fault j x at = fault_set ws (fuse_of w.disk) j x (λ i y at_y same. ap (λ (z : Waiting). z.fault) (one_region i j y x at_y at same)) at
+  its_fault j x at = fault_set ws (failing_call_of w.disk) j x (λ i y at_y same. ap (λ (z : Waiting). z.fault) (one_region i j y x at_y at same)) at
 
   own_fault : (j : ℕ) (x : Waiting) → slice_get ws j ≡ Some x → (r : ℕ) → saves_of topology books deliver x ≡ Some r → IsOwn (its_sync sync) (faults r)
   own_fault j x at r saves =
@@ -237,7 +237,7 @@ module _ (w : WorldValue) (is : IsWorld w) (sync now : ℕ) (ws : List Waiting) 
     pub record IsServedPart (j : ℕ) (x : Waiting) (a : IsWaitingAt w sync x) : Type 0 where
       pub answer : slice_get answers j ≡ Some (its_answer a.the.part (as_alone x a) x.fault a.the.leases.book)
       pub leases : slice_get (leases_now new) x.circuit ≡ Some (after_datagram a.the.part (as_alone x a) x.fault a.the.leases)
-      pub quiet : (quota : ℕ) (begins : Bool) → book_writes (setup_of quota a.the.part begins) now a.datagram a.the.leases.book ≡ false → state_of new.disk a.the.part.region ≡ state_of w.disk a.the.part.region
+      pub quiet : (quota : ℕ) (begins : Bool) → book_writes (setup_of quota a.the.part begins) now a.datagram a.the.leases.book ≡ false → disk_region new.disk a.the.part.region ≡ disk_region w.disk a.the.part.region
 
     module _ (j : ℕ) (x : Waiting) (at : slice_get ws j ≡ Some x) where
       abbrev a : IsWaitingAt w sync x
@@ -298,18 +298,18 @@ module _ (w : WorldValue) (is : IsWorld w) (sync now : ℕ) (ws : List Waiting) 
       not_saved : is_in (all_saves w.net now ws w.server) part.region ≡ false
       not_saved = unsaved part.region (λ j y at saves. not_its j y at (sym (saves_region y (all j y at) part.region saves)))
 
-      pub region_stays : state_of new.disk part.region ≡ state_of w.disk part.region
+      pub region_stays : disk_region new.disk part.region ≡ disk_region w.disk part.region
       region_stays = served.region part.region not_saved
 
-      pub fuse_stays : fuse_of new.disk part.region ≡ fuse_of w.disk part.region
-      fuse_stays = served.fuse part.region not_saved (no_region ws part.region not_its)
+      pub failing_call_stays : failing_call_of new.disk part.region ≡ failing_call_of w.disk part.region
+      failing_call_stays = served.failing_call part.region not_saved (no_region ws part.region not_its)
 
     pub leases_stay : (c : ℕ) → is_waiting c ws ≡ false → slice_get (leases_now new) c ≡ slice_get (leases_now w) c
     leases_stay c none = served.leases.others c (named_is topology books deliver ws addressed c ∙ none)
 
     -- and a region of no circuit
-    pub spare_stays : (r : ℕ) → ((c : ℕ) (part : CircuitPart) → slice_get w.relays.topology.circuits c ≡ Some part → part.region ≢ r) → (state_of new.disk r ≡ state_of w.disk r) × (fuse_of new.disk r ≡ fuse_of w.disk r)
+    pub spare_stays : (r : ℕ) → ((c : ℕ) (part : CircuitPart) → slice_get w.relays.topology.circuits c ≡ Some part → part.region ≢ r) → (disk_region new.disk r ≡ disk_region w.disk r) × (failing_call_of new.disk r ≡ failing_call_of w.disk r)
     spare_stays r spare =
         let other : (j : ℕ) (y : Waiting) → slice_get ws j ≡ Some y → y.region ≡ r → ⊥ = λ j y at same. spare y.circuit (all j y at).the.part (all j y at).the.there (sym (all j y at).region ∙ same) in
         let out = unsaved r (λ j y at saves. other j y at (sym (saves_region y (all j y at) r saves))) in
-        (served.region r out, served.fuse r out (no_region ws r other))
+        (served.region r out, served.failing_call r out (no_region ws r other))

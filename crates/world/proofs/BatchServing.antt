@@ -5,7 +5,7 @@ use Rattle.std.proofs.lemmas.Bool.{eqb-true}
 use Rattle.types.specs.Delivery.{DeliveryValue}
 use Rattle.types.specs.declared.discard.Discard.{Discard}
 use Rattle.lease_disk.specs.Device.{is_in}
-use Rattle.lease_disk.specs.Model.{ModelDiskValue, device_of, fuse_of, state_of}
+use Rattle.lease_disk.specs.Model.{ModelDiskValue, device_of, failing_call_of, disk_region}
 use Rattle.lease_disk.specs.Region.{Region}
 use Rattle.lossy_net.specs.Net.{NetValue}
 use Rattle.dispatch.specs.Batch.{IsBatch, IsBatchOfLeases, IsWrittenTogether, batch_fault, batch_saves}
@@ -14,7 +14,7 @@ use Rattle.world.specs.Batch.{AreServed, all_delivered, faults_after, regions_of
 use Rattle.world.specs.declared.world.batch.Waiting.{Waiting}
 use Rattle.world.proofs.BatchParts.{apart_back, neither}
 
-pub none_served : (now : ℕ) (ws : List Waiting) (net : NetValue) (server : ServerValue) (disk : ModelDiskValue) → AreReady (state_of disk) server → ws ≡ [] → AreServed now ws net server server disk disk []
+pub none_served : (now : ℕ) (ws : List Waiting) (net : NetValue) (server : ServerValue) (disk : ModelDiskValue) → AreReady (disk_region disk) server → ws ≡ [] → AreServed now ws net server server disk disk []
 none_served now [] net server disk ready none = record {
   topology = refl;
   count = refl;
@@ -24,7 +24,7 @@ none_served now [] net server disk ready none = record {
   leases = record { leases = λ j c d at. absurd cc; others = λ c unnamed. refl };
   ready = ready;
   region = λ r out_of. refl;
-  fuse = λ r out_of beside. refl;
+  failing_call = λ r out_of beside. refl;
   cleared = λ r there. absurd cc;
 }
 none_served now (w ∷ ws) net server disk ready none = absurd cc
@@ -60,8 +60,8 @@ faults_out (w ∷ ws) faults r there = by (w.region == r) refl (faults_out ws la
 
 module _ (now : ℕ) (ws : List Waiting) (net : NetValue) (server new : ServerValue) (disk set after later : ModelDiskValue) (answers : List (Result (List ℕ) Discard))
     (topology : new.topology ≡ server.topology)
-    (set_states : state_of set ≡ state_of disk) (set_count : length set.regions ≡ length disk.regions) (set_faults : fuse_of set ≡ faults_after true ws (fuse_of disk))
-    (out_states : state_of later ≡ state_of after) (out_count : length later.regions ≡ length after.regions) (out_faults : fuse_of later ≡ faults_after false ws (fuse_of after)) where
+    (set_states : disk_region set ≡ disk_region disk) (set_count : length set.regions ≡ length disk.regions) (set_faults : failing_call_of set ≡ faults_after true ws (failing_call_of disk))
+    (out_states : disk_region later ≡ disk_region after) (out_count : length later.regions ≡ length after.regions) (out_faults : failing_call_of later ≡ faults_after false ws (failing_call_of after)) where
   abbrev saves : List DeliveryValue → List ℕ
   saves ds = batch_saves server.topology ds (books_in server)
 
@@ -72,12 +72,12 @@ module _ (now : ℕ) (ws : List Waiting) (net : NetValue) (server new : ServerVa
     pub ready : AreReady afterwards new
     pub frame : IsWrittenTogether true (saves ds) (device_of set) (device_of after)
 
-  pub are_served : (ds : List DeliveryValue) (fails : ℕ → Bool) → ds ≡ all_delivered net now ws → IsTaken ds fails (state_of set) (fuse_of set) (state_of after) → AreServed now ws net server new disk later answers
+  pub are_served : (ds : List DeliveryValue) (fails : ℕ → Bool) → ds ≡ all_delivered net now ws → IsTaken ds fails (disk_region set) (failing_call_of set) (disk_region after) → AreServed now ws net server new disk later answers
   are_served ds fails is taken =
-      let there = subst (λ ds. IsTaken ds fails (state_of disk) (faults_after true ws (fuse_of disk)) (state_of later)) is
-      (subst (λ states. IsTaken ds fails states (faults_after true ws (fuse_of disk)) (state_of later)) set_states
-      (subst (λ faults. IsTaken ds fails (state_of set) faults (state_of later)) set_faults
-      (subst (λ states. IsTaken ds fails (state_of set) (fuse_of set) states) (sym out_states) taken))) in
+      let there = subst (λ ds. IsTaken ds fails (disk_region disk) (faults_after true ws (failing_call_of disk)) (disk_region later)) is
+      (subst (λ states. IsTaken ds fails states (faults_after true ws (failing_call_of disk)) (disk_region later)) set_states
+      (subst (λ faults. IsTaken ds fails (disk_region set) faults (disk_region later)) set_faults
+      (subst (λ states. IsTaken ds fails (disk_region set) (failing_call_of set) states) (sym out_states) taken))) in
       record {
         topology = topology;
         count = out_count ∙ taken.frame.touches.count ∙ set_count;
@@ -87,8 +87,8 @@ module _ (now : ℕ) (ws : List Waiting) (net : NetValue) (server new : ServerVa
         leases = there.leases;
         ready = there.ready;
         region = λ r out_of. ap (λ states. states r) out_states ∙ there.frame.touches.region refl r out_of ∙ ap (λ states. states r) set_states;
-        fuse = λ r out_of beside.
-            ap (λ faults. faults r) out_faults ∙ faults_beside false ws (fuse_of after) r beside ∙ there.frame.touches.fuse refl r out_of
-            ∙ ap (λ faults. faults r) set_faults ∙ faults_beside true ws (fuse_of disk) r beside;
-        cleared = λ r there. ap (λ faults. faults r) out_faults ∙ faults_out ws (fuse_of after) r there;
+        failing_call = λ r out_of beside.
+            ap (λ faults. faults r) out_faults ∙ faults_beside false ws (failing_call_of after) r beside ∙ there.frame.touches.failing_call refl r out_of
+            ∙ ap (λ faults. faults r) set_faults ∙ faults_beside true ws (failing_call_of disk) r beside;
+        cleared = λ r there. ap (λ faults. faults r) out_faults ∙ faults_out ws (failing_call_of after) r there;
       }

@@ -15,7 +15,7 @@ use Rattle.circuit_server.specs.Answered.{IsAnswer}
 use Rattle.circuit_server.specs.Leases.{Leases, after_datagram}
 use Rattle.circuit_server.specs.Server.{Book, served}
 use Rattle.dispatch.specs.Regions.{KeepsOthers}
-use Rattle.lease_disk.specs.Model.{device_of, fuse_of}
+use Rattle.lease_disk.specs.Model.{device_of, failing_call_of}
 use Rattle.lossy_net.specs.Net.{Datagram, datagrams}
 use Rattle.lossy_net.specs.declared.dir.Dir.TheVariants as dir
 use Rattle.relay.specs.Relays.{for_circuit, relayed_down, relayed_down_in}
@@ -30,9 +30,9 @@ use Rattle.events.specs.declared.outcome.Outcome.TheVariants as outcome
 use Rattle.world.specs.Batch.{AreServed, answer_outcome, bytes_in, bytes_of, downs_after, outcome_for, waiting_of}
 use Rattle.world.specs.Headline.{CircuitState, Steps, of_part}
 use Rattle.world.specs.StepsAs.{Each, IsFor, IsWorld, Returns, StepsAs, under}
-use Rattle.world.specs.World.{WorldValue, each_state, state_of, states}
+use Rattle.world.specs.World.{WorldValue, each_state, world_state, states}
 use Rattle.world.specs.declared.world.batch.Waiting.{Waiting}
-use Rattle.world.proofs.BatchLemmas.{IsServedPart, IsWaitingAt, as_alone, fuse_stays, in_regions, leases_stay, no_circuit, not_waiting, seen_alike, of_its_part, region_stays, served_part, spare_stays, waits_at}
+use Rattle.world.proofs.BatchLemmas.{IsServedPart, IsWaitingAt, as_alone, failing_call_stays, in_regions, leases_stay, no_circuit, not_waiting, seen_alike, of_its_part, region_stays, served_part, spare_stays, waits_at}
 use Rattle.world.proofs.BatchParts.{AreApart, from_part, gone_outcome, has_part, is_waiting, its_downs, its_outcome, its_place, no_part, none_waits, of_its_circuit, one_waits, truth, outcome_is, same_downs, unnamed_waits, waits_apart}
 use Rattle.world.proofs.BatchSaves.{MeetsEach}
 use Rattle.world.proofs.CircuitSteps.{Moved, steps_of}
@@ -122,9 +122,9 @@ module _ (w new : WorldValue) (sync now : ℕ) (ps : List BatchPart) (outcomes :
   parts_stay : new.server.topology.circuits ≡ w.server.topology.circuits
   parts_stay = ap (λ (t : Topology). t.circuits) b.served.topology
 
-  state_in_new : (c : ℕ) (part : CircuitPart) (l : Leases) → slice_get w.server.topology.circuits c ≡ Some part → slice_get (leases_now new) c ≡ Some l → slice_get (states new) c ≡ Some (state_of new c part l)
+  state_in_new : (c : ℕ) (part : CircuitPart) (l : Leases) → slice_get w.server.topology.circuits c ≡ Some part → slice_get (leases_now new) c ≡ Some l → slice_get (states new) c ≡ Some (world_state new c part l)
   state_in_new c part l there its =
-      ap (λ parts. slice_get (each_state (state_of new) parts (leases_now new)) c) parts_stay ∙ state_at (state_of new) w.server.topology.circuits (leases_now new) c part l there its
+      ap (λ parts. slice_get (each_state (world_state new) parts (leases_now new)) c) parts_stay ∙ state_at (world_state new) w.server.topology.circuits (leases_now new) c part l there its
 
   -- ---- a circuit of which nothing waits
 
@@ -132,10 +132,10 @@ module _ (w new : WorldValue) (sync now : ℕ) (ps : List BatchPart) (outcomes :
     downs_stay : datagrams new.net c dir.Down ≡ datagrams w.net c dir.Down
     downs_stay = b.downs c ∙ same_downs w.net.quota c ws b.answers (datagrams w.net c dir.Down) none
 
-    unchanged : (part : CircuitPart) (l : Leases) → slice_get w.relays.topology.circuits c ≡ Some part → state_of new c part l ≡ state_of w c part l
+    unchanged : (part : CircuitPart) (l : Leases) → slice_get w.relays.topology.circuits c ≡ Some part → world_state new c part l ≡ world_state w c part l
     unchanged part l there =
         same_circuit w new c part l topology b.quota (b.ups c) downs_stay (ap (λ r. slice_index r.discarded c) b.relays)
-        (ap (λ region. region) (region_stays w b.is sync now ws all apart new b.answers b.law b.served c part there none)) (fuse_stays w b.is sync now ws all apart new b.answers b.law b.served c part there none)
+        (ap (λ region. region) (region_stays w b.is sync now ws all apart new b.answers b.law b.served c part there none)) (failing_call_stays w b.is sync now ws all apart new b.answers b.law b.served c part there none)
 
   its_outcome_is : (c : ℕ) (p : BatchPart) → part_of c ps ≡ Some p → of_part (outcome_of c ps outcomes) ≡ of_part (Some (outcome_for c ws b.answers))
   its_outcome_is c p its =
@@ -156,24 +156,24 @@ module _ (w new : WorldValue) (sync now : ℕ) (ps : List BatchPart) (outcomes :
       done = served_part w b.is sync now ws all apart new b.answers b.law b.served j x at
 
       abbrev after : CircuitState
-      after = state_of new x.circuit a.the.part (after_datagram a.the.part e x.fault a.the.leases)
+      after = world_state new x.circuit a.the.part (after_datagram a.the.part e x.fault a.the.leases)
 
       its_count : slice_index new.relays.discarded x.circuit ≡ slice_index w.relays.discarded x.circuit
       its_count = ap (λ r. slice_index r.discarded x.circuit) b.relays
 
-      its_fuse : fuse_of new.disk a.the.part.region ≡ 0
-      its_fuse = subst (λ r. fuse_of new.disk r ≡ 0) a.region (b.served.cleared x.region (in_regions ws j x at))
+      its_failing_call : failing_call_of new.disk a.the.part.region ≡ 0
+      its_failing_call = subst (λ r. failing_call_of new.disk r ≡ 0) a.region (b.served.cleared x.region (in_regions ws j x at))
 
       steps_by_answer : (r : Result (List ℕ) Discard) → its_answer a.the.part e x.fault a.the.leases.book ≡ r
-          → StepsAs x.circuit (Up x.number now x.fault) (state_of w x.circuit a.the.part a.the.leases) after (of_part (Some (answer_outcome (Some r)))) out
+          → StepsAs x.circuit (Up x.number now x.fault) (world_state w x.circuit a.the.part a.the.leases) after (of_part (Some (answer_outcome (Some r)))) out
       steps_by_answer (Ok bytes) is =
-          up_sent x.circuit w new a.the.part a.the.leases x.number now x.fault a.datagram (Ok tt) bytes a.kept (subst (λ r. IsAnswer r (Ok tt) bytes) (sym is) (refl, refl)) topology a.on b.quota (b.ups x.circuit) its_count its_fuse
+          up_sent x.circuit w new a.the.part a.the.leases x.number now x.fault a.datagram (Ok tt) bytes a.kept (subst (λ r. IsAnswer r (Ok tt) bytes) (sym is) (refl, refl)) topology a.on b.quota (b.ups x.circuit) its_count its_failing_call
           (λ nothing. done.quiet w.net.quota (has w.relays.topology.plans 0 x.circuit) nothing) (length bytes) out refl
           (b.downs x.circuit ∙ its_downs w.net.quota ws b.answers j x (Ok bytes) (datagrams w.net x.circuit dir.Down) apart at (done.answer ∙ ap Some is)
           ∙ (λ i. take w.net.quota (record { proto = a.proto i; bytes = bytes } ∷ datagrams w.net x.circuit dir.Down))) refl empty
       steps_by_answer (Err why) is =
-          subst (StepsAs x.circuit (Up x.number now x.fault) (state_of w x.circuit a.the.part a.the.leases) after (outcome.Dropped why)) (sym empty)
-          (up_dropped x.circuit w new a.the.part a.the.leases x.number now x.fault a.datagram (Err why) [] a.kept (subst (λ r. IsAnswer r (Err why) []) (sym is) (refl, refl)) topology a.on b.quota (b.ups x.circuit) its_count its_fuse
+          subst (StepsAs x.circuit (Up x.number now x.fault) (world_state w x.circuit a.the.part a.the.leases) after (outcome.Dropped why)) (sym empty)
+          (up_dropped x.circuit w new a.the.part a.the.leases x.number now x.fault a.datagram (Err why) [] a.kept (subst (λ r. IsAnswer r (Err why) []) (sym is) (refl, refl)) topology a.on b.quota (b.ups x.circuit) its_count its_failing_call
           (λ nothing. done.quiet w.net.quota (has w.relays.topology.plans 0 x.circuit) nothing) why refl
           (b.downs x.circuit ∙ its_downs w.net.quota ws b.answers j x (Err why) (datagrams w.net x.circuit dir.Down) apart at (done.answer ∙ ap Some is)))
 
@@ -181,9 +181,9 @@ module _ (w new : WorldValue) (sync now : ℕ) (ps : List BatchPart) (outcomes :
       waiting_moves : (before : CircuitState) → slice_get (states w) x.circuit ≡ Some before
           → Moved x.circuit (Some (Up p.number now (part_fault sync p.fault))) before (states new) (of_part (Some (outcome_for x.circuit ws b.answers))) out
       waiting_moves before there =
-          let was = state_at (state_of w) w.server.topology.circuits (leases_now w) x.circuit a.the.part a.the.leases a.the.served a.the.its in
-          let its_before : state_of w x.circuit a.the.part a.the.leases ≡ before = same_Some _ before (sym was ∙ there) in
-          let O : PartOutcome → Type 0 = λ o. StepsAs x.circuit (Up x.number now x.fault) (state_of w x.circuit a.the.part a.the.leases) after (of_part (Some o)) out in
+          let was = state_at (world_state w) w.server.topology.circuits (leases_now w) x.circuit a.the.part a.the.leases a.the.served a.the.its in
+          let its_before : world_state w x.circuit a.the.part a.the.leases ≡ before = same_Some _ before (sym was ∙ there) in
+          let O : PartOutcome → Type 0 = λ o. StepsAs x.circuit (Up x.number now x.fault) (world_state w x.circuit a.the.part a.the.leases) after (of_part (Some o)) out in
           let steps = subst O (sym (its_outcome ws b.answers j x (its_answer a.the.part e x.fault a.the.leases.book) apart at done.answer)) (steps_by_answer (its_answer a.the.part e x.fault a.the.leases.book) refl) in
           record {
             after = after;
@@ -197,7 +197,7 @@ module _ (w new : WorldValue) (sync now : ℕ) (ps : List BatchPart) (outcomes :
   -- its state where nothing of it waits
   stays_there : (c : ℕ) (before : CircuitState) → slice_get (states w) c ≡ Some before → is_waiting c ws ≡ false → slice_get (states new) c ≡ Some before
   stays_there c before there none =
-      let s = is_state (state_of w) w.server.topology.circuits (leases_now w) c before there in
+      let s = is_state (world_state w) w.server.topology.circuits (leases_now w) c before there in
       let known = ap (λ (t : Topology). slice_get t.circuits c) (sym b.is.served) ∙ s.there in
       state_in_new c s.part s.leases s.there (leases_stay w b.is sync now ws all apart new b.answers b.law b.served c none ∙ s.its) ∙ ap Some (unchanged c none s.part s.leases known ∙ sym s.is)
 
@@ -206,7 +206,7 @@ module _ (w new : WorldValue) (sync now : ℕ) (ps : List BatchPart) (outcomes :
         → Moved c (Some (Up p.number now (part_fault sync p.fault))) before (states new) (of_part (Some (outcome_for c ws b.answers))) out
     gone_moves c p before its none there =
         let nothing = none_waits f keeps c ps p parts_apart its none in
-        let s = is_state (state_of w) w.server.topology.circuits (leases_now w) c before there in
+        let s = is_state (world_state w) w.server.topology.circuits (leases_now w) c before there in
         let known = ap (λ (t : Topology). slice_get t.circuits c) (sym b.is.served) ∙ s.there in
         let same = of_its_circuit c ps p its in
         let P : CircuitState → Type 0 = λ old. StepsAs c (Up p.number now (part_fault sync p.fault)) old old outcome.Gone out in
@@ -218,7 +218,7 @@ module _ (w new : WorldValue) (sync now : ℕ) (ps : List BatchPart) (outcomes :
         }
       where
         by_why : (part : CircuitPart) (l : Leases) → (serves w.relays.topology p.circuit ≡ false) ⊎ ((serves w.relays.topology p.circuit ≡ true) × (slice_get (datagrams w.net p.circuit dir.Up) p.number ≡ None)) → p.circuit ≡ c
-            → StepsAs c (Up p.number now (part_fault sync p.fault)) (state_of w c part l) (state_of w c part l) outcome.Gone out
+            → StepsAs c (Up p.number now (part_fault sync p.fault)) (world_state w c part l) (world_state w c part l) outcome.Gone out
         by_why part l (inl off) same = up_off c w part l out (ap (serves w.relays.topology) (sym same) ∙ off) empty p.number now (part_fault sync p.fault)
         by_why part l (inr on) same =
             up_gone c w part l p.number now (part_fault sync p.fault) out (ap (serves w.relays.topology) (sym same) ∙ on.0) (ap (λ n. slice_get (datagrams w.net n dir.Up) p.number) (sym same) ∙ on.1) empty
@@ -245,8 +245,8 @@ module _ (w new : WorldValue) (sync now : ℕ) (ps : List BatchPart) (outcomes :
     count : length (states new) ≡ length (states w)
     count =
         let size = whole new ∙ ap length parts_stay in
-        ap (λ parts. length (each_state (state_of new) parts (leases_now new))) parts_stay ∙ state_count (state_of new) w.server.topology.circuits (leases_now new) size
-        ∙ sym (state_count (state_of w) w.server.topology.circuits (leases_now w) (whole w))
+        ap (λ parts. length (each_state (world_state new) parts (leases_now new))) parts_stay ∙ state_count (world_state new) w.server.topology.circuits (leases_now new) size
+        ∙ sym (state_count (world_state w) w.server.topology.circuits (leases_now w) (whole w))
 
     is_gone : (c : ℕ) → is_named c ps ≡ true → length (states w) ≤ c → of_part (outcome_of c ps outcomes) ≡ outcome.Gone
     is_gone c named past =
@@ -289,7 +289,7 @@ module _ (w new : WorldValue) (sync now : ℕ) (ps : List BatchPart) (outcomes :
   batch_spares =
       let stays = λ (r : ℕ) (spare : All (λ (one : CircuitPart). one.region ≢ r) w.relays.topology.circuits).
       spare_stays w b.is sync now ws all apart new b.answers b.law b.served r (λ c part there. all_at (λ (one : CircuitPart). one.region ≢ r) w.relays.topology.circuits c part spare there) in
-      record { region = λ r spare. (stays r spare).0; fuse = λ r spare. (stays r spare).1 }
+      record { region = λ r spare. (stays r spare).0; failing_call = λ r spare. (stays r spare).1 }
 
   -- a reply comes to its circuit
   reply_returns : (j : ℕ) (x : Waiting) (at : slice_get ws j ≡ Some x) (part : CircuitPart) → slice_get w.relays.topology.circuits x.circuit ≡ Some part

@@ -20,7 +20,7 @@ use Rattle.world.specs.Alone as alone
 use Rattle.world.specs.Headline.{CircuitState, MovesRest}
 use Rattle.events.specs.Seen.{Turn, turn_to}
 use Rattle.world.specs.StepsAs.{AllTurn, MovesBy, turns_off, StepsAs, Each, IsFor, Returns, IsWorldOf, IsWorld}
-use Rattle.world.specs.World.{WorldValue, each_state, state_of, states}
+use Rattle.world.specs.World.{WorldValue, each_state, world_state, states}
 use Rattle.world.proofs.ShownLemmas.{holds, holds_off, holds_on}
 use Rattle.world.proofs.StateLemmas.{is_state, is_there, leases_now, past_end, state_at, state_count}
 use Rattle.events.specs.declared.outcome.Outcome.TheVariants as outcome
@@ -75,34 +75,34 @@ module _ (w new : WorldValue) (plan : ℕ) (is : IsWorld w) (r : IsReloading w n
     its_server : serves new.server.topology c ≡ served_later c
     its_server = ap (λ v. serves v c) r.served ∙ ap (λ v. serves (reloaded plan v) c) is.served ∙ ap (λ there. has (in_force there) (in_force there).plan c) r.there
 
-  its_rest : (c : ℕ) (p : CircuitPart) (on : Bool) (l after : Leases) → MovesRest (Turn on) (state_of w c p l) (state_of new c p after)
+  its_rest : (c : ℕ) (p : CircuitPart) (on : Bool) (l after : Leases) → MovesRest (Turn on) (world_state w c p l) (world_state new c p after)
   its_rest c p on l after = record {
     discarded = ap (λ (counts : List ℕ). slice_index counts c) r.discarded;
-    fuse = λ none. ap (λ d. disk.fuse_of d p.region) r.disk ∙ none;
+    failing_call = λ none. ap (λ d. disk.failing_call_of d p.region) r.disk ∙ none;
     region = tt;
   }
 
-  turn_off : (c : ℕ) (p : CircuitPart) (l : Leases) → serves t c ≡ true → served_later c ≡ false → StepsAs c (Turn false) (state_of w c p l) (state_of new c p (turned true false l)) outcome.Done out
+  turn_off : (c : ℕ) (p : CircuitPart) (l : Leases) → serves t c ≡ true → served_later c ≡ false → StepsAs c (Turn false) (world_state w c p l) (world_state new c p (turned true false l)) outcome.Done out
   turn_off c p l on off =
-      let was = state_of w c p l in
-      let gone = state_of new c p (turned true false l) in
+      let was = world_state w c p l in
+      let gone = world_state new c p (turned true false l) in
       steps_by c (Turn false) was gone outcome.Done out Done (refl, empty) (λ a shown.
       known_step was.setup (Turn false) a Done gone _ (turn_is was.setup a false) refl
       (shows_as gone was.setup (alone.turned false a) [] [] (setup_stays c p) (is_served_later c ∙ off)
       (r.queues c dir.Up ∙ (λ i. queue (on i) (off i) c dir.Up)) (r.queues c dir.Down ∙ (λ i. queue (on i) (off i) c dir.Down)) (holds_off l a (holds was was.setup a shown))))
-      (λ a shown nothing. ap (λ d. disk.state_of d p.region) r.disk) (plans_stay c) (is_served_later c ∙ off) (its_rest c p false l (turned true false l))
+      (λ a shown nothing. ap (λ d. disk.disk_region d p.region) r.disk) (plans_stay c) (is_served_later c ∙ off) (its_rest c p false l (turned true false l))
 
-  turn_on : (c : ℕ) (p : CircuitPart) (l : Leases) → serves t c ≡ false → served_later c ≡ true → StepsAs c (Turn true) (state_of w c p l) (state_of new c p (turned false true l)) outcome.Done out
+  turn_on : (c : ℕ) (p : CircuitPart) (l : Leases) → serves t c ≡ false → served_later c ≡ true → StepsAs c (Turn true) (world_state w c p l) (world_state new c p (turned false true l)) outcome.Done out
   turn_on c p l off on =
-      let was = state_of w c p l in
-      let back = state_of new c p (turned false true l) in
+      let was = world_state w c p l in
+      let back = world_state new c p (turned false true l) in
       steps_by c (Turn true) was back outcome.Done out Done (refl, empty) (λ a shown.
       known_step was.setup (Turn true) a Done back _ (turn_is was.setup a true) refl
       (shows_as back was.setup (alone.turned true a) a.up a.down (setup_stays c p) (is_served_later c ∙ on)
       (r.queues c dir.Up ∙ (λ i. queue (off i) (on i) c dir.Up) ∙ shown.up) (r.queues c dir.Down ∙ (λ i. queue (off i) (on i) c dir.Down) ∙ shown.down) (holds_on l a (holds was was.setup a shown))))
-      (λ a shown nothing. ap (λ d. disk.state_of d p.region) r.disk) (plans_stay c) (is_served_later c ∙ on) (its_rest c p true l (turned false true l))
+      (λ a shown nothing. ap (λ d. disk.disk_region d p.region) r.disk) (plans_stay c) (is_served_later c ∙ on) (its_rest c p true l (turned false true l))
 
-  stays : (c : ℕ) (p : CircuitPart) (l : Leases) (b : Bool) → serves t c ≡ b → served_later c ≡ b → (n : Leases) → n ≡ l → state_of new c p n ≡ state_of w c p l
+  stays : (c : ℕ) (p : CircuitPart) (l : Leases) (b : Bool) → serves t c ≡ b → served_later c ≡ b → (n : Leases) → n ≡ l → world_state new c p n ≡ world_state w c p l
   stays c p l b was now n same =
       let kept : (way : Dir) → datagrams new.net c way ≡ datagrams w.net c way = λ way. r.queues c way ∙ (λ i. queue (was i) (now i) c way) ∙ neither b way in
       λ i. record {
@@ -113,15 +113,15 @@ module _ (w new : WorldValue) (plan : ℕ) (is : IsWorld w) (r : IsReloading w n
         down = kept dir.Down i;
         discarded = slice_index (r.discarded i) c;
         leases = same i;
-        region = disk.state_of (r.disk i) p.region;
-        fuse = disk.fuse_of (r.disk i) p.region;
+        region = disk.disk_region (r.disk i) p.region;
+        failing_call = disk.failing_call_of (r.disk i) p.region;
       }
     where
       neither : (b : Bool) (way : Dir) → queue b b c way ≡ datagrams w.net c way
       neither true way = refl
       neither false way = refl
 
-  moves_by : (c : ℕ) (p : CircuitPart) (l : Leases) (old now : Bool) → serves t c ≡ old → served_later c ≡ now → MovesBy c (turn_to old now) (state_of w c p l) (state_of new c p (turned old now l)) outcome.Done out
+  moves_by : (c : ℕ) (p : CircuitPart) (l : Leases) (old now : Bool) → serves t c ≡ old → served_later c ≡ now → MovesBy c (turn_to old now) (world_state w c p l) (world_state new c p (turned old now l)) outcome.Done out
   moves_by c p l true false was is = turn_off c p l was is
   moves_by c p l false true was is = turn_on c p l was is
   moves_by c p l true true was is = stays c p l true was is l refl
@@ -134,24 +134,24 @@ module _ (w new : WorldValue) (plan : ℕ) (is : IsWorld w) (r : IsReloading w n
   all_turn = record { count = count; each = each } where
     count : length (states new) ≡ length (states w)
     count =
-        ap (λ ps. length (each_state (state_of new) ps (leases_now new))) circuits_stay ∙ state_count (state_of new) w.server.topology.circuits (leases_now new) (r.size ∙ whole w)
-        ∙ sym (state_count (state_of w) w.server.topology.circuits (leases_now w) (whole w))
+        ap (λ ps. length (each_state (world_state new) ps (leases_now new))) circuits_stay ∙ state_count (world_state new) w.server.topology.circuits (leases_now new) (r.size ∙ whole w)
+        ∙ sym (state_count (world_state w) w.server.topology.circuits (leases_now w) (whole w))
 
     each : (c : ℕ) (p : CircuitState) → slice_get (states w) c ≡ Some p → (q : CircuitState) × (slice_get (states new) c ≡ Some q) × MovesBy c (turn_to p.on (served_later c)) p q outcome.Done out
     each c p at =
-        let its = is_state (state_of w) w.server.topology.circuits (leases_now w) c p at in
+        let its = is_state (world_state w) w.server.topology.circuits (leases_now w) c p at in
         let after = turned (serves t c) (served_later c) its.leases in
-        let P : CircuitState → Type 0 = λ old. MovesBy c (turn_to old.on (served_later c)) old (state_of new c its.part after) outcome.Done out in (
-          state_of new c its.part after,
-          ap (λ ps. slice_get (each_state (state_of new) ps (leases_now new)) c) circuits_stay
-              ∙ state_at (state_of new) w.server.topology.circuits (leases_now new) c its.part after its.there (r.leases c its.leases its.its ∙ ap Some (turned_leases c its.leases)),
+        let P : CircuitState → Type 0 = λ old. MovesBy c (turn_to old.on (served_later c)) old (world_state new c its.part after) outcome.Done out in (
+          world_state new c its.part after,
+          ap (λ ps. slice_get (each_state (world_state new) ps (leases_now new)) c) circuits_stay
+              ∙ state_at (world_state new) w.server.topology.circuits (leases_now new) c its.part after its.there (r.leases c its.leases its.its ∙ ap Some (turned_leases c its.leases)),
           subst P (sym its.is) (moves_by c its.part its.leases (serves t c) (served_later c) refl refl),
         )
 
   -- which plan each circuit's plans say
   pub has_next : (c : ℕ) (p : CircuitState) → slice_get (states w) c ≡ Some p → slice_get p.plans plan ≡ Some (served_later c)
   has_next c p at =
-      let its = is_state (state_of w) w.server.topology.circuits (leases_now w) c p at in
+      let its = is_state (world_state w) w.server.topology.circuits (leases_now w) c p at in
       let row = slice_index_or t.plans.members c [] in
       let within = slice_get_within w.server.topology.circuits c its.part its.there in
       let one = is_there t.plans.members c (omega (arith, within, is.sound.plans.each_circuit, ap (λ (v : Topology). length v.circuits) is.served)) in
@@ -160,7 +160,7 @@ module _ (w new : WorldValue) (plan : ℕ) (is : IsWorld w) (r : IsReloading w n
       let there = is_there row plan (omega (arith, ap length its_row, long, ltb-true plan t.plans.count r.there)) in
       ap (λ (s : CircuitState). slice_get s.plans plan) its.is ∙ there.1 ∙ ap Some (sym (get_or_from_slice_get row plan there.0 false there.1))
 
-  pub still_reloaded : AreReady (disk.state_of new.disk) new.server → IsWorld new
+  pub still_reloaded : AreReady (disk.disk_region new.disk) new.server → IsWorld new
   still_reloaded ready = subst (λ v. IsWorldOf v new) (sym r.topology) (record {
     sound = record {
       few_relays = is.sound.few_relays;
@@ -197,7 +197,7 @@ pub no_next : (w : WorldValue) → IsWorld w → (plan : ℕ) → nat_lt plan w.
     → (c : ℕ) (p : CircuitState) → slice_get (states w) c ≡ Some p → slice_get p.plans plan ≡ None
 no_next w is plan none c p at =
     let m = w.relays.topology.plans in
-    let its = is_state (state_of w) w.server.topology.circuits (leases_now w) c p at in
+    let its = is_state (world_state w) w.server.topology.circuits (leases_now w) c p at in
     let within = slice_get_within w.server.topology.circuits c its.part its.there in
     let one = is_there m.members c (omega (arith, within, is.sound.plans.each_circuit, ap (λ (v : Topology). length v.circuits) is.served)) in
     let its_row : slice_index_or m.members c [] ≡ one.0 = get_or_from_slice_get m.members c one.0 [] one.1 in

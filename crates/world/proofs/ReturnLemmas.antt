@@ -8,9 +8,9 @@ use Rattle.types.specs.Addr.{is_unspecified}
 use Rattle.types.specs.declared.addr.Addr4.{Addr4}
 use Rattle.types.specs.declared.addr.Source.{Source}
 use Rattle.types.specs.declared.discard.Discard.{Discard}
-use Rattle.types.specs.declared.request4.Reply4.{Reply4}
-use Rattle.types.specs.declared.request4.Reply4.TheVariants.{Offer, Ack, Inform, Nak}
-use Rattle.types.specs.declared.request4.Request4.{Request4}
+use Rattle.exchange.specs.declared.request4.Reply4.{Reply4}
+use Rattle.exchange.specs.declared.request4.Reply4.TheVariants.{Offer, Ack, Inform, Nak}
+use Rattle.exchange.specs.declared.request4.Request4.{Request4}
 use Rattle.v4_options.specs.declared.fault.SuboptFault.{SuboptFault}
 use Rattle.v4_options.specs.Codes.{CIRCUIT_ID}
 use Rattle.v4_options.specs.Spelling.{look_up}

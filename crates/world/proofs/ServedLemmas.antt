@@ -92,16 +92,16 @@ pub record IsServed (w : WorldValue) (k : ℕ) (part : CircuitPart) (l : Leases)
 
 pub is_served : (w : WorldValue) → IsWorld w → (k : ℕ) (the : TheCircuit w k) → serves w.relays.topology k ≡ true → (j : ℕ) (d : Datagram) (now fault : ℕ) (source : Source) (given : CircuitPart)
     → slice_get (datagrams w.net k dir.Up) j ≡ Some d → slice_get w.server.topology.circuits k ≡ Some given → source ≡ given.relay
-    → (regions : ℕ → Region) (faults : ℕ → ℕ) → regions ≡ disk.state_of w.disk → faults given.region ≡ fault
+    → (regions : ℕ → Region) (faults : ℕ → ℕ) → regions ≡ disk.disk_region w.disk → faults given.region ≡ fault
     → (result : Result (Unit {0}) Discard) (reply : List ℕ) (fails : ℕ → Bool) (after : List Leases)
     → ((r : ℕ) → fails r ≡ fails_at faults (received_saves w.server.topology (delivery d.proto source now d.bytes) (books_in w.server)) r)
     → IsAnswer (received w.server.topology (delivery d.proto source now d.bytes) fails (books_in w.server)).answer result reply
     → after ≡ received_leases w.server.topology (delivery d.proto source now d.bytes) faults (leases_in regions w.server)
     → IsServed w k the.part the.leases now fault d result reply after
-is_served w is k the on j d now fault source given kept at from regions faults same_regions fuse result reply fails after failing answer leases =
+is_served w is k the on j d now fault source given kept at from regions faults same_regions failing_call result reply fails after failing answer leases =
     let same : given ≡ the.part = same_Some given the.part (sym at ∙ the.served) in
     let comes : source ≡ the.part.relay = from ∙ ap (λ p. p.relay) same in
-    let at_region : faults the.part.region ≡ fault = ap (λ (p : CircuitPart). faults p.region) (sym same) ∙ fuse in
+    let at_region : faults the.part.region ≡ fault = ap (λ (p : CircuitPart). faults p.region) (sym same) ∙ failing_call in
     let found = each_at (IsFor w.relays.topology k the.part) (datagrams w.net k dir.Up) j d (is.addressed k the.part the.there) kept w.relays.topology.plans now on in
     let here = ap (λ t. addressee t (delivery_of the.part now d)) is.served ∙ found in
     let topology = w.server.topology in
@@ -130,34 +130,34 @@ is_served w is k the on j d now fault source given kept at from regions faults s
 
 -- ---- what is written to the device
 
--- every region but this one stays, and so does its fuse
+-- every region but this one stays, and so does its failing_call
 pub record Beside (r : ℕ) (old new : Device) : Type 0 where
   pub region : (q : ℕ) → q ≢ r → new.region q ≡ old.region q
-  pub fuse : (q : ℕ) → q ≢ r → new.fuse q ≡ old.fuse q
+  pub failing_call : (q : ℕ) → q ≢ r → new.failing_call q ≡ old.failing_call q
 
 pub beside_then : (r : ℕ) (old middle new : Device) → Beside r old middle → Beside r middle new → Beside r old new
-beside_then r old middle new f g = record { region = λ q other. g.region q other ∙ f.region q other; fuse = λ q other. g.fuse q other ∙ f.fuse q other }
+beside_then r old middle new f g = record { region = λ q other. g.region q other ∙ f.region q other; failing_call = λ q other. g.failing_call q other ∙ f.failing_call q other }
 
 pub beside_written : (r : ℕ) (x : Option ℕ) (old new : Device) → OneOf r x → WritesAt true x old new → Beside r old new
-beside_written r None old new one written = record { region = λ q other. ap (λ (d : Device). d.region q) written; fuse = λ q other. ap (λ (d : Device). d.fuse q) written }
+beside_written r None old new one written = record { region = λ q other. ap (λ (d : Device). d.region q) written; failing_call = λ q other. ap (λ (d : Device). d.failing_call q) written }
 beside_written r (Some n) old new one written =
     let P : ℕ → Type 0 = λ m. Beside m old new in
-    subst P one (record { region = written.region refl; fuse = written.fuse refl })
+    subst P one (record { region = written.region refl; failing_call = written.failing_call refl })
 
 pub beside_set : (r : ℕ) (old new : ModelDiskValue) → SameBut r old new → Beside r (disk.device_of old) (disk.device_of new)
-beside_set r old new same = record { region = λ q other. ap disk.region_of (same.others q other); fuse = same.fuses }
+beside_set r old new same = record { region = λ q other. ap disk.region_of (same.others q other); failing_call = same.failing_calls }
 
 pub spares_beside : (parts : List CircuitPart) (r : ℕ) (old new : Device) (k : ℕ) (part : CircuitPart) → slice_get parts k ≡ Some part → part.region ≡ r → Beside r old new → KeepsOthers parts old new
 spares_beside parts r old new k part there its beside = record {
   region = λ q spare. beside.region q (λ same. is_spare q spare (its ∙ sym same));
-  fuse = λ q spare. beside.fuse q (λ same. is_spare q spare (its ∙ sym same));
+  failing_call = λ q spare. beside.failing_call q (λ same. is_spare q spare (its ∙ sym same));
 }
   where
     is_spare : (q : ℕ) → All (λ (one : CircuitPart). one.region ≢ q) parts → part.region ≢ q
     is_spare q spare = all_at (λ (one : CircuitPart). one.region ≢ q) parts k part spare there
 
 pub spares_then : (parts : List CircuitPart) (old middle new : Device) → KeepsOthers parts old middle → KeepsOthers parts middle new → KeepsOthers parts old new
-spares_then parts old middle new f g = record { region = λ q spare. g.region q spare ∙ f.region q spare; fuse = λ q spare. g.fuse q spare ∙ f.fuse q spare }
+spares_then parts old middle new f g = record { region = λ q spare. g.region q spare ∙ f.region q spare; failing_call = λ q spare. g.failing_call q spare ∙ f.failing_call q spare }
 
 -- one more circuit's region of a device in memory changes, by its index
 module _ (parts : List CircuitPart) (n : ℕ) (here : CircuitPart) (is : slice_get parts n ≡ Some here) where
@@ -177,7 +177,7 @@ module _ (parts : List CircuitPart) (n : ℕ) (here : CircuitPart) (is : slice_g
   spare_is_other r spare same = all_at (λ (part : CircuitPart). part.region ≢ r) parts n here spare is (sym same)
 
 pub spares_stay : (parts : List CircuitPart) (old new : Device) → new ≡ old → KeepsOthers parts old new
-spares_stay parts old new same = record { region = λ q spare. ap (λ (d : Device). d.region q) same; fuse = λ q spare. ap (λ (d : Device). d.fuse q) same }
+spares_stay parts old new same = record { region = λ q spare. ap (λ (d : Device). d.region q) same; failing_call = λ q spare. ap (λ (d : Device). d.failing_call q) same }
 
 pub same_device : (x : Option ℕ) (old new : Device) → x ≡ None → WritesAt true x old new → new ≡ old
 same_device None old new none same = same
@@ -208,7 +208,7 @@ saves_its w is k the on j d now source given kept at from =
     subst (λ (p : CircuitPart). OneOf p.region (received_saves w.server.topology (delivery d.proto source now d.bytes) (books_in w.server))) (sym same)
     (subst (OneOf the.part.region) (sym saves) (saves_own the.part (delivery_of the.part now d) the.leases.book))
 
--- A datagram of circuit k: its fuse is set, the server takes it, and the fuse is put out.
+-- A datagram of circuit k: its failing_call is set, the server takes it, and the failing_call is put out.
 pub beside_up : (w : WorldValue) → IsWorld w → (k : ℕ) (the : TheCircuit w k) → serves w.relays.topology k ≡ true → (j : ℕ) (d : Datagram) (now : ℕ) (source : Source) (given : CircuitPart) (region : ℕ)
     → slice_get (datagrams w.net k dir.Up) j ≡ Some d → slice_get w.server.topology.circuits k ≡ Some given → source ≡ given.relay → region ≡ given.region
     → (set served new : ModelDiskValue) → SameBut region w.disk set
@@ -226,7 +226,7 @@ beside_up w is k the on j d now source given region kept at from its set served 
 pub quiet_up : (w : WorldValue) → IsWorld w → (k : ℕ) (the : TheCircuit w k) → serves w.relays.topology k ≡ true → (j : ℕ) (d : Datagram) (now : ℕ) (source : Source) (given : CircuitPart)
     → slice_get (datagrams w.net k dir.Up) j ≡ Some d → slice_get w.server.topology.circuits k ≡ Some given → source ≡ given.relay
     → (set served : ModelDiskValue) → WritesAt true (received_saves w.server.topology (delivery d.proto source now d.bytes) (books_in w.server)) (disk.device_of set) (disk.device_of served)
-    → book_writes (setup_of w.net.quota the.part (has w.relays.topology.plans 0 k)) now d the.leases.book ≡ false → disk.state_of served ≡ disk.state_of set
+    → book_writes (setup_of w.net.quota the.part (has w.relays.topology.plans 0 k)) now d the.leases.book ≡ false → disk.disk_region served ≡ disk.disk_region set
 quiet_up w is k the on j d now source given kept at from set served writes nothing =
     let saves = its_saves w is k the on j d now source given kept at from in
     ap (λ (device : Device). device.region)
@@ -239,10 +239,10 @@ pub elsewhere : (w : WorldValue) → IsWorld w → (k n : ℕ) (mine p : Circuit
 elsewhere w is k n mine p here there other region its same =
     eqb-false k n other (is.sound.regions k n mine p (ap (λ (t : Topology). slice_get t.circuits k) (sym is.served) ∙ here) (ap (λ (t : Topology). slice_get t.circuits n) (sym is.served) ∙ there) (sym its ∙ sym same))
 
--- ---- a device of which only the fuse of a region was set
+-- ---- a device of which only the failing_call of a region was set
 
-pub state_stays : (region : ℕ) (old new : ModelDiskValue) → disk.state_of new region ≡ disk.state_of old region → SameBut region old new → disk.state_of new ≡ disk.state_of old
+pub state_stays : (region : ℕ) (old new : ModelDiskValue) → disk.disk_region new region ≡ disk.disk_region old region → SameBut region old new → disk.disk_region new ≡ disk.disk_region old
 state_stays region old new own others = λ i q. each q (eqb q region) refl i where
-  each : (q : ℕ) (b : Bool) → eqb q region ≡ b → disk.state_of new q ≡ disk.state_of old q
-  each q true same = let P : ℕ → Type 0 = λ n. disk.state_of new n ≡ disk.state_of old n in subst P (sym (eqb-true q region same)) own
+  each : (q : ℕ) (b : Bool) → eqb q region ≡ b → disk.disk_region new q ≡ disk.disk_region old q
+  each q true same = let P : ℕ → Type 0 = λ n. disk.disk_region new n ≡ disk.disk_region old n in subst P (sym (eqb-true q region same)) own
   each q false other = ap disk.region_of (others.others q (eqb-false q region other))

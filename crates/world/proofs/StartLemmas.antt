@@ -23,7 +23,7 @@ use Rattle.world.specs.Alone.{setup_of, start, unsent}
 use Rattle.world.specs.Headline.{Represents}
 use Rattle.world.specs.Start.{IsReadable, Starts, begins_on, opened, opening_in}
 use Rattle.world.specs.StepsAs.{Each, IsFor, Returns, IsWorldOf, IsWorld}
-use Rattle.world.specs.World.{WorldValue, state_of, states}
+use Rattle.world.specs.World.{WorldValue, world_state, states}
 use Rattle.world.proofs.SetupLemmas.{by_part}
 use Rattle.world.proofs.ShownLemmas.{holds_come_back, start_downs, start_on, start_ups}
 use Rattle.world.proofs.StateLemmas.{leases_now, state_at}
@@ -32,8 +32,8 @@ use Rattle.world.proofs.WorldLemmas.{on_is_served, plans_are, states_count}
 -- ---- a world that was just opened
 
 module _ (plans : PlansValue) (quota : ℕ) (w : WorldValue) (sound : IsTopology (plans_topology plans)) (topology : w.relays.topology ≡ plans_topology plans) (served : w.server.topology ≡ plans_topology plans)
-    (device : Device) (leases : leases_now w ≡ map (found_leases device.region device.fuse) (parts_of plans.union))
-    (large : HasRegions (parts_of plans.union) (length w.disk.regions)) (ready : AreReady (disk.state_of w.disk) w.server)
+    (device : Device) (leases : leases_now w ≡ map (found_leases device.region device.failing_call) (parts_of plans.union))
+    (large : HasRegions (parts_of plans.union) (length w.disk.regions)) (ready : AreReady (disk.disk_region w.disk) w.server)
     (count : length w.net.circuits ≡ length plans.union.circuits) (empty : (c : ℕ) (way : Dir) → datagrams w.net c way ≡ []) where
   abbrev settings : Settings
   settings = plans.union
@@ -68,20 +68,20 @@ module _ (plans : PlansValue) (quota : ℕ) (w : WorldValue) (sound : IsTopology
   }
     where
       at : (c : ℕ) (part : CircuitPart) → part_in settings c ≡ Some part → (regions part.region).readable ≡ true
-          → Represents c (states w) (setup_of quota part (begins_on plans c)) (start (begins_on plans c) (device.fuse part.region) (recovered_book part (regions part.region).byte) (is_format2 (regions part.region).byte))
+          → Represents c (states w) (setup_of quota part (begins_on plans c)) (start (begins_on plans c) (device.failing_call part.region) (recovered_book part (regions part.region).byte) (is_format2 (regions part.region).byte))
       at c part there readable =
-          let fault = device.fuse part.region in
+          let fault = device.failing_call part.region in
           let kept = recovered_book part (regions part.region).byte in
           let two = is_format2 (regions part.region).byte in
           let found = come_back fault kept two in
-          let is_found : found_leases regions device.fuse part ≡ found = ap (region_leases part fault (regions part.region)) readable in
+          let is_found : found_leases regions device.failing_call part ≡ found = ap (region_leases part fault (regions part.region)) readable in
           let on = begins_on plans c in
           let begins = holds_come_back fault kept two (unsent on) in
           record {
-            state = state_of w c part found;
+            state = world_state w c part found;
             there =
-                state_at (state_of w) w.server.topology.circuits (leases_now w) c part found (ap (λ (v : Topology). slice_get v.circuits c) served ∙ there)
-                (ap (λ xs. slice_get xs c) leases ∙ slice_get-map (found_leases regions device.fuse) (parts_of settings) c ∙ ap (option_map (found_leases regions device.fuse)) there ∙ ap Some is_found);
+                state_at (world_state w) w.server.topology.circuits (leases_now w) c part found (ap (λ (v : Topology). slice_get v.circuits c) served ∙ there)
+                (ap (λ xs. slice_get xs c) leases ∙ slice_get-map (found_leases regions device.failing_call) (parts_of settings) c ∙ ap (option_map (found_leases regions device.failing_call)) there ∙ ap Some is_found);
             shows = record {
               setup_is = λ i. setup_of (quotas i) part (has (topology i).plans 0 c);
               on = ap (λ v. serves v c) topology ∙ sym (start_on on fault kept two);

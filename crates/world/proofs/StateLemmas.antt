@@ -9,7 +9,7 @@ use Rattle.dispatch.specs.ServerValue.{leases_in}
 use Rattle.world.specs.Headline.{CircuitState}
 use Rattle.events.specs.Seen.{Seen}
 use Rattle.world.specs.StepsAs.{StepsAs, Moves}
-use Rattle.world.specs.World.{WorldValue, each_state, state_of, states}
+use Rattle.world.specs.World.{WorldValue, each_state, world_state, states}
 use Rattle.lease_disk.specs.Model as disk
 use Rattle.events.specs.declared.outcome.Outcome.{Outcome}
 
@@ -91,27 +91,27 @@ same_state f g (x ∷ parts) (y ∷ all) (z ∷ changed) (suc k) size same alike
 
 -- the leases of all circuits
 abbrev pub leases_now : WorldValue → List Leases
-leases_now w = leases_in (disk.state_of w.disk) w.server
+leases_now w = leases_in (disk.disk_region w.disk) w.server
 
 -- Only circuit k's leases, queues and counter may differ.
 pub moves : (k : ℕ) (s : Seen) (w new : WorldValue) (p : CircuitPart) (l after : Leases) (o : Outcome) (out : List ℕ)
     → new.server.topology.circuits ≡ w.server.topology.circuits → length (leases_now w) ≡ length w.server.topology.circuits → length (leases_now new) ≡ length (leases_now w)
     → slice_get w.server.topology.circuits k ≡ Some p → slice_get (leases_now w) k ≡ Some l → slice_get (leases_now new) k ≡ Some after
     → ((c : ℕ) → eqb k c ≡ false → slice_get (leases_now new) c ≡ slice_get (leases_now w) c)
-    → ((c : ℕ) → eqb k c ≡ false → (p : CircuitPart) (l : Leases) → slice_get w.server.topology.circuits c ≡ Some p → state_of new c p l ≡ state_of w c p l)
-    → StepsAs k s (state_of w k p l) (state_of new k p after) o out → Moves k s (states w) (states new) o out
+    → ((c : ℕ) → eqb k c ≡ false → (p : CircuitPart) (l : Leases) → slice_get w.server.topology.circuits c ≡ Some p → world_state new c p l ≡ world_state w c p l)
+    → StepsAs k s (world_state w k p l) (world_state new k p after) o out → Moves k s (states w) (states new) o out
 moves k s w new p l after o out parts whole size there its now same alike steps =
-    let with_parts : List CircuitPart → List CircuitState = λ ps. each_state (state_of new) ps (leases_now new) in
+    let with_parts : List CircuitPart → List CircuitState = λ ps. each_state (world_state new) ps (leases_now new) in
     record {
       count =
-          ap (λ ps. length (with_parts ps)) parts ∙ state_count (state_of new) w.server.topology.circuits (leases_now new) (size ∙ whole)
-          ∙ sym (state_count (state_of w) w.server.topology.circuits (leases_now w) whole);
-      before = state_of w k p l;
-      after = state_of new k p after;
-      was = state_at (state_of w) w.server.topology.circuits (leases_now w) k p l there its;
-      is = ap (λ ps. slice_get (with_parts ps) k) parts ∙ state_at (state_of new) w.server.topology.circuits (leases_now new) k p after there now;
+          ap (λ ps. length (with_parts ps)) parts ∙ state_count (world_state new) w.server.topology.circuits (leases_now new) (size ∙ whole)
+          ∙ sym (state_count (world_state w) w.server.topology.circuits (leases_now w) whole);
+      before = world_state w k p l;
+      after = world_state new k p after;
+      was = state_at (world_state w) w.server.topology.circuits (leases_now w) k p l there its;
+      is = ap (λ ps. slice_get (with_parts ps) k) parts ∙ state_at (world_state new) w.server.topology.circuits (leases_now new) k p after there now;
       steps = steps;
       others = λ c other.
           ap (λ ps. slice_get (with_parts ps) c) parts
-          ∙ same_state (state_of w) (state_of new) w.server.topology.circuits (leases_now w) (leases_now new) c size (same c other) (alike c other);
+          ∙ same_state (world_state w) (world_state new) w.server.topology.circuits (leases_now w) (leases_now new) c size (same c other) (alike c other);
     }

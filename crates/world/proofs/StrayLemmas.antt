@@ -54,7 +54,7 @@ states_over net relays device c part leases = record {
   discarded = slice_index relays.discarded c;
   leases = leases;
   region = device.region part.region;
-  fuse = device.fuse part.region;
+  failing_call = device.failing_call part.region;
 }
 
 -- a relay drops what the server did not send

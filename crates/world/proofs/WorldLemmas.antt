@@ -18,7 +18,7 @@ use Rattle.circuit_server.specs.Leases.{IsRegionMigrated, Leases, counts_of, aft
 use Rattle.dispatch.specs.Regions.{HasRegions}
 use Rattle.circuit_server.specs.Answered.{IsAnswer}
 use Rattle.circuit_server.specs.Server.{book_at, served}
-use Rattle.circuit_server.specs.CircuitServerValue.{CircuitServerValue, book_of, leases_of, part_of}
+use Rattle.circuit_server.specs.CircuitServerValue.{CircuitServerValue, server_book, leases_of, part_of}
 use Rattle.dispatch.specs.ServerValue.{AreReady, books_in, circuits_in}
 use Rattle.dispatch.proofs.WithStates.{parts_with, size_with}
 use Rattle.lease_disk.specs.Crash.{crashed}
@@ -35,7 +35,7 @@ use Rattle.world.specs.Headline.{CircuitState, IsOutcome, MovesRest, Shows, is_o
 use Rattle.events.specs.declared.comeback.Comeback.{Comeback}
 use Rattle.events.specs.Seen.{Seen, Frame, Up, Down, Tick, Restart}
 use Rattle.world.specs.StepsAs.{on_by, StepsAs, Each, IsFor, Returns, IsWorldOf, IsWorld, AllMove}
-use Rattle.world.specs.World.{WorldValue, each_state, state_of, states}
+use Rattle.world.specs.World.{WorldValue, each_state, world_state, states}
 use Rattle.world.proofs.ShownLemmas.{Holds, after_up, down_stays, found_crashed, holds, holds_datagram, holds_restart, holds_tick, its_answer, on_is, on_stays, restart_downs, restart_on, restart_ups, up_stays, up_step_is}
 use Rattle.world.proofs.StateLemmas.{is_on_in, is_state, is_there, leases_now, past_end, plans_in, state_at, state_count}
 use Rattle.events.specs.declared.outcome.Outcome.{Outcome}
@@ -124,40 +124,40 @@ pub frame_sent : (k : ℕ) (w new : WorldValue) (p : CircuitPart) (l : Leases) (
     → datagrams new.net k dir.Up ≡ take w.net.quota (record { proto = proto; bytes = bytes } ∷ datagrams w.net k dir.Up)
     → datagrams new.net k dir.Down ≡ datagrams w.net k dir.Down → len ≡ length bytes → out ≡ []
     → slice_index new.relays.discarded k ≡ slice_index w.relays.discarded k
-    → StepsAs k (Frame proto frame) (state_of w k p l) (state_of new k p l) (outcome.SentUp len) out
+    → StepsAs k (Frame proto frame) (world_state w k p l) (world_state new k p l) (outcome.SentUp len) out
 frame_sent k w new p l proto frame bytes len out topology on sent same quota kept others size empty counts =
-    let was = state_of w k p l in
-    let is = state_of new k p l in
+    let was = world_state w k p l in
+    let is = world_state new k p l in
     let newest : List Datagram → List Datagram = λ ds. take w.net.quota (record { proto = proto; bytes = bytes } ∷ ds) in
     let rest : MovesRest (Frame proto frame) was is = record {
       discarded = counts ∙ sym (λ i. if on i && is_err (sent i) then min 4294967295 (was.discarded + 1) else was.discarded);
-      fuse = λ none. ap (λ d. disk.fuse_of d p.region) same ∙ none;
+      failing_call = λ none. ap (λ d. disk.failing_call_of d p.region) same ∙ none;
       region = tt;
     } in
     steps_by k (Frame proto frame) was is (outcome.SentUp len) out (SentUp len) (refl, empty) (λ a shown.
     known_step was.setup (Frame proto frame) a (SentUp len) is _ (frame_is was.setup a proto frame (Ok bytes) (sym shown.on ∙ on) sent) (ap SentUp (sym size))
     (shows_as is was.setup a (newest a.up) a.down (same_setup k w new p topology quota) (same_on k w new p topology ∙ shown.on) (kept ∙ ap newest shown.up) (others ∙ shown.down) (holds was was.setup a shown)))
-    (λ a shown nothing. ap (λ d. disk.state_of d p.region) same) (same_plans k w new p topology) (same_on k w new p topology) rest
+    (λ a shown nothing. ap (λ d. disk.disk_region d p.region) same) (same_plans k w new p topology) (same_on k w new p topology) rest
 
 pub frame_dropped : (k : ℕ) (w new : WorldValue) (p : CircuitPart) (l : Leases) (proto : Proto) (frame : List ℕ) (why : Discard) (out : List ℕ)
     → new.relays.topology ≡ w.relays.topology → serves w.relays.topology k ≡ true
     → relayed_up p proto frame ≡ Err why → new.disk ≡ w.disk → new.net ≡ w.net → out ≡ []
     → k < length w.relays.discarded → new.relays.discarded ≡ one_more k w.relays.discarded
-    → StepsAs k (Frame proto frame) (state_of w k p l) (state_of new k p l) (outcome.Dropped why) out
+    → StepsAs k (Frame proto frame) (world_state w k p l) (world_state new k p l) (outcome.Dropped why) out
 frame_dropped k w new p l proto frame why out topology on dropped same net empty within counts =
-    let was = state_of w k p l in
-    let is = state_of new k p l in
+    let was = world_state w k p l in
+    let is = world_state new k p l in
     let one = ap (λ ds. slice_index ds k) counts ∙ get_or-set_same w.relays.discarded k (min 4294967295 (was.discarded + 1)) 0 within in
     let rest : MovesRest (Frame proto frame) was is = record {
       discarded = one ∙ sym (λ i. if on i && is_err (dropped i) then min 4294967295 (was.discarded + 1) else was.discarded);
-      fuse = λ none. ap (λ d. disk.fuse_of d p.region) same ∙ none;
+      failing_call = λ none. ap (λ d. disk.failing_call_of d p.region) same ∙ none;
       region = tt;
     } in
     steps_by k (Frame proto frame) was is (outcome.Dropped why) out (Dropped why) (refl, empty) (λ a shown.
     known_step was.setup (Frame proto frame) a (Dropped why) is _ (frame_is was.setup a proto frame (Err why) (sym shown.on ∙ on) dropped) refl
     (shows_as is was.setup a a.up a.down (same_setup k w new p topology (ap (λ (n : NetValue). n.quota) net)) (same_on k w new p topology ∙ shown.on) (ap (λ n. datagrams n k dir.Up) net ∙ shown.up)
     (ap (λ n. datagrams n k dir.Down) net ∙ shown.down) (holds was was.setup a shown)))
-    (λ a shown nothing. ap (λ d. disk.state_of d p.region) same) (same_plans k w new p topology) (same_on k w new p topology) rest
+    (λ a shown nothing. ap (λ d. disk.disk_region d p.region) same) (same_plans k w new p topology) (same_on k w new p topology) rest
 
 -- ---- while a circuit is off
 
@@ -165,27 +165,27 @@ module _ (k : ℕ) (w : WorldValue) (p : CircuitPart) (l : Leases) (out : List �
   off_is : (a : Alone) (step : Step) → a.on ≡ false → if_on a step ≡ record { effect = Gone; next = a }
   off_is a step off = ap (λ b. if b then step else record { effect = Gone; next = a }) off
 
-  off_gone : (s : Seen) → on_by s false ≡ false → MovesRest s (state_of w k p l) (state_of w k p l) → ((setup : Setup) (a : Alone) → a.on ≡ false → alone_step setup s a ≡ record { effect = Gone; next = a })
-      → StepsAs k s (state_of w k p l) (state_of w k p l) outcome.Gone out
+  off_gone : (s : Seen) → on_by s false ≡ false → MovesRest s (world_state w k p l) (world_state w k p l) → ((setup : Setup) (a : Alone) → a.on ≡ false → alone_step setup s a ≡ record { effect = Gone; next = a })
+      → StepsAs k s (world_state w k p l) (world_state w k p l) outcome.Gone out
   off_gone s keeps rest gone =
-      let was = state_of w k p l in
+      let was = world_state w k p l in
       steps_by k s was was outcome.Gone out Gone (refl, empty) (λ a shown. known_step was.setup s a Gone was _ (gone was.setup a (sym shown.on ∙ off)) refl shown)
       (λ a shown nothing. refl) refl (off ∙ sym keeps ∙ ap (on_by s) (sym off)) rest
 
-  pub frame_off : (proto : Proto) (frame : List ℕ) → StepsAs k (Frame proto frame) (state_of w k p l) (state_of w k p l) outcome.Gone out
+  pub frame_off : (proto : Proto) (frame : List ℕ) → StepsAs k (Frame proto frame) (world_state w k p l) (world_state w k p l) outcome.Gone out
   unfolding alone_step
   frame_off proto frame =
-      let was = state_of w k p l in
+      let was = world_state w k p l in
       let uncounted = sym (λ i. if off i && is_err (relayed_up p proto frame) then min 4294967295 (was.discarded + 1) else was.discarded) in
-      off_gone (Frame proto frame) refl (record { discarded = uncounted; fuse = λ none. none; region = tt }) (λ setup a off. off_is a _ off)
+      off_gone (Frame proto frame) refl (record { discarded = uncounted; failing_call = λ none. none; region = tt }) (λ setup a off. off_is a _ off)
 
-  pub up_off : (j now fault : ℕ) → StepsAs k (Up j now fault) (state_of w k p l) (state_of w k p l) outcome.Gone out
+  pub up_off : (j now fault : ℕ) → StepsAs k (Up j now fault) (world_state w k p l) (world_state w k p l) outcome.Gone out
   unfolding alone_step
-  up_off j now fault = off_gone (Up j now fault) refl (record { discarded = refl; fuse = λ none. none; region = tt }) (λ setup a off. off_is a _ off)
+  up_off j now fault = off_gone (Up j now fault) refl (record { discarded = refl; failing_call = λ none. none; region = tt }) (λ setup a off. off_is a _ off)
 
-  pub down_off : (j : ℕ) → StepsAs k (Down j) (state_of w k p l) (state_of w k p l) outcome.Gone out
+  pub down_off : (j : ℕ) → StepsAs k (Down j) (world_state w k p l) (world_state w k p l) outcome.Gone out
   unfolding alone_step
-  down_off j = off_gone (Down j) refl (record { discarded = refl; fuse = λ none. none; region = tt }) (λ setup a off. off_is a _ off)
+  down_off j = off_gone (Down j) refl (record { discarded = refl; failing_call = λ none. none; region = tt }) (λ setup a off. off_is a _ off)
 
 -- ---- a datagram at the server
 
@@ -194,12 +194,12 @@ unfolding alone_step
 up_is setup a j now fault d on is = on_is a (up_step setup now fault a (slice_get a.up j)) on ∙ ap (up_step setup now fault a) is
 
 pub up_gone : (k : ℕ) (w : WorldValue) (p : CircuitPart) (l : Leases) (j now fault : ℕ) (out : List ℕ) → serves w.relays.topology k ≡ true → slice_get (datagrams w.net k dir.Up) j ≡ None → out ≡ []
-    → StepsAs k (Up j now fault) (state_of w k p l) (state_of w k p l) outcome.Gone out
+    → StepsAs k (Up j now fault) (world_state w k p l) (world_state w k p l) outcome.Gone out
 up_gone k w p l j now fault out on none empty =
-    let was = state_of w k p l in
+    let was = world_state w k p l in
     steps_by k (Up j now fault) was was outcome.Gone out Gone (refl, empty) (λ a shown.
     known_step was.setup (Up j now fault) a Gone was _ (up_is was.setup a j now fault None (sym shown.on ∙ on) (ap (λ ds. slice_get ds j) (sym shown.up) ∙ none)) refl shown)
-    (λ a shown nothing. refl) refl refl (record { discarded = refl; fuse = λ none. none; region = tt })
+    (λ a shown nothing. refl) refl refl (record { discarded = refl; failing_call = λ none. none; region = tt })
 
 pub is_reply : (r : Result (List ℕ) Discard) (out : List ℕ) → IsAnswer r (Ok tt) out → r ≡ Ok out
 is_reply (Ok bytes) out h = ap Ok (sym h.1)
@@ -213,13 +213,13 @@ module _ (k : ℕ) (w new : WorldValue) (p : CircuitPart) (l : Leases) (j now fa
     (there : slice_get (datagrams w.net k dir.Up) j ≡ Some d) (answer : IsAnswer (its_answer p (delivery_of p now d) fault l.book) result reply)
     (topology : new.relays.topology ≡ w.relays.topology) (on : serves w.relays.topology k ≡ true)
     (quota : new.net.quota ≡ w.net.quota) (ups : datagrams new.net k dir.Up ≡ datagrams w.net k dir.Up)
-    (counts : slice_index new.relays.discarded k ≡ slice_index w.relays.discarded k) (cleared : disk.fuse_of new.disk p.region ≡ 0)
-    (stays : book_writes (setup_of w.net.quota p (has w.relays.topology.plans 0 k)) now d l.book ≡ false → disk.state_of new.disk p.region ≡ disk.state_of w.disk p.region) where
+    (counts : slice_index new.relays.discarded k ≡ slice_index w.relays.discarded k) (cleared : disk.failing_call_of new.disk p.region ≡ 0)
+    (stays : book_writes (setup_of w.net.quota p (has w.relays.topology.plans 0 k)) now d l.book ≡ false → disk.disk_region new.disk p.region ≡ disk.disk_region w.disk p.region) where
   abbrev was : CircuitState
-  was = state_of w k p l
+  was = world_state w k p l
 
   abbrev is : CircuitState
-  is = state_of new k p (after_datagram p (delivery_of p now d) fault l)
+  is = world_state new k p (after_datagram p (delivery_of p now d) fault l)
 
   abbrev next : Alone → Alone
   next a = after_up p (delivery_of p now d) fault a a.book
@@ -245,7 +245,7 @@ module _ (k : ℕ) (w new : WorldValue) (p : CircuitPart) (l : Leases) (j now fa
   its_on a shown = same_on k w new p topology ∙ shown.on ∙ sym (on_stays p (delivery_of p now d) fault a a.book)
 
   its_rest : MovesRest (Up j now fault) was is
-  its_rest = record { discarded = counts; fuse = λ none. cleared; region = tt }
+  its_rest = record { discarded = counts; failing_call = λ none. cleared; region = tt }
 
   pub reply_is : result ≡ Ok tt → its_answer p (delivery_of p now d) fault l.book ≡ Ok reply
   reply_is ok =
@@ -281,12 +281,12 @@ unfolding alone_step
 down_is setup a j d on is = on_is a (down_step setup a (slice_get a.down j)) on ∙ ap (down_step setup a) is
 
 pub down_gone : (k : ℕ) (w : WorldValue) (p : CircuitPart) (l : Leases) (j : ℕ) (out : List ℕ) → serves w.relays.topology k ≡ true → slice_get (datagrams w.net k dir.Down) j ≡ None → out ≡ []
-    → StepsAs k (Down j) (state_of w k p l) (state_of w k p l) outcome.Gone out
+    → StepsAs k (Down j) (world_state w k p l) (world_state w k p l) outcome.Gone out
 down_gone k w p l j out on none empty =
-    let was = state_of w k p l in
+    let was = world_state w k p l in
     steps_by k (Down j) was was outcome.Gone out Gone (refl, empty) (λ a shown.
     known_step was.setup (Down j) a Gone was _ (down_is was.setup a j None (sym shown.on ∙ on) (ap (λ ds. slice_get ds j) (sym shown.down) ∙ none)) refl shown)
-    (λ a shown nothing. refl) refl refl (record { discarded = refl; fuse = λ none. none; region = tt })
+    (λ a shown nothing. refl) refl refl (record { discarded = refl; failing_call = λ none. none; region = tt })
 
 for_ok : (k : ℕ) (r : Result SentFrame Discard) (sent : CircuitFrame) → for_circuit k r ≡ Ok sent → (sent.circuit ≡ k) × (r ≡ Ok sent.frame)
 for_ok k (Ok frame) sent h =
@@ -300,25 +300,25 @@ for_err k (Err other) why h = let same : other ≡ why = cc in ap Err same
 
 module _ (k : ℕ) (w : WorldValue) (p : CircuitPart) (l : Leases) (j : ℕ) (d : Datagram) (on : serves w.relays.topology k ≡ true) (there : slice_get (datagrams w.net k dir.Down) j ≡ Some d) where
   pub down_framed : (found : ℕ) (dest : Dest) (out : List ℕ) → for_circuit k (relayed_down p d.proto d.bytes) ≡ Ok (record { circuit = found; frame = record { dest = dest; bytes = out } })
-      → StepsAs k (Down j) (state_of w k p l) (state_of w k p l) (outcome.Framed found dest) out
+      → StepsAs k (Down j) (world_state w k p l) (world_state w k p l) (outcome.Framed found dest) out
   down_framed found dest out result =
-      let was = state_of w k p l in
+      let was = world_state w k p l in
       let sent : SentFrame = record { dest = dest; bytes = out } in
       let frame = for_ok k (relayed_down p d.proto d.bytes) (record { circuit = found; frame = sent }) result in
       steps_by k (Down j) was was (outcome.Framed found dest) out (Framed sent) (ap (λ c. outcome.Framed c dest) frame.0, refl) (λ a shown.
       known_step was.setup (Down j) a (Framed sent) was _
       (down_is was.setup a j (Some d) (sym shown.on ∙ on) (ap (λ ds. slice_get ds j) (sym shown.down) ∙ there) ∙ ap (reply_step a) frame.1) refl shown)
-      (λ a shown nothing. refl) refl refl (record { discarded = refl; fuse = λ none. none; region = tt })
+      (λ a shown nothing. refl) refl refl (record { discarded = refl; failing_call = λ none. none; region = tt })
 
   pub down_dropped : (why : Discard) (out : List ℕ) → for_circuit k (relayed_down p d.proto d.bytes) ≡ Err why → out ≡ []
-      → StepsAs k (Down j) (state_of w k p l) (state_of w k p l) (outcome.Dropped why) out
+      → StepsAs k (Down j) (world_state w k p l) (world_state w k p l) (outcome.Dropped why) out
   down_dropped why out result empty =
-      let was = state_of w k p l in
+      let was = world_state w k p l in
       let dropped = for_err k (relayed_down p d.proto d.bytes) why result in
       steps_by k (Down j) was was (outcome.Dropped why) out (Dropped why) (refl, empty) (λ a shown.
       known_step was.setup (Down j) a (Dropped why) was _
       (down_is was.setup a j (Some d) (sym shown.on ∙ on) (ap (λ ds. slice_get ds j) (sym shown.down) ∙ there) ∙ ap (reply_step a) dropped) refl shown)
-      (λ a shown nothing. refl) refl refl (record { discarded = refl; fuse = λ none. none; region = tt })
+      (λ a shown nothing. refl) refl refl (record { discarded = refl; failing_call = λ none. none; region = tt })
 
 -- ---- a moment
 
@@ -327,17 +327,17 @@ unfolding alone_step
 tick_is setup a now = refl
 
 pub tick_done : (k : ℕ) (w new : WorldValue) (p : CircuitPart) (l : Leases) (now : ℕ) (out : List ℕ) → new.relays ≡ w.relays → new.disk ≡ w.disk → new.net ≡ w.net → out ≡ []
-    → StepsAs k (Tick now) (state_of w k p l) (state_of new k p (after_tick now l)) outcome.Done out
+    → StepsAs k (Tick now) (world_state w k p l) (world_state new k p (after_tick now l)) outcome.Done out
 tick_done k w new p l now out relays same net empty =
     let topology = ap (λ (r : RelaysValue). r.topology) relays in
-    let was = state_of w k p l in
-    let is = state_of new k p (after_tick now l) in
+    let was = world_state w k p l in
+    let is = world_state new k p (after_tick now l) in
     steps_by k (Tick now) was is outcome.Done out Done (refl, empty) (λ a shown.
     known_step was.setup (Tick now) a Done is _ (tick_is was.setup a now) refl
     (shows_as is was.setup (record a { book = option_map (book_at now) a.book }) a.up a.down (same_setup k w new p topology (ap (λ (n : NetValue). n.quota) net)) (same_on k w new p topology ∙ shown.on)
     (ap (λ n. datagrams n k dir.Up) net ∙ shown.up) (ap (λ n. datagrams n k dir.Down) net ∙ shown.down) (holds_tick now l a (holds was was.setup a shown))))
-    (λ a shown nothing. ap (λ d. disk.state_of d p.region) same) (same_plans k w new p topology) (same_on k w new p topology)
-    (record { discarded = ap (λ (r : RelaysValue). slice_index r.discarded k) relays; fuse = λ none. ap (λ d. disk.fuse_of d p.region) same ∙ none; region = tt })
+    (λ a shown nothing. ap (λ d. disk.disk_region d p.region) same) (same_plans k w new p topology) (same_on k w new p topology)
+    (record { discarded = ap (λ (r : RelaysValue). slice_index r.discarded k) relays; failing_call = λ none. ap (λ d. disk.failing_call_of d p.region) same ∙ none; region = tt })
 
 -- ---- a restart
 
@@ -346,13 +346,13 @@ unfolding alone_step
 restart_is setup a comeback = refl
 
 pub restart_done : (k : ℕ) (w new : WorldValue) (p : CircuitPart) (l : Leases) (comeback : Comeback) (out : List ℕ) → new.relays ≡ w.relays → new.net ≡ w.net → out ≡ []
-    → disk.fuse_of new.disk p.region ≡ 0 → IsRegionMigrated (counts_of p) comeback.move_fault (crashed comeback.image (disk.state_of w.disk p.region)) (disk.state_of new.disk p.region)
-    → StepsAs k (Restart comeback) (state_of w k p l) (state_of new k p (after_restart comeback.image comeback.move_fault l)) outcome.Done out
+    → disk.failing_call_of new.disk p.region ≡ 0 → IsRegionMigrated (counts_of p) comeback.move_fault (crashed comeback.image (disk.disk_region w.disk p.region)) (disk.disk_region new.disk p.region)
+    → StepsAs k (Restart comeback) (world_state w k p l) (world_state new k p (after_restart comeback.image comeback.move_fault l)) outcome.Done out
 restart_done k w new p l comeback out relays net empty cleared brought =
     let topology = ap (λ (r : RelaysValue). r.topology) relays in
-    let was = state_of w k p l in
+    let was = world_state w k p l in
     let fault = comeback.move_fault in
-    let is = state_of new k p (after_restart comeback.image fault l) in
+    let is = world_state new k p (after_restart comeback.image fault l) in
     steps_by k (Restart comeback) was is outcome.Done out Done (refl, empty) (λ a shown.
     let next = alone.after_restart comeback.move_fault comeback.image a in
     known_step was.setup (Restart comeback) a Done is _ (restart_is was.setup a comeback) refl
@@ -361,7 +361,7 @@ restart_done k w new p l comeback out relays net empty cleared brought =
     (ap (λ n. datagrams n k dir.Up) net ∙ shown.up ∙ sym (restart_ups fault comeback.image a)) (ap (λ n. datagrams n k dir.Down) net ∙ shown.down ∙ sym (restart_downs fault comeback.image a))
     (holds_restart fault comeback.image l a (holds was was.setup a shown))))
     (λ a shown nothing. absurd cc) (same_plans k w new p topology) (same_on k w new p topology)
-    (record { discarded = ap (λ (r : RelaysValue). slice_index r.discarded k) relays; fuse = λ none. cleared; region = brought })
+    (record { discarded = ap (λ (r : RelaysValue). slice_index r.discarded k) relays; failing_call = λ none. cleared; region = brought })
 
 -- ---- one circuit of a world
 
@@ -375,10 +375,10 @@ pub record TheCircuit (w : WorldValue) (k : ℕ) : Type 0 where
   pub book : slice_get (books_in w.server) k ≡ Some leases.book
 
 pub whole : (w : WorldValue) → length (leases_now w) ≡ length w.server.topology.circuits
-whole w = length-map (circuits_in w.server) (leases_of (disk.state_of w.disk)) ∙ size_with w.server.topology.circuits w.server.states
+whole w = length-map (circuits_in w.server) (leases_of (disk.disk_region w.disk)) ∙ size_with w.server.topology.circuits w.server.states
 
 pub states_count : (w : WorldValue) → IsWorld w → length (states w) ≡ length w.net.circuits
-states_count w is = state_count (state_of w) w.server.topology.circuits (leases_now w) (whole w) ∙ ap (λ (t : Topology). length t.circuits) is.served ∙ sym is.count
+states_count w is = state_count (world_state w) w.server.topology.circuits (leases_now w) (whole w) ∙ ap (λ (t : Topology). length t.circuits) is.served ∙ sym is.count
 
 or_past : {A : Type 0} (xs : List A) (n : ℕ) (default : A) → length xs ≤ n → slice_index_or xs n default ≡ default
 or_past [] n default past = refl
@@ -393,7 +393,7 @@ module _ (w : WorldValue) (is : IsWorld w) (c : ℕ) where
   by_state : (b : Bool) → ltb c (length (states w)) ≡ b → (plans_at c (states w) ≡ its_plans) × (is_on_at c (states w) ≡ serves w.relays.topology c)
   by_state true within =
       let here = is_there (states w) c (ltb-true c (length (states w)) within) in
-      let state = is_state (state_of w) w.server.topology.circuits (leases_now w) c here.0 here.1 in
+      let state = is_state (world_state w) w.server.topology.circuits (leases_now w) c here.0 here.1 in
       (ap plans_in here.1 ∙ ap (λ (s : CircuitState). s.plans) state.is, ap is_on_in here.1 ∙ ap (λ (s : CircuitState). s.on) state.is)
   by_state false past =
       let far = ltb-false c (length (states w)) past in
@@ -414,14 +414,14 @@ the_circuit w is k within =
     let one = is_there circuits k (omega (arith, within, is.count, size, ap (λ (t : Topology). length t.circuits) is.served)) in
     let served : slice_get w.server.topology.circuits k ≡ Some (part_of one.0) =
     ap (λ parts. slice_get parts k) (sym (parts_with w.server.topology.circuits w.server.states)) ∙ slice_get-map part_of circuits k ∙ ap (option_map part_of) one.1 in
-    let leases = leases_of (disk.state_of w.disk) in
+    let leases = leases_of (disk.disk_region w.disk) in
     record {
       part = part_of one.0;
       leases = leases one.0;
       there = ap (λ (t : Topology). slice_get t.circuits k) (sym is.served) ∙ served;
       served = served;
       its = slice_get-map leases circuits k ∙ ap (option_map leases) one.1;
-      book = slice_get-map book_of circuits k ∙ ap (option_map book_of) one.1;
+      book = slice_get-map server_book circuits k ∙ ap (option_map server_book) one.1;
     }
 
 -- what a restart finds is in the circuit's region
@@ -467,7 +467,7 @@ other_way k way old new own others c = by (eqb k c) refl where
 -- ---- what the world keeps
 
 pub still_world : (w new : WorldValue) → IsWorld w → new.relays.topology ≡ w.relays.topology → new.server.topology ≡ w.server.topology
-    → length new.net.circuits ≡ length w.net.circuits → length new.disk.regions ≡ length w.disk.regions → AreReady (disk.state_of new.disk) new.server
+    → length new.net.circuits ≡ length w.net.circuits → length new.disk.regions ≡ length w.disk.regions → AreReady (disk.disk_region new.disk) new.server
     → ((c : ℕ) (part : CircuitPart) → slice_get w.relays.topology.circuits c ≡ Some part → Each (IsFor w.relays.topology c part) (datagrams new.net c dir.Up))
     → ((c : ℕ) (part : CircuitPart) → slice_get w.relays.topology.circuits c ≡ Some part → Each (Returns w.relays.topology c part) (datagrams new.net c dir.Down))
     → IsWorld new
@@ -501,10 +501,10 @@ is_part_at w is c part there = all_at IsPart w.relays.topology.circuits c part i
 
 pub same_circuit : (w new : WorldValue) (c : ℕ) (p : CircuitPart) (l : Leases) → new.relays.topology ≡ w.relays.topology → new.net.quota ≡ w.net.quota → datagrams new.net c dir.Up ≡ datagrams w.net c dir.Up
     → datagrams new.net c dir.Down ≡ datagrams w.net c dir.Down → slice_index new.relays.discarded c ≡ slice_index w.relays.discarded c
-    → disk.state_of new.disk p.region ≡ disk.state_of w.disk p.region → disk.fuse_of new.disk p.region ≡ disk.fuse_of w.disk p.region
-    → state_of new c p l ≡ state_of w c p l
-same_circuit w new c p l topology quota ups downs counts region fuse =
-    λ i. record { setup = same_setup c w new p topology quota i; plans = same_plans c w new p topology i; on = same_on c w new p topology i; up = ups i; down = downs i; discarded = counts i; leases = l; region = region i; fuse = fuse i }
+    → disk.disk_region new.disk p.region ≡ disk.disk_region w.disk p.region → disk.failing_call_of new.disk p.region ≡ disk.failing_call_of w.disk p.region
+    → world_state new c p l ≡ world_state w c p l
+same_circuit w new c p l topology quota ups downs counts region failing_call =
+    λ i. record { setup = same_setup c w new p topology quota i; plans = same_plans c w new p topology i; on = same_on c w new p topology i; up = ups i; down = downs i; discarded = counts i; leases = l; region = region i; failing_call = failing_call i }
 
 -- only circuit k's counter is counted up
 pub other_count : (k c : ℕ) (counts : List ℕ) → eqb k c ≡ false → slice_index (one_more k counts) c ≡ slice_index counts c
@@ -517,25 +517,25 @@ apart k c other same = eqb-false k c other (sym same)
 
 all_move : (w new : WorldValue) (s : ℕ → Seen) (after : ℕ → Leases → Leases) (out : List ℕ) → new.server.topology.circuits ≡ w.server.topology.circuits → length (leases_now new) ≡ length w.server.topology.circuits
     → ((c : ℕ) (part : CircuitPart) (l : Leases) → slice_get w.server.topology.circuits c ≡ Some part → slice_get (leases_now w) c ≡ Some l → slice_get (leases_now new) c ≡ Some (after c l))
-    → ((c : ℕ) (part : CircuitPart) (l : Leases) → slice_get w.server.topology.circuits c ≡ Some part → StepsAs c (s c) (state_of w c part l) (state_of new c part (after c l)) outcome.Done out)
+    → ((c : ℕ) (part : CircuitPart) (l : Leases) → slice_get w.server.topology.circuits c ≡ Some part → StepsAs c (s c) (world_state w c part l) (world_state new c part (after c l)) outcome.Done out)
     → AllMove s (states w) (states new) outcome.Done out
 all_move w new s after out parts size now steps = record { count = count; each = λ c p at. each c p at } where
   with_parts : List CircuitPart → List CircuitState
-  with_parts ps = each_state (state_of new) ps (leases_now new)
+  with_parts ps = each_state (world_state new) ps (leases_now new)
 
   count : length (states new) ≡ length (states w)
   count =
-      ap (λ ps. length (each_state (state_of new) ps (leases_now new))) parts ∙ state_count (state_of new) w.server.topology.circuits (leases_now new) size
-      ∙ sym (state_count (state_of w) w.server.topology.circuits (leases_now w) (whole w))
+      ap (λ ps. length (each_state (world_state new) ps (leases_now new))) parts ∙ state_count (world_state new) w.server.topology.circuits (leases_now new) size
+      ∙ sym (state_count (world_state w) w.server.topology.circuits (leases_now w) (whole w))
 
   each : (c : ℕ) (p : CircuitState) → slice_get (states w) c ≡ Some p → (q : CircuitState) × (slice_get (states new) c ≡ Some q) × StepsAs c (s c) p q outcome.Done out
   each c p at =
-      let is = is_state (state_of w) w.server.topology.circuits (leases_now w) c p at in
+      let is = is_state (world_state w) w.server.topology.circuits (leases_now w) c p at in
       let next = after c is.leases in
-      let P : CircuitState → Type 0 = λ old. StepsAs c (s c) old (state_of new c is.part next) outcome.Done out in (
-        state_of new c is.part next,
-        ap (λ ps. slice_get (each_state (state_of new) ps (leases_now new)) c) parts
-            ∙ state_at (state_of new) w.server.topology.circuits (leases_now new) c is.part next is.there (now c is.part is.leases is.there is.its),
+      let P : CircuitState → Type 0 = λ old. StepsAs c (s c) old (world_state new c is.part next) outcome.Done out in (
+        world_state new c is.part next,
+        ap (λ ps. slice_get (each_state (world_state new) ps (leases_now new)) c) parts
+            ∙ state_at (world_state new) w.server.topology.circuits (leases_now new) c is.part next is.there (now c is.part is.leases is.there is.its),
         subst P (sym is.is) (steps c is.part is.leases is.there),
       )
 
@@ -550,25 +550,25 @@ all_tick w new now out relays same net empty parts leases =
 -- A restart, where each circuit's region comes back so.
 pub all_restart : (w new : WorldValue) (comebacks : ℕ → Comeback) (regions : ℕ → Region) (faults : ℕ → ℕ) (out : List ℕ) → new.relays ≡ w.relays → new.net ≡ w.net → out ≡ []
     → new.server.topology.circuits ≡ w.server.topology.circuits → leases_now new ≡ map (found_leases regions faults) w.server.topology.circuits
-    → ((c : ℕ) (part : CircuitPart) → slice_get w.server.topology.circuits c ≡ Some part → regions part.region ≡ crashed (comebacks c).image (disk.state_of w.disk part.region))
+    → ((c : ℕ) (part : CircuitPart) → slice_get w.server.topology.circuits c ≡ Some part → regions part.region ≡ crashed (comebacks c).image (disk.disk_region w.disk part.region))
     → ((c : ℕ) (part : CircuitPart) → slice_get w.server.topology.circuits c ≡ Some part → faults part.region ≡ (comebacks c).move_fault)
-    → ((c : ℕ) (part : CircuitPart) → slice_get w.server.topology.circuits c ≡ Some part → disk.fuse_of new.disk part.region ≡ 0)
-    → All (λ (part : CircuitPart). IsRegionMigrated (counts_of part) (faults part.region) (regions part.region) (disk.state_of new.disk part.region)) w.server.topology.circuits
+    → ((c : ℕ) (part : CircuitPart) → slice_get w.server.topology.circuits c ≡ Some part → disk.failing_call_of new.disk part.region ≡ 0)
+    → All (λ (part : CircuitPart). IsRegionMigrated (counts_of part) (faults part.region) (regions part.region) (disk.disk_region new.disk part.region)) w.server.topology.circuits
     → AllMove (λ c. Restart (comebacks c)) (states w) (states new) outcome.Done out
 all_restart w new comebacks regions faults out relays net empty parts leases crash fails cleared brought =
     all_move w new (λ c. Restart (comebacks c)) (λ c. after_restart (comebacks c).image (comebacks c).move_fault) out parts (ap length leases ∙ length-map w.server.topology.circuits (found_leases regions faults))
     (λ c part l there its.
-    let found = found_crashed part (comebacks c).move_fault (comebacks c).image (disk.state_of w.disk) regions faults l.book (crash c part there) (fails c part there) in
+    let found = found_crashed part (comebacks c).move_fault (comebacks c).image (disk.disk_region w.disk) regions faults l.book (crash c part there) (fails c part there) in
     let at = ap (λ parts. slice_get parts c) (parts_with w.server.topology.circuits w.server.states) ∙ there in
-    let restarts = restarts_at (disk.state_of w.disk) (circuits_in w.server) c part l at its in
-    let formats = formats_at (disk.state_of w.disk) (circuits_in w.server) c part l at its in
+    let restarts = restarts_at (disk.disk_region w.disk) (circuits_in w.server) c part l at its in
+    let formats = formats_at (disk.disk_region w.disk) (circuits_in w.server) c part l at its in
     ap (λ ls. slice_get ls c) leases ∙ slice_get-map (found_leases regions faults) w.server.topology.circuits c ∙ ap (option_map (found_leases regions faults)) there
     ∙ ap Some (found ∙ ap (after_restart (comebacks c).image (comebacks c).move_fault) (λ i. record { book = l.book; restarts = sym restarts i; is_new = sym formats i })))
     (λ c part l there. restart_done c w new part l (comebacks c) out relays net empty (cleared c part there) (its_region c part there))
   where
     its_region : (c : ℕ) (part : CircuitPart) → slice_get w.server.topology.circuits c ≡ Some part
-        → IsRegionMigrated (counts_of part) (comebacks c).move_fault (crashed (comebacks c).image (disk.state_of w.disk part.region)) (disk.state_of new.disk part.region)
+        → IsRegionMigrated (counts_of part) (comebacks c).move_fault (crashed (comebacks c).image (disk.disk_region w.disk part.region)) (disk.disk_region new.disk part.region)
     its_region c part there =
-        let P : CircuitPart → Type 0 = λ p. IsRegionMigrated (counts_of p) (faults p.region) (regions p.region) (disk.state_of new.disk p.region) in
-        let Q : ℕ → Region → Type 0 = λ fault region. IsRegionMigrated (counts_of part) fault region (disk.state_of new.disk part.region) in
+        let P : CircuitPart → Type 0 = λ p. IsRegionMigrated (counts_of p) (faults p.region) (regions p.region) (disk.disk_region new.disk p.region) in
+        let Q : ℕ → Region → Type 0 = λ fault region. IsRegionMigrated (counts_of part) fault region (disk.disk_region new.disk part.region) in
         subst₂ Q (fails c part there) (crash c part there) (all_at P w.server.topology.circuits c part brought there)

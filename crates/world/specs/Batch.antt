@@ -7,7 +7,7 @@ use Rattle.types.specs.declared.discard.Discard.{Discard}
 use Rattle.config.specs.CircuitPart.{CircuitPart}
 use Rattle.config.specs.Topology.{Topology, serves}
 use Rattle.lease_disk.specs.Device.{is_in}
-use Rattle.lease_disk.specs.Model.{ModelDiskValue, fuse_of, state_of}
+use Rattle.lease_disk.specs.Model.{ModelDiskValue, failing_call_of, disk_region}
 use Rattle.lossy_net.specs.Net.{Datagram, NetValue, datagrams}
 use Rattle.lossy_net.specs.declared.dir.Dir.TheVariants.{Up}
 use Rattle.dispatch.specs.Batch.{IsBatch, IsBatchOfLeases, batch_fault, batch_saves}
@@ -62,7 +62,7 @@ all_saves net now ws server = batch_saves server.topology (all_delivered net now
 
 -- which call of each region fails for it in the batch
 abbrev pub all_faults : NetValue → ℕ → List Waiting → ServerValue → ModelDiskValue → ℕ → ℕ
-all_faults net now ws server disk = batch_fault (faults_after true ws (fuse_of disk)) (all_saves net now ws server)
+all_faults net now ws server disk = batch_fault (faults_after true ws (failing_call_of disk)) (all_saves net now ws server)
 
 pub record AreServed (now : ℕ) (ws : List Waiting) (net : NetValue) (old new : ServerValue) (disk later : ModelDiskValue) (answers : List (Result (List ℕ) Discard)) : Type 0 where
   pub topology : new.topology ≡ old.topology
@@ -70,11 +70,11 @@ pub record AreServed (now : ℕ) (ws : List Waiting) (net : NetValue) (old new :
   pub fails : ℕ → Bool
   pub failing : (r : ℕ) → fails r ≡ (is_in (all_saves net now ws old) r && not (all_faults net now ws old disk r == 0))
   pub answered : IsBatch old.topology (all_delivered net now ws) fails (books_in old) (books_in new) answers
-  pub leases : IsBatchOfLeases old.topology (all_delivered net now ws) (all_faults net now ws old disk) (leases_in (state_of disk) old) (leases_in (state_of later) new)
-  pub ready : AreReady (state_of later) new
-  pub region : (r : ℕ) → is_in (all_saves net now ws old) r ≡ false → state_of later r ≡ state_of disk r
-  pub fuse : (r : ℕ) → is_in (all_saves net now ws old) r ≡ false → is_in (regions_of ws) r ≡ false → fuse_of later r ≡ fuse_of disk r
-  pub cleared : (r : ℕ) → is_in (regions_of ws) r ≡ true → fuse_of later r ≡ 0
+  pub leases : IsBatchOfLeases old.topology (all_delivered net now ws) (all_faults net now ws old disk) (leases_in (disk_region disk) old) (leases_in (disk_region later) new)
+  pub ready : AreReady (disk_region later) new
+  pub region : (r : ℕ) → is_in (all_saves net now ws old) r ≡ false → disk_region later r ≡ disk_region disk r
+  pub failing_call : (r : ℕ) → is_in (all_saves net now ws old) r ≡ false → is_in (regions_of ws) r ≡ false → failing_call_of later r ≡ failing_call_of disk r
+  pub cleared : (r : ℕ) → is_in (regions_of ws) r ≡ true → failing_call_of later r ≡ 0
 
 -- ---- what then comes of each part
 

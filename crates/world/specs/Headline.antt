@@ -36,7 +36,7 @@ pub record CircuitState : Type 0 where
   pub discarded : ℕ
   pub leases : Leases
   pub region : Region
-  pub fuse : ℕ
+  pub failing_call : ℕ
 
 -- A circuit's state shows this machine, set up like this.
 pub record Shows (state : CircuitState) (setup : Setup) (a : Alone) : Type 0 where
@@ -125,7 +125,7 @@ pub record MovesRest (seen : Seen) (old new : CircuitState) : Type 0 where
   -- one more exactly where the relay discards the frame, up to the greatest 32-bit number
   pub discarded : new.discarded ≡ (if is_discarded old seen then min 4294967295 (old.discarded + 1) else old.discarded)
   -- no call of the device is left to fail, where none was
-  pub fuse : old.fuse ≡ 0 → new.fuse ≡ 0
+  pub failing_call : old.failing_call ≡ 0 → new.failing_call ≡ 0
   pub region : ComesBack seen old new
 
 abbrev pub region_at : ℕ → List CircuitState → Option Region

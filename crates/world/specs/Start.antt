@@ -38,7 +38,7 @@ opening_of region fault = record { byte = region.byte; move_fault = fault }
 
 -- over this device
 abbrev pub opening_in : Device → Setup → Opening
-opening_in device setup = opening_of (device.region setup.part.region) (device.fuse setup.part.region)
+opening_in device setup = opening_of (device.region setup.part.region) (device.failing_call setup.part.region)
 
 -- the circuit's region can be read
 abbrev pub IsReadable : Device → Setup → Type 0

@@ -92,7 +92,7 @@ pub record IsWorldOf (t : Topology) (w : WorldValue) : Type 0 where
   pub count : length w.net.circuits ≡ length t.circuits
   -- each circuit has its region, which an open circuit can save to
   pub regions : HasRegions t.circuits (length w.disk.regions)
-  pub ready : AreReady (disk.state_of w.disk) w.server
+  pub ready : AreReady (disk.disk_region w.disk) w.server
   pub addressed : (c : ℕ) (part : CircuitPart) → slice_get t.circuits c ≡ Some part → Each (IsFor t c part) (datagrams w.net c Up)
   pub returned : (c : ℕ) (part : CircuitPart) → slice_get t.circuits c ≡ Some part → Each (Returns t c part) (datagrams w.net c Down)
 

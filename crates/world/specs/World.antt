@@ -19,8 +19,8 @@ pub record WorldValue : Type 0 where
   pub disk : ModelDiskValue
 
 -- circuit c's state, with its part of the configuration and its leases
-abbrev pub state_of : WorldValue → ℕ → CircuitPart → Leases → CircuitState
-state_of w c part leases = record {
+abbrev pub world_state : WorldValue → ℕ → CircuitPart → Leases → CircuitState
+world_state w c part leases = record {
   setup = record { part = part; quota = w.net.quota; begins_on = has w.relays.topology.plans 0 c };
   plans = slice_index_or w.relays.topology.plans.members c [];
   on = serves w.relays.topology c;
@@ -28,8 +28,8 @@ state_of w c part leases = record {
   down = datagrams w.net c Down;
   discarded = slice_index w.relays.discarded c;
   leases = leases;
-  region = disk.state_of w.disk part.region;
-  fuse = disk.fuse_of w.disk part.region;
+  region = disk.disk_region w.disk part.region;
+  failing_call = disk.failing_call_of w.disk part.region;
 }
 
 -- a state for each part and leases, in order
@@ -39,4 +39,4 @@ each_state state (part ∷ parts) [] = []
 each_state state [] all = []
 
 abbrev pub states : WorldValue → List CircuitState
-states w = each_state (state_of w) w.server.topology.circuits (leases_in (disk.state_of w.disk) w.server)
+states w = each_state (world_state w) w.server.topology.circuits (leases_in (disk.disk_region w.disk) w.server)

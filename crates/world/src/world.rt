@@ -4,7 +4,7 @@ ghost use Rattle.config.specs.CircuitPart.{CircuitPart, parts_of};
 ghost use Rattle.dispatch.specs.Regions.{AreRegionsMigrated, AreSynced, HasRegions, KeepsOthers};
 ghost use Rattle.dispatch.specs.declared.server.OpenFault.TheVariants as fault;
 ghost use Rattle.lease_disk.specs.Crash.{crashed};
-ghost use Rattle.lease_disk.specs.Model.{device_of, fuse_of, state_of};
+ghost use Rattle.lease_disk.specs.Model.{device_of, failing_call_of, disk_region};
 ghost use Rattle.config.specs.Plans.{one_plan};
 ghost use Rattle.config.specs.Topology.{RegionsDiffer, plans_topology, reloaded, topology_of};
 ghost use Rattle.lossy_net.specs.Net.{datagrams};
@@ -86,9 +86,9 @@ fn crash_all(server: &Server, disk: &mut ModelDisk, comebacks: &[Comeback])
     requires regions { HasRegions server.now.topology.circuits (length disk.old.regions) }
     requires differ { RegionsDiffer server.now.topology.circuits }
     ensures crashed { (c : ℕ) (part : CircuitPart) → slice_get server.now.topology.circuits c ≡ Some part
-        → state_of disk.new part.region ≡ crashed (comeback_at c comebacks.now).image (state_of disk.old part.region) }
+        → disk_region disk.new part.region ≡ crashed (comeback_at c comebacks.now).image (disk_region disk.old part.region) }
     ensures faults { (c : ℕ) (part : CircuitPart) → slice_get server.now.topology.circuits c ≡ Some part
-        → fuse_of disk.new part.region ≡ (comeback_at c comebacks.now).move_fault }
+        → failing_call_of disk.new part.region ≡ (comeback_at c comebacks.now).move_fault }
     ensures count { length disk.new.regions ≡ length disk.old.regions }
     ensures spares { KeepsOthers server.now.topology.circuits (device_of disk.old) (device_of disk.new) }
 {
@@ -108,8 +108,8 @@ fn crash_all(server: &Server, disk: &mut ModelDisk, comebacks: &[Comeback])
 fn clear_faults(server: &Server, disk: &mut ModelDisk)
     requires few { length server.now.topology.circuits ≤ 1024 }
     requires regions { HasRegions server.now.topology.circuits (length disk.old.regions) }
-    ensures states { state_of disk.new ≡ state_of disk.old }
-    ensures faults { (c : ℕ) (part : CircuitPart) → slice_get server.now.topology.circuits c ≡ Some part → fuse_of disk.new part.region ≡ 0 }
+    ensures states { disk_region disk.new ≡ disk_region disk.old }
+    ensures faults { (c : ℕ) (part : CircuitPart) → slice_get server.now.topology.circuits c ≡ Some part → failing_call_of disk.new part.region ≡ 0 }
     ensures count { length disk.new.regions ≡ length disk.old.regions }
     ensures reads { disk.new.reads ≡ disk.old.reads }
     ensures writes { disk.new.writes ≡ disk.old.writes }
@@ -149,12 +149,12 @@ impl World {
     ) -> Result<World, OpenFault>
         requires some { 1 ≤ quota }
         requires most { quota ≤ 256 }
-        requires synced { AreSynced (parts_of config.now) (state_of disk) }
+        requires synced { AreSynced (parts_of config.now) (disk_region disk) }
         ensures starts { IfOk result (λ world. Starts (one_plan config.now) quota (device_of disk) (states world)) }
         ensures topology { IfOk result (λ world. world.relays.topology ≡ topology_of config.now) }
         ensures regions { IfOk result (λ world. AreRegionsMigrated (parts_of config.now) (device_of disk) (device_of world.disk)) }
         ensures others { IfOk result (λ world. KeepsOthers (parts_of config.now) (device_of disk) (device_of world.disk)) }
-        ensures faults { IfOk result (λ world. (c : ℕ) (part : CircuitPart) → slice_get (parts_of config.now) c ≡ Some part → fuse_of world.disk part.region ≡ 0) }
+        ensures faults { IfOk result (λ world. (c : ℕ) (part : CircuitPart) → slice_get (parts_of config.now) c ≡ Some part → failing_call_of world.disk part.region ≡ 0) }
         ensures small { IfErr result (λ why. why ≡ fault.DiskTooSmall → ¬ HasRegions (parts_of config.now) (length disk.regions)) }
         ensures large { IfOk result (λ world. HasRegions (parts_of config.now) (length disk.regions)) }
         ensures reads { IfOk result (λ world. world.disk.reads ≤ disk.reads + 5 * length config.now.circuits) }
@@ -187,12 +187,12 @@ impl World {
     ) -> Result<World, OpenFault>
         requires some { 1 ≤ quota }
         requires most { quota ≤ 256 }
-        requires synced { AreSynced (parts_of plans.now.union) (state_of disk) }
+        requires synced { AreSynced (parts_of plans.now.union) (disk_region disk) }
         ensures starts { IfOk result (λ world. Starts plans.now quota (device_of disk) (states world)) }
         ensures topology { IfOk result (λ world. world.relays.topology ≡ plans_topology plans.now) }
         ensures regions { IfOk result (λ world. AreRegionsMigrated (parts_of plans.now.union) (device_of disk) (device_of world.disk)) }
         ensures others { IfOk result (λ world. KeepsOthers (parts_of plans.now.union) (device_of disk) (device_of world.disk)) }
-        ensures faults { IfOk result (λ world. (c : ℕ) (part : CircuitPart) → slice_get (parts_of plans.now.union) c ≡ Some part → fuse_of world.disk part.region ≡ 0) }
+        ensures faults { IfOk result (λ world. (c : ℕ) (part : CircuitPart) → slice_get (parts_of plans.now.union) c ≡ Some part → failing_call_of world.disk part.region ≡ 0) }
         ensures small { IfErr result (λ why. why ≡ fault.DiskTooSmall → ¬ HasRegions (parts_of plans.now.union) (length disk.regions)) }
         ensures large { IfOk result (λ world. HasRegions (parts_of plans.now.union) (length disk.regions)) }
         ensures reads { IfOk result (λ world. world.disk.reads ≤ disk.reads + 5 * length plans.now.union.circuits) }
@@ -222,11 +222,11 @@ impl World {
         ensures relays { result.relays ≡ relays }
         ensures net { result.net ≡ net }
         ensures server { result.server ≡ server }
-        ensures states { state_of result.disk ≡ state_of disk }
+        ensures states { disk_region result.disk ≡ disk_region disk }
         ensures count { length result.disk.regions ≡ length disk.regions }
         ensures reads { result.disk.reads ≡ disk.reads }
         ensures writes { result.disk.writes ≡ disk.writes }
-        ensures faults { (c : ℕ) (part : CircuitPart) → slice_get server.topology.circuits c ≡ Some part → fuse_of result.disk part.region ≡ 0 }
+        ensures faults { (c : ℕ) (part : CircuitPart) → slice_get server.topology.circuits c ≡ Some part → failing_call_of result.disk part.region ≡ 0 }
         ensures spares { KeepsOthers server.topology.circuits (device_of disk) (device_of result.disk) }
     {
         clear_faults(&server, &mut disk);

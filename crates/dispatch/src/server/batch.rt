@@ -15,17 +15,17 @@ ghost use Rattle.config.specs.CircuitPart as parts;
 ghost use Rattle.requests.specs.RelayedMessage.{IsRelayedMessage};
 ghost use Rattle.circuit_server.specs.Calls.{IsCalledToSave};
 ghost use Rattle.circuit_server.specs.Prepared.{IsDropped, IsPrepared, IsSettled};
-ghost use Rattle.circuit_server.specs.Ticked.{state_of};
+ghost use Rattle.circuit_server.specs.Ticked.{server_state};
 
 use super::Server;
 use super::batch_answers::BatchAnswers;
 use super::savings::Savings;
 use arrayvec::ArrayVec;
-use batch_saves::{MAX_BATCH, Saving};
+use batch_saves::Saving;
 use circuit_server::Prepared;
 use lease_disk::{Disk, Fault, Marks};
 use requests::{RelayedMessage, addressee};
-use types::{Circuit, Delivery, Discard, Moment, Proto, Source};
+use types::{Circuit, Delivery, Discard, MAX_BATCH, Moment, Proto, Source};
 use wire::PacketBuf;
 
 /// A part of a batch before anything is saved: what is to be settled, and of which circuit, or why it is dropped.
@@ -53,11 +53,11 @@ impl Server {
         requires circuit { circuit < length self.old.topology.circuits }
         requires read { IsRelayedMessage delivery.now.proto delivery.now.bytes relayed }
         ensures topology { self.new.topology ≡ self.old.topology }
-        ensures others { self.new.states ≡ slice_set self.old.states circuit (state_of self.new.states circuit) }
+        ensures others { self.new.states ≡ slice_set self.old.states circuit (server_state self.new.states circuit) }
         ensures deadlines { KeepsDeadlines (λ c. circuit == c) self.old.deadlines self.new.deadlines }
         ensures held { AllUnchangedOrUntilHeld self.old.deadlines self.new.deadlines self.new.states }
-        ensures prepared { (part : parts.CircuitPart) → slice_get self.old.topology.circuits circuit ≡ Some part → IfOk result (IsPrepared part delivery.now (state_of self.old.states circuit) (state_of self.new.states circuit)) }
-        ensures dropped { (part : parts.CircuitPart) → slice_get self.old.topology.circuits circuit ≡ Some part → IfErr result (IsDropped part delivery.now (state_of self.old.states circuit) (state_of self.new.states circuit)) }
+        ensures prepared { (part : parts.CircuitPart) → slice_get self.old.topology.circuits circuit ≡ Some part → IfOk result (IsPrepared part delivery.now (server_state self.old.states circuit) (server_state self.new.states circuit)) }
+        ensures dropped { (part : parts.CircuitPart) → slice_get self.old.topology.circuits circuit ≡ Some part → IfErr result (IsDropped part delivery.now (server_state self.old.states circuit) (server_state self.new.states circuit)) }
     {
         let part = self.circuits.part(circuit);
         let table = &mut self.deadlines;
@@ -155,9 +155,9 @@ impl Server {
         // Over a device that tells its bytes: which saves fail, and what restarts then find.
         ensures fails { D.tells ≡ true → (r : ℕ) → has_failed (D.device disk.old) (D.device disk.new) r
             ≡ (is_in (batch_saves self.old.topology (deliveries now parts.now) (books_in self.old)) r
-            && not (batch_fault (D.device disk.old).fuse (batch_saves self.old.topology (deliveries now parts.now) (books_in self.old)) r == 0)) }
+            && not (batch_fault (D.device disk.old).failing_call (batch_saves self.old.topology (deliveries now parts.now) (books_in self.old)) r == 0)) }
         ensures leases { D.tells ≡ true → IsBatchOfLeases self.old.topology (deliveries now parts.now)
-            (batch_fault (D.device disk.old).fuse (batch_saves self.old.topology (deliveries now parts.now) (books_in self.old)))
+            (batch_fault (D.device disk.old).failing_call (batch_saves self.old.topology (deliveries now parts.now) (books_in self.old)))
             (leases_in (D.device disk.old).region self.old) (leases_in (D.device disk.new).region self.new) }
         ensures ready { D.tells ≡ true → AreReady (D.device disk.new).region self.new }
         ensures frame { IsWrittenTogether D.tells (batch_saves self.old.topology (deliveries now parts.now) (books_in self.old)) (D.device disk.old) (D.device disk.new) }
@@ -215,7 +215,7 @@ impl Server {
         requires room { length answers.old < 16 }
         ensures topology { self.new.topology ≡ self.old.topology }
         ensures size { length self.new.states ≡ length self.old.states }
-        ensures keeps { (k : ℕ) → is_of k (Some part.now) ≡ false → state_of self.new.states k ≡ state_of self.old.states k }
+        ensures keeps { (k : ℕ) → is_of k (Some part.now) ≡ false → server_state self.new.states k ≡ server_state self.old.states k }
         ensures deadlines { KeepsDeadlines (λ c. is_of c (Some part.now)) self.old.deadlines self.new.deadlines }
         ensures held { (before : DeadlinesValue) → AllUnchangedOrUntilHeld before self.old.deadlines self.old.states → AllUnchangedOrUntilHeld before self.new.deadlines self.new.states }
         ensures answered { (answer : Result (List ℕ) discard.Discard) × (answers.new ≡ answers.old ++ answer ∷ []) × IsAnswered self.old.topology (part_at savings.now place) self.old.states self.new.states answer part.now }

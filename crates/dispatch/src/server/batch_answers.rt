@@ -3,7 +3,7 @@ ghost use Rattle.std.specs.Prelude.{◌≡◌, ◌<◌, ◌==◌, ℕ, List, Res
 ghost use Rattle.types.specs.Delivery.{delivery};
 ghost use Rattle.types.specs.declared.discard.Discard as discard;
 ghost use Rattle.timers.specs.Deadlines.{DeadlinesValue};
-ghost use Rattle.circuit_server.specs.Ticked.{state_of};
+ghost use Rattle.circuit_server.specs.Ticked.{server_state};
 ghost use Rattle.dispatch.specs.Answers.{answer_of};
 ghost use Rattle.dispatch.specs.Batch.{is_named};
 ghost use Rattle.dispatch.specs.Deadlines.{AllUnchangedOrUntilHeld, KeepsDeadlines};
@@ -12,12 +12,11 @@ ghost use Rattle.dispatch.specs.Regions.{HasRegions};
 ghost use Rattle.dispatch.specs.ServerValue.{AreReady};
 
 use super::Server;
-use batch_saves::MAX_BATCH;
 use circuit_server::Prepared;
 use lease_disk::{Disk, Fault, Marks};
 use std::array;
 use std::marker::Model;
-use types::{Circuit, Discard, Moment, Proto, Source};
+use types::{Circuit, Discard, MAX_BATCH, Moment, Proto, Source};
 use wire::PacketBuf;
 
 /// The answer to one part.
@@ -138,7 +137,7 @@ impl Server {
         requires circuit { circuit < length self.old.topology.circuits }
         requires room { length answers.old < 16 }
         ensures topology { self.new.topology ≡ self.old.topology }
-        ensures others { self.new.states ≡ slice_set self.old.states circuit (state_of self.new.states circuit) }
+        ensures others { self.new.states ≡ slice_set self.old.states circuit (server_state self.new.states circuit) }
         ensures deadlines { KeepsDeadlines (λ c. circuit == c) self.old.deadlines self.new.deadlines }
         ensures held { (before : DeadlinesValue) → AllUnchangedOrUntilHeld before self.old.deadlines self.old.states → AllUnchangedOrUntilHeld before self.new.deadlines self.new.states }
         ensures answered { (answer : Result (List ℕ) discard.Discard) × (answers.new ≡ answers.old ++ answer ∷ []) × IsSettledSo self.old.topology prepared.now saved circuit self.old.states self.new.states answer }

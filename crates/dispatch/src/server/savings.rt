@@ -4,7 +4,8 @@ ghost use Rattle.std.specs.List.{cons_option};
 ghost use Rattle.batch_saves.specs.Batch.{AreApart, AreReady, batch_calls, failed_of, part_at};
 ghost use Rattle.dispatch.specs.Parts.{AreSavedTogether, saved_by};
 
-use batch_saves::{MAX_BATCH, Saving, save_many};
+use batch_saves::{Saving, save_many};
+use types::MAX_BATCH;
 use lease_disk::{Disk, Fault, Marks};
 use std::marker::Model;
 

@@ -6,7 +6,7 @@ ghost use Rattle.dispatch.specs.Regions.{HasRegions, KeepsOthers};
 ghost use Rattle.dispatch.specs.ServerValue.{AreReady};
 ghost use Rattle.events.specs.declared.event.Event as event;
 ghost use Rattle.events.specs.declared.event.Event.TheVariants as events;
-ghost use Rattle.lease_disk.specs.Model.{device_of, fuse_of, state_of};
+ghost use Rattle.lease_disk.specs.Model.{device_of, failing_call_of, disk_region};
 ghost use Rattle.lossy_net.specs.Net.{datagrams};
 ghost use Rattle.lossy_net.specs.declared.dir.Dir.TheVariants as dir;
 ghost use Rattle.wire.specs.Bytes.{AreBytes};
@@ -17,17 +17,16 @@ ghost use Rattle.world.specs.World.{states};
 
 use super::World;
 use arrayvec::ArrayVec;
-use batch_saves::MAX_BATCH;
 use dispatch::{Answer, BatchAnswers, Server};
 use events::{BatchPart, Outcome, PartOutcome, is_batch, part_fault};
 use lease_disk::ModelDisk;
 use lossy_net::{Dir, Net};
 use relay::Relays;
-use types::{Addr4, Circuit, Moment, Proto, Source};
+use types::{Addr4, Circuit, MAX_BATCH, Moment, Proto, Source};
 use wire::PacketBuf;
 
 /// The source of nothing.
-const NOWHERE: Source = Source {
+const Source::UNSPECIFIED: Source = Source {
     addr: Addr4::UNSPECIFIED,
     port: 0,
 };
@@ -51,7 +50,7 @@ impl Default for Waiting {
             circuit: Circuit::at(0),
             number: 0,
             proto: Proto::V4,
-            source: NOWHERE,
+            source: Source::UNSPECIFIED,
             region: 0,
             fault: 0,
         }
@@ -133,9 +132,9 @@ fn fault_of(part: Waiting, fails: bool) -> u8
 /// Sets which call of the disk fails for the region of each of these parts, or that none does.
 fn set_faults(disk: &mut ModelDisk, waiting: &[Waiting], fails: bool)
     requires regions { All (λ (w : Waiting). w.region < length disk.old.regions) waiting.now }
-    ensures states { state_of disk.new ≡ state_of disk.old }
+    ensures states { disk_region disk.new ≡ disk_region disk.old }
     ensures count { length disk.new.regions ≡ length disk.old.regions }
-    ensures faults { fuse_of disk.new ≡ faults_after fails waiting.now (fuse_of disk.old) }
+    ensures faults { failing_call_of disk.new ≡ faults_after fails waiting.now (failing_call_of disk.old) }
 {
     'parts: for index in 0..waiting.len() {
         let part = waiting[index];
@@ -150,7 +149,7 @@ fn datagrams_of<'a>(net: &'a Net, waiting: &[Waiting]) -> [(Proto, Source, &'a [
     ensures { (now : ℕ) → map (λ d. delivery d.0 d.1 now d.2.now) (take (length waiting.now) result) ≡ map (delivered net.now now) waiting.now }
 {
     let none: &[u8] = &[];
-    let mut datagrams = [(Proto::V4, NOWHERE, none); MAX_BATCH];
+    let mut datagrams = [(Proto::V4, Source::UNSPECIFIED, none); MAX_BATCH];
     'parts: for index in 0..waiting.len() {
         let part = waiting[index];
         let bytes = match net.deliver(part.circuit, Dir::Up, part.number) {
@@ -174,7 +173,7 @@ fn serve_all(
 )
     requires few { length waiting.now ≤ 16 }
     requires regions { HasRegions server.old.topology.circuits (length disk.old.regions) }
-    requires ready { AreReady (state_of disk.old) server.old }
+    requires ready { AreReady (disk_region disk.old) server.old }
     requires exist { All (λ (w : Waiting). w.region < length disk.old.regions) waiting.now }
     ensures { AreServed now waiting.now net.now server.old server.new disk.old disk.new answers.new }
 {

@@ -8,7 +8,7 @@ use Rattle.circuit_server.specs.Calls.{IsCalledToSaveAt}
 use Rattle.dispatch.specs.Received.{received, received_saves}
 use Rattle.dispatch.specs.ServerValue.{books_in}
 use Rattle.udp.specs.declared.history.Role.TheVariants as role
-use Rattle.counts.specs.declared.counts.Outcome.TheVariants as outcome
+use Rattle.counts.specs.declared.counts.Fate.TheVariants as outcome
 use Rattle.access.specs.Batch.{made_of, serving}
 use Rattle.access.specs.Taken.{delivered}
 use Rattle.access.proofs.AnswerLemmas.{went}

@@ -4,7 +4,7 @@ use Rattle.lease_disk.specs.Device.{is_in}
 use Rattle.lease_disk.specs.declared.saving.Saving.{Saving}
 use Rattle.batch_saves.specs.Batch.{part_at}
 use Rattle.batch_saves.specs.Steps.{AreSaving}
-use Rattle.batch_saves.proofs.Syncing.{any_found, any_none, kept_zero, none_saving, one_saving, seen_fuse, synced_part, to_false, to_true, where_err, where_ok}
+use Rattle.batch_saves.proofs.Syncing.{any_found, any_none, kept_zero, none_saving, one_saving, seen_failing_call, synced_part, to_false, to_true, where_err, where_ok}
 use Rattle.batch_saves.proofs.syncs.sync_parts.Goals as goal
 
 pub returns-then-is_empty-clause-syncs : goal.returns-then-is_empty-clause-syncs
@@ -40,14 +40,14 @@ returns-then-is_ok-clause-parts g c =
       parts = λ i within. record {
         part = refl;
         sync = synced_part g.D.Disk.tells c.args.step false c.args.parts.now regions saving c.requires.apart old new
-            (λ t. where_ok c.sync_set.result fine (c.sync_set.ensures.ok t)) c.sync_set.ensures.fuse c.sync_set.ensures.frame
+            (λ t. where_ok c.sync_set.result fine (c.sync_set.ensures.ok t)) c.sync_set.ensures.failing_call c.sync_set.ensures.frame
             (c.sync_set.ensures.failures ∙ ap (λ b. if b then old.failures else (λ q. if is_in regions q then old.failures q + 1 else old.failures q)) fine) i within (part_at c.args.parts.now i).failed (kept_zero (part_at c.args.parts.now i).failed);
       };
       cause = λ t fails. absurd cc;
       quiet = λ t fails i within zero one.
           let none = to_true (is_ok c.sync_set.result) _ (c.sync_set.ensures.answer t) fine in
-          let other : (old.fuse (part_at c.args.parts.now i).region == 1) ≡ false = any_none (λ r. old.fuse r == 1) regions none (part_at c.args.parts.now i).region (saving.each i within zero) in
-          let is : old.fuse (part_at c.args.parts.now i).region ≡ 1 = sym (seen_fuse g.D.Disk.tells old (part_at c.args.parts.now i).region t) ∙ one in
+          let other : (old.failing_call (part_at c.args.parts.now i).region == 1) ≡ false = any_none (λ r. old.failing_call r == 1) regions none (part_at c.args.parts.now i).region (saving.each i within zero) in
+          let is : old.failing_call (part_at c.args.parts.now i).region ≡ 1 = sym (seen_failing_call g.D.Disk.tells old (part_at c.args.parts.now i).region t) ∙ one in
           absurd (grind (arith, other, is));
     }
 
@@ -65,17 +65,17 @@ returns-clause-parts g c =
           record {
             part = is ∙ ap (λ n. record (part_at c.args.parts.now i) { failed = n }) (sym (ap (λ (p : Saving). p.failed) is));
             sync = synced_part g.D.Disk.tells c.args.step true c.args.parts.now regions saving c.requires.apart old new
-                (λ t. where_err c.sync_set.result bad (c.sync_set.ensures.err t)) c.sync_set.ensures.fuse c.sync_set.ensures.frame
+                (λ t. where_err c.sync_set.result bad (c.sync_set.ensures.err t)) c.sync_set.ensures.failing_call c.sync_set.ensures.frame
                 (c.sync_set.ensures.failures ∙ ap (λ b. if b then old.failures else (λ q. if is_in regions q then old.failures q + 1 else old.failures q)) bad) i within _
                 (ap (λ (p : Saving). p.failed) is ∙ ap (λ n. if (part_at c.args.parts.now i).failed == 0 then n + 1 else (part_at c.args.parts.now i).failed) c.call_of.ensures);
           };
       cause = λ t fails.
           let some = to_false (is_ok c.sync_set.result) _ (c.sync_set.ensures.answer t) bad in
-          let found = any_found (λ r. old.fuse r == 1) regions some in
+          let found = any_found (λ r. old.failing_call r == 1) regions some in
           let there = saving.only found.0 found.1.0 in
           let is : found.0 ≡ (part_at c.args.parts.now there.0).region = sym there.1.2 in
-          let one : (old.fuse found.0 == 1) ≡ true = found.1.1 in
-          let first : old.fuse found.0 ≡ 1 = grind (arith, one) in
-          (there.0, (there.1.0, there.1.1, seen_fuse g.D.Disk.tells old (part_at c.args.parts.now there.0).region t ∙ ap old.fuse (sym is) ∙ first));
+          let one : (old.failing_call found.0 == 1) ≡ true = found.1.1 in
+          let first : old.failing_call found.0 ≡ 1 = grind (arith, one) in
+          (there.0, (there.1.0, there.1.1, seen_failing_call g.D.Disk.tells old (part_at c.args.parts.now there.0).region t ∙ ap old.failing_call (sym is) ∙ first));
       quiet = λ t fails. absurd cc;
     }

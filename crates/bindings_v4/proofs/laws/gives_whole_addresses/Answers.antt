@@ -1,5 +1,5 @@
 use Rattle.std.specs.Prelude.{Ok}
-use Rattle.types.specs.declared.request4.Reply4.TheVariants as reply
+use Rattle.exchange.specs.declared.request4.Reply4.TheVariants as reply
 use Rattle.bindings_v4.proofs.ReplyLemmas.{whole_answer}
 use Rattle.bindings_v4.proofs.laws.gives_whole_addresses.Goals as goal
 

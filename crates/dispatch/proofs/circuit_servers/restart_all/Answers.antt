@@ -55,7 +55,7 @@ circuits-init g c = record {
   buffer = c.requires.buffer;
   room = c.requires.room;
   deadlines = none_set c.args.table.now c.args.servers.now;
-  looks = refl;
+  examined = refl;
   size = refl;
 }
 
@@ -85,7 +85,7 @@ circuits-preserved g c =
       deadlines =
           set_more i c.circuits.table c.set_deadlines.new.table states c.restart.new.self inside loop.deadlines
           (λ s below. ap (λ n. deadline c.set_deadlines.new.table (32 * n + s)) (sym c.at.ensures) ∙ c.set_deadlines.ensures.own s below ∙ ap (λ state. held_in state s) (get_or-set_same states i c.restart.new.self c.index-servers-index-in-circuits.result inside)) entries;
-      looks = entries.looks ∙ loop.looks;
+      examined = entries.examined ∙ loop.examined;
       size = length-set states i c.restart.new.self ∙ loop.size;
     }
 
@@ -97,7 +97,7 @@ returns-clause-table g c =
     let loop = c.circuits.invariant in
     let sizes : length c.args.parts.now ≡ length c.circuits.servers = sym c.requires.size ∙ sym loop.size in
     let anew = all_set c.circuits.table c.circuits.servers c.circuits.index (omega (arith, c.circuits-test.false, loop.size, c.requires.size)) loop.deadlines in
-    record { held = all_held c.circuits.table c.circuits.servers (loop.room ∙ ap (λ n. 32 * n) sizes) anew; anew = anew; looks = loop.looks }
+    record { held = all_held c.circuits.table c.circuits.servers (loop.room ∙ ap (λ n. 32 * n) sizes) anew; anew = anew; examined = loop.examined }
 
 pub returns-clause-restarted : goal.returns-clause-restarted
 returns-clause-restarted g c =
@@ -111,8 +111,8 @@ returns-clause-restarted g c =
     record {
       pools = subst (All HasItsPools) (take_all c.circuits.index xs (omega (arith, c.circuits-test.false, size_with parts states))) c.circuits.invariant.pools;
       leases = λ tells.
-          all_found now.region (found_leases first.region first.fuse) xs (all_leases parts c.circuits.index states first now size whole (c.circuits.invariant.up tells))
-          ∙ ap (map (found_leases first.region first.fuse)) (parts_with parts states);
+          all_found now.region (found_leases first.region first.failing_call) xs (all_leases parts c.circuits.index states first now size whole (c.circuits.invariant.up tells))
+          ∙ ap (map (found_leases first.region first.failing_call)) (parts_with parts states);
       ready = λ tells. all_ready parts c.circuits.index states first now size whole (c.circuits.invariant.up tells);
       regions = λ tells. all_regions parts c.circuits.index states first now size whole (c.circuits.invariant.up tells);
     }

@@ -16,6 +16,6 @@ invariant-circuits g l = record {
   buffer : length l.buffer ≡ 16384;
   room : length l.table.slots ≡ 32 * length l.parts;
   deadlines : SetFirst l.index l.table l.servers;
-  looks : l.table.looks ≡ l.fn.table.looks;
+  examined : l.table.examined ≡ l.fn.table.examined;
   size : length l.servers ≡ length l.fn.servers;
 }

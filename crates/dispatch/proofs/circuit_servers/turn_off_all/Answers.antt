@@ -4,7 +4,7 @@ use Rattle.std.proofs.lemmas.List.{length-map}
 use Rattle.timers.specs.Deadlines.{DeadlinesValue, deadline}
 use Rattle.circuit_server.specs.Deadlines.{HasDeadlines, OthersUnchanged, held_in}
 use Rattle.circuit_server.specs.CircuitServerValue.{OpenCircuitValue}
-use Rattle.circuit_server.specs.Ticked.{IsLater, state_at, state_of}
+use Rattle.circuit_server.specs.Ticked.{IsLater, state_at, server_state}
 use Rattle.circuit_server.specs.Unoffered.{state_unoffered}
 use Rattle.dispatch.specs.Turned.{AreTurned, turns_off}
 use Rattle.dispatch.proofs.OneServer.{one}
@@ -40,12 +40,12 @@ circuits-preserved c =
             let after = w.turn_off.new.table in
             let state : new ≡ state_unoffered moved = w.turn_off.ensures.state ∙ ap (λ one. state_unoffered (state_at c.args.ticked one)) (sym w.index-servers-index.is) in
             let kept = one c.args.ticked c.circuits.servers n found moved new among w.index-servers-index.is refl (λ moment later. subst (IsLater moment) (sym state) (still_later moment moved later)) in
-            let its : state_unoffered (state_of mid n) ≡ new = ap state_unoffered kept.before ∙ sym state in
+            let its : state_unoffered (server_state mid n) ≡ new = ap state_unoffered kept.before ∙ sym state in
             let at = c.at-circuit.ensures in
             let turned =
             one_goes off n old mid before c.circuits.table after (tested ∙ w.if-turns_off.true) within loop.turned
             (λ s below. ap (λ k. deadline after (32 * k + s)) (sym at) ∙ w.turn_off.ensures.own s below ∙ ap (λ state. held_in state s) (sym its))
-            (subst (λ k. HasDeadlines after (32 * k) (state_unoffered (state_of mid n))) at (subst (HasDeadlines after (32 * c.at-circuit.result)) (sym its) w.turn_off.ensures.entries.deadlines))
+            (subst (λ k. HasDeadlines after (32 * k) (state_unoffered (server_state mid n))) at (subst (HasDeadlines after (32 * c.at-circuit.result)) (sym its) w.turn_off.ensures.entries.deadlines))
             (subst (λ k. OthersUnchanged (32 * k) c.circuits.table after) at w.turn_off.ensures.entries.others) in
             subst (λ (table : DeadlinesValue). AreTurned (so_far off (n + 1)) old (shown c.if-turns_off.servers) before table) (sym w.table-is)
             (subst (λ (xs : List (Option OpenCircuitValue)). AreTurned (so_far off (n + 1)) old xs before after) (sym (ap shown w.servers-is ∙ kept.others ∙ ap (set mid n) (sym its))) turned)

@@ -5,10 +5,10 @@ use Rattle.types.specs.Delivery.{DeliveryValue}
 use Rattle.types.specs.declared.addr.Addr6.{Addr6}
 use Rattle.types.specs.declared.dest.Proto.{Proto}
 use Rattle.types.specs.declared.discard.Discard.{Discard}
-use Rattle.types.specs.declared.request6.Reply6.{Reply6}
-use Rattle.types.specs.declared.request6.ReplyIa.{ReplyIa}
-use Rattle.types.specs.declared.request6.ReplyIa.TheVariants as ia
-use Rattle.types.specs.declared.request6.Request6.{Request6}
+use Rattle.exchange.specs.declared.request6.Reply6.{Reply6}
+use Rattle.exchange.specs.declared.request6.ReplyIa.{ReplyIa}
+use Rattle.exchange.specs.declared.request6.ReplyIa.TheVariants as ia
+use Rattle.exchange.specs.declared.request6.Request6.{Request6}
 use Rattle.v6_options.specs.Codes.{RELAY_MESSAGE}
 use Rattle.v6_options.specs.Spelling.{look_up}
 use Rattle.v6_message.specs.declared.fault.RelayFault.{RelayFault}

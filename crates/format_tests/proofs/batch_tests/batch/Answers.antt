@@ -5,7 +5,7 @@ use Rattle.lease_disk.specs.declared.marks.Marks.{Marks}
 use Rattle.lease_disk.specs.declared.saving.Saving.{Saving}
 use Rattle.lease_disk.specs.Crash.{formatted_region}
 use Rattle.lease_disk.specs.Device.{Device}
-use Rattle.lease_disk.specs.Model.{ModelDiskValue, SameBut, device_of, region_of, state_of}
+use Rattle.lease_disk.specs.Model.{ModelDiskValue, SameBut, device_of, region_of, disk_region}
 use Rattle.lease_disk.specs.Region.{Region, IsClean}
 use Rattle.lease_disk.specs.Layout.{is_format2}
 use Rattle.lease_disk.specs.Save.{AreMarks, Fits, IsMark, is_read, mark_at}
@@ -23,10 +23,10 @@ below s (Four slot) few = below4 s few
 below s (Six slot) fits = below6 s fits.0 fits.1
 
 -- setting a fault changes no region
-kept : (r : ℕ) (old new : ModelDiskValue) → state_of new r ≡ state_of old r → SameBut r old new → (q : ℕ) → state_of new q ≡ state_of old q
+kept : (r : ℕ) (old new : ModelDiskValue) → disk_region new r ≡ disk_region old r → SameBut r old new → (q : ℕ) → disk_region new q ≡ disk_region old q
 kept r old new here others q = by (q == r) refl where
-  by : (b : Bool) → (q == r) ≡ b → state_of new q ≡ state_of old q
-  by true e = let is : q ≡ r = grind (arith, e) in ap (state_of new) is ∙ here ∙ ap (state_of old) (sym is)
+  by : (b : Bool) → (q == r) ≡ b → disk_region new q ≡ disk_region old q
+  by true e = let is : q ≡ r = grind (arith, e) in ap (disk_region new) is ∙ here ∙ ap (disk_region old) (sym is)
   by false e = ap region_of (others.others q (λ is. absurd (grind (arith, e, is))))
 
 is_ready : (device : Device) (marks : Marks) (p : Saving) → device.count ≡ 3 → p.region < 3 → ((q : ℕ) → q < 3 → device.region q ≡ formatted_region) → AreMarks (16 ∷ 16 ∷ []) formatted_region.byte marks
@@ -64,7 +64,7 @@ pub save_many-requires-clause-ready : goal.save_many-requires-clause-ready
 save_many-requires-clause-ready g c =
     let disk = c.fail_at-3.new.self in
     let count = c.fail_at-3.ensures.others.count ∙ c.fail_at-2.ensures.others.count ∙ c.fail_at.ensures.others.count ∙ c.formatted_regions-disk.ensures.count in
-    let formatted : (q : ℕ) → q < 3 → state_of disk q ≡ formatted_region = λ q within.
+    let formatted : (q : ℕ) → q < 3 → disk_region disk q ≡ formatted_region = λ q within.
     kept 2 c.fail_at-2.new.self c.fail_at-3.new.self c.fail_at-3.ensures.state c.fail_at-3.ensures.others q
     ∙ kept 1 c.fail_at.new.self c.fail_at-2.new.self c.fail_at-2.ensures.state c.fail_at-2.ensures.others q
     ∙ kept 0 c.formatted_regions-disk.result.0 c.fail_at.new.self c.fail_at.ensures.state c.fail_at.ensures.others q

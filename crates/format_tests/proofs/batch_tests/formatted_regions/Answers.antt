@@ -3,7 +3,7 @@ use Rattle.types.specs.declared.slots.Slots.{Slots}
 use Rattle.lease_disk.specs.declared.marks.Marks.{Marks}
 use Rattle.lease_disk.specs.declared.recovering.RecoverFault.{RecoverFault}
 use Rattle.lease_disk.specs.Layout.{is_format2}
-use Rattle.lease_disk.specs.Model.{state_of}
+use Rattle.lease_disk.specs.Model.{disk_region}
 use Rattle.lease_disk.specs.Recover.{Answers}
 use Rattle.lease_disk.specs.Region.{Region}
 use Rattle.lease_disk.specs.Save.{AreMarks}
@@ -19,4 +19,4 @@ pub returns-clause-marks : goal.returns-clause-marks
 returns-clause-marks g c =
     let is = c.new_disk-disk.ensures.formatted 0 (omega arith) in
     subst (λ (r : Region). AreMarks (16 ∷ 16 ∷ []) r.byte c.expect.result.1) is
-    (found_marks (state_of c.new_disk-disk.result 0) c.recover.result c.expect.result c.expect.ensures (subst (λ (r : Region). is_format2 r.byte ≡ true) (sym is) refl) (c.recover.ensures.answer refl))
+    (found_marks (disk_region c.new_disk-disk.result 0) c.recover.result c.expect.result c.expect.ensures (subst (λ (r : Region). is_format2 r.byte ≡ true) (sym is) refl) (c.recover.ensures.answer refl))

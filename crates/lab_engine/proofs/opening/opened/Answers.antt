@@ -1,10 +1,10 @@
 use Rattle.std.proofs.Common.{length, refl}
-use Rattle.lease_disk.specs.Model.{device_of, state_of}
+use Rattle.lease_disk.specs.Model.{device_of, disk_region}
 use Rattle.lab_engine.proofs.StartLemmas.{are_synced, memory_lacks, represents_ok}
 use Rattle.lab_engine.proofs.opening.opened.Goals as goal
 
 pub open_plans-requires-clause-synced : goal.open_plans-requires-clause-synced
-open_plans-requires-clause-synced c = are_synced c.args.plans.now.union (length c.args.disk.regions) (state_of c.args.disk) c.requires.regions c.requires.ready
+open_plans-requires-clause-synced c = are_synced c.args.plans.now.union (length c.args.disk.regions) (disk_region c.args.disk) c.requires.regions c.requires.ready
 
 pub returns-clause-represents : goal.returns-clause-represents
 returns-clause-represents c =

@@ -1,7 +1,7 @@
 use Rattle.std.proofs.Common.{◌+◌, ◌∙◌, true, false, length, take, refl, ap, sym, subst, arith, length-drop}
 use Rattle.std.proofs.KnownBytes.{Keeps-refl}
 use Rattle.std.specs.Io.KnownBytes.{prepend_known}
-use Rattle.lease_disk.specs.Model.{device_of, state_of}
+use Rattle.lease_disk.specs.Model.{device_of, disk_region}
 use Rattle.lab_engine.specs.Preparations.{PreparedSoFar}
 use Rattle.lab_engine.specs.Progress.{IsParsed}
 use Rattle.streams.specs.declared.line.LineEnd.TheVariants.{Newline}
@@ -18,7 +18,7 @@ use Rattle.lab_engine.proofs.preparations.prepare_all.Goals as goal
 pub lines-init : goal.lines-init
 lines-init g c = record {
   regions = refl;
-  ready = formatted_are_ready _ (state_of c.args.disk.now) c.requires.formatted;
+  ready = formatted_are_ready _ (disk_region c.args.disk.now) c.requires.formatted;
   lines = omega (arith, c.requires.count, ap length c.requires.held);
   below = omega (arith, c.requires.count);
   quiet = refl;

@@ -1,7 +1,7 @@
 use Rattle.std.proofs.Common.{◌≡◌, ℕ, ◌+◌, ◌≤◌, ◌<◌, false, length}
 use Rattle.std.specs.Prelude.{⊤}
 use Rattle.std.specs.Io.KnownBytes.{prepend_known}
-use Rattle.lease_disk.specs.Model.{device_of, state_of}
+use Rattle.lease_disk.specs.Model.{device_of, disk_region}
 use Rattle.lab_engine.specs.Preparations.{AreReady, PreparedSoFar}
 use Rattle.streams.specs.LineEnd.{IsCounted}
 use Rattle.streams.specs.ReadAhead.{held}
@@ -10,7 +10,7 @@ use Rattle.lab_engine.proofs.preparations.prepare_all.Given as goal
 abbrev pub invariant-lines : goal.invariant-lines
 invariant-lines g l = record {
   regions : length l.disk.regions ≡ length l.fn.disk.regions;
-  ready : AreReady (length l.disk.regions) (state_of l.disk);
+  ready : AreReady (length l.disk.regions) (disk_region l.disk);
   lines : l.earlier + length (held l.ahead) ≤ l.ahead.count;
   below : l.ahead.count < 18446744073709551615;
   quiet : g.R.ByteReader.failures l.reader ≡ g.R.ByteReader.failures l.fn.reader;

@@ -1,7 +1,7 @@
 use Rattle.std.proofs.Common.{◌∙◌, ap, take, length, sym, subst}
 use Rattle.std.specs.Prelude.{slice_get}
 use Rattle.config.specs.Rules.{IsSound}
-use Rattle.lease_disk.specs.Model.{ModelDiskValue, device_of, state_of}
+use Rattle.lease_disk.specs.Model.{ModelDiskValue, device_of, disk_region}
 use Rattle.settings.specs.Settings.{Settings}
 use Rattle.lab_engine.specs.Lab.{prepared}
 use Rattle.lab_engine.specs.Preparations.{ArePrepared, AreReady}
@@ -19,19 +19,19 @@ returns-clause-prepared c quota openings over =
     elim c.match-parsed.branch [
       | in-Ignored w ↦ subst goes (sym w.disk-is) (prepared_as plans quota (device_of old) c.args.parsed _ bytes openings w.in-Ignored.is over)
       | in-Fill w ↦ subst goes (sym w.disk-is) (prepared_as plans quota (device_of w.fill.new.self) c.args.parsed _ bytes openings w.in-Fill.is
-          (fill_over plans (subst IsSound w.union.ensures w.at.ensures.sound) w.in-Fill.circuit w.at.result.now (ap (λ (u : Settings). slice_get u.circuits w.in-Fill.circuit) (sym w.union.ensures) ∙ w.at.ensures.value) quota old w.fill.new.self (but_one _ _ _ w.fill.ensures.others) openings over w.in-Fill.byte w.fill.ensures.state w.fill.ensures.fuse))
+          (fill_over plans (subst IsSound w.union.ensures w.at.ensures.sound) w.in-Fill.circuit w.at.result.now (ap (λ (u : Settings). slice_get u.circuits w.in-Fill.circuit) (sym w.union.ensures) ∙ w.at.ensures.value) quota old w.fill.new.self (but_one _ _ _ w.fill.ensures.others) openings over w.in-Fill.byte w.fill.ensures.state w.fill.ensures.failing_call))
       | in-Old w ↦ subst goes (sym w.disk-is) (prepared_as plans quota (device_of w.format_region.new.disk) c.args.parsed _ bytes openings w.in-Old.is
-          (old_over plans (subst IsSound w.union-in-Old.ensures w.at-in-Old.ensures.sound) w.in-Old.circuit w.at-in-Old.result.now (ap (λ (u : Settings). slice_get u.circuits w.in-Old.circuit) (sym w.union-in-Old.ensures) ∙ w.at-in-Old.ensures.value) quota old w.format_region.new.disk w.format_region.ensures.frame openings over w.format_region.ensures.formatted w.format_region.ensures.fuse))
+          (old_over plans (subst IsSound w.union-in-Old.ensures w.at-in-Old.ensures.sound) w.in-Old.circuit w.at-in-Old.result.now (ap (λ (u : Settings). slice_get u.circuits w.in-Old.circuit) (sym w.union-in-Old.ensures) ∙ w.at-in-Old.ensures.value) quota old w.format_region.new.disk w.format_region.ensures.frame openings over w.format_region.ensures.formatted w.format_region.ensures.failing_call))
       | in-Load w ↦ subst goes (sym w.disk-is) (prepared_as plans quota (device_of w.load.new.self) c.args.parsed _ bytes openings w.in-Load.is
-          (load_over plans (subst IsSound w.union-in-Load.ensures w.at-in-Load.ensures.sound) w.in-Load.circuit w.at-in-Load.result.now (ap (λ (u : Settings). slice_get u.circuits w.in-Load.circuit) (sym w.union-in-Load.ensures) ∙ w.at-in-Load.ensures.value) quota old w.load.new.self (but_one _ _ _ w.load.ensures.others) openings over w.in-Load.at (take w.in-Load.len bytes) w.load.ensures.state w.load.ensures.fuse))
+          (load_over plans (subst IsSound w.union-in-Load.ensures w.at-in-Load.ensures.sound) w.in-Load.circuit w.at-in-Load.result.now (ap (λ (u : Settings). slice_get u.circuits w.in-Load.circuit) (sym w.union-in-Load.ensures) ∙ w.at-in-Load.ensures.value) quota old w.load.new.self (but_one _ _ _ w.load.ensures.others) openings over w.in-Load.at (take w.in-Load.len bytes) w.load.ensures.state w.load.ensures.failing_call))
       | in-Move w ↦ subst goes (sym w.disk-is) (prepared_as plans quota (device_of w.fail_at.new.self) c.args.parsed _ bytes openings w.in-Move.is
-          (move_over plans (subst IsSound w.union-in-Move.ensures w.at-in-Move.ensures.sound) w.in-Move.circuit w.at-in-Move.result.now (ap (λ (u : Settings). slice_get u.circuits w.in-Move.circuit) (sym w.union-in-Move.ensures) ∙ w.at-in-Move.ensures.value) quota old w.fail_at.new.self (but_one _ _ _ w.fail_at.ensures.others) openings over w.in-Move.fault w.fail_at.ensures.state w.fail_at.ensures.fuse))
+          (move_over plans (subst IsSound w.union-in-Move.ensures w.at-in-Move.ensures.sound) w.in-Move.circuit w.at-in-Move.result.now (ap (λ (u : Settings). slice_get u.circuits w.in-Move.circuit) (sym w.union-in-Move.ensures) ∙ w.at-in-Move.ensures.value) quota old w.fail_at.new.self (but_one _ _ _ w.fail_at.ensures.others) openings over w.in-Move.fault w.fail_at.ensures.state w.fail_at.ensures.failing_call))
     ]
 
 pub returns-clause-ready : goal.returns-clause-ready
 returns-clause-ready c =
     let old = c.args.disk.now in
-    let goes : (d : ModelDiskValue) → Type 0 = λ d. AreReady (length d.regions) (state_of d) in
+    let goes : (d : ModelDiskValue) → Type 0 = λ d. AreReady (length d.regions) (disk_region d) in
     elim c.match-parsed.branch [
       | in-Ignored w ↦ subst goes (sym w.disk-is) c.requires.ready
       | in-Fill w ↦ subst goes (sym w.disk-is) (ready_after w.at.result.now.region old w.fill.new.self (but_one _ _ _ w.fill.ensures.others) (fill_ready w.in-Fill.byte _ _ w.fill.ensures.state) c.requires.ready)

@@ -29,7 +29,7 @@ returns-in-Ok-write_moved-clause-region g c = λ tells readable.
     let old = (g.D.Disk.device c.args.disk.now).region c.args.region in
     let read : (g.D.Disk.device c.has_format2.new.disk).region c.args.region ≡ old = ap (λ (regions : ℕ → Region). regions c.args.region) (c.in-Ok.ensures.frame.region tells) in
     let same : (g.D.Disk.device c.recover.new.disk).region c.args.region ≡ old = ap (λ (regions : ℕ → Region). regions c.args.region) (c.in_ok-slots.ensures.frame.region tells) ∙ read in
-    let fuse : (g.D.Disk.device c.recover.new.disk).fuse c.args.region ≡ (g.D.Disk.device c.args.disk.now).fuse c.args.region = ap (λ (fuses : ℕ → ℕ). fuses c.args.region) (c.in_ok-slots.ensures.frame.fuse tells ∙ c.in-Ok.ensures.frame.fuse tells) in
+    let failing_call : (g.D.Disk.device c.recover.new.disk).failing_call c.args.region ≡ (g.D.Disk.device c.args.disk.now).failing_call c.args.region = ap (λ (failing_calls : ℕ → ℕ). failing_calls c.args.region) (c.in_ok-slots.ensures.frame.failing_call tells ∙ c.in-Ok.ensures.frame.failing_call tells) in
     is_migrated c.args.counts c.in_ok-slots.slots c.write_halves.new.halves old
     (record {
       readable = readable;
@@ -47,14 +47,14 @@ returns-in-Ok-write_moved-clause-region g c = λ tells readable.
     })
     _ ((g.D.Disk.device c.write_moved.new.disk).region c.args.region)
     (c.in-Ok-write_moved.ensures.ok tells ∙ ap (λ r. synced (written 8192 (2 ∷ []) (synced (written 16384 c.write_halves.new.halves r)))) same)
-    (c.in-Ok-write_moved.ensures.calls.answer tells ∙ ap (λ k. effective 4 k == 0) fuse)
+    (c.in-Ok-write_moved.ensures.calls.answer tells ∙ ap (λ k. effective 4 k == 0) failing_call)
 
 pub returns-in-Err-clause-region : goal.returns-in-Err-clause-region
 returns-in-Err-clause-region g c = λ tells readable.
     let old = (g.D.Disk.device c.args.disk.now).region c.args.region in
     let read : (g.D.Disk.device c.has_format2.new.disk).region c.args.region ≡ old = ap (λ (regions : ℕ → Region). regions c.args.region) (c.in-Ok.ensures.frame.region tells) in
     let same : (g.D.Disk.device c.recover.new.disk).region c.args.region ≡ old = ap (λ (regions : ℕ → Region). regions c.args.region) (c.in_ok-slots.ensures.frame.region tells) ∙ read in
-    let fuse : (g.D.Disk.device c.recover.new.disk).fuse c.args.region ≡ (g.D.Disk.device c.args.disk.now).fuse c.args.region = ap (λ (fuses : ℕ → ℕ). fuses c.args.region) (c.in_ok-slots.ensures.frame.fuse tells ∙ c.in-Ok.ensures.frame.fuse tells) in
+    let failing_call : (g.D.Disk.device c.recover.new.disk).failing_call c.args.region ≡ (g.D.Disk.device c.args.disk.now).failing_call c.args.region = ap (λ (failing_calls : ℕ → ℕ). failing_calls c.args.region) (c.in_ok-slots.ensures.frame.failing_call tells ∙ c.in-Ok.ensures.frame.failing_call tells) in
     is_half_migrated c.args.counts c.in_ok-slots.slots c.write_halves.new.halves old
     (record {
       readable = readable;
@@ -71,6 +71,6 @@ returns-in-Err-clause-region g c = λ tells readable.
       whole = c.write_halves.ensures.whole;
     })
     _ ((g.D.Disk.device c.write_moved.new.disk).region c.args.region)
-    (subst (λ (r : Region). IsHalfMoved ((g.D.Disk.device c.args.disk.now).fuse c.args.region) c.write_halves.new.halves r ((g.D.Disk.device c.write_moved.new.disk).region c.args.region)) same
-    (subst (λ k. IsHalfMoved k c.write_halves.new.halves ((g.D.Disk.device c.recover.new.disk).region c.args.region) ((g.D.Disk.device c.write_moved.new.disk).region c.args.region)) fuse (c.in-Err.ensures.err tells)))
-    (c.in-Err.ensures.calls.answer tells ∙ ap (λ k. effective 4 k == 0) fuse)
+    (subst (λ (r : Region). IsHalfMoved ((g.D.Disk.device c.args.disk.now).failing_call c.args.region) c.write_halves.new.halves r ((g.D.Disk.device c.write_moved.new.disk).region c.args.region)) same
+    (subst (λ k. IsHalfMoved k c.write_halves.new.halves ((g.D.Disk.device c.recover.new.disk).region c.args.region) ((g.D.Disk.device c.write_moved.new.disk).region c.args.region)) failing_call (c.in-Err.ensures.err tells)))
+    (c.in-Err.ensures.calls.answer tells ∙ ap (λ k. effective 4 k == 0) failing_call)

@@ -7,7 +7,7 @@ use Rattle.lease_disk.proofs.migrating.write_moved.Goals as goal
 pub returns-in_err-write_synced-clause-err : goal.returns-in_err-write_synced-clause-err
 returns-in_err-write_synced-clause-err g c = λ tells.
     let e = c.in_err-write_synced.ensures in
-    at_err c.from_residual.result (half_first c.args.halves.now c.requires.all ((g.D.Disk.device c.args.disk.now).region c.args.region) ((g.D.Disk.device c.args.disk.now).fuse c.args.region) ((g.D.Disk.device c.write_synced.new.disk).region c.args.region)
+    at_err c.from_residual.result (half_first c.args.halves.now c.requires.all ((g.D.Disk.device c.args.disk.now).region c.args.region) ((g.D.Disk.device c.args.disk.now).failing_call c.args.region) ((g.D.Disk.device c.write_synced.new.disk).region c.args.region)
     (e.calls.answer tells) (e.err tells) (e.reads tells))
 
 pub returns-clause-err : goal.returns-clause-err
@@ -15,8 +15,8 @@ returns-clause-err g c = λ tells.
     let e = c.in_ok-write_synced.ensures in
     let last = c.write_synced-2.ensures in
     on_fault c.write_synced-2.result (λ failed torn.
-    half_second c.args.halves.now c.requires.all ((g.D.Disk.device c.args.disk.now).region c.args.region) ((g.D.Disk.device c.args.disk.now).fuse c.args.region) ((g.D.Disk.device c.write_synced.new.disk).fuse c.args.region)
-    ((g.D.Disk.device c.write_synced.new.disk).region c.args.region) ((g.D.Disk.device c.write_synced-2.new.disk).region c.args.region) (e.ok tells) (e.calls.fuse tells) (failed ∙ last.calls.answer tells) torn (last.reads tells)) (last.err tells)
+    half_second c.args.halves.now c.requires.all ((g.D.Disk.device c.args.disk.now).region c.args.region) ((g.D.Disk.device c.args.disk.now).failing_call c.args.region) ((g.D.Disk.device c.write_synced.new.disk).failing_call c.args.region)
+    ((g.D.Disk.device c.write_synced.new.disk).region c.args.region) ((g.D.Disk.device c.write_synced-2.new.disk).region c.args.region) (e.ok tells) (e.calls.failing_call tells) (failed ∙ last.calls.answer tells) torn (last.reads tells)) (last.err tells)
 
 pub returns-in_err-write_synced-clause-calls : goal.returns-in_err-write_synced-clause-calls
 returns-in_err-write_synced-clause-calls g c =

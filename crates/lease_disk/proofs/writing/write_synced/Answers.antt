@@ -10,5 +10,5 @@ pub returns : goal.returns
 returns g c =
     let e = c.in_ok-write_at.ensures in
     then_synced g.D.Disk.tells c.args.region c.args.at c.args.bytes.now c.sync.result (g.D.Disk.device c.args.disk.now) (g.D.Disk.device c.write_at.new.self) (g.D.Disk.device c.sync.new.self)
-    (record { ok = e.ok; answer = e.answer; fuse = e.fuse; frame = e.frame; writes = e.writes; failures = e.failures })
-    (record { ok = c.sync.ensures.ok; err = c.sync.ensures.err; answer = c.sync.ensures.answer; fuse = c.sync.ensures.fuse; frame = c.sync.ensures.frame; writes = c.sync.ensures.writes; failures = c.sync.ensures.failures })
+    (record { ok = e.ok; answer = e.answer; failing_call = e.failing_call; frame = e.frame; writes = e.writes; failures = e.failures })
+    (record { ok = c.sync.ensures.ok; err = c.sync.ensures.err; answer = c.sync.ensures.answer; failing_call = c.sync.ensures.failing_call; frame = c.sync.ensures.frame; writes = c.sync.ensures.writes; failures = c.sync.ensures.failures })

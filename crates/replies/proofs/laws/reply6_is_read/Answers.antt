@@ -1,6 +1,6 @@
 use Rattle.std.proofs.Common.{◌≡◌, ℕ, ◌+◌, ◌≤◌, List, [], ◌∷◌, length, refl, sym, ap, subst, ◌∙◌, arith, length-append}
 use Rattle.types.specs.Key6.{Key6Value}
-use Rattle.types.specs.declared.request6.Reply6.{Reply6}
+use Rattle.exchange.specs.declared.request6.Reply6.{Reply6}
 use Rattle.v6_options.specs.Spelling.{option, spelling, AreOptions}
 use Rattle.v6_message.specs.Message.{MessageValue, message_bytes}
 use Rattle.v6_message.specs.Relay.{RelayValue, SpellsRelay, relay_bytes, relay_header}

@@ -2,8 +2,8 @@ use Rattle.std.proofs.Common.{◌≡◌, ℕ, ◌<◌, ◌-◌, ◌^◌, false, 
 use Rattle.std.specs.Prelude.{◌≢◌, Option, Some, None, IfSome, replicate}
 use Rattle.std.proofs.lemmas.Nat.{or_lt}
 use Rattle.types.specs.declared.addr.Addr4.{Addr4}
-use Rattle.types.specs.declared.request4.Reply4.{Reply4}
-use Rattle.types.specs.declared.request4.Reply4.TheVariants.{Offer, Ack, Inform, Nak}
+use Rattle.exchange.specs.declared.request4.Reply4.{Reply4}
+use Rattle.exchange.specs.declared.request4.Reply4.TheVariants.{Offer, Ack, Inform, Nak}
 use Rattle.v4_options.specs.Spelling.{look_up, AreOptions}
 use Rattle.v4_message.specs.Header.{IsSized}
 use Rattle.v4_message.specs.Reading.{message_of}

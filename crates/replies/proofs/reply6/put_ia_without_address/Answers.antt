@@ -1,5 +1,5 @@
 use Rattle.std.proofs.Common.{◌≡◌, ℕ, List, [], ◌∷◌, ◌++◌, ap, sym, ◌∙◌, append-nil}
-use Rattle.types.specs.declared.request6.Status6.{Status6}
+use Rattle.exchange.specs.declared.request6.Status6.{Status6}
 use Rattle.v6_options.specs.Spelling.{option, spelling}
 use Rattle.v6_message.specs.Ia.{ia_header}
 use Rattle.replies.specs.Reply6.{ia_with_status, status_option}

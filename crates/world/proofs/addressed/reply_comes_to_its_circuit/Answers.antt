@@ -4,12 +4,12 @@ use Rattle.types.specs.Delivery.{DeliveryValue, delivery}
 use Rattle.types.specs.declared.dest.Proto.{Proto}
 use Rattle.types.specs.declared.dest.Proto.TheVariants.{V4, V6}
 use Rattle.wire.specs.Bytes.{AreBytes}
-use Rattle.types.specs.declared.request4.Reply4.{Reply4}
-use Rattle.types.specs.declared.request4.Reply4.TheVariants.{Offer, Ack, Inform, Nak}
+use Rattle.exchange.specs.declared.request4.Reply4.{Reply4}
+use Rattle.exchange.specs.declared.request4.Reply4.TheVariants.{Offer, Ack, Inform, Nak}
 use Rattle.v4_options.specs.Subreading.{suboptions_of}
 use Rattle.v4_message.specs.Agent.{agent_of}
 use Rattle.v4_message.specs.Reading.{message_of}
-use Rattle.types.specs.declared.request4.Request4.{Request4}
+use Rattle.exchange.specs.declared.request4.Request4.{Request4}
 use Rattle.config.specs.CircuitPart.{CircuitPart, IsPart, pool4_of}
 use Rattle.config.specs.Topology.{Topology, listen, serves}
 use Rattle.bindings_v4.specs.Table4.{answer4}

@@ -4,7 +4,7 @@ use Rattle.std.proofs.lemmas.Option.{slice_get_within}
 use Rattle.config.specs.CircuitPart.{CircuitPart}
 use Rattle.events.specs.Seen.{comeback_at}
 use Rattle.lease_disk.specs.Crash.{crashed}
-use Rattle.lease_disk.specs.Model.{fuse_of, region_of, state_of}
+use Rattle.lease_disk.specs.Model.{failing_call_of, region_of, disk_region}
 use Rattle.world.proofs.ServedLemmas.{by_index, not_its, spare_is_other}
 use Rattle.world.proofs.WorldLemmas.{all_at}
 use Rattle.world.proofs.world.crash_all.Goals as goal
@@ -27,24 +27,24 @@ circuits-preserved c =
     let first = c.args.disk.now in
     let new = c.fail_at.new.self in
     let comeback : c.unwrap_or-comeback.result ≡ comeback_at n c.args.comebacks.now = search rules in
-    let state : (q : ℕ) → q ≢ here.region → state_of new q ≡ state_of c.circuits.disk q =
+    let state : (q : ℕ) → q ≢ here.region → disk_region new q ≡ disk_region c.circuits.disk q =
     λ q ne. let other : q ≢ c.region-region.result = λ same. ne (same ∙ its) in ap region_of (c.fail_at.ensures.others.others q other) ∙ ap region_of (c.crash.ensures.others.others q other) in
-    let fuse : (q : ℕ) → q ≢ here.region → fuse_of new q ≡ fuse_of c.circuits.disk q =
-    λ q ne. let other : q ≢ c.region-region.result = λ same. ne (same ∙ its) in c.fail_at.ensures.others.fuses q other ∙ c.crash.ensures.others.fuses q other in
-    let own : state_of new here.region ≡ crashed c.unwrap_or-comeback.result.image (state_of c.circuits.disk here.region) =
-    subst (λ r. state_of new r ≡ crashed c.unwrap_or-comeback.result.image (state_of c.circuits.disk r)) its (c.fail_at.ensures.state ∙ c.crash.ensures.state) in
+    let failing_call : (q : ℕ) → q ≢ here.region → failing_call_of new q ≡ failing_call_of c.circuits.disk q =
+    λ q ne. let other : q ≢ c.region-region.result = λ same. ne (same ∙ its) in c.fail_at.ensures.others.failing_calls q other ∙ c.crash.ensures.others.failing_calls q other in
+    let own : disk_region new here.region ≡ crashed c.unwrap_or-comeback.result.image (disk_region c.circuits.disk here.region) =
+    subst (λ r. disk_region new r ≡ crashed c.unwrap_or-comeback.result.image (disk_region c.circuits.disk r)) its (c.fail_at.ensures.state ∙ c.crash.ensures.state) in
     record {
       count = c.fail_at.ensures.others.count ∙ c.crash.ensures.others.count ∙ loop.count;
       spares = record {
         region = λ r spare. state r (spare_is_other parts n here there r spare) ∙ loop.spares.region r spare;
-        fuse = λ r spare. fuse r (spare_is_other parts n here there r spare) ∙ loop.spares.fuse r spare;
+        failing_call = λ r spare. failing_call r (spare_is_other parts n here there r spare) ∙ loop.spares.failing_call r spare;
       };
-      done = by_index parts n here there (λ k part. state_of new part.region ≡ crashed (comeback_at k c.args.comebacks.now).image (state_of first part.region))
+      done = by_index parts n here there (λ k part. disk_region new part.region ≡ crashed (comeback_at k c.args.comebacks.now).image (disk_region first part.region))
           (own ∙ (λ j. crashed (comeback j).image (loop.others n here there (omega arith) j)))
           (λ k part at less. state part.region (not_its parts n here there c.requires.differ k part at (λ same. absurd (omega (arith, less, same)))) ∙ loop.done k part at less);
-      faults = by_index parts n here there (λ k part. fuse_of new part.region ≡ (comeback_at k c.args.comebacks.now).move_fault)
-          (subst (λ r. fuse_of new r ≡ c.unwrap_or-comeback.result.move_fault) its c.fail_at.ensures.fuse ∙ (λ j. (comeback j).move_fault))
-          (λ k part at less. fuse part.region (not_its parts n here there c.requires.differ k part at (λ same. absurd (omega (arith, less, same)))) ∙ loop.faults k part at less);
+      faults = by_index parts n here there (λ k part. failing_call_of new part.region ≡ (comeback_at k c.args.comebacks.now).move_fault)
+          (subst (λ r. failing_call_of new r ≡ c.unwrap_or-comeback.result.move_fault) its c.fail_at.ensures.failing_call ∙ (λ j. (comeback j).move_fault))
+          (λ k part at less. failing_call part.region (not_its parts n here there c.requires.differ k part at (λ same. absurd (omega (arith, less, same)))) ∙ loop.faults k part at less);
       others = λ k part at least. state part.region (not_its parts n here there c.requires.differ k part at (λ same. absurd (omega (arith, least, same)))) ∙ loop.others k part at (omega (arith, least));
     }
 

@@ -11,8 +11,8 @@ use Rattle.access.specs.Turn.{IsSentDown, RelaySocket}
 use Rattle.access.specs.contracts.access.Access.{the_view}
 use Rattle.access.specs.declared.access.Access.TheInside.{Inside}
 use Rattle.counts.specs.declared.counts.Counts.{Counts}
-use Rattle.counts.specs.declared.counts.Outcome.{Outcome}
-use Rattle.counts.specs.declared.counts.Outcome.TheVariants as outcome
+use Rattle.counts.specs.declared.counts.Fate.{Fate}
+use Rattle.counts.specs.declared.counts.Fate.TheVariants as outcome
 use Rattle.access.proofs.AnswerLemmas.{went}
 use Rattle.access.proofs.CarryLemmas.{carried_idle, carried_taken, idle_attempt}
 use Rattle.access.proofs.UpLemmas.{circuits_own, relays_own}
@@ -79,7 +79,7 @@ returns-clause-carried c =
     let datagram = take c.in-Took.len c.take_if_ready.new.buffer in
     let taken = c.take_if_ready.new.history.entries in
     let took = subst (λ r. taken ≡ with_entry (Took r c.in-Took.from datagram) inside.history.entries) its c.in-Took.ensures.entries in
-    let Q : Inside → Outcome → Type 0 = λ (i : Inside) (o : Outcome). (counts : Counts) → counts ≡ counted o i.counts → HasCarried (RelaySocket topology port index) 1 before (the_view (record i { counts = counts })) in
+    let Q : Inside → Fate → Type 0 = λ (i : Inside) (o : Fate). (counts : Counts) → counts ≡ counted o i.counts → HasCarried (RelaySocket topology port index) 1 before (the_view (record i { counts = counts })) in
     let by : Q c.match-down.self-inside c.match-down.outcome = elim c.match-down.branch [
       | in-Ok w ↦
           let sent = w.in-Ok.sent in
@@ -94,13 +94,13 @@ returns-clause-carried c =
           let g = went w.socket-from.result.now.role (role.Circuit sent.0 proto) w.client-to.result (client_port port sent.0 proto) outcome.Delivered (Ok (framed sent.1 c.down.new.out)) (Ok tt) w.as_slice-bytes.result.now
           (framed sent.1 c.down.new.out) taken w.send_on-outcome.new.history.entries w.send_on-outcome.result sender to bytes (refl, refl) w.send_on-outcome.ensures.sent in
           let R : Inside = record inside { buffer = c.take_if_ready.new.buffer; out = w.put_front.new.frame.datagram; history = w.send_on-outcome.new.history } in
-          subst (λ (i : Inside). Q i c.match-down.outcome) (sym w.self-inside-is) (subst (λ (o : Outcome). Q R o) (sym w.outcome-is) (λ counts count.
+          subst (λ (i : Inside). Q i c.match-down.outcome) (sym w.self-inside-is) (subst (λ (o : Fate). Q R o) (sym w.outcome-is) (λ counts count.
           carried_taken (role.Relay index) (λ from bytes. IsSentDown port (relayed_down_in topology index from bytes)) before taken w.send_on-outcome.new.history.entries g.rest counts c.in-Took.from datagram
           w.send_on-outcome.result took g.history count (subst (λ r. IsSentDown port r g.rest w.send_on-outcome.result) (sym found) g.goes_on)))
       | in-Err w ↦
           let found = subst (λ r. relayed_down_in topology r c.in-Took.from datagram ≡ Err w.in-Err.why) c.at-relay.ensures w.in-Err.ensures.err in
           let R : Inside = record inside { buffer = c.take_if_ready.new.buffer; out = c.down.new.out; history = c.take_if_ready.new.history } in
-          subst (λ (i : Inside). Q i c.match-down.outcome) (sym w.self-inside-is) (subst (λ (o : Outcome). Q R o) (sym w.outcome-is) (λ counts count.
+          subst (λ (i : Inside). Q i c.match-down.outcome) (sym w.self-inside-is) (subst (λ (o : Fate). Q R o) (sym w.outcome-is) (λ counts count.
           carried_taken (role.Relay index) (λ from bytes. IsSentDown port (relayed_down_in topology index from bytes)) before taken taken [] counts c.in-Took.from datagram
           (outcome.Dropped w.in-Err.why) took (sym (append-nil taken)) count (subst (λ r. IsSentDown port r [] (outcome.Dropped w.in-Err.why)) (sym found) (refl, refl))))
     ] in

@@ -7,7 +7,7 @@ use Rattle.udp.specs.declared.history.Role.TheVariants as role
 use Rattle.access.specs.Access.{AccessValue, HasCarried, IsAccess}
 use Rattle.access.specs.Turn.{CircuitSocket, IsSentUp}
 use Rattle.access.specs.contracts.access.Access.{the_view}
-use Rattle.counts.specs.declared.counts.Outcome.TheVariants as outcome
+use Rattle.counts.specs.declared.counts.Fate.TheVariants as outcome
 use Rattle.access.proofs.AnswerLemmas.{went}
 use Rattle.access.proofs.CarryLemmas.{carried_idle, carried_taken, idle_attempt}
 use Rattle.access.proofs.UpLemmas.{circuits_own, own_sockets, relays_own, up_answer}

@@ -1,7 +1,7 @@
 use Rattle.std.proofs.Common.{sym, ap, subst, ◌∙◌}
 use Rattle.slots.specs.Kept.{AreWithin, AreOffersWithin}
 use Rattle.bindings_v4.specs.Kept4.{kept_book, kept_slots}
-use Rattle.bindings_v4.specs.Slots4.{PoolSlots, book_of}
+use Rattle.bindings_v4.specs.Slots4.{PoolSlots, book4_of}
 use Rattle.bindings_v4.proofs.OfferLemmas.{still_slots, shown_without, same_kept, still_within, no_offer_left}
 use Rattle.bindings_v4.proofs.book4.Book4.withdraw_offers.Goals as goal
 
@@ -10,9 +10,9 @@ invariant_of-self c = still_slots c.self.inside.pool c.self.inside.slots _ c.sel
 
 pub returns-clause-book : goal.returns-clause-book
 returns-clause-book c = λ clock.
-    ap (λ ss. book_of clock (record { pool = c.self.inside.pool; slots = ss })) c.withdraw_offers.ensures
+    ap (λ ss. book4_of clock (record { pool = c.self.inside.pool; slots = ss })) c.withdraw_offers.ensures
     ∙ shown_without clock (record { pool = c.self.inside.pool; slots = c.self.inside.slots })
-    ∙ ap (λ (v : PoolSlots). kept_book (book_of clock v)) c.self.view_is
+    ∙ ap (λ (v : PoolSlots). kept_book (book4_of clock v)) c.self.view_is
 
 pub returns-clause-kept : goal.returns-clause-kept
 returns-clause-kept c = λ clock.

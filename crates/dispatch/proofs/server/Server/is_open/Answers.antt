@@ -2,7 +2,7 @@ use Rattle.std.proofs.Common.{◌≡◌, ◌<◌, ◌↔◌, map, length, true, 
 use Rattle.std.specs.Prelude.{Some, None, is_some, nat_lt, option_map, slice_get}
 use Rattle.std.proofs.lemmas.List.{length-map}
 use Rattle.circuit_server.specs.CircuitServerValue.{open_book}
-use Rattle.circuit_server.specs.Ticked.{state_at, state_of}
+use Rattle.circuit_server.specs.Ticked.{state_at, server_state}
 use Rattle.dispatch.specs.ServerValue.{ServerValue, books_in, with_states}
 use Rattle.dispatch.proofs.ServerLemmas.{open_at, none_past}
 use Rattle.dispatch.proofs.TickLemmas.{shown_at, still_open}
@@ -19,7 +19,7 @@ returns-then-index-len c =
     let among : k < length servers = search rules in
     let within : k < length states = subst (λ n. k < n) (sym (length-map servers (state_at ticked))) among in
     let at = there_is parts k (omega (arith, within, c.self.invariant.0.size)) in
-    let s = server at.0 (state_of states k) in
+    let s = server at.0 (server_state states k) in
     let its = get_with parts states k at.0 None s at.1 within in
     let shown = shown_at ticked servers k c.index.result.now among c.index.ensures in
     let seen = open_at (with_states parts states) k s c.is_open.result (omega (arith, within, c.self.invariant.0.size, size_with parts states))

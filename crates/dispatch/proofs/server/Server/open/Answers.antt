@@ -37,7 +37,7 @@ pub returns-clause-leases : goal.returns-clause-leases
 returns-clause-leases g c tells =
     let old = g.D.Disk.device c.args.disk.now in
     let new = g.D.Disk.device c.over.new.disk in
-    subst (λ (t : Topology). IfOk c.over.result (λ server. leases_in new.region server ≡ map (found_leases old.region old.fuse) t.circuits)) c.in-Ok.ensures.topology (IfOk-weaker c.over.result _ _ (λ server opened. opened.leases tells) c.over.ensures.opened)
+    subst (λ (t : Topology). IfOk c.over.result (λ server. leases_in new.region server ≡ map (found_leases old.region old.failing_call) t.circuits)) c.in-Ok.ensures.topology (IfOk-weaker c.over.result _ _ (λ server opened. opened.leases tells) c.over.ensures.opened)
 
 pub returns-clause-large : goal.returns-clause-large
 returns-clause-large g c =

@@ -31,7 +31,7 @@ returns-clause-opened g c =
     let new = g.D.Disk.device c.restart.new.disk in
     let parts = c.parts.ensures ∙ ap (λ (s : ServerValue). s.topology.circuits) c.server.view_is ∙ ap (λ (t : Topology). t.circuits) c.in-Ok.ensures in
     record {
-      leases = λ tells. c.restart.ensures.leases tells ∙ ap (λ (t : Topology). map (found_leases old.region old.fuse) t.circuits) c.in-Ok.ensures;
+      leases = λ tells. c.restart.ensures.leases tells ∙ ap (λ (t : Topology). map (found_leases old.region old.failing_call) t.circuits) c.in-Ok.ensures;
       ready = c.restart.ensures.ready;
       deadlines = c.restart.ensures.deadlines;
       large =

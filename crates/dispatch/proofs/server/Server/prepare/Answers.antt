@@ -4,7 +4,7 @@ use Rattle.std.proofs.lemmas.Option.{same_Some}
 use Rattle.config.specs.CircuitPart.{CircuitPart}
 use Rattle.circuit_server.specs.CircuitServerValue.{OpenCircuitValue}
 use Rattle.circuit_server.specs.Prepared.{IsDropped, IsPrepared}
-use Rattle.circuit_server.specs.Ticked.{state_at, state_of}
+use Rattle.circuit_server.specs.Ticked.{state_at, server_state}
 use Rattle.dispatch.specs.Deadlines.{AllUnchangedOrUntilHeld, KeepsDeadlines}
 use Rattle.dispatch.specs.ServerValue.{ServerValue}
 use Rattle.dispatch.proofs.HeldDeadlines.{held_all, kept_beside}
@@ -38,7 +38,7 @@ invariant_of-self c = (
 
 pub returns-clause-others : goal.returns-clause-others
 returns-clause-others c =
-    subst (λ (s : ServerValue). after c ≡ set s.states c.args.circuit (state_of (after c) c.args.circuit)) c.self.view_is
+    subst (λ (s : ServerValue). after c ≡ set s.states c.args.circuit (server_state (after c) c.args.circuit)) c.self.view_is
     ((one c).others ∙ ap (set (before c) c.args.circuit) (sym (one c).after))
 
 pub returns-clause-deadlines : goal.returns-clause-deadlines
@@ -57,14 +57,14 @@ same_part c part there = same_Some c.part-part.result.now part (sym c.part-part.
 
 pub returns-clause-prepared : goal.returns-clause-prepared
 returns-clause-prepared c part there =
-    subst (λ p. IfOk c.prepare.result (IsPrepared p c.args.delivery.now (state_of c.args.self.now.states c.args.circuit) (state_of (after c) c.args.circuit))) (same_part c part there)
-    (subst (λ (s : ServerValue). IfOk c.prepare.result (IsPrepared c.part-part.result.now c.args.delivery.now (state_of s.states c.args.circuit) (state_of (after c) c.args.circuit))) c.self.view_is
-    (subst (λ was. IfOk c.prepare.result (IsPrepared c.part-part.result.now c.args.delivery.now was (state_of (after c) c.args.circuit))) (sym (one c).before)
+    subst (λ p. IfOk c.prepare.result (IsPrepared p c.args.delivery.now (server_state c.args.self.now.states c.args.circuit) (server_state (after c) c.args.circuit))) (same_part c part there)
+    (subst (λ (s : ServerValue). IfOk c.prepare.result (IsPrepared c.part-part.result.now c.args.delivery.now (server_state s.states c.args.circuit) (server_state (after c) c.args.circuit))) c.self.view_is
+    (subst (λ was. IfOk c.prepare.result (IsPrepared c.part-part.result.now c.args.delivery.now was (server_state (after c) c.args.circuit))) (sym (one c).before)
     (subst (λ is. IfOk c.prepare.result (IsPrepared c.part-part.result.now c.args.delivery.now c.tick.new.self is)) (sym (one c).after) c.prepare.ensures.prepared)))
 
 pub returns-clause-dropped : goal.returns-clause-dropped
 returns-clause-dropped c part there =
-    subst (λ p. IfErr c.prepare.result (IsDropped p c.args.delivery.now (state_of c.args.self.now.states c.args.circuit) (state_of (after c) c.args.circuit))) (same_part c part there)
-    (subst (λ (s : ServerValue). IfErr c.prepare.result (IsDropped c.part-part.result.now c.args.delivery.now (state_of s.states c.args.circuit) (state_of (after c) c.args.circuit))) c.self.view_is
-    (subst (λ was. IfErr c.prepare.result (IsDropped c.part-part.result.now c.args.delivery.now was (state_of (after c) c.args.circuit))) (sym (one c).before)
+    subst (λ p. IfErr c.prepare.result (IsDropped p c.args.delivery.now (server_state c.args.self.now.states c.args.circuit) (server_state (after c) c.args.circuit))) (same_part c part there)
+    (subst (λ (s : ServerValue). IfErr c.prepare.result (IsDropped c.part-part.result.now c.args.delivery.now (server_state s.states c.args.circuit) (server_state (after c) c.args.circuit))) c.self.view_is
+    (subst (λ was. IfErr c.prepare.result (IsDropped c.part-part.result.now c.args.delivery.now was (server_state (after c) c.args.circuit))) (sym (one c).before)
     (subst (λ is. IfErr c.prepare.result (IsDropped c.part-part.result.now c.args.delivery.now c.tick.new.self is)) (sym (one c).after) c.prepare.ensures.dropped)))

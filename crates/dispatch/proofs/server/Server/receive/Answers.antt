@@ -14,10 +14,10 @@ use Rattle.dispatch.specs.Deadlines.{AllUnchangedOrUntilHeld, KeepsDeadlines}
 use Rattle.dispatch.specs.Received.{Received, addressee_answered, addressee_leases, addressee_saves, received, received_leases, received_saves}
 use Rattle.circuit_server.specs.Answered.{IsAnswer, fails_at}
 use Rattle.circuit_server.specs.Calls.{IsCalledToSaveAt}
-use Rattle.circuit_server.specs.CircuitServerValue.{CircuitServerValue, IsReady, IsReadyFor, OpenCircuitValue, book_of, leases_of, part_of}
+use Rattle.circuit_server.specs.CircuitServerValue.{CircuitServerValue, IsReady, IsReadyFor, OpenCircuitValue, server_book, leases_of, part_of}
 use Rattle.dispatch.specs.ServerValue.{ServerValue, books_in, circuits_in, leases_in, with_states}
 use Rattle.circuit_server.specs.Served.{IsServed}
-use Rattle.circuit_server.specs.Ticked.{state_at, state_of}
+use Rattle.circuit_server.specs.Ticked.{state_at, server_state}
 use Rattle.circuit_server.proofs.AnswerLemmas.{because_err, because_ok, not_more}
 use Rattle.circuit_server.proofs.CalledLemmas.{called_none}
 use Rattle.dispatch.proofs.HeldDeadlines.{held_all, kept_all, kept_beside}
@@ -54,13 +54,13 @@ returns-in-Err-clause-books g c =
 pub returns-in-Err-clause-fails : goal.returns-in-Err-clause-fails
 returns-in-Err-clause-fails g c tells = λ q.
     let s = c.args.self.now in
-    not_more _ ∙ ap (λ r. fails_at (g.D.Disk.device c.args.disk.now).fuse (addressee_saves s.topology (refused g c) (books_in s) r) q) (sym (none_of g c))
+    not_more _ ∙ ap (λ r. fails_at (g.D.Disk.device c.args.disk.now).failing_call (addressee_saves s.topology (refused g c) (books_in s) r) q) (sym (none_of g c))
 
 pub returns-in-Err-clause-leases : goal.returns-in-Err-clause-leases
 returns-in-Err-clause-leases g c tells =
     let s = c.args.self.now in
     let device = g.D.Disk.device c.args.disk.now in
-    ap (addressee_leases s.topology (refused g c) device.fuse (leases_in device.region s)) (sym (none_of g c))
+    ap (addressee_leases s.topology (refused g c) device.failing_call (leases_in device.region s)) (sym (none_of g c))
 
 pub returns-in-Err-clause-calls : goal.returns-in-Err-clause-calls
 returns-in-Err-clause-calls g c =
@@ -108,15 +108,15 @@ abbrev before : (g : given.Over) (c : goal.After-self-1 g) → List CircuitServe
 before g c = with_states (topology g c).circuits (states g c)
 
 abbrev asked : (g : given.Over) (c : goal.After-self-1 g) → CircuitServerValue
-asked g c = server c.part-part.result.now (state_of (states g c) (place g c))
+asked g c = server c.part-part.result.now (server_state (states g c) (place g c))
 
 its_server : (g : given.Over) (c : goal.After-self-1 g) → slice_get (before g c) (place g c) ≡ Some (asked g c)
 its_server g c =
-    there_with (topology g c).circuits (states g c) (place g c) c.part-part.result.now (state_of (states g c) (place g c)) (there_in g c) (within g c) (own_state (states g c) (place g c) (within g c))
+    there_with (topology g c).circuits (states g c) (place g c) c.part-part.result.now (server_state (states g c) (place g c)) (there_in g c) (within g c) (own_state (states g c) (place g c) (within g c))
 
 -- what the answer does, to the state that is shown
 done : (g : given.Over) (c : goal.After-self-1 g)
-    → IsServed g.D.Disk.tells c.part-part.result.now (asks g c) (state_of (states g c) (place g c)) c.answer.new.self c.answer.result c.answer.new.out (g.D.Disk.device c.args.disk.now) (g.D.Disk.device c.answer.new.disk)
+    → IsServed g.D.Disk.tells c.part-part.result.now (asks g c) (server_state (states g c) (place g c)) c.answer.new.self c.answer.result c.answer.new.out (g.D.Disk.device c.args.disk.now) (g.D.Disk.device c.answer.new.disk)
 done g c =
     subst (λ was. IsServed g.D.Disk.tells c.part-part.result.now (asks g c) was c.answer.new.self c.answer.result c.answer.new.out (g.D.Disk.device c.args.disk.now) (g.D.Disk.device c.answer.new.disk))
     (sym (its_one g c).before) c.answer.ensures.served
@@ -185,7 +185,7 @@ returns-clause-answer g c =
     let P : ServerValue → Type 0 = λ s. IsAnswer (received s.topology (asks g c) fails (books_in s)).answer c.answer.result c.answer.new.out in
     let Q : Received → Type 0 = λ r. IsAnswer r.answer c.answer.result c.answer.new.out in
     subst P c.self.view_is
-    (subst Q (sym (received_at (topology g c) (asks g c) (place g c) x.part (found g c) (there_in g c) fails (map book_of (before g c)) (book_of x) (its book_of g c)))
+    (subst Q (sym (received_at (topology g c) (asks g c) (place g c) x.part (found g c) (there_in g c) fails (map server_book (before g c)) (server_book x) (its server_book g c)))
     (done g c).answer)
 
 pub returns-clause-unchanged : goal.returns-clause-unchanged
@@ -198,23 +198,23 @@ returns-clause-books g c =
     let items = before g c in
     let k = place g c in
     let new = server x.part c.answer.new.self in
-    let P : ServerValue → Type 0 = λ s. map book_of (set items k new) ≡ (received s.topology (asks g c) fails (books_in s)).books in
-    ap (map book_of) (written g c)
+    let P : ServerValue → Type 0 = λ s. map server_book (set items k new) ≡ (received s.topology (asks g c) fails (books_in s)).books in
+    ap (map server_book) (written g c)
     ∙ subst P c.self.view_is
-    (map-set book_of items k new
-    ∙ ap (set (map book_of items) k) (done g c).book
-    ∙ ap (λ r. r.books) (sym (received_at (topology g c) (asks g c) k x.part (found g c) (there_in g c) fails (map book_of items) (book_of x) (its book_of g c))))
+    (map-set server_book items k new
+    ∙ ap (set (map server_book items) k) (done g c).book
+    ∙ ap (λ r. r.books) (sym (received_at (topology g c) (asks g c) k x.part (found g c) (there_in g c) fails (map server_book items) (server_book x) (its server_book g c))))
 
 pub returns-clause-fails : goal.returns-clause-fails
 returns-clause-fails g c tells = λ q.
     let fails = has_failed (g.D.Disk.device c.args.disk.now) (g.D.Disk.device c.answer.new.disk) q in
-    let faults = (g.D.Disk.device c.args.disk.now).fuse in
+    let faults = (g.D.Disk.device c.args.disk.now).failing_call in
     let x = asked g c in
     let items = before g c in
     let P : ServerValue → Type 0 = λ s. fails ≡ fails_at faults (received_saves s.topology (asks g c) (books_in s)) q in
     subst P c.self.view_is
     ((done g c).fails tells q
-    ∙ sym (ap (λ (saved : Option ℕ). fails_at faults saved q) (saves_at (topology g c) (asks g c) (place g c) x.part (found g c) (there_in g c) (map book_of items) (book_of x) (its book_of g c))))
+    ∙ sym (ap (λ (saved : Option ℕ). fails_at faults saved q) (saves_at (topology g c) (asks g c) (place g c) x.part (found g c) (there_in g c) (map server_book items) (server_book x) (its server_book g c))))
 
 pub returns-clause-frame : goal.returns-clause-frame
 returns-clause-frame g c =
@@ -225,7 +225,7 @@ returns-clause-frame g c =
     let P : ServerValue → Type 0 = λ s. WritesAt g.D.Disk.tells (received_saves s.topology (asks g c) (books_in s)) old new in
     let Q : Option ℕ → Type 0 = λ region. WritesAt g.D.Disk.tells region old new in
     subst P c.self.view_is
-    (subst Q (sym (saves_at (topology g c) (asks g c) (place g c) x.part (found g c) (there_in g c) (map book_of items) (book_of x) (its book_of g c)))
+    (subst Q (sym (saves_at (topology g c) (asks g c) (place g c) x.part (found g c) (there_in g c) (map server_book items) (server_book x) (its server_book g c)))
     (done g c).writes)
 
 pub returns-clause-calls : goal.returns-clause-calls
@@ -237,14 +237,14 @@ returns-clause-calls g c =
     let P : ServerValue → Type 0 = λ s. IsCalledToSaveAt (received_saves s.topology (asks g c) (books_in s)) old new in
     let Q : Option ℕ → Type 0 = λ region. IsCalledToSaveAt region old new in
     subst P c.self.view_is
-    (subst Q (sym (saves_at (topology g c) (asks g c) (place g c) x.part (found g c) (there_in g c) (map book_of items) (book_of x) (its book_of g c)))
+    (subst Q (sym (saves_at (topology g c) (asks g c) (place g c) x.part (found g c) (there_in g c) (map server_book items) (server_book x) (its server_book g c)))
     (done g c).calls)
 
 pub returns-clause-leases : goal.returns-clause-leases
 returns-clause-leases g c tells =
     let regions = (g.D.Disk.device c.args.disk.now).region in
     let later = (g.D.Disk.device c.answer.new.disk).region in
-    let faults = (g.D.Disk.device c.args.disk.now).fuse in
+    let faults = (g.D.Disk.device c.args.disk.now).failing_call in
     let x = asked g c in
     let items = before g c in
     let k = place g c in
@@ -253,7 +253,7 @@ returns-clause-leases g c tells =
     ap (map (leases_of later)) (written g c)
     ∙ subst P c.self.view_is
     (one_moved (leases_of regions) (leases_of later) items k new
-    (λ n y there apart. λ i. let r = (done g c).frame.region tells y.part.region (elsewhere g c n y there apart) i in record { book = book_of y; restarts = restarts_of y.part r; is_new = formats_of r })
+    (λ n y there apart. λ i. let r = (done g c).frame.region tells y.part.region (elsewhere g c n y there apart) i in record { book = server_book y; restarts = restarts_of y.part r; is_new = formats_of r })
     ∙ ap (set (map (leases_of regions) items) k) ((done g c).leases tells)
     ∙ sym (leases_at (topology g c) (asks g c) k x.part (found g c) (there_in g c) faults (map (leases_of regions) items) (leases_of regions x) (its (leases_of regions) g c)))
 

@@ -9,7 +9,7 @@ use Rattle.circuit_server.specs.Leases.{turned}
 use Rattle.circuit_server.specs.CircuitServerValue.{HasItsPools, IsReady, OpenCircuitValue, leases_of}
 use Rattle.dispatch.proofs.ServerLemmas.{written_through}
 use Rattle.dispatch.specs.ServerValue.{ServerValue, circuits_in, leases_in, with_states}
-use Rattle.circuit_server.specs.Ticked.{state_at, state_of}
+use Rattle.circuit_server.specs.Ticked.{state_at, server_state}
 use Rattle.dispatch.specs.Turned.{AreTurned, state_turned, turns_off}
 use Rattle.dispatch.proofs.TurnedLemmas.{all_pools, all_ready, as_before, leases_at, same_state, serves_after, still_topology, turns}
 use Rattle.dispatch.proofs.server.Server.reload.Goals as goal
@@ -91,7 +91,7 @@ returns-clause-kept c k =
     let new = after c in
     let P : ServerValue → Type 0 = λ s. serves s.topology k ≡ serves c.reload.new.self k → slice_get new k ≡ slice_get s.states k in
     subst P c.self.view_is
-    (λ same. same_state old new k (all_turned c).count ((all_turned c).states k ∙ ap (λ off. state_turned off (state_of old k)) (stays c k same)))
+    (λ same. same_state old new k (all_turned c).count ((all_turned c).states k ∙ ap (λ off. state_turned off (server_state old k)) (stays c k same)))
 
 pub returns-clause-left : goal.returns-clause-left
 returns-clause-left c k state was is found s below =
@@ -102,8 +102,8 @@ returns-clause-left c k state was is found s below =
     (all_turned c).left k s (slice_get_within new k state found) off below
     ∙ ap (λ x. held_in x s) (get_or_from_slice_get new k state None found)
 
-pub returns-clause-looks : goal.returns-clause-looks
-returns-clause-looks c = (all_turned c).looks ∙ ap (λ (v : ServerValue). v.deadlines.looks) c.self.view_is
+pub returns-clause-examined : goal.returns-clause-examined
+returns-clause-examined c = (all_turned c).examined ∙ ap (λ (v : ServerValue). v.deadlines.examined) c.self.view_is
 
 pub returns-clause-deadlines : goal.returns-clause-deadlines
 returns-clause-deadlines c = search rules

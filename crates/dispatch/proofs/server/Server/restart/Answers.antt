@@ -59,8 +59,8 @@ returns-clause-leases g c tells =
     ap (λ xs. map (leases_of later) (with_states c.self.inside.circuits.circuits xs)) (shown g c)
     ∙ ap (λ ps. map (leases_of later) (with_states ps c.restart_all.new.servers)) (sym c.parts.ensures)
     ∙ c.restart_all.ensures.restarted.leases tells
-    ∙ ap (map (found_leases old.region old.fuse)) c.parts.ensures
-    ∙ ap (λ (s : ServerValue). map (found_leases old.region old.fuse) s.topology.circuits) c.self.view_is
+    ∙ ap (map (found_leases old.region old.failing_call)) c.parts.ensures
+    ∙ ap (λ (s : ServerValue). map (found_leases old.region old.failing_call) s.topology.circuits) c.self.view_is
 
 pub returns-clause-ready : goal.returns-clause-ready
 returns-clause-ready g c tells =
@@ -94,5 +94,5 @@ returns-clause-writes g c =
     let count = ap (λ (ps : List CircuitPart). length ps) c.parts.ensures ∙ ap (λ (s : ServerValue). length s.topology.circuits) c.self.view_is in
     subst (λ (n : ℕ). (g.D.Disk.device c.restart_all.new.disk).writes ≤ (g.D.Disk.device c.args.disk.now).writes + 4 * n) count c.restart_all.ensures.device.writes
 
-pub returns-clause-looks : goal.returns-clause-looks
-returns-clause-looks g c = c.restart_all.ensures.table.looks ∙ ap (λ (s : ServerValue). s.deadlines.looks) c.self.view_is
+pub returns-clause-examined : goal.returns-clause-examined
+returns-clause-examined g c = c.restart_all.ensures.table.examined ∙ ap (λ (s : ServerValue). s.deadlines.examined) c.self.view_is

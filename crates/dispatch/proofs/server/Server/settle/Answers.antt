@@ -3,7 +3,7 @@ use Rattle.std.specs.Prelude.{Option, Result}
 use Rattle.types.specs.declared.discard.Discard.{Discard}
 use Rattle.circuit_server.specs.CircuitServerValue.{OpenCircuitValue}
 use Rattle.circuit_server.specs.Prepared.{IsSettled}
-use Rattle.circuit_server.specs.Ticked.{state_at, state_of}
+use Rattle.circuit_server.specs.Ticked.{state_at, server_state}
 use Rattle.dispatch.specs.Answers.{answer_by}
 use Rattle.dispatch.specs.Deadlines.{AllUnchangedOrUntilHeld, KeepsDeadlines}
 use Rattle.dispatch.specs.Parts.{IsSettledSo}
@@ -40,11 +40,11 @@ invariant_of-self c = (
 
 pub returns-clause-others : goal.returns-clause-others
 returns-clause-others c =
-    subst (λ (s : ServerValue). after c ≡ set s.states c.args.circuit (state_of (after c) c.args.circuit)) c.self.view_is
+    subst (λ (s : ServerValue). after c ≡ set s.states c.args.circuit (server_state (after c) c.args.circuit)) c.self.view_is
     ((one c).others ∙ ap (set (before c) c.args.circuit) (sym (one c).after))
 
 -- what the call settled, to the states that are shown
-settled : (c : goal.After-answers-1) → IsSettled c.part-part.result.now c.args.prepared.now c.args.saved (state_of (before c) c.args.circuit) c.settle-place.new.self c.settle-place.result c.settle-place.new.out
+settled : (c : goal.After-answers-1) → IsSettled c.part-part.result.now c.args.prepared.now c.args.saved (server_state (before c) c.args.circuit) c.settle-place.new.self c.settle-place.result c.settle-place.new.out
 settled c =
     subst (λ was. IsSettled c.part-part.result.now c.args.prepared.now c.args.saved was c.settle-place.new.self c.settle-place.result c.settle-place.new.out) (sym (one c).before) c.settle-place.ensures.settled
 
@@ -74,7 +74,7 @@ returns-clause-answered c =
             there = c.part-part.ensures;
             result = made.result;
             out = made.new.out;
-            settled = subst (λ is. IsSettled c.part-part.result.now c.args.prepared.now c.args.saved (state_of (before c) c.args.circuit) is made.result made.new.out) (sym (one c).after) (settled c);
+            settled = subst (λ is. IsSettled c.part-part.result.now c.args.prepared.now c.args.saved (server_state (before c) c.args.circuit) is made.result made.new.out) (sym (one c).after) (settled c);
             given = refl;
           }),
     )

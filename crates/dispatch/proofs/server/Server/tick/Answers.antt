@@ -57,5 +57,5 @@ returns-clause-due c n until there = later_left c.args.now c.self.inside.deadlin
 pub returns-clause-deadlines : goal.returns-clause-deadlines
 returns-clause-deadlines c = c.sweep.ensures.slots ∙ ap (λ (s : ServerValue). map (entry_after_sweep c.args.now) s.deadlines.slots) c.self.view_is
 
-pub returns-clause-looks : goal.returns-clause-looks
-returns-clause-looks c = c.sweep.ensures.looks ∙ ap (λ (s : ServerValue). s.deadlines.looks + count_by (is_due c.args.now) s.deadlines.slots + 1) c.self.view_is
+pub returns-clause-examined : goal.returns-clause-examined
+returns-clause-examined c = c.sweep.ensures.examined ∙ ap (λ (s : ServerValue). s.deadlines.examined + count_by (is_due c.args.now) s.deadlines.slots + 1) c.self.view_is

@@ -38,7 +38,7 @@ is_save r s n clock marks content half two mark clean whole size after fits key 
 pub returns-in_err-save_step-clause-saved : goal.returns-in_err-save_step-clause-saved
 returns-in_err-save_step-clause-saved g c = λ tells.
     let r0 = (g.D.Disk.device c.args.disk.now).region c.args.self.now.region in
-    let fuse = (g.D.Disk.device c.args.disk.now).fuse c.args.self.now.region in
+    let failing_call = (g.D.Disk.device c.args.disk.now).failing_call c.args.self.now.region in
     let left = (g.D.Disk.device c.save_step.new.disk).region c.args.self.now.region in
     let half = c.write_half-half.result.items in
     let answer = c.in_err-save_step.ensures.calls.answer tells in
@@ -46,48 +46,48 @@ returns-in_err-save_step-clause-saved g c = λ tells.
     (save_closing c.args.self.now.slot c.args.self.now.marks (gate_at c.args.self.now.slot (mark_at c.args.self.now.marks c.args.self.now.slot)) c.sequence_after.result c.args.self.now.clock c.args.self.now.content half (drop 1 half) r0
     (is_save r0 c.args.self.now.slot c.sequence_after.result c.args.self.now.clock c.args.self.now.marks c.args.self.now.content half (c.requires.format tells) (c.requires.mark tells) (c.requires.clean tells)
     c.write_half-half.ensures.bytes c.write_half-half.ensures.size c.sequence_after.ensures c.requires.fits c.write_half-half.ensures.key c.write_half-half.ensures.clock)
-    fuse left (is_some_early _ answer) answer (c.in_err-save_step.ensures.err tells) (c.in_err-save_step.ensures.reads tells))
+    failing_call left (is_some_early _ answer) answer (c.in_err-save_step.ensures.err tells) (c.in_err-save_step.ensures.reads tells))
 
 pub returns-in_err-save_step-2-clause-saved : goal.returns-in_err-save_step-2-clause-saved
 returns-in_err-save_step-2-clause-saved g c = λ tells.
     let r0 = (g.D.Disk.device c.args.disk.now).region c.args.self.now.region in
-    let fuse = (g.D.Disk.device c.args.disk.now).fuse c.args.self.now.region in
+    let failing_call = (g.D.Disk.device c.args.disk.now).failing_call c.args.self.now.region in
     let left = (g.D.Disk.device c.save_step-2.new.disk).region c.args.self.now.region in
     let half = c.write_half-half.result.items in
     let answer = c.in_err-save_step-2.ensures.calls.answer tells in
-    let later = c.in_ok-save_step.ensures.calls.fuse tells in
-    subst (λ k. IsSaveOf k c.args.self.now.clock c.args.self.now.slot c.args.self.now.content c.args.self.now.marks c.args.self.now.marks r0 left) (sym (is_middle fuse _ later answer))
+    let later = c.in_ok-save_step.ensures.calls.failing_call tells in
+    subst (λ k. IsSaveOf k c.args.self.now.clock c.args.self.now.slot c.args.self.now.content c.args.self.now.marks c.args.self.now.marks r0 left) (sym (is_middle failing_call _ later answer))
     (save_writing c.args.self.now.slot c.args.self.now.marks (gate_at c.args.self.now.slot (mark_at c.args.self.now.marks c.args.self.now.slot)) c.sequence_after.result c.args.self.now.clock c.args.self.now.content half (drop 1 half) r0
     (is_save r0 c.args.self.now.slot c.sequence_after.result c.args.self.now.clock c.args.self.now.marks c.args.self.now.content half (c.requires.format tells) (c.requires.mark tells) (c.requires.clean tells)
     c.write_half-half.ensures.bytes c.write_half-half.ensures.size c.sequence_after.ensures c.requires.fits c.write_half-half.ensures.key c.write_half-half.ensures.clock)
-    ((g.D.Disk.device c.save_step.new.disk).region c.args.self.now.region) (c.in_ok-save_step.ensures.ok tells) fuse _ left (is_some_middle fuse _ later answer) later answer (c.in_err-save_step-2.ensures.err tells) (c.in_err-save_step-2.ensures.reads tells))
+    ((g.D.Disk.device c.save_step.new.disk).region c.args.self.now.region) (c.in_ok-save_step.ensures.ok tells) failing_call _ left (is_some_middle failing_call _ later answer) later answer (c.in_err-save_step-2.ensures.err tells) (c.in_err-save_step-2.ensures.reads tells))
 
 pub returns-in_err-save_step-3-clause-saved : goal.returns-in_err-save_step-3-clause-saved
 returns-in_err-save_step-3-clause-saved g c = λ tells.
     let r0 = (g.D.Disk.device c.args.disk.now).region c.args.self.now.region in
-    let fuse = (g.D.Disk.device c.args.disk.now).fuse c.args.self.now.region in
+    let failing_call = (g.D.Disk.device c.args.disk.now).failing_call c.args.self.now.region in
     let left = (g.D.Disk.device c.save_step-3.new.disk).region c.args.self.now.region in
     let half = c.write_half-half.result.items in
     let answer = c.in_err-save_step-3.ensures.calls.answer tells in
-    let later = c.in_ok-save_step.ensures.calls.fuse tells in
-    let last = c.in_ok-save_step-2.ensures.calls.fuse tells in
-    subst (λ k. IsSaveOf k c.args.self.now.clock c.args.self.now.slot c.args.self.now.content c.args.self.now.marks c.args.self.now.marks r0 left) (sym (is_late fuse _ _ later last answer))
+    let later = c.in_ok-save_step.ensures.calls.failing_call tells in
+    let last = c.in_ok-save_step-2.ensures.calls.failing_call tells in
+    subst (λ k. IsSaveOf k c.args.self.now.clock c.args.self.now.slot c.args.self.now.content c.args.self.now.marks c.args.self.now.marks r0 left) (sym (is_late failing_call _ _ later last answer))
     (save_opening c.args.self.now.slot c.args.self.now.marks (gate_at c.args.self.now.slot (mark_at c.args.self.now.marks c.args.self.now.slot)) c.sequence_after.result c.args.self.now.clock c.args.self.now.content half (drop 1 half) r0
     (is_save r0 c.args.self.now.slot c.sequence_after.result c.args.self.now.clock c.args.self.now.marks c.args.self.now.content half (c.requires.format tells) (c.requires.mark tells) (c.requires.clean tells)
     c.write_half-half.ensures.bytes c.write_half-half.ensures.size c.sequence_after.ensures c.requires.fits c.write_half-half.ensures.key c.write_half-half.ensures.clock)
     ((g.D.Disk.device c.save_step.new.disk).region c.args.self.now.region) (c.in_ok-save_step.ensures.ok tells) ((g.D.Disk.device c.save_step-2.new.disk).region c.args.self.now.region) (c.in_ok-save_step-2.ensures.ok tells)
-    fuse _ _ left (is_some_late fuse _ _ later last answer) later last answer (c.in_err-save_step-3.ensures.err tells) (c.in_err-save_step-3.ensures.reads tells))
+    failing_call _ _ left (is_some_late failing_call _ _ later last answer) later last answer (c.in_err-save_step-3.ensures.err tells) (c.in_err-save_step-3.ensures.reads tells))
 
 pub returns-clause-saved : goal.returns-clause-saved
 returns-clause-saved g c = λ tells.
     let r0 = (g.D.Disk.device c.args.disk.now).region c.args.self.now.region in
-    let fuse = (g.D.Disk.device c.args.disk.now).fuse c.args.self.now.region in
+    let failing_call = (g.D.Disk.device c.args.disk.now).failing_call c.args.self.now.region in
     let saved = (g.D.Disk.device c.save_step-3.new.disk).region c.args.self.now.region in
     let half = c.write_half-half.result.items in
     let small = few r0 c.args.self.now.slot c.args.self.now.marks (c.requires.mark tells) in
     let n = next (mark_at c.args.self.now.marks c.args.self.now.slot).sequence in
     subst (λ k. IsSaveOf k c.args.self.now.clock c.args.self.now.slot c.args.self.now.content c.args.self.now.marks c.turn.new.self r0 saved)
-    (sym (is_none fuse _ _ (c.in_ok-save_step.ensures.calls.fuse tells) (c.in_ok-save_step-2.ensures.calls.fuse tells) (c.in_ok-save_step.ensures.calls.answer tells) (c.in_ok-save_step-2.ensures.calls.answer tells) (c.in_ok-save_step-3.ensures.calls.answer tells)))
+    (sym (is_none failing_call _ _ (c.in_ok-save_step.ensures.calls.failing_call tells) (c.in_ok-save_step-2.ensures.calls.failing_call tells) (c.in_ok-save_step.ensures.calls.answer tells) (c.in_ok-save_step-2.ensures.calls.answer tells) (c.in_ok-save_step-3.ensures.calls.answer tells)))
     (subst (λ (left : Marks). IsSaveOf 0 c.args.self.now.clock c.args.self.now.slot c.args.self.now.content c.args.self.now.marks left r0 saved) (sym (c.turn.ensures.after small))
     (save_done c.args.self.now.slot c.args.self.now.marks (gate_at c.args.self.now.slot (mark_at c.args.self.now.marks c.args.self.now.slot)) n c.args.self.now.clock c.args.self.now.content half (drop 1 half) r0
     (is_save r0 c.args.self.now.slot n c.args.self.now.clock c.args.self.now.marks c.args.self.now.content half (c.requires.format tells) (c.requires.mark tells) (c.requires.clean tells)

@@ -7,7 +7,7 @@ use Rattle.relay.specs.Relays.{relayed_down_in}
 use Rattle.lossy_net.specs.declared.dir.Dir.TheVariants as dir
 use Rattle.events.specs.Seen.{Down}
 use Rattle.world.specs.StepsAs.{Moves, Returns, StepsAs}
-use Rattle.world.specs.World.{WorldValue, state_of, states}
+use Rattle.world.specs.World.{WorldValue, world_state, states}
 use Rattle.events.specs.declared.outcome.Outcome.{Outcome}
 use Rattle.events.specs.declared.outcome.Outcome.TheVariants as outcome
 use Rattle.world.proofs.StateLemmas.{moves}
@@ -57,7 +57,7 @@ returns-clause-moves c =
     let comes = each_at (Returns t k the.part) (datagrams w.net k dir.Down) c.args.number d (is.returned k the.part the.there) there t.plans relay on here in
     let result = sym comes ∙ ap (λ s. relayed_down_in t relay s d.bytes) (sym source) in
     let P : WorldValue → Type 0 = λ v. Moves k (Down c.args.number) (states v) (states v) c.match-down.result c.down.new.out in
-    let O : Outcome → Type 0 = λ o. StepsAs k (Down c.args.number) (state_of w k the.part the.leases) (state_of w k the.part the.leases) o c.down.new.out in
+    let O : Outcome → Type 0 = λ o. StepsAs k (Down c.args.number) (world_state w k the.part the.leases) (world_state w k the.part the.leases) o c.down.new.out in
     subst P c.self.view_is (
     moves k (Down c.args.number) w w the.part the.leases the.leases c.match-down.result c.down.new.out refl (whole w) refl the.served the.its the.its (λ n other. refl) (λ n other p l there. refl)
     (elim c.match-down.branch [

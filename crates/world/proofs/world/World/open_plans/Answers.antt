@@ -37,7 +37,7 @@ returns-in-Ok-open_plans-clause-starts c =
 
 pub returns-in-Ok-open_plans-clause-regions : goal.returns-in-Ok-open_plans-clause-regions
 returns-in-Ok-open_plans-clause-regions c =
-    subst (λ (regions : ℕ → Region). All (λ (part : CircuitPart). IsRegionMigrated (counts_of part) (disk.fuse_of c.args.disk part.region) (disk.state_of c.args.disk part.region) (regions part.region)) (parts_of c.args.plans.now.union))
+    subst (λ (regions : ℕ → Region). All (λ (part : CircuitPart). IsRegionMigrated (counts_of part) (disk.failing_call_of c.args.disk part.region) (disk.disk_region c.args.disk part.region) (regions part.region)) (parts_of c.args.plans.now.union))
     (sym c.over.ensures.states) (c.in-Ok-open_plans.ensures.regions refl)
 
 pub returns-in-Ok-open_plans-clause-others : goal.returns-in-Ok-open_plans-clause-others

@@ -35,9 +35,9 @@ invariant_of-self c =
       count = c.clear_all.ensures.count;
       queues = c.clear_all.ensures.queues;
       size = whole new ∙ ap (λ (v : Topology). length v.circuits) c.reload.ensures.topology ∙ sym (whole w);
-      leases = c.reload.ensures.leases (disk.state_of w.disk);
+      leases = c.reload.ensures.leases (disk.disk_region w.disk);
     } in
-    still_reloaded w new c.args.plan c.self.invariant r c.clear.new.self c.clear.ensures (c.reload.ensures.ready (disk.state_of w.disk) c.self.invariant.ready)
+    still_reloaded w new c.args.plan c.self.invariant r c.clear.new.self c.clear.ensures (c.reload.ensures.ready (disk.disk_region w.disk) c.self.invariant.ready)
 
 pub returns-clause-steps : goal.returns-clause-steps
 returns-clause-steps c =
@@ -57,7 +57,7 @@ returns-clause-steps c =
       count = c.clear_all.ensures.count;
       queues = c.clear_all.ensures.queues;
       size = whole new ∙ ap (λ (v : Topology). length v.circuits) c.reload.ensures.topology ∙ sym (whole w);
-      leases = c.reload.ensures.leases (disk.state_of w.disk);
+      leases = c.reload.ensures.leases (disk.disk_region w.disk);
     } in
     let P : WorldValue → Type 0 = λ v. (e : Event) → e ≡ events.Reload plan → Steps e (states v) (states new) outcome.Done out in
     subst P c.self.view_is (λ e reload.

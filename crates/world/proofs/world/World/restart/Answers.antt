@@ -19,9 +19,9 @@ pub returns-clause-moves : goal.returns-clause-moves
 returns-clause-moves c =
     let w : WorldValue = record { relays = c.self.inside.relays; net = c.self.inside.net; server = c.self.inside.server; disk = c.self.inside.disk } in
     let new : WorldValue = record w { server = c.restart.new.self; disk = c.clear_faults.new.disk } in
-    let regions = disk.state_of c.crash_all.new.disk in
-    let faults = disk.fuse_of c.crash_all.new.disk in
-    let brought : All (λ (part : CircuitPart). IsRegionMigrated (counts_of part) (faults part.region) (regions part.region) (disk.state_of new.disk part.region)) w.server.topology.circuits =
+    let regions = disk.disk_region c.crash_all.new.disk in
+    let faults = disk.failing_call_of c.crash_all.new.disk in
+    let brought : All (λ (part : CircuitPart). IsRegionMigrated (counts_of part) (faults part.region) (regions part.region) (disk.disk_region new.disk part.region)) w.server.topology.circuits =
     subst (λ (states : ℕ → Region). All (λ (part : CircuitPart). IsRegionMigrated (counts_of part) (faults part.region) (regions part.region) (states part.region)) w.server.topology.circuits)
     (sym c.clear_faults.ensures.states) (c.restart.ensures.regions refl) in
     let P : WorldValue → Type 0 = λ v. AllMove (λ n. Restart (comeback_at n c.args.comebacks.now)) (states v) (states new) outcome.Done c.clear.new.self in
@@ -33,7 +33,7 @@ returns-clause-moves c =
 
 pub restart-requires-clause-synced : goal.restart-requires-clause-synced
 restart-requires-clause-synced c = λ tells.
-    are_synced c.self.inside.server.topology.circuits (λ n. comeback_at n c.args.comebacks.now) (disk.state_of c.self.inside.disk) (disk.state_of c.crash_all.new.disk) c.crash_all.ensures.crashed
+    are_synced c.self.inside.server.topology.circuits (λ n. comeback_at n c.args.comebacks.now) (disk.disk_region c.self.inside.disk) (disk.disk_region c.crash_all.new.disk) c.crash_all.ensures.crashed
 
 pub invariant_of-self : goal.invariant_of-self
 invariant_of-self c =

@@ -37,7 +37,7 @@ returns-clause-states c =
     let w : WorldValue = record { relays = c.self.inside.relays; net = c.self.inside.net; server = c.self.inside.server; disk = c.self.inside.disk } in
     let new : WorldValue = record w { server = c.receive.new.self; disk = c.receive.new.disk } in
     let apart : is_relay w.server.topology c.args.source ≡ false = ap (λ t. is_relay t c.args.source) c.self.invariant.served ∙ sym c.is_relay.ensures ∙ c.if-is_relay.false in
-    let leases = c.receive.ensures.leases refl ∙ stray_leases w.server.topology (delivery c.args.proto c.args.source c.args.now c.args.datagram.now) (disk.fuse_of w.disk) (leases_in (disk.state_of w.disk) w.server) apart in
+    let leases = c.receive.ensures.leases refl ∙ stray_leases w.server.topology (delivery c.args.proto c.args.source c.args.now c.args.datagram.now) (disk.failing_call_of w.disk) (leases_in (disk.disk_region w.disk) w.server) apart in
     let P : WorldValue → Type 0 = λ v. states new ≡ states v in
     let device = same_device _ (disk.device_of w.disk) (disk.device_of c.receive.new.disk) (stray_saves w.server.topology (delivery c.args.proto c.args.source c.args.now c.args.datagram.now) (books_in w.server) apart) c.receive.ensures.frame in
     subst P c.self.view_is (λ i. each_state (states_over w.net w.relays (device i)) (c.receive.ensures.topology i).circuits (leases i))

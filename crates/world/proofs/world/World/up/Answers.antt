@@ -65,11 +65,11 @@ invariant_of-self c =
     let before = state_stays region w.disk c.fail_at.new.self c.fail_at.ensures.state c.fail_at.ensures.others in
     let after = state_stays region c.receive-result.new.disk c.fail_at-2.new.self c.fail_at-2.ensures.state c.fail_at-2.ensures.others in
     let sent : Datagram = record { proto = d.proto; bytes = c.receive-result.new.out } in
-    let fuse = ap (disk.fuse_of c.fail_at.new.self) (sym c.region-region.ensures) ∙ c.fail_at.ensures.fuse in
+    let failing_call = ap (disk.failing_call_of c.fail_at.new.self) (sym c.region-region.ensures) ∙ c.fail_at.ensures.failing_call in
     let count = c.fail_at-2.ensures.others.count ∙ (writes_count true _ (disk.device_of c.fail_at.new.self) (disk.device_of c.receive-result.new.disk) c.receive-result.ensures.frame) ∙ c.fail_at.ensures.others.count in
-    let done : (known : TheCircuit w k) → IsServed w k known.part known.leases c.args.now c.args.fault d c.receive-result.result sent.bytes (leases_in (disk.state_of new.disk) new.server) =
+    let done : (known : TheCircuit w k) → IsServed w k known.part known.leases c.args.now c.args.fault d c.receive-result.result sent.bytes (leases_in (disk.disk_region new.disk) new.server) =
     λ known. is_served w is k known on c.args.number d c.args.now c.args.fault c.relay-source.result c.part-part.result.now (sym c.in-Some.ensures) c.part-part.ensures c.relay-source.ensures
-    (disk.state_of c.fail_at.new.self) (disk.fuse_of c.fail_at.new.self) before fuse c.receive-result.result sent.bytes _ (leases_in (disk.state_of new.disk) new.server)
+    (disk.disk_region c.fail_at.new.self) (disk.failing_call_of c.fail_at.new.self) before failing_call c.receive-result.result sent.bytes _ (leases_in (disk.disk_region new.disk) new.server)
     (c.receive-result.ensures.fails refl) c.receive-result.ensures.answer (ap (λ regions. leases_in regions new.server) after ∙ c.receive-result.ensures.leases refl) in
     still_world w new is refl c.receive-result.ensures.topology c.send.ensures.circuits count
     (subst (λ regions. AreReady regions new.server) (sym after) (c.receive-result.ensures.ready refl))
@@ -98,23 +98,23 @@ returns-in-Ok-clause-moves c =
     let region = c.region-region.result in
     let before = state_stays region w.disk c.fail_at.new.self c.fail_at.ensures.state c.fail_at.ensures.others in
     let after = state_stays region c.receive-result.new.disk c.fail_at-2.new.self c.fail_at-2.ensures.state c.fail_at-2.ensures.others in
-    let fuse = ap (disk.fuse_of c.fail_at.new.self) (sym c.region-region.ensures) ∙ c.fail_at.ensures.fuse in
+    let failing_call = ap (disk.failing_call_of c.fail_at.new.self) (sym c.region-region.ensures) ∙ c.fail_at.ensures.failing_call in
     let r = is_served w c.self.invariant k the on c.args.number d c.args.now c.args.fault c.relay-source.result c.part-part.result.now (sym c.in-Some.ensures) c.part-part.ensures c.relay-source.ensures
-    (disk.state_of c.fail_at.new.self) (disk.fuse_of c.fail_at.new.self) before fuse c.receive-result.result c.receive-result.new.out _ (leases_in (disk.state_of new.disk) new.server)
+    (disk.disk_region c.fail_at.new.self) (disk.failing_call_of c.fail_at.new.self) before failing_call c.receive-result.result c.receive-result.new.out _ (leases_in (disk.disk_region new.disk) new.server)
     (c.receive-result.ensures.fails refl) c.receive-result.ensures.answer (ap (λ regions. leases_in regions new.server) after ∙ c.receive-result.ensures.leases refl) in
     let beside = beside_up w c.self.invariant k the on c.args.number d c.args.now c.relay-source.result c.part-part.result.now region (sym c.in-Some.ensures) c.part-part.ensures c.relay-source.ensures c.region-region.ensures
     c.fail_at.new.self c.receive-result.new.disk c.fail_at-2.new.self c.fail_at.ensures.others c.receive-result.ensures.frame c.fail_at-2.ensures.others in
     let quiet = quiet_up w c.self.invariant k the on c.args.number d c.args.now c.relay-source.result c.part-part.result.now (sym c.in-Some.ensures) c.part-part.ensures c.relay-source.ensures
     c.fail_at.new.self c.receive-result.new.disk c.receive-result.ensures.frame in
     let own : c.part-part.result.now ≡ the.part = same_Some c.part-part.result.now the.part (sym c.part-part.ensures ∙ the.served) in
-    let cleared : disk.fuse_of new.disk the.part.region ≡ 0 =
-    subst (λ r. disk.fuse_of new.disk r ≡ 0) (c.region-region.ensures ∙ ap (λ (part : CircuitPart). part.region) own) c.fail_at-2.ensures.fuse in
+    let cleared : disk.failing_call_of new.disk the.part.region ≡ 0 =
+    subst (λ r. disk.failing_call_of new.disk r ≡ 0) (c.region-region.ensures ∙ ap (λ (part : CircuitPart). part.region) own) c.fail_at-2.ensures.failing_call in
     let P : WorldValue → Type 0 = λ v. Moves k (Up c.args.number c.args.now c.args.fault) (states v) (states new) (outcome.SentDown c.len-len.result) c.clear-in-Ok.new.self in
     subst P c.self.view_is (
     moves k (Up c.args.number c.args.now c.args.fault) w new the.part the.leases (after_datagram the.part (delivery_of the.part c.args.now d) c.args.fault the.leases) (outcome.SentDown c.len-len.result) c.clear-in-Ok.new.self
     (ap (λ (t : Topology). t.circuits) c.receive-result.ensures.topology) (whole w) r.size the.served the.its r.leases r.others
     (λ n other p l there. same_circuit w new n p l refl c.send.ensures.quota (c.send.ensures.other_circuits n dir.Up (apart k n other)) (c.send.ensures.other_circuits n dir.Down (apart k n other)) refl
-    (beside.region p.region (elsewhere w c.self.invariant k n c.part-part.result.now p c.part-part.ensures there other region c.region-region.ensures)) (beside.fuse p.region (elsewhere w c.self.invariant k n c.part-part.result.now p c.part-part.ensures there other region c.region-region.ensures)))
+    (beside.region p.region (elsewhere w c.self.invariant k n c.part-part.result.now p c.part-part.ensures there other region c.region-region.ensures)) (beside.failing_call p.region (elsewhere w c.self.invariant k n c.part-part.result.now p c.part-part.ensures there other region c.region-region.ensures)))
     (up_sent k w new the.part the.leases c.args.number c.args.now c.args.fault d c.receive-result.result c.receive-result.new.out (sym c.in-Some.ensures) r.answer refl on c.send.ensures.quota c.send.ensures.other_direction refl cleared
     (λ nothing. ap (λ (regions : ℕ → Region). regions the.part.region) (after ∙ quiet nothing ∙ before))
     c.len-len.result c.clear-in-Ok.new.self c.in-Ok.is c.send.ensures.kept c.len-len.ensures.value c.clear-in-Ok.ensures)
@@ -142,23 +142,23 @@ returns-in-Err-clause-moves c =
     let region = c.region-region.result in
     let before = state_stays region w.disk c.fail_at.new.self c.fail_at.ensures.state c.fail_at.ensures.others in
     let after = state_stays region c.receive-result.new.disk c.fail_at-2.new.self c.fail_at-2.ensures.state c.fail_at-2.ensures.others in
-    let fuse = ap (disk.fuse_of c.fail_at.new.self) (sym c.region-region.ensures) ∙ c.fail_at.ensures.fuse in
+    let failing_call = ap (disk.failing_call_of c.fail_at.new.self) (sym c.region-region.ensures) ∙ c.fail_at.ensures.failing_call in
     let r = is_served w c.self.invariant k the on c.args.number d c.args.now c.args.fault c.relay-source.result c.part-part.result.now (sym c.in-Some.ensures) c.part-part.ensures c.relay-source.ensures
-    (disk.state_of c.fail_at.new.self) (disk.fuse_of c.fail_at.new.self) before fuse c.receive-result.result c.receive-result.new.out _ (leases_in (disk.state_of new.disk) new.server)
+    (disk.disk_region c.fail_at.new.self) (disk.failing_call_of c.fail_at.new.self) before failing_call c.receive-result.result c.receive-result.new.out _ (leases_in (disk.disk_region new.disk) new.server)
     (c.receive-result.ensures.fails refl) c.receive-result.ensures.answer (ap (λ regions. leases_in regions new.server) after ∙ c.receive-result.ensures.leases refl) in
     let beside = beside_up w c.self.invariant k the on c.args.number d c.args.now c.relay-source.result c.part-part.result.now region (sym c.in-Some.ensures) c.part-part.ensures c.relay-source.ensures c.region-region.ensures
     c.fail_at.new.self c.receive-result.new.disk c.fail_at-2.new.self c.fail_at.ensures.others c.receive-result.ensures.frame c.fail_at-2.ensures.others in
     let quiet = quiet_up w c.self.invariant k the on c.args.number d c.args.now c.relay-source.result c.part-part.result.now (sym c.in-Some.ensures) c.part-part.ensures c.relay-source.ensures
     c.fail_at.new.self c.receive-result.new.disk c.receive-result.ensures.frame in
     let own : c.part-part.result.now ≡ the.part = same_Some c.part-part.result.now the.part (sym c.part-part.ensures ∙ the.served) in
-    let cleared : disk.fuse_of new.disk the.part.region ≡ 0 =
-    subst (λ r. disk.fuse_of new.disk r ≡ 0) (c.region-region.ensures ∙ ap (λ (part : CircuitPart). part.region) own) c.fail_at-2.ensures.fuse in
+    let cleared : disk.failing_call_of new.disk the.part.region ≡ 0 =
+    subst (λ r. disk.failing_call_of new.disk r ≡ 0) (c.region-region.ensures ∙ ap (λ (part : CircuitPart). part.region) own) c.fail_at-2.ensures.failing_call in
     let P : WorldValue → Type 0 = λ v. Moves k (Up c.args.number c.args.now c.args.fault) (states v) (states new) (outcome.Dropped c.in-Err.why) c.receive-result.new.out in
     subst P c.self.view_is (
     moves k (Up c.args.number c.args.now c.args.fault) w new the.part the.leases (after_datagram the.part (delivery_of the.part c.args.now d) c.args.fault the.leases) (outcome.Dropped c.in-Err.why) c.receive-result.new.out
     (ap (λ (t : Topology). t.circuits) c.receive-result.ensures.topology) (whole w) r.size the.served the.its r.leases r.others
     (λ n other p l there. same_circuit w new n p l refl refl refl refl refl (beside.region p.region (elsewhere w c.self.invariant k n c.part-part.result.now p c.part-part.ensures there other region c.region-region.ensures))
-    (beside.fuse p.region (elsewhere w c.self.invariant k n c.part-part.result.now p c.part-part.ensures there other region c.region-region.ensures)))
+    (beside.failing_call p.region (elsewhere w c.self.invariant k n c.part-part.result.now p c.part-part.ensures there other region c.region-region.ensures)))
     (up_dropped k w new the.part the.leases c.args.number c.args.now c.args.fault d c.receive-result.result c.receive-result.new.out (sym c.in-Some.ensures) r.answer refl on refl refl refl cleared
     (λ nothing. ap (λ (regions : ℕ → Region). regions the.part.region) (after ∙ quiet nothing ∙ before))
     c.in-Err.why c.in-Err.is refl)

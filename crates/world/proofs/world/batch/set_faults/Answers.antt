@@ -1,5 +1,5 @@
 use Rattle.std.proofs.Common.{◌+◌, drop, if◌then◌else◌, get_or, sym, ap, ◌∙◌}
-use Rattle.lease_disk.specs.Model.{fuse_of}
+use Rattle.lease_disk.specs.Model.{failing_call_of}
 use Rattle.world.specs.Batch.{faults_after}
 use Rattle.world.proofs.BatchLoops.{fault_is_set, faults_step}
 use Rattle.world.proofs.ServedLemmas.{state_stays}
@@ -17,8 +17,8 @@ parts-preserved c =
       count = set.others.count ∙ c.parts.invariant.count;
       states = state_stays d.region c.parts.disk c.fail_at.new.self set.state set.others ∙ c.parts.invariant.states;
       faults =
-          ap (faults_after c.args.fails (drop (c.parts.index + 1) ws)) (fault_is_set c.args.fails w (fuse_of c.parts.disk) (fuse_of c.fail_at.new.self)
-          (ap (fuse_of c.fail_at.new.self) (sym at) ∙ set.fuse ∙ c.fault_of-fault.ensures ∙ ap (λ part. if c.args.fails then part.fault else 0) c.index-waiting-index.is)
-          (λ r other. set.others.fuses r (λ same. other (same ∙ at))))
-          ∙ sym (faults_step c.args.fails ws i d (fuse_of c.parts.disk) c.parts-test.true) ∙ c.parts.invariant.faults;
+          ap (faults_after c.args.fails (drop (c.parts.index + 1) ws)) (fault_is_set c.args.fails w (failing_call_of c.parts.disk) (failing_call_of c.fail_at.new.self)
+          (ap (failing_call_of c.fail_at.new.self) (sym at) ∙ set.failing_call ∙ c.fault_of-fault.ensures ∙ ap (λ part. if c.args.fails then part.fault else 0) c.index-waiting-index.is)
+          (λ r other. set.others.failing_calls r (λ same. other (same ∙ at))))
+          ∙ sym (faults_step c.args.fails ws i d (failing_call_of c.parts.disk) c.parts-test.true) ∙ c.parts.invariant.faults;
     }

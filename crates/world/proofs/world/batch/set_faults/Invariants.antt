@@ -1,5 +1,5 @@
 use Rattle.std.proofs.Common.{◌≡◌, drop, length}
-use Rattle.lease_disk.specs.Model.{fuse_of, state_of}
+use Rattle.lease_disk.specs.Model.{failing_call_of, disk_region}
 use Rattle.world.specs.Batch.{faults_after}
 use Rattle.world.proofs.world.batch.set_faults.Given as goal
 
@@ -7,6 +7,6 @@ use Rattle.world.proofs.world.batch.set_faults.Given as goal
 abbrev pub invariant-parts : goal.invariant-parts
 invariant-parts l = record {
   count : length l.disk.regions ≡ length l.fn.disk.regions;
-  states : state_of l.disk ≡ state_of l.fn.disk;
-  faults : faults_after l.fails (drop l.index l.waiting) (fuse_of l.disk) ≡ faults_after l.fails l.waiting (fuse_of l.fn.disk);
+  states : disk_region l.disk ≡ disk_region l.fn.disk;
+  faults : faults_after l.fails (drop l.index l.waiting) (failing_call_of l.disk) ≡ faults_after l.fails l.waiting (failing_call_of l.fn.disk);
 }

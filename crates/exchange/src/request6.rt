@@ -1,6 +1,6 @@
 //! What a circuit's DHCPv6 book is asked, and what it answers.
 ghost use Rattle.std.specs.Prelude.{◌≡◌};
-ghost use Rattle.types.specs.Reply6.{code_of_reply6, code_of_status6};
+ghost use Rattle.exchange.specs.Reply6.{code_of_reply6, code_of_status6};
 
 use crate::addr::Addr6;
 use crate::key6::Key6;

@@ -1,9 +1,9 @@
 -- The numbers of what a DHCPv6 server replies.
 use Rattle.std.specs.Prelude.{ℕ}
-use Rattle.types.specs.declared.request6.ReplyKind6.{ReplyKind6}
-use Rattle.types.specs.declared.request6.ReplyKind6.TheVariants.{Advertise, Reply}
-use Rattle.types.specs.declared.request6.Status6.{Status6}
-use Rattle.types.specs.declared.request6.Status6.TheVariants.{Success, NoAddrsAvail, NoBinding, NotOnLink}
+use Rattle.exchange.specs.declared.request6.ReplyKind6.{ReplyKind6}
+use Rattle.exchange.specs.declared.request6.ReplyKind6.TheVariants.{Advertise, Reply}
+use Rattle.exchange.specs.declared.request6.Status6.{Status6}
+use Rattle.exchange.specs.declared.request6.Status6.TheVariants.{Success, NoAddrsAvail, NoBinding, NotOnLink}
 
 -- the first byte of a reply (RFC 8415, section 7.3)
 abbrev pub code_of_reply6 : ReplyKind6 → ℕ
