@@ -13,7 +13,7 @@ ghost use Rattle.types.specs.Delivery.{delivery};
 ghost use Rattle.udp.specs.History as entry;
 ghost use Rattle.udp.specs.declared.history.Role.TheVariants as role;
 
-use crate::datagrams::{Datagram, Datagrams, Source::UNSPECIFIED};
+use crate::datagrams::{Datagram, Datagrams};
 use crate::polling::{Polling, Waiting};
 use crate::sending::send_on;
 use counts::{CircuitCounts, Counts, Fate};
@@ -227,12 +227,7 @@ fn is_repeated(answer: &Answer) -> bool
 }
 
 /// Sends an answer from this socket to there, or nothing where the datagram was dropped.
-fn send_answer(
-    answer: &Answer,
-    socket: &DatagramSocket,
-    to: Source,
-    history: &mut History,
-) -> Fate
+fn send_answer(answer: &Answer, socket: &DatagramSocket, to: Source, history: &mut History) -> Fate
     requires { history.old.id ≡ socket.now.history }
     ensures sent { HasSentOn socket.now.role to outcome.Answered (answer_of answer.now) history.old.entries history.new.entries result }
     ensures same { history.new.id ≡ history.old.id }

@@ -4,14 +4,8 @@ ghost use Rattle.access.specs.Taken.{attempt_datagrams};
 ghost use Rattle.udp.specs.History.{attempt_entry, with_entry};
 
 use std::marker::Model;
-use types::{Addr4, MAX_BATCH, Proto, Source};
+use types::{MAX_BATCH, Proto, Source};
 use udp::{Attempt, BUFFER_LEN, DatagramSocket, History, Waiter};
-
-/// The source of nothing.
-pub(crate) const Source::UNSPECIFIED: Source = Source {
-    addr: Addr4::UNSPECIFIED,
-    port: 0,
-};
 
 /// A datagram that was taken from one of the server's sockets.
 #[derive(Clone, Copy)]

@@ -171,7 +171,7 @@ fn report_address(rt: &HostRuntime, config: &Config, port: u16, at: Source)
     }
 }
 
-/// The same of each address of the server and the relays.
+/// Warns of each address of the server and the relays that a circuit's ports are at too.
 fn report_addresses(rt: &HostRuntime, config: &Config, port: u16)
     requires few { length config.now.circuits ≤ 16 }
     requires most { port ≤ 65472 }
@@ -243,7 +243,7 @@ fn report_clock(rt: &HostRuntime, access: &Access, index: usize, now: u64) {
     }
 }
 
-/// The same of each open circuit.
+/// Warns of each open circuit whose clock is ahead of the system's.
 fn report_clocks(rt: &HostRuntime, access: &Access) {
     let Ok(since) = rt.since_1970() else {
         return;

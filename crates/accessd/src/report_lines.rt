@@ -4,10 +4,7 @@ use access::Counts;
 use config::CircuitPart;
 use lease_log::{Change, Line, end_of, start_of};
 use reports::{CircuitLine, Full};
-use types::{Moment, Slots};
-
-/// How many slots a circuit has, of both pools.
-const SLOTS: usize = 32;
+use types::{Moment, SLOTS, Slots};
 
 /// Writes that a circuit has closed.
 pub fn write_closed(rt: &HostRuntime, part: &CircuitPart) {

@@ -8,9 +8,6 @@ ghost use Rattle.batch_saves.specs.Steps.{IsTurned};
 use crate::steps::make_step;
 use lease_disk::{Disk, SaveStep, Saving};
 
-/// The most parts of a batch.
-pub const MAX_BATCH: usize = 16;
-
 /// The marks of a part that was saved. Those of one that failed stay.
 fn turn_part(part: &mut Saving)
     requires { part.old.slot < 32 }

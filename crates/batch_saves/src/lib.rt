@@ -7,5 +7,5 @@ mod steps;
 mod syncs;
 mod writes;
 
-pub use batch::{MAX_BATCH, save_many};
+pub use batch::save_many;
 pub use lease_disk::Saving;

@@ -4,10 +4,10 @@ ghost use Rattle.std.specs.List.{list_any};
 ghost use Rattle.batch_saves.specs.Batch.{AreApart, part_at};
 ghost use Rattle.batch_saves.specs.Steps.{AreSaving, AreSynced, KeepsOthers, is_saving};
 
-use crate::batch::MAX_BATCH;
 use crate::writes::call_of;
 use arrayvec::ArrayVec;
 use lease_disk::{Disk, SaveStep, Saving};
+use types::MAX_BATCH;
 
 /// The regions of the parts that are still saving.
 fn saving_regions(parts: &[Saving]) -> ArrayVec<u16, MAX_BATCH>

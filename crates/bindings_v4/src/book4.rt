@@ -16,9 +16,9 @@ use crate::decision4::Decision4;
 use crate::kept::{kept_slots, live_holders};
 use crate::table4::{Lookup4, decision_for};
 use crate::write::{withdraw_offers, write_change};
+use exchange::Request4;
 use slots::{Holder, SlotTable};
 use std::marker::Model;
-use exchange::Request4;
 use types::{Addr4, Key4, Moment, Pool4, Slots};
 
 /// The leases of one circuit's pool, by slot. It has no clock: what has expired counts no longer, and

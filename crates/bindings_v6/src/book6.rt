@@ -15,9 +15,9 @@ use crate::case6::{Case6, SlotAddress};
 use crate::decision6::Decision6;
 use crate::kept::{holder_of, kept_slots, live_holders};
 use crate::table6::{Lookup6, decision_for, first_listed};
+use exchange::Request6;
 use slots::{Holder, SlotTable};
 use std::marker::Model;
-use exchange::Request6;
 use types::{Addr6, Key6, Moment, Pool6, Slots};
 
 /// The leases of one circuit's pool, by slot. It has no clock: what has expired counts no longer, and

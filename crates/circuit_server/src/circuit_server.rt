@@ -16,7 +16,7 @@ ghost use Rattle.circuit_server.specs.Unoffered.{state_unoffered};
 ghost use Rattle.lease_disk.specs.Device.{ChangesOne};
 ghost use Rattle.lease_disk.specs.Region.{IsClean};
 
-use crate::decision::{CircuitDecision, CircuitDecision4, CircuitDecision6, Decide, SLOTS, put};
+use crate::decision::{CircuitDecision, CircuitDecision4, CircuitDecision6, Decide, put};
 use crate::open_circuit::OpenCircuit;
 use crate::prepared::{Prepared, save_alone};
 use config::CircuitPart;
@@ -24,7 +24,7 @@ use lease_disk::{Disk, Fault, Marks, Saving, migrate};
 use requests::RelayedMessage;
 use std::marker::Model;
 use timers::Deadlines;
-use types::{Circuit, Delivery, Discard, Moment, Slots};
+use types::{Circuit, Delivery, Discard, Moment, SLOTS, Slots};
 use wire::PacketBuf;
 
 /// The server of one circuit: what it has while the circuit is open. A part is the circuit's part of the

@@ -22,16 +22,10 @@ use lease_disk::Content;
 use replies::{write4, write6};
 use requests::RelayedMessage;
 use timers::Deadlines;
-use types::{Circuit, Discard, Key6, Slot4, Slot6};
+use types::{Circuit, Discard, FIRST_SLOT6, Key6, SLOTS, Slot4, Slot6};
 use v4_message::Message;
 use v6_message::{Message6, Relay6};
 use wire::PacketBuf;
-
-/// How many slots a circuit has in the table of deadlines.
-pub(crate) const SLOTS: usize = 32;
-
-/// Of a circuit's slots, the first one of the DHCPv6 pool.
-pub(crate) const FIRST_SLOT6: usize = 16;
 
 /// What a circuit decides on a DHCPv4 message. It has no room for DHCPv6's keys, so that an answer moves little.
 #[derive(Drop)]

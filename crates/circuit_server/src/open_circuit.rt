@@ -17,14 +17,14 @@ ghost use Rattle.lease_disk.specs.Device.{TouchesNothing};
 ghost use Rattle.lease_disk.specs.Layout.{is_format2};
 ghost use Rattle.lease_disk.specs.Region.{IsClean, Region};
 
-use crate::decision::{CircuitDecision4, CircuitDecision6, FIRST_SLOT6};
+use crate::decision::{CircuitDecision4, CircuitDecision6};
 use bindings_v4::Book4;
 use bindings_v6::Book6;
 use config::CircuitPart;
 use lease_disk::{Content, Disk, Marks, Saving, recover};
 use requests::{request4_in, request6_in};
 use std::marker::Model;
-use types::{Discard, Moment, Slot4, Slot6, Slots};
+use types::{Discard, FIRST_SLOT6, Moment, Slot4, Slot6, Slots};
 use v4_message::Message;
 use v6_message::Relay6;
 

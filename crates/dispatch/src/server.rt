@@ -36,11 +36,8 @@ use std::alloc::{AllocError, Global};
 use std::marker::Model;
 use thiserror::Error;
 use timers::Deadlines;
-use types::{Circuit, Delivery, Discard, Moment, Proto, Slots, Source};
+use types::{Circuit, Delivery, Discard, Moment, Proto, SLOTS, Slots, Source};
 use wire::PacketBuf;
-
-/// How many slots a circuit has, of both pools.
-const SLOTS: usize = 32;
 
 /// Why a server was not opened.
 #[derive(Clone, Copy, Debug, PartialEq, Eq, Error)]
@@ -141,7 +138,7 @@ impl Server {
         Server::over(alloc, circuits, disk)
     }
 
-    /// The same of several plans, of which the first is in force. Each circuit of any of them begins with the leases and the
+    /// The server of several plans over a device, with the first in force. Each circuit of any of them begins with the leases and the
     /// clock that its region holds.
     pub fn open_plans<D: Disk>(
         alloc: Global,

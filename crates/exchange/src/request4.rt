@@ -1,7 +1,5 @@
 //! What a circuit's DHCPv4 book is asked, and what it answers.
-use crate::addr::Addr4;
-use crate::key4::Key4;
-use crate::kind4::Kind4;
+use types::{Addr4, Key4, Kind4};
 
 /// A client's message, as far as leases depend on it.
 #[derive(Clone, Copy, PartialEq, Eq)]

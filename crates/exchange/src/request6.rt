@@ -2,10 +2,8 @@
 ghost use Rattle.std.specs.Prelude.{◌≡◌};
 ghost use Rattle.exchange.specs.Reply6.{code_of_reply6, code_of_status6};
 
-use crate::addr::Addr6;
-use crate::key6::Key6;
-use crate::kind6::Kind6;
 use arrayvec::ArrayVec;
+use types::{Addr6, Key6, Kind6};
 
 /// The most addresses that a client lists in an IA_NA.
 pub const MAX_LISTED: usize = 4;

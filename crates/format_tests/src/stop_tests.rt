@@ -155,7 +155,7 @@ fn two_stops_formatted(rt: &(impl Abort + AllocGlobal), first: Cut, second: Cut)
     two_stops(&mut disk, &mut marks, &free_at(0), first, second)
 }
 
-/// The same where both halves of the slot are open.
+/// Two stops in saves of a slot both of whose halves are open.
 fn two_stops_saved(rt: &(impl Abort + AllocGlobal), first: Cut, second: Cut) -> bool {
     let (mut disk, mut marks) = formatted_disk(rt);
     keep(&mut disk, &mut marks, &lease_at(100)).expect(rt, "the first save");

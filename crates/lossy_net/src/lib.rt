@@ -3,11 +3,10 @@
 #![tactic(auto)]
 
 mod dir;
-mod memory;
 mod net;
 mod packets;
 mod ring;
 
 pub use dir::Dir;
-pub use memory::Memory;
 pub use net::{MAX_QUOTA, Net};
+pub use types::Memory;

@@ -5,12 +5,11 @@ ghost use Rattle.lossy_net.specs.Layout.{ring_of};
 ghost use Rattle.lossy_net.specs.declared.dir.Dir.{Dir};
 
 use crate::dir::Dir;
-use crate::memory::Memory;
 use crate::packets::Packets;
 use crate::ring::Ring;
 use std::alloc::Global;
 use std::marker::Model;
-use types::{Circuit, Proto};
+use types::{Circuit, Memory, Proto};
 use wire::PacketBuf;
 
 /// The most datagrams that are kept of a circuit in one direction.

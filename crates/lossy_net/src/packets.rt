@@ -2,10 +2,9 @@
 ghost use Rattle.std.specs.Prelude.{◌≡◌, ◌*◌, ◌<◌, ◌≤◌, length, slice_get, slice_set, IfOk};
 ghost use Rattle.std.specs.declared.option.Option.TheVariants.{Some};
 
-use crate::memory::Memory;
 use std::alloc::Global;
 use std::marker::Model;
-use types::{MAX_DATAGRAM, Proto};
+use types::{MAX_DATAGRAM, Memory, Proto};
 
 /// The protocol and the length of a datagram.
 #[derive(Clone, Copy)]

@@ -26,7 +26,7 @@ pub enum Step {
     /// One for the server, and one for the world.
     Disk,
     Server,
-    /// The same configuration twice.
+    /// Two plans of one configuration.
     Plans,
     World,
 }

@@ -33,7 +33,7 @@ pub fn frames_go_up()
     ensures long { relayed_up part_a V4 (discover 1 [] ++ replicate 781 0) ≡ Err reason.TooLong }
 {}
 
-/// The same of DHCPv6 frames: the client's address, and its message.
+/// What the relay makes of DHCPv6 frames: the client's address, and its message.
 pub fn frames_go_up6()
     ensures solicit { relayed_up part_a V6 (peer ++ solicit) ≡ Ok (solicit_up part_a.link6 (97 ∷ [])) }
     ensures nested { relayed_up part_a V6 (peer ++ 12 ∷ drop 1 solicit) ≡ Err reason.NestedRelay }

@@ -52,7 +52,8 @@ pub fn named_circuit()
         → relayed_down_in topology relay source datagram ≡ for_circuit c (relayed_down part V4 datagram) }
 {}
 
-/// The same for DHCPv6, where the interface id names the circuit.
+/// A DHCPv6 reply that names a circuit by its interface id comes down to it, if the circuit is served, is behind the relay and
+/// is the only one of this id.
 pub fn named_circuit6()
     ensures { (topology : Topology) (relay : ℕ) (source : Source) (datagram : List ℕ) (c : ℕ) (part : CircuitPart) (m : RelayValue)
         → slice_get topology.circuits c ≡ Some part → serves topology c ≡ true

@@ -9,4 +9,5 @@ mod relays;
 mod up4;
 mod up6;
 
-pub use relays::{Memory, Relays};
+pub use relays::Relays;
+pub use types::Memory;

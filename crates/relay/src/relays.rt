@@ -13,15 +13,9 @@ use crate::up6::relay_up6;
 use config::{CircuitPart, Circuits, Config, Plans};
 use std::alloc::Global;
 use std::marker::Model;
-use thiserror::Error;
-use types::{Circuit, Dest, Discard, Proto, RelayNo, Source};
+use types::{Circuit, Dest, Discard, Memory, Proto, RelayNo, Source};
 use v4_options::code;
 use wire::PacketBuf;
-
-/// The relays could not be given the memory that they need.
-#[derive(Clone, Copy, Debug, PartialEq, Eq, Error)]
-#[error("out of memory")]
-pub struct Memory;
 
 /// The relays of a configuration: a copy of what they need of it, and a counter for each circuit.
 #[derive(Drop)]
@@ -141,7 +135,7 @@ impl Relays {
         Err(Discard::NotServer)
     }
 
-    /// The same for a datagram from the server's DHCPv4 address.
+    /// Takes a datagram from the server's DHCPv4 address to its circuit.
     fn down4(
         &self,
         relay: RelayNo,
@@ -162,7 +156,7 @@ impl Relays {
         Ok((circuit, dest))
     }
 
-    /// The same for a datagram from the server's DHCPv6 address.
+    /// Takes a datagram from the server's DHCPv6 address to its circuit.
     fn down6(
         &self,
         relay: RelayNo,

@@ -9,7 +9,7 @@ use crate::once::Once;
 use crate::used::{is_full4, is_full6};
 use types::Slots;
 
-/// Of which pools it is told that each of their addresses is leased or declined.
+/// The pools that were reported full: each of their addresses is leased or declined.
 #[derive(Clone, Copy)]
 pub struct Full {
     pub four: bool,

@@ -87,7 +87,7 @@ fn shares_syncs(world: &mut World, first: usize, second: usize) -> bool
         && world.disk().syncs().wrapping_sub(before) == 3
 }
 
-/// The same in a world that is opened for it.
+/// Opens a world and looks whether its circuits share their syncs.
 fn a_world_shares_syncs(alloc: Global, first: usize, second: usize) -> bool
     requires first { first ≤ 1023 }
     requires second { second ≤ 1023 }

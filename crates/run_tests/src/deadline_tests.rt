@@ -138,7 +138,7 @@ fn follows_the_slot(alloc: Global, config: &Config, disk: &mut ModelDisk) -> boo
     begins && stops && ends(alloc, &mut server, disk)
 }
 
-/// The same over a disk that is made for it.
+/// Makes a disk and looks whether a server over it follows the slot.
 fn a_server_follows_the_slot(alloc: Global) -> bool {
     match (Config::read(alloc, ONE_CIRCUIT), ModelDisk::new(alloc, 1)) {
         (Ok(config), Ok(mut disk)) => follows_the_slot(alloc, &config, &mut disk),

@@ -107,7 +107,7 @@ fn ends_over(world: &mut World, shelf: &mut Shelf, ended: Result<(), usize>) -> 
     world.run(&events, shelf) == ended
 }
 
-/// The same of a world that is opened for it.
+/// Opens a world and runs these events over this sink.
 fn a_world_ends_over(alloc: Global, shelf: &mut Shelf, ended: Result<(), usize>) -> bool {
     match opened(alloc, 1) {
         Ok(mut world) => {
@@ -119,7 +119,7 @@ fn a_world_ends_over(alloc: Global, shelf: &mut Shelf, ended: Result<(), usize>)
     }
 }
 
-/// The same over a sink with this room, which it fills.
+/// Whether a run over a sink with this room ends so, and fills it.
 fn ends(alloc: Global, room: usize, ended: Result<(), usize>) -> bool {
     match Shelf::new(alloc, room) {
         Ok(mut shelf) => a_world_ends_over(alloc, &mut shelf, ended) && shelf.frames.len() == room,
@@ -221,7 +221,7 @@ fn keeps_a_lease(world: &mut World) -> bool {
         && has(world, &RENEWED)
 }
 
-/// The same of a world that is opened for it.
+/// Opens a world and looks whether it keeps a lease.
 fn a_world_keeps_a_lease(alloc: Global) -> bool {
     match opened(alloc, 1) {
         Ok(mut world) => {
@@ -275,7 +275,7 @@ fn passes_over_what_does_not_exist(world: &mut World) -> bool {
         && is_answered(world, Kind4::Discover, &[], 255)
 }
 
-/// The same of a world that is opened for it.
+/// Opens a world and looks whether it passes over what does not exist.
 fn a_world_passes_over_it(alloc: Global) -> bool {
     match opened(alloc, 1) {
         Ok(mut world) => {

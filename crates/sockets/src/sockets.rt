@@ -38,7 +38,7 @@ pub enum SocketFault {
 pub struct CircuitSockets {
     /// Where its DHCPv4 frames come from, and those towards it leave.
     pub socket4: DatagramSocket,
-    /// The same for DHCPv6.
+    /// Where its DHCPv6 frames come from, and those towards it leave.
     pub socket6: DatagramSocket,
     /// The index of its relay.
     pub relay: usize,

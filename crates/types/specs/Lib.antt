@@ -9,5 +9,4 @@ pub mod Kind4
 pub mod Kind6
 pub mod Pool4
 pub mod Pool6
-pub mod Reply6
 pub mod Slots

@@ -17,6 +17,14 @@ pub struct Source {
     pub port: u16,
 }
 
+impl Source {
+    /// 0.0.0.0 and port 0, from which nothing comes.
+    pub const UNSPECIFIED: Source = Source {
+        addr: Addr4::UNSPECIFIED,
+        port: 0,
+    };
+}
+
 impl Addr4 {
     /// 0.0.0.0, which stands for an address that is not given (RFC 1122, section 3.2.1.3).
     pub const UNSPECIFIED: Addr4 = Addr4([0; 4]);

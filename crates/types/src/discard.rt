@@ -151,7 +151,7 @@ impl fmt::Display for Discard {
     }
 }
 
-// As the words: derived, it would be a second table of them.
+// Writes the words: derived, it would be a second table of them.
 impl fmt::Debug for Discard {
     ghost debug_output = { λ why. Some (words_of why) };
 

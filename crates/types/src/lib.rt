@@ -14,14 +14,15 @@ mod key4;
 mod key6;
 mod kind4;
 mod kind6;
+pub mod laws;
 mod limits;
+mod memory;
 mod moment;
 mod pool4;
 mod pool6;
 mod relay_no;
-mod request4;
-mod request6;
 mod slot4;
+mod slot6;
 mod slots;
 
 pub use addr::{Addr4, Addr6, Source};
@@ -36,13 +37,14 @@ pub use key6::Key6;
 pub use kind4::Kind4;
 pub use kind6::Kind6;
 pub use limits::{
-    MAX_CIRCUITS, MAX_DATAGRAM, MAX_DUID, MAX_FRAME, MAX_REGION, MAX_RELAYS, MIN_DUID, limit_values,
+    FIRST_SLOT6, MAX_BATCH, MAX_CIRCUITS, MAX_DATAGRAM, MAX_DUID, MAX_FRAME, MAX_REGION,
+    MAX_RELAYS, MIN_DUID, SLOTS,
 };
+pub use memory::Memory;
 pub use moment::{LAST_MOMENT, Moment};
 pub use pool4::{MAX_LEASE, MAX_POOL, MIN_LEASE, Pool4};
 pub use pool6::Pool6;
 pub use relay_no::RelayNo;
-pub use request4::{Reply4, Request4};
-pub use request6::{MAX_LISTED, Reply6, ReplyIa, ReplyKind6, Request6, ServerId, Status6};
 pub use slot4::Slot4;
-pub use slots::{Slot6, Slots};
+pub use slot6::Slot6;
+pub use slots::Slots;

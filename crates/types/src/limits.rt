@@ -1,5 +1,4 @@
 //! Limits that belong to no single type, and those of values that several crates read.
-ghost use Rattle.std.specs.Prelude.{◌≡◌};
 
 /// The most circuits of a configuration.
 pub const MAX_CIRCUITS: usize = 1024;
@@ -22,13 +21,11 @@ pub const MAX_DUID: usize = 130;
 /// The last region of a disk.
 pub const MAX_REGION: u32 = 1023;
 
-/// The limits as the numbers that contracts state.
-pub fn limit_values()
-    ensures circuits { MAX_CIRCUITS ≡ 1024 }
-    ensures relays { MAX_RELAYS ≡ 8 }
-    ensures frame { MAX_FRAME ≡ 1024 }
-    ensures datagram { MAX_DATAGRAM ≡ 1280 }
-    ensures least_duid { MIN_DUID ≡ 3 }
-    ensures most_duid { MAX_DUID ≡ 130 }
-    ensures region { MAX_REGION ≡ 1023 }
-{}
+/// How many slots a circuit has, of both protocols.
+pub const SLOTS: usize = 32;
+
+/// The first slot of a circuit's DHCPv6 pool. Those of its DHCPv4 pool come before it.
+pub const FIRST_SLOT6: usize = 16;
+
+/// The most datagrams of a batch.
+pub const MAX_BATCH: usize = 16;

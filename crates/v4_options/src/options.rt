@@ -21,7 +21,7 @@ use wire::{Cursor, Full, PacketBuf};
 pub struct Options<'a> {
     bytes: &'a [u8],
     places: Places,
-    /// As `front_of` says.
+    /// How many bytes at the front spell the options, if they do (`front_of`).
     front: Option<usize>,
 }
 
@@ -92,7 +92,7 @@ impl<'a> Options<'a> {
         write_rows(self.bytes, END, out)
     }
 
-    /// As `write`, without the option of one code.
+    /// Adds the options without that of one code, in order, without pads and without an end.
     pub fn write_without(&self, left_out: u8, out: &mut PacketBuf) -> Result<(), Full>
         ensures full { IsOk result ↔ (length out.old + length (spelling (without left_out self.now)) ≤ 1280) }
         ensures ok { OnOk result (out.new ≡ out.old ++ spelling (without left_out self.now)) }

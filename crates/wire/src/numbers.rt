@@ -10,7 +10,7 @@ pub fn number_again()
     ensures eight { (n : ℕ) (rest : List ℕ) → n < 2 ^ 64 → from_be_bytes w64 (to_be_bytes w64 n ++ rest) ≡ n }
 {}
 
-/// As many bytes as a number has are that number's bytes.
+/// Bytes of a number's width are the bytes of the number that they spell.
 pub fn bytes_again()
     ensures two { (bytes : List ℕ) → AreBytes bytes → length bytes ≡ 2 → to_be_bytes w16 (from_be_bytes w16 bytes) ≡ bytes }
     ensures four { (bytes : List ℕ) → AreBytes bytes → length bytes ≡ 4 → to_be_bytes w32 (from_be_bytes w32 bytes) ≡ bytes }

@@ -99,7 +99,7 @@ impl PacketBuf {
         self.buf.datagram()
     }
 
-    /// The same datagram, with room in front of it.
+    /// Lends the datagram with room in front of it.
     pub fn framed(&mut self) -> &mut FramedBuf
         ensures* writes_back { sem 𝓛 (lends_framed self.entry result) }
         ensures value { result.now.datagram ≡ self.old }

@@ -178,7 +178,7 @@ impl World {
         }
     }
 
-    /// The same for several plans, of which the first is in force. The regions of all their circuits are recovered.
+    /// Opens the world of several plans, with the first in force. The regions of all their circuits are recovered.
     pub fn open_plans(
         alloc: Global,
         plans: &Plans,

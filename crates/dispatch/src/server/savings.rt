@@ -5,9 +5,9 @@ ghost use Rattle.batch_saves.specs.Batch.{AreApart, AreReady, batch_calls, faile
 ghost use Rattle.dispatch.specs.Parts.{AreSavedTogether, saved_by};
 
 use batch_saves::{Saving, save_many};
-use types::MAX_BATCH;
 use lease_disk::{Disk, Fault, Marks};
 use std::marker::Model;
+use types::MAX_BATCH;
 
 /// The saves of the parts of a batch, in order.
 #[derive(Drop)]

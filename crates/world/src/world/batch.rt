@@ -22,14 +22,8 @@ use events::{BatchPart, Outcome, PartOutcome, is_batch, part_fault};
 use lease_disk::ModelDisk;
 use lossy_net::{Dir, Net};
 use relay::Relays;
-use types::{Addr4, Circuit, MAX_BATCH, Moment, Proto, Source};
+use types::{Circuit, MAX_BATCH, Moment, Proto, Source};
 use wire::PacketBuf;
-
-/// The source of nothing.
-const Source::UNSPECIFIED: Source = Source {
-    addr: Addr4::UNSPECIFIED,
-    port: 0,
-};
 
 /// A part of a batch whose datagram waits for the server.
 #[derive(Clone, Copy)]

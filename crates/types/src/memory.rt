@@ -1,7 +1,7 @@
-//! The one fault of this crate.
+//! The fault of a call that takes memory.
 use thiserror::Error;
 
-/// Out of memory.
+/// A request for memory was refused.
 #[derive(Clone, Copy, Debug, PartialEq, Eq, Error)]
 #[error("out of memory")]
 pub struct Memory;
