@@ -1,6 +1,8 @@
 //! Relay and server over sockets.
-ghost use Rattle.std.specs.Prelude.{◌≡◌, ◌≤◌, ◌<◌, ◌+◌, ◌*◌, ◌↔◌, ℕ, [], length, map, true, is_some, Some, slice_get, All, Err, IfOk, IfErr};
-ghost use Rattle.access.specs.Access.{HasCarried, HasCounted, HasReached, HasServed, HasServedTurns, HasTurned, IsOpened, RefusesSocket, StayClosed, StaysSetUp, books_at};
+ghost use Rattle.std.specs.Prelude.{◌≡◌, ◌≤◌, ◌<◌, ◌+◌, ◌*◌, ◌↔◌, ℕ, [], length, map, true, is_some, Some, slice_get};
+ghost use Rattle.std.specs.Prelude.{All, Err, IfOk, IfErr};
+ghost use Rattle.access.specs.Access.{HasCarried, HasCounted, HasReached, HasServed, HasServedTurns, HasTurned};
+ghost use Rattle.access.specs.Access.{IsOpened, RefusesSocket, StayClosed, StaysSetUp, books_at};
 ghost use Rattle.counts.specs.Counts.{more_by, none};
 ghost use Rattle.opening.specs.Opening.{found_format, was_old};
 ghost use Rattle.sockets.specs.Sockets.{AreBound, IsSocket, Refuses, WasRefused};
@@ -109,10 +111,26 @@ impl Model for Access {
 
     ghost Value = { AccessValue };
 
-    ghost view = { λ a. record { topology = a.relays.topology; server = a.server; disk = a.disk; formats = a.formats.items; port = a.port; batch = a.batch.most; first = a.batch.first; counts = a.counts; history = a.history.entries; turns = a.turns.count } };
+    ghost view = { λ a.
+        record {
+          topology = a.relays.topology;
+          server = a.server;
+          disk = a.disk;
+          formats = a.formats.items;
+          port =
+              a.port;
+          batch = a.batch.most;
+          first = a.batch.first;
+          counts = a.counts;
+          history = a.history.entries;
+          turns =
+              a.turns.count;
+        } };
 
     // each circuit and each relay has its sockets, which have their roles, addresses and history, each circuit a region, and each is served
-    ghost invariant = { λ a. IsAccess a.relays.topology a.sockets a.server a.disk.regions a.port a.batch.most a.history.id a.listen4 a.listen6 };
+    ghost invariant = { λ a.
+        IsAccess a.relays.topology a.sockets a.server a.disk.regions a.port a.batch.most a.history.id a.listen4
+        a.listen6 };
 }
 
 /// What is opened before the sockets.
@@ -227,7 +245,9 @@ impl Access {
         ensures opened { IfOk result (IsOpened config.now disk port batch opening.old.entries) }
         ensures circuits { result ≡ Err fault.TooManyCircuits ↔ (16 < length config.now.circuits) }
         ensures small { IfErr result (λ why. why ≡ fault.Disk → ¬ HasRegions (parts_of config.now) disk.regions) }
-        ensures socket { IfErr result (RefusesSocket (λ at. IsSocket config.now port at × HasRegions (parts_of config.now) disk.regions × WasRefused opening.old.entries opening.new.entries at)) }
+        ensures socket { IfErr result (RefusesSocket (λ at.
+            IsSocket config.now port at × HasRegions (parts_of config.now) disk.regions
+            × WasRefused opening.old.entries opening.new.entries at)) }
         ensures bound { IfOk result (λ _. opening.new.entries ≡ []) }
     {
         if config.circuit_count() > MAX_SERVED {
@@ -324,7 +344,8 @@ impl Access {
 
     /// Whether the region of this circuit was moved from format 1 to format 2 by the opening, and the circuit is open.
     pub fn was_moved(&self, circuit: Circuit) -> bool
-        ensures { (result ≡ true) ↔ (was_old (found_format (slice_get self.now.formats circuit)) ≡ true) × (slice_get (map is_some (books_in self.now.server)) circuit ≡ Some true) }
+        ensures { (result ≡ true) ↔ (was_old (found_format (slice_get self.now.formats circuit)) ≡ true)
+            × (slice_get (map is_some (books_in self.now.server)) circuit ≡ Some true) }
     {
         let format = self.format_of(circuit);
         format.is_some() && format != Some(FORMAT) && self.is_open(circuit)
@@ -398,7 +419,9 @@ impl Access {
     fn take_frames(&mut self, index: usize) -> u32
         requires { index < length self.old.topology.circuits }
         ensures most { result ≤ 2 }
-        ensures carried { HasCarried (Both (CircuitSocket self.old.topology index V4) (CircuitSocket self.old.topology index V6)) result self.old self.new }
+        ensures carried { HasCarried
+            (Both (CircuitSocket self.old.topology index V4) (CircuitSocket self.old.topology index V6)) result self.old
+            self.new }
     {
         let sockets = &self.sockets.circuits[index];
         let (socket4, socket6) = (&sockets.socket4, &sockets.socket6);
@@ -413,7 +436,9 @@ impl Access {
     fn take_waiting_frames(&mut self, index: usize) -> u32
         requires { index < length self.old.topology.circuits }
         ensures most { result ≤ 2 }
-        ensures carried { HasCarried (Both (CircuitSocket self.old.topology index V4) (CircuitSocket self.old.topology index V6)) result self.old self.new }
+        ensures carried { HasCarried
+            (Both (CircuitSocket self.old.topology index V4) (CircuitSocket self.old.topology index V6)) result self.old
+            self.new }
     {
         let taken = self.take_frame(index, Proto::V4);
         taken + self.take_frame(index, Proto::V6)

@@ -89,7 +89,9 @@ impl Batch {
         ensures first { self.new.first ≡ self.old.first }
         ensures taken { self.new.taken ≡ self.old.taken }
         ensures count { length self.new.answers ≡ length self.old.taken }
-        ensures received { (counts : total.Counts) (history : List entry.Entry) → AreReceived (all_delivered now self.old.taken) self.new.answers (serving server.old disk.old counts history) (serving server.new disk.new counts history) }
+        ensures received { (counts : total.Counts) (history : List entry.Entry)
+            → AreReceived (all_delivered now self.old.taken) self.new.answers
+            (serving server.old disk.old counts history) (serving server.new disk.new counts history) }
     {
         self.answers.clear();
         let taken = self.taken.as_slice();
@@ -110,7 +112,10 @@ impl Batch {
         requires listen4 { IsBound sockets.now.listen4 (role.Server Proto.V4) sockets.now.listen4.at history.old.id }
         requires listen6 { IsBound sockets.now.listen6 (role.Server Proto.V6) sockets.now.listen6.at history.old.id }
         ensures same { history.new.id ≡ history.old.id }
-        ensures replied { (now : ℕ) → HasTried (AreReplied (all_delivered now self.now.taken) self.now.answers (min (length self.now.taken) (length self.now.answers))) counts.old counts.new history.old.entries history.new.entries }
+        ensures replied { (now : ℕ)
+            → HasTried (AreReplied (all_delivered now self.now.taken) self.now.answers
+            (min (length self.now.taken) (length self.now.answers))) counts.old counts.new history.old.entries
+            history.new.entries }
     {
         let taken = self.taken.as_slice();
         'parts: for index in 0..taken.len() {
@@ -154,7 +159,9 @@ impl Batch {
         requires listen4 { IsBound sockets.now.listen4 (role.Server Proto.V4) sockets.now.listen4.at history.old.id }
         requires listen6 { IsBound sockets.now.listen6 (role.Server Proto.V6) sockets.now.listen6.at history.old.id }
         ensures same { history.new.id ≡ history.old.id }
-        ensures again { AreReceivedAgain (all_delivered now self.now.taken) self.now.answers (length self.now.taken) (serving server.old disk.old counts.old history.old.entries) (serving server.new disk.new counts.new history.new.entries) }
+        ensures again { AreReceivedAgain (all_delivered now self.now.taken) self.now.answers (length self.now.taken)
+            (serving server.old disk.old counts.old history.old.entries)
+            (serving server.new disk.new counts.new history.new.entries) }
     {
         let taken = self.taken.as_slice();
         'parts: for index in 0..taken.len() {
@@ -248,7 +255,9 @@ fn reply_to(
 )
     requires { history.old.id ≡ socket.now.history }
     ensures same { history.new.id ≡ history.old.id }
-    ensures replied { (proto : Proto) (now : ℕ) (bytes : List ℕ) → socket.now.role ≡ role.Server proto → HasTried (IsReplied (is_repeated (answer_of answer.now)) (delivery proto to now bytes) (answer_of answer.now)) counts.old counts.new history.old.entries history.new.entries }
+    ensures replied { (proto : Proto) (now : ℕ) (bytes : List ℕ) → socket.now.role ≡ role.Server proto
+        → HasTried (IsReplied (is_repeated (answer_of answer.now)) (delivery proto to now bytes) (answer_of answer.now))
+        counts.old counts.new history.old.entries history.new.entries }
 {
     if is_repeated(answer) {
         return;
@@ -272,7 +281,9 @@ fn receive_alone(
     requires regions { HasRegions server.old.topology.circuits disk.old.regions }
     requires socket { IsBound socket.now (role.Server datagram.now.proto) socket.now.at history.old.id }
     ensures same { history.new.id ≡ history.old.id }
-    ensures answered { IsAnswered (delivered now datagram.now) (serving server.old disk.old counts.old history.old.entries) (serving server.new disk.new counts.new history.new.entries) }
+    ensures answered { IsAnswered (delivered now datagram.now)
+        (serving server.old disk.old counts.old history.old.entries)
+        (serving server.new disk.new counts.new history.new.entries) }
 {
     let mut out = PacketBuf::new();
     let (proto, from, bytes) = (datagram.proto, datagram.source, datagram.bytes());

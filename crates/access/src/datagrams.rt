@@ -92,7 +92,9 @@ impl Datagrams {
         requires room { length self.old < 16 }
         requires history { history.old.id ≡ socket.now.history }
         ensures same { history.new.id ≡ history.old.id }
-        ensures received { (buffer : List ℕ) × (history.new.entries ≡ with_entry (attempt_entry socket.now.role buffer result) history.old.entries) × (self.new ≡ self.old ++ attempt_datagrams proto buffer result) }
+        ensures received { (buffer : List ℕ)
+            × (history.new.entries ≡ with_entry (attempt_entry socket.now.role buffer result) history.old.entries)
+            × (self.new ≡ self.old ++ attempt_datagrams proto buffer result) }
     {
         let slot = &mut self.slots[self.count];
         let attempt = socket.take_if_ready(&mut slot.buffer, waiter, history);

@@ -12,7 +12,8 @@ ghost use Rattle.config.specs.CircuitPart.{CircuitPart};
 pub fn relays_each_circuit_up_alone()
     ensures own { (c : ℕ) (part : CircuitPart) (old new : AccessValue) → IsRun old new → slice_get old.topology.circuits c ≡ Some part
         → relayed_in old.topology c (added old new) ≡ map (relayed_alone part) (frames_in c (added old new)) }
-    ensures all { (old new : AccessValue) → IsRun old new → filter_map (sent_up old.topology) (added old new) ≡ filter_map (goes_up old.topology) (added old new) }
+    ensures all { (old new : AccessValue) → IsRun old new
+        → filter_map (sent_up old.topology) (added old new) ≡ filter_map (goes_up old.topology) (added old new) }
 {}
 
 /// What a circuit's sockets send to its clients is, in order, what the circuit's relay alone makes of the datagrams that were taken at

@@ -108,7 +108,8 @@ fn may_format(rt: &HostRuntime, config: &Config, values: &AccessWords<'_>) -> Re
 
 /// The device in the file with the leases, formatted where that is asked for.
 fn device(rt: &HostRuntime, config: &Config, values: &AccessWords<'_>) -> Result<FileDisk, u8>
-    ensures formats { values.now.format ≡ true → length config.now.circuits ≤ 16 → IfOk result (λ disk. disk.writes ≡ 4 * length config.now.circuits) }
+    ensures formats { values.now.format ≡ true → length config.now.circuits ≤ 16
+        → IfOk result (λ disk. disk.writes ≡ 4 * length config.now.circuits) }
     ensures opens { values.now.format ≡ false → IfOk result (λ disk. disk ≡ uncalled disk.length) }
     ensures status { IfErr result (λ status. (status ≡ 4) ⊎ (status ≡ 5)) }
 {

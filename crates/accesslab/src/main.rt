@@ -38,8 +38,11 @@ fn run_over<R: Read + Drop, W: Write + Drop>(
 ) -> (u8, Option<W>)
     requires least { 1 ≤ values.now.quota }
     requires most { values.now.quota ≤ 256 }
-    ensures written { (text : List ℕ) → R.remaining reader ≡ Some text → IfSome result.1 (λ done. Appends (W.contents writer) (W.contents done) (lab_output plans.now values.now.quota text).text) }
-    ensures exact { (text : List ℕ) → R.remaining reader ≡ Some text → IfSome result.1 (λ _. result.0 ≡ (lab_output plans.now values.now.quota text).status) }
+    ensures written { (text : List ℕ) → R.remaining reader ≡ Some text
+        → IfSome result.1 (λ done.
+        Appends (W.contents writer) (W.contents done) (lab_output plans.now values.now.quota text).text) }
+    ensures exact { (text : List ℕ) → R.remaining reader ≡ Some text
+        → IfSome result.1 (λ _. result.0 ≡ (lab_output plans.now values.now.quota text).status) }
     ensures none { IsNone result.1 → (result.0 ≡ 4) ⊎ (result.0 ≡ 6) }
     ensures status { IsExitStatus result.0 }
 {

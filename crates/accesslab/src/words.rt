@@ -77,7 +77,8 @@ fn values<'m, 'a>(matches: &'m ArgMatches<'a>) -> Option<(&'m [&'a str], u16)>
 
 /// The values of the words after the program's name.
 pub fn words<'a>(alloc: Global, words: &'a [String]) -> Result<LabWords<'a>, Refusal>
-    ensures values { IfOk result (λ values. Spells (map string_bytes words.entry.now) (map (λ path. path.now) values.configs.items) values.quota) }
+    ensures values { IfOk result (λ values.
+        Spells (map string_bytes words.entry.now) (map (λ path. path.now) values.configs.items) values.quota) }
     ensures refused { IfErr result (IsRefused lab_app SpellsSomething (map string_bytes words.entry.now)) }
 {
     let Ok(command) = command(alloc) else {

@@ -76,18 +76,22 @@ impl Book4 {
 
     /// What a client's message calls for at this clock. Nothing is changed.
     pub fn decide(&self, request: &Request4, clock: Moment) -> Decision4
-        ensures exact { result ≡ decision_of (number4 self.now.pool.first) clock request.now.key (row4 self.now.pool clock (book4_of clock self.now) request.now) }
+        ensures exact { result
+            ≡ decision_of (number4 self.now.pool.first) clock request.now.key
+            (row4 self.now.pool clock (book4_of clock self.now) request.now) }
         ensures clock { result.clock ≡ clock }
         ensures keep { is_some (kept_slot result.change) ≡ (answer4 self.now.pool clock (book4_of clock self.now) request.now).is_kept }
         ensures answer { result.answer ≡ (answer4 self.now.pool clock (book4_of clock self.now) request.now).answer }
-        ensures book { book4_of clock (with_decision result self.now) ≡ (answer4 self.now.pool clock (book4_of clock self.now) request.now).book }
+        ensures book { book4_of clock (with_decision result self.now)
+            ≡ (answer4 self.now.pool clock (book4_of clock self.now) request.now).book }
         ensures within { IfSome (kept_slot result.change) (λ kept. EndsBy (clock + 604800) kept.content) }
         ensures slot { IfSome (kept_slot result.change) (λ kept. kept.slot < self.now.pool.count) }
         ensures offer { IfSome (offer_change result.change) (IsOffer clock self.now.pool.count) }
         ensures few { self.now.pool.count ≤ 16 }
         ensures size { length self.now.slots ≡ self.now.pool.count }
         ensures others { map (live clock) (with_decision result self.now).slots ≡ map (live clock) (with_written result self.now.slots) }
-        ensures kept { kept_slots clock (with_decision result self.now).slots ≡ keep_in (kept_slot result.change) (kept_slots clock self.now.slots) }
+        ensures kept { kept_slots clock (with_decision result self.now).slots
+            ≡ keep_in (kept_slot result.change) (kept_slots clock self.now.slots) }
     {
         let found = self.look_up(request, clock);
         let case = Case4 {
@@ -102,8 +106,10 @@ impl Book4 {
     pub fn commit(&mut self, decision: &Decision4)
         ensures slots { self.new ≡ with_decision decision.now self.old }
         ensures pool { self.new.pool ≡ self.old.pool }
-        ensures within { AreWithin self.old.slots → IfSome (kept_slot decision.now.change) (λ kept. IsWithin4 kept.content) → AreWithin self.new.slots }
-        ensures offers { AreOffersWithin self.old.slots → IfSome (offer_change decision.now.change) IsOfferWithin → AreOffersWithin self.new.slots }
+        ensures within { AreWithin self.old.slots
+            → IfSome (kept_slot decision.now.change) (λ kept. IsWithin4 kept.content) → AreWithin self.new.slots }
+        ensures offers { AreOffersWithin self.old.slots → IfSome (offer_change decision.now.change) IsOfferWithin
+            → AreOffersWithin self.new.slots }
     {
         write_change(&mut self.slots, &decision.change);
     }
@@ -159,7 +165,8 @@ impl Book4 {
     /// A slot of the pool with its address.
     fn located(&self, slot: Option<usize>) -> Option<SlotAddress>
         requires { IfSome slot (λ slot. slot < self.now.pool.count) }
-        ensures address { option_map (λ found. number4 found.address) result ≡ option_map (λ slot. number4 self.now.pool.first + slot) slot }
+        ensures address { option_map (λ found. number4 found.address) result
+            ≡ option_map (λ slot. number4 self.now.pool.first + slot) slot }
         ensures at { IfSome result (λ found. IsAt self.now.pool found) }
     {
         let slot = slot?;

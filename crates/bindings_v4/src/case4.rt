@@ -66,7 +66,9 @@ impl Case4<'_> {
     /// A DHCPOFFER that holds the address for a minute.
     pub fn offers(&self, free: SlotAddress) -> Decision4
         requires { IsAt self.now.pool free }
-        ensures { result ≡ decision_in self.now (replies (Offer (addr4 (number4 free.address))) (Offers (number4 free.address) (self.now.clock + 60))) }
+        ensures { result
+            ≡ decision_in self.now
+            (replies (Offer (addr4 (number4 free.address))) (Offers (number4 free.address) (self.now.clock + 60))) }
     {
         let until = self.clock.seconds() + OFFER_TIME;
         Decision4 {

@@ -12,7 +12,8 @@ ghost use Rattle.types.specs.declared.slot4.Slot4.TheVariants.{Free};
 ghost use Rattle.types.specs.declared.slots.Slots.{Slots};
 ghost use Rattle.bindings_v4.specs.Book4.{book4_at, empty_book};
 ghost use Rattle.bindings_v4.specs.Book4 as maps;
-ghost use Rattle.bindings_v4.specs.IsBook4.{IsBook4, LeavesABook, KeepsOthers, ChangesOffersAlone, GrantsItsOwn, RenewsInTime, KeepsItsLease};
+ghost use Rattle.bindings_v4.specs.IsBook4.{IsBook4, LeavesABook, KeepsOthers, ChangesOffersAlone, GrantsItsOwn};
+ghost use Rattle.bindings_v4.specs.IsBook4.{RenewsInTime, KeepsItsLease};
 ghost use Rattle.bindings_v4.specs.Kept4.{book4_in, kept_book, kept_slots};
 ghost use Rattle.bindings_v4.specs.Slots4.{book4_of};
 ghost use Rattle.bindings_v4.specs.Table4.{answer4};
@@ -68,19 +69,25 @@ pub fn renews_in_time(pool: Pool4, clock: Moment, request: &Request4)
 
 /// An address that is offered or leased has four bytes.
 pub fn gives_whole_addresses()
-    ensures offered { (pool : PoolValue) (clock : ℕ) (b : maps.Book4) (m : Request4) (address : Addr4) → (answer4 pool clock b m).answer ≡ Ok (reply.Offer address) → length address.0 ≡ 4 }
-    ensures leased { (pool : PoolValue) (clock : ℕ) (b : maps.Book4) (m : Request4) (address : Addr4) → (answer4 pool clock b m).answer ≡ Ok (reply.Ack address) → length address.0 ≡ 4 }
+    ensures offered { (pool : PoolValue) (clock : ℕ) (b : maps.Book4) (m : Request4) (address : Addr4)
+        → (answer4 pool clock b m).answer ≡ Ok (reply.Offer address) → length address.0 ≡ 4 }
+    ensures leased { (pool : PoolValue) (clock : ℕ) (b : maps.Book4) (m : Request4) (address : Addr4)
+        → (answer4 pool clock b m).answer ≡ Ok (reply.Ack address) → length address.0 ≡ 4 }
 {}
 
 /// What `Book4::new` takes and `Book4::put` writes is a book: the one that slots mean, which has no
 /// offers, and any book without its offers, at once or later. Slots of which none has expired may be
 /// taken where no client has two.
 pub fn begins_a_book()
-    ensures begun { (pool : PoolValue) (slots : Slots) → none_twice same_client4 (map (live4 slots.clock) slots.four) ≡ true → IsBook4 slots.clock (book4_in pool slots) }
+    ensures begun { (pool : PoolValue) (slots : Slots)
+        → none_twice same_client4 (map (live4 slots.clock) slots.four) ≡ true
+        → IsBook4 slots.clock (book4_in pool slots) }
     ensures no_offers { (pool : PoolValue) (slots : Slots) → kept_book (book4_in pool slots) ≡ book4_in pool slots }
     ensures kept { (clock : ℕ) (b : maps.Book4) → IsBook4 clock b → IsBook4 clock (kept_book b) }
     ensures later { (clock : ℕ) (b : maps.Book4) → kept_book (book4_at clock b) ≡ book4_at clock (kept_book b) }
-    ensures live { (slots : Slots) → All (λ slot. live4 slots.clock slot ≡ slot) slots.four → none_twice same_client4 slots.four ≡ true → none_twice same_client4 (map (live4 slots.clock) slots.four) ≡ true }
+    ensures live { (slots : Slots) → All (λ slot. live4 slots.clock slot ≡ slot) slots.four
+        → none_twice same_client4 slots.four ≡ true
+        → none_twice same_client4 (map (live4 slots.clock) slots.four) ≡ true }
 {}
 
 /// What a region keeps of a book's slots at a clock is what `Book4::put` writes: slots that are live, of
@@ -91,7 +98,8 @@ pub fn keeps_a_book(book: &Book4, clock: Moment)
     ensures live { All (λ slot. live4 clock slot ≡ slot) (kept_slots clock book.now.slots) }
     ensures once { none_twice same_client4 (kept_slots clock book.now.slots) ≡ true }
     ensures within { AreWithin book.now.slots → All IsWithin4 (kept_slots clock book.now.slots) }
-    ensures book { (region : Slots) → region.four ≡ kept_slots clock book.now.slots → region.clock ≡ clock → book4_in book.now.pool region ≡ kept_book (book4_of clock book.now) }
+    ensures book { (region : Slots) → region.four ≡ kept_slots clock book.now.slots → region.clock ≡ clock
+        → book4_in book.now.pool region ≡ kept_book (book4_of clock book.now) }
 {
     let _slots = book.slots();
 }
@@ -99,5 +107,6 @@ pub fn keeps_a_book(book: &Book4, clock: Moment)
 /// A client's lease is changed by the client alone, and by the clock when it comes to its end.
 pub fn keeps_its_lease()
     ensures decided { (pool : PoolValue) (clock : ℕ) (m : Request4) → KeepsItsLease pool clock m }
-    ensures later { (later : ℕ) (b : maps.Book4) (client : List ℕ) (lease : Lease) → get b.bindings client ≡ Some lease → later < lease.until → get (book4_at later b).bindings client ≡ Some lease }
+    ensures later { (later : ℕ) (b : maps.Book4) (client : List ℕ) (lease : Lease) → get b.bindings client ≡ Some lease
+        → later < lease.until → get (book4_at later b).bindings client ≡ Some lease }
 {}

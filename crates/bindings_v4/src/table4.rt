@@ -3,7 +3,9 @@ ghost use Rattle.std.specs.Prelude.{◌≡◌, ◌+◌, Some, IfSome, option_map
 ghost use Rattle.types.specs.Addr.{number4};
 ghost use Rattle.bindings_v4.specs.Book4.{in_pool};
 ghost use Rattle.bindings_v4.specs.Lookup4.{IsAt, IsLookup, decision_in, lookup_of, number_of};
-ghost use Rattle.bindings_v4.specs.Table4.{discover_row, other_server_row, selecting_row, known_address_row, no_server_row, decline_row, release_row, inform_row, where_is, where_specified, server_of, row_of};
+ghost use Rattle.bindings_v4.specs.Table4.{discover_row, other_server_row, selecting_row, known_address_row};
+ghost use Rattle.bindings_v4.specs.Table4.{no_server_row, decline_row, release_row, inform_row, where_is};
+ghost use Rattle.bindings_v4.specs.Table4.{where_specified, server_of, row_of};
 
 use crate::case4::{Case4, SlotAddress};
 use crate::decision4::Decision4;
@@ -82,7 +84,9 @@ fn other_server_row(case: &Case4<'_>, found: &Lookup4) -> Decision4
 #[rattlefmt::skip]
 fn selecting_row(case: &Case4<'_>, wanted: Option<Addr4>, held: Option<SlotAddress>) -> Decision4
     requires { IfSome held (λ found. IsAt case.now.pool found) }
-    ensures { result ≡ decision_in case.now (selecting_row (case.now.clock + case.now.pool.lease) (option_map number4 wanted) (number_of held)) }
+    ensures { result
+        ≡ decision_in case.now
+        (selecting_row (case.now.clock + case.now.pool.lease) (option_map number4 wanted) (number_of held)) }
 {
     //     option 50 what the client has
     match (wanted,   held) {
@@ -96,8 +100,9 @@ fn selecting_row(case: &Case4<'_>, wanted: Option<Addr4>, held: Option<SlotAddre
 #[rattlefmt::skip]
 fn known_address_row(case: &Case4<'_>, found: &Lookup4, address: Addr4) -> Decision4
     requires { IsLookup case.now.pool found.now }
-    ensures { result ≡ decision_in case.now (known_address_row (case.now.clock + case.now.pool.lease) (in_pool case.now.pool (number4 address))
-        (lookup_of found.now).binding (number4 address)) }
+    ensures { result
+        ≡ decision_in case.now (known_address_row (case.now.clock + case.now.pool.lease)
+        (in_pool case.now.pool (number4 address)) (lookup_of found.now).binding (number4 address)) }
 {
     let bound = where_is(case, found.binding, Some(address));
     //     in the pool                         binding        the binding, where it is this address
@@ -113,8 +118,10 @@ fn known_address_row(case: &Case4<'_>, found: &Lookup4, address: Addr4) -> Decis
 #[rattlefmt::skip]
 fn no_server_row(case: &Case4<'_>, found: &Lookup4, request: &Request4) -> Decision4
     requires { IsLookup case.now.pool found.now }
-    ensures { result ≡ decision_in case.now (no_server_row case.now.pool (case.now.clock + case.now.pool.lease) (lookup_of found.now).binding
-        (option_map number4 request.now.wanted) (where_specified request.now.ciaddr)) }
+    ensures { result
+        ≡ decision_in case.now (no_server_row case.now.pool (case.now.clock + case.now.pool.lease)
+        (lookup_of found.now).binding (option_map number4 request.now.wanted)
+        (where_specified request.now.ciaddr)) }
 {
     //     option 50       ciaddr
     match (request.wanted, where_specified(request.ciaddr)) {

@@ -74,11 +74,14 @@ impl Book6 {
 
     /// What a client's message calls for at this clock. Nothing is changed.
     pub fn decide(&self, request: &Request6, clock: Moment) -> Decision6
-        ensures exact { result ≡ decision_of (number6 self.now.pool.first) clock request.now.key (row6 self.now.pool clock (book6_of clock self.now) request.now) }
+        ensures exact { result
+            ≡ decision_of (number6 self.now.pool.first) clock request.now.key
+            (row6 self.now.pool clock (book6_of clock self.now) request.now) }
         ensures clock { result.clock ≡ clock }
         ensures keep { is_some result.keep ≡ (answer6 self.now.pool clock (book6_of clock self.now) request.now).is_kept }
         ensures answer { result.answer ≡ (answer6 self.now.pool clock (book6_of clock self.now) request.now).answer }
-        ensures book { book6_of clock (with_decision result self.now) ≡ (answer6 self.now.pool clock (book6_of clock self.now) request.now).book }
+        ensures book { book6_of clock (with_decision result self.now)
+            ≡ (answer6 self.now.pool clock (book6_of clock self.now) request.now).book }
         ensures within { IfSome result.keep (λ kept. EndsBy (clock + 604800) kept.content) }
         ensures slot { IfSome result.keep (λ kept. kept.slot < self.now.pool.count) }
         ensures few { self.now.pool.count ≤ 16 }
@@ -145,7 +148,8 @@ impl Book6 {
     /// A slot of the pool with its address.
     fn located(&self, slot: Option<usize>) -> Option<SlotAddress>
         requires { IfSome slot (λ slot. slot < self.now.pool.count) }
-        ensures address { option_map (λ found. number6 found.address) result ≡ option_map (λ slot. number6 self.now.pool.first + slot) slot }
+        ensures address { option_map (λ found. number6 found.address) result
+            ≡ option_map (λ slot. number6 self.now.pool.first + slot) slot }
         ensures at { IfSome result (λ found. IsAt self.now.pool found) }
     {
         let slot = slot?;

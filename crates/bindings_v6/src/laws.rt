@@ -11,7 +11,8 @@ ghost use Rattle.types.specs.declared.slot6.Slot6.TheVariants.{Free};
 ghost use Rattle.types.specs.declared.slots.Slots.{Slots};
 ghost use Rattle.bindings_v6.specs.Book6.{book6_at, empty_book};
 ghost use Rattle.bindings_v6.specs.Book6 as maps;
-ghost use Rattle.bindings_v6.specs.IsBook6.{IsBook6, LeavesABook, KeepsOthers, ChangesNothing, GivesWholeAddresses, GrantsItsOwn, RenewsInTime, KeepsItsLease};
+ghost use Rattle.bindings_v6.specs.IsBook6.{IsBook6, LeavesABook, KeepsOthers, ChangesNothing, GivesWholeAddresses};
+ghost use Rattle.bindings_v6.specs.IsBook6.{GrantsItsOwn, RenewsInTime, KeepsItsLease};
 ghost use Rattle.bindings_v6.specs.Kept6.{book6_in, kept_slots};
 ghost use Rattle.bindings_v6.specs.Slots6.{book6_of};
 
@@ -73,8 +74,12 @@ pub fn gives_whole_addresses()
 /// What `Book6::new` takes and `Book6::put` writes is a book: the one that slots mean. Slots of which none
 /// has expired may be taken where no client has two.
 pub fn begins_a_book()
-    ensures begun { (pool : Pool6Value) (slots : Slots) → none_twice same_client6 (map (live6 slots.clock) slots.six) ≡ true → IsBook6 slots.clock (book6_in pool slots) }
-    ensures live { (slots : Slots) → All (λ slot. live6 slots.clock slot ≡ slot) slots.six → none_twice same_client6 slots.six ≡ true → none_twice same_client6 (map (live6 slots.clock) slots.six) ≡ true }
+    ensures begun { (pool : Pool6Value) (slots : Slots)
+        → none_twice same_client6 (map (live6 slots.clock) slots.six) ≡ true
+        → IsBook6 slots.clock (book6_in pool slots) }
+    ensures live { (slots : Slots) → All (λ slot. live6 slots.clock slot ≡ slot) slots.six
+        → none_twice same_client6 slots.six ≡ true
+        → none_twice same_client6 (map (live6 slots.clock) slots.six) ≡ true }
 {}
 
 /// What a region keeps of a book's slots at a clock is what `Book6::put` writes: slots that are live, of
@@ -85,7 +90,8 @@ pub fn keeps_a_book(book: &Book6, clock: Moment)
     ensures live { All (λ slot. live6 clock slot ≡ slot) (kept_slots clock book.now.slots) }
     ensures once { none_twice same_client6 (kept_slots clock book.now.slots) ≡ true }
     ensures within { AreWithin book.now.slots → All IsWithin6 (kept_slots clock book.now.slots) }
-    ensures book { (region : Slots) → region.six ≡ kept_slots clock book.now.slots → region.clock ≡ clock → book6_in book.now.pool region ≡ book6_of clock book.now }
+    ensures book { (region : Slots) → region.six ≡ kept_slots clock book.now.slots → region.clock ≡ clock
+        → book6_in book.now.pool region ≡ book6_of clock book.now }
 {
     let _slots = book.slots();
 }
@@ -93,5 +99,7 @@ pub fn keeps_a_book(book: &Book6, clock: Moment)
 /// A client's lease is changed by the client alone, and by the clock when it comes to its end.
 pub fn keeps_its_lease()
     ensures decided { (pool : Pool6Value) (clock : ℕ) (m : Request6) → KeepsItsLease pool clock m }
-    ensures later { (later : ℕ) (b : maps.Book6) (client : Key6Value) (lease : Lease) → get b.bindings client ≡ Some lease → later < lease.until → get (book6_at later b).bindings client ≡ Some lease }
+    ensures later { (later : ℕ) (b : maps.Book6) (client : Key6Value) (lease : Lease)
+        → get b.bindings client ≡ Some lease → later < lease.until
+        → get (book6_at later b).bindings client ≡ Some lease }
 {}

@@ -5,7 +5,9 @@ ghost use Rattle.types.specs.declared.discard.Discard.TheVariants.{OtherServer};
 ghost use Rattle.bindings_v6.specs.Book6.{in_pool};
 ghost use Rattle.bindings_v6.specs.Lookup6.{IsLookup, decision_in, lookup_of, number_of};
 ghost use Rattle.slots.specs.Row.{Unchanged, drops};
-ghost use Rattle.bindings_v6.specs.Table6.{others, is_listed, where_listed, is_off_link, first_listed, solicit_row, request_row, renew_row, confirm_row, no_binding, release_row, decline_row, is_for_us, row_of};
+ghost use Rattle.bindings_v6.specs.Table6.{others, is_listed, where_listed, is_off_link, first_listed, solicit_row};
+ghost use Rattle.bindings_v6.specs.Table6.{request_row, renew_row, confirm_row, no_binding, release_row, decline_row};
+ghost use Rattle.bindings_v6.specs.Table6.{is_for_us, row_of};
 
 use crate::case6::{Case6, SlotAddress, assignment, message_status, refusal};
 use crate::decision6::Decision6;

@@ -1,5 +1,6 @@
 //! What relays and server keep of a configuration: its addresses and the parts of its circuits.
-ghost use Rattle.std.specs.Prelude.{◌≡◌, ◌<◌, ◌≤◌, ◌∷◌, [], true, length, map, nat_lt, replicate, All, Some, None, IfNone, IfOk, IfSome, option_map, slice_get};
+ghost use Rattle.std.specs.Prelude.{◌≡◌, ◌<◌, ◌≤◌, ◌∷◌, [], true, length, map, nat_lt, replicate, All, Some, None};
+ghost use Rattle.std.specs.Prelude.{IfNone, IfOk, IfSome, option_map, slice_get};
 ghost use Rattle.std.specs.List.{position};
 ghost use Rattle.std.specs.Str.{bytes_eq};
 ghost use Rattle.types.specs.Addr.{same_source};
@@ -7,7 +8,8 @@ ghost use Rattle.config.specs.CircuitPart as parts;
 ghost use Rattle.config.specs.CircuitPart.{IsPart, parts_of};
 ghost use Rattle.config.specs.Rules.{IsSound};
 ghost use Rattle.config.specs.Membership.{IsMembership, has};
-ghost use Rattle.config.specs.Topology.{IsTopology, is_relay, is_server, relay_circuit, plans_topology, reloaded, serves, topology_of, topology_with};
+ghost use Rattle.config.specs.Topology.{IsTopology, is_relay, is_server, relay_circuit, plans_topology, reloaded};
+ghost use Rattle.config.specs.Topology.{serves, topology_of, topology_with};
 
 use crate::circuit_index::CircuitIndex;
 use crate::circuit_part::CircuitPart;
@@ -37,10 +39,24 @@ impl Model for Circuits {
 
     ghost Value = { Topology };
 
-    ghost view = { λ c. record { listen4 = c.listen4; listen6 = c.listen6; relays = c.relays.items; circuits = c.parts.items; plans = c.plans } };
+    ghost view = { λ c.
+        record {
+          listen4 = c.listen4;
+          listen6 = c.listen6;
+          relays = c.relays.items;
+          circuits = c.parts.items;
+          plans =
+              c.plans;
+        } };
 
-    ghost invariant = { λ c. IsTopology (record { listen4 = c.listen4; listen6 = c.listen6; relays = c.relays.items; circuits = c.parts.items; plans = c.plans })
-        × (c.index ≡ map (λ part. part.id) c.parts.items) };
+    ghost invariant = { λ c.
+        IsTopology (record {
+          listen4 = c.listen4;
+          listen6 = c.listen6;
+          relays = c.relays.items;
+          circuits = c.parts.items;
+          plans = c.plans;
+        }) × (c.index ≡ map (λ part. part.id) c.parts.items) };
 }
 
 impl Circuits {
@@ -151,7 +167,8 @@ impl Circuits {
     /// The index of a circuit's relay.
     pub fn relay_no(&self, circuit: Circuit) -> RelayNo
         requires { circuit < length self.now.circuits }
-        ensures { (part : parts.CircuitPart) → slice_get self.now.circuits circuit ≡ Some part → slice_get self.now.relays result ≡ Some part.relay }
+        ensures { (part : parts.CircuitPart) → slice_get self.now.circuits circuit ≡ Some part
+            → slice_get self.now.relays result ≡ Some part.relay }
     {
         let Some(index) = index_of(&self.relays, self.part(circuit).relay()) else {
             unreachable!()

@@ -35,7 +35,9 @@ impl Model for Config {
 
     ghost view = { λ c. record { server = c.server; relays = c.relays.items; circuits = c.circuits.items } };
 
-    ghost invariant = { λ c. IsSound (record { server = c.server; relays = c.relays.items; circuits = c.circuits.items }) × (c.index ≡ map (λ circuit. circuit.id) c.circuits.items) };
+    ghost invariant = { λ c.
+        IsSound (record { server = c.server; relays = c.relays.items; circuits = c.circuits.items })
+        × (c.index ≡ map (λ circuit. circuit.id) c.circuits.items) };
 }
 
 /// The text's data, or the fault that it is not TOML.
@@ -58,7 +60,9 @@ impl Config {
     /// The configuration of values that keep their limits and the rules; an error where memory is refused.
     pub(crate) fn of(alloc: Global, values: Values) -> Result<Config, AllocError>
         requires { IsSound (record { server = values.server; relays = values.relays.items; circuits = values.circuits.items }) }
-        ensures value { IfOk result (λ config. config ≡ record { server = values.server; relays = values.relays.items; circuits = values.circuits.items }) }
+        ensures value { IfOk result (λ config.
+            config
+            ≡ record { server = values.server; relays = values.relays.items; circuits = values.circuits.items }) }
         ensures sound { IfOk result IsSound }
     {
         let index = CircuitIndex::of(alloc, &values.circuits)?;

@@ -1,7 +1,9 @@
 //! What differs between configurations of one server.
 ghost use Rattle.std.specs.Prelude.{◌≡◌, ◌↔◌, ◌<◌, ℕ, length, slice_index_or, All, AllPairs, IfSome, IfNone, IsTrue};
 ghost use Rattle.settings.specs.Settings.{Settings};
-ghost use Rattle.config.specs.Differences.{SharesServer, CircuitsAgree, ServerKeyDiffers, RelayKeyDiffers, CircuitKeyDiffers, RelayDiffers, PartDiffers, IsServerDifference, IsDifferentIn, CircuitDiffers, IsCircuitDifference};
+ghost use Rattle.config.specs.Differences.{SharesServer, CircuitsAgree, ServerKeyDiffers, RelayKeyDiffers};
+ghost use Rattle.config.specs.Differences.{CircuitKeyDiffers, RelayDiffers, PartDiffers, IsServerDifference};
+ghost use Rattle.config.specs.Differences.{IsDifferentIn, CircuitDiffers, IsCircuitDifference};
 
 use crate::config::Config;
 use settings::{
@@ -163,7 +165,8 @@ fn circuit(one: &Config, other: &Config) -> Option<(CircuitId, CircuitKey)>
 fn difference_before(configs: &[Config], other: usize) -> Option<CircuitDifference>
     requires { other < length configs.now }
     ensures some { IfSome result (IsCircuitDifference configs.now) }
-    ensures none { IfNone result ((k : ℕ) (d : Settings) → k < other → CircuitsAgree (slice_index_or configs.now k d) (slice_index_or configs.now other d)) }
+    ensures none { IfNone result ((k : ℕ) (d : Settings) → k < other
+        → CircuitsAgree (slice_index_or configs.now k d) (slice_index_or configs.now other d)) }
 {
     for one in 0..other {
         if let Some((id, key)) = circuit(&configs[one], &configs[other]) {

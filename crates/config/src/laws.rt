@@ -14,12 +14,14 @@ pub fn one_configuration()
 
 /// A configuration has no fault other than out of memory.
 pub fn no_fault()
-    ensures { (text : List ℕ) (settings : Settings) (fault : ConfigFault) → IsConfig text settings → fault ≢ Memory → ¬ IsFaultOf text fault }
+    ensures { (text : List ℕ) (settings : Settings) (fault : ConfigFault) → IsConfig text settings → fault ≢ Memory
+        → ¬ IsFaultOf text fault }
 {}
 
 /// All faults of a text, other than out of memory, have the same number.
 pub fn one_number()
-    ensures { (text : List ℕ) (f g : ConfigFault) → f ≢ Memory → g ≢ Memory → IsFaultOf text f → IsFaultOf text g → number_of f ≡ number_of g }
+    ensures { (text : List ℕ) (f g : ConfigFault) → f ≢ Memory → g ≢ Memory → IsFaultOf text f → IsFaultOf text g
+        → number_of f ≡ number_of g }
 {}
 
 /// Texts are the plans of at most one value.
@@ -29,5 +31,6 @@ pub fn one_value_of_plans()
 
 /// Plans have no fault other than out of memory.
 pub fn no_fault_of_plans()
-    ensures { (texts : List (List ℕ)) (plans : PlansValue) (fault : ConfigFault) → 1 ≤ length texts → ArePlans texts plans → fault ≢ Memory → ¬ IsPlansFaultOf texts fault }
+    ensures { (texts : List (List ℕ)) (plans : PlansValue) (fault : ConfigFault) → 1 ≤ length texts
+        → ArePlans texts plans → fault ≢ Memory → ¬ IsPlansFaultOf texts fault }
 {}

@@ -27,7 +27,9 @@ impl Model for Membership {
 
     ghost view = { λ m. record { count = m.count; members = map (λ row. row.items) m.members.items; plan = m.plan } };
 
-    ghost invariant = { λ m. IsMembership (length m.members.items) (record { count = m.count; members = map (λ row. row.items) m.members.items; plan = m.plan }) };
+    ghost invariant = { λ m.
+        IsMembership (length m.members.items)
+        (record { count = m.count; members = map (λ row. row.items) m.members.items; plan = m.plan }) };
 }
 
 impl Membership {

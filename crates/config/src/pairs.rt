@@ -14,7 +14,8 @@ pub trait Relation<A, B> {
 /// The index of the first entry, from this index on, that the value is related to.
 pub fn first_related<A, B, R: Relation<A, B>>(one: &A, entries: &[B], from: usize) -> Option<usize>
     ensures some { IfSome result (IsRelated (R.related one.now) entries.now from) }
-    ensures none { IfNone result ((k : ℕ) (d : B) → from ≤ k → k < length entries.now → ¬ R.related one.now (slice_index_or entries.now k d)) }
+    ensures none { IfNone result
+        ((k : ℕ) (d : B) → from ≤ k → k < length entries.now → ¬ R.related one.now (slice_index_or entries.now k d)) }
 {
     for index in from..entries.len() {
         if R::holds(one, &entries[index]) {

@@ -35,7 +35,9 @@ impl Model for Plans {
 
     ghost view = { λ p. record { union = p.union; members = map (λ row. row.items) p.members.items; count = p.count } };
 
-    ghost invariant = { λ p. (1 ≤ p.count) × (p.count ≤ 8) × (length p.members.items ≡ length p.union.circuits) × All (λ row. length row.items ≡ p.count) p.members.items };
+    ghost invariant = { λ p.
+        (1 ≤ p.count) × (p.count ≤ 8) × (length p.members.items ≡ length p.union.circuits)
+        × All (λ row. length row.items ≡ p.count) p.members.items };
 }
 
 /// The configurations of all texts, in order, or the fault of the first that is none.

@@ -32,7 +32,8 @@ fn add(
 ) -> Result<(), AllocError>
     requires { index.old ≡ map (λ c. c.id) circuits.old.items }
     ensures index { OnOk result (index.new ≡ map (λ c. c.id) circuits.new.items) }
-    ensures once { OnOk result ((before : List CircuitConfig) → circuits.old.items ≡ each_once before → circuits.new.items ≡ each_once (before ++ circuit.now ∷ [])) }
+    ensures once { OnOk result ((before : List CircuitConfig) → circuits.old.items ≡ each_once before
+        → circuits.new.items ≡ each_once (before ++ circuit.now ∷ [])) }
 {
     if index.add(circuit.id.copy())? {
         circuits.push(circuit.copy())?;
@@ -48,7 +49,8 @@ fn add_all(
 ) -> Result<(), AllocError>
     requires { index.old ≡ map (λ c. c.id) circuits.old.items }
     ensures index { OnOk result (index.new ≡ map (λ c. c.id) circuits.new.items) }
-    ensures once { OnOk result ((before : List CircuitConfig) → circuits.old.items ≡ each_once before → circuits.new.items ≡ each_once (before ++ more.now)) }
+    ensures once { OnOk result ((before : List CircuitConfig) → circuits.old.items ≡ each_once before
+        → circuits.new.items ≡ each_once (before ++ more.now)) }
 {
     for circuit in more {
         add(circuits, index, circuit)?;
@@ -72,7 +74,9 @@ fn circuits_of(alloc: Global, configs: &[Config]) -> Result<Vec<CircuitConfig>, 
 fn values_of(alloc: Global, configs: &[Config]) -> Result<Values, AllocError>
     requires some { 1 ≤ length configs.now }
     requires shared { AllPairs SharesServer configs.now }
-    ensures { IfOk result (λ values. IsUnion configs.now (record { server = values.server; relays = values.relays.items; circuits = values.circuits.items })) }
+    ensures { IfOk result (λ values.
+        IsUnion configs.now
+        (record { server = values.server; relays = values.relays.items; circuits = values.circuits.items })) }
 {
     let first = &configs[0];
     Ok(Values {

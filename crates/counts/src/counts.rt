@@ -135,7 +135,8 @@ fn write_totals<W: fmt::Write>(counts: &Counts, f: &mut fmt::Formatter<W>) -> fm
     let (delivered, unsent) = (counts.delivered, counts.unsent);
     write!(
         f,
-        "{received} datagrams received, {relayed} sent on to the server, {answered} answered, {delivered} sent on to a circuit, {unsent} not sent"
+        "{received} datagrams received, {relayed} sent on to the server, {answered} answered, \
+         {delivered} sent on to a circuit, {unsent} not sent"
     )
 }
 

@@ -58,7 +58,8 @@ pub(crate) fn turn_off_all(
 )
     requires size { length servers.old ≡ length circuits.now.circuits }
     requires held { HoldsDeadlines table.old (map (state_at ticked) servers.old) }
-    ensures { AreTurned (turns_off circuits.now plan) (map (state_at ticked) servers.old) (map (state_at ticked) servers.new) table.old table.new }
+    ensures { AreTurned (turns_off circuits.now plan) (map (state_at ticked) servers.old)
+        (map (state_at ticked) servers.new) table.old table.new }
 {
     'circuits: for index in 0..circuits.count() {
         let circuit = Circuit::at(index);

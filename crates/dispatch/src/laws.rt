@@ -31,14 +31,17 @@ pub fn leaves_a_book()
 /// leases.
 pub fn serves_one_protocol()
     ensures clock { (part : CircuitPart) (d : DeliveryValue) (b : Book) → (served part d b).book.clock ≡ max b.clock d.moment }
-    ensures four { (part : CircuitPart) (d : DeliveryValue) (b : Book) → d.proto ≡ V4 → (served part d b).book.six ≡ (book_at d.moment b).six }
-    ensures six { (part : CircuitPart) (d : DeliveryValue) (b : Book) → d.proto ≡ V6 → (served part d b).book.four ≡ (book_at d.moment b).four }
+    ensures four { (part : CircuitPart) (d : DeliveryValue) (b : Book) → d.proto ≡ V4
+        → (served part d b).book.six ≡ (book_at d.moment b).six }
+    ensures six { (part : CircuitPart) (d : DeliveryValue) (b : Book) → d.proto ≡ V6
+        → (served part d b).book.four ≡ (book_at d.moment b).four }
 {}
 
 /// What is answered to a DHCPv6 datagram has at most 508 bytes and reads back as the Relay-reply to the datagram's
 /// Relay-forward, and what that carries spells the reply which the table gives the client.
 pub fn reads_back()
-    ensures { (part : CircuitPart) (d : DeliveryValue) (b : Book) (bytes : List ℕ) → IsPart part → AreBytes d.bytes → d.proto ≡ V6 → (served part d b).answer ≡ Ok bytes → IsReadBack part d b bytes }
+    ensures { (part : CircuitPart) (d : DeliveryValue) (b : Book) (bytes : List ℕ) → IsPart part → AreBytes d.bytes
+        → d.proto ≡ V6 → (served part d b).answer ≡ Ok bytes → IsReadBack part d b bytes }
 {
     bindings_v6::laws::gives_whole_addresses();
     replies::laws::reply6_is_read();
@@ -49,6 +52,8 @@ pub fn reads_back()
 /// A batch no two parts of which are of one circuit is its parts one after the other, and the other way round, where a save fails in the
 /// regions that `fails` names. So a batch of one is what `receive` gives.
 pub fn is_one_by_one()
-    ensures { (topology : Topology) (parts : List DeliveryValue) (fails : ℕ → Bool) (old new : List (Option Book)) (answers : List (Result (List ℕ) discard.Discard)) → AreOfOthers topology parts → IsBatch topology parts fails old new answers
+    ensures { (topology : Topology) (parts : List DeliveryValue) (fails : ℕ → Bool) (old new : List (Option Book))
+        (answers : List (Result (List ℕ) discard.Discard)) → AreOfOthers topology parts
+        → IsBatch topology parts fails old new answers
         ↔ ((answers ≡ answers_to topology fails parts old) × (new ≡ books_after topology fails parts old)) }
 {}

@@ -8,7 +8,8 @@ use types::Circuit;
 /// How many regions a device needs to have those of all circuits: one more than the greatest number.
 pub fn region_count(config: &Config) -> u16
     ensures enough { (c : ℕ) (circuit : CircuitConfig) → slice_get config.now.circuits c ≡ Some circuit → circuit.region < result }
-    ensures no_more { (c : ℕ) × (circuit : CircuitConfig) × (slice_get config.now.circuits c ≡ Some circuit) × (circuit.region + 1 ≡ result) }
+    ensures no_more { (c : ℕ) × (circuit : CircuitConfig) × (slice_get config.now.circuits c ≡ Some circuit)
+        × (circuit.region + 1 ≡ result) }
     ensures most { result ≤ 1024 }
 {
     let mut regions = 0;

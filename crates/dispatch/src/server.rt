@@ -1,5 +1,6 @@
 //! The server of all circuits, over a device that keeps their leases.
-ghost use Rattle.std.specs.Prelude.{◌≡◌, ◌<◌, ◌≤◌, ◌+◌, ◌*◌, ◌↔◌, ℕ, Option, length, map, replicate, slice_get, None, Some, true, false, is_some, nat_lt, option_map, count_by, All, IfOk, IfErr, OnErr};
+ghost use Rattle.std.specs.Prelude.{◌≡◌, ◌<◌, ◌≤◌, ◌+◌, ◌*◌, ◌↔◌, ℕ, Option, length, map, replicate, slice_get, None};
+ghost use Rattle.std.specs.Prelude.{Some, true, false, is_some, nat_lt, option_map, count_by, All, IfOk, IfErr, OnErr};
 ghost use Rattle.config.specs.CircuitPart.{parts_of};
 ghost use Rattle.config.specs.Topology.{IsTopology, plans_topology, reloaded, serves, topology_of};
 ghost use Rattle.requests.specs.Addressee as who;
@@ -120,13 +121,18 @@ impl Server {
         requires synced { D.tells ≡ true → AreSynced (parts_of config.now) (D.device disk.old).region }
         ensures topology { IfOk result (λ server. server.topology ≡ topology_of config.now) }
         ensures sound { IfOk result (λ server. IsTopology (topology_of config.now)) }
-        ensures leases { D.tells ≡ true → IfOk result (λ server. leases_in (D.device disk.new).region server ≡ map (found_leases (D.device disk.old).region (D.device disk.old).failing_call) (parts_of config.now)) }
+        ensures leases { D.tells ≡ true
+            → IfOk result (λ server.
+            leases_in (D.device disk.new).region server
+            ≡ map (found_leases (D.device disk.old).region (D.device disk.old).failing_call)
+            (parts_of config.now)) }
         ensures ready { D.tells ≡ true → IfOk result (λ server. AreReady (D.device disk.new).region server) }
         ensures deadlines { IfOk result (λ server. AreSetAnew server.deadlines server.states) }
         ensures large { IfOk result (λ server. HasRegions (parts_of config.now) (D.device disk.new).count) }
         ensures small { IfErr result (λ why. why ≡ fault.DiskTooSmall → ¬ HasRegions (parts_of config.now) (D.device disk.old).count) }
         ensures untouched { OnErr result (D.device disk.new ≡ D.device disk.old) }
-        ensures regions { D.tells ≡ true → IfOk result (λ server. AreRegionsMigrated (parts_of config.now) (D.device disk.old) (D.device disk.new)) }
+        ensures regions { D.tells ≡ true
+            → IfOk result (λ server. AreRegionsMigrated (parts_of config.now) (D.device disk.old) (D.device disk.new)) }
         ensures others { D.tells ≡ true → KeepsOthers (parts_of config.now) (D.device disk.old) (D.device disk.new) }
         ensures count { (D.device disk.new).count ≡ (D.device disk.old).count }
         ensures reads { (D.device disk.new).reads ≤ (D.device disk.old).reads + 5 * length config.now.circuits }
@@ -148,13 +154,19 @@ impl Server {
         requires synced { D.tells ≡ true → AreSynced (parts_of plans.now.union) (D.device disk.old).region }
         ensures topology { IfOk result (λ server. server.topology ≡ plans_topology plans.now) }
         ensures sound { IfOk result (λ server. IsTopology (plans_topology plans.now)) }
-        ensures leases { D.tells ≡ true → IfOk result (λ server. leases_in (D.device disk.new).region server ≡ map (found_leases (D.device disk.old).region (D.device disk.old).failing_call) (parts_of plans.now.union)) }
+        ensures leases { D.tells ≡ true
+            → IfOk result (λ server.
+            leases_in (D.device disk.new).region server
+            ≡ map (found_leases (D.device disk.old).region (D.device disk.old).failing_call)
+            (parts_of plans.now.union)) }
         ensures ready { D.tells ≡ true → IfOk result (λ server. AreReady (D.device disk.new).region server) }
         ensures deadlines { IfOk result (λ server. AreSetAnew server.deadlines server.states) }
         ensures large { IfOk result (λ server. HasRegions (parts_of plans.now.union) (D.device disk.new).count) }
         ensures small { IfErr result (λ why. why ≡ fault.DiskTooSmall → ¬ HasRegions (parts_of plans.now.union) (D.device disk.old).count) }
         ensures untouched { OnErr result (D.device disk.new ≡ D.device disk.old) }
-        ensures regions { D.tells ≡ true → IfOk result (λ server. AreRegionsMigrated (parts_of plans.now.union) (D.device disk.old) (D.device disk.new)) }
+        ensures regions { D.tells ≡ true
+            → IfOk result (λ server.
+            AreRegionsMigrated (parts_of plans.now.union) (D.device disk.old) (D.device disk.new)) }
         ensures others { D.tells ≡ true → KeepsOthers (parts_of plans.now.union) (D.device disk.old) (D.device disk.new) }
         ensures count { (D.device disk.new).count ≡ (D.device disk.old).count }
         ensures reads { (D.device disk.new).reads ≤ (D.device disk.old).reads + 5 * length plans.now.union.circuits }
@@ -279,26 +291,43 @@ impl Server {
         ensures topology { self.new.topology ≡ self.old.topology }
 
         // Over every device: the save fails where the device counts a failure of the circuit's region.
-        ensures answer { IsAnswer (received self.old.topology (delivery proto source now datagram.now) (has_failed (D.device disk.old) (D.device disk.new)) (books_in self.old)).answer result out.new }
-        ensures books { books_in self.new ≡ (received self.old.topology (delivery proto source now datagram.now) (has_failed (D.device disk.old) (D.device disk.new)) (books_in self.old)).books }
+        ensures answer { IsAnswer (received self.old.topology (delivery proto source now datagram.now)
+            (has_failed (D.device disk.old) (D.device disk.new)) (books_in self.old)).answer result out.new }
+        ensures books { books_in self.new
+            ≡ (received self.old.topology (delivery proto source now datagram.now)
+            (has_failed (D.device disk.old) (D.device disk.new)) (books_in self.old)).books }
 
         // A datagram of no circuit is refused for that reason and changes nothing, not even a clock.
-        ensures unchanged { IfErr (who.addressee self.old.topology (delivery proto source now datagram.now)) (λ why. (result ≡ Err why) × (self.new ≡ self.old) × (D.device disk.new ≡ D.device disk.old)) }
+        ensures unchanged { IfErr (who.addressee self.old.topology (delivery proto source now datagram.now)) (λ why.
+            (result ≡ Err why) × (self.new ≡ self.old) × (D.device disk.new ≡ D.device disk.old)) }
 
         // No deadline is looked at, and those of every other circuit stay. Each is what it was, or until when its slot is held now.
-        ensures deadlines { KeepsDeadlines (λ c. is_circuit c (who.addressee self.old.topology (delivery proto source now datagram.now))) self.old.deadlines self.new.deadlines }
+        ensures deadlines { KeepsDeadlines (λ c.
+            is_circuit c (who.addressee self.old.topology (delivery proto source now datagram.now))) self.old.deadlines
+            self.new.deadlines }
         ensures held { AllUnchangedOrUntilHeld self.old.deadlines self.new.deadlines self.new.states }
 
         // Over a device that tells its bytes: when the save fails, and what restarts then find.
-        ensures fails { D.tells ≡ true → (r : ℕ) → has_failed (D.device disk.old) (D.device disk.new) r ≡ fails_at (D.device disk.old).failing_call (received_saves self.old.topology (delivery proto source now datagram.now) (books_in self.old)) r }
-        ensures leases { D.tells ≡ true → leases_in (D.device disk.new).region self.new ≡ received_leases self.old.topology (delivery proto source now datagram.now) (D.device disk.old).failing_call (leases_in (D.device disk.old).region self.old) }
+        ensures fails { D.tells ≡ true → (r : ℕ)
+            → has_failed (D.device disk.old) (D.device disk.new) r
+            ≡ fails_at (D.device disk.old).failing_call
+            (received_saves self.old.topology (delivery proto source now datagram.now) (books_in self.old)) r }
+        ensures leases { D.tells ≡ true
+            → leases_in (D.device disk.new).region self.new
+            ≡ received_leases self.old.topology (delivery proto source now datagram.now)
+            (D.device disk.old).failing_call (leases_in (D.device disk.old).region self.old) }
         ensures ready { D.tells ≡ true → AreReady (D.device disk.new).region self.new }
 
-        // What is written: nothing, over every device, where nothing is saved; else the circuit's region, alone over one that tells its bytes.
-        ensures frame { WritesAt D.tells (received_saves self.old.topology (delivery proto source now datagram.now) (books_in self.old)) (D.device disk.old) (D.device disk.new) }
+        // What is written: nothing, over every device, if nothing is saved; else the circuit's region, alone over one that
+        // tells its bytes.
+        ensures frame { WritesAt D.tells
+            (received_saves self.old.topology (delivery proto source now datagram.now) (books_in self.old))
+            (D.device disk.old) (D.device disk.new) }
 
         // Over every device: how often it is called.
-        ensures calls { IsCalledToSaveAt (received_saves self.old.topology (delivery proto source now datagram.now) (books_in self.old)) (D.device disk.old) (D.device disk.new) }
+        ensures calls { IsCalledToSaveAt
+            (received_saves self.old.topology (delivery proto source now datagram.now) (books_in self.old))
+            (D.device disk.old) (D.device disk.new) }
     {
         out.clear();
         let delivery = Delivery {
@@ -343,10 +372,13 @@ impl Server {
             → slice_get (leases_in regions self.new) c ≡ Some (turned (serves self.old.topology c) (serves self.new.topology c) l) }
         ensures count { length self.new.states ≡ length self.old.states }
         ensures ready { (regions : ℕ → Region) → AreReady regions self.old → AreReady regions self.new }
-        ensures kept { (c : ℕ) → serves self.old.topology c ≡ serves self.new.topology c → slice_get self.new.states c ≡ slice_get self.old.states c }
-        ensures deadlines { (c : ℕ) → serves self.old.topology c ≡ serves self.new.topology c → (s : ℕ) → s < 32 → deadline self.new.deadlines (32 * c + s) ≡ deadline self.old.deadlines (32 * c + s) }
-        ensures left { (c : ℕ) (state : Option OpenCircuitValue) → serves self.old.topology c ≡ true → serves self.new.topology c ≡ false → slice_get self.new.states c ≡ Some state
-            → (s : ℕ) → s < 32 → deadline self.new.deadlines (32 * c + s) ≡ held_in state s }
+        ensures kept { (c : ℕ) → serves self.old.topology c ≡ serves self.new.topology c
+            → slice_get self.new.states c ≡ slice_get self.old.states c }
+        ensures deadlines { (c : ℕ) → serves self.old.topology c ≡ serves self.new.topology c → (s : ℕ) → s < 32
+            → deadline self.new.deadlines (32 * c + s) ≡ deadline self.old.deadlines (32 * c + s) }
+        ensures left { (c : ℕ) (state : Option OpenCircuitValue) → serves self.old.topology c ≡ true
+            → serves self.new.topology c ≡ false → slice_get self.new.states c ≡ Some state → (s : ℕ) → s < 32
+            → deadline self.new.deadlines (32 * c + s) ≡ held_in state s }
         ensures examined { self.new.deadlines.examined ≡ self.old.deadlines.examined }
     {
         let number = usize::from(plan);
@@ -370,7 +402,10 @@ impl Server {
         requires regions { HasRegions self.old.topology.circuits (D.device disk.old).count }
         requires synced { D.tells ≡ true → AreSynced self.old.topology.circuits (D.device disk.old).region }
         ensures topology { self.new.topology ≡ self.old.topology }
-        ensures leases { D.tells ≡ true → leases_in (D.device disk.new).region self.new ≡ map (found_leases (D.device disk.old).region (D.device disk.old).failing_call) self.old.topology.circuits }
+        ensures leases { D.tells ≡ true
+            → leases_in (D.device disk.new).region self.new
+            ≡ map (found_leases (D.device disk.old).region (D.device disk.old).failing_call)
+            self.old.topology.circuits }
         ensures ready { D.tells ≡ true → AreReady (D.device disk.new).region self.new }
         ensures deadlines { AreSetAnew self.new.deadlines self.new.states }
         ensures examined { self.new.deadlines.examined ≡ self.old.deadlines.examined }

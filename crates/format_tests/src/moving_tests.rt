@@ -186,12 +186,24 @@ const ROWS: &[Row] = &[
     Row { counts: [16, 16], sound: &[(1312, 1), (1313, 3)], damaged: &[(1312, 1), (1313, 2)] },
     Row { counts: [16, 16], sound: &[(1312, 1), (1313, 130)], damaged: &[(1312, 1), (1313, 131)] },
     // until when a slot is held: at most a week after the last clock
-    Row { counts: [16, 16], sound: &[(42, 1), (45, 0x09), (46, 0x3a), (47, 0x7f)], damaged: &[(42, 1), (45, 0x09), (46, 0x3a), (47, 0x80)] },
+    Row {
+        counts: [16, 16],
+        sound: &[(42, 1), (45, 0x09), (46, 0x3a), (47, 0x7f)],
+        damaged: &[(42, 1), (45, 0x09), (46, 0x3a), (47, 0x80)],
+    },
     Row { counts: [16, 16], sound: &[(1312, 0), (1320, 1)], damaged: &[(1312, 2), (1320, 1)] },
     // a client's second lease, which is over at the clock 101, or until 102
-    Row { counts: [16, 16], sound: &[(112, 1), (113, 7), (127, 0x65), (128, 1), (129, 2), (134, 1)], damaged: &[(112, 1), (113, 7), (127, 0x66), (128, 1), (129, 2), (134, 1)] },
+    Row {
+        counts: [16, 16],
+        sound: &[(112, 1), (113, 7), (127, 0x65), (128, 1), (129, 2), (134, 1)],
+        damaged: &[(112, 1), (113, 7), (127, 0x66), (128, 1), (129, 2), (134, 1)],
+    },
     // two leases of one DUID, of two IAIDs or of one
-    Row { counts: [16, 16], sound: &[(1312, 1), (1313, 3), (1326, 2), (1464, 1), (1465, 3), (1471, 1), (1478, 2)], damaged: &[(1312, 1), (1313, 3), (1326, 2), (1464, 1), (1465, 3), (1478, 2)] },
+    Row {
+        counts: [16, 16],
+        sound: &[(1312, 1), (1313, 3), (1326, 2), (1464, 1), (1465, 3), (1471, 1), (1478, 2)],
+        damaged: &[(1312, 1), (1313, 3), (1326, 2), (1464, 1), (1465, 3), (1478, 2)],
+    },
     // the last slots of both pools, where they are not read, and those before them
     Row { counts: [15, 15], sound: &[(1232, 3), (3592, 3)], damaged: &[(1152, 3), (3440, 3)] },
     // a bank has to count even where no slot is read

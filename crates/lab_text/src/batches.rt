@@ -117,7 +117,8 @@ fn batch_part(config: &Config, field: &[u8]) -> Option<BatchPart>
 
 /// Parses the parts of a batch, in order, and returns whether they are good.
 fn parse_parts(config: &Config, rest: Option<&[u8]>, parts: &mut Parts) -> bool
-    ensures value { (if result then Some parts.new else None) ≡ parts_of config.now (fields_after (option_map (λ line. line.now) rest.entry)) }
+    ensures value { (if result then Some parts.new else None)
+        ≡ parts_of config.now (fields_after (option_map (λ line. line.now) rest.entry)) }
     ensures known { AreKnown config.now parts.new }
     ensures batch { result ≡ true → is_batch parts.new ≡ true }
 {

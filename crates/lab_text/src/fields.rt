@@ -21,7 +21,8 @@ pub(crate) fn first_field(line: &[u8]) -> (&[u8], Option<&[u8]>)
 
 /// The next field and what follows it, `None` where none is left.
 pub(crate) fn next_field<'a>(rest: Option<&'a [u8]>) -> Option<(&'a [u8], Option<&'a [u8]>)>
-    ensures { fields_after (option_map (λ line. line.now) rest.entry) ≡ fields_of_next (option_map (λ parts. (parts.0.now, option_map (λ line. line.now) parts.1)) result) }
+    ensures { fields_after (option_map (λ line. line.now) rest.entry)
+        ≡ fields_of_next (option_map (λ parts. (parts.0.now, option_map (λ line. line.now) parts.1)) result) }
 {
     match rest {
         Some(line) => Some(first_field(line)),

@@ -160,7 +160,8 @@ fn parse_down(config: &Config, fields: &[&[u8]]) -> Option<ParsedLine>
 
 /// Parses `tick NOW`.
 fn parse_tick(fields: &[&[u8]]) -> Option<ParsedLine>
-    ensures value { (settings : Settings) (plans : ℕ) (bytes : List ℕ) → line_or_bad result bytes ≡ line_of_form settings plans form.Tick (texts fields.now) }
+    ensures value { (settings : Settings) (plans : ℕ) (bytes : List ℕ)
+        → line_or_bad result bytes ≡ line_of_form settings plans form.Tick (texts fields.now) }
     ensures within { (settings : Settings) (plans : ℕ) → IfSome result (IsWithin settings plans) }
 {
     match fields {
@@ -171,7 +172,8 @@ fn parse_tick(fields: &[&[u8]]) -> Option<ParsedLine>
 
 /// Parses `reload K`.
 fn parse_reload(plans: usize, fields: &[&[u8]]) -> Option<ParsedLine>
-    ensures value { (settings : Settings) (bytes : List ℕ) → line_or_bad result bytes ≡ line_of_form settings plans form.Reload (texts fields.now) }
+    ensures value { (settings : Settings) (bytes : List ℕ)
+        → line_or_bad result bytes ≡ line_of_form settings plans form.Reload (texts fields.now) }
     ensures within { (settings : Settings) → IfSome result (IsWithin settings plans) }
 {
     match fields {
@@ -195,7 +197,9 @@ fn stray_up(
     now: &[u8],
     bytes: &mut [u8; MAX_BYTES],
 ) -> Option<ParsedLine>
-    ensures value { (plans : ℕ) → line_or_bad result bytes.new ≡ line_of_form config.now plans form.StrayUp (proto.now ∷ from.now ∷ digits.now ∷ now.now ∷ []) }
+    ensures value { (plans : ℕ)
+        → line_or_bad result bytes.new
+        ≡ line_of_form config.now plans form.StrayUp (proto.now ∷ from.now ∷ digits.now ∷ now.now ∷ []) }
     ensures within { (plans : ℕ) → IfSome result (IsWithin config.now plans) }
 {
     let proto = protocol(proto)?;
@@ -231,7 +235,9 @@ fn stray_down(
     digits: &[u8],
     bytes: &mut [u8; MAX_BYTES],
 ) -> Option<ParsedLine>
-    ensures value { (plans : ℕ) → line_or_bad result bytes.new ≡ line_of_form config.now plans form.StrayDown (relay.now ∷ from.now ∷ digits.now ∷ []) }
+    ensures value { (plans : ℕ)
+        → line_or_bad result bytes.new
+        ≡ line_of_form config.now plans form.StrayDown (relay.now ∷ from.now ∷ digits.now ∷ []) }
     ensures within { (plans : ℕ) → IfSome result (IsWithin config.now plans) }
 {
     let relay = relay_named(config, relay)?;

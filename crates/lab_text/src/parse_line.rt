@@ -90,7 +90,8 @@ fn parse_fields(
     rest: Option<&[u8]>,
     bytes: &mut [u8; MAX_BYTES],
 ) -> Option<ParsedLine>
-    ensures value { line_or_bad result bytes.new ≡ line_of_found config.now plans (form_of word.now) (fields_after (option_map (λ line. line.now) rest.entry)) }
+    ensures value { line_or_bad result bytes.new
+        ≡ line_of_found config.now plans (form_of word.now) (fields_after (option_map (λ line. line.now) rest.entry)) }
     ensures within { IfSome result (IsWithin config.now plans) }
 {
     let form = form_named(word)?;

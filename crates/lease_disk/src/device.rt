@@ -73,7 +73,8 @@ pub trait Disk {
         ensures err { tells ≡ true → OnErr result
             ((r : ℕ) → is_in regions.now r ≡ true → (device self.new).region r ≡ (device self.old).region r) }
         ensures answer { tells ≡ true → is_ok result ≡ not (list_any (λ r. (device self.old).failing_call r == 1) regions.now) }
-        ensures failing_call { tells ≡ true → (r : ℕ) → is_in regions.now r ≡ true → (device self.new).failing_call r ≡ (device self.old).failing_call r - 1 }
+        ensures failing_call { tells ≡ true → (r : ℕ) → is_in regions.now r ≡ true
+            → (device self.new).failing_call r ≡ (device self.old).failing_call r - 1 }
         ensures frame { TouchesAll tells regions.now (device self.old) (device self.new) }
         ensures writes { (device self.new).writes ≡ (device self.old).writes + 1 }
         ensures failures { (device self.new).failures ≡ set_faults regions.now result (device self.old).failures };

@@ -74,12 +74,14 @@ pub fn migrate<D: Disk>(
     requires buffer { length buffer.old ≡ 16384 }
     requires clean { D.tells ≡ true → ((D.device disk.old).region region).readable ≡ true
         → IsClean ((D.device disk.old).region region) }
-    ensures answer { D.tells ≡ true → is_ok result ≡ succeeds counts ((D.device disk.old).failing_call region) ((D.device disk.old).region region) }
+    ensures answer { D.tells ≡ true
+        → is_ok result ≡ succeeds counts ((D.device disk.old).failing_call region) ((D.device disk.old).region region) }
     ensures refusal { D.tells ≡ true → IfErr result (λ fault. fault ≡ refusal counts ((D.device disk.old).region region)) }
     ensures still { D.tells ≡ true → moves counts ((D.device disk.old).region region) ≡ false
         → (D.device disk.new).region region ≡ (D.device disk.old).region region }
     ensures region { D.tells ≡ true → ((D.device disk.old).region region).readable ≡ true
-        → IsMigrated counts ((D.device disk.old).failing_call region) ((D.device disk.old).region region) ((D.device disk.new).region region) }
+        → IsMigrated counts ((D.device disk.old).failing_call region) ((D.device disk.old).region region)
+        ((D.device disk.new).region region) }
     ensures frame { ChangesOne D.tells region (D.device disk.old) (D.device disk.new) }
     ensures reads { (D.device disk.new).reads ≤ (D.device disk.old).reads + 3 }
     ensures calls { MakesMoveCalls D.tells counts region result (D.device disk.old) (D.device disk.new) }

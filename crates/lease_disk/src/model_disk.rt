@@ -255,7 +255,8 @@ impl Disk for ModelDisk {
         ensures writes { (device_of self.new).writes ≡ (device_of self.old).writes + 1 }
         ensures failures { (device_of self.new).failures ≡ faults_after region result (device_of self.old).failures }
         // and the bytes stay after a fault
-        ensures left_in_doubt { OnErr result (disk_region self.new region ≡ left_in_doubt at (length bytes.now) (disk_region self.old region)) }
+        ensures left_in_doubt { OnErr result
+            (disk_region self.new region ≡ left_in_doubt at (length bytes.now) (disk_region self.old region)) }
     {
         self.writes.tick();
         let fails = burn(&mut self.failing_calls[usize::from(region)]);

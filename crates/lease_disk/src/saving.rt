@@ -75,7 +75,8 @@ pub fn save<D: Disk>(
     requires format { D.tells ≡ true → is_format2 ((D.device disk.old).region region).byte ≡ true }
     requires clean { D.tells ≡ true → IsClean ((D.device disk.old).region region) }
     requires mark { D.tells ≡ true → IsMark ((D.device disk.old).region region).byte slot (mark_at marks.old slot) }
-    ensures saved { D.tells ≡ true → IsSaveOf (effective 6 ((D.device disk.old).failing_call region)) clock slot content.now marks.old marks.new
+    ensures saved { D.tells ≡ true
+        → IsSaveOf (effective 6 ((D.device disk.old).failing_call region)) clock slot content.now marks.old marks.new
         ((D.device disk.old).region region) ((D.device disk.new).region region) }
     ensures answer { D.tells ≡ true → is_ok result ≡ (effective 6 ((D.device disk.old).failing_call region) == 0) }
     ensures kept { OnErr result (marks.new ≡ marks.old) }

@@ -1,7 +1,8 @@
 //! A line for a lease, or for a circuit whose leases are not known.
 ghost use Rattle.std.specs.Prelude.{◌≡◌, IfOk, OnOk, option_map, string_bytes};
 ghost use Rattle.serde_json.specs.View.{members_view, view};
-ghost use Rattle.lease_list.specs.Line.{IsLeaseLine, closed_data, closed_written, closed_words, why_of, with_client, with_end, with_place, written};
+ghost use Rattle.lease_list.specs.Line.{IsLeaseLine, closed_data, closed_written, closed_words, why_of, with_client};
+ghost use Rattle.lease_list.specs.Line.{with_end, with_place, written};
 ghost use Rattle.lease_list.specs.Row.{line_data};
 
 use crate::form::Form;
@@ -19,7 +20,8 @@ fn put_place(
     address: String,
     state: &str,
 ) -> Result<(), AllocError>
-    ensures { OnOk result (members_view map.new.entries ≡ with_place circuit.now (string_bytes address) state.now (members_view map.old.entries)) }
+    ensures { OnOk result (members_view map.new.entries
+        ≡ with_place circuit.now (string_bytes address) state.now (members_view map.old.entries)) }
 {
     put(map, alloc, "circuit", circuit.to_value(alloc)?)?;
     put(map, alloc, "address", Value::from(address))?;
@@ -33,7 +35,8 @@ fn put_client(
     client: Option<String>,
     iaid: Option<String>,
 ) -> Result<(), AllocError>
-    ensures { OnOk result (members_view map.new.entries ≡ with_client (option_map string_bytes client) (option_map string_bytes iaid) (members_view map.old.entries)) }
+    ensures { OnOk result (members_view map.new.entries
+        ≡ with_client (option_map string_bytes client) (option_map string_bytes iaid) (members_view map.old.entries)) }
 {
     put(map, alloc, "client", Value::from(client))?;
     put(map, alloc, "iaid", Value::from(iaid))
@@ -47,7 +50,8 @@ fn put_end(
     date: Option<String>,
     left: u64,
 ) -> Result<(), AllocError>
-    ensures { OnOk result (members_view map.new.entries ≡ with_end until (option_map string_bytes date) left (members_view map.old.entries)) }
+    ensures { OnOk result (members_view map.new.entries
+        ≡ with_end until (option_map string_bytes date) left (members_view map.old.entries)) }
 {
     put(map, alloc, "until", Value::from(until))?;
     put(map, alloc, "date", Value::from(date))?;

@@ -33,7 +33,8 @@ fn lease_lines(
     at: u64,
     form: Form,
 ) -> Result<Vec<String>, AllocError>
-    ensures { IfOk result (λ lines. AllZip (λ lease line. IsLeaseLine circuit.now lease at form (string_bytes line)) leases.now lines.items) }
+    ensures { IfOk result (λ lines.
+        AllZip (λ lease line. IsLeaseLine circuit.now lease at form (string_bytes line)) leases.now lines.items) }
 {
     let mut lines = Vec::new(alloc);
     for (i, lease) in leases.iter().enumerate() {
@@ -71,7 +72,9 @@ fn live_lines(
     at: u64,
     form: Form,
 ) -> Result<Vec<String>, AllocError>
-    ensures { IfOk result (λ lines. AllZip (λ lease line. IsLeaseLine part.now.id lease at form (string_bytes line)) (leases_at at part.now slots.now) lines.items) }
+    ensures { IfOk result (λ lines.
+        AllZip (λ lease line. IsLeaseLine part.now.id lease at form (string_bytes line))
+        (leases_at at part.now slots.now) lines.items) }
 {
     let found = leases(alloc, part, slots, at)?;
     lease_lines(alloc, text_of(part.id()), &found, at, form)

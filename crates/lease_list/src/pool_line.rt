@@ -39,7 +39,8 @@ fn put_range(
     first: String,
     last: String,
 ) -> Result<(), AllocError>
-    ensures { OnOk result (members_view map.new.entries ≡ with_range (string_bytes first) (string_bytes last) (members_view map.old.entries)) }
+    ensures { OnOk result (members_view map.new.entries
+        ≡ with_range (string_bytes first) (string_bytes last) (members_view map.old.entries)) }
 {
     put(map, alloc, "first", Value::from(first))?;
     put(map, alloc, "last", Value::from(last))

@@ -28,7 +28,14 @@ impl<'a> Model for PoolRow<'a> {
 
     ghost Value = { PoolTexts };
 
-    ghost view = { λ r. record { circuit = r.circuit.now; proto = r.proto; first = string_bytes r.first; last = string_bytes r.last; usage = r.usage } };
+    ghost view = { λ r.
+        record {
+          circuit = r.circuit.now;
+          proto = r.proto;
+          first = string_bytes r.first;
+          last = string_bytes r.last;
+          usage = r.usage;
+        } };
 }
 
 fn proto_text(proto: Proto) -> &'static str

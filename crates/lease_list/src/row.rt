@@ -37,7 +37,19 @@ impl<'a> Model for Row<'a> {
 
     ghost Value = { Texts };
 
-    ghost view = { λ r. record { circuit = r.circuit.now; address = string_bytes r.address; state = r.state.now; client = option_map string_bytes r.client; iaid = option_map string_bytes r.iaid; until = r.until; date = option_map string_bytes r.date; left = r.left } };
+    ghost view = { λ r.
+        record {
+          circuit = r.circuit.now;
+          address = string_bytes r.address;
+          state = r.state.now;
+          client = option_map
+              string_bytes r.client;
+          iaid = option_map string_bytes r.iaid;
+          until = r.until;
+          date = option_map
+              string_bytes r.date;
+          left = r.left;
+        } };
 }
 
 /// Four decimal numbers.

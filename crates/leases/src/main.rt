@@ -108,7 +108,9 @@ struct Lister<'a> {
 impl Lister<'_> {
     /// The lines of a circuit.
     fn lines(&mut self, part: &CircuitPart) -> Result<Vec<String>, AllocError>
-        ensures listed { IfOk result (λ lines. HasListed part.now self.old.at self.old.what self.old.form self.new.bytes self.old.file.readings.items self.new.file.readings.items self.old.noted self.new.noted lines.items) }
+        ensures listed { IfOk result (λ lines.
+            HasListed part.now self.old.at self.old.what self.old.form self.new.bytes self.old.file.readings.items
+            self.new.file.readings.items self.old.noted self.new.noted lines.items) }
         ensures at { self.new.at ≡ self.old.at }
         ensures what { self.new.what ≡ self.old.what }
         ensures form { self.new.form ≡ self.old.form }

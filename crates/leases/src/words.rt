@@ -134,8 +134,11 @@ fn form_of<'a>(matches: &ArgMatches<'a>, id: &str) -> Form
 
 /// The values that clap has read, where all are there and within their limits.
 fn values<'a>(matches: &ArgMatches<'a>) -> Option<LeaseWords<'a>>
-    ensures some { IfSome result (λ values. HasValues (rows_of (found_of matches.now)) values.config.now values.disk.now values.at values.what values.form) }
-    ensures none { IsNone result → (config disk : List ℕ) (at : Option ℕ) (what : What) (form : Form) → ¬ HasValues (rows_of (found_of matches.now)) config disk at what form }
+    ensures some { IfSome result (λ values.
+        HasValues (rows_of (found_of matches.now)) values.config.now values.disk.now values.at values.what
+        values.form) }
+    ensures none { IsNone result → (config disk : List ℕ) (at : Option ℕ) (what : What) (form : Form)
+        → ¬ HasValues (rows_of (found_of matches.now)) config disk at what form }
 {
     let config = matches.get_str("CONFIG")?;
     let disk = matches.get_str("disk")?;
@@ -153,7 +156,8 @@ fn values<'a>(matches: &ArgMatches<'a>) -> Option<LeaseWords<'a>>
 
 /// The values of the words after the program's name.
 pub fn words<'a>(alloc: Global, words: &'a [String]) -> Result<LeaseWords<'a>, Refusal>
-    ensures values { IfOk result (λ values. Spells (map string_bytes words.entry.now) values.config.now values.disk.now values.at values.what values.form) }
+    ensures values { IfOk result (λ values.
+        Spells (map string_bytes words.entry.now) values.config.now values.disk.now values.at values.what values.form) }
     ensures refused { IfErr result (IsRefused leases_app SpellsSomething (map string_bytes words.entry.now)) }
 {
     let Ok(command) = command(alloc) else {

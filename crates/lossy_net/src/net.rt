@@ -66,7 +66,8 @@ impl Net {
     /// oldest of this circuit and direction was lost to make room.
     pub fn send(&mut self, circuit: Circuit, dir: Dir, proto: Proto, packet: &PacketBuf) -> bool
         requires exists { circuit < length self.old.circuits }
-        ensures kept { datagrams self.new circuit dir ≡ take self.old.quota (record { proto = proto; bytes = packet.now } ∷ datagrams self.old circuit dir) }
+        ensures kept { datagrams self.new circuit dir
+            ≡ take self.old.quota (record { proto = proto; bytes = packet.now } ∷ datagrams self.old circuit dir) }
         ensures lost { IsTrue result ↔ (length (datagrams self.old circuit dir) ≡ self.old.quota) }
         ensures other_direction { datagrams self.new circuit (opposite dir) ≡ datagrams self.old circuit (opposite dir) }
         ensures other_circuits { (other : ℕ) (way : Dir) → other ≢ circuit → datagrams self.new other way ≡ datagrams self.old other way }

@@ -28,8 +28,11 @@ pub enum DeviceFault {
 
 /// Formats the region of each circuit.
 fn format_regions<D: Disk>(config: &Config, disk: &mut D) -> Result<(), DeviceFault>
-    requires { (c : ℕ) (circuit : CircuitConfig) → slice_get config.now.circuits c ≡ Some circuit → circuit.region < (D.device disk.old).count }
-    ensures formatted { D.tells ≡ true → OnOk result ((c : ℕ) (circuit : CircuitConfig) → slice_get config.now.circuits c ≡ Some circuit → IsFormatted ((D.device disk.new).region circuit.region)) }
+    requires { (c : ℕ) (circuit : CircuitConfig) → slice_get config.now.circuits c ≡ Some circuit
+        → circuit.region < (D.device disk.old).count }
+    ensures formatted { D.tells ≡ true
+        → OnOk result ((c : ℕ) (circuit : CircuitConfig) → slice_get config.now.circuits c ≡ Some circuit
+        → IsFormatted ((D.device disk.new).region circuit.region)) }
     ensures count { (D.device disk.new).count ≡ (D.device disk.old).count }
     ensures writes { OnOk result ((D.device disk.new).writes ≡ (D.device disk.old).writes + 4 * length config.now.circuits) }
 {
@@ -69,7 +72,9 @@ pub fn format_device<R: Files<File = File>>(
 ) -> Result<FileDisk, DeviceFault>
     ensures writes { length config.now.circuits ≤ 16 → IfOk result (λ disk. disk.writes ≡ 4 * length config.now.circuits) }
     ensures none { 16 < length config.now.circuits → IfOk result (λ disk. disk.writes ≡ 0) }
-    ensures regions { IfOk result (λ disk. (c : ℕ) (circuit : CircuitConfig) → slice_get config.now.circuits c ≡ Some circuit → circuit.region < disk.regions) }
+    ensures regions { IfOk result (λ disk.
+        (c : ℕ) (circuit : CircuitConfig) → slice_get config.now.circuits c ≡ Some circuit
+        → circuit.region < disk.regions) }
 {
     let mut disk = FileDisk::create(rt, path, region_count(config)).map_err(fault_of)?;
     if config.circuit_count() <= MAX_SERVED {
@@ -85,7 +90,8 @@ pub fn device_of<R: Files<File = File>>(
     formats: bool,
     config: &Config,
 ) -> Result<FileDisk, DeviceFault>
-    ensures formats { formats ≡ true → length config.now.circuits ≤ 16 → IfOk result (λ disk. disk.writes ≡ 4 * length config.now.circuits) }
+    ensures formats { formats ≡ true → length config.now.circuits ≤ 16
+        → IfOk result (λ disk. disk.writes ≡ 4 * length config.now.circuits) }
     ensures opens { formats ≡ false → IfOk result (λ disk. disk ≡ uncalled disk.length) }
 {
     if formats {

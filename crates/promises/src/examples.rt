@@ -14,9 +14,16 @@ ghost use Rattle.lease_disk.specs.Recovered.{recovered};
 ghost use Rattle.lease_disk.specs.declared.content.Content.TheVariants.{Four, Six};
 ghost use Rattle.relay.specs.Relays.{relayed_up};
 ghost use Rattle.world.specs.Alone.{alone_step, after_all, frames, Dropped, Gone, SentDown, start, Old, Moving};
-ghost use Rattle.promises.specs.Examples.{part_a, with_relays, setup_a, setup_a1, at_port, client_message, discover, discover_up, peer, solicit, solicit_up, relayed_message, relayed_discover, offer, client, offers_at, one_offer, lease_until, datagram, with_up, begun, no_leases, begun_off, asked, leased, closed, ack, begun_in_format_1, turned_off, unreadable, release_up, decline_up, reboot_up, nak, barred_at, saved_silently};
-ghost use Rattle.promises.specs.Examples6.{message6, server_id6, ia6, timed_ia6, listed6, leased6, status6, relayed6, book6, bound6, barred6, replied6, client6};
-ghost use Rattle.promises.specs.ExampleDisk.{bound_half, bound_half6, free_half, barred_half, laid, both_bound, both_bound_in_format_1, two_slots};
+ghost use Rattle.promises.specs.Examples.{part_a, with_relays, setup_a, setup_a1, at_port, client_message, discover};
+ghost use Rattle.promises.specs.Examples.{discover_up, peer, solicit, solicit_up, relayed_message, relayed_discover};
+ghost use Rattle.promises.specs.Examples.{offer, client, offers_at, one_offer, lease_until, datagram, with_up, begun};
+ghost use Rattle.promises.specs.Examples.{no_leases, begun_off, asked, leased, closed, ack, begun_in_format_1};
+ghost use Rattle.promises.specs.Examples.{turned_off, unreadable, release_up, decline_up, reboot_up, nak, barred_at};
+ghost use Rattle.promises.specs.Examples.{saved_silently};
+ghost use Rattle.promises.specs.Examples6.{message6, server_id6, ia6, timed_ia6, listed6, leased6, status6, relayed6};
+ghost use Rattle.promises.specs.Examples6.{book6, bound6, barred6, replied6, client6};
+ghost use Rattle.promises.specs.ExampleDisk.{bound_half, bound_half6, free_half, barred_half, laid, both_bound};
+ghost use Rattle.promises.specs.ExampleDisk.{both_bound_in_format_1, two_slots};
 ghost use Rattle.promises.specs.Granted.{Granted4, lines, restart_over};
 ghost use Rattle.events.specs.Seen.{Frame, Up, Down, Tick, Restart, Turn};
 
@@ -44,24 +51,35 @@ pub fn frames_go_up6()
 
 /// The server finds a DHCPv6 message's circuit by relay, id and link.
 pub fn relay_messages_have_circuits()
-    ensures first { addressee (with_relays (at_port 6801 ∷ [])) (delivery V6 (at_port 6801) 100 (solicit_up part_a.link6 (97 ∷ []))) ≡ Ok 0 }
-    ensures second { addressee (with_relays (at_port 6801 ∷ [])) (delivery V6 (at_port 6801) 100 (solicit_up part_a.link6 (97 ∷ 49 ∷ []))) ≡ Ok 1 }
-    ensures beginning { addressee (with_relays (at_port 6801 ∷ [])) (delivery V6 (at_port 6801) 100 (solicit_up part_a.link6 (97 ∷ 49 ∷ 49 ∷ []))) ≡ Err reason.UnknownCircuit }
-    ensures link { addressee (with_relays (at_port 6801 ∷ [])) (delivery V6 (at_port 6801) 100 (solicit_up (replicate 16 0) (97 ∷ []))) ≡ Err reason.WrongLink }
+    ensures first { addressee (with_relays (at_port 6801 ∷ []))
+        (delivery V6 (at_port 6801) 100 (solicit_up part_a.link6 (97 ∷ []))) ≡ Ok 0 }
+    ensures second { addressee (with_relays (at_port 6801 ∷ []))
+        (delivery V6 (at_port 6801) 100 (solicit_up part_a.link6 (97 ∷ 49 ∷ []))) ≡ Ok 1 }
+    ensures beginning { addressee (with_relays (at_port 6801 ∷ []))
+        (delivery V6 (at_port 6801) 100 (solicit_up part_a.link6 (97 ∷ 49 ∷ 49 ∷ []))) ≡ Err reason.UnknownCircuit }
+    ensures link { addressee (with_relays (at_port 6801 ∷ []))
+        (delivery V6 (at_port 6801) 100 (solicit_up (replicate 16 0) (97 ∷ []))) ≡ Err reason.WrongLink }
     ensures unrelayed { addressee (with_relays (at_port 6801 ∷ [])) (delivery V6 (at_port 6801) 100 solicit) ≡ Err reason.NotRelayed }
-    ensures cut { addressee (with_relays (at_port 6801 ∷ [])) (delivery V6 (at_port 6801) 100 (take 76 (solicit_up part_a.link6 (97 ∷ [])))) ≡ Err reason.Malformed }
+    ensures cut { addressee (with_relays (at_port 6801 ∷ []))
+        (delivery V6 (at_port 6801) 100 (take 76 (solicit_up part_a.link6 (97 ∷ [])))) ≡ Err reason.Malformed }
 {}
 
 /// The server finds the circuit by relay, id, gateway and override, and by none of them alone.
 pub fn datagrams_have_circuits()
     ensures first { addressee (with_relays (at_port 6801 ∷ [])) (delivery V4 (at_port 6801) 100 (discover_up 1 [])) ≡ Ok 0 }
-    ensures second { addressee (with_relays (at_port 6801 ∷ [])) (delivery V4 (at_port 6801) 100 (relayed_discover (97 ∷ 49 ∷ []) 1 1 [])) ≡ Ok 1 }
+    ensures second { addressee (with_relays (at_port 6801 ∷ []))
+        (delivery V4 (at_port 6801) 100 (relayed_discover (97 ∷ 49 ∷ []) 1 1 [])) ≡ Ok 1 }
     ensures source { addressee (with_relays (at_port 6801 ∷ [])) (delivery V4 (at_port 9999) 100 []) ≡ Err reason.UnknownSource }
-    ensures relay { addressee (with_relays (at_port 6801 ∷ at_port 6802 ∷ [])) (delivery V4 (at_port 6802) 100 (discover_up 1 [])) ≡ Err reason.UnknownCircuit }
-    ensures beginning { addressee (with_relays (at_port 6801 ∷ [])) (delivery V4 (at_port 6801) 100 (relayed_discover (97 ∷ 49 ∷ 49 ∷ []) 1 1 [])) ≡ Err reason.UnknownCircuit }
-    ensures gateway { addressee (with_relays (at_port 6801 ∷ [])) (delivery V4 (at_port 6801) 100 (relayed_discover (97 ∷ []) 1 1 [])) ≡ Err reason.WrongLink }
-    ensures unrelayed { addressee (with_relays (at_port 6801 ∷ [])) (delivery V4 (at_port 6801) 100 (discover 1 [])) ≡ Err reason.NotRelayed }
-    ensures cut { addressee (with_relays (at_port 6801 ∷ [])) (delivery V4 (at_port 6801) 100 (take 254 (discover_up 1 []))) ≡ Err reason.Malformed }
+    ensures relay { addressee (with_relays (at_port 6801 ∷ at_port 6802 ∷ []))
+        (delivery V4 (at_port 6802) 100 (discover_up 1 [])) ≡ Err reason.UnknownCircuit }
+    ensures beginning { addressee (with_relays (at_port 6801 ∷ []))
+        (delivery V4 (at_port 6801) 100 (relayed_discover (97 ∷ 49 ∷ 49 ∷ []) 1 1 [])) ≡ Err reason.UnknownCircuit }
+    ensures gateway { addressee (with_relays (at_port 6801 ∷ []))
+        (delivery V4 (at_port 6801) 100 (relayed_discover (97 ∷ []) 1 1 [])) ≡ Err reason.WrongLink }
+    ensures unrelayed { addressee (with_relays (at_port 6801 ∷ [])) (delivery V4 (at_port 6801) 100 (discover 1 []))
+        ≡ Err reason.NotRelayed }
+    ensures cut { addressee (with_relays (at_port 6801 ∷ []))
+        (delivery V4 (at_port 6801) 100 (take 254 (discover_up 1 []))) ≡ Err reason.Malformed }
 {}
 
 /// A client's DHCPDISCOVER and the frame with its offer, byte for byte. The same frame on another
@@ -73,21 +91,26 @@ pub fn an_offer_comes_back()
 
 /// An offer holds its address for 60 seconds and not longer.
 pub fn offers_expire()
-    ensures held { (alone_step setup_a (Up 0 159 0) (with_up (discover_up 2 []) 100 (one_offer (client 1) (lease_until 160)))).effect ≡ Dropped reason.NoAddress }
-    ensures over { (alone_step setup_a (Up 0 160 0) (with_up (discover_up 2 []) 100 (one_offer (client 1) (lease_until 160)))).effect ≡ SentDown 300 }
+    ensures held { (alone_step setup_a (Up 0 159 0)
+        (with_up (discover_up 2 []) 100 (one_offer (client 1) (lease_until 160)))).effect ≡ Dropped reason.NoAddress }
+    ensures over { (alone_step setup_a (Up 0 160 0)
+        (with_up (discover_up 2 []) 100 (one_offer (client 1) (lease_until 160)))).effect ≡ SentDown 300 }
 {}
 
 /// A moment before the clock leaves the clock, and an offer is counted from there.
 pub fn clocks_never_go_back()
-    ensures { (alone_step setup_a (Up 0 50 0) (with_up (discover_up 1 []) 100 empty)).next.book ≡ Some (offers_at 100 (one_offer (client 1) (lease_until 160))) }
+    ensures { (alone_step setup_a (Up 0 50 0) (with_up (discover_up 1 []) 100 empty)).next.book
+        ≡ Some (offers_at 100 (one_offer (client 1) (lease_until 160))) }
 {}
 
 /// Client identifiers of 2 to 64 bytes are served.
 pub fn keys_have_limits()
-    ensures short { (alone_step setup_a (Up 0 100 0) (with_up (discover_up 1 (61 ∷ 1 ∷ replicate 1 7)) 0 empty)).effect ≡ Dropped reason.ClientKey }
+    ensures short { (alone_step setup_a (Up 0 100 0) (with_up (discover_up 1 (61 ∷ 1 ∷ replicate 1 7)) 0 empty)).effect
+        ≡ Dropped reason.ClientKey }
     ensures least { (alone_step setup_a (Up 0 100 0) (with_up (discover_up 1 (61 ∷ 2 ∷ replicate 2 7)) 0 empty)).effect ≡ SentDown 300 }
     ensures most { (alone_step setup_a (Up 0 100 0) (with_up (discover_up 1 (61 ∷ 64 ∷ replicate 64 7)) 0 empty)).effect ≡ SentDown 300 }
-    ensures long { (alone_step setup_a (Up 0 100 0) (with_up (discover_up 1 (61 ∷ 65 ∷ replicate 65 7)) 0 empty)).effect ≡ Dropped reason.ClientKey }
+    ensures long { (alone_step setup_a (Up 0 100 0) (with_up (discover_up 1 (61 ∷ 65 ∷ replicate 65 7)) 0 empty)).effect
+        ≡ Dropped reason.ClientKey }
 {}
 
 /// The network keeps the newest datagrams of a direction, and no more than its quota. What the relay drops never gets
@@ -95,9 +118,12 @@ pub fn keys_have_limits()
 pub fn the_network_keeps_the_newest()
     ensures none { (alone_step setup_a (Up 0 100 0) (after_all setup_a (Frame V4 (client_message 2 1 []) ∷ []) begun)).effect ≡ Gone }
     ensures apart { (alone_step setup_a (Down 0) (after_all setup_a (Frame V4 (discover 1 []) ∷ []) begun)).effect ≡ Gone }
-    ensures both { (after_all setup_a (Frame V4 (discover 1 []) ∷ Frame V4 (discover 2 []) ∷ []) begun).up ≡ datagram (discover_up 2 []) ∷ datagram (discover_up 1 []) ∷ [] }
-    ensures last { (after_all (record setup_a { quota = 1 }) (Frame V4 (discover 1 []) ∷ Frame V4 (discover 2 []) ∷ []) begun).up ≡ datagram (discover_up 2 []) ∷ [] }
-    ensures lost { (alone_step (record setup_a { quota = 1 }) (Up 1 100 0) (after_all (record setup_a { quota = 1 }) (Frame V4 (discover 1 []) ∷ Frame V4 (discover 2 []) ∷ []) begun)).effect ≡ Gone }
+    ensures both { (after_all setup_a (Frame V4 (discover 1 []) ∷ Frame V4 (discover 2 []) ∷ []) begun).up
+        ≡ datagram (discover_up 2 []) ∷ datagram (discover_up 1 []) ∷ [] }
+    ensures last { (after_all (record setup_a { quota = 1 }) (Frame V4 (discover 1 []) ∷ Frame V4 (discover 2 []) ∷ []) begun).up
+        ≡ datagram (discover_up 2 []) ∷ [] }
+    ensures lost { (alone_step (record setup_a { quota = 1 }) (Up 1 100 0) (after_all (record setup_a { quota = 1 })
+        (Frame V4 (discover 1 []) ∷ Frame V4 (discover 2 []) ∷ []) begun)).effect ≡ Gone }
 {}
 
 /// A DHCPREQUEST that the server answers: the DHCPACK's frame, byte for byte, and what is saved before
@@ -122,14 +148,30 @@ pub fn a_foreign_address_is_refused()
 
 /// A row of each type of the DHCPv6 table: the reply, byte for byte, the book after it, and whether it is saved before.
 pub fn each_type_of_dhcpv6_is_answered()
-    ensures solicit { served part_a (delivery V6 part_a.relay 100 (relayed6 12 (message6 1 (ia6 [])))) no_leases ≡ replied6 (message6 2 (server_id6 ++ timed_ia6 leased6)) (book6 100 empty empty) false }
-    ensures request { served part_a (delivery V6 part_a.relay 100 (relayed6 12 (message6 3 (server_id6 ++ ia6 (listed6 0))))) no_leases ≡ replied6 (message6 7 (server_id6 ++ timed_ia6 leased6)) (book6 100 (bound6 700) empty) true }
-    ensures confirm { served part_a (delivery V6 part_a.relay 400 (relayed6 12 (message6 4 (ia6 (listed6 0))))) (book6 100 (bound6 700) empty) ≡ replied6 (message6 7 (server_id6 ++ status6 0)) (book6 400 (bound6 700) empty) false }
-    ensures elsewhere { served part_a (delivery V6 part_a.relay 400 (relayed6 12 (message6 4 (ia6 (listed6 1))))) (book6 100 (bound6 700) empty) ≡ replied6 (message6 7 (server_id6 ++ status6 4)) (book6 400 (bound6 700) empty) false }
-    ensures renew { served part_a (delivery V6 part_a.relay 400 (relayed6 12 (message6 5 (server_id6 ++ ia6 (listed6 1 ++ listed6 0))))) (book6 100 (bound6 700) empty) ≡ replied6 (message6 7 (server_id6 ++ timed_ia6 (listed6 1 ++ leased6))) (book6 400 (bound6 1000) empty) true }
-    ensures rebind { served part_a (delivery V6 part_a.relay 400 (relayed6 12 (message6 6 (ia6 (listed6 0))))) no_leases ≡ replied6 (message6 7 (server_id6 ++ ia6 (status6 3))) (book6 400 empty empty) false }
-    ensures release { served part_a (delivery V6 part_a.relay 400 (relayed6 12 (message6 8 (server_id6 ++ ia6 (listed6 0))))) (book6 100 (bound6 700) empty) ≡ replied6 (message6 7 (server_id6 ++ status6 0)) (book6 400 empty empty) true }
-    ensures decline { served part_a (delivery V6 part_a.relay 400 (relayed6 12 (message6 9 (server_id6 ++ ia6 (listed6 0))))) (book6 100 (bound6 700) empty) ≡ replied6 (message6 7 (server_id6 ++ status6 0)) (book6 400 empty (barred6 4000)) true }
+    ensures solicit { served part_a (delivery V6 part_a.relay 100 (relayed6 12 (message6 1 (ia6 [])))) no_leases
+        ≡ replied6 (message6 2 (server_id6 ++ timed_ia6 leased6)) (book6 100 empty empty) false }
+    ensures request { served part_a
+        (delivery V6 part_a.relay 100 (relayed6 12 (message6 3 (server_id6 ++ ia6 (listed6 0))))) no_leases
+        ≡ replied6 (message6 7 (server_id6 ++ timed_ia6 leased6)) (book6 100 (bound6 700) empty) true }
+    ensures confirm { served part_a (delivery V6 part_a.relay 400 (relayed6 12 (message6 4 (ia6 (listed6 0)))))
+        (book6 100 (bound6 700) empty)
+        ≡ replied6 (message6 7 (server_id6 ++ status6 0)) (book6 400 (bound6 700) empty) false }
+    ensures elsewhere { served part_a (delivery V6 part_a.relay 400 (relayed6 12 (message6 4 (ia6 (listed6 1)))))
+        (book6 100 (bound6 700) empty)
+        ≡ replied6 (message6 7 (server_id6 ++ status6 4)) (book6 400 (bound6 700) empty) false }
+    ensures renew { served part_a
+        (delivery V6 part_a.relay 400 (relayed6 12 (message6 5 (server_id6 ++ ia6 (listed6 1 ++ listed6 0)))))
+        (book6 100 (bound6 700) empty)
+        ≡ replied6 (message6 7 (server_id6 ++ timed_ia6 (listed6 1 ++ leased6))) (book6 400 (bound6 1000) empty) true }
+    ensures rebind { served part_a (delivery V6 part_a.relay 400 (relayed6 12 (message6 6 (ia6 (listed6 0))))) no_leases
+        ≡ replied6 (message6 7 (server_id6 ++ ia6 (status6 3))) (book6 400 empty empty) false }
+    ensures release { served part_a
+        (delivery V6 part_a.relay 400 (relayed6 12 (message6 8 (server_id6 ++ ia6 (listed6 0)))))
+        (book6 100 (bound6 700) empty) ≡ replied6 (message6 7 (server_id6 ++ status6 0)) (book6 400 empty empty) true }
+    ensures decline { served part_a
+        (delivery V6 part_a.relay 400 (relayed6 12 (message6 9 (server_id6 ++ ia6 (listed6 0)))))
+        (book6 100 (bound6 700) empty)
+        ≡ replied6 (message6 7 (server_id6 ++ status6 0)) (book6 400 empty (barred6 4000)) true }
 {}
 
 /// What a save writes of a slot: a half, byte for byte.
@@ -147,9 +189,12 @@ pub fn a_slot_is_written()
 /// with a state or a length past its limit, is damage.
 pub fn a_region_is_recovered()
     ensures bound { recovered (1 ∷ 1 ∷ []) (laid both_bound) ≡ Some (two_slots 110 (slot4.Bound (client 1) 710) (slot6.Bound client6 700)) }
-    ensures format_1 { recovered (1 ∷ 1 ∷ []) (laid both_bound_in_format_1) ≡ Some (two_slots 110 (slot4.Bound (client 1) 710) (slot6.Bound client6 700)) }
-    ensures newer { recovered (1 ∷ 1 ∷ []) (laid ((16640, free_half) ∷ both_bound)) ≡ Some (two_slots 110 slot4.Free (slot6.Bound client6 700)) }
-    ensures around { recovered (1 ∷ 1 ∷ []) (laid ((24832, barred_half) ∷ both_bound)) ≡ Some (two_slots 400 (slot4.Bound (client 1) 710) (slot6.Barred 4000)) }
+    ensures format_1 { recovered (1 ∷ 1 ∷ []) (laid both_bound_in_format_1)
+        ≡ Some (two_slots 110 (slot4.Bound (client 1) 710) (slot6.Bound client6 700)) }
+    ensures newer { recovered (1 ∷ 1 ∷ []) (laid ((16640, free_half) ∷ both_bound))
+        ≡ Some (two_slots 110 slot4.Free (slot6.Bound client6 700)) }
+    ensures around { recovered (1 ∷ 1 ∷ []) (laid ((24832, barred_half) ∷ both_bound))
+        ≡ Some (two_slots 400 (slot4.Bound (client 1) 710) (slot6.Barred 4000)) }
     ensures over { recovered (1 ∷ 1 ∷ []) (laid ((24590, 2 ∷ 198 ∷ []) ∷ both_bound)) ≡ Some (two_slots 710 slot4.Free slot6.Free) }
     ensures no_half { recovered (1 ∷ 1 ∷ []) (laid ((16384, 0 ∷ []) ∷ both_bound)) ≡ None }
     ensures state { recovered (1 ∷ 1 ∷ []) (laid ((24577, 3 ∷ []) ∷ both_bound)) ≡ None }
@@ -183,7 +228,8 @@ pub fn an_unreadable_region_closes()
 
 /// What the DHCPACK of a lease grants.
 pub fn a_lease_is_granted()
-    ensures { lines setup_a (Up 0 110 0) asked ≡ Granted4 (record { client = client 1; address = 167772170; until = 710; clock = 110 }) ∷ [] }
+    ensures { lines setup_a (Up 0 110 0) asked
+        ≡ Granted4 (record { client = client 1; address = 167772170; until = 710; clock = 110 }) ∷ [] }
 {}
 
 /// A region of format 1 comes back as one of format 2 with the same book. Where its move fails, the circuit is closed until

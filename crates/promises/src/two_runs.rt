@@ -13,8 +13,8 @@ ghost use Rattle.events.specs.declared.event.Event.{Event};
 /// is sent the same frames in both, byte for byte, whatever all other circuits send, lose, store or
 /// fill, and however often they come and go.
 pub fn isolation()
-    ensures { (c d : ℕ) (setup : Setup) (a : Alone) (events others : List Event) (start other : List CircuitState) (sent received : List CircuitFrame)
-        → AreFrames events start sent → AreFrames others other received
+    ensures { (c d : ℕ) (setup : Setup) (a : Alone) (events others : List Event) (start other : List CircuitState)
+        (sent received : List CircuitFrame) → AreFrames events start sent → AreFrames others other received
         → Represents c start setup a → Represents d other setup a → seen_from c start events ≡ seen_from d other others
         → frames_to c sent ≡ frames_to d received }
 {}
@@ -24,14 +24,15 @@ pub fn isolation()
 /// finds the same in both, and with equal lists of what it sees, is sent the same frames in both, which
 /// are those of a machine that serves this circuit alone.
 pub fn isolation_of_configurations()
-    ensures same { (c d quota : ℕ) (one two : PlansValue) (device other_device : Device) (setup : Setup) (events others : List Event) (start other : List CircuitState) (sent received : List CircuitFrame)
-        → Starts one quota device start → Starts two quota other_device other
-        → setup_in one quota c ≡ Some setup → setup_in two quota d ≡ Some setup
-        → IsReadable device setup → IsReadable other_device setup
-        → opening_in device setup ≡ opening_in other_device setup
-        → AreFrames events start sent → AreFrames others other received → seen_in one c events ≡ seen_in two d others
+    ensures same { (c d quota : ℕ) (one two : PlansValue) (device other_device : Device) (setup : Setup)
+        (events others : List Event) (start other : List CircuitState) (sent received : List CircuitFrame)
+        → Starts one quota device start → Starts two quota other_device other → setup_in one quota c ≡ Some setup
+        → setup_in two quota d ≡ Some setup → IsReadable device setup → IsReadable other_device setup
+        → opening_in device setup ≡ opening_in other_device setup → AreFrames events start sent
+        → AreFrames others other received → seen_in one c events ≡ seen_in two d others
         → frames_to c sent ≡ frames_to d received }
-    ensures alone { (c quota : ℕ) (plans : PlansValue) (device : Device) (setup : Setup) (events : List Event) (start : List CircuitState) (sent : List CircuitFrame)
-        → Starts plans quota device start → setup_in plans quota c ≡ Some setup → IsReadable device setup → AreFrames events start sent
+    ensures alone { (c quota : ℕ) (plans : PlansValue) (device : Device) (setup : Setup) (events : List Event)
+        (start : List CircuitState) (sent : List CircuitFrame) → Starts plans quota device start
+        → setup_in plans quota c ≡ Some setup → IsReadable device setup → AreFrames events start sent
         → frames_to c sent ≡ frames setup (seen_in plans c events) (opened setup (opening_in device setup)) }
 {}

@@ -54,8 +54,11 @@ pub(crate) fn relay_down4(
 ) -> Result<Dest, Discard>
     requires empty { out.old ≡ [] }
     requires fits { length (message_bytes reply.now) ≤ 1280 }
-    ensures ok { IfOk result (λ dest. frame_on_link part.now.gateway4.0 reply.now.header.giaddr (without_agent_information reply.now) ≡ Ok (record { dest = dest; bytes = out.new })) }
-    ensures err { IfErr result (λ why. frame_on_link part.now.gateway4.0 reply.now.header.giaddr (without_agent_information reply.now) ≡ Err why) }
+    ensures ok { IfOk result (λ dest.
+        frame_on_link part.now.gateway4.0 reply.now.header.giaddr (without_agent_information reply.now)
+        ≡ Ok (record { dest = dest; bytes = out.new })) }
+    ensures err { IfErr result (λ why.
+        frame_on_link part.now.gateway4.0 reply.now.header.giaddr (without_agent_information reply.now) ≡ Err why) }
     ensures empty { OnErr result (out.new ≡ []) }
 {
     if reply.giaddr() != part.gateway4() {

@@ -29,7 +29,13 @@ impl<'a> Model for Reply6<'a> {
 
     ghost Value = { AddressedFrame };
 
-    ghost view = { λ r. record { circuit_id = Some r.interface_id.now; link = r.link.0; frame = record { dest = Peer r.peer; bytes = r.message.now } } };
+    ghost view = { λ r.
+        record {
+          circuit_id = Some r.interface_id.now;
+          link = r.link.0;
+          frame = record
+              { dest = Peer r.peer; bytes = r.message.now };
+        } };
 }
 
 /// The reply that a datagram from the server is.
@@ -77,7 +83,8 @@ pub(crate) fn relay_down6(
 ) -> Result<Dest, Discard>
     requires empty { out.old ≡ [] }
     requires fits { length reply.now.frame.bytes ≤ 1280 }
-    ensures ok { IfOk result (λ dest. frame_on_link part.now.link6 reply.now.link reply.now.frame ≡ Ok (record { dest = dest; bytes = out.new })) }
+    ensures ok { IfOk result (λ dest.
+        frame_on_link part.now.link6 reply.now.link reply.now.frame ≡ Ok (record { dest = dest; bytes = out.new })) }
     ensures err { IfErr result (λ why. frame_on_link part.now.link6 reply.now.link reply.now.frame ≡ Err why) }
     ensures empty { OnErr result (out.new ≡ []) }
 {

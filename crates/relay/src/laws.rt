@@ -20,10 +20,10 @@ ghost use Rattle.relay.specs.Relays.{CircuitFrame, for_circuit, proto_of, relaye
 /// A frame for a circuit is the one that the circuit's own part makes of the datagram, in the protocol
 /// that the source decides.
 pub fn agrees()
-    ensures { (topology : Topology) (relay : ℕ) (source : Source) (proto : Proto) (datagram : List ℕ) (frame : CircuitFrame) (part : CircuitPart)
-        → proto_of topology source ≡ Some proto
-        → relayed_down_in topology relay source datagram ≡ Ok frame → slice_get topology.circuits frame.circuit ≡ Some part
-        → relayed_down part proto datagram ≡ Ok frame.frame }
+    ensures { (topology : Topology) (relay : ℕ) (source : Source) (proto : Proto) (datagram : List ℕ)
+        (frame : CircuitFrame) (part : CircuitPart) → proto_of topology source ≡ Some proto
+        → relayed_down_in topology relay source datagram ≡ Ok frame
+        → slice_get topology.circuits frame.circuit ≡ Some part → relayed_down part proto datagram ≡ Ok frame.frame }
 {}
 
 /// Where there is one circuit, which is served, its relay makes of the server's datagrams what the circuit's own part
@@ -44,11 +44,12 @@ pub fn source_decides()
 /// A DHCPv4 reply that names a circuit that is served comes down to it, by the relay behind which the circuit is, as
 /// the circuit's own part makes it, where no other circuit has this id.
 pub fn named_circuit()
-    ensures { (topology : Topology) (relay : ℕ) (source : Source) (datagram : List ℕ) (c : ℕ) (part : CircuitPart) (m : MessageValue) (suboptions : List (ℕ × List ℕ))
-        → slice_get topology.circuits c ≡ Some part → serves topology c ≡ true
+    ensures { (topology : Topology) (relay : ℕ) (source : Source) (datagram : List ℕ) (c : ℕ) (part : CircuitPart)
+        (m : MessageValue) (suboptions : List (ℕ × List ℕ)) → slice_get topology.circuits c ≡ Some part
+        → serves topology c ≡ true
         → ((d : ℕ) (other : CircuitPart) → slice_get topology.circuits d ≡ Some other → other.id ≡ part.id → d ≡ c)
-        → slice_get topology.relays relay ≡ Some part.relay → source ≡ topology.listen4
-        → message_of datagram ≡ Ok m → agent_of m ≡ Some (Ok suboptions) → is_named suboptions part ≡ true
+        → slice_get topology.relays relay ≡ Some part.relay → source ≡ topology.listen4 → message_of datagram ≡ Ok m
+        → agent_of m ≡ Some (Ok suboptions) → is_named suboptions part ≡ true
         → relayed_down_in topology relay source datagram ≡ for_circuit c (relayed_down part V4 datagram) }
 {}
 
@@ -69,8 +70,10 @@ pub fn forward_is_read()
     ensures read { (part : CircuitPart) (frame datagram : List ℕ)
         → IsPart part → relayed_up6 part frame ≡ Ok datagram
         → relay_of datagram ≡ Ok (relay_forward part (take 16 frame) (drop 16 frame)) }
-    ensures id { (part : CircuitPart) (peer message : List ℕ) → look_up INTERFACE_ID (relay_forward part peer message).options ≡ Some part.id }
-    ensures message { (part : CircuitPart) (peer message : List ℕ) → look_up RELAY_MESSAGE (relay_forward part peer message).options ≡ Some message }
+    ensures id { (part : CircuitPart) (peer message : List ℕ)
+        → look_up INTERFACE_ID (relay_forward part peer message).options ≡ Some part.id }
+    ensures message { (part : CircuitPart) (peer message : List ℕ)
+        → look_up RELAY_MESSAGE (relay_forward part peer message).options ≡ Some message }
 {
     v6_message::laws::written_relay_is_read();
 }

@@ -1,5 +1,6 @@
 //! All relays of a configuration.
-ghost use Rattle.std.specs.Prelude.{◌≡◌, ◌<◌, nat_lt, true, [], length, option_map, replicate, Ok, Err, Some, IfOk, IfErr, OnOk, OnErr, slice_get};
+ghost use Rattle.std.specs.Prelude.{◌≡◌, ◌<◌, nat_lt, true, [], length, option_map, replicate, Ok, Err, Some, IfOk};
+ghost use Rattle.std.specs.Prelude.{IfErr, OnOk, OnErr, slice_get};
 ghost use Rattle.types.specs.declared.dest.Proto.TheVariants as protocol;
 ghost use Rattle.config.specs.CircuitPart as parts;
 ghost use Rattle.config.specs.Membership.{has};
@@ -85,8 +86,11 @@ impl Relays {
     ) -> Result<(), Discard>
         requires exists { circuit < length self.old.topology.circuits }
         requires served { serves self.old.topology circuit ≡ true }
-        ensures ok { OnOk result ((part : parts.CircuitPart) → slice_get self.old.topology.circuits circuit ≡ Some part → relayed_up part proto frame.now ≡ Ok out.new) }
-        ensures err { IfErr result (λ why. (part : parts.CircuitPart) → slice_get self.old.topology.circuits circuit ≡ Some part → relayed_up part proto frame.now ≡ Err why) }
+        ensures ok { OnOk result ((part : parts.CircuitPart) → slice_get self.old.topology.circuits circuit ≡ Some part
+            → relayed_up part proto frame.now ≡ Ok out.new) }
+        ensures err { IfErr result (λ why.
+            (part : parts.CircuitPart) → slice_get self.old.topology.circuits circuit ≡ Some part
+            → relayed_up part proto frame.now ≡ Err why) }
         ensures empty { OnErr result (out.new ≡ []) }
         ensures kept { OnOk result (self.new ≡ self.old) }
         ensures counted { OnErr result (self.new ≡ record self.old { discarded = one_more circuit self.old.discarded }) }
@@ -120,7 +124,9 @@ impl Relays {
         out: &mut PacketBuf,
     ) -> Result<(Circuit, Dest), Discard>
         requires { relay < length self.now.topology.relays }
-        ensures ok { IfOk result (λ sent. relayed_down_in self.now.topology relay source bytes.now ≡ Ok (record { circuit = sent.0; frame = record { dest = sent.1; bytes = out.new } })) }
+        ensures ok { IfOk result (λ sent.
+            relayed_down_in self.now.topology relay source bytes.now
+            ≡ Ok (record { circuit = sent.0; frame = record { dest = sent.1; bytes = out.new } })) }
         ensures err { IfErr result (λ why. relayed_down_in self.now.topology relay source bytes.now ≡ Err why) }
         ensures empty { OnErr result (out.new ≡ []) }
         ensures exists { IfOk result (λ sent. sent.0 < length self.now.topology.circuits) }
@@ -144,7 +150,9 @@ impl Relays {
     ) -> Result<(Circuit, Dest), Discard>
         requires relay { relay < length self.now.topology.relays }
         requires empty { out.old ≡ [] }
-        ensures ok { IfOk result (λ sent. relayed_down_from self.now.topology relay protocol.V4 datagram.now ≡ Ok (record { circuit = sent.0; frame = record { dest = sent.1; bytes = out.new } })) }
+        ensures ok { IfOk result (λ sent.
+            relayed_down_from self.now.topology relay protocol.V4 datagram.now
+            ≡ Ok (record { circuit = sent.0; frame = record { dest = sent.1; bytes = out.new } })) }
         ensures err { IfErr result (λ why. relayed_down_from self.now.topology relay protocol.V4 datagram.now ≡ Err why) }
         ensures empty { OnErr result (out.new ≡ []) }
         ensures exists { IfOk result (λ sent. sent.0 < length self.now.topology.circuits) }
@@ -165,7 +173,9 @@ impl Relays {
     ) -> Result<(Circuit, Dest), Discard>
         requires relay { relay < length self.now.topology.relays }
         requires empty { out.old ≡ [] }
-        ensures ok { IfOk result (λ sent. relayed_down_from self.now.topology relay protocol.V6 datagram.now ≡ Ok (record { circuit = sent.0; frame = record { dest = sent.1; bytes = out.new } })) }
+        ensures ok { IfOk result (λ sent.
+            relayed_down_from self.now.topology relay protocol.V6 datagram.now
+            ≡ Ok (record { circuit = sent.0; frame = record { dest = sent.1; bytes = out.new } })) }
         ensures err { IfErr result (λ why. relayed_down_from self.now.topology relay protocol.V6 datagram.now ≡ Err why) }
         ensures empty { OnErr result (out.new ≡ []) }
         ensures exists { IfOk result (λ sent. sent.0 < length self.now.topology.circuits) }
@@ -180,7 +190,9 @@ impl Relays {
     /// The circuit with exactly this id, which has to be one of this relay's.
     fn own_circuit(&self, relay: RelayNo, id: Option<&[u8]>) -> Result<Circuit, Discard>
         requires { relay < length self.now.topology.relays }
-        ensures ok { IfOk result (λ circuit. (part : parts.CircuitPart) → slice_get self.now.topology.circuits circuit ≡ Some part → own_circuit self.now.topology relay (option_map (λ bytes. bytes.now) id.entry) ≡ Ok (circuit, part)) }
+        ensures ok { IfOk result (λ circuit.
+            (part : parts.CircuitPart) → slice_get self.now.topology.circuits circuit ≡ Some part
+            → own_circuit self.now.topology relay (option_map (λ bytes. bytes.now) id.entry) ≡ Ok (circuit, part)) }
         ensures err { IfErr result (λ why. own_circuit self.now.topology relay (option_map (λ bytes. bytes.now) id.entry) ≡ Err why) }
         ensures exists { IfOk result (λ circuit. circuit < length self.now.topology.circuits) }
     {
@@ -225,7 +237,8 @@ impl Relays {
     /// The index of a circuit's relay.
     pub fn relay_no(&self, circuit: Circuit) -> RelayNo
         requires { circuit < length self.now.topology.circuits }
-        ensures { (part : parts.CircuitPart) → slice_get self.now.topology.circuits circuit ≡ Some part → slice_get self.now.topology.relays result ≡ Some part.relay }
+        ensures { (part : parts.CircuitPart) → slice_get self.now.topology.circuits circuit ≡ Some part
+            → slice_get self.now.topology.relays result ≡ Some part.relay }
     {
         self.circuits.relay_no(circuit)
     }

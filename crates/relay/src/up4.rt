@@ -44,7 +44,8 @@ pub(crate) fn relay_up4(
 
 /// Why a client's message is not relayed: the first rule that applies.
 fn refusal(message: &Message<'_>) -> Option<Discard>
-    ensures none { IfNone result ((part : parts.CircuitPart) → message_relayed_up part (Ok message.now) ≡ Ok (message_bytes (with_agent_information part message.now))) }
+    ensures none { IfNone result ((part : parts.CircuitPart)
+        → message_relayed_up part (Ok message.now) ≡ Ok (message_bytes (with_agent_information part message.now))) }
     ensures some { IfSome result (λ why. (part : parts.CircuitPart) → message_relayed_up part (Ok message.now) ≡ Err why) }
     ensures hops { IfNone result (message.now.header.hops < 16) }
 {

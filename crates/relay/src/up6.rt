@@ -45,7 +45,8 @@ pub(crate) fn relay_up6(
 /// Why a client's message is not relayed: the first rule that applies.
 fn refusal(message: &[u8]) -> Option<Discard>
     requires { 4 ≤ length message.now }
-    ensures none { IfNone result ((part : parts.CircuitPart) (peer : List ℕ) → message_relayed_up6 part peer message.now ≡ Ok (relay_bytes (relay_forward part peer message.now))) }
+    ensures none { IfNone result ((part : parts.CircuitPart) (peer : List ℕ)
+        → message_relayed_up6 part peer message.now ≡ Ok (relay_bytes (relay_forward part peer message.now))) }
     ensures some { IfSome result (λ why. (part : parts.CircuitPart) (peer : List ℕ) → message_relayed_up6 part peer message.now ≡ Err why) }
 {
     let kind = message[0];

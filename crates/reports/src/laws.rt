@@ -13,7 +13,8 @@ ghost use Rattle.reports.specs.Used.{is_full4, is_full6, is_used4, is_used6};
 /// Over any looks, what was not so before the first one is told once where it is so at one of them, and else never; what
 /// was so before is never told.
 pub fn tells_once()
-    ensures new { (looks : List Bool) → count_by (λ told. told) (told_at (once false) looks) ≡ (if list_any (λ is_so. is_so) looks then 1 else 0) }
+    ensures new { (looks : List Bool)
+        → count_by (λ told. told) (told_at (once false) looks) ≡ (if list_any (λ is_so. is_so) looks then 1 else 0) }
     ensures old { (looks : List Bool) → count_by (λ told. told) (told_at (once true) looks) ≡ 0 }
 {}
 
@@ -31,5 +32,6 @@ pub fn bars_are_counted_once()
 /// After the first look, and after each report, the next report comes at the first look that is so many seconds later.
 pub fn reports_keep_their_distance()
     ensures first { (every now later : ℕ) → 0 < every → is_due (looked_at (no_report_yet every) now) later ≡ nat_le (now + every) later }
-    ensures next { (schedule : Schedule) (now later : ℕ) → is_due schedule now ≡ true → is_due (looked_at schedule now) later ≡ nat_le (now + schedule.every) later }
+    ensures next { (schedule : Schedule) (now later : ℕ) → is_due schedule now ≡ true
+        → is_due (looked_at schedule now) later ≡ nat_le (now + schedule.every) later }
 {}

@@ -45,7 +45,9 @@ fn client_request(
     kind: Kind6,
     message: &Message6<'_>,
 ) -> Result<Request6, Discard>
-    ensures { result ≡ client_request part.now.duid kind message.now (look_up CLIENT_ID message.now.options) (option_and_then ia_of (look_up IA_NA message.now.options)) }
+    ensures { result
+        ≡ client_request part.now.duid kind message.now (look_up CLIENT_ID message.now.options)
+        (option_and_then ia_of (look_up IA_NA message.now.options)) }
 {
     let ia = message.ia();
     let Some(client) = message.client_id() else {

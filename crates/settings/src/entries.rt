@@ -112,7 +112,9 @@ pub fn circuit_of(table: &Table, relays: &[RelayConfig]) -> Result<CircuitConfig
 /// The first address of a circuit's DHCPv4 pool and how many it has.
 fn pool4_of(table: &Table) -> Result<(Addr4, u8), CircuitLimit>
     requires { IsThere (circuit_keys (table_view table.now)).count4 }
-    ensures ok { IfOk result (λ p. HasValue (circuit_keys (table_view table.now)).first4 (λ text. IsAddress text p.0) × IsNumber (circuit_keys (table_view table.now)).count4 1 16 p.1 × (number4 p.0 + p.1 ≤ 2 ^ 32)) }
+    ensures ok { IfOk result (λ p.
+        HasValue (circuit_keys (table_view table.now)).first4 (λ text. IsAddress text p.0)
+        × IsNumber (circuit_keys (table_view table.now)).count4 1 16 p.1 × (number4 p.0 + p.1 ≤ 2 ^ 32)) }
     ensures err { IfErr result (IsCircuitUnfit (circuit_keys (table_view table.now))) }
 {
     let first = formed!(address_at, table, First4);
@@ -126,7 +128,9 @@ fn pool4_of(table: &Table) -> Result<(Addr4, u8), CircuitLimit>
 /// The first address of a circuit's DHCPv6 pool and how many it has.
 fn pool6_of(table: &Table) -> Result<(Addr6, u8), CircuitLimit>
     requires { IsThere (circuit_keys (table_view table.now)).count6 }
-    ensures ok { IfOk result (λ p. HasValue (circuit_keys (table_view table.now)).first6 (λ text. IsAddress6 text p.0) × IsNumber (circuit_keys (table_view table.now)).count6 1 16 p.1 × (number6 p.0 + p.1 ≤ 2 ^ 128)) }
+    ensures ok { IfOk result (λ p.
+        HasValue (circuit_keys (table_view table.now)).first6 (λ text. IsAddress6 text p.0)
+        × IsNumber (circuit_keys (table_view table.now)).count6 1 16 p.1 × (number6 p.0 + p.1 ≤ 2 ^ 128)) }
     ensures err { IfErr result (IsCircuitUnfit (circuit_keys (table_view table.now))) }
 {
     let first = formed!(address6_at, table, First6);

@@ -112,7 +112,9 @@ fn has_dns(circuit: &Table) -> bool
 
 /// Whether the circuit names a relay.
 fn has_relay(circuit: &Table, relays: &[Value]) -> bool
-    ensures { IsTrue result ↔ HasValue (circuit_keys (table_view circuit.now)).relay (IsRelayName (each relay_entry (items_view relays.now))) }
+    ensures { IsTrue result
+        ↔ HasValue (circuit_keys (table_view circuit.now)).relay
+        (IsRelayName (each relay_entry (items_view relays.now))) }
 {
     match text_at(circuit, CircuitKey::Relay) {
         Some(name) => is_relay_name(relays, name),
@@ -123,7 +125,8 @@ fn has_relay(circuit: &Table, relays: &[Value]) -> bool
 /// A key of a circuit that is missing or of the wrong type, or `relay` if that names none.
 fn circuit_lacks(circuit: &Table, relays: &[Value]) -> Option<CircuitKey>
     ensures none { IsNone result ↔ HasCircuitKeys (each relay_entry (items_view relays.now)) (circuit_keys (table_view circuit.now)) }
-    ensures some { IfSome result (λ key. ¬ HasCircuitKey (each relay_entry (items_view relays.now)) (circuit_keys (table_view circuit.now)) key) }
+    ensures some { IfSome result (λ key.
+        ¬ HasCircuitKey (each relay_entry (items_view relays.now)) (circuit_keys (table_view circuit.now)) key) }
 {
     lacks!(circuit, CircuitKey::Id, text_at);
     if !has_relay(circuit, relays) {
@@ -146,8 +149,11 @@ fn circuit_lacks(circuit: &Table, relays: &[Value]) -> Option<CircuitKey>
 
 /// A missing key of an entry in the array of circuits: `id` if the entry is not a table.
 fn circuit_entry_lacks(entry: &Value, relays: &[Value]) -> Option<CircuitKey>
-    ensures none { IsNone result ↔ HasValue (circuit_entry (Some (view entry.now))) (HasCircuitKeys (each relay_entry (items_view relays.now))) }
-    ensures some { IfSome result (λ key. ¬ HasValue (circuit_entry (Some (view entry.now))) (λ keys. HasCircuitKey (each relay_entry (items_view relays.now)) keys key)) }
+    ensures none { IsNone result
+        ↔ HasValue (circuit_entry (Some (view entry.now))) (HasCircuitKeys (each relay_entry (items_view relays.now))) }
+    ensures some { IfSome result (λ key.
+        ¬ HasValue (circuit_entry (Some (view entry.now))) (λ keys.
+        HasCircuitKey (each relay_entry (items_view relays.now)) keys key)) }
 {
     match entry.as_table() {
         Some(circuit) => circuit_lacks(circuit, relays),
@@ -168,8 +174,11 @@ pub fn entry_id(entry: &Value) -> Option<CircuitId>
 
 /// A circuit that lacks a key, and the key.
 pub fn circuits_lack(entries: &[Value], relays: &[Value]) -> Option<(CircuitRef, CircuitKey)>
-    ensures none { IsNone result ↔ AllThere (HasCircuitKeys (each relay_entry (items_view relays.now))) (each circuit_entry (items_view entries.now)) }
-    ensures some { IfSome result (λ r. CircuitLacks (each relay_entry (items_view relays.now)) (each circuit_entry (items_view entries.now)) r.0 r.1) }
+    ensures none { IsNone result
+        ↔ AllThere (HasCircuitKeys (each relay_entry (items_view relays.now)))
+        (each circuit_entry (items_view entries.now)) }
+    ensures some { IfSome result (λ r.
+        CircuitLacks (each relay_entry (items_view relays.now)) (each circuit_entry (items_view entries.now)) r.0 r.1) }
 {
     for (i, entry) in entries.iter().enumerate() {
         if let Some(key) = circuit_entry_lacks(entry, relays) {

@@ -18,7 +18,8 @@ use types::{Addr4, MAX_DUID, MIN_DUID, RelayNo};
 /// The DUID at a key.
 pub fn duid_at<K: Key>(table: &Table, key: K) -> Option<ArrayVec<u8, MAX_DUID>>
     ensures some { IfSome result (λ duid. HasValue (text_at (K.spelling key) (table_view table.now)) (λ text. IsDuid text duid.items)) }
-    ensures none { IfNone result ((duid : List ℕ) → ¬ HasValue (text_at (K.spelling key) (table_view table.now)) (λ text. IsDuid text duid)) }
+    ensures none { IfNone result
+        ((duid : List ℕ) → ¬ HasValue (text_at (K.spelling key) (table_view table.now)) (λ text. IsDuid text duid)) }
 {
     match text_at(table, key) {
         Some(text) => duid(text),
@@ -50,7 +51,8 @@ fn duid(text: &str) -> Option<ArrayVec<u8, MAX_DUID>>
 fn addresses(texts: &[Value]) -> Option<ArrayVec<Addr4, MAX_DNS>>
     ensures some { IfSome result (λ found. AreAddresses (each text_of (items_view texts.now)) found.items) }
     ensures few { IfSome result (λ found. length found.items ≤ MAX_DNS) }
-    ensures none { IfNone result ((found : List Addr4) → length found ≤ MAX_DNS → ¬ AreAddresses (each text_of (items_view texts.now)) found) }
+    ensures none { IfNone result
+        ((found : List Addr4) → length found ≤ MAX_DNS → ¬ AreAddresses (each text_of (items_view texts.now)) found) }
 {
     let mut found = ArrayVec::new();
     for entry in texts {
@@ -78,9 +80,13 @@ fn address_of(entry: &Value) -> Option<Addr4>
 
 /// The name servers at a key.
 pub fn addresses_at<K: Key>(table: &Table, key: K) -> Option<ArrayVec<Addr4, MAX_DNS>>
-    ensures some { IfSome result (λ found. HasValue (field_map (each text_of) (list_at (K.spelling key) (table_view table.now))) (λ texts. AreAddresses texts found.items)) }
+    ensures some { IfSome result (λ found.
+        HasValue (field_map (each text_of) (list_at (K.spelling key) (table_view table.now))) (λ texts.
+        AreAddresses texts found.items)) }
     ensures few { IfSome result (λ found. length found.items ≤ MAX_DNS) }
-    ensures none { IfNone result ((found : List Addr4) → length found ≤ MAX_DNS → ¬ HasValue (field_map (each text_of) (list_at (K.spelling key) (table_view table.now))) (λ texts. AreAddresses texts found)) }
+    ensures none { IfNone result ((found : List Addr4) → length found ≤ MAX_DNS
+        → ¬ HasValue (field_map (each text_of) (list_at (K.spelling key) (table_view table.now))) (λ texts.
+        AreAddresses texts found)) }
 {
     match list_at(table, key) {
         Some(texts) => addresses(texts),
@@ -91,7 +97,8 @@ pub fn addresses_at<K: Key>(table: &Table, key: K) -> Option<ArrayVec<Addr4, MAX
 /// The first relay with the name at a key.
 pub fn relay_at<K: Key>(table: &Table, key: K, relays: &[RelayConfig]) -> Option<RelayNo>
     ensures some { IfSome result (λ n. HasValue (text_at (K.spelling key) (table_view table.now)) (IsNameAt relays.now n)) }
-    ensures none { IfNone result ((n : ℕ) → n < MAX_RELAYS → ¬ HasValue (text_at (K.spelling key) (table_view table.now)) (IsNameAt relays.now n)) }
+    ensures none { IfNone result ((n : ℕ) → n < MAX_RELAYS
+        → ¬ HasValue (text_at (K.spelling key) (table_view table.now)) (IsNameAt relays.now n)) }
 {
     match text_at(table, key) {
         Some(name) => relay_named(relays, name),

@@ -32,7 +32,9 @@ pub struct TextTables<'a> {
 
 /// The tables of a text, or the location of a table or key that is missing or of the wrong type.
 pub fn tables_in<'a>(doc: &'a Table) -> Result<TextTables<'a>, Location>
-    ensures tables { IfOk result (λ f. tables_of (table_view doc.now) ≡ found_tables (table_view f.server.now) (items_view f.relays.now) (items_view f.circuits.now)) }
+    ensures tables { IfOk result (λ f.
+        tables_of (table_view doc.now)
+        ≡ found_tables (table_view f.server.now) (items_view f.relays.now) (items_view f.circuits.now)) }
     ensures all { IfOk result (λ _. HasAll (tables_of (table_view doc.now))) }
     ensures lacks { IfErr result (IsMissing (tables_of (table_view doc.now))) }
 {
@@ -86,7 +88,8 @@ fn relay_in(entry: &Value) -> Result<RelayConfig, RelayKey>
 /// The values of an entry in the array of circuits, or what is wrong with one of them.
 fn circuit_in(entry: &Value, relays: &[RelayConfig]) -> Result<CircuitConfig, CircuitLimit>
     requires few { length relays.now ≤ 8 }
-    requires keys { (names : List (Field RelayKeys)) × EachReads IsRelay names relays.now × HasValue (circuit_entry (Some (view entry.now))) (HasCircuitKeys names) }
+    requires keys { (names : List (Field RelayKeys)) × EachReads IsRelay names relays.now
+        × HasValue (circuit_entry (Some (view entry.now))) (HasCircuitKeys names) }
     ensures ok { IfOk result (λ circuit. HasValue (circuit_entry (Some (view entry.now))) (λ keys. IsCircuit relays.now keys circuit)) }
     ensures err { IfErr result (λ limit. HasValue (circuit_entry (Some (view entry.now))) (λ keys. IsCircuitUnfit keys limit)) }
 {
@@ -102,7 +105,9 @@ fn relays_in(alloc: Global, entries: &[Value]) -> Result<Vec<RelayConfig>, Confi
     ensures read { IfOk result (λ relays. EachReads IsRelay (each relay_entry (items_view entries.now)) relays.items) }
     ensures some { IfOk result (λ relays. 1 ≤ length relays.items) }
     ensures few { IfOk result (λ relays. length relays.items ≤ 8) }
-    ensures unread { IfErr result (λ fault. (server : Members) (circuits : Items) → IsUnread (found_tables server (items_view entries.now) circuits) fault) }
+    ensures unread { IfErr result (λ fault.
+        (server : Members) (circuits : Items)
+        → IsUnread (found_tables server (items_view entries.now) circuits) fault) }
 {
     let count = entries.len();
     if count < 1 || MAX_RELAYS < count {
@@ -130,11 +135,13 @@ fn circuits_in(
     relays: &[RelayConfig],
 ) -> Result<Vec<CircuitConfig>, ConfigFault>
     requires few { length relays.now ≤ 8 }
-    requires keys { (names : List (Field RelayKeys)) × EachReads IsRelay names relays.now × AllThere (HasCircuitKeys names) (each circuit_entry (items_view entries.now)) }
+    requires keys { (names : List (Field RelayKeys)) × EachReads IsRelay names relays.now
+        × AllThere (HasCircuitKeys names) (each circuit_entry (items_view entries.now)) }
     ensures read { IfOk result (λ circuits. EachReads (IsCircuit relays.now) (each circuit_entry (items_view entries.now)) circuits.items) }
     ensures some { IfOk result (λ circuits. 1 ≤ length circuits.items) }
     ensures few { IfOk result (λ circuits. length circuits.items ≤ 1024) }
-    ensures unread { IfErr result (λ fault. (server : Members) (names : Items) → IsUnread (found_tables server names (items_view entries.now)) fault) }
+    ensures unread { IfErr result (λ fault.
+        (server : Members) (names : Items) → IsUnread (found_tables server names (items_view entries.now)) fault) }
 {
     let count = entries.len();
     if count < 1 || MAX_CIRCUITS < count {
@@ -169,7 +176,9 @@ pub fn values_in(
     circuits: &[Value],
 ) -> Result<Values, ConfigFault>
     requires { HasAll (found_tables (table_view server.now) (items_view relays.now) (items_view circuits.now)) }
-    ensures read { IfOk result (λ v. IsRead (found_tables (table_view server.now) (items_view relays.now) (items_view circuits.now)) (record { server = v.server; relays = v.relays.items; circuits = v.circuits.items })) }
+    ensures read { IfOk result (λ v.
+        IsRead (found_tables (table_view server.now) (items_view relays.now) (items_view circuits.now))
+        (record { server = v.server; relays = v.relays.items; circuits = v.circuits.items })) }
     ensures server { IfOk result (λ v. IsServerWithinLimits v.server) }
     ensures relays { IfOk result (λ v. All IsRelayWithinLimits v.relays.items) }
     ensures circuits { IfOk result (λ v. All (IsWithinLimits v.relays.items) v.circuits.items) }

@@ -77,7 +77,8 @@ pub fn id_at<K: Key>(table: &Table, key: K) -> Option<CircuitId>
 /// The name of a relay at a key.
 pub fn name_at<K: Key>(table: &Table, key: K) -> Option<ArrayVec<u8, MAX_NAME>>
     ensures some { IfSome result (λ name. HasValue (text_at (K.spelling key) (table_view table.now)) (λ text. IsName text name.items)) }
-    ensures none { IfNone result ((name : List ℕ) → ¬ HasValue (text_at (K.spelling key) (table_view table.now)) (λ text. IsName text name)) }
+    ensures none { IfNone result
+        ((name : List ℕ) → ¬ HasValue (text_at (K.spelling key) (table_view table.now)) (λ text. IsName text name)) }
 {
     let Some(text) = text_at(table, key) else {
         return None;

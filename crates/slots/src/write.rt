@@ -45,7 +45,8 @@ fn vacate_client<K: Copy + PartialEq>(slots: &mut [Option<Holder<K>>], used: usi
 fn vacate_other<K: SlotKey>(slots: &mut [Option<Holder<K>>], used: usize, next: usize, client: &K)
     requires used { IsUsed used slots.old }
     requires distinct { AreDistinct K.eq slots.old }
-    ensures { (holder : Option (Holder K)) → slice_set slots.new next holder ≡ slice_set (without_client K.eq client.now slots.old) next holder }
+    ensures { (holder : Option (Holder K))
+        → slice_set slots.new next holder ≡ slice_set (without_client K.eq client.now slots.old) next holder }
 {
     if next < slots.len() && is_clients(&slots[next], client) {
         return;

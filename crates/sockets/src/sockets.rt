@@ -2,7 +2,9 @@
 ghost use Rattle.std.specs.Prelude.{◌≡◌, ◌≤◌, ◌<◌, ◌+◌, ◌*◌, length, map, All, Some, slice_get, option_map, IfOk, IfErr};
 ghost use Rattle.config.specs.CircuitPart.{CircuitPart, part_in, parts_of};
 ghost use Rattle.config.specs.Topology.{topology_of};
-ghost use Rattle.sockets.specs.Sockets.{AreBound, AreCircuitSockets, AreOwnSockets, AreRelaySockets, IsBound, IsCircuitSocket, IsRelaySocket, IsSocket, Refuses, WasRefused, client_port, local_port};
+ghost use Rattle.sockets.specs.Sockets.{AreBound, AreCircuitSockets, AreOwnSockets, AreRelaySockets, IsBound};
+ghost use Rattle.sockets.specs.Sockets.{IsCircuitSocket, IsRelaySocket, IsSocket, Refuses, WasRefused, client_port};
+ghost use Rattle.sockets.specs.Sockets.{local_port};
 
 use config::Config;
 use std::alloc::Global;
@@ -115,11 +117,17 @@ impl CircuitSockets {
         requires index { index < length config.now.circuits }
         requires most { port ≤ 65472 }
         ensures behind { IfOk result (λ circuit. circuit.relay < length config.now.relays) }
-        ensures relay { IfOk result (λ circuit. option_map (λ values. values.relay) (slice_get config.now.circuits index) ≡ Some circuit.relay) }
-        ensures own { IfOk result (λ circuit. (part : CircuitPart) → part_in config.now index ≡ Some part → AreCircuitSockets (map (λ relay. relay.source) config.now.relays) port history.old.id index part circuit) }
+        ensures relay { IfOk result (λ circuit.
+            option_map (λ values. values.relay) (slice_get config.now.circuits index) ≡ Some circuit.relay) }
+        ensures own { IfOk result (λ circuit.
+            (part : CircuitPart) → part_in config.now index ≡ Some part
+            → AreCircuitSockets (map (λ relay. relay.source) config.now.relays) port history.old.id index part
+            circuit) }
         ensures same { history.new.id ≡ history.old.id }
         ensures silent { IfOk result (λ _. history.new.entries ≡ history.old.entries) }
-        ensures refused { IfErr result (Refuses (λ at. IsCircuitSocket (length config.now.circuits) port at × WasRefused history.old.entries history.new.entries at)) }
+        ensures refused { IfErr result (Refuses (λ at.
+            IsCircuitSocket (length config.now.circuits) port at
+            × WasRefused history.old.entries history.new.entries at)) }
     {
         let circuit = Circuit::at(index);
         let relay = config.at(circuit).relay.index();
@@ -163,10 +171,13 @@ fn bind_circuits<R: Net>(
     requires most { port ≤ 65472 }
     ensures count { IfOk result (λ circuits. length circuits.items ≡ length config.now.circuits) }
     ensures behind { IfOk result (λ circuits. All (λ circuit. circuit.relay < length config.now.relays) circuits.items) }
-    ensures own { IfOk result (λ circuits. AreOwnSockets (map (λ relay. relay.source) config.now.relays) port history.old.id (parts_of config.now) circuits.items) }
+    ensures own { IfOk result (λ circuits.
+        AreOwnSockets (map (λ relay. relay.source) config.now.relays) port history.old.id (parts_of config.now)
+        circuits.items) }
     ensures same { history.new.id ≡ history.old.id }
     ensures silent { IfOk result (λ _. history.new.entries ≡ history.old.entries) }
-    ensures refused { IfErr result (Refuses (λ at. IsCircuitSocket (length config.now.circuits) port at × WasRefused history.old.entries history.new.entries at)) }
+    ensures refused { IfErr result (Refuses (λ at.
+        IsCircuitSocket (length config.now.circuits) port at × WasRefused history.old.entries history.new.entries at)) }
 {
     let Ok(mut circuits) = Vec::with_capacity(alloc, config.circuit_count()) else {
         return Err(SocketFault::Memory);
@@ -191,7 +202,8 @@ fn bind_relays<R: Net>(
     ensures own { IfOk result (λ relays. AreRelaySockets (map (λ relay. relay.source) config.now.relays) history.old.id relays.items) }
     ensures same { history.new.id ≡ history.old.id }
     ensures silent { IfOk result (λ _. history.new.entries ≡ history.old.entries) }
-    ensures refused { IfErr result (Refuses (λ at. IsRelaySocket config.now.relays at × WasRefused history.old.entries history.new.entries at)) }
+    ensures refused { IfErr result
+        (Refuses (λ at. IsRelaySocket config.now.relays at × WasRefused history.old.entries history.new.entries at)) }
 {
     let Ok(mut relays) = Vec::with_capacity(alloc, config.relay_count()) else {
         return Err(SocketFault::Memory);
@@ -237,7 +249,8 @@ impl Sockets {
         ensures bound { IfOk result (AreBound (topology_of config.now) port history.old.id) }
         ensures same { history.new.id ≡ history.old.id }
         ensures silent { IfOk result (λ _. history.new.entries ≡ history.old.entries) }
-        ensures refused { IfErr result (Refuses (λ at. IsSocket config.now port at × WasRefused history.old.entries history.new.entries at)) }
+        ensures refused { IfErr result
+            (Refuses (λ at. IsSocket config.now port at × WasRefused history.old.entries history.new.entries at)) }
     {
         let server = config.server();
         let (role4, role6) = (Role::Server(Proto::V4), Role::Server(Proto::V6));

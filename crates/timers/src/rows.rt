@@ -1,5 +1,6 @@
 //! Numbers in rows of eight, below a tree of the least of each row.
-ghost use Rattle.std.specs.Prelude.{◌≡◌, ◌*◌, ◌^◌, ◌<◌, ◌≤◌, length, replicate, slice_index, slice_set, EachIndex, SomeIndex, IfOk, IfSome, IfNone};
+ghost use Rattle.std.specs.Prelude.{◌≡◌, ◌*◌, ◌^◌, ◌<◌, ◌≤◌, length, replicate, slice_index, slice_set, EachIndex};
+ghost use Rattle.std.specs.Prelude.{SomeIndex, IfOk, IfSome, IfNone};
 ghost use Rattle.timers.specs.Rows.{IsLeast, row_of};
 
 use crate::tree::Tree;

@@ -1,5 +1,6 @@
 //! Numbers in a tree, so that the least is always known.
-ghost use Rattle.std.specs.Prelude.{◌≡◌, ◌*◌, ◌/◌, ◌^◌, ◌<◌, ◌≤◌, drop, length, replicate, slice_index, slice_set, EachIndex, IfOk, IfSome, IfNone};
+ghost use Rattle.std.specs.Prelude.{◌≡◌, ◌*◌, ◌/◌, ◌^◌, ◌<◌, ◌≤◌, drop, length, replicate, slice_index, slice_set};
+ghost use Rattle.std.specs.Prelude.{EachIndex, IfOk, IfSome, IfNone};
 ghost use Rattle.timers.specs.Tree.{AreLesser, AreLesserBut};
 
 use std::alloc::{AllocError, Global};

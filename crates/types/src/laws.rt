@@ -1,6 +1,7 @@
 //! The limits as the numbers that contracts state: functions that do nothing, for their contracts.
 ghost use Rattle.std.specs.Prelude.{◌≡◌};
-ghost use Rattle.types.specs.declared.limits.TheConstants.{MAX_CIRCUITS, MAX_RELAYS, MAX_FRAME, MAX_DATAGRAM, MIN_DUID, MAX_DUID, MAX_REGION, SLOTS, FIRST_SLOT6, MAX_BATCH};
+ghost use Rattle.types.specs.declared.limits.TheConstants.{MAX_CIRCUITS, MAX_RELAYS, MAX_FRAME, MAX_DATAGRAM, MIN_DUID};
+ghost use Rattle.types.specs.declared.limits.TheConstants.{MAX_DUID, MAX_REGION, SLOTS, FIRST_SLOT6, MAX_BATCH};
 
 /// The limits as the numbers that contracts state.
 pub fn limit_values()

@@ -159,7 +159,9 @@ impl DatagramSocket {
         history: &mut History,
     ) -> bool
         ensures same { history.new.id ≡ history.old.id }
-        ensures idle { result ≡ true → history.new.entries ≡ with_entry (Empty other.now.role) (with_entry (Empty self.now.role) history.old.entries) }
+        ensures idle { result ≡ true
+            → history.new.entries
+            ≡ with_entry (Empty other.now.role) (with_entry (Empty self.now.role) history.old.entries) }
         ensures unknown { result ≡ false → history.new ≡ history.old }
     {
         let are_idle = !waiter.is_ready(self.bit | other.bit);

@@ -27,8 +27,10 @@ pub fn exact_reading()
 
 /// A message that was written reads back as the same message, whatever bytes follow it.
 pub fn written_is_read()
-    ensures read { (m : MessageValue) (rest : List ℕ) → IsSized m.header → IsValid m → AreOptions m.options → message_of (message_bytes m ++ rest) ≡ Ok m }
-    ensures spelled { (m : MessageValue) (rest : List ℕ) → IsSized m.header → IsValid m → AreOptions m.options → Spells (message_bytes m ++ rest) m }
+    ensures read { (m : MessageValue) (rest : List ℕ) → IsSized m.header → IsValid m → AreOptions m.options
+        → message_of (message_bytes m ++ rest) ≡ Ok m }
+    ensures spelled { (m : MessageValue) (rest : List ℕ) → IsSized m.header → IsValid m → AreOptions m.options
+        → Spells (message_bytes m ++ rest) m }
 {}
 
 /// Bytes spell at most one message, have at most one fault, and never both. The options of a spelled

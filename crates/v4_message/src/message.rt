@@ -1,7 +1,9 @@
 //! Whole messages (RFC 2131, section 2).
-ghost use Rattle.std.specs.Prelude.{◌≡◌, ◌≤◌, ◌<◌, ◌+◌, ◌↔◌, [], ◌∷◌, ◌++◌, ◌==◌, ◌||◌, length, Some, Ok, Err, IsOk, OnOk, OnErr, IfSome, option_map};
+ghost use Rattle.std.specs.Prelude.{◌≡◌, ◌≤◌, ◌<◌, ◌+◌, ◌↔◌, [], ◌∷◌, ◌++◌, ◌==◌, ◌||◌, length, Some, Ok, Err, IsOk};
+ghost use Rattle.std.specs.Prelude.{OnOk, OnErr, IfSome, option_map};
 ghost use Rattle.types.specs.Kind4.{code_of_kind};
-ghost use Rattle.v4_options.specs.Codes.{REQUESTED_ADDRESS, OPTION_OVERLOAD, MESSAGE_TYPE, SERVER_IDENTIFIER, CLIENT_IDENTIFIER, RELAY_AGENT_INFORMATION};
+ghost use Rattle.v4_options.specs.Codes.{REQUESTED_ADDRESS, OPTION_OVERLOAD, MESSAGE_TYPE, SERVER_IDENTIFIER};
+ghost use Rattle.v4_options.specs.Codes.{CLIENT_IDENTIFIER, RELAY_AGENT_INFORMATION};
 ghost use Rattle.v4_options.specs.Spelling.{look_up};
 ghost use Rattle.v4_message.specs.Header.{IsSized, header_bytes};
 ghost use Rattle.v4_message.specs.Layout.{MAGIC_COOKIE};
@@ -190,7 +192,8 @@ impl<'a> Message<'a> {
         out: &mut PacketBuf,
     ) -> Result<(), Full>
         ensures full { IsOk result ↔ (length out.old + 240 ≤ 1280) }
-        ensures ok { OnOk result (out.new ≡ out.old ++ (header_bytes (record self.now.header { hops = hops; giaddr = giaddr.0 }) ++ MAGIC_COOKIE)) }
+        ensures ok { OnOk result (out.new
+            ≡ out.old ++ (header_bytes (record self.now.header { hops = hops; giaddr = giaddr.0 }) ++ MAGIC_COOKIE)) }
         ensures err { OnErr result (out.new ≡ []) }
         ensures sized { IsSized self.now.header }
     {

@@ -12,7 +12,8 @@ ghost use Rattle.v4_options.specs.declared.token.Syntax.TheVariants as syntax;
 /// The end option stands at `end`. Of option 82 `agent` is the place of the value's length, or 0 where there is none.
 pub(crate) fn front_of(bytes: &[u8], agent: usize, end: usize, has_pad: bool) -> Option<usize>
     requires { 0 < agent → IsWithin bytes.now agent }
-    ensures { (left : List ℕ) → IsRead has_pad agent bytes.now left → listed_from syntax.Options 0 left ≡ [] → end + length left ≡ length bytes.now → HasFront result bytes.now }
+    ensures { (left : List ℕ) → IsRead has_pad agent bytes.now left → listed_from syntax.Options 0 left ≡ []
+        → end + length left ≡ length bytes.now → HasFront result bytes.now }
 {
     if has_pad {
         return None;

@@ -59,7 +59,8 @@ pub fn one_reading()
 /// distinct.
 pub fn left_out()
     ensures gone { (code : ℕ) (list : List (ℕ × List ℕ)) → look_up code (without code list) ≡ None }
-    ensures others { (code : ℕ) (other : ℕ) (list : List (ℕ × List ℕ)) → other ≢ code → look_up other (without code list) ≡ look_up other list }
+    ensures others { (code : ℕ) (other : ℕ) (list : List (ℕ × List ℕ)) → other ≢ code
+        → look_up other (without code list) ≡ look_up other list }
     ensures distinct { (code : ℕ) (list : List (ℕ × List ℕ)) → AreOptions list → AreOptions (without code list) }
 {}
 
@@ -67,9 +68,12 @@ pub fn left_out()
 /// keeps the codes distinct; it is found by its code, and every other option as before.
 pub fn appended()
     ensures bytes { (a : List (ℕ × List ℕ)) (b : List (ℕ × List ℕ)) → spelling (a ++ b) ≡ spelling a ++ spelling b }
-    ensures distinct { (list : List (ℕ × List ℕ)) (code : ℕ) (value : List ℕ) → code ≢ PAD → code ≢ END → look_up code list ≡ None → AreOptions list → AreOptions (list ++ (code, value) ∷ []) }
-    ensures found { (list : List (ℕ × List ℕ)) (code : ℕ) (value : List ℕ) → look_up code list ≡ None → look_up code (list ++ (code, value) ∷ []) ≡ Some value }
-    ensures others { (list : List (ℕ × List ℕ)) (code : ℕ) (other : ℕ) (value : List ℕ) → other ≢ code → look_up other (list ++ (code, value) ∷ []) ≡ look_up other list }
+    ensures distinct { (list : List (ℕ × List ℕ)) (code : ℕ) (value : List ℕ) → code ≢ PAD → code ≢ END
+        → look_up code list ≡ None → AreOptions list → AreOptions (list ++ (code, value) ∷ []) }
+    ensures found { (list : List (ℕ × List ℕ)) (code : ℕ) (value : List ℕ) → look_up code list ≡ None
+        → look_up code (list ++ (code, value) ∷ []) ≡ Some value }
+    ensures others { (list : List (ℕ × List ℕ)) (code : ℕ) (other : ℕ) (value : List ℕ) → other ≢ code
+        → look_up other (list ++ (code, value) ∷ []) ≡ look_up other list }
 {}
 
 /// Reading any bytes returns a list of suboptions exactly where they spell it, and a fault exactly
@@ -87,7 +91,9 @@ pub fn subwritten_is_read()
 
 /// Bytes spell at most one list of suboptions, have at most one fault, and never both.
 pub fn one_subreading()
-    ensures list { (bytes : List ℕ) (a : List (ℕ × List ℕ)) (b : List (ℕ × List ℕ)) → SpellsSuboptions bytes a → SpellsSuboptions bytes b → a ≡ b }
+    ensures list { (bytes : List ℕ) (a : List (ℕ × List ℕ)) (b : List (ℕ × List ℕ)) → SpellsSuboptions bytes a
+        → SpellsSuboptions bytes b → a ≡ b }
     ensures fault { (bytes : List ℕ) (a : SuboptFault) (b : SuboptFault) → FailsSuboptions a bytes → FailsSuboptions b bytes → a ≡ b }
-    ensures never_both { (bytes : List ℕ) (list : List (ℕ × List ℕ)) (fault : SuboptFault) → SpellsSuboptions bytes list → FailsSuboptions fault bytes → ⊥ }
+    ensures never_both { (bytes : List ℕ) (list : List (ℕ × List ℕ)) (fault : SuboptFault) → SpellsSuboptions bytes list
+        → FailsSuboptions fault bytes → ⊥ }
 {}

@@ -45,7 +45,9 @@ impl Places {
     /// The next option of the list, the length of whose value stands here.
     #[rattlefmt::skip]
     pub(crate) fn add(&mut self, code: u8, place: usize)
-        ensures all { (bytes value : List ℕ) (rest whole : List (ℕ × List ℕ)) → value_at bytes place ≡ Some value → IsWithin bytes place → ArePlaced bytes self.old ((code, value) ∷ rest) whole → ArePlaced bytes self.new rest whole }
+        ensures all { (bytes value : List ℕ) (rest whole : List (ℕ × List ℕ)) → value_at bytes place ≡ Some value
+            → IsWithin bytes place → ArePlaced bytes self.old ((code, value) ∷ rest) whole
+            → ArePlaced bytes self.new rest whole }
         ensures agent { self.new.agent ≡ (if code == RELAY_AGENT_INFORMATION && self.old.agent == 0 then place else self.old.agent) }
     {
         match code {

@@ -29,8 +29,10 @@ pub fn exact_relay_reading()
 
 /// A relay message that was written reads back as the same message, if its options are allowed.
 pub fn written_relay_is_read()
-    ensures spelled { (m : RelayValue) → length m.link_address ≡ 16 → length m.peer_address ≡ 16 → AreOptions m.options → AreAllowed Relay m.options → SpellsRelay (relay_bytes m) m }
-    ensures read { (m : RelayValue) → length m.link_address ≡ 16 → length m.peer_address ≡ 16 → AreOptions m.options → AreAllowed Relay m.options → relay_of (relay_bytes m) ≡ Ok m }
+    ensures spelled { (m : RelayValue) → length m.link_address ≡ 16 → length m.peer_address ≡ 16 → AreOptions m.options
+        → AreAllowed Relay m.options → SpellsRelay (relay_bytes m) m }
+    ensures read { (m : RelayValue) → length m.link_address ≡ 16 → length m.peer_address ≡ 16 → AreOptions m.options
+        → AreAllowed Relay m.options → relay_of (relay_bytes m) ≡ Ok m }
 {}
 
 /// Bytes spell at most one relay message, have at most one fault, and never both.
@@ -43,7 +45,8 @@ pub fn one_relay_reading()
 /// Reading any bytes returns a message exactly where they spell it and it is within the limits for
 /// reading, and a fault exactly where they have it.
 pub fn exact_message_reading()
-    ensures message { (bytes : List ℕ) (m : MessageValue) → AreBytes bytes → message_of bytes ≡ Ok m ↔ (SpellsMessage bytes m × IsReadable m) }
+    ensures message { (bytes : List ℕ) (m : MessageValue) → AreBytes bytes
+        → message_of bytes ≡ Ok m ↔ (SpellsMessage bytes m × IsReadable m) }
     ensures fault { (bytes : List ℕ) (fault : MessageFault) → AreBytes bytes → message_of bytes ≡ Err fault ↔ FailsMessage fault bytes }
 {}
 
@@ -51,9 +54,13 @@ pub fn exact_message_reading()
 /// at most 5 addresses in it. It reads back as the same message where its counts are within the limits for
 /// reading, and otherwise as the fault of a count (`counts`).
 pub fn written_message_is_read()
-    ensures spelled { (m : MessageValue) → length m.transaction_id ≡ 3 → AreOptions m.options → AreAllowed Client m.options → count IA_NA m.options ≤ 1 → HasAtMost 5 m.options → SpellsMessage (message_bytes m) m }
-    ensures read { (m : MessageValue) → length m.transaction_id ≡ 3 → AreOptions m.options → AreAllowed Client m.options → IsReadable m → message_of (message_bytes m) ≡ Ok m }
-    ensures counts { (m : MessageValue) → length m.transaction_id ≡ 3 → AreOptions m.options → AreAllowed Client m.options → message_of (message_bytes m) ≡ counted m }
+    ensures spelled { (m : MessageValue) → length m.transaction_id ≡ 3 → AreOptions m.options
+        → AreAllowed Client m.options → count IA_NA m.options ≤ 1 → HasAtMost 5 m.options
+        → SpellsMessage (message_bytes m) m }
+    ensures read { (m : MessageValue) → length m.transaction_id ≡ 3 → AreOptions m.options → AreAllowed Client m.options
+        → IsReadable m → message_of (message_bytes m) ≡ Ok m }
+    ensures counts { (m : MessageValue) → length m.transaction_id ≡ 3 → AreOptions m.options
+        → AreAllowed Client m.options → message_of (message_bytes m) ≡ counted m }
 {}
 
 /// An IA_NA that was written is one, and reads back as the same; so does an address.
@@ -67,6 +74,8 @@ pub fn written_ia_is_read()
 /// for reading.
 pub fn one_message_reading()
     ensures message { (bytes : List ℕ) (a : MessageValue) (b : MessageValue) → SpellsMessage bytes a → SpellsMessage bytes b → a ≡ b }
-    ensures fault { (bytes : List ℕ) (a : MessageFault) (b : MessageFault) → AreBytes bytes → FailsMessage a bytes → FailsMessage b bytes → a ≡ b }
-    ensures never_both { (bytes : List ℕ) (m : MessageValue) (fault : MessageFault) → AreBytes bytes → SpellsMessage bytes m → IsReadable m → FailsMessage fault bytes → ⊥ }
+    ensures fault { (bytes : List ℕ) (a : MessageFault) (b : MessageFault) → AreBytes bytes → FailsMessage a bytes
+        → FailsMessage b bytes → a ≡ b }
+    ensures never_both { (bytes : List ℕ) (m : MessageValue) (fault : MessageFault) → AreBytes bytes
+        → SpellsMessage bytes m → IsReadable m → FailsMessage fault bytes → ⊥ }
 {}

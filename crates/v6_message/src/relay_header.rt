@@ -24,7 +24,9 @@ impl RelayHeader {
     /// Appends the 34 bytes before the options. Where they do not fit, `out` is left empty.
     pub fn write(&self, out: &mut PacketBuf) -> Result<(), Full>
         ensures full { IsOk result ↔ (length out.old + 34 ≤ 1280) }
-        ensures ok { OnOk result (out.new ≡ out.old ++ relay_header self.now.kind self.now.hop_count self.now.link_address.0 self.now.peer_address.0) }
+        ensures ok { OnOk result (out.new
+            ≡ out.old
+            ++ relay_header self.now.kind self.now.hop_count self.now.link_address.0 self.now.peer_address.0) }
         ensures err { OnErr result (out.new ≡ []) }
     {
         if out.extend(&[self.kind, self.hop_count]).is_err()

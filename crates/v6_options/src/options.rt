@@ -1,5 +1,6 @@
 //! Lists of options (RFC 8415, section 21.1).
-ghost use Rattle.std.specs.Prelude.{◌≡◌, ◌≤◌, ◌<◌, ◌^◌, ◌+◌, ◌↔◌, ℕ, List, ◌++◌, [], length, IsOk, OnOk, OnErr, IfSome, Ok, Err, option_map};
+ghost use Rattle.std.specs.Prelude.{◌≡◌, ◌≤◌, ◌<◌, ◌^◌, ◌+◌, ◌↔◌, ℕ, List, ◌++◌, [], length, IsOk, OnOk, OnErr, IfSome};
+ghost use Rattle.std.specs.Prelude.{Ok, Err, option_map};
 ghost use Rattle.v6_options.specs.Spelling.{spelling, look_up, Spells, Fails};
 ghost use Rattle.v6_options.specs.Reading.{cut_from, options_of};
 

@@ -13,7 +13,10 @@ pub trait Sink {
 
     /// Takes a frame, or refuses it and keeps what it has.
     fn frame(&mut self, circuit: Circuit, dest: Dest, bytes: &[u8]) -> bool
-        ensures yes { result ≡ true → taken self.new ≡ taken self.old ++ record { circuit = circuit; frame = record { dest = dest; bytes = bytes.now } } ∷ [] }
+        ensures yes { result ≡ true
+            → taken self.new
+            ≡ taken self.old
+            ++ record { circuit = circuit; frame = record { dest = dest; bytes = bytes.now } } ∷ [] }
         ensures quiet { result ≡ true → refusals self.new ≡ refusals self.old }
         ensures no { result ≡ false → taken self.new ≡ taken self.old }
         ensures cause { result ≡ false → refusals self.new ≡ refusals self.old + 1 };

@@ -1,5 +1,6 @@
 //! A world: its relays, the network, the server and a disk.
-ghost use Rattle.std.specs.Prelude.{◌≡◌, ℕ, ◌+◌, ◌*◌, ◌<◌, ◌≤◌, [], Some, length, nat_lt, if◌then◌else◌, slice_get, take, IfOk, IfErr, IfSome, OnOk};
+ghost use Rattle.std.specs.Prelude.{◌≡◌, ℕ, ◌+◌, ◌*◌, ◌<◌, ◌≤◌, [], Some, length, nat_lt, if◌then◌else◌, slice_get};
+ghost use Rattle.std.specs.Prelude.{take, IfOk, IfErr, IfSome, OnOk};
 ghost use Rattle.config.specs.CircuitPart.{CircuitPart, parts_of};
 ghost use Rattle.dispatch.specs.Regions.{AreRegionsMigrated, AreSynced, HasRegions, KeepsOthers};
 ghost use Rattle.dispatch.specs.declared.server.OpenFault.TheVariants as fault;
@@ -109,7 +110,8 @@ fn clear_faults(server: &Server, disk: &mut ModelDisk)
     requires few { length server.now.topology.circuits ≤ 1024 }
     requires regions { HasRegions server.now.topology.circuits (length disk.old.regions) }
     ensures states { disk_region disk.new ≡ disk_region disk.old }
-    ensures faults { (c : ℕ) (part : CircuitPart) → slice_get server.now.topology.circuits c ≡ Some part → failing_call_of disk.new part.region ≡ 0 }
+    ensures faults { (c : ℕ) (part : CircuitPart) → slice_get server.now.topology.circuits c ≡ Some part
+        → failing_call_of disk.new part.region ≡ 0 }
     ensures count { length disk.new.regions ≡ length disk.old.regions }
     ensures reads { disk.new.reads ≡ disk.old.reads }
     ensures writes { disk.new.writes ≡ disk.old.writes }
@@ -124,7 +126,8 @@ fn clear_faults(server: &Server, disk: &mut ModelDisk)
 fn clear_all(relays: &Relays, net: &mut Net, plan: u8)
     requires few { length relays.now.topology.circuits ≤ 1024 }
     requires count { length net.old.circuits ≡ length relays.now.topology.circuits }
-    ensures queues { (c : ℕ) (dir : Dir) → datagrams net.new c dir ≡ (if turns_off relays.now.topology plan c then [] else datagrams net.old c dir) }
+    ensures queues { (c : ℕ) (dir : Dir)
+        → datagrams net.new c dir ≡ (if turns_off relays.now.topology plan c then [] else datagrams net.old c dir) }
     ensures count { length net.new.circuits ≡ length net.old.circuits }
     ensures quota { net.new.quota ≡ net.old.quota }
 {
@@ -154,7 +157,9 @@ impl World {
         ensures topology { IfOk result (λ world. world.relays.topology ≡ topology_of config.now) }
         ensures regions { IfOk result (λ world. AreRegionsMigrated (parts_of config.now) (device_of disk) (device_of world.disk)) }
         ensures others { IfOk result (λ world. KeepsOthers (parts_of config.now) (device_of disk) (device_of world.disk)) }
-        ensures faults { IfOk result (λ world. (c : ℕ) (part : CircuitPart) → slice_get (parts_of config.now) c ≡ Some part → failing_call_of world.disk part.region ≡ 0) }
+        ensures faults { IfOk result (λ world.
+            (c : ℕ) (part : CircuitPart) → slice_get (parts_of config.now) c ≡ Some part
+            → failing_call_of world.disk part.region ≡ 0) }
         ensures small { IfErr result (λ why. why ≡ fault.DiskTooSmall → ¬ HasRegions (parts_of config.now) (length disk.regions)) }
         ensures large { IfOk result (λ world. HasRegions (parts_of config.now) (length disk.regions)) }
         ensures reads { IfOk result (λ world. world.disk.reads ≤ disk.reads + 5 * length config.now.circuits) }
@@ -192,7 +197,9 @@ impl World {
         ensures topology { IfOk result (λ world. world.relays.topology ≡ plans_topology plans.now) }
         ensures regions { IfOk result (λ world. AreRegionsMigrated (parts_of plans.now.union) (device_of disk) (device_of world.disk)) }
         ensures others { IfOk result (λ world. KeepsOthers (parts_of plans.now.union) (device_of disk) (device_of world.disk)) }
-        ensures faults { IfOk result (λ world. (c : ℕ) (part : CircuitPart) → slice_get (parts_of plans.now.union) c ≡ Some part → failing_call_of world.disk part.region ≡ 0) }
+        ensures faults { IfOk result (λ world.
+            (c : ℕ) (part : CircuitPart) → slice_get (parts_of plans.now.union) c ≡ Some part
+            → failing_call_of world.disk part.region ≡ 0) }
         ensures small { IfErr result (λ why. why ≡ fault.DiskTooSmall → ¬ HasRegions (parts_of plans.now.union) (length disk.regions)) }
         ensures large { IfOk result (λ world. HasRegions (parts_of plans.now.union) (length disk.regions)) }
         ensures reads { IfOk result (λ world. world.disk.reads ≤ disk.reads + 5 * length plans.now.union.circuits) }
@@ -226,7 +233,8 @@ impl World {
         ensures count { length result.disk.regions ≡ length disk.regions }
         ensures reads { result.disk.reads ≡ disk.reads }
         ensures writes { result.disk.writes ≡ disk.writes }
-        ensures faults { (c : ℕ) (part : CircuitPart) → slice_get server.topology.circuits c ≡ Some part → failing_call_of result.disk part.region ≡ 0 }
+        ensures faults { (c : ℕ) (part : CircuitPart) → slice_get server.topology.circuits c ≡ Some part
+            → failing_call_of result.disk part.region ≡ 0 }
         ensures spares { KeepsOthers server.topology.circuits (device_of disk) (device_of result.disk) }
     {
         clear_faults(&server, &mut disk);

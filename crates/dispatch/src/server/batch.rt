@@ -1,12 +1,15 @@
 //! Several datagrams at one moment, whose saves share their syncs.
-ghost use Rattle.std.specs.Prelude.{◌≡◌, ◌<◌, ◌≤◌, ◌==◌, ◌&&◌, ◌||◌, ◌+◌, ◌∷◌, ◌++◌, not, ℕ, List, [], Result, Ok, Err, true, false, length, take, slice_get, slice_set, IfOk, IfErr, Some};
+ghost use Rattle.std.specs.Prelude.{◌≡◌, ◌<◌, ◌≤◌, ◌==◌, ◌&&◌, ◌||◌, ◌+◌, ◌∷◌, ◌++◌, not, ℕ, List, [], Result, Ok, Err};
+ghost use Rattle.std.specs.Prelude.{true, false, length, take, slice_get, slice_set, IfOk, IfErr, Some};
 ghost use Rattle.types.specs.declared.discard.Discard as discard;
 ghost use Rattle.lease_disk.specs.Device.{has_failed, is_in};
-ghost use Rattle.dispatch.specs.Batch.{IsBatch, IsBatchOfLeases, IsWrittenTogether, batch_fault, batch_saves, deliveries, is_circuit, is_named};
+ghost use Rattle.dispatch.specs.Batch.{IsBatch, IsBatchOfLeases, IsWrittenTogether, batch_fault, batch_saves};
+ghost use Rattle.dispatch.specs.Batch.{deliveries, is_circuit, is_named};
 ghost use Rattle.dispatch.specs.Deadlines.{AllUnchangedOrUntilHeld, KeepsDeadlines};
 ghost use Rattle.timers.specs.Deadlines.{DeadlinesValue};
 ghost use Rattle.requests.specs.Addressee as who;
-ghost use Rattle.dispatch.specs.Parts.{AreAnswered, AreDecided, AreToSettle, IsAnswered, IsPart, IsReceivedBatch, IsSettledSo, is_of, has_named, saved_by, saving_in, savings_of};
+ghost use Rattle.dispatch.specs.Parts.{AreAnswered, AreDecided, AreToSettle, IsAnswered, IsPart, IsReceivedBatch};
+ghost use Rattle.dispatch.specs.Parts.{IsSettledSo, is_of, has_named, saved_by, saving_in, savings_of};
 ghost use Rattle.batch_saves.specs.Batch.{part_at};
 ghost use Rattle.std.specs.List.{cons_option, list_any};
 ghost use Rattle.dispatch.specs.Regions.{HasRegions};
@@ -56,8 +59,12 @@ impl Server {
         ensures others { self.new.states ≡ slice_set self.old.states circuit (server_state self.new.states circuit) }
         ensures deadlines { KeepsDeadlines (λ c. circuit == c) self.old.deadlines self.new.deadlines }
         ensures held { AllUnchangedOrUntilHeld self.old.deadlines self.new.deadlines self.new.states }
-        ensures prepared { (part : parts.CircuitPart) → slice_get self.old.topology.circuits circuit ≡ Some part → IfOk result (IsPrepared part delivery.now (server_state self.old.states circuit) (server_state self.new.states circuit)) }
-        ensures dropped { (part : parts.CircuitPart) → slice_get self.old.topology.circuits circuit ≡ Some part → IfErr result (IsDropped part delivery.now (server_state self.old.states circuit) (server_state self.new.states circuit)) }
+        ensures prepared { (part : parts.CircuitPart) → slice_get self.old.topology.circuits circuit ≡ Some part
+            → IfOk result (IsPrepared part delivery.now (server_state self.old.states circuit)
+            (server_state self.new.states circuit)) }
+        ensures dropped { (part : parts.CircuitPart) → slice_get self.old.topology.circuits circuit ≡ Some part
+            → IfErr result (IsDropped part delivery.now (server_state self.old.states circuit)
+            (server_state self.new.states circuit)) }
     {
         let part = self.circuits.part(circuit);
         let table = &mut self.deadlines;
@@ -74,10 +81,13 @@ impl Server {
     ) -> Part<'a>
         requires room { length named.old.items < 16 }
         ensures topology { self.new.topology ≡ self.old.topology }
-        ensures deadlines { KeepsDeadlines (λ c. is_circuit c (who.addressee self.old.topology delivery.now)) self.old.deadlines self.new.deadlines }
+        ensures deadlines { KeepsDeadlines (λ c. is_circuit c (who.addressee self.old.topology delivery.now))
+            self.old.deadlines self.new.deadlines }
         ensures held { AllUnchangedOrUntilHeld self.old.deadlines self.new.deadlines self.new.states }
         ensures part { IsPart self.old.topology named.old.items delivery.now self.old.states self.new.states result }
-        ensures named { (c : ℕ) → has_named named.new.items c ≡ (has_named named.old.items c || is_circuit c (who.addressee self.old.topology delivery.now)) }
+        ensures named { (c : ℕ)
+            → has_named named.new.items c
+            ≡ (has_named named.old.items c || is_circuit c (who.addressee self.old.topology delivery.now)) }
         ensures few { length named.new.items ≤ length named.old.items + 1 }
     {
         let (circuit, relayed) = match addressee(&self.circuits, delivery) {
@@ -109,7 +119,8 @@ impl Server {
         ensures topology { self.new.topology ≡ self.old.topology }
         ensures deadlines { KeepsDeadlines (is_named self.old.topology (deliveries now parts.now)) self.old.deadlines self.new.deadlines }
         ensures held { AllUnchangedOrUntilHeld self.old.deadlines self.new.deadlines self.new.states }
-        ensures made { AreDecided self.old.topology (deliveries now parts.now) (length parts.now) batch.new.named.items self.old.states self.new.states batch.new.parts.items }
+        ensures made { AreDecided self.old.topology (deliveries now parts.now) (length parts.now) batch.new.named.items
+            self.old.states self.new.states batch.new.parts.items }
         ensures savings { batch.new.savings ≡ savings_of batch.new.parts.items }
     {
         'parts: for index in 0..parts.len() {
@@ -146,24 +157,31 @@ impl Server {
         ensures topology { self.new.topology ≡ self.old.topology }
 
         // Over every device: a save fails where the device counts a failure of the circuit's region.
-        ensures answers { IsBatch self.old.topology (deliveries now parts.now) (has_failed (D.device disk.old) (D.device disk.new)) (books_in self.old) (books_in self.new) answers.new }
+        ensures answers { IsBatch self.old.topology (deliveries now parts.now)
+            (has_failed (D.device disk.old) (D.device disk.new)) (books_in self.old) (books_in self.new) answers.new }
 
-        // No deadline is looked at, and those of every circuit that no part is of stay. Each is what it was, or until when its slot is held now.
+        // No deadline is looked at, and those of every circuit that no part is of stay. Each is what it was, or until when
+        // its slot is held now.
         ensures deadlines { KeepsDeadlines (is_named self.old.topology (deliveries now parts.now)) self.old.deadlines self.new.deadlines }
         ensures held { AllUnchangedOrUntilHeld self.old.deadlines self.new.deadlines self.new.states }
 
         // Over a device that tells its bytes: which saves fail, and what restarts then find.
-        ensures fails { D.tells ≡ true → (r : ℕ) → has_failed (D.device disk.old) (D.device disk.new) r
+        ensures fails { D.tells ≡ true → (r : ℕ)
+            → has_failed (D.device disk.old) (D.device disk.new) r
             ≡ (is_in (batch_saves self.old.topology (deliveries now parts.now) (books_in self.old)) r
-            && not (batch_fault (D.device disk.old).failing_call (batch_saves self.old.topology (deliveries now parts.now) (books_in self.old)) r == 0)) }
+            && not (batch_fault (D.device disk.old).failing_call
+            (batch_saves self.old.topology (deliveries now parts.now) (books_in self.old)) r == 0)) }
         ensures leases { D.tells ≡ true → IsBatchOfLeases self.old.topology (deliveries now parts.now)
             (batch_fault (D.device disk.old).failing_call (batch_saves self.old.topology (deliveries now parts.now) (books_in self.old)))
             (leases_in (D.device disk.old).region self.old) (leases_in (D.device disk.new).region self.new) }
         ensures ready { D.tells ≡ true → AreReady (D.device disk.new).region self.new }
-        ensures frame { IsWrittenTogether D.tells (batch_saves self.old.topology (deliveries now parts.now) (books_in self.old)) (D.device disk.old) (D.device disk.new) }
+        ensures frame { IsWrittenTogether D.tells
+            (batch_saves self.old.topology (deliveries now parts.now) (books_in self.old)) (D.device disk.old)
+            (D.device disk.new) }
 
         // Over every device: how often it is called.
-        ensures calls { IsCalledToSave (batch_saves self.old.topology (deliveries now parts.now) (books_in self.old)) (D.device disk.old) (D.device disk.new) }
+        ensures calls { IsCalledToSave (batch_saves self.old.topology (deliveries now parts.now) (books_in self.old))
+            (D.device disk.old) (D.device disk.new) }
     {
         answers.clear();
         match parts {
@@ -189,7 +207,8 @@ impl Server {
         ensures topology { self.new.topology ≡ self.old.topology }
         ensures deadlines { KeepsDeadlines (is_named self.old.topology (deliveries now parts.now)) self.old.deadlines self.new.deadlines }
         ensures held { AllUnchangedOrUntilHeld self.old.deadlines self.new.deadlines self.new.states }
-        ensures received { IsReceivedBatch D.tells (deliveries now parts.now) answers.new self.old self.new (D.device disk.old) (D.device disk.new) }
+        ensures received { IsReceivedBatch D.tells (deliveries now parts.now) answers.new self.old self.new
+            (D.device disk.old) (D.device disk.new) }
     {
         let _ = &self.circuits;
         let mut batch = Batch {
@@ -217,8 +236,10 @@ impl Server {
         ensures size { length self.new.states ≡ length self.old.states }
         ensures keeps { (k : ℕ) → is_of k (Some part.now) ≡ false → server_state self.new.states k ≡ server_state self.old.states k }
         ensures deadlines { KeepsDeadlines (λ c. is_of c (Some part.now)) self.old.deadlines self.new.deadlines }
-        ensures held { (before : DeadlinesValue) → AllUnchangedOrUntilHeld before self.old.deadlines self.old.states → AllUnchangedOrUntilHeld before self.new.deadlines self.new.states }
-        ensures answered { (answer : Result (List ℕ) discard.Discard) × (answers.new ≡ answers.old ++ answer ∷ []) × IsAnswered self.old.topology (part_at savings.now place) self.old.states self.new.states answer part.now }
+        ensures held { (before : DeadlinesValue) → AllUnchangedOrUntilHeld before self.old.deadlines self.old.states
+            → AllUnchangedOrUntilHeld before self.new.deadlines self.new.states }
+        ensures answered { (answer : Result (List ℕ) discard.Discard) × (answers.new ≡ answers.old ++ answer ∷ [])
+            × IsAnswered self.old.topology (part_at savings.now place) self.old.states self.new.states answer part.now }
     {
         match part {
             Ok((circuit, prepared)) => {
@@ -236,9 +257,13 @@ impl Server {
         requires savings { length batch.now.savings ≡ length (savings_of batch.now.parts.items) }
         requires none { answers.old ≡ [] }
         ensures topology { self.new.topology ≡ self.old.topology }
-        ensures deadlines { KeepsDeadlines (λ c. list_any (is_of c) (take (length batch.now.parts.items) batch.now.parts.items)) self.old.deadlines self.new.deadlines }
-        ensures held { (before : DeadlinesValue) → AllUnchangedOrUntilHeld before self.old.deadlines self.old.states → AllUnchangedOrUntilHeld before self.new.deadlines self.new.states }
-        ensures answered { AreAnswered self.old.topology batch.now.parts.items batch.now.savings (length batch.now.parts.items) self.old.states self.new.states answers.new }
+        ensures deadlines { KeepsDeadlines (λ c.
+            list_any (is_of c) (take (length batch.now.parts.items) batch.now.parts.items)) self.old.deadlines
+            self.new.deadlines }
+        ensures held { (before : DeadlinesValue) → AllUnchangedOrUntilHeld before self.old.deadlines self.old.states
+            → AllUnchangedOrUntilHeld before self.new.deadlines self.new.states }
+        ensures answered { AreAnswered self.old.topology batch.now.parts.items batch.now.savings
+            (length batch.now.parts.items) self.old.states self.new.states answers.new }
     {
         let mut place = 0;
         'parts: for part in batch.parts.iter() {

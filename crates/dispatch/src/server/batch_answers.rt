@@ -1,5 +1,6 @@
 //! What the server answers to the parts of a batch.
-ghost use Rattle.std.specs.Prelude.{◌≡◌, ◌<◌, ◌==◌, ℕ, List, Result, [], ◌∷◌, ◌++◌, Ok, Err, IfOk, IfErr, length, option_map, slice_get, slice_set, true};
+ghost use Rattle.std.specs.Prelude.{◌≡◌, ◌<◌, ◌==◌, ℕ, List, Result, [], ◌∷◌, ◌++◌, Ok, Err, IfOk, IfErr, length};
+ghost use Rattle.std.specs.Prelude.{option_map, slice_get, slice_set, true};
 ghost use Rattle.types.specs.Delivery.{delivery};
 ghost use Rattle.types.specs.declared.discard.Discard as discard;
 ghost use Rattle.timers.specs.Deadlines.{DeadlinesValue};
@@ -116,9 +117,12 @@ impl Server {
         requires regions { HasRegions self.old.topology.circuits (D.device disk.old).count }
         requires ready { D.tells ≡ true → AreReady (D.device disk.old).region self.old }
         ensures topology { self.new.topology ≡ self.old.topology }
-        ensures deadlines { KeepsDeadlines (is_named self.old.topology (delivery part.now.0 part.now.1 now part.now.2.now ∷ [])) self.old.deadlines self.new.deadlines }
+        ensures deadlines { KeepsDeadlines
+            (is_named self.old.topology (delivery part.now.0 part.now.1 now part.now.2.now ∷ [])) self.old.deadlines
+            self.new.deadlines }
         ensures held { AllUnchangedOrUntilHeld self.old.deadlines self.new.deadlines self.new.states }
-        ensures received { IsReceivedBatch D.tells (delivery part.now.0 part.now.1 now part.now.2.now ∷ []) answers.new self.old self.new (D.device disk.old) (D.device disk.new) }
+        ensures received { IsReceivedBatch D.tells (delivery part.now.0 part.now.1 now part.now.2.now ∷ []) answers.new
+            self.old self.new (D.device disk.old) (D.device disk.new) }
     {
         let (proto, source, datagram) = *part;
         let place = &mut answers.places[answers.count];
@@ -139,8 +143,10 @@ impl Server {
         ensures topology { self.new.topology ≡ self.old.topology }
         ensures others { self.new.states ≡ slice_set self.old.states circuit (server_state self.new.states circuit) }
         ensures deadlines { KeepsDeadlines (λ c. circuit == c) self.old.deadlines self.new.deadlines }
-        ensures held { (before : DeadlinesValue) → AllUnchangedOrUntilHeld before self.old.deadlines self.old.states → AllUnchangedOrUntilHeld before self.new.deadlines self.new.states }
-        ensures answered { (answer : Result (List ℕ) discard.Discard) × (answers.new ≡ answers.old ++ answer ∷ []) × IsSettledSo self.old.topology prepared.now saved circuit self.old.states self.new.states answer }
+        ensures held { (before : DeadlinesValue) → AllUnchangedOrUntilHeld before self.old.deadlines self.old.states
+            → AllUnchangedOrUntilHeld before self.new.deadlines self.new.states }
+        ensures answered { (answer : Result (List ℕ) discard.Discard) × (answers.new ≡ answers.old ++ answer ∷ [])
+            × IsSettledSo self.old.topology prepared.now saved circuit self.old.states self.new.states answer }
     {
         let place = &mut answers.places[answers.count];
         place.datagram.clear();

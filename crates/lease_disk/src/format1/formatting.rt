@@ -24,7 +24,9 @@ fn closed_banks(bytes: &mut [u8])
 pub fn format_old<D: Disk>(region: u16, disk: &mut D) -> Result<(), Fault>
     requires { region < (D.device disk.old).count }
     ensures ok { D.tells ≡ true → OnOk result (IsFormattedOld ((D.device disk.new).region region)) }
-    ensures err { D.tells ≡ true → OnErr result (IsHalfFormattedOld ((D.device disk.old).failing_call region) ((D.device disk.new).region region)) }
+    ensures err { D.tells ≡ true
+        → OnErr result
+        (IsHalfFormattedOld ((D.device disk.old).failing_call region) ((D.device disk.new).region region)) }
     ensures left { D.tells ≡ true
         → OnErr result (IsHalfWritten 0 formatted_old ((D.device disk.old).failing_call region) ((D.device disk.new).region region)) }
     ensures readable { D.tells ≡ true

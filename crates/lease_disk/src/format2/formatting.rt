@@ -38,12 +38,14 @@ pub fn format_bytes(bytes: &mut [u8])
 pub fn format<D: Disk>(region: u16, disk: &mut D) -> Result<(), Fault>
     requires { region < (D.device disk.old).count }
     ensures ok { D.tells ≡ true → OnOk result (IsFormatted ((D.device disk.new).region region)) }
-    ensures err { D.tells ≡ true → OnErr result (IsHalfFormatted ((D.device disk.old).failing_call region) ((D.device disk.new).region region)) }
+    ensures err { D.tells ≡ true
+        → OnErr result (IsHalfFormatted ((D.device disk.old).failing_call region) ((D.device disk.new).region region)) }
     ensures left { D.tells ≡ true
         → OnErr result (IsHalfWritten 8192 formatted ((D.device disk.old).failing_call region) ((D.device disk.new).region region)) }
     ensures readable { D.tells ≡ true → ((D.device disk.new).region region).readable ≡ ((D.device disk.old).region region).readable }
     ensures answer { D.tells ≡ true → is_ok result ≡ (effective 4 ((D.device disk.old).failing_call region) == 0) }
-    ensures failing_call { D.tells ≡ true → OnOk result ((D.device disk.new).failing_call region ≡ (D.device disk.old).failing_call region - 4) }
+    ensures failing_call { D.tells ≡ true
+        → OnOk result ((D.device disk.new).failing_call region ≡ (D.device disk.old).failing_call region - 4) }
     ensures frame { Touches D.tells region (D.device disk.old) (D.device disk.new) }
     ensures writes { OnOk result ((D.device disk.new).writes ≡ (D.device disk.old).writes + 4) }
     ensures most { (D.device disk.new).writes ≤ (D.device disk.old).writes + 4 }

@@ -1,5 +1,6 @@
 //! Several datagrams at the server at one moment, whose saves share their syncs.
-ghost use Rattle.std.specs.Prelude.{◌≡◌, ℕ, ◌<◌, ◌≤◌, ◌==◌, ◌++◌, [], if◌then◌else◌, length, map, take, All, Some, IfSome, option_map, slice_get};
+ghost use Rattle.std.specs.Prelude.{◌≡◌, ℕ, ◌<◌, ◌≤◌, ◌==◌, ◌++◌, [], if◌then◌else◌, length, map, take, All, Some};
+ghost use Rattle.std.specs.Prelude.{IfSome, option_map, slice_get};
 ghost use Rattle.std.specs.List.{cons_option, filter_map};
 ghost use Rattle.types.specs.Delivery.{delivery};
 ghost use Rattle.dispatch.specs.Regions.{HasRegions, KeepsOthers};
@@ -11,7 +12,8 @@ ghost use Rattle.lossy_net.specs.Net.{datagrams};
 ghost use Rattle.lossy_net.specs.declared.dir.Dir.TheVariants as dir;
 ghost use Rattle.wire.specs.Bytes.{AreBytes};
 ghost use Rattle.dispatch.specs.Answers.{answer_of};
-ghost use Rattle.world.specs.Batch.{AreServed, answer_outcome, bytes_of, delivered, downs_after, faults_after, outcome_for, waiting_of, with_answer};
+ghost use Rattle.world.specs.Batch.{AreServed, answer_outcome, bytes_of, delivered, downs_after, faults_after};
+ghost use Rattle.world.specs.Batch.{outcome_for, waiting_of, with_answer};
 ghost use Rattle.world.specs.Headline.{Steps};
 ghost use Rattle.world.specs.World.{states};
 
@@ -140,7 +142,9 @@ fn set_faults(disk: &mut ModelDisk, waiting: &[Waiting], fails: bool)
 /// The datagrams of these parts, as the server takes them.
 fn datagrams_of<'a>(net: &'a Net, waiting: &[Waiting]) -> [(Proto, Source, &'a [u8]); MAX_BATCH]
     requires few { length waiting.now ≤ 16 }
-    ensures { (now : ℕ) → map (λ d. delivery d.0 d.1 now d.2.now) (take (length waiting.now) result) ≡ map (delivered net.now now) waiting.now }
+    ensures { (now : ℕ)
+        → map (λ d. delivery d.0 d.1 now d.2.now) (take (length waiting.now) result)
+        ≡ map (delivered net.now now) waiting.now }
 {
     let none: &[u8] = &[];
     let mut datagrams = [(Proto::V4, Source::UNSPECIFIED, none); MAX_BATCH];
@@ -185,7 +189,11 @@ fn serve_all(
 fn send_answer(net: &mut Net, part: Waiting, answer: Option<&Answer>)
     requires exists { part.circuit < length net.old.circuits }
     ensures ups { (c : ℕ) → datagrams net.new c dir.Up ≡ datagrams net.old c dir.Up }
-    ensures downs { (c : ℕ) → datagrams net.new c dir.Down ≡ (if part.circuit == c then with_answer net.old.quota part.proto (option_map (λ a. answer_of a.now) answer.entry) (datagrams net.old c dir.Down) else datagrams net.old c dir.Down) }
+    ensures downs { (c : ℕ)
+        → datagrams net.new c dir.Down
+        ≡ (if part.circuit == c then with_answer net.old.quota part.proto
+        (option_map (λ a. answer_of a.now) answer.entry) (datagrams net.old c dir.Down) else datagrams net.old c
+        dir.Down) }
     ensures circuits { length net.new.circuits ≡ length net.old.circuits }
     ensures quota { net.new.quota ≡ net.old.quota }
 {
@@ -201,7 +209,9 @@ fn send_answer(net: &mut Net, part: Waiting, answer: Option<&Answer>)
 fn send_all(net: &mut Net, waiting: &[Waiting], answers: &BatchAnswers)
     requires exist { All (λ (w : Waiting). w.circuit < length net.old.circuits) waiting.now }
     ensures ups { (c : ℕ) → datagrams net.new c dir.Up ≡ datagrams net.old c dir.Up }
-    ensures downs { (c : ℕ) → datagrams net.new c dir.Down ≡ downs_after net.old.quota waiting.now answers.now c (datagrams net.old c dir.Down) }
+    ensures downs { (c : ℕ)
+        → datagrams net.new c dir.Down
+        ≡ downs_after net.old.quota waiting.now answers.now c (datagrams net.old c dir.Down) }
     ensures circuits { length net.new.circuits ≡ length net.old.circuits }
     ensures quota { net.new.quota ≡ net.old.quota }
 {
@@ -242,7 +252,8 @@ fn outcomes_of(
     answers: &BatchAnswers,
 ) -> [Option<PartOutcome>; MAX_BATCH]
     requires few { length parts.now ≤ 16 }
-    ensures value { (i : ℕ) (part : BatchPart) → slice_get parts.now i ≡ Some part → slice_get result i ≡ Some (Some (outcome_for part.circuit waiting.now answers.now)) }
+    ensures value { (i : ℕ) (part : BatchPart) → slice_get parts.now i ≡ Some part
+        → slice_get result i ≡ Some (Some (outcome_for part.circuit waiting.now answers.now)) }
 {
     let mut outcomes = [None; MAX_BATCH];
     'parts: for index in 0..parts.len() {
@@ -262,7 +273,8 @@ impl World {
         parts: &[BatchPart],
         out: &mut PacketBuf,
     ) -> Outcome
-        ensures steps { (e : event.Event) → e ≡ events.Batch now sync parts.entry → Steps e (states self.old) (states self.new) result out.new }
+        ensures steps { (e : event.Event) → e ≡ events.Batch now sync parts.entry
+            → Steps e (states self.old) (states self.new) result out.new }
         ensures topology { self.new.relays.topology ≡ self.old.relays.topology }
         ensures spares { KeepsOthers self.old.relays.topology.circuits (device_of self.old.disk) (device_of self.new.disk) }
     {
