@@ -23,7 +23,7 @@ use Rattle.v6_message.specs.MessageReading.{counted}
 use Rattle.v6_message.proofs.Allowed.{AreAllowedOptions, AreFormedOptions}
 use Rattle.v6_message.proofs.Lists.{listed_spells}
 use Rattle.config.specs.CircuitPart.{CircuitPart}
-use Rattle.replies.specs.Reply6.{IsReplyIa, IsReplyTo, address_option, ia_options, read_within, reply_message, reply_options, status_option, status_options}
+use Rattle.replies.specs.Reply6.{IsReplyIa, IsReplyTo, address_option, ia_options, ia_with_addresses, read_within, reply_message, reply_options, status_option, status_options}
 
 -- the bytes of an option, and of those that follow it
 behind_size : (code : ℕ) (value : List ℕ) (list : List (ℕ × List ℕ)) → length (spelling ((code, value) ∷ list)) ≡ 4 + length value + length (spelling list)
@@ -125,6 +125,18 @@ ia_options_behind lease iaid (variants.Given zeroed leased) is =
     ia_behind iaid (lease / 2) (4 * lease / 5) (map (address_option 0) zeroed.items ++ address_option lease leased ∷ []) (1 + length zeroed.items) (28 * (1 + length zeroed.items))
     (addresses_inside zeroed.items lease leased is.1 is.2) (omega (arith, few)) (omega (arith, few))
 
+-- the bytes of the addresses in an IA_NA, and of the IA_NA with them
+pub addresses_length : (zeroed : List Addr6) (lease : ℕ) (leased : Addr6) → All Whole zeroed → Whole leased
+    → length (spelling (map (address_option 0) zeroed ++ address_option lease leased ∷ [])) ≡ 28 * (1 + length zeroed)
+addresses_length zeroed lease leased all whole = (addresses_inside zeroed lease leased all whole).size_is
+
+pub given_length : (lease iaid : ℕ) (zeroed : List Addr6) (leased : Addr6) → All Whole zeroed → Whole leased
+    → length (spelling (ia_with_addresses lease iaid zeroed leased ∷ [])) ≡ 16 + 28 * (1 + length zeroed)
+given_length lease iaid zeroed leased all whole =
+    let addresses = spelling (map (address_option 0) zeroed ++ address_option lease leased ∷ []) in
+    let header = ia_header iaid (lease / 2) (4 * lease / 5) in
+    omega (arith, behind_size 3 (header ++ addresses) [], length-append header addresses, addresses_length zeroed lease leased all whole)
+
 status_behind : (status : Option Status6) (list : List (ℕ × List ℕ)) → AreBehind list 156 → AreBehind (status_options status ++ list) 162
 status_behind None list h =
     record { options = h.options; formed = h.formed; client = h.client; server = h.server; one = h.one; few = h.few; size = omega (arith, h.size) }
@@ -141,6 +153,15 @@ status_behind (Some status) list h =
     }
 
 -- ---- the whole reply
+
+-- its header, the two ids, and what follows them
+pub reply_length : (part : CircuitPart) (message : MessageValue) (client : Key6Value) (reply : Reply6) → length message.transaction_id ≡ 3
+    → length (message_bytes (reply_message part message client reply))
+    ≡ 12 + length client.duid + length part.duid + length (spelling (status_options reply.status ++ ia_options part.lease client.iaid reply.ia))
+reply_length part message client reply id =
+    let rest = status_options reply.status ++ ia_options part.lease client.iaid reply.ia in
+    let all = length-append message.transaction_id (spelling (reply_options part client reply)) in
+    omega (arith, all, behind_size 1 client.duid ((2, part.duid) ∷ rest), behind_size 2 part.duid rest, id)
 
 module _ (part : CircuitPart) (message : MessageValue) (client : Key6Value) (reply : Reply6) (duid : length part.duid ≤ 130) (is : IsReplyTo message client reply) where
   abbrev its : MessageValue
@@ -166,11 +187,7 @@ module _ (part : CircuitPart) (message : MessageValue) (client : Key6Value) (rep
   reply_spelled = record { whole = refl; id = is.id; options = reply_options_are; allowed = reply_allowed; one = behind.one; few = behind.few }
 
   pub reply_size : length (message_bytes its) ≤ 434
-  reply_size =
-      let all = length-append message.transaction_id (spelling (reply_options part client reply)) in
-      let first = behind_size 1 client.duid ((2, part.duid) ∷ rest) in
-      let second = behind_size 2 part.duid rest in
-      omega (arith, all, first, second, is.id, is.duid, duid, behind.size)
+  reply_size = omega (arith, reply_length part message client reply is.id, is.duid, duid, behind.size)
 
 -- ---- reading it
 

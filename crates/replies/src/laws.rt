@@ -19,7 +19,8 @@ ghost use Rattle.replies.specs.Reply6 as reply6;
 /// What the server writes reads back as the reply that it is: its header, and its options in order, the
 /// request's option 82 among them.
 pub fn reply_is_read()
-    ensures { (part : CircuitPart) (request : MessageValue) (reply : Reply4) → IsPart part → IsSized request.header → length (yiaddr_in reply) ≡ 4
+    ensures { (part : CircuitPart) (request : MessageValue) (reply : Reply4) → IsPart part → IsSized request.header
+        → length (yiaddr_in reply) ≡ 4
         → message_of (reply4_bytes part request reply) ≡ Ok (reply_message part request reply) }
 {
     v4_message::laws::written_is_read();
@@ -40,12 +41,18 @@ pub fn reply6_is_read()
         → length (reply6.reply6_bytes part request message client reply) ≤ 508 }
     ensures interface { (part : CircuitPart) (request : RelayValue) (message : message6.MessageValue) (client : Key6Value) (reply : Reply6)
         → look_up INTERFACE_ID (reply6.relay_reply part request message client reply).options ≡ Some part.id }
-    ensures message { (part : CircuitPart) (request : RelayValue) (message : message6.MessageValue) (client : Key6Value) (reply : Reply6)
-        → look_up RELAY_MESSAGE (reply6.relay_reply part request message client reply).options ≡ Some (message6.message_bytes (reply6.reply_message part message client reply)) }
-    ensures inside { (part : CircuitPart) (message : message6.MessageValue) (client : Key6Value) (reply : Reply6) → IsPart part → reply6.IsReplyTo message client reply
-        → message6.SpellsMessage (message6.message_bytes (reply6.reply_message part message client reply)) (reply6.reply_message part message client reply) }
-    ensures inside_again { (part : CircuitPart) (message : message6.MessageValue) (client : Key6Value) (reply : Reply6) → IsPart part → reply6.IsReplyTo message client reply
-        → read6.message_of (message6.message_bytes (reply6.reply_message part message client reply)) ≡ reply6.read_within reply.ia (reply6.reply_message part message client reply) }
+    ensures message { (part : CircuitPart) (request : RelayValue) (message : message6.MessageValue) (client : Key6Value)
+        (reply : Reply6)
+        → look_up RELAY_MESSAGE (reply6.relay_reply part request message client reply).options
+        ≡ Some (message6.message_bytes (reply6.reply_message part message client reply)) }
+    ensures inside { (part : CircuitPart) (message : message6.MessageValue) (client : Key6Value) (reply : Reply6)
+        → IsPart part → reply6.IsReplyTo message client reply
+        → message6.SpellsMessage (message6.message_bytes (reply6.reply_message part message client reply))
+        (reply6.reply_message part message client reply) }
+    ensures inside_again { (part : CircuitPart) (message : message6.MessageValue) (client : Key6Value) (reply : Reply6)
+        → IsPart part → reply6.IsReplyTo message client reply
+        → read6.message_of (message6.message_bytes (reply6.reply_message part message client reply))
+        ≡ reply6.read_within reply.ia (reply6.reply_message part message client reply) }
 {
     v6_message::laws::written_relay_is_read();
     v6_message::laws::written_message_is_read();

@@ -7,7 +7,8 @@ ghost use Rattle.v4_message.specs.Header.{header_bytes};
 ghost use Rattle.v4_message.specs.Layout.{MAGIC_COOKIE};
 ghost use Rattle.v4_message.specs.Spelling.{MessageValue};
 ghost use Rattle.wire.specs.Padding.{padded_to};
-ghost use Rattle.replies.specs.Reply4.{ciaddr_in, echo, flags_in, inform_options, lease_options, mask, nak_options, name_servers, reply4_bytes, reply_header, reply_options, yiaddr_in};
+ghost use Rattle.replies.specs.Reply4.{ciaddr_in, echo, flags_in, inform_options, lease_options, mask, nak_options};
+ghost use Rattle.replies.specs.Reply4.{name_servers, reply4_bytes, reply_header, reply_options, yiaddr_in};
 
 use arrayvec::ArrayVec;
 use config::{CircuitPart, MAX_DNS};

@@ -13,4 +13,4 @@ pub use fault::OptFault;
 pub use iter::Iter;
 pub use options::Options;
 pub use token::{Token, next_token};
-pub use writing::put;
+pub use writing::{put, put_head};

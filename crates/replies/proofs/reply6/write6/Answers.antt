@@ -18,9 +18,7 @@ returns-clause-bytes c =
     let id = c.args.part.now.id in
     let reply = message_bytes (reply_message c.args.part.now c.args.message.now c.args.client.now c.args.reply.now) in
     let front : c.put.new.out ≡ head ++ option 18 id = rw (c.put.ensures.bytes, c.as_bytes.ensures.value, c.id.ensures, c.put_header.ensures.bytes) refl in
-    let inside : c.put_message.new.out ≡ reply = rw (c.put_message.ensures.bytes, c.new-inside.ensures) refl in
-    c.put_inside.ensures.bytes ∙ ap (λ (t : List ℕ). t ++ option 9 c.put_message.new.out) front ∙ ap (λ (t : List ℕ). (head ++ option 18 id) ++ option 9 t) inside
-    ∙ last-append head id reply
+    c.put_message.ensures.bytes ∙ ap (λ (t : List ℕ). t ++ option 9 reply) front ∙ last-append head id reply
 
 pub returns-clause-spelled : goal.returns-clause-spelled
 returns-clause-spelled c =
