@@ -134,7 +134,7 @@ module _ (plans : PlansValue) (quota now sync : ℕ) (parts : Bor (List BatchPar
       subst (λ s. HasText (text_of_part now sync p (machines c) s) (outcome_of c parts.now outcomes)) (sym at.is)
       (answered c at.setup.part.id out (alone_step at.setup (part_seen now sync p) (machines c)).effect (outcome_of c parts.now outcomes) answers)
 
-  line_is : (o : Outcome) → IsListed o → Steps (event.Batch now sync parts) states new o out → batch_text o (length parts.now) ≡ joined (map text parts.now)
+  line_is : (o : Outcome) → IsListed (length parts.now) o → Steps (event.Batch now sync parts) states new o out → batch_text o (length parts.now) ≡ joined (map text parts.now)
   line_is (outcome.Batched outcomes) has steps =
       ap joined (texts_are text parts.now outcomes (right (nat_le 1 (length parts.now) && nat_le (length parts.now) 16) (are_apart parts.now) within.batch) (part_is outcomes steps))
   line_is (outcome.Dropped why) has steps = absurd has

@@ -93,6 +93,7 @@ pub record IsTakenBatch (w new : WorldValue) (sync now : ℕ) (ps : List BatchPa
   pub ups : (c : ℕ) → datagrams new.net c dir.Up ≡ datagrams w.net c dir.Up
   pub downs : (c : ℕ) → datagrams new.net c dir.Down ≡ downs_after w.net.quota (all_parts w is sync ps) answers c (datagrams w.net c dir.Down)
   pub outcomes_are : (i : ℕ) (p : BatchPart) → slice_get ps i ≡ Some p → slice_get outcomes i ≡ Some (Some (outcome_for p.circuit (all_parts w is sync ps) answers))
+  pub past_are : (i : ℕ) → length ps ≤ i → i < 16 → slice_get outcomes i ≡ Some None
   pub bytes : (j : ℕ) (x : Waiting) → slice_get (all_parts w is sync ps) j ≡ Some x → AreBytes (bytes_of w.net x)
   pub law : MeetsEach
   pub comes : RepliesCome
@@ -279,7 +280,7 @@ module _ (w new : WorldValue) (sync now : ℕ) (ps : List BatchPart) (outcomes :
       record {
         gone = λ c batch named past. subst (λ ps. of_part (outcome_of c ps outcomes) ≡ outcome.Gone) parts (is_gone out empty c (ap (is_named c) same ∙ named) past);
         no_batch = λ none. absurd (truth (is_batch given) (ap is_batch (sym same) ∙ b.batch) none);
-        listed = λ batch. tt;
+        listed = λ batch i past below. b.past_are i (subst (λ (xs : List BatchPart). length xs ≤ i) (sym same) past) below;
         silent = (refl, empty);
       }))
 

@@ -6,17 +6,18 @@ use Rattle.types.specs.Delivery.{DeliveryValue}
 use Rattle.types.specs.declared.discard.Discard.{Discard}
 use Rattle.types.specs.declared.discard.Discard.TheVariants.{CircuitClosed, DiskFault}
 use Rattle.config.specs.CircuitPart.{CircuitPart}
-use Rattle.circuit_server.specs.Leases.{Leases, after_datagram, after_saving, after_tick, after_restart, come_back, formats_of, found_leases, kept, moved_format, region_leases, restarts_of, served_leases, turned}
+use Rattle.circuit_server.specs.Leases.{Leases, after_datagram, after_saving, after_tick, after_restart, come_back, formats_of, found_leases, kept, moved_format, recovered_book, region_leases, restarts_of, served_leases, turned}
 use Rattle.circuit_server.specs.Answered.{Answered, after_save, answered}
 use Rattle.circuit_server.specs.Server.{Book, Served, book_at, kept_book, served}
 use Rattle.lease_disk.specs.Crash.{crashed}
-use Rattle.lease_disk.specs.Region.{Region, effective}
+use Rattle.lease_disk.specs.Layout.{is_format2}
+use Rattle.lease_disk.specs.Region.{IsClean, Region, effective, image}
 use Rattle.lease_disk.specs.declared.image.Image.{Image}
 use Rattle.lease_disk.specs.declared.image.Image.TheVariants.{Byte, Unreadable}
 use Rattle.lossy_net.specs.Net.{Datagram}
 use Rattle.types.specs.declared.dest.Proto.{Proto}
 use Rattle.std.specs.Option.{option_or}
-use Rattle.world.specs.Alone.{Alone, Dropped, Gone, Setup, Step, answer_step, alone_step, book_step, delivery_of, found, if_on, is_fault, is_new, served_step, start, up_step}
+use Rattle.world.specs.Alone.{Alone, Dropped, Gone, New, Old, Setup, Step, answer_step, alone_step, book_step, delivery_of, found, if_on, is_fault, is_new, served_step, start, unsent, up_step}
 use Rattle.world.specs.Alone as alone
 use Rattle.world.specs.Headline.{CircuitState, Shows}
 use Rattle.events.specs.Seen.{Up}
@@ -77,6 +78,23 @@ holds_come_back fault (Some b) false a = brought fault b a (is_fault 4 fault) re
   zero_is : (z : Bool) → is_fault 4 fault ≡ not z → z ≡ not (is_fault 4 fault)
   zero_is true e = sym (ap not e)
   zero_is false e = sym (ap not e)
+
+-- a region that cannot be read, none of whose bytes is unsynced
+same_bytes : (region : Region) → IsClean region → (byte : ℕ) → image byte region ≡ region.byte
+same_bytes region clean byte = λ i. λ n. (ap (λ u. if u then byte else region.byte n) (clean.each n)) i
+
+its_format : (two : Bool) (byte : ℕ) → two ≡ is_new (if two then New else Old) byte
+its_format true byte = refl
+its_format false byte = refl
+
+pub holds_unread : (part : CircuitPart) (on : Bool) (region : Region) → IsClean region
+    → Holds (record { book = None; restarts = restarts_of part region; is_new = formats_of region }) (record (unsent on) { kept = recovered_book part region.byte; format = if is_format2 region.byte then New else Old })
+holds_unread part on region clean = record {
+  book = refl;
+  restarts = λ byte. ap (recovered_book part) (same_bytes region clean byte) ∙ found_alike (recovered_book part region.byte) (byte == 0xa5);
+  formats = λ byte. ap is_format2 (same_bytes region clean byte) ∙ its_format (is_format2 region.byte) byte;
+  sure = λ book opened. refl;
+}
 
 -- ---- a moment
 

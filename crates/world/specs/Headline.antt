@@ -141,16 +141,16 @@ abbrev pub batch_of : Event → Option (List BatchPart)
 batch_of (event.Batch now sync parts) = Some parts.now
 batch_of e = None
 
--- it lists what came of the parts of a batch
-abbrev pub IsListed : Outcome → Type 0
-IsListed (outcome.Batched outcomes) = ⊤
-IsListed o = ⊥
+-- it lists what came of so many parts of a batch, and nothing past them
+abbrev pub IsListed : ℕ → Outcome → Type 0
+IsListed count (outcome.Batched outcomes) = (i : ℕ) → count ≤ i → i < 16 → slice_get outcomes i ≡ Some None
+IsListed count o = ⊥
 
 -- What comes of a batch, where these parts are one and where they are none.
 pub record IsBatched (e : Event) (parts : List BatchPart) (old new : List CircuitState) (o : Outcome) (out : List ℕ) : Type 0 where
   pub gone : (c : ℕ) → is_batch parts ≡ true → is_named c parts ≡ true → length old ≤ c → outcome_at c e o ≡ outcome.Gone
   pub no_batch : is_batch parts ≡ false → (o ≡ outcome.NotABatch) × (new ≡ old)
-  pub listed : is_batch parts ≡ true → IsListed o
+  pub listed : is_batch parts ≡ true → IsListed (length parts) o
   pub silent : (frame_of o out ≡ []) × (out ≡ [])
 
 -- One event, taken whole.

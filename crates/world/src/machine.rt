@@ -26,7 +26,7 @@ pub trait Machine {
         ensures steps { Steps event.now (states self.old) (states self.new) result out.new }
         ensures stray { IfSome (stray_outcome (topology self.old) event.now) (λ expected. result ≡ expected) }
         ensures topology { topology self.new ≡ topology_after event.now (topology self.old) }
-        ensures spares { KeepsOthers (topology self.old).circuits (device self.old) (device self.new) };
+        ensures others { KeepsOthers (topology self.old).circuits (device self.old) (device self.new) };
 }
 
 /// Hands the frame of an outcome to the sink, if there is one.
@@ -60,7 +60,7 @@ pub fn run<M: Machine, S: Sink>(
 ) -> Result<(), usize>
     ensures frames { OnOk result (Emits events.now (M.states machine.old) (S.taken sink.old) (S.taken sink.new)) }
     ensures reaches { OnOk result (Reaches events.now (M.states machine.old) (M.states machine.new)) }
-    ensures spares { KeepsOthers (M.topology machine.old).circuits (M.device machine.old) (M.device machine.new) }
+    ensures others { KeepsOthers (M.topology machine.old).circuits (M.device machine.old) (M.device machine.new) }
     ensures quiet { OnOk result (S.refusals sink.new ≡ S.refusals sink.old) }
 
     // The sink refused the frame of event n: it has those of the events before, and the machine has

@@ -91,7 +91,7 @@ fn crash_all(server: &Server, disk: &mut ModelDisk, comebacks: &[Comeback])
     ensures faults { (c : ℕ) (part : CircuitPart) → slice_get server.now.topology.circuits c ≡ Some part
         → failing_call_of disk.new part.region ≡ (comeback_at c comebacks.now).move_fault }
     ensures count { length disk.new.regions ≡ length disk.old.regions }
-    ensures spares { KeepsOthers server.now.topology.circuits (device_of disk.old) (device_of disk.new) }
+    ensures others { KeepsOthers server.now.topology.circuits (device_of disk.old) (device_of disk.new) }
 {
     'circuits: for index in 0..server.circuit_count() {
         let circuit = Circuit::at(index);
@@ -115,7 +115,7 @@ fn clear_faults(server: &Server, disk: &mut ModelDisk)
     ensures count { length disk.new.regions ≡ length disk.old.regions }
     ensures reads { disk.new.reads ≡ disk.old.reads }
     ensures writes { disk.new.writes ≡ disk.old.writes }
-    ensures spares { KeepsOthers server.now.topology.circuits (device_of disk.old) (device_of disk.new) }
+    ensures others { KeepsOthers server.now.topology.circuits (device_of disk.old) (device_of disk.new) }
 {
     'circuits: for index in 0..server.circuit_count() {
         disk.fail_at(server.part(Circuit::at(index)).region(), 0);
@@ -235,7 +235,7 @@ impl World {
         ensures writes { result.disk.writes ≡ disk.writes }
         ensures faults { (c : ℕ) (part : CircuitPart) → slice_get server.topology.circuits c ≡ Some part
             → failing_call_of result.disk part.region ≡ 0 }
-        ensures spares { KeepsOthers server.topology.circuits (device_of disk) (device_of result.disk) }
+        ensures others { KeepsOthers server.topology.circuits (device_of disk) (device_of result.disk) }
     {
         clear_faults(&server, &mut disk);
         World {
@@ -303,7 +303,7 @@ impl World {
         requires { circuit < length self.old.net.circuits }
         ensures moves { Moves circuit (Up number now fault) (states self.old) (states self.new) result out.new }
         ensures topology { self.new.relays.topology ≡ self.old.relays.topology }
-        ensures spares { KeepsOthers self.old.relays.topology.circuits (device_of self.old.disk) (device_of self.new.disk) }
+        ensures others { KeepsOthers self.old.relays.topology.circuits (device_of self.old.disk) (device_of self.new.disk) }
     {
         reply_comes_to_its_circuit();
         if !self.relays.serves(circuit) {
@@ -372,7 +372,7 @@ impl World {
         ensures moves { AllMove (λ c. Restart (comeback_at c comebacks.now)) (states self.old) (states self.new) result out.new }
         ensures done { result ≡ outcome.Done }
         ensures topology { self.new.relays.topology ≡ self.old.relays.topology }
-        ensures spares { KeepsOthers self.old.relays.topology.circuits (device_of self.old.disk) (device_of self.new.disk) }
+        ensures others { KeepsOthers self.old.relays.topology.circuits (device_of self.old.disk) (device_of self.new.disk) }
         ensures empty { out.new ≡ [] }
     {
         out.clear();
@@ -458,7 +458,7 @@ impl World {
         ensures steps { Steps event.now (states self.old) (states self.new) result out.new }
         ensures stray { IfSome (stray_outcome self.old.relays.topology event.now) (λ expected. result ≡ expected) }
         ensures topology { self.new.relays.topology ≡ topology_after event.now self.old.relays.topology }
-        ensures spares { KeepsOthers self.old.relays.topology.circuits (device_of self.old.disk) (device_of self.new.disk) }
+        ensures others { KeepsOthers self.old.relays.topology.circuits (device_of self.old.disk) (device_of self.new.disk) }
     {
         match *event {
             Event::Frame(circuit, proto, frame) => {
@@ -497,7 +497,7 @@ impl World {
     pub fn run<S: Sink>(&mut self, events: &[Event<'_>], sink: &mut S) -> Result<(), usize>
         ensures frames { OnOk result (Emits events.now (states self.old) (S.taken sink.old) (S.taken sink.new)) }
         ensures reaches { OnOk result (Reaches events.now (states self.old) (states self.new)) }
-        ensures spares { KeepsOthers self.old.relays.topology.circuits (device_of self.old.disk) (device_of self.new.disk) }
+        ensures others { KeepsOthers self.old.relays.topology.circuits (device_of self.old.disk) (device_of self.new.disk) }
         ensures quiet { OnOk result (S.refusals sink.new ≡ S.refusals sink.old) }
 
         // The sink refused the frame of event n: it has those of the events before, and the world has

@@ -254,6 +254,7 @@ fn outcomes_of(
     requires few { length parts.now ≤ 16 }
     ensures value { (i : ℕ) (part : BatchPart) → slice_get parts.now i ≡ Some part
         → slice_get result i ≡ Some (Some (outcome_for part.circuit waiting.now answers.now)) }
+    ensures past { (i : ℕ) → length parts.now ≤ i → i < 16 → slice_get result i ≡ Some None }
 {
     let mut outcomes = [None; MAX_BATCH];
     'parts: for index in 0..parts.len() {
@@ -276,7 +277,7 @@ impl World {
         ensures steps { (e : event.Event) → e ≡ events.Batch now sync parts.entry
             → Steps e (states self.old) (states self.new) result out.new }
         ensures topology { self.new.relays.topology ≡ self.old.relays.topology }
-        ensures spares { KeepsOthers self.old.relays.topology.circuits (device_of self.old.disk) (device_of self.new.disk) }
+        ensures others { KeepsOthers self.old.relays.topology.circuits (device_of self.old.disk) (device_of self.new.disk) }
     {
         batch_saves::laws::meets_each_fault();
         super::reply_comes_to_its_circuit();

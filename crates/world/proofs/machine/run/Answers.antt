@@ -13,7 +13,7 @@ events-init g c =
     record {
       emits = emits_nothing start (g.S.Sink.taken c.args.sink.now);
       circuits = refl;
-      spares = spares_stay (g.M.Machine.topology c.args.machine.now).circuits device device refl;
+      others = spares_stay (g.M.Machine.topology c.args.machine.now).circuits device device refl;
       turned = reaches_nothing start;
       reaches = turned_reaches [] start start (reaches_nothing start);
       quiet = refl;
@@ -34,10 +34,10 @@ events-preserved g c = let turned = reaches_next c.args.events.now c.events.n c.
       emits_next c.args.events.now c.events.n c.index-events-n.result c.events-test.true c.index-events-n.is _ _ _ _ _ _ _ _
       c.events.invariant.emits c.events.invariant.turned c.step-outcome.ensures.steps (c.deliver-taken.ensures.yes c.if-not-taken.false);
   circuits = ap (λ (t : Topology). t.circuits) c.step-outcome.ensures.topology ∙ circuits_after c.index-events-n.result (g.M.Machine.topology c.events.machine) ∙ c.events.invariant.circuits;
-  spares =
+  others =
       spares_then (g.M.Machine.topology c.args.machine.now).circuits (g.M.Machine.device c.args.machine.now) (g.M.Machine.device c.events.machine) (g.M.Machine.device c.step-outcome.new.self)
-      c.events.invariant.spares
-      (subst (λ parts. KeepsOthers parts (g.M.Machine.device c.events.machine) (g.M.Machine.device c.step-outcome.new.self)) c.events.invariant.circuits c.step-outcome.ensures.spares);
+      c.events.invariant.others
+      (subst (λ parts. KeepsOthers parts (g.M.Machine.device c.events.machine) (g.M.Machine.device c.step-outcome.new.self)) c.events.invariant.circuits c.step-outcome.ensures.others);
   turned = turned;
   reaches = turned_reaches _ _ _ turned;
   quiet = c.deliver-taken.ensures.quiet c.if-not-taken.false ∙ c.events.invariant.quiet;

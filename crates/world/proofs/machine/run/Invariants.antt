@@ -12,7 +12,7 @@ invariant-events g l =
     record {
       emits : Emits (take l.n l.events) (states l.fn.machine) (taken l.fn.sink) (taken l.sink);
       circuits : (g.M.Machine.topology l.machine).circuits ≡ (g.M.Machine.topology l.fn.machine).circuits;
-      spares : KeepsOthers (g.M.Machine.topology l.fn.machine).circuits (g.M.Machine.device l.fn.machine) (g.M.Machine.device l.machine);
+      others : KeepsOthers (g.M.Machine.topology l.fn.machine).circuits (g.M.Machine.device l.fn.machine) (g.M.Machine.device l.machine);
       turned : Turned (take l.n l.events) (states l.fn.machine) (states l.machine);
       reaches : Reaches (take l.n l.events) (states l.fn.machine) (states l.machine);
       quiet : g.S.Sink.refusals l.sink ≡ g.S.Sink.refusals l.fn.sink;

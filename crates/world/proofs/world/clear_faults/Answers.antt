@@ -34,9 +34,9 @@ circuits-preserved c =
       count = c.fail_at.ensures.others.count ∙ loop.count;
       reads = c.fail_at.ensures.others.reads ∙ loop.reads;
       writes = c.fail_at.ensures.others.writes ∙ loop.writes;
-      spares = record {
-        region = λ r spare. ap (λ (regions : ℕ → Region). regions r) (same_states c.circuits.disk new c.region.result c.fail_at.ensures.state c.fail_at.ensures.others) ∙ loop.spares.region r spare;
-        failing_call = λ r spare. failing_call r (spare_is_other parts n here there r spare) ∙ loop.spares.failing_call r spare;
+      others = record {
+        region = λ r spare. ap (λ (regions : ℕ → Region). regions r) (same_states c.circuits.disk new c.region.result c.fail_at.ensures.state c.fail_at.ensures.others) ∙ loop.others.region r spare;
+        failing_call = λ r spare. failing_call r (spare_is_other parts n here there r spare) ∙ loop.others.failing_call r spare;
       };
       states = same_states c.circuits.disk new c.region.result c.fail_at.ensures.state c.fail_at.ensures.others ∙ loop.states;
       faults = by_index parts n here there (λ k part. failing_call_of new part.region ≡ 0) own (λ k part at less. cleared part.region (part.region == here.region) refl (loop.faults k part at less));

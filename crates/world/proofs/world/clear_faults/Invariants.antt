@@ -11,7 +11,7 @@ invariant-circuits l = record {
   count : length l.disk.regions ≡ length l.fn.disk.regions;
   reads : l.disk.reads ≡ l.fn.disk.reads;
   writes : l.disk.writes ≡ l.fn.disk.writes;
-  spares : KeepsOthers l.server.topology.circuits (device_of l.fn.disk) (device_of l.disk);
+  others : KeepsOthers l.server.topology.circuits (device_of l.fn.disk) (device_of l.disk);
   states : disk_region l.disk ≡ disk_region l.fn.disk;
   faults : (c : ℕ) (part : CircuitPart) → slice_get l.server.topology.circuits c ≡ Some part → c < l.index → failing_call_of l.disk part.region ≡ 0;
 }

@@ -35,17 +35,17 @@ circuits-preserved c =
     subst (λ r. disk_region new r ≡ crashed c.unwrap_or-comeback.result.image (disk_region c.circuits.disk r)) its (c.fail_at.ensures.state ∙ c.crash.ensures.state) in
     record {
       count = c.fail_at.ensures.others.count ∙ c.crash.ensures.others.count ∙ loop.count;
-      spares = record {
-        region = λ r spare. state r (spare_is_other parts n here there r spare) ∙ loop.spares.region r spare;
-        failing_call = λ r spare. failing_call r (spare_is_other parts n here there r spare) ∙ loop.spares.failing_call r spare;
+      others = record {
+        region = λ r spare. state r (spare_is_other parts n here there r spare) ∙ loop.others.region r spare;
+        failing_call = λ r spare. failing_call r (spare_is_other parts n here there r spare) ∙ loop.others.failing_call r spare;
       };
       done = by_index parts n here there (λ k part. disk_region new part.region ≡ crashed (comeback_at k c.args.comebacks.now).image (disk_region first part.region))
-          (own ∙ (λ j. crashed (comeback j).image (loop.others n here there (omega arith) j)))
+          (own ∙ (λ j. crashed (comeback j).image (loop.later n here there (omega arith) j)))
           (λ k part at less. state part.region (not_its parts n here there c.requires.differ k part at (λ same. absurd (omega (arith, less, same)))) ∙ loop.done k part at less);
       faults = by_index parts n here there (λ k part. failing_call_of new part.region ≡ (comeback_at k c.args.comebacks.now).move_fault)
           (subst (λ r. failing_call_of new r ≡ c.unwrap_or-comeback.result.move_fault) its c.fail_at.ensures.failing_call ∙ (λ j. (comeback j).move_fault))
           (λ k part at less. failing_call part.region (not_its parts n here there c.requires.differ k part at (λ same. absurd (omega (arith, less, same)))) ∙ loop.faults k part at less);
-      others = λ k part at least. state part.region (not_its parts n here there c.requires.differ k part at (λ same. absurd (omega (arith, least, same)))) ∙ loop.others k part at (omega (arith, least));
+      later = λ k part at least. state part.region (not_its parts n here there c.requires.differ k part at (λ same. absurd (omega (arith, least, same)))) ∙ loop.later k part at (omega (arith, least));
     }
 
 pub returns-clause-faults : goal.returns-clause-faults

@@ -11,8 +11,8 @@ use Rattle.world.proofs.world.crash_all.Given as goal
 abbrev pub invariant-circuits : goal.invariant-circuits
 invariant-circuits l = record {
   count : length l.disk.regions ≡ length l.fn.disk.regions;
-  spares : KeepsOthers l.server.topology.circuits (device_of l.fn.disk) (device_of l.disk);
+  others : KeepsOthers l.server.topology.circuits (device_of l.fn.disk) (device_of l.disk);
   done : (c : ℕ) (part : CircuitPart) → slice_get l.server.topology.circuits c ≡ Some part → c < l.index → disk_region l.disk part.region ≡ crashed (comeback_at c l.comebacks).image (disk_region l.fn.disk part.region);
   faults : (c : ℕ) (part : CircuitPart) → slice_get l.server.topology.circuits c ≡ Some part → c < l.index → failing_call_of l.disk part.region ≡ (comeback_at c l.comebacks).move_fault;
-  others : (c : ℕ) (part : CircuitPart) → slice_get l.server.topology.circuits c ≡ Some part → l.index ≤ c → disk_region l.disk part.region ≡ disk_region l.fn.disk part.region;
+  later : (c : ℕ) (part : CircuitPart) → slice_get l.server.topology.circuits c ≡ Some part → l.index ≤ c → disk_region l.disk part.region ≡ disk_region l.fn.disk part.region;
 }

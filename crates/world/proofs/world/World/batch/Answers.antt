@@ -51,6 +51,7 @@ known c =
       ups = c.send_all.ensures.ups;
       downs = λ n. c.send_all.ensures.downs n ∙ ap (λ ws. downs_after w.net.quota ws given n (datagrams w.net n dir.Down)) same;
       outcomes_are = λ i p at. c.outcomes_of.ensures.value i p at ∙ ap (λ ws. Some (Some (outcome_for p.circuit ws given))) same;
+      past_are = c.outcomes_of.ensures.past;
       bytes = λ j x at. c.all_waiting-waiting.ensures.bytes j x (ap (λ ws. slice_get ws j) items ∙ at);
       law = c.meets_each_fault.ensures;
       comes = c.reply_comes_to_its_circuit.ensures;
@@ -64,7 +65,7 @@ returns-clause-steps c =
     let P : WorldValue → Type 0 = λ v. (e : Event) → e ≡ events.Batch c.args.now c.args.sync c.args.parts → Steps e (states v) (states (new_world c)) (outcome.Batched c.outcomes_of.result) c.clear.new.self in
     subst P c.self.view_is (batch_steps (old_world c) (new_world c) c.args.sync c.args.now c.args.parts.now c.outcomes_of.result (known c) c.args.parts c.clear.new.self refl c.clear.ensures)
 
-pub returns-clause-spares : goal.returns-clause-spares
-returns-clause-spares c =
+pub returns-clause-others : goal.returns-clause-others
+returns-clause-others c =
     let P : WorldValue → Type 0 = λ v. KeepsOthers v.relays.topology.circuits (disk.device_of v.disk) (disk.device_of c.serve_all.new.disk) in
     subst P c.self.view_is (batch_spares (old_world c) (new_world c) c.args.sync c.args.now c.args.parts.now c.outcomes_of.result (known c))

@@ -45,7 +45,7 @@ returns-in-Ok-open-clause-others c =
     let parts = parts_of c.args.config.now in
     spares_then parts (disk.device_of c.args.disk) (disk.device_of c.open.new.disk) (disk.device_of c.over.result.disk)
     (c.in-Ok-open.ensures.others refl)
-    (subst (λ (t : Topology). KeepsOthers t.circuits (disk.device_of c.open.new.disk) (disk.device_of c.over.result.disk)) c.in-Ok-open.ensures.topology c.over.ensures.spares)
+    (subst (λ (t : Topology). KeepsOthers t.circuits (disk.device_of c.open.new.disk) (disk.device_of c.over.result.disk)) c.in-Ok-open.ensures.topology c.over.ensures.others)
 
 pub returns-in-Ok-open-clause-large : goal.returns-in-Ok-open-clause-large
 returns-in-Ok-open-clause-large c = subst (HasRegions (parts_of c.args.config.now)) c.in-Ok-open.ensures.count c.in-Ok-open.ensures.large

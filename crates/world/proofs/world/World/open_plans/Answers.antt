@@ -45,7 +45,7 @@ returns-in-Ok-open_plans-clause-others c =
     let parts = parts_of c.args.plans.now.union in
     spares_then parts (disk.device_of c.args.disk) (disk.device_of c.open_plans.new.disk) (disk.device_of c.over.result.disk)
     (c.in-Ok-open_plans.ensures.others refl)
-    (subst (λ (t : Topology). KeepsOthers t.circuits (disk.device_of c.open_plans.new.disk) (disk.device_of c.over.result.disk)) c.in-Ok-open_plans.ensures.topology c.over.ensures.spares)
+    (subst (λ (t : Topology). KeepsOthers t.circuits (disk.device_of c.open_plans.new.disk) (disk.device_of c.over.result.disk)) c.in-Ok-open_plans.ensures.topology c.over.ensures.others)
 
 pub returns-in-Ok-open_plans-clause-large : goal.returns-in-Ok-open_plans-clause-large
 returns-in-Ok-open_plans-clause-large c = subst (HasRegions (parts_of c.args.plans.now.union)) c.in-Ok-open_plans.ensures.count c.in-Ok-open_plans.ensures.large

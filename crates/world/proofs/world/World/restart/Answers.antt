@@ -52,8 +52,8 @@ clear_faults-requires-clause-regions c =
 pub clear_faults-requires-clause-few : goal.clear_faults-requires-clause-few
 clear_faults-requires-clause-few c = subst (λ (t : Topology). length t.circuits ≤ 1024) (sym (c.restart.ensures.topology ∙ c.self.invariant.served)) c.self.invariant.sound.few_circuits
 
-pub returns-clause-spares : goal.returns-clause-spares
-returns-clause-spares c =
+pub returns-clause-others : goal.returns-clause-others
+returns-clause-others c =
     let w : WorldValue = record { relays = c.self.inside.relays; net = c.self.inside.net; server = c.self.inside.server; disk = c.self.inside.disk } in
     let first = disk.device_of c.crash_all.new.disk in
     let middle = disk.device_of c.restart.new.disk in
@@ -62,5 +62,5 @@ returns-clause-spares c =
     subst P c.self.view_is
     (subst (λ (t : Topology). KeepsOthers t.circuits (disk.device_of w.disk) new) c.self.invariant.served
     (spares_then w.server.topology.circuits (disk.device_of w.disk) middle new
-    (spares_then w.server.topology.circuits (disk.device_of w.disk) first middle c.crash_all.ensures.spares (c.restart.ensures.others refl))
-    (subst (λ (t : Topology). KeepsOthers t.circuits middle new) c.restart.ensures.topology c.clear_faults.ensures.spares)))
+    (spares_then w.server.topology.circuits (disk.device_of w.disk) first middle c.crash_all.ensures.others (c.restart.ensures.others refl))
+    (subst (λ (t : Topology). KeepsOthers t.circuits middle new) c.restart.ensures.topology c.clear_faults.ensures.others)))

@@ -66,35 +66,35 @@ returns-in-StrayDown-clause-steps c =
     stray_steps c.args.event.now (states c.args.self.now) (states c.args.self.now) c.stray_down.result c.stray_down.new.out (ap is_stray c.in-StrayDown.is)
     c.stray_down.ensures.frame c.stray_down.ensures.empty refl
 
-pub returns-then-not-exists-clause-spares : goal.returns-then-not-exists-clause-spares
-returns-then-not-exists-clause-spares c = spares_stay c.args.self.now.relays.topology.circuits (disk.device_of c.args.self.now.disk) (disk.device_of c.args.self.now.disk) refl
+pub returns-then-not-exists-clause-others : goal.returns-then-not-exists-clause-others
+returns-then-not-exists-clause-others c = spares_stay c.args.self.now.relays.topology.circuits (disk.device_of c.args.self.now.disk) (disk.device_of c.args.self.now.disk) refl
 
-pub returns-then-not-exists-2-clause-spares : goal.returns-then-not-exists-2-clause-spares
-returns-then-not-exists-2-clause-spares c = spares_stay c.args.self.now.relays.topology.circuits (disk.device_of c.args.self.now.disk) (disk.device_of c.args.self.now.disk) refl
+pub returns-then-not-exists-2-clause-others : goal.returns-then-not-exists-2-clause-others
+returns-then-not-exists-2-clause-others c = spares_stay c.args.self.now.relays.topology.circuits (disk.device_of c.args.self.now.disk) (disk.device_of c.args.self.now.disk) refl
 
-pub returns-then-not-exists-3-clause-spares : goal.returns-then-not-exists-3-clause-spares
-returns-then-not-exists-3-clause-spares c = spares_stay c.args.self.now.relays.topology.circuits (disk.device_of c.args.self.now.disk) (disk.device_of c.args.self.now.disk) refl
+pub returns-then-not-exists-3-clause-others : goal.returns-then-not-exists-3-clause-others
+returns-then-not-exists-3-clause-others c = spares_stay c.args.self.now.relays.topology.circuits (disk.device_of c.args.self.now.disk) (disk.device_of c.args.self.now.disk) refl
 
-pub returns-else-not-exists-clause-spares : goal.returns-else-not-exists-clause-spares
-returns-else-not-exists-clause-spares c = spares_stay c.args.self.now.relays.topology.circuits (disk.device_of c.args.self.now.disk) (disk.device_of c.frame.new.self.disk) (ap (λ d. disk.device_of d) c.frame.ensures.disk)
+pub returns-else-not-exists-clause-others : goal.returns-else-not-exists-clause-others
+returns-else-not-exists-clause-others c = spares_stay c.args.self.now.relays.topology.circuits (disk.device_of c.args.self.now.disk) (disk.device_of c.frame.new.self.disk) (ap (λ d. disk.device_of d) c.frame.ensures.disk)
 
-pub returns-else-not-exists-3-clause-spares : goal.returns-else-not-exists-3-clause-spares
-returns-else-not-exists-3-clause-spares c = spares_stay c.args.self.now.relays.topology.circuits (disk.device_of c.args.self.now.disk) (disk.device_of c.down.new.self.disk) (ap (λ d. disk.device_of d) c.down.ensures.disk)
+pub returns-else-not-exists-3-clause-others : goal.returns-else-not-exists-3-clause-others
+returns-else-not-exists-3-clause-others c = spares_stay c.args.self.now.relays.topology.circuits (disk.device_of c.args.self.now.disk) (disk.device_of c.down.new.self.disk) (ap (λ d. disk.device_of d) c.down.ensures.disk)
 
-pub returns-in-Tick-clause-spares : goal.returns-in-Tick-clause-spares
-returns-in-Tick-clause-spares c = spares_stay c.args.self.now.relays.topology.circuits (disk.device_of c.args.self.now.disk) (disk.device_of c.tick.new.self.disk) (ap (λ d. disk.device_of d) c.tick.ensures.disk)
+pub returns-in-Tick-clause-others : goal.returns-in-Tick-clause-others
+returns-in-Tick-clause-others c = spares_stay c.args.self.now.relays.topology.circuits (disk.device_of c.args.self.now.disk) (disk.device_of c.tick.new.self.disk) (ap (λ d. disk.device_of d) c.tick.ensures.disk)
 
-pub returns-in-StrayDown-clause-spares : goal.returns-in-StrayDown-clause-spares
-returns-in-StrayDown-clause-spares c = spares_stay c.args.self.now.relays.topology.circuits (disk.device_of c.args.self.now.disk) (disk.device_of c.args.self.now.disk) refl
+pub returns-in-StrayDown-clause-others : goal.returns-in-StrayDown-clause-others
+returns-in-StrayDown-clause-others c = spares_stay c.args.self.now.relays.topology.circuits (disk.device_of c.args.self.now.disk) (disk.device_of c.args.self.now.disk) refl
 
-pub returns-in-StrayUp-clause-spares : goal.returns-in-StrayUp-clause-spares
-returns-in-StrayUp-clause-spares c = spares_stay c.args.self.now.relays.topology.circuits (disk.device_of c.args.self.now.disk) (disk.device_of c.stray_up.new.self.disk) c.stray_up.ensures.device
+pub returns-in-StrayUp-clause-others : goal.returns-in-StrayUp-clause-others
+returns-in-StrayUp-clause-others c = spares_stay c.args.self.now.relays.topology.circuits (disk.device_of c.args.self.now.disk) (disk.device_of c.stray_up.new.self.disk) c.stray_up.ensures.device
 
 pub returns-in-Reload-clause-steps : goal.returns-in-Reload-clause-steps
 returns-in-Reload-clause-steps c = c.reload.ensures.steps c.args.event.now c.in-Reload.is
 
-pub returns-in-Reload-clause-spares : goal.returns-in-Reload-clause-spares
-returns-in-Reload-clause-spares c = spares_stay c.args.self.now.relays.topology.circuits (disk.device_of c.args.self.now.disk) (disk.device_of c.reload.new.self.disk) (ap (λ d. disk.device_of d) c.reload.ensures.disk)
+pub returns-in-Reload-clause-others : goal.returns-in-Reload-clause-others
+returns-in-Reload-clause-others c = spares_stay c.args.self.now.relays.topology.circuits (disk.device_of c.args.self.now.disk) (disk.device_of c.reload.new.self.disk) (ap (λ d. disk.device_of d) c.reload.ensures.disk)
 
 pub returns-in-Batch-clause-steps : goal.returns-in-Batch-clause-steps
 returns-in-Batch-clause-steps c = c.batch.ensures.steps c.args.event.now c.in-Batch.is

@@ -164,12 +164,12 @@ returns-in-Err-clause-moves c =
     c.in-Err.why c.in-Err.is refl)
     )
 
-pub returns-in_default-clause-spares : goal.returns-in_default-clause-spares
-returns-in_default-clause-spares c =
+pub returns-in_default-clause-others : goal.returns-in_default-clause-others
+returns-in_default-clause-others c =
     let w = c.args.self.now in spares_stay w.relays.topology.circuits (disk.device_of w.disk) (disk.device_of w.disk) refl
 
-pub returns-in-Ok-clause-spares : goal.returns-in-Ok-clause-spares
-returns-in-Ok-clause-spares c =
+pub returns-in-Ok-clause-others : goal.returns-in-Ok-clause-others
+returns-in-Ok-clause-others c =
     let w : WorldValue = record { relays = c.self.inside.relays; net = c.self.inside.net; server = c.self.inside.server; disk = c.self.inside.disk } in
     let k = c.args.circuit in
     let within = subst (λ (v : WorldValue). k < length v.net.circuits) (sym c.self.view_is) c.requires in
@@ -186,8 +186,8 @@ returns-in-Ok-clause-spares c =
     (spares_beside w.relays.topology.circuits region (disk.device_of w.disk) (disk.device_of c.fail_at-2.new.self) k given
     (ap (λ (t : Topology). slice_get t.circuits k) (sym is.served) ∙ c.part-part.ensures) (sym c.region-region.ensures) beside)
 
-pub returns-in-Err-clause-spares : goal.returns-in-Err-clause-spares
-returns-in-Err-clause-spares c =
+pub returns-in-Err-clause-others : goal.returns-in-Err-clause-others
+returns-in-Err-clause-others c =
     let w : WorldValue = record { relays = c.self.inside.relays; net = c.self.inside.net; server = c.self.inside.server; disk = c.self.inside.disk } in
     let k = c.args.circuit in
     let within = subst (λ (v : WorldValue). k < length v.net.circuits) (sym c.self.view_is) c.requires in
@@ -218,6 +218,6 @@ returns-then-not-serves-clause-moves c =
     (up_off k w the.part the.leases c.gone.new.out off c.gone.ensures.empty c.args.number c.args.now c.args.fault)
     ))
 
-pub returns-then-not-serves-clause-spares : goal.returns-then-not-serves-clause-spares
-returns-then-not-serves-clause-spares c =
+pub returns-then-not-serves-clause-others : goal.returns-then-not-serves-clause-others
+returns-then-not-serves-clause-others c =
     let w = c.args.self.now in spares_stay w.relays.topology.circuits (disk.device_of w.disk) (disk.device_of w.disk) refl
