@@ -1,5 +1,5 @@
 -- The bytes of the server's DHCPv6 replies (RFC 8415, sections 18.3 and 19.3).
-use Rattle.std.specs.Prelude.{◌≡◌, ℕ, ◌+◌, ◌*◌, ◌/◌, ◌≤◌, nat_le, List, [], ◌∷◌, ◌++◌, length, map, All, Option, None, Result, Ok, Err, if◌then◌else◌}
+use Rattle.std.specs.Prelude.{◌≡◌, ℕ, ◌+◌, ◌*◌, ◌/◌, ◌≤◌, nat_le, List, [], ◌∷◌, ◌++◌, length, map, All, Option, Result, Ok, Err, if◌then◌else◌}
 use Rattle.std.specs.Int.{w16, to_be_bytes}
 use Rattle.std.specs.Option.{option_map_or}
 use Rattle.types.specs.Key6.{Key6Value}
