@@ -1,5 +1,5 @@
 -- A step of the world as the result of a line.
-use Rattle.std.proofs.Common.{◌≡◌, ℕ, ◌<◌, ◌≤◌, Bool, true, false, cond, eqb, eqb-true, eq-eqb, le-ltb, lt-ltb, List, [], length, refl, ap, sym, subst, ◌∙◌, arith}
+use Rattle.std.proofs.Common.{◌≡◌, ℕ, ◌<◌, ◌≤◌, ◌+◌, inr, Bool, true, false, cond, eqb, eqb-true, eq-eqb, le-ltb, lt-ltb, List, [], length, refl, ap, sym, subst, ◌∙◌, arith}
 use Rattle.std.specs.Prelude.{Option, Some, None, nat_lt, slice_get, option_map}
 use Rattle.std.specs.Io.KnownBytes.{Appends}
 use Rattle.std.proofs.lemmas.List.{length-map}
@@ -29,10 +29,10 @@ use Rattle.events.specs.declared.comeback.Comeback.{Comeback}
 use Rattle.events.specs.Seen as sees
 use Rattle.lab_text.specs.Fields.{comeback_in}
 use Rattle.lab_text.specs.ParsedLine.{IsRestart}
-use Rattle.lab_engine.specs.Lab.{named_result, line_result, with_machine, reloaded, ticked, restarted}
+use Rattle.lab_engine.specs.Lab.{Applied, named_result, line_result, with_machine, reloaded, ticked, restarted}
 use Rattle.lab_text.specs.Line.{Line, Bad, line_of_text, short_line}
 use Rattle.streams.specs.Writing.{AppendsPrefix}
-use Rattle.lab_engine.specs.Progress.{AllRepresent, HasResult, KnowsPlans, Names}
+use Rattle.lab_engine.specs.Progress.{AllRepresent, HasResult, HasStatus, IsDoneBy, KnowsPlans, Names}
 use Rattle.lab_engine.specs.Output.{effect_text, outcome_effect, with_newline}
 
 -- the effect of the outcome
@@ -146,25 +146,60 @@ represents_reloaded plans quota plan states new o out machines steps represents 
 }
 
 -- the server and the disk start again
-pub restart_applied : (plans : PlansValue) (quota number : ℕ) (comebacks : Bor (List Comeback)) (line : Line) (states new : List CircuitState) (o : Outcome) (out : List ℕ) (machines : ℕ → Alone) (held holds : Option (List ℕ))
-    → IsRestart comebacks.now line → Steps (event.Restart comebacks) states new o out → AllRepresent plans quota states machines → Appends held holds (with_newline (effect_text [] Done))
-    → HasResult plans quota number (line_result plans quota machines line) new held holds None
-restart_applied plans quota number comebacks line states new o out machines held holds is steps represents written =
-    subst (λ l. HasResult plans quota number (line_result plans quota machines l) new held holds None) (sym is.is) (record {
-      appended = written;
-      represents = record {
-        each = λ c setup h.
-            subst (λ s. Represents c new setup (restarted (comeback_in c is.named) (machines c) s)) (sym h)
-            (subst (λ comeback. Represents c new setup (alone_step setup (sees.Restart comeback) (machines c)).next) (is.each c)
-            (steps.each c setup (machines c) (represents.each c setup h)));
-        members = λ c. steps.plans c ∙ represents.members c;
-      };
-    })
+represents_restarted : (plans : PlansValue) (quota : ℕ) (comebacks : Bor (List Comeback)) (line : Line) (states new : List CircuitState) (o : Outcome) (out : List ℕ) (machines : ℕ → Alone)
+    → (is : IsRestart comebacks.now line) → Steps (event.Restart comebacks) states new o out → AllRepresent plans quota states machines
+    → AllRepresent plans quota new (λ c. restarted (comeback_in c is.named) (machines c) (setup_in plans quota c))
+represents_restarted plans quota comebacks line states new o out machines is steps represents = record {
+  each = λ c setup h.
+      subst (λ s. Represents c new setup (restarted (comeback_in c is.named) (machines c) s)) (sym h)
+      (subst (λ comeback. Represents c new setup (alone_step setup (sees.Restart comeback) (machines c)).next) (is.each c)
+      (steps.each c setup (machines c) (represents.each c setup h)));
+  members = λ c. steps.plans c ∙ represents.members c;
+}
 
-pub restart_not_written : (plans : PlansValue) (quota number : ℕ) (comebacks : List Comeback) (line : Line) (states : List CircuitState) (machines : ℕ → Alone) (held holds : Option (List ℕ))
-    → IsRestart comebacks line → AppendsPrefix held holds (with_newline (effect_text [] Done)) → HasResult plans quota number (line_result plans quota machines line) states held holds (Some 6)
-restart_not_written plans quota number comebacks line states machines held holds is written =
-    subst (λ l. HasResult plans quota number (line_result plans quota machines l) states held holds (Some 6)) (sym is.is) (refl, written)
+-- the machines after an event of which `ok` is written
+record DoneTo (plans : PlansValue) (quota : ℕ) (line : Line) (new : List CircuitState) (machines : ℕ → Alone) : Type 0 where
+  next : ℕ → Alone
+  is : line_result plans quota machines line ≡ Applied (with_newline (effect_text [] Done)) next
+  represents : AllRepresent plans quota new next
+
+done_to : (plans : PlansValue) (quota : ℕ) (line : Line) (e : Event) (states new : List CircuitState) (o : Outcome) (out : List ℕ) (machines : ℕ → Alone)
+    → IsDoneBy plans line e → Steps e states new o out → AllRepresent plans quota states machines → DoneTo plans quota line new machines
+done_to plans quota line (event.Tick now) states new o out machines is steps represents = record {
+  next = λ c. ticked now (machines c) (setup_in plans quota c);
+  is = ap (line_result plans quota machines) is;
+  represents = represents_ticked plans quota now states new o out machines steps represents;
+}
+done_to plans quota line (event.Reload plan) states new o out machines is steps represents = record {
+  next = λ c. reloaded (members_of plans c) plan (machines c) (setup_in plans quota c);
+  is = ap (line_result plans quota machines) is.1;
+  represents = represents_reloaded plans quota plan states new o out machines steps represents;
+}
+done_to plans quota line (event.Restart comebacks) states new o out machines is steps represents = record {
+  next = λ c. restarted (comeback_in c is.named) (machines c) (setup_in plans quota c);
+  is = ap (line_result plans quota machines) is.is;
+  represents = represents_restarted plans quota comebacks line states new o out machines is steps represents;
+}
+done_to plans quota line (event.Frame circuit proto bytes) states new o out machines is steps represents = absurd is
+done_to plans quota line (event.Up circuit j now fault) states new o out machines is steps represents = absurd is
+done_to plans quota line (event.Batch now sync parts) states new o out machines is steps represents = absurd is
+done_to plans quota line (event.Down circuit j) states new o out machines is steps represents = absurd is
+done_to plans quota line (event.StrayUp proto source bytes now) states new o out machines is steps represents = absurd is
+done_to plans quota line (event.StrayDown relay source bytes) states new o out machines is steps represents = absurd is
+
+pub done_applied : (plans : PlansValue) (quota number : ℕ) (line : Line) (e : Event) (states new : List CircuitState) (o : Outcome) (out : List ℕ) (machines : ℕ → Alone) (held holds : Option (List ℕ))
+    → IsDoneBy plans line e → Steps e states new o out → AllRepresent plans quota states machines → Appends held holds (with_newline (effect_text [] Done))
+    → HasResult plans quota number (line_result plans quota machines line) new held holds None
+done_applied plans quota number line e states new o out machines held holds is steps represents written =
+    let done = done_to plans quota line e states new o out machines is steps represents in
+    subst (λ r. HasResult plans quota number r new held holds None) (sym done.is) (record { appended = written; represents = done.represents })
+
+pub done_not_written : (plans : PlansValue) (quota number : ℕ) (line : Line) (e : Event) (states new : List CircuitState) (o : Outcome) (out : List ℕ) (machines : ℕ → Alone) (held holds : Option (List ℕ))
+    → IsDoneBy plans line e → Steps e states new o out → AllRepresent plans quota states machines → AppendsPrefix held holds (with_newline (effect_text [] Done))
+    → HasResult plans quota number (line_result plans quota machines line) new held holds (Some 6)
+done_not_written plans quota number line e states new o out machines held holds is steps represents written =
+    let done = done_to plans quota line e states new o out machines is steps represents in
+    subst (λ r. HasResult plans quota number r new held holds (Some 6)) (sym done.is) (refl, written)
 
 -- whichever plan is in force after an event, relays and server are those of these plans
 knows_reloaded : (plans : PlansValue) (plan : ℕ) (t : Topology) → KnowsPlans plans t → KnowsPlans plans (topology.reloaded plan t)
@@ -189,6 +224,24 @@ knows_after plans (event.StrayDown relay source bytes) t knows = knows
 
 pub knows_next : (plans : PlansValue) (e : Event) (old new : Topology) → new ≡ topology_after e old → KnowsPlans plans old → KnowsPlans plans new
 knows_next plans e old new is knows = subst (KnowsPlans plans) (sym is) (knows_after plans e old knows)
+
+-- the status of a line whose event is done and written
+pub status_done : (e : Event) (failures after : ℕ) (old new : Topology) → new ≡ topology_after e old → after ≡ failures → HasStatus None failures after old new
+status_done e failures after old new is same = record {
+  known = λ plans knows. knows_next plans e old new is knows;
+  end = tt;
+  quiet = λ fine. same;
+  cause = λ failed. absurd (cc);
+}
+
+-- and where the writer failed
+pub status_failed : (e : Event) (failures after : ℕ) (old new : Topology) → new ≡ topology_after e old → after ≡ failures + 1 → HasStatus (Some 6) failures after old new
+status_failed e failures after old new is more = record {
+  known = λ plans knows. knows_next plans e old new is knows;
+  end = inr refl;
+  quiet = λ fine. absurd (fine refl);
+  cause = λ failed. more;
+}
 
 -- what comes of a stray whose source is not one of the plans'
 pub stray_up_known : (t : Topology) (plans : PlansValue) (source : Source) → KnowsPlans plans t → is_relay (topology_of plans.union) source ≡ false

@@ -24,15 +24,18 @@ use Rattle.world.specs.Alone.{Setup, setup_of}
 use Rattle.world.specs.Headline.{CircuitState}
 use Rattle.world.specs.Start.{Opening, begins_on, setup_in}
 use Rattle.world.proofs.SetupLemmas.{its_part, setup_at}
-use Rattle.lab_text.specs.declared.parse_line.ParsedLine.{ParsedLine}
+use Rattle.lab_text.specs.declared.parse_line.Preparation.{Preparation}
+use Rattle.streams.specs.declared.line.LineEnd.{LineEnd}
 use Rattle.streams.specs.declared.line.LineEnd.TheVariants.{Newline, EndOfInput, TooLong}
-use Rattle.lab_engine.specs.Preparations.{IsReady, AreReady, IsOpening, AreOver, ArePrepared, PreparedSoFar}
+use Rattle.lab_engine.specs.Preparations.{IsReady, IsReadyFor, AreReady, AreWithin, IsOpening, AreOver, ArePrepared, PreparedSoFar, StaysReady}
+use Rattle.lab_engine.specs.Next.{IsHeld}
 use Rattle.lab_engine.specs.Progress.{AllRepresent, SoFar}
+use Rattle.lab_engine.specs.declared.buffers.Buffers.{Buffers}
 use Rattle.lab_engine.specs.Lab.{first_machines, first_openings, lab_from, lab_output, loaded, or_begin, output_from, prepared, with_opening}
 use Rattle.lab_text.specs.Line.{line_of_text}
-use Rattle.streams.specs.LineEnd.{Fits, HoldsLine, HoldsLast, HoldsLong, IsLast, IsLine}
+use Rattle.streams.specs.LineEnd.{Fits, HoldsLine, HoldsLast, HoldsLong, IsLast, IsLine, IsLineRead}
 use Rattle.streams.specs.Lines.{lacks, lines_of}
-use Rattle.lab_text.specs.ParsedLine.{line_of}
+use Rattle.lab_text.specs.ParsedLine.{line_of_preparation}
 use Rattle.streams.proofs.CutLemmas.{line_before, line_begins, line_last}
 use Rattle.lab_engine.proofs.LineResultLemmas.{long_is}
 use Rattle.streams.proofs.ReadLemmas.{consumes_none, consumes_more}
@@ -66,14 +69,23 @@ pub but_one : (region : ℕ) (old new : ModelDiskValue) → SameBut region old n
 but_one region old new others = record { count = others.count; region = λ tells q apart. ap region_of (others.others q apart); failing_call = λ tells q apart. others.failing_calls q apart }
 
 pub ready_after : (region : ℕ) (old new : ModelDiskValue) → Changes region old new → (IsReady (disk_region old region) → IsReady (disk_region new region))
-    → AreReady (length old.regions) (disk_region old) → AreReady (length new.regions) (disk_region new)
-ready_after region old new changes here ready q inside = by (cases_eq q region) where
-  within : q < length old.regions
-  within = let e = changes.count in omega arith
+    → AreReady (length old.regions) (disk_region old) → StaysReady old new
+ready_after region old new changes here ready = record { regions = changes.count; ready = λ q inside. by q (let e = changes.count in omega arith) (cases_eq q region) } where
+  by : (q : ℕ) → q < length old.regions → (q ≡ region) ⊎ (q ≡ region → ⊥) → IsReady (disk_region new q)
+  by q within (inl same) = subst (λ p. IsReady (disk_region new p)) (sym same) (here (subst (λ p. IsReady (disk_region old p)) same (ready q within)))
+  by q within (inr apart) = subst IsReady (sym (changes.region refl q apart)) (ready q within)
 
-  by : (q ≡ region) ⊎ (q ≡ region → ⊥) → IsReady (disk_region new q)
-  by (inl same) = subst (λ p. IsReady (disk_region new p)) (sym same) (here (subst (λ p. IsReady (disk_region old p)) same (ready q within)))
-  by (inr apart) = subst IsReady (sym (changes.region refl q apart)) (ready q within)
+-- a disk that changed twice
+pub ready_twice : (old between new : ModelDiskValue) → StaysReady old between → StaysReady between new → StaysReady old new
+ready_twice old between new first second = record { regions = second.regions ∙ first.regions; ready = second.ready }
+
+-- it is ready for the same circuits
+pub ready_for : (settings : Settings) (old new : ModelDiskValue) → AreWithin settings (length old.regions) → StaysReady old new → IsReadyFor settings new
+ready_for settings old new within stays = record { regions = subst (AreWithin settings) (sym stays.regions) within; ready = stays.ready }
+
+-- the line that was read, which was not parsed
+pub not_parsed : (plans : PlansValue) (buffers : Buffers) (bytes : List ℕ) (left : Option (List ℕ)) (end : LineEnd) → IsLineRead bytes left end → IsHeld plans buffers bytes end None
+not_parsed plans buffers bytes left end read = record { within = read.within; inside = read.inside; parsed = tt }
 
 pub fill_ready : (byte : ℕ) (old new : Region) → new ≡ filled byte old → IsReady old → IsReady new
 fill_ready byte old new state before = subst IsReady (sym state) (record { readable = before.readable; clean = record { each = before.clean.each } })
@@ -158,9 +170,9 @@ module _ (plans : PlansValue) (sound : IsSound plans.union) (c : ℕ) (circuit :
     })
 
 -- the lines before events are these
-pub prepared_as : (plans : PlansValue) (quota : ℕ) (device : Device) (parsed : ParsedLine) (is : ParsedLine) (bytes : List ℕ) (openings : ℕ → Opening) → parsed ≡ is
-    → ArePrepared plans quota device (prepared (line_of is bytes) openings) → ArePrepared plans quota device (prepared (line_of parsed bytes) openings)
-prepared_as plans quota device parsed is bytes openings e h = subst (λ p. ArePrepared plans quota device (prepared (line_of p bytes) openings)) (sym e) h
+pub prepared_as : (plans : PlansValue) (quota : ℕ) (device : Device) (parsed is : Preparation) (bytes : List ℕ) (openings : ℕ → Opening) → parsed ≡ is
+    → ArePrepared plans quota device (prepared (line_of_preparation is bytes) openings) → ArePrepared plans quota device (prepared (line_of_preparation parsed bytes) openings)
+prepared_as plans quota device parsed is bytes openings e h = subst (λ p. ArePrepared plans quota device (prepared (line_of_preparation p bytes) openings)) (sym e) h
 
 -- ---- the text
 

@@ -1,4 +1,5 @@
 pub mod Lab
+pub mod Next
 pub mod Output
 pub mod Preparations
 pub mod Progress

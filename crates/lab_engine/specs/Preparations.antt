@@ -1,10 +1,12 @@
 -- A text before its first event. Only proofs need these.
-use Rattle.std.specs.Prelude.{◌≡◌, ℕ, ◌<◌, Bool, true, false, List, ◌++◌, slice_get, Option, Some, None}
+use Rattle.std.specs.Prelude.{◌≡◌, ℕ, ◌<◌, Bool, true, false, List, ◌++◌, length, slice_get, Option, Some, None}
 use Rattle.std.specs.Io.KnownBytes.{Consumes}
 use Rattle.config.specs.Plans.{PlansValue}
 use Rattle.settings.specs.Settings.{Settings}
 use Rattle.settings.specs.declared.settings.CircuitConfig.{CircuitConfig}
+use Rattle.lease_disk.specs.Crash.{formatted_region}
 use Rattle.lease_disk.specs.Device.{Device}
+use Rattle.lease_disk.specs.Model.{ModelDiskValue, failing_call_of, disk_region}
 use Rattle.lease_disk.specs.Region.{Region, IsClean}
 use Rattle.world.specs.Alone.{Setup}
 use Rattle.world.specs.Start.{Opening, setup_in}
@@ -22,6 +24,21 @@ AreReady count regions = (q : ℕ) → q < count → IsReady (regions q)
 -- each circuit's region is one of the first
 abbrev pub AreWithin : Settings → ℕ → Type 0
 AreWithin settings count = (c : ℕ) (circuit : CircuitConfig) → slice_get settings.circuits c ≡ Some circuit → circuit.region < count
+
+-- Each circuit's region is one of the disk's, which are all ready.
+pub record IsReadyFor (settings : Settings) (disk : ModelDiskValue) : Type 0 where
+  pub regions : AreWithin settings (length disk.regions)
+  pub ready : AreReady (length disk.regions) (disk_region disk)
+
+-- The disk has as many regions as before, which are all ready.
+pub record StaysReady (old new : ModelDiskValue) : Type 0 where
+  pub regions : length new.regions ≡ length old.regions
+  pub ready : AreReady (length new.regions) (disk_region new)
+
+-- Every region was just formatted, and no call fails.
+pub record IsFormatted (disk : ModelDiskValue) : Type 0 where
+  pub formatted : (q : ℕ) → q < length disk.regions → disk_region disk q ≡ formatted_region
+  pub sound : (q : ℕ) → q < length disk.regions → failing_call_of disk q ≡ 0
 
 -- This is what an opening finds of a region: its bytes, and the call that fails.
 pub record IsOpening (device : Device) (region : ℕ) (opening : Opening) : Type 0 where

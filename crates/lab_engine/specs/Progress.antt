@@ -1,5 +1,5 @@
 -- What a line and a run of lines do to the world and to the writer. Only contracts between crates cite these.
-use Rattle.std.specs.Prelude.{◌≡◌, ℕ, ◌⊎◌, ◌==◌, if◌then◌else◌, Bool, List, ◌++◌, length, Option, Some, None}
+use Rattle.std.specs.Prelude.{◌≡◌, ℕ, ◌+◌, ◌<◌, ◌⊎◌, ◌==◌, if◌then◌else◌, Bool, List, ◌++◌, length, Option, Some, None, IfSome}
 use Rattle.std.specs.Io.KnownBytes.{Appends, Consumes}
 use Rattle.config.specs.Plans.{PlansValue}
 use Rattle.config.specs.Topology.{Topology, topology_with}
@@ -10,12 +10,15 @@ use Rattle.world.specs.Headline.{CircuitState, Represents, plans_at}
 use Rattle.world.specs.Start.{members_of, setup_in}
 use Rattle.events.specs.Seen.{Seen, named_by, seen_of}
 use Rattle.events.specs.declared.event.Event.{Event}
+use Rattle.events.specs.declared.event.Event.TheVariants as event
 use Rattle.lab_engine.specs.Lab.{Output, LineResult, Refused, Applied, lab_from}
-use Rattle.lab_text.specs.Line.{line_of_text}
+use Rattle.lab_text.specs.Line.{Line, Reload, Tick, line_of_text}
 use Rattle.streams.specs.Lines.{lines_of}
-use Rattle.lab_text.specs.ParsedLine.{Means, ParsedWithin}
+use Rattle.lab_text.specs.ParsedLine.{IsRestart, Means, ParsedWithin}
 use Rattle.lab_text.specs.declared.parse_line.Parsed.{Parsed}
+use Rattle.lab_engine.specs.declared.buffers.Buffers.{Buffers}
 use Rattle.lab_engine.specs.Output.{bad_text}
+use Rattle.lab_engine.specs.Run.{IsEnd}
 use Rattle.streams.specs.Writing.{AppendsPrefix}
 
 -- each circuit's state represents its machine, and says which plans have it
@@ -33,10 +36,26 @@ pub record Names (circuit : ℕ) (seen : Seen) (event : Event) : Type 0 where
   pub named : named_by event ≡ Some circuit
   pub sees : (plans : List Bool) (c : ℕ) (on : Bool) → seen_of plans c on event ≡ (if circuit == c then Some seen else None)
 
+-- The line says this event, of which only `ok` is written.
+abbrev pub IsDoneBy : PlansValue → Line → Event → Type 0
+IsDoneBy plans line (event.Tick now) = line ≡ Tick now
+IsDoneBy plans line (event.Reload plan) = (plan < plans.count) × (line ≡ Reload plan)
+IsDoneBy plans line (event.Restart comebacks) = IsRestart comebacks.now line
+IsDoneBy plans line (event.Frame circuit proto bytes) = ⊥
+IsDoneBy plans line (event.Up circuit j now fault) = ⊥
+IsDoneBy plans line (event.Batch now sync parts) = ⊥
+IsDoneBy plans line (event.Down circuit j) = ⊥
+IsDoneBy plans line (event.StrayUp proto source bytes now) = ⊥
+IsDoneBy plans line (event.StrayDown relay source bytes) = ⊥
+
 -- This line was parsed to this, with its bytes, its comebacks and its parts in these buffers.
 pub record IsParsed (plans : PlansValue) (bytes : List ℕ) (comebacks : List Comeback) (parts : List BatchPart) (line : List ℕ) (parsed : Parsed) : Type 0 where
   pub means : Means parsed bytes comebacks parts (line_of_text plans.union plans.count line)
   pub within : ParsedWithin plans.union plans.count parts parsed
+
+-- It was parsed to this, with all of them in these.
+abbrev pub IsParsedIn : PlansValue → Buffers → List ℕ → Parsed → Type 0
+IsParsedIn plans buffers line parsed = IsParsed plans buffers.bytes buffers.comebacks buffers.parts line parsed
 
 -- A line was applied, and its output was written.
 pub record IsApplied (plans : PlansValue) (quota : ℕ) (written : List ℕ) (machines : ℕ → Alone) (states : List CircuitState) (held holds : Option (List ℕ)) : Type 0 where
@@ -62,6 +81,14 @@ abbrev pub HasLastResult : PlansValue → ℕ → ℕ → List ℕ → LineResul
 HasLastResult plans quota number line result states held holds status =
     ((length line ≡ 0) × (status ≡ 0) × (holds ≡ held))
     ⊎ ((length line ≡ 0 → ⊥) × (((status ≡ 0) × HasResult plans quota number result states held holds None) ⊎ HasResult plans quota number result states held holds (Some status)))
+
+-- Relays and server are those of the same plans after an event, and its line ends the run with 3, with 6 exactly where the writer
+-- failed, by its counts before and after, or not at all.
+pub record HasStatus (status : Option ℕ) (failures failures_after : ℕ) (topology topology_after : Topology) : Type 0 where
+  pub known : (plans : PlansValue) → KnowsPlans plans topology → KnowsPlans plans topology_after
+  pub end : IfSome status IsEnd
+  pub quiet : (status ≡ Some 6 → ⊥) → failures_after ≡ failures
+  pub cause : status ≡ Some 6 → failures_after ≡ failures + 1
 
 -- the output that follows what was written
 abbrev pub after : List ℕ → Output → Output

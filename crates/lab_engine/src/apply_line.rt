@@ -8,9 +8,10 @@ ghost use Rattle.events.specs.Seen.{Seen};
 ghost use Rattle.events.specs.Stray.{is_stray, stray_outcome};
 ghost use Rattle.events.specs.declared.outcome.Outcome.TheVariants as outcome;
 ghost use Rattle.lab_engine.specs.Lab.{named_result, line_result};
-ghost use Rattle.lab_text.specs.Line.{Line, line_of_text, Batch, Tick, Reload, Stray};
-ghost use Rattle.lab_text.specs.ParsedLine.{line_of, IsBatchWithin, IsRestart, IsWithin};
-ghost use Rattle.lab_engine.specs.Progress.{AllRepresent, KnowsPlans, Names, IsRefusal, IsParsed, HasResult, HasLastResult};
+ghost use Rattle.lab_text.specs.Line.{Line, line_of_text, Batch, Stray};
+ghost use Rattle.lab_text.specs.ParsedLine.{line_of_event, IsBatchWithin, IsEventWithin};
+ghost use Rattle.lab_engine.specs.Progress.{AllRepresent, KnowsPlans, Names, IsDoneBy, IsRefusal, IsParsedIn};
+ghost use Rattle.lab_engine.specs.Progress.{HasResult, HasLastResult, HasStatus};
 ghost use Rattle.lab_engine.specs.Run.{IsEnd, IsStatus};
 
 use crate::batch_output::write_batch;
@@ -18,8 +19,8 @@ use crate::buffers::Buffers;
 use crate::output::{MAX_DIGITS, write_bad_line, write_done, write_outcome};
 use crate::status::{BAD_LINE, DONE, FAILED};
 use config::Plans;
-use events::{BatchPart, Comeback};
-use lab_text::parse_line::{Parsed, ParsedLine};
+use events::BatchPart;
+use lab_text::parse_line::{Parsed, ParsedEvent};
 use streams::ByteWriter;
 use types::{Circuit, Moment};
 use wire::PacketBuf;
@@ -50,12 +51,11 @@ fn apply_event<M: Machine, W: ByteWriter>(
     writer: &mut W,
 ) -> Option<u8>
     requires { circuit < length plans.now.union.circuits }
-    ensures follows { (quota number : ℕ) (machines : ℕ → Alone) (seen : Seen) → Names circuit seen event.now → AllRepresent plans.now quota (M.states machine.old) machines
-        → HasResult plans.now quota number (named_result circuit seen machines (setup_in plans.now quota circuit)) (M.states machine.new) (W.contents writer.old) (W.contents writer.new) result }
-    ensures known { (set : PlansValue) → KnowsPlans set (M.topology machine.old) → KnowsPlans set (M.topology machine.new) }
-    ensures status { IfSome result IsEnd }
-    ensures quiet { ¬ (result ≡ Some 6) → W.failures writer.new ≡ W.failures writer.old }
-    ensures cause { result ≡ Some 6 → W.failures writer.new ≡ W.failures writer.old + 1 }
+    ensures follows { (quota number : ℕ) (machines : ℕ → Alone) (seen : Seen) → Names circuit seen event.now
+        → AllRepresent plans.now quota (M.states machine.old) machines
+        → HasResult plans.now quota number (named_result circuit seen machines (setup_in plans.now quota circuit))
+        (M.states machine.new) (W.contents writer.old) (W.contents writer.new) result }
+    ensures status { HasStatus result (W.failures writer.old) (W.failures writer.new) (M.topology machine.old) (M.topology machine.new) }
 {
     let outcome = machine.step(event, out);
     let named = plans.union().at(circuit);
@@ -65,63 +65,21 @@ fn apply_event<M: Machine, W: ByteWriter>(
     }
 }
 
-/// Applies a moment to all circuits. Returns a status where the run ends with it.
-fn apply_tick<M: Machine, W: ByteWriter>(
+/// Applies an event of which `ok` is written: a tick, the reload of a plan that there is, or a restart. Returns a
+/// status where the run ends with it.
+fn apply_done<M: Machine, W: ByteWriter>(
     machine: &mut M,
-    now: Moment,
+    event: &Event<'_>,
     out: &mut PacketBuf,
     writer: &mut W,
 ) -> Option<u8>
-    ensures follows { (plans : PlansValue) (quota number : ℕ) (machines : ℕ → Alone) → AllRepresent plans quota (M.states machine.old) machines
-        → HasResult plans quota number (line_result plans quota machines (Tick now)) (M.states machine.new) (W.contents writer.old) (W.contents writer.new) result }
-    ensures known { (set : PlansValue) → KnowsPlans set (M.topology machine.old) → KnowsPlans set (M.topology machine.new) }
-    ensures status { IfSome result IsEnd }
-    ensures quiet { ¬ (result ≡ Some 6) → W.failures writer.new ≡ W.failures writer.old }
-    ensures cause { result ≡ Some 6 → W.failures writer.new ≡ W.failures writer.old + 1 }
+    ensures follows { (plans : PlansValue) (quota number : ℕ) (line : Line) (machines : ℕ → Alone)
+        → IsDoneBy plans line event.now → AllRepresent plans quota (M.states machine.old) machines
+        → HasResult plans quota number (line_result plans quota machines line) (M.states machine.new)
+        (W.contents writer.old) (W.contents writer.new) result }
+    ensures status { HasStatus result (W.failures writer.old) (W.failures writer.new) (M.topology machine.old) (M.topology machine.new) }
 {
-    let _ = machine.step(&Event::Tick(now), out);
-    match write_done(writer) {
-        Ok(()) => None,
-        Err(_) => Some(FAILED),
-    }
-}
-
-/// Puts another plan in force, which there is. Returns a status where the run ends with it.
-fn apply_reload<M: Machine, W: ByteWriter>(
-    machine: &mut M,
-    plan: u8,
-    out: &mut PacketBuf,
-    writer: &mut W,
-) -> Option<u8>
-    ensures follows { (plans : PlansValue) (quota number : ℕ) (machines : ℕ → Alone) → plan < plans.count → AllRepresent plans quota (M.states machine.old) machines
-        → HasResult plans quota number (line_result plans quota machines (Reload plan)) (M.states machine.new) (W.contents writer.old) (W.contents writer.new) result }
-    ensures known { (set : PlansValue) → KnowsPlans set (M.topology machine.old) → KnowsPlans set (M.topology machine.new) }
-    ensures status { IfSome result IsEnd }
-    ensures quiet { ¬ (result ≡ Some 6) → W.failures writer.new ≡ W.failures writer.old }
-    ensures cause { result ≡ Some 6 → W.failures writer.new ≡ W.failures writer.old + 1 }
-{
-    let _ = machine.step(&Event::Reload(plan), out);
-    match write_done(writer) {
-        Ok(()) => None,
-        Err(_) => Some(FAILED),
-    }
-}
-
-/// Starts the server and the disk again. Returns a status where the run ends with it.
-fn apply_restart<M: Machine, W: ByteWriter>(
-    machine: &mut M,
-    comebacks: &[Comeback],
-    out: &mut PacketBuf,
-    writer: &mut W,
-) -> Option<u8>
-    ensures follows { (plans : PlansValue) (quota number : ℕ) (line : Line) (machines : ℕ → Alone) → IsRestart comebacks.now line → AllRepresent plans quota (M.states machine.old) machines
-        → HasResult plans quota number (line_result plans quota machines line) (M.states machine.new) (W.contents writer.old) (W.contents writer.new) result }
-    ensures known { (set : PlansValue) → KnowsPlans set (M.topology machine.old) → KnowsPlans set (M.topology machine.new) }
-    ensures status { IfSome result IsEnd }
-    ensures quiet { ¬ (result ≡ Some 6) → W.failures writer.new ≡ W.failures writer.old }
-    ensures cause { result ≡ Some 6 → W.failures writer.new ≡ W.failures writer.old + 1 }
-{
-    let _ = machine.step(&Event::Restart(comebacks), out);
+    let _ = machine.step(event, out);
     match write_done(writer) {
         Ok(()) => None,
         Err(_) => Some(FAILED),
@@ -139,12 +97,11 @@ fn apply_batch<M: Machine, W: ByteWriter>(
 ) -> Option<u8>
     requires some { 1 ≤ length parts.now }
     requires most { length parts.now ≤ 16 }
-    ensures follows { (plans : PlansValue) (quota number : ℕ) (machines : ℕ → Alone) → IsBatchWithin plans.union parts.now → AllRepresent plans quota (M.states machine.old) machines
-        → HasResult plans quota number (line_result plans quota machines (Batch now sync parts.now)) (M.states machine.new) (W.contents writer.old) (W.contents writer.new) result }
-    ensures known { (set : PlansValue) → KnowsPlans set (M.topology machine.old) → KnowsPlans set (M.topology machine.new) }
-    ensures status { IfSome result IsEnd }
-    ensures quiet { ¬ (result ≡ Some 6) → W.failures writer.new ≡ W.failures writer.old }
-    ensures cause { result ≡ Some 6 → W.failures writer.new ≡ W.failures writer.old + 1 }
+    ensures follows { (plans : PlansValue) (quota number : ℕ) (machines : ℕ → Alone)
+        → IsBatchWithin plans.union parts.now → AllRepresent plans quota (M.states machine.old) machines
+        → HasResult plans quota number (line_result plans quota machines (Batch now sync parts.now))
+        (M.states machine.new) (W.contents writer.old) (W.contents writer.new) result }
+    ensures status { HasStatus result (W.failures writer.old) (W.failures writer.new) (M.topology machine.old) (M.topology machine.new) }
 {
     let outcome = machine.step(&Event::Batch(now, sync, parts), out);
     match write_batch(writer, outcome, parts.len()) {
@@ -162,13 +119,12 @@ fn apply_stray<M: Machine, W: ByteWriter>(
     writer: &mut W,
 ) -> Option<u8>
     requires { is_stray event.now ≡ true }
-    ensures follows { (plans : PlansValue) (quota number : ℕ) (why : Discard) (machines : ℕ → Alone) → AllRepresent plans quota (M.states machine.old) machines
+    ensures follows { (plans : PlansValue) (quota number : ℕ) (why : Discard) (machines : ℕ → Alone)
+        → AllRepresent plans quota (M.states machine.old) machines
         → stray_outcome (M.topology machine.old) event.now ≡ Some (outcome.Dropped why)
-        → HasResult plans quota number (line_result plans quota machines (Stray why)) (M.states machine.new) (W.contents writer.old) (W.contents writer.new) result }
-    ensures known { (set : PlansValue) → KnowsPlans set (M.topology machine.old) → KnowsPlans set (M.topology machine.new) }
-    ensures status { IfSome result IsEnd }
-    ensures quiet { ¬ (result ≡ Some 6) → W.failures writer.new ≡ W.failures writer.old }
-    ensures cause { result ≡ Some 6 → W.failures writer.new ≡ W.failures writer.old + 1 }
+        → HasResult plans quota number (line_result plans quota machines (Stray why)) (M.states machine.new)
+        (W.contents writer.old) (W.contents writer.new) result }
+    ensures status { HasStatus result (W.failures writer.old) (W.failures writer.new) (M.topology machine.old) (M.topology machine.new) }
 {
     let outcome = machine.step(event, out);
     match write_outcome(writer, &[], outcome, out, row) {
@@ -177,55 +133,51 @@ fn apply_stray<M: Machine, W: ByteWriter>(
     }
 }
 
-/// Applies a parsed line, whose frame is the first bytes of the buffer. Returns a status where the run
-/// ends with it.
+/// Applies an event, whose frame is the first bytes of the buffer. Returns a status where the run ends with it.
 fn apply<M: Machine, W: ByteWriter>(
     machine: &mut M,
     plans: &Plans,
-    number: u64,
-    parsed: ParsedLine,
+    parsed: ParsedEvent,
     buffers: &mut Buffers,
     writer: &mut W,
 ) -> Option<u8>
-    requires { IsWithin plans.now.union plans.now.count parsed }
-    ensures follows { (quota : ℕ) (machines : ℕ → Alone) → AllRepresent plans.now quota (M.states machine.old) machines → KnowsPlans plans.now (M.topology machine.old)
-        → HasResult plans.now quota number (line_result plans.now quota machines (line_of parsed buffers.old.bytes)) (M.states machine.new) (W.contents writer.old) (W.contents writer.new) result }
-    ensures known { (set : PlansValue) → KnowsPlans set (M.topology machine.old) → KnowsPlans set (M.topology machine.new) }
-    ensures status { IfSome result IsEnd }
-    ensures quiet { ¬ (result ≡ Some 6) → W.failures writer.new ≡ W.failures writer.old }
-    ensures cause { result ≡ Some 6 → W.failures writer.new ≡ W.failures writer.old + 1 }
+    requires { IsEventWithin plans.now.union plans.now.count parsed }
+    ensures follows { (quota number : ℕ) (machines : ℕ → Alone) → AllRepresent plans.now quota (M.states machine.old) machines
+        → KnowsPlans plans.now (M.topology machine.old)
+        → HasResult plans.now quota number (line_result plans.now quota machines (line_of_event parsed buffers.old.bytes))
+        (M.states machine.new) (W.contents writer.old) (W.contents writer.new) result }
+    ensures status { HasStatus result (W.failures writer.old) (W.failures writer.new) (M.topology machine.old) (M.topology machine.new) }
 {
     match parsed {
-        ParsedLine::Ignored => None,
-        // an event came before what says what a region holds
-        ParsedLine::Bad
-        | ParsedLine::Fill(_, _)
-        | ParsedLine::Old(_)
-        | ParsedLine::Load(_, _, _)
-        | ParsedLine::Move(_, _) => Some(refuse(number, writer)),
-        ParsedLine::Frame(circuit, proto, len) => {
+        ParsedEvent::Frame(circuit, proto, len) => {
             let event = Event::Frame(circuit, proto, &buffers.bytes[..len]);
             let (out, row) = (&mut buffers.out, &mut buffers.row);
             apply_event(machine, plans, circuit, &event, out, row, writer)
         }
-        ParsedLine::Up(circuit, j, now, fault) => {
+        ParsedEvent::Up(circuit, j, now, fault) => {
             let event = Event::Up(circuit, j, now, fault);
             let (out, row) = (&mut buffers.out, &mut buffers.row);
             apply_event(machine, plans, circuit, &event, out, row, writer)
         }
-        ParsedLine::Down(circuit, j) => {
+        ParsedEvent::Down(circuit, j) => {
             let event = Event::Down(circuit, j);
             let (out, row) = (&mut buffers.out, &mut buffers.row);
             apply_event(machine, plans, circuit, &event, out, row, writer)
         }
-        ParsedLine::Tick(now) => apply_tick(machine, now, &mut buffers.out, writer),
-        ParsedLine::Reload(plan) => apply_reload(machine, plan, &mut buffers.out, writer),
-        ParsedLine::StrayUp(proto, source, len, now) => {
+        ParsedEvent::Tick(now) => {
+            let event = Event::Tick(now);
+            apply_done(machine, &event, &mut buffers.out, writer)
+        }
+        ParsedEvent::Reload(plan) => {
+            let event = Event::Reload(plan);
+            apply_done(machine, &event, &mut buffers.out, writer)
+        }
+        ParsedEvent::StrayUp(proto, source, len, now) => {
             let event = Event::StrayUp(proto, source, &buffers.bytes[..len], now);
             let (out, row) = (&mut buffers.out, &mut buffers.row);
             apply_stray(machine, &event, out, row, writer)
         }
-        ParsedLine::StrayDown(relay, source, len) => {
+        ParsedEvent::StrayDown(relay, source, len) => {
             let event = Event::StrayDown(relay, source, &buffers.bytes[..len]);
             let (out, row) = (&mut buffers.out, &mut buffers.row);
             apply_stray(machine, &event, out, row, writer)
@@ -236,8 +188,8 @@ fn apply<M: Machine, W: ByteWriter>(
 /// What the line says, where it was not parsed before.
 fn parsed_line(plans: &Plans, line: &[u8], known: Option<Parsed>, buffers: &mut Buffers) -> Parsed
     requires short { length line.now ≤ 8192 }
-    requires known { IfSome known (IsParsed plans.now buffers.old.bytes buffers.old.comebacks buffers.old.parts line.now) }
-    ensures { IsParsed plans.now buffers.new.bytes buffers.new.comebacks buffers.new.parts line.now result }
+    requires known { IfSome known (IsParsedIn plans.now buffers.old line.now) }
+    ensures { IsParsedIn plans.now buffers.new line.now result }
 {
     match known {
         Some(parsed) => parsed,
@@ -257,17 +209,23 @@ pub(crate) fn apply_line<M: Machine, W: ByteWriter>(
     writer: &mut W,
 ) -> Option<u8>
     requires short { length line.now ≤ 8192 }
-    requires known { IfSome known (IsParsed plans.now buffers.old.bytes buffers.old.comebacks buffers.old.parts line.now) }
-    ensures follows { (quota : ℕ) (machines : ℕ → Alone) → AllRepresent plans.now quota (M.states machine.old) machines → KnowsPlans plans.now (M.topology machine.old)
-        → HasResult plans.now quota number (line_result plans.now quota machines (line_of_text plans.now.union plans.now.count line.now)) (M.states machine.new) (W.contents writer.old) (W.contents writer.new) result }
-    ensures known { (set : PlansValue) → KnowsPlans set (M.topology machine.old) → KnowsPlans set (M.topology machine.new) }
-    ensures status { IfSome result IsEnd }
-    ensures quiet { ¬ (result ≡ Some 6) → W.failures writer.new ≡ W.failures writer.old }
-    ensures cause { result ≡ Some 6 → W.failures writer.new ≡ W.failures writer.old + 1 }
+    requires known { IfSome known (IsParsedIn plans.now buffers.old line.now) }
+    ensures follows { (quota : ℕ) (machines : ℕ → Alone) → AllRepresent plans.now quota (M.states machine.old) machines
+        → KnowsPlans plans.now (M.topology machine.old)
+        → HasResult plans.now quota number
+        (line_result plans.now quota machines (line_of_text plans.now.union plans.now.count line.now))
+        (M.states machine.new) (W.contents writer.old) (W.contents writer.new) result }
+    ensures status { HasStatus result (W.failures writer.old) (W.failures writer.new) (M.topology machine.old) (M.topology machine.new) }
 {
     match parsed_line(plans, line, known, buffers) {
-        Parsed::Event(parsed) => apply(machine, plans, number, parsed, buffers, writer),
-        Parsed::Restart => apply_restart(machine, &buffers.comebacks, &mut buffers.out, writer),
+        Parsed::Ignored => None,
+        // an event came before what says what a region holds
+        Parsed::Bad | Parsed::Prepare(_) => Some(refuse(number, writer)),
+        Parsed::Event(parsed) => apply(machine, plans, parsed, buffers, writer),
+        Parsed::Restart => {
+            let event = Event::Restart(&buffers.comebacks);
+            apply_done(machine, &event, &mut buffers.out, writer)
+        }
         Parsed::Batch(now, sync) => {
             let parts = buffers.parts.as_slice();
             apply_batch(machine, now, sync, parts, &mut buffers.out, writer)
@@ -287,9 +245,12 @@ pub(crate) fn apply_last_line<M: Machine, W: ByteWriter>(
     writer: &mut W,
 ) -> u8
     requires short { length line.now ≤ 8192 }
-    requires known { IfSome known (IsParsed plans.now buffers.old.bytes buffers.old.comebacks buffers.old.parts line.now) }
-    ensures follows { (quota : ℕ) (machines : ℕ → Alone) → AllRepresent plans.now quota (M.states machine.old) machines → KnowsPlans plans.now (M.topology machine.old)
-        → HasLastResult plans.now quota number line.now (line_result plans.now quota machines (line_of_text plans.now.union plans.now.count line.now)) (M.states machine.new) (W.contents writer.old) (W.contents writer.new) result }
+    requires known { IfSome known (IsParsedIn plans.now buffers.old line.now) }
+    ensures follows { (quota : ℕ) (machines : ℕ → Alone) → AllRepresent plans.now quota (M.states machine.old) machines
+        → KnowsPlans plans.now (M.topology machine.old)
+        → HasLastResult plans.now quota number line.now
+        (line_result plans.now quota machines (line_of_text plans.now.union plans.now.count line.now))
+        (M.states machine.new) (W.contents writer.old) (W.contents writer.new) result }
     ensures status { IsStatus result }
     ensures quiet { ¬ (result ≡ 6) → W.failures writer.new ≡ W.failures writer.old }
     ensures cause { result ≡ 6 → W.failures writer.new ≡ W.failures writer.old + 1 }

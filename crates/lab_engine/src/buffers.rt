@@ -1,6 +1,6 @@
 //! The buffers of a run.
 ghost use Rattle.std.specs.Prelude.{◌≤◌, length};
-ghost use Rattle.lab_engine.specs.Progress.{IsParsed};
+ghost use Rattle.lab_engine.specs.Progress.{IsParsedIn};
 
 use crate::output::MAX_DIGITS;
 use config::Plans;
@@ -42,7 +42,7 @@ impl Buffers {
     /// Parses a line, whose bytes, comebacks and parts are in the buffers until the next one is parsed.
     pub(crate) fn parse(&mut self, plans: &Plans, line: &[u8]) -> Parsed
         requires { length line.now ≤ 8192 }
-        ensures { IsParsed plans.now self.new.bytes self.new.comebacks self.new.parts line.now result }
+        ensures { IsParsedIn plans.now self.new line.now result }
     {
         parse_line(
             plans.union(),

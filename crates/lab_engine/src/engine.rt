@@ -3,8 +3,9 @@ ghost use Rattle.std.specs.Prelude.{◌≡◌, ◌+◌, ◌<◌, ◌≤◌, ℕ,
 ghost use Rattle.std.specs.Io.KnownBytes.{Appends, prepend_known};
 ghost use Rattle.world.specs.Alone.{Alone};
 ghost use Rattle.lab_engine.specs.Lab.{Output, events_output};
-ghost use Rattle.lab_engine.specs.Progress.{AllRepresent, Ends, KnowsPlans, IsParsed, SoFar};
-ghost use Rattle.streams.specs.LineEnd.{Fits, IsCounted, IsLineEnd, len_of, feeds_of};
+ghost use Rattle.lab_engine.specs.Progress.{AllRepresent, Ends, KnowsPlans, SoFar};
+ghost use Rattle.lab_engine.specs.Next.{IsNext};
+ghost use Rattle.streams.specs.LineEnd.{Fits, IsCounted};
 ghost use Rattle.streams.specs.ReadAhead.{held};
 ghost use Rattle.lab_engine.specs.Run.{IsPartial, IsStatus, HasCause, HasNoCause};
 
@@ -26,21 +27,20 @@ pub(crate) fn apply_lines<M: Machine, R: ByteReader, W: ByteWriter>(
     reader: &mut R,
     writer: &mut W,
 ) -> u8
-    requires end { IsLineEnd (held ahead.old) (R.remaining reader.old) next.end }
-    requires within { len_of next.end ≤ 8192 }
-    requires inside { len_of next.end + feeds_of next.end ≤ length (held ahead.old) }
-    requires parsed { IfSome next.parsed (IsParsed plans.now buffers.old.bytes buffers.old.comebacks buffers.old.parts (take (len_of next.end) (held ahead.old))) }
-    requires lines { next.earlier + length (held ahead.old) ≤ ahead.old.count }
-    requires below { ahead.old.count < 18446744073709551615 }
+    requires next { IsNext plans.now buffers.old ahead.old (R.remaining reader.old) next }
     ensures ends { (quota : ℕ) (output : List ℕ → Output) (given holds : Option (List ℕ))
-        → SoFar plans.now quota (next.earlier + 1) output given (prepend_known (held ahead.old) (R.remaining reader.old)) holds (W.contents writer.old) (M.states machine.old) (Fits (held ahead.old) next.end)
-        → KnowsPlans plans.now (M.topology machine.old)
+        → SoFar plans.now quota (next.earlier + 1) output given
+        (prepend_known (held ahead.old) (R.remaining reader.old)) holds (W.contents writer.old)
+        (M.states machine.old) (Fits (held ahead.old) next.end) → KnowsPlans plans.now (M.topology machine.old)
         → Ends output given (R.remaining reader.new) holds (W.contents writer.new) result }
     ensures status { IsStatus result }
     ensures cause { (given : Option (List ℕ)) → IsCounted given (R.remaining reader.old) 0 ahead.old.count → result ≡ 6
-        → HasCause given (R.remaining reader.new) (R.failures reader.old) (R.failures reader.new) (W.failures writer.old) (W.failures writer.new) }
-    ensures quiet { (given : Option (List ℕ)) → IsCounted given (R.remaining reader.old) 0 ahead.old.count → ¬ (result ≡ 6)
-        → HasNoCause given (R.remaining reader.new) (R.failures reader.old) (R.failures reader.new) (W.failures writer.old) (W.failures writer.new) }
+        → HasCause given (R.remaining reader.new) (R.failures reader.old) (R.failures reader.new)
+        (W.failures writer.old) (W.failures writer.new) }
+    ensures quiet { (given : Option (List ℕ)) → IsCounted given (R.remaining reader.old) 0 ahead.old.count
+        → ¬ (result ≡ 6)
+        → HasNoCause given (R.remaining reader.new) (R.failures reader.old) (R.failures reader.new)
+        (W.failures writer.old) (W.failures writer.new) }
 {
     let mut end = next.end;
     let mut known = next.parsed;
@@ -89,14 +89,19 @@ pub fn lab<M: Machine, R: ByteReader, W: ByteWriter>(
     // Where the reader or the writer failed, a prefix of the output for what was read is written.
     ensures partial { (quota : ℕ) (machines : ℕ → Alone) → AllRepresent plans.now quota (M.states machine.old) machines
         → KnowsPlans plans.now (M.topology machine.old) → result ≡ 6
-        → IsPartial (events_output plans.now quota machines) (R.remaining reader.old) (R.remaining reader.new) (W.contents writer.old) (W.contents writer.new) }
+        → IsPartial (events_output plans.now quota machines) (R.remaining reader.old) (R.remaining reader.new)
+        (W.contents writer.old) (W.contents writer.new) }
 
     // No other status is returned.
     ensures status { IsStatus result }
 
     // A failure has a cause, and nothing else comes of one.
-    ensures cause { result ≡ 6 → HasCause (R.remaining reader.old) (R.remaining reader.new) (R.failures reader.old) (R.failures reader.new) (W.failures writer.old) (W.failures writer.new) }
-    ensures quiet { ¬ (result ≡ 6) → HasNoCause (R.remaining reader.old) (R.remaining reader.new) (R.failures reader.old) (R.failures reader.new) (W.failures writer.old) (W.failures writer.new) }
+    ensures cause { result ≡ 6
+        → HasCause (R.remaining reader.old) (R.remaining reader.new) (R.failures reader.old) (R.failures reader.new)
+        (W.failures writer.old) (W.failures writer.new) }
+    ensures quiet { ¬ (result ≡ 6)
+        → HasNoCause (R.remaining reader.old) (R.remaining reader.new) (R.failures reader.old) (R.failures reader.new)
+        (W.failures writer.old) (W.failures writer.new) }
 {
     let mut ahead = ReadAhead::new();
     let mut buffers = Buffers::new();

@@ -5,9 +5,9 @@ ghost use Rattle.dispatch.specs.declared.server.OpenFault.TheVariants as fault;
 ghost use Rattle.lab_engine.specs.Lab.{first_machines, lab_output};
 ghost use Rattle.lab_engine.specs.Run.{IsPartial, IsStatus, HasCause, HasNoCause};
 ghost use Rattle.config.specs.Topology.{plans_topology};
-ghost use Rattle.lab_engine.specs.Preparations.{AreOver, AreReady, AreWithin};
+ghost use Rattle.lab_engine.specs.Preparations.{AreOver, IsReadyFor};
 ghost use Rattle.lab_engine.specs.Progress.{AllRepresent};
-ghost use Rattle.lease_disk.specs.Model.{device_of, disk_region};
+ghost use Rattle.lease_disk.specs.Model.{device_of};
 ghost use Rattle.world.specs.Start.{Opening};
 ghost use Rattle.world.specs.World.{states};
 
@@ -27,9 +27,10 @@ use world::{OpenFault, World};
 fn opened(alloc: Global, plans: &Plans, disk: ModelDisk, quota: u16) -> Result<World, OpenFault>
     requires some { 1 ≤ quota }
     requires most { quota ≤ 256 }
-    requires regions { AreWithin plans.now.union (length disk.regions) }
-    requires ready { AreReady (length disk.regions) (disk_region disk) }
-    ensures represents { IfOk result (λ world. (openings : ℕ → Opening) → AreOver plans.now quota (device_of disk) openings → AllRepresent plans.now quota (states world) (first_machines plans.now quota openings)) }
+    requires disk { IsReadyFor plans.now.union disk }
+    ensures represents { IfOk result (λ world. (openings : ℕ → Opening)
+        → AreOver plans.now quota (device_of disk) openings
+        → AllRepresent plans.now quota (states world) (first_machines plans.now quota openings)) }
     ensures topology { IfOk result (λ world. world.relays.topology ≡ plans_topology plans.now) }
     ensures memory { IfErr result (λ why. why ≡ fault.Memory) }
 {
@@ -65,11 +66,17 @@ pub fn run_explained<R: ByteReader, W: ByteWriter>(
     ensures status { (result ≡ 4) ⊎ IsStatus result }
 
     // Where the reader or the writer failed, a prefix of the output for what was read is written.
-    ensures partial { result ≡ 6 → IsPartial (lab_output plans.now quota) (R.remaining reader.old) (R.remaining reader.new) (W.contents writer.old) (W.contents writer.new) }
+    ensures partial { result ≡ 6
+        → IsPartial (lab_output plans.now quota) (R.remaining reader.old) (R.remaining reader.new)
+        (W.contents writer.old) (W.contents writer.new) }
 
     // A failure has a cause, and nothing else comes of one.
-    ensures cause { result ≡ 6 → HasCause (R.remaining reader.old) (R.remaining reader.new) (R.failures reader.old) (R.failures reader.new) (W.failures writer.old) (W.failures writer.new) }
-    ensures quiet { ¬ (result ≡ 6) → HasNoCause (R.remaining reader.old) (R.remaining reader.new) (R.failures reader.old) (R.failures reader.new) (W.failures writer.old) (W.failures writer.new) }
+    ensures cause { result ≡ 6
+        → HasCause (R.remaining reader.old) (R.remaining reader.new) (R.failures reader.old) (R.failures reader.new)
+        (W.failures writer.old) (W.failures writer.new) }
+    ensures quiet { ¬ (result ≡ 6)
+        → HasNoCause (R.remaining reader.old) (R.remaining reader.new) (R.failures reader.old) (R.failures reader.new)
+        (W.failures writer.old) (W.failures writer.new) }
 {
     let Ok(mut disk) = ModelDisk::new(alloc, region_count(plans.union())) else {
         return UNOPENED;
@@ -123,11 +130,17 @@ pub fn run<R: ByteReader, W: ByteWriter>(
     ensures status { (result ≡ 4) ⊎ IsStatus result }
 
     // Where the reader or the writer failed, a prefix of the output for what was read is written.
-    ensures partial { result ≡ 6 → IsPartial (lab_output plans.now quota) (R.remaining reader.old) (R.remaining reader.new) (W.contents writer.old) (W.contents writer.new) }
+    ensures partial { result ≡ 6
+        → IsPartial (lab_output plans.now quota) (R.remaining reader.old) (R.remaining reader.new)
+        (W.contents writer.old) (W.contents writer.new) }
 
     // A failure has a cause, and nothing else comes of one.
-    ensures cause { result ≡ 6 → HasCause (R.remaining reader.old) (R.remaining reader.new) (R.failures reader.old) (R.failures reader.new) (W.failures writer.old) (W.failures writer.new) }
-    ensures quiet { ¬ (result ≡ 6) → HasNoCause (R.remaining reader.old) (R.remaining reader.new) (R.failures reader.old) (R.failures reader.new) (W.failures writer.old) (W.failures writer.new) }
+    ensures cause { result ≡ 6
+        → HasCause (R.remaining reader.old) (R.remaining reader.new) (R.failures reader.old) (R.failures reader.new)
+        (W.failures writer.old) (W.failures writer.new) }
+    ensures quiet { ¬ (result ≡ 6)
+        → HasNoCause (R.remaining reader.old) (R.remaining reader.new) (R.failures reader.old) (R.failures reader.new)
+        (W.failures writer.old) (W.failures writer.new) }
 {
     let mut bad = BadLine::new();
     run_explained(alloc, plans, quota, reader, writer, &mut bad)

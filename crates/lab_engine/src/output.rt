@@ -134,9 +134,11 @@ fn write_unicast<W: ByteWriter>(
     frame: &[u8],
 ) -> Result<(), Failed>
     ensures ok { OnOk result (Appends (W.contents writer.old) (W.contents writer.new)
-        (codes "to " ++ (id.now ++ (codes " unicast " ++ (encode_lower chaddr ++ codes " "))) ++ (dotted yiaddr.0 ++ (codes " " ++ (frame.now ++ codes "\n"))))) }
+        (codes "to " ++ (id.now ++ (codes " unicast " ++ (encode_lower chaddr ++ codes " ")))
+        ++ (dotted yiaddr.0 ++ (codes " " ++ (frame.now ++ codes "\n"))))) }
     ensures err { OnErr result (AppendsPrefix (W.contents writer.old) (W.contents writer.new)
-        (codes "to " ++ (id.now ++ (codes " unicast " ++ (encode_lower chaddr ++ codes " "))) ++ (dotted yiaddr.0 ++ (codes " " ++ (frame.now ++ codes "\n"))))) }
+        (codes "to " ++ (id.now ++ (codes " unicast " ++ (encode_lower chaddr ++ codes " ")))
+        ++ (dotted yiaddr.0 ++ (codes " " ++ (frame.now ++ codes "\n"))))) }
     ensures quiet { OnOk result (W.failures writer.new ≡ W.failures writer.old) }
     ensures cause { OnErr result (W.failures writer.new ≡ W.failures writer.old + 1) }
 {

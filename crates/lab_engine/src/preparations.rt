@@ -1,24 +1,25 @@
 //! The lines before all events, which say what the regions of the disk hold.
-ghost use Rattle.std.specs.Prelude.{◌≡◌, ◌+◌, ◌⊎◌, ◌<◌, ◌≤◌, ℕ, ⊤, List, Option, None, [], true, false, length, take, IfOk, IfSome, IfNone, OnOk, OnErr};
+ghost use Rattle.std.specs.Prelude.{◌≡◌, ◌+◌, ◌⊎◌, ◌<◌, ◌≤◌, ℕ, ⊤, List, Option, None, [], true, false, length, take};
+ghost use Rattle.std.specs.Prelude.{IfOk, IfSome, IfNone, OnOk, OnErr};
 ghost use Rattle.std.specs.Io.KnownBytes.{prepend_known};
-ghost use Rattle.lease_disk.specs.Crash.{formatted_region, IsFormattedOld};
+ghost use Rattle.lease_disk.specs.Crash.{IsFormattedOld};
 ghost use Rattle.lease_disk.specs.Device.{ChangesOne};
 ghost use Rattle.lease_disk.specs.Model.{device_of, failing_call_of, disk_region};
 ghost use Rattle.world.specs.Start.{Opening};
-ghost use Rattle.lab_engine.specs.Progress.{IsParsed};
+ghost use Rattle.lab_engine.specs.Progress.{IsParsedIn};
 ghost use Rattle.lab_engine.specs.Lab.{prepared};
-ghost use Rattle.lab_engine.specs.Preparations.{AreOver, ArePrepared, AreReady, AreWithin, PreparedSoFar};
+ghost use Rattle.lab_engine.specs.Next.{IsHeld, IsNext};
+ghost use Rattle.lab_engine.specs.Preparations.{AreOver, ArePrepared, AreWithin, IsFormatted, IsReadyFor, PreparedSoFar, StaysReady};
 ghost use Rattle.lab_text.specs.Line.{line_of_text};
-ghost use Rattle.streams.specs.LineEnd.{Fits, HoldsLast, IsCounted, IsLineEnd, len_of, feeds_of};
-ghost use Rattle.lab_text.specs.ParsedLine.{IsWithin, line_of};
+ghost use Rattle.streams.specs.LineEnd.{Fits, HoldsLast, IsCounted, IsLineEnd};
+ghost use Rattle.lab_text.specs.ParsedLine.{IsPreparationWithin, line_of_preparation};
 ghost use Rattle.streams.specs.ReadAhead.{held};
-ghost use Rattle.lab_text.specs.declared.parse_line.Parsed.TheVariants.{Event};
 
 use crate::buffers::Buffers;
 use crate::next_line::NextLine;
 use config::Plans;
 use lab_text::MAX_BYTES;
-use lab_text::parse_line::{Parsed, ParsedLine};
+use lab_text::parse_line::{Parsed, Preparation};
 use lease_disk::{ModelDisk, format_old};
 use streams::{ByteReader, Failed, LineEnd, MAX_TEXT, ReadAhead, read_line};
 
@@ -36,46 +37,37 @@ fn format_region(disk: &mut ModelDisk, region: u16)
     disk.fail_at(region, fault);
 }
 
-/// Does what a line says of a circuit's region, if it says anything of one or nothing at all, or returns the event
-/// that it says.
+/// Does what a line says of a circuit's region.
 fn prepare_region(
     disk: &mut ModelDisk,
     plans: &Plans,
-    parsed: ParsedLine,
+    preparation: Preparation,
     bytes: &[u8; MAX_BYTES],
-) -> Option<Parsed>
-    requires named { IsWithin plans.now.union plans.now.count parsed }
-    requires regions { AreWithin plans.now.union (length disk.old.regions) }
-    requires ready { AreReady (length disk.old.regions) (disk_region disk.old) }
-    ensures prepared { IfNone result ((quota : ℕ) (openings : ℕ → Opening) → AreOver plans.now quota (device_of disk.old) openings
-        → ArePrepared plans.now quota (device_of disk.new) (prepared (line_of parsed bytes.now) openings)) }
-    ensures event { IfSome result (λ _. (openings : ℕ → Opening) → prepared (line_of parsed bytes.now) openings ≡ None) }
-    ensures parsed { IfSome result (λ event. event ≡ Event parsed) }
-    ensures same { IfSome result (λ _. disk.new ≡ disk.old) }
-    ensures count { length disk.new.regions ≡ length disk.old.regions }
-    ensures ready { AreReady (length disk.new.regions) (disk_region disk.new) }
+)
+    requires named { IsPreparationWithin plans.now.union preparation }
+    requires disk { IsReadyFor plans.now.union disk.old }
+    ensures prepared { (quota : ℕ) (openings : ℕ → Opening) → AreOver plans.now quota (device_of disk.old) openings
+        → ArePrepared plans.now quota (device_of disk.new) (prepared (line_of_preparation preparation bytes.now) openings) }
+    ensures disk { StaysReady disk.old disk.new }
 {
-    match parsed {
-        ParsedLine::Ignored => {}
-        ParsedLine::Fill(circuit, byte) => {
+    match preparation {
+        Preparation::Fill(circuit, byte) => {
             let region = plans.union().at(circuit).region;
             disk.fill(region, byte);
         }
-        ParsedLine::Old(circuit) => {
+        Preparation::Old(circuit) => {
             let region = plans.union().at(circuit).region;
             format_region(disk, region);
         }
-        ParsedLine::Load(circuit, at, len) => {
+        Preparation::Load(circuit, at, len) => {
             let region = plans.union().at(circuit).region;
             disk.load(region, at, &bytes[..len]);
         }
-        ParsedLine::Move(circuit, fault) => {
+        Preparation::Move(circuit, fault) => {
             let region = plans.union().at(circuit).region;
             disk.fail_at(region, fault);
         }
-        _ => return Some(Parsed::Event(parsed)),
     }
-    None
 }
 
 /// Applies a line that may come before all events, or returns the event that it says.
@@ -86,21 +78,25 @@ fn prepare(
     buffers: &mut Buffers,
 ) -> Option<Parsed>
     requires short { length line.now ≤ 8192 }
-    requires regions { AreWithin plans.now.union (length disk.old.regions) }
-    requires ready { AreReady (length disk.old.regions) (disk_region disk.old) }
-    ensures event { IfSome result (λ _. (openings : ℕ → Opening) → prepared (line_of_text plans.now.union plans.now.count line.now) openings ≡ None) }
-    ensures parsed { IfSome result (IsParsed plans.now buffers.new.bytes buffers.new.comebacks buffers.new.parts line.now) }
+    requires disk { IsReadyFor plans.now.union disk.old }
+    ensures event { IfSome result (λ _. (openings : ℕ → Opening)
+        → prepared (line_of_text plans.now.union plans.now.count line.now) openings ≡ None) }
+    ensures parsed { IfSome result (IsParsedIn plans.now buffers.new line.now) }
     ensures prepared { IfNone result ((quota : ℕ) (openings : ℕ → Opening) → AreOver plans.now quota (device_of disk.old) openings
         → ArePrepared plans.now quota (device_of disk.new) (prepared (line_of_text plans.now.union plans.now.count line.now) openings)) }
     ensures same { IfSome result (λ _. disk.new ≡ disk.old) }
-    ensures count { length disk.new.regions ≡ length disk.old.regions }
-    ensures ready { AreReady (length disk.new.regions) (disk_region disk.new) }
+    ensures disk { StaysReady disk.old disk.new }
 {
-    let parsed = match buffers.parse(plans, line) {
-        Parsed::Event(parsed) => parsed,
-        event @ (Parsed::Restart | Parsed::Batch(_, _)) => return Some(event),
-    };
-    prepare_region(disk, plans, parsed, &buffers.bytes)
+    match buffers.parse(plans, line) {
+        Parsed::Ignored => None,
+        Parsed::Prepare(preparation) => {
+            prepare_region(disk, plans, preparation, &buffers.bytes);
+            None
+        }
+        event @ (Parsed::Bad | Parsed::Event(_) | Parsed::Restart | Parsed::Batch(_, _)) => {
+            Some(event)
+        }
+    }
 }
 
 /// Applies the last line of the text, which lacks its line feed, where it may come before all events, and
@@ -115,19 +111,17 @@ fn prepare_last(
 ) -> (LineEnd, Option<Parsed>)
     requires short { len ≤ 8192 }
     requires inside { len ≤ length (held ahead.old) }
-    requires regions { AreWithin plans.now.union (length disk.old.regions) }
-    requires ready { AreReady (length disk.old.regions) (disk_region disk.old) }
+    requires disk { IsReadyFor plans.now.union disk.old }
     ensures prepared { (quota number : ℕ) (given left : Option (List ℕ)) → HoldsLast (held ahead.old) left len
-        → PreparedSoFar plans.now quota number false given (prepend_known (held ahead.old) left) (device_of disk.old) (λ rest. ⊤)
-        → PreparedSoFar plans.now quota number true given (prepend_known (held ahead.new) left) (device_of disk.new) (Fits (held ahead.new) result.0) }
+        → PreparedSoFar plans.now quota number false given (prepend_known (held ahead.old) left) (device_of disk.old)
+        (λ rest. ⊤)
+        → PreparedSoFar plans.now quota number true given (prepend_known (held ahead.new) left) (device_of disk.new)
+        (Fits (held ahead.new) result.0) }
     ensures end { (left : Option (List ℕ)) → HoldsLast (held ahead.old) left len → IsLineEnd (held ahead.new) left result.0 }
-    ensures within { len_of result.0 ≤ 8192 }
-    ensures inside { len_of result.0 + feeds_of result.0 ≤ length (held ahead.new) }
-    ensures parsed { IfSome result.1 (IsParsed plans.now buffers.new.bytes buffers.new.comebacks buffers.new.parts (take (len_of result.0) (held ahead.new))) }
+    ensures line { IsHeld plans.now buffers.new (held ahead.new) result.0 result.1 }
     ensures shorter { length (held ahead.new) ≤ length (held ahead.old) }
     ensures count { ahead.new.count ≡ ahead.old.count }
-    ensures regions { length disk.new.regions ≡ length disk.old.regions }
-    ensures ready { AreReady (length disk.new.regions) (disk_region disk.new) }
+    ensures disk { StaysReady disk.old disk.new }
 {
     let line = &ahead.as_slice()[..len];
     if let Some(parsed) = prepare(disk, plans, line, buffers) {
@@ -147,20 +141,15 @@ pub(crate) fn prepare_all<R: ByteReader>(
     reader: &mut R,
 ) -> Result<NextLine, Failed>
     requires regions { AreWithin plans.now.union (length disk.old.regions) }
-    requires formatted { (q : ℕ) → q < length disk.old.regions → disk_region disk.old q ≡ formatted_region }
-    requires sound { (q : ℕ) → q < length disk.old.regions → failing_call_of disk.old q ≡ 0 }
+    requires formatted { IsFormatted disk.old }
     requires held { held ahead.old ≡ [] }
     requires count { ahead.old.count ≡ 0 }
     ensures prepared { IfOk result (λ next. (quota : ℕ)
-        → PreparedSoFar plans.now quota (next.earlier + 1) true (R.remaining reader.old) (prepend_known (held ahead.new) (R.remaining reader.new)) (device_of disk.new) (Fits (held ahead.new) next.end)) }
-    ensures end { IfOk result (λ next. IsLineEnd (held ahead.new) (R.remaining reader.new) next.end) }
-    ensures within { IfOk result (λ next. len_of next.end ≤ 8192) }
-    ensures inside { IfOk result (λ next. len_of next.end + feeds_of next.end ≤ length (held ahead.new)) }
-    ensures parsed { IfOk result (λ next. IfSome next.parsed (IsParsed plans.now buffers.new.bytes buffers.new.comebacks buffers.new.parts (take (len_of next.end) (held ahead.new)))) }
-    ensures lines { IfOk result (λ next. next.earlier + length (held ahead.new) ≤ ahead.new.count) }
-    ensures below { OnOk result (ahead.new.count < 18446744073709551615) }
-    ensures regions { length disk.new.regions ≡ length disk.old.regions }
-    ensures ready { AreReady (length disk.new.regions) (disk_region disk.new) }
+        → PreparedSoFar plans.now quota (next.earlier + 1) true (R.remaining reader.old)
+        (prepend_known (held ahead.new) (R.remaining reader.new)) (device_of disk.new)
+        (Fits (held ahead.new) next.end)) }
+    ensures next { IfOk result (IsNext plans.now buffers.new ahead.new (R.remaining reader.new)) }
+    ensures disk { StaysReady disk.old disk.new }
     ensures counted { IsCounted (R.remaining reader.old) (R.remaining reader.new) 0 ahead.new.count }
     ensures quiet { OnOk result (R.failures reader.new ≡ R.failures reader.old) }
     ensures cause { OnErr result ((R.failures reader.new ≡ R.failures reader.old + 1) ⊎ (ahead.new.count ≡ 18446744073709551615)) }

@@ -12,7 +12,7 @@ use crate::comebacks::move_fault;
 use crate::digits::{datagram_number, fault_number, moment, number};
 use crate::form::Form;
 use crate::hexadecimal::{MAX_BYTES, byte, bytes_at};
-use crate::parse_line::ParsedLine;
+use crate::parse_line::{ParsedEvent, ParsedLine, Preparation};
 use crate::sources::source;
 use config::Config;
 use lease_disk::REGION;
@@ -64,7 +64,10 @@ fn parse_fill(config: &Config, fields: &[&[u8]]) -> Option<ParsedLine>
     ensures within { (plans : ℕ) → IfSome result (IsWithin config.now plans) }
 {
     match fields {
-        [circuit, digits] => Some(ParsedLine::Fill(circuit_named(config, circuit)?, byte(digits)?)),
+        [circuit, digits] => Some(ParsedLine::Prepare(Preparation::Fill(
+            circuit_named(config, circuit)?,
+            byte(digits)?,
+        ))),
         _ => None,
     }
 }
@@ -75,7 +78,7 @@ fn parse_old(config: &Config, fields: &[&[u8]]) -> Option<ParsedLine>
     ensures within { (plans : ℕ) → IfSome result (IsWithin config.now plans) }
 {
     match fields {
-        [circuit] => Some(ParsedLine::Old(circuit_named(config, circuit)?)),
+        [circuit] => Some(ParsedLine::Prepare(Preparation::Old(circuit_named(config, circuit)?))),
         _ => None,
     }
 }
@@ -93,7 +96,7 @@ fn parse_load(config: &Config, fields: &[&[u8]], bytes: &mut [u8; MAX_BYTES]) ->
             if at + len > REGION {
                 return None;
             }
-            Some(ParsedLine::Load(circuit, at, len))
+            Some(ParsedLine::Prepare(Preparation::Load(circuit, at, len)))
         }
         _ => None,
     }
@@ -105,10 +108,10 @@ fn parse_move(config: &Config, fields: &[&[u8]]) -> Option<ParsedLine>
     ensures within { (plans : ℕ) → IfSome result (IsWithin config.now plans) }
 {
     match fields {
-        [circuit, call] => Some(ParsedLine::Move(
+        [circuit, call] => Some(ParsedLine::Prepare(Preparation::Move(
             circuit_named(config, circuit)?,
             move_fault(call)?,
-        )),
+        ))),
         _ => None,
     }
 }
@@ -119,11 +122,11 @@ fn parse_frame(config: &Config, fields: &[&[u8]], bytes: &mut [u8; MAX_BYTES]) -
     ensures within { (plans : ℕ) → IfSome result (IsWithin config.now plans) }
 {
     match fields {
-        [circuit, proto, digits] => Some(ParsedLine::Frame(
+        [circuit, proto, digits] => Some(ParsedLine::Event(ParsedEvent::Frame(
             circuit_named(config, circuit)?,
             protocol(proto)?,
             bytes_at(digits, bytes)?,
-        )),
+        ))),
         _ => None,
     }
 }
@@ -134,12 +137,12 @@ fn parse_up(config: &Config, fields: &[&[u8]]) -> Option<ParsedLine>
     ensures within { (plans : ℕ) → IfSome result (IsWithin config.now plans) }
 {
     match fields {
-        [circuit, j, now, fault] => Some(ParsedLine::Up(
+        [circuit, j, now, fault] => Some(ParsedLine::Event(ParsedEvent::Up(
             circuit_named(config, circuit)?,
             datagram_number(j)?,
             moment(now)?,
             fault_number(fault)?,
-        )),
+        ))),
         _ => None,
     }
 }
@@ -150,10 +153,10 @@ fn parse_down(config: &Config, fields: &[&[u8]]) -> Option<ParsedLine>
     ensures within { (plans : ℕ) → IfSome result (IsWithin config.now plans) }
 {
     match fields {
-        [circuit, j] => Some(ParsedLine::Down(
+        [circuit, j] => Some(ParsedLine::Event(ParsedEvent::Down(
             circuit_named(config, circuit)?,
             datagram_number(j)?,
-        )),
+        ))),
         _ => None,
     }
 }
@@ -165,7 +168,7 @@ fn parse_tick(fields: &[&[u8]]) -> Option<ParsedLine>
     ensures within { (settings : Settings) (plans : ℕ) → IfSome result (IsWithin settings plans) }
 {
     match fields {
-        [now] => Some(ParsedLine::Tick(moment(now)?)),
+        [now] => Some(ParsedLine::Event(ParsedEvent::Tick(moment(now)?))),
         _ => None,
     }
 }
@@ -182,7 +185,7 @@ fn parse_reload(plans: usize, fields: &[&[u8]]) -> Option<ParsedLine>
             if usize::from(plan) >= plans {
                 return None;
             }
-            Some(ParsedLine::Reload(plan))
+            Some(ParsedLine::Event(ParsedEvent::Reload(plan)))
         }
         _ => None,
     }
@@ -209,7 +212,7 @@ fn stray_up(
     if is_relay(config, source) {
         return None;
     }
-    Some(ParsedLine::StrayUp(proto, source, len, now))
+    Some(ParsedLine::Event(ParsedEvent::StrayUp(proto, source, len, now)))
 }
 
 /// Parses `strayup PROTO SRC HEX NOW`.
@@ -246,7 +249,7 @@ fn stray_down(
     if is_server(config, source) {
         return None;
     }
-    Some(ParsedLine::StrayDown(relay, source, len))
+    Some(ParsedLine::Event(ParsedEvent::StrayDown(relay, source, len)))
 }
 
 /// Parses `straydown RELAY SRC HEX`.

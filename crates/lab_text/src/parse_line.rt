@@ -14,21 +14,22 @@ use config::Config;
 use events::Comeback;
 use types::{Circuit, MAX_CIRCUITS, Moment, Proto, RelayNo, Source};
 
-/// What a line says. The bytes of a frame, and those that are loaded, are in a buffer of their own.
+/// What a line says of a circuit's region before all events. The bytes that are loaded are in a buffer of their own.
 #[derive(Clone, Copy)]
-pub enum ParsedLine {
-    /// An empty line or a comment.
-    Ignored,
-    /// A line of no known form.
-    Bad,
-    /// The byte that fills the circuit's region before all events.
+pub enum Preparation {
+    /// The byte that fills the region.
     Fill(Circuit, u8),
-    /// The circuit's region is formatted in format 1 before all events.
+    /// The region is formatted in format 1.
     Old(Circuit),
-    /// Where bytes stand in the circuit's region before all events, and how many.
+    /// Where bytes stand in the region, and how many.
     Load(Circuit, usize, usize),
-    /// The call of the disk that fails where the circuit's region is moved at the opening, 0 for none.
+    /// The call of the disk that fails where the region is moved at the opening, 0 for none.
     Move(Circuit, u8),
+}
+
+/// An event but a restart or a batch. The bytes of a frame are in a buffer of their own.
+#[derive(Clone, Copy)]
+pub enum ParsedEvent {
     /// The length of the frame in bytes.
     Frame(Circuit, Proto, usize),
     /// The call of the disk that fails, 0 for none.
@@ -43,11 +44,24 @@ pub enum ParsedLine {
     StrayDown(RelayNo, Source, usize),
 }
 
+/// What a line of a form says that is neither a restart nor a batch.
+#[derive(Clone, Copy)]
+pub enum ParsedLine {
+    Prepare(Preparation),
+    Event(ParsedEvent),
+}
+
 /// A line that was parsed.
 #[derive(Clone, Copy)]
 pub enum Parsed {
-    /// Any line but a restart or a batch.
-    Event(ParsedLine),
+    /// An empty line or a comment.
+    Ignored,
+    /// A line of no known form.
+    Bad,
+    /// What it says before all events.
+    Prepare(Preparation),
+    /// Any event but a restart or a batch.
+    Event(ParsedEvent),
     /// A restart. How the regions come back is in a buffer of its own.
     Restart,
     /// A batch, and the shared sync that fails, 0 for none. The parts are in a buffer of their own.
@@ -112,23 +126,24 @@ pub fn parse_line(
     ensures within { ParsedWithin config.now plans parts.new result }
 {
     if line.is_empty() || line[0] == b'#' {
-        return Parsed::Event(ParsedLine::Ignored);
+        return Parsed::Ignored;
     }
     let (word, rest) = first_field(line);
     if word == b"restart".as_slice() {
         if !parse_restart(config, rest, comebacks) {
-            return Parsed::Event(ParsedLine::Bad);
+            return Parsed::Bad;
         }
         return Parsed::Restart;
     }
     if word == b"batch".as_slice() {
         return match parse_batch(config, rest, parts) {
             Some((now, sync)) => Parsed::Batch(now, sync),
-            None => Parsed::Event(ParsedLine::Bad),
+            None => Parsed::Bad,
         };
     }
     match parse_fields(config, plans, word, rest, bytes) {
-        Some(parsed) => Parsed::Event(parsed),
-        None => Parsed::Event(ParsedLine::Bad),
+        Some(ParsedLine::Prepare(preparation)) => Parsed::Prepare(preparation),
+        Some(ParsedLine::Event(event)) => Parsed::Event(event),
+        None => Parsed::Bad,
     }
 }

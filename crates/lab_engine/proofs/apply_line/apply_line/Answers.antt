@@ -9,12 +9,12 @@ pub returns-in-Event-clause-follows : goal.returns-in-Event-clause-follows
 returns-in-Event-clause-follows g c = λ quota machines represents knows.
     let plans = c.args.plans.now in
     subst (λ line. HasResult plans quota c.args.number (line_result plans quota machines line) (g.M.Machine.states c.apply.new.machine) (g.W.ByteWriter.contents c.args.writer.now) (g.W.ByteWriter.contents c.apply.new.writer) c.apply.result)
-    c.in-Event.ensures.means (c.apply.ensures.follows quota machines represents knows)
+    c.in-Event.ensures.means (c.apply.ensures.follows quota c.args.number machines represents knows)
 
 pub returns-in-Restart-clause-follows : goal.returns-in-Restart-clause-follows
 returns-in-Restart-clause-follows g c = λ quota machines represents knows.
     let plans = c.args.plans.now in
-    c.apply_restart.ensures.follows plans quota c.args.number (line_of_text plans.union plans.count c.args.line.now) machines c.in-Restart.ensures.means represents
+    c.apply_done.ensures.follows plans quota c.args.number (line_of_text plans.union plans.count c.args.line.now) machines c.in-Restart.ensures.means represents
 
 pub returns-in-Batch-clause-follows : goal.returns-in-Batch-clause-follows
 returns-in-Batch-clause-follows g c = λ quota machines represents knows.

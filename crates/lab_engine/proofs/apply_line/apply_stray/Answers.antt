@@ -1,8 +1,8 @@
-use Rattle.lab_engine.proofs.LineResultLemmas.{knows_next}
+use Rattle.lab_engine.proofs.LineResultLemmas.{status_done, status_failed}
 use Rattle.lab_engine.proofs.apply_line.apply_stray.Goals as goal
 
-pub returns-in-Ok-clause-known : goal.returns-in-Ok-clause-known
-returns-in-Ok-clause-known g c = λ set knows. knows_next set c.args.event.now _ _ c.step-outcome.ensures.topology knows
+pub returns-in-Ok-clause-status : goal.returns-in-Ok-clause-status
+returns-in-Ok-clause-status g c = status_done c.args.event.now _ _ _ _ c.step-outcome.ensures.topology c.in-Ok.ensures.quiet
 
-pub returns-in-Err-clause-known : goal.returns-in-Err-clause-known
-returns-in-Err-clause-known g c = λ set knows. knows_next set c.args.event.now _ _ c.step-outcome.ensures.topology knows
+pub returns-in-Err-clause-status : goal.returns-in-Err-clause-status
+returns-in-Err-clause-status g c = status_failed c.args.event.now _ _ _ _ c.step-outcome.ensures.topology c.in-Err.ensures.cause

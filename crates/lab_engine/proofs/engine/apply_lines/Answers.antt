@@ -1,7 +1,7 @@
 use Rattle.std.proofs.Common.{◌≡◌, ◌+◌, ◌++◌, ◌∷◌, [], ◌∙◌, length, refl, take, drop, arith, length-drop, ap, sym, subst}
 use Rattle.std.specs.Prelude.{Some, IfSome}
 use Rattle.std.proofs.KnownBytes.{Keeps-refl}
-use Rattle.lab_engine.specs.Progress.{IsParsed}
+use Rattle.lab_engine.specs.Progress.{IsParsedIn}
 use Rattle.streams.specs.ReadAhead.{held}
 use Rattle.streams.proofs.AheadLemmas.{line_consumed, last_consumed, cut_consumed}
 use Rattle.lab_engine.proofs.CauseLemmas.{read_failed, still_none_failed, write_failed}
@@ -12,12 +12,12 @@ use Rattle.lab_engine.proofs.engine.apply_lines.Goals as goal
 pub lines-init : goal.lines-init
 lines-init g c = record {
   plans_known = λ set knows. knows;
-  end = c.requires.end;
-  within = c.requires.within;
-  inside = c.requires.inside;
-  known = c.requires.parsed;
-  lines = c.requires.lines;
-  below = c.requires.below;
+  end = c.requires.next.end;
+  within = c.requires.next.line.within;
+  inside = c.requires.next.line.inside;
+  known = c.requires.next.line.parsed;
+  lines = c.requires.next.lines;
+  below = c.requires.next.below;
   reader_quiet = refl;
   writer_quiet = refl;
   counted = counted_none _ _;
@@ -41,12 +41,12 @@ returns-in-TooLong-clause-quiet g c = λ given counted fine.
 pub apply_last_line-requires-clause-known : goal.apply_last_line-requires-clause-known
 apply_last_line-requires-clause-known g c =
     let known = rw c.in-EndOfInput.is at c.lines.invariant.known in
-    subst (λ text. IfSome c.lines.known (IsParsed c.args.plans.now c.lines.buffers.bytes c.lines.buffers.comebacks c.lines.buffers.parts (take c.in-EndOfInput.len text))) (sym c.as_slice.ensures) known
+    subst (λ text. IfSome c.lines.known (IsParsedIn c.args.plans.now c.lines.buffers (take c.in-EndOfInput.len text))) (sym c.as_slice.ensures) known
 
 pub apply_line-ended-requires-clause-known : goal.apply_line-ended-requires-clause-known
 apply_line-ended-requires-clause-known g c =
     let known = rw c.in-Newline.is at c.lines.invariant.known in
-    subst (λ text. IfSome c.lines.known (IsParsed c.args.plans.now c.lines.buffers.bytes c.lines.buffers.comebacks c.lines.buffers.parts (take c.in-Newline.len text))) (sym c.as_slice-in-lines.ensures) known
+    subst (λ text. IfSome c.lines.known (IsParsedIn c.args.plans.now c.lines.buffers (take c.in-Newline.len text))) (sym c.as_slice-in-lines.ensures) known
 
 pub returns-in-EndOfInput-clause-ends : goal.returns-in-EndOfInput-clause-ends
 returns-in-EndOfInput-clause-ends g c = λ quota output given holds start knows.
@@ -78,12 +78,12 @@ returns-in-Some-clause-ends g c = λ quota output given holds start knows.
 
 pub returns-in-Some-clause-cause : goal.returns-in-Some-clause-cause
 returns-in-Some-clause-cause g c = λ given counted failed.
-    write_failed _ _ _ _ _ _ _ c.lines.invariant.writer_quiet (c.in-Some.ensures.cause (ap Some failed))
+    write_failed _ _ _ _ _ _ _ c.lines.invariant.writer_quiet (c.in-Some.ensures.status.cause (ap Some failed))
 
 pub returns-in-Some-clause-quiet : goal.returns-in-Some-clause-quiet
 returns-in-Some-clause-quiet g c = λ given counted fine.
     still_none_failed _ _ _ _ _ _ _ _ c.lines.invariant.reader_quiet c.lines.invariant.writer_quiet
-    (c.in-Some.ensures.quiet (λ (e : Some c.in-Some.status ≡ Some 6). fine (cc)))
+    (c.in-Some.ensures.status.quiet (λ (e : Some c.in-Some.status ≡ Some 6). fine (cc)))
     (counted_more _ _ _ _ _ _ counted c.lines.invariant.counted) c.lines.invariant.below
 
 pub returns-in_default-flush_and_read_line-clause-ends : goal.returns-in_default-flush_and_read_line-clause-ends
@@ -101,7 +101,7 @@ returns-in_default-flush_and_read_line-clause-ends g c = λ quota output given h
 
 pub returns-in_default-flush_and_read_line-clause-cause : goal.returns-in_default-flush_and_read_line-clause-cause
 returns-in_default-flush_and_read_line-clause-cause g c = λ given counted failed.
-    read_failed _ _ _ _ _ _ _ _ _ _ _ c.lines.invariant.reader_quiet (c.in_default.ensures.quiet (λ e. absurd (cc)) ∙ c.lines.invariant.writer_quiet)
+    read_failed _ _ _ _ _ _ _ _ _ _ _ c.lines.invariant.reader_quiet (c.in_default.ensures.status.quiet (λ e. absurd (cc)) ∙ c.lines.invariant.writer_quiet)
     (rw c.consume.ensures.count (counted_more _ _ _ _ _ _ counted c.lines.invariant.counted)) c.flush_and_read_line.ensures.counted c.in_default-flush_and_read_line.ensures.cause
 
 pub lines-preserved : goal.lines-preserved
@@ -111,7 +111,7 @@ lines-preserved g c =
     let text = c.as_slice-in-lines.result.now in
     let left = ap length c.consume.ensures.held ∙ length-drop (c.in-Newline.len + 1) (held c.lines.ahead) in
     record {
-      plans_known = λ set knows. c.in_default.ensures.known set (c.lines.invariant.plans_known set knows);
+      plans_known = λ set knows. c.in_default.ensures.status.known set (c.lines.invariant.plans_known set knows);
       end = c.in-Ok.ensures.line.end;
       within = c.in-Ok.ensures.line.within;
       inside = c.in-Ok.ensures.line.inside;
@@ -119,7 +119,7 @@ lines-preserved g c =
       lines = omega (arith, inside, left, c.consume.ensures.count, c.flush_and_read_line.ensures.grown, c.lines.invariant.lines);
       below = c.in-Ok.ensures.below;
       reader_quiet = c.in-Ok.ensures.quiet ∙ c.lines.invariant.reader_quiet;
-      writer_quiet = c.in-Ok.ensures.writer_quiet ∙ c.in_default.ensures.quiet (λ e. absurd (cc)) ∙ c.lines.invariant.writer_quiet;
+      writer_quiet = c.in-Ok.ensures.writer_quiet ∙ c.in_default.ensures.status.quiet (λ e. absurd (cc)) ∙ c.lines.invariant.writer_quiet;
       counted = counted_more _ _ _ _ _ _ c.lines.invariant.counted (rw c.consume.ensures.count at c.flush_and_read_line.ensures.counted);
       so_far = λ quota output given holds start knows.
           let so_far = rw c.in-Newline.is at (c.lines.invariant.so_far quota output given holds start knows) in

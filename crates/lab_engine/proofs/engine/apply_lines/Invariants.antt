@@ -1,7 +1,7 @@
 use Rattle.std.proofs.Common.{◌≡◌, ℕ, ◌+◌, ◌≤◌, ◌<◌, List, length, take}
 use Rattle.std.specs.Prelude.{Option, IfSome}
 use Rattle.std.specs.Io.KnownBytes.{prepend_known}
-use Rattle.lab_engine.specs.Progress.{KnowsPlans, IsParsed, SoFar}
+use Rattle.lab_engine.specs.Progress.{KnowsPlans, IsParsedIn, SoFar}
 use Rattle.config.specs.Plans.{PlansValue}
 use Rattle.lab_engine.specs.Lab.{Output}
 use Rattle.streams.specs.LineEnd.{Fits, IsCounted, IsLineEnd, len_of, feeds_of}
@@ -14,7 +14,7 @@ invariant-lines g l = record {
   end : IsLineEnd (held l.ahead) (g.R.ByteReader.remaining l.reader) l.end;
   within : len_of l.end ≤ 8192;
   inside : len_of l.end + feeds_of l.end ≤ length (held l.ahead);
-  known : IfSome l.known (IsParsed l.fn.plans l.buffers.bytes l.buffers.comebacks l.buffers.parts (take (len_of l.end) (held l.ahead)));
+  known : IfSome l.known (IsParsedIn l.fn.plans l.buffers (take (len_of l.end) (held l.ahead)));
   lines : l.earlier + length (held l.ahead) ≤ l.ahead.count;
   below : l.ahead.count < 18446744073709551615;
   reader_quiet : g.R.ByteReader.failures l.reader ≡ g.R.ByteReader.failures l.fn.reader;

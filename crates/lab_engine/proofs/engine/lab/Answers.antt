@@ -2,6 +2,7 @@ use Rattle.std.proofs.Common.{length, refl, ap, arith}
 use Rattle.lab_engine.specs.Lab.{events_output}
 use Rattle.lab_engine.proofs.CauseLemmas.{cause_from, none_from, read_failed}
 use Rattle.streams.proofs.ReadLemmas.{counted_none}
+use Rattle.lab_engine.proofs.PreparationLemmas.{not_parsed}
 use Rattle.lab_engine.proofs.RunLemmas.{at_start, ended_written, partial_none}
 use Rattle.lab_engine.proofs.engine.lab.Goals as goal
 
@@ -13,8 +14,15 @@ pub returns-in_default-clause-cause : goal.returns-in_default-clause-cause
 returns-in_default-clause-cause g c = λ failed.
     read_failed _ _ _ _ _ _ _ _ _ _ _ refl refl (rw c.new-ahead.ensures.count (counted_none _ 0)) c.flush_and_read_line.ensures.counted c.in_default.ensures.cause
 
-pub apply_lines-requires-clause-lines : goal.apply_lines-requires-clause-lines
-apply_lines-requires-clause-lines g c = omega (arith, c.flush_and_read_line.ensures.grown, c.new-ahead.ensures.count, ap length c.new-ahead.ensures.held)
+pub apply_lines-requires : goal.apply_lines-requires
+apply_lines-requires g c = record {
+  next = record {
+    end = c.in-Ok.ensures.line.end;
+    line = not_parsed _ _ _ _ _ c.in-Ok.ensures.line;
+    lines = omega (arith, c.flush_and_read_line.ensures.grown, c.new-ahead.ensures.count, ap length c.new-ahead.ensures.held);
+    below = c.in-Ok.ensures.below;
+  };
+}
 
 pub returns-clause-written : goal.returns-clause-written
 returns-clause-written g c = λ quota machines text represents knows is fine.

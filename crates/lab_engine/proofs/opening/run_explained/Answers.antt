@@ -34,7 +34,7 @@ returns-in_default-opened-clause-quiet g c = λ fine. record {
   reader_quiet = c.in-Ok-prepare_all.ensures.quiet;
   writer_quiet = refl;
   count = c.prepare_all.new.ahead.count;
-  few = c.in-Ok-prepare_all.ensures.below;
+  few = c.in-Ok-prepare_all.ensures.next.below;
   read = has_read _ _ _ c.prepare_all.ensures.counted;
 }
 

@@ -1,16 +1,15 @@
 use Rattle.std.proofs.Common.{◌≡◌, ℕ, ◌+◌, ◌≤◌, ◌<◌, false, length}
 use Rattle.std.specs.Prelude.{⊤}
 use Rattle.std.specs.Io.KnownBytes.{prepend_known}
-use Rattle.lease_disk.specs.Model.{device_of, disk_region}
-use Rattle.lab_engine.specs.Preparations.{AreReady, PreparedSoFar}
+use Rattle.lease_disk.specs.Model.{device_of}
+use Rattle.lab_engine.specs.Preparations.{PreparedSoFar, StaysReady}
 use Rattle.streams.specs.LineEnd.{IsCounted}
 use Rattle.streams.specs.ReadAhead.{held}
 use Rattle.lab_engine.proofs.preparations.prepare_all.Given as goal
 
 abbrev pub invariant-lines : goal.invariant-lines
 invariant-lines g l = record {
-  regions : length l.disk.regions ≡ length l.fn.disk.regions;
-  ready : AreReady (length l.disk.regions) (disk_region l.disk);
+  disk : StaysReady l.fn.disk l.disk;
   lines : l.earlier + length (held l.ahead) ≤ l.ahead.count;
   below : l.ahead.count < 18446744073709551615;
   quiet : g.R.ByteReader.failures l.reader ≡ g.R.ByteReader.failures l.fn.reader;

@@ -3,7 +3,7 @@ use Rattle.std.proofs.KnownBytes.{Keeps-refl}
 use Rattle.std.specs.Io.KnownBytes.{prepend_known}
 use Rattle.lease_disk.specs.Model.{device_of}
 use Rattle.lab_engine.specs.Preparations.{PreparedSoFar}
-use Rattle.lab_engine.specs.Progress.{IsParsed}
+use Rattle.lab_engine.specs.Progress.{IsParsedIn}
 use Rattle.streams.specs.declared.line.LineEnd.TheVariants.{EndOfInput}
 use Rattle.lab_engine.specs.Lab.{prepared}
 use Rattle.lab_text.specs.Line.{line_of_text}
@@ -21,9 +21,19 @@ returns-in-Some-clause-prepared c = λ quota number given left last so_far.
     (begun_last c.args.plans.now quota number (held c.args.ahead.now) _ c.args.len last
     (λ openings. ap (λ text. prepared (line_of_text c.args.plans.now.union c.args.plans.now.count (take c.args.len text)) openings) (sym c.as_slice.ensures) ∙ c.in-Some.ensures.event openings)))
 
-pub returns-in-Some-clause-parsed : goal.returns-in-Some-clause-parsed
-returns-in-Some-clause-parsed c =
-    subst (λ text. IsParsed c.args.plans.now c.prepare.new.buffers.bytes c.prepare.new.buffers.comebacks c.prepare.new.buffers.parts (take c.args.len text) c.in-Some.parsed) c.as_slice.ensures c.in-Some.ensures.parsed
+pub returns-in-Some-clause-line : goal.returns-in-Some-clause-line
+returns-in-Some-clause-line c = record {
+  within = c.requires.short;
+  inside = let e = c.requires.inside in omega arith;
+  parsed = subst (λ text. IsParsedIn c.args.plans.now c.prepare.new.buffers (take c.args.len text) c.in-Some.parsed) c.as_slice.ensures c.in-Some.ensures.parsed;
+}
+
+pub returns-clause-line : goal.returns-clause-line
+returns-clause-line c = record {
+  within = omega arith;
+  inside = omega arith;
+  parsed = tt;
+}
 
 pub returns-clause-prepared : goal.returns-clause-prepared
 returns-clause-prepared c = λ quota number given left last so_far.
