@@ -1,13 +1,16 @@
 -- Tries of the server's two sockets, one after the other.
-use Rattle.std.proofs.Common.{inl, inr, ◌≡◌, ◌∙◌, ◌+◌, ◌*◌, ◌<◌, ◌≤◌, ◌==◌, ℕ, zero, suc, Bool, true, false, List, [], ◌∷◌, ◌++◌, refl, sym, ap, subst, arith, append_assoc}
+use Rattle.std.proofs.Common.{inl, inr, ◌≡◌, ◌∙◌, ◌+◌, ◌*◌, ◌<◌, ◌≤◌, ◌==◌, ℕ, zero, suc, Bool, true, false, List, [], ◌∷◌, ◌++◌, length, refl, sym, ap, subst, arith, append_assoc}
 use Rattle.std.specs.Prelude.{◌⊎◌, Some, None, if◌then◌else◌}
 use Rattle.std.proofs.lemmas.List.Elements.{filter_map-append}
 use Rattle.std.proofs.lemmas.Option.{same_Some}
 use Rattle.types.specs.declared.dest.Proto.{Proto}
 use Rattle.types.specs.declared.dest.Proto.TheVariants.{V4, V6}
-use Rattle.udp.specs.History.{Entry, Took, Empty, Failed, Sent, Ticked, Refused, Read}
+use Rattle.udp.specs.History.{Entry, Took, Empty, Failed, Sent, Ticked, Refused, Read, attempt_entry, with_entry}
+use Rattle.udp.specs.declared.datagram_socket.Attempt.{Attempt}
+use Rattle.udp.specs.declared.datagram_socket.Attempt.TheVariants as attempt
+use Rattle.udp.specs.declared.history.Role.{Role}
 use Rattle.udp.specs.declared.history.Role.TheVariants.{Circuit, Server, Relay}
-use Rattle.access.specs.Taken.{HasTriedNext, all_delivered}
+use Rattle.access.specs.Taken.{HasTriedNext, after_attempt, all_delivered, attempt_datagrams, delivered}
 use Rattle.access.specs.Polling.{AreTries, IsNext, after_tries, after_try, again, begun, deliveries_in, delivery_in, may_wait, next_of, other, server_socket, waiting_at}
 use Rattle.access.specs.declared.datagrams.Datagram.{Datagram}
 use Rattle.access.specs.declared.polling.Polling.{Polling}
@@ -41,6 +44,31 @@ polled_more most first proto before after taken more old middle new polled tried
   history = tried.history ∙ ap (λ h. h ++ tried.entry ∷ []) polled.history ∙ append_assoc old polled.entries (tried.entry ∷ []);
   datagrams = λ now. tried.datagrams now ∙ ap (λ ds. ds ++ deliveries_in now (tried.entry ∷ [])) (polled.datagrams now) ∙ sym (filter_map-append (delivery_in now) polled.entries (tried.entry ∷ []));
 }
+
+-- ---- by what came of a try
+
+tried_at : (proto : Proto) (buffer : List ℕ) (made : Attempt) (p : Polling) → (server_socket (attempt_entry (Server proto) buffer made) ≡ Some proto)
+    × (after_attempt proto made p ≡ after_try (attempt_entry (Server proto) buffer made) p)
+    × ((now : ℕ) → all_delivered now (attempt_datagrams proto buffer made) ≡ deliveries_in now (attempt_entry (Server proto) buffer made ∷ []))
+tried_at proto buffer (attempt.Took len from) p = (refl, refl, λ now. refl)
+tried_at proto buffer attempt.Empty p = (refl, refl, λ now. refl)
+tried_at proto buffer attempt.Failed p = (refl, refl, λ now. refl)
+
+delivered_append : (now : ℕ) (xs ys : List Datagram) → all_delivered now (xs ++ ys) ≡ all_delivered now xs ++ all_delivered now ys
+delivered_append now [] ys = refl
+delivered_append now (x ∷ xs) ys = ap (λ ds. delivered now x ∷ ds) (delivered_append now xs ys)
+
+pub tried_next : (proto : Proto) (socket : Role) (buffer : List ℕ) (made : Attempt) (before after : Polling) (taken more : List Datagram) (old new : List Entry) → next_of before ≡ Some proto → socket ≡ Server proto
+    → new ≡ with_entry (attempt_entry socket buffer made) old → more ≡ taken ++ attempt_datagrams proto buffer made → after ≡ after_attempt proto made before → HasTriedNext proto before after taken more old new
+tried_next proto socket buffer made before after taken more old new next own entry datagrams state =
+    let its = tried_at proto buffer made before in
+    record {
+      entry = attempt_entry (Server proto) buffer made;
+      next = (proto, next, its.0);
+      state = state ∙ its.1;
+      history = entry ∙ ap (λ s. with_entry (attempt_entry s buffer made) old) own;
+      datagrams = λ now. ap (all_delivered now) datagrams ∙ delivered_append now taken (attempt_datagrams proto buffer made) ∙ ap (λ ds. all_delivered now taken ++ ds) (its.2 now);
+    }
 
 -- ---- the tries come to an end
 
@@ -80,6 +108,26 @@ next_is p proto is = by (chosen (p.left == 0) (may_wait (waiting_at p.first p)) 
       → (0 < p.left) × (may_wait (waiting_at proto p) ≡ true)
   by (some, inl (same, may)) = (some_left p.left some, subst (λ t. may_wait (waiting_at t p) ≡ true) same may)
   by (some, inr (same, may)) = (some_left p.left some, subst (λ t. may_wait (waiting_at t p) ≡ true) same may)
+
+length_more : (xs ys : List Datagram) → length (xs ++ ys) ≡ length xs + length ys
+length_more [] ys = omega arith
+length_more (x ∷ xs) ys = let inside : length (xs ++ ys) ≡ length xs + length ys = length_more xs ys in omega (arith, inside)
+
+room_at : (proto : Proto) (buffer : List ℕ) (made : Attempt) (p : Polling) (taken : List Datagram) → 0 < p.left → length (taken ++ attempt_datagrams proto buffer made) + (after_attempt proto made p).left ≤ length taken + p.left
+room_at proto buffer (attempt.Took len from) p taken some = let more = length_more taken (attempt_datagrams proto buffer (attempt.Took len from)) in omega (arith, more, some)
+room_at V4 buffer attempt.Empty p taken some = let more = length_more taken [] in omega (arith, more)
+room_at V6 buffer attempt.Empty p taken some = let more = length_more taken [] in omega (arith, more)
+room_at V4 buffer attempt.Failed p taken some = let more = length_more taken [] in omega (arith, more)
+room_at V6 buffer attempt.Failed p taken some = let more = length_more taken [] in omega (arith, more)
+
+-- what may still be taken has room
+pub room_after : (proto : Proto) (buffer : List ℕ) (made : Attempt) (before after : Polling) (taken more : List Datagram) (most : ℕ) → next_of before ≡ Some proto → more ≡ taken ++ attempt_datagrams proto buffer made
+    → after ≡ after_attempt proto made before → length taken + before.left ≤ most → length more + after.left ≤ most
+room_after proto buffer made before after taken more most next datagrams state room =
+    let one = room_at proto buffer made before taken (next_is before proto next).0 in
+    let both = subst (λ (p : Polling). length (taken ++ attempt_datagrams proto buffer made) + p.left ≤ length taken + before.left) (sym state) one in
+    let all = subst (λ (ds : List Datagram). length ds + after.left ≤ length taken + before.left) (sym datagrams) both in
+    omega (arith, all, room)
 
 -- a try of a socket at which a datagram may wait
 fewer_by : (p : Polling) (entry : Entry) (proto : Proto) → 0 < p.left → may_wait (waiting_at proto p) ≡ true → server_socket entry ≡ Some proto → tries_left (after_try entry p) < tries_left p

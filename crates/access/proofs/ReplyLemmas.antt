@@ -1,22 +1,25 @@
 -- The answers to the datagrams of a turn, one after the other.
-use Rattle.std.proofs.Common.{inl, inr, ◌≡◌, ◌∙◌, ◌+◌, ◌<◌, ◌≤◌, ℕ, zero, suc, Bool, true, false, Bor, List, [], ◌∷◌, ◌++◌, length, get_or, map, refl, sym, ap, subst, arith, append_assoc, append-nil}
-use Rattle.std.specs.Prelude.{◌⊎◌, Option, Some, None, option_map, Result, slice_get, slice_index_or}
-use Rattle.std.proofs.lemmas.Option.{slice_get_cases, slice_get-get_or}
+use Rattle.std.proofs.Common.{inl, inr, ◌≡◌, ◌∙◌, ◌+◌, ◌<◌, ◌≤◌, ℕ, zero, suc, Bool, true, false, Bor, List, [], ◌∷◌, ◌++◌, length, get_or, map, min, take, refl, sym, ap, ap₂, subst, arith, append_assoc, append-nil}
+use Rattle.std.specs.Prelude.{◌⊎◌, Option, Some, None, option_map, Result, Ok, Err, if◌then◌else◌, slice_get, slice_index_or}
+use Rattle.std.proofs.lemmas.Option.{same_Some, slice_get_cases, slice_get-get_or}
+use Rattle.config.specs.Topology.{Topology}
+use Rattle.requests.specs.Addressee.{addressee}
 use Rattle.types.specs.Delivery.{DeliveryValue}
+use Rattle.types.specs.declared.addr.Source.{Source}
 use Rattle.types.specs.declared.dest.Proto.{Proto}
 use Rattle.types.specs.declared.dest.Proto.TheVariants.{V4, V6}
 use Rattle.udp.specs.Socket.{SocketValue}
 use Rattle.types.specs.declared.discard.Discard.{Discard}
 use Rattle.dispatch.specs.Answers.{answer_of}
 use Rattle.dispatch.specs.declared.server.batch_answers.Answer.{Answer}
-use Rattle.udp.specs.History.{Entry}
+use Rattle.udp.specs.History.{Entry, Sent, with_entry}
 use Rattle.udp.specs.declared.history.Role.{Role}
 use Rattle.udp.specs.declared.history.Role.TheVariants as role
 use Rattle.counts.specs.Counts.{counted, counted_all}
 use Rattle.counts.specs.declared.counts.Counts.{Counts}
 use Rattle.counts.specs.declared.counts.Fate.{Fate}
 use Rattle.counts.specs.declared.counts.Fate.TheVariants as outcome
-use Rattle.access.specs.Batch.{HasTried, IsReplied, IsRepliedAt, is_repeated}
+use Rattle.access.specs.Batch.{HasTried, IsReplied, IsRepliedAt, counted_answer, counted_answers, counted_if_dropped, is_repeated}
 use Rattle.access.specs.Taken.{all_delivered, delivered}
 use Rattle.access.specs.Turn.{GoesOn, HasSentOn, InOrder, Tries}
 use Rattle.access.specs.declared.datagrams.Datagram.{Datagram}
@@ -76,6 +79,54 @@ replied_now false socket d answer before after old new became is own sent count 
   counts = count;
   history = sent.history;
 }
+
+pub sent_ok : (socket : Role) (to : Source) (answer : Result (List ℕ) Discard) (bytes out : List ℕ) (sent : Bool) (old new : List Entry) (became : Fate) → answer ≡ Ok bytes → out ≡ bytes
+    → new ≡ with_entry (Sent socket to out sent) old → became ≡ (if sent then outcome.Answered else outcome.Unsent) → HasSentOn socket to outcome.Answered answer old new became
+sent_ok socket to answer bytes out sent old new became is same entry became_is = record {
+  rest = Sent socket to out sent ∷ [];
+  history = entry;
+  goes_on = subst (λ made. GoesOn socket to outcome.Answered made (Sent socket to out sent ∷ []) became) (sym is) (sent, ap (λ b. Sent socket to b sent ∷ []) same, became_is);
+}
+
+pub dropped_on : (socket : Role) (to : Source) (answer : Result (List ℕ) Discard) (why : Discard) (history : List Entry) → answer ≡ Err why → HasSentOn socket to outcome.Answered answer history history (outcome.Dropped why)
+dropped_on socket to answer why history is =
+    record { rest = []; history = sym (append-nil history); goes_on = subst (λ made. GoesOn socket to outcome.Answered made [] (outcome.Dropped why)) (sym is) (refl, refl) }
+
+-- what is counted for the circuit
+pub counted_ok : (b : Bool) (circuit : Result ℕ Discard) (answer : Result (List ℕ) Discard) (bytes : List ℕ) (counts : List Counts) → b ≡ false → answer ≡ Ok bytes → counts ≡ counted_answer b circuit answer counts
+counted_ok true circuit answer bytes counts first is = absurd cc
+counted_ok false circuit answer bytes counts first is = subst (λ a. counts ≡ counted_answer false circuit a counts) (sym is) refl
+
+pub counted_dropped : (b : Bool) (circuit : Result ℕ Discard) (answer : Result (List ℕ) Discard) (why : Discard) (counts : List Counts) → b ≡ false → answer ≡ Err why
+    → counted_if_dropped circuit (outcome.Dropped why) counts ≡ counted_answer b circuit answer counts
+counted_dropped true circuit answer why counts first is = absurd cc
+counted_dropped false circuit answer why counts first is = subst (λ a. counted_if_dropped circuit (outcome.Dropped why) counts ≡ counted_answer false circuit a counts) (sym is) refl
+
+counted_at_last : (topology : Topology) (taken : List DeliveryValue) (answers : List (Result (List ℕ) Discard)) (n : ℕ) (d : DeliveryValue) (answer : Result (List ℕ) Discard) (counts : List Counts) → slice_get taken n ≡ Some d → slice_get answers n ≡ Some answer
+    → counted_answers topology (take (suc n) taken) (take (suc n) answers) counts ≡ counted_answer (is_repeated answer) (addressee topology d) answer (counted_answers topology (take n taken) (take n answers) counts)
+counted_at_last topology [] answers n d answer counts there its = absurd cc
+counted_at_last topology (x ∷ taken) [] n d answer counts there its = absurd cc
+counted_at_last topology (x ∷ taken) (y ∷ answers) zero d answer counts there its = ap₂ (λ u v. counted_answer (is_repeated v) (addressee topology u) v counts) (same_Some x d there) (same_Some y answer its)
+counted_at_last topology (x ∷ taken) (y ∷ answers) (suc n) d answer counts there its = counted_at_last topology taken answers n d answer (counted_answer (is_repeated y) (addressee topology x) y counts) there its
+
+-- one answer more
+pub counted_next : (topology : Topology) (taken : List DeliveryValue) (answers : List (Result (List ℕ) Discard)) (n : ℕ) (d : DeliveryValue) (answer : Result (List ℕ) Discard) (old middle new : List Counts) → slice_get taken n ≡ Some d → slice_get answers n ≡ Some answer
+    → middle ≡ counted_answers topology (take n taken) (take n answers) old → new ≡ counted_answer (is_repeated answer) (addressee topology d) answer middle → new ≡ counted_answers topology (take (n + 1) taken) (take (n + 1) answers) old
+counted_next topology taken answers n d answer old middle new there its before last =
+    let more : suc n ≡ n + 1 = omega arith in
+    subst (λ k. new ≡ counted_answers topology (take k taken) (take k answers) old) more
+    (last ∙ ap (counted_answer (is_repeated answer) (addressee topology d) answer) before ∙ sym (counted_at_last topology taken answers n d answer old there its))
+
+-- all of them
+pub counted_over : (topology : Topology) (taken : List DeliveryValue) (answers : List (Result (List ℕ) Discard)) (n : ℕ) (counts : List Counts) → min (length taken) (length answers) ≤ n
+    → counted_answers topology (take n taken) (take n answers) counts ≡ counted_answers topology taken answers counts
+counted_over topology [] answers zero counts least = refl
+counted_over topology [] answers (suc n) counts least = refl
+counted_over topology (d ∷ taken) [] zero counts least = refl
+counted_over topology (d ∷ taken) [] (suc n) counts least = refl
+counted_over topology (d ∷ taken) (answer ∷ answers) zero counts least = absurd (omega (arith, least))
+counted_over topology (d ∷ taken) (answer ∷ answers) (suc n) counts least =
+    counted_over topology taken answers n (counted_answer (is_repeated answer) (addressee topology d) answer counts) (omega (arith, least))
 
 pub replied_at : (taken : List DeliveryValue) (answers : List (Result (List ℕ) Discard)) (j : ℕ) (d : DeliveryValue) (answer : Result (List ℕ) Discard) (before after : Counts) (old new : List Entry)
     → slice_get taken j ≡ Some d → slice_get answers j ≡ Some answer → HasTried (IsReplied (is_repeated answer) d answer) before after old new → HasTried (IsRepliedAt taken answers j) before after old new

@@ -1,5 +1,5 @@
 -- What the server makes of the datagrams that a turn takes from its sockets.
-use Rattle.std.specs.Prelude.{◌≡◌, ℕ, zero, suc, Bool, true, false, List, [], ◌∷◌, ◌++◌, Some, slice_get, Result, Err}
+use Rattle.std.specs.Prelude.{◌≡◌, ℕ, zero, suc, Bool, true, false, List, [], ◌∷◌, ◌++◌, Some, slice_get, Result, Ok, Err}
 use Rattle.types.specs.Delivery.{DeliveryValue}
 use Rattle.types.specs.declared.discard.Discard.{Discard}
 use Rattle.types.specs.declared.discard.Discard.TheVariants.{BatchTwice}
@@ -11,6 +11,9 @@ use Rattle.dispatch.specs.Received.{Received, received, received_saves}
 use Rattle.dispatch.specs.ServerValue.{ServerValue, books_in}
 use Rattle.udp.specs.History.{Entry}
 use Rattle.udp.specs.declared.history.Role.TheVariants as role
+use Rattle.config.specs.Topology.{Topology}
+use Rattle.requests.specs.Addressee.{addressee}
+use Rattle.counts.specs.CircuitCounts.{counted_for}
 use Rattle.counts.specs.Counts.{counted, counted_all}
 use Rattle.counts.specs.declared.counts.Counts.{Counts}
 use Rattle.counts.specs.declared.counts.Fate.{Fate}
@@ -64,7 +67,7 @@ abbrev pub IsReplied : Bool → DeliveryValue → Result (List ℕ) Discard → 
 IsReplied true d answer entries outcomes = (entries ≡ []) × (outcomes ≡ [])
 IsReplied false d answer entries outcomes = (became : Fate) × (outcomes ≡ became ∷ []) × GoesOn (role.Server d.proto) d.source outcome.Answered answer entries became
 
--- the same of the datagram of an index
+-- the datagram of an index is replied to
 pub record IsRepliedAt (taken : List DeliveryValue) (answers : List (Result (List ℕ) Discard)) (j : ℕ) (entries : List Entry) (outcomes : List Fate) : Type 0 where
   pub its_datagram : DeliveryValue
   pub its_answer : Result (List ℕ) Discard
@@ -83,6 +86,24 @@ pub record HasTried (Try : Tries) (before after : Counts) (old new : List Entry)
   pub tried : Try entries outcomes
   pub counts : after ≡ counted_all outcomes before
   pub history : new ≡ old ++ entries
+
+-- ---- for each circuit
+
+-- what became of a datagram, where the server dropped it, is counted for the circuit that it is of
+abbrev pub counted_if_dropped : Result ℕ Discard → Fate → List Counts → List Counts
+counted_if_dropped (Ok c) (outcome.Dropped why) counts = counted_for c (outcome.Dropped why) counts
+counted_if_dropped circuit became counts = counts
+
+-- what an answer counts for its datagram's circuit; one that is repeated is counted later
+abbrev pub counted_answer : Bool → Result ℕ Discard → Result (List ℕ) Discard → List Counts → List Counts
+counted_answer true circuit answer counts = counts
+counted_answer false circuit (Ok bytes) counts = counts
+counted_answer false circuit (Err why) counts = counted_if_dropped circuit (outcome.Dropped why) counts
+
+-- one answer after the other
+abbrev pub counted_answers : Topology → List DeliveryValue → List (Result (List ℕ) Discard) → List Counts → List Counts
+counted_answers topology (d ∷ taken) (answer ∷ answers) counts = counted_answers topology taken answers (counted_answer (is_repeated answer) (addressee topology d) answer counts)
+counted_answers topology taken answers counts = counts
 
 -- ---- those that are repeated
 

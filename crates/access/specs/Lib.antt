@@ -1,6 +1,7 @@
 pub mod Access
 pub mod Batch
 pub mod Moments
+pub mod Opened
 pub mod Polling
 pub mod Taken
 pub mod Turn

@@ -56,7 +56,7 @@ abbrev pub GoesOn : Role → Source → Fate → Result (List ℕ) Discard → L
 GoesOn socket to done (Err why) rest became = (rest ≡ []) × (became ≡ outcome.Dropped why)
 GoesOn socket to done (Ok bytes) rest became = (accepted : Bool) × (rest ≡ Sent socket to bytes accepted ∷ []) × (became ≡ (if accepted then done else outcome.Unsent))
 
--- The same by the history before and after it.
+-- Bytes go so, or nothing goes, by the history before and after it.
 pub record HasSentOn (socket : Role) (to : Source) (done : Fate) (made : Result (List ℕ) Discard) (old new : List Entry) (became : Fate) : Type 0 where
   pub rest : List Entry
   pub history : new ≡ old ++ rest

@@ -1,11 +1,11 @@
 //! Relay and server over sockets.
-ghost use Rattle.std.specs.Prelude.{◌≡◌, ◌≤◌, ◌<◌, ◌+◌, ◌*◌, ◌↔◌, ℕ, [], length, map, true, is_some, Some, slice_get};
-ghost use Rattle.std.specs.Prelude.{All, Err, IfOk, IfErr};
+ghost use Rattle.std.specs.Prelude.{◌≡◌, ◌≤◌, ◌<◌, ◌+◌, ◌↔◌, ℕ, [], length, map, true, is_some, Some, slice_get, Err, IfOk, IfErr};
 ghost use Rattle.access.specs.Access.{HasCarried, HasCounted, HasReached, HasServed, HasServedTurns, HasTurned};
 ghost use Rattle.access.specs.Access.{IsOpened, RefusesSocket, StayClosed, StaysSetUp, books_at};
 ghost use Rattle.counts.specs.Counts.{more_by, none};
 ghost use Rattle.opening.specs.Opening.{found_format, was_old};
-ghost use Rattle.sockets.specs.Sockets.{AreBound, IsSocket, Refuses, WasRefused};
+ghost use Rattle.sockets.specs.Sockets.{IsSocket, Refuses, WasRefused};
+ghost use Rattle.access.specs.Opened.{AreSocketsOf, IsEngine};
 ghost use Rattle.access.specs.Turn.{Both, CircuitSocket, CircuitsSockets, RelaySocket, RelaysSockets};
 ghost use Rattle.types.specs.declared.dest.Proto.TheVariants.{V4, V6};
 ghost use Rattle.access.specs.declared.access.AccessFault.TheVariants as fault;
@@ -13,7 +13,7 @@ ghost use Rattle.dispatch.specs.declared.server.OpenFault.TheVariants as open_fa
 ghost use Rattle.config.specs.CircuitPart.{parts_of};
 ghost use Rattle.dispatch.specs.Regions.{HasRegions};
 ghost use Rattle.dispatch.specs.ServerValue.{books_in};
-ghost use Rattle.config.specs.Topology.{IsTopology, listen, topology_of};
+ghost use Rattle.config.specs.Topology.{topology_of};
 
 use crate::batch::Batch;
 use crate::clock::moment;
@@ -145,14 +145,7 @@ struct Engine {
 /// Opens server and relays of a configuration of at most 16 circuits over a device.
 fn open_engine(alloc: Global, config: &Config, mut disk: FileDisk) -> Result<Engine, OpenFault>
     requires few { length config.now.circuits ≤ 16 }
-    ensures topology { IfOk result (λ engine. engine.relays.topology ≡ topology_of config.now) }
-    ensures sound { IfOk result (λ _. IsTopology (topology_of config.now)) }
-    ensures served { IfOk result (λ engine. engine.server.topology ≡ topology_of config.now) }
-    ensures large { IfOk result (λ engine. HasRegions (parts_of config.now) engine.disk.regions) }
-    ensures count { IfOk result (λ engine. engine.disk.regions ≡ disk.regions) }
-    ensures formats { IfOk result (λ engine. length engine.formats.items ≡ length config.now.circuits) }
-    ensures reads { IfOk result (λ engine. engine.disk.reads ≤ disk.reads + 6 * length config.now.circuits) }
-    ensures writes { IfOk result (λ engine. engine.disk.writes ≤ disk.writes + 4 * length config.now.circuits) }
+    ensures engine { IfOk result (IsEngine config.now disk) }
     ensures small { IfErr result (λ why. why ≡ open_fault.DiskTooSmall → ¬ HasRegions (parts_of config.now) disk.regions) }
 {
     // first, so that the device is as it was where their memory is refused
@@ -178,10 +171,7 @@ fn bind_sockets<R: Net>(
 ) -> Result<(Sockets, Waiter), SocketFault>
     requires few { length config.now.circuits ≤ 16 }
     requires most { port ≤ 65472 }
-    ensures circuits { IfOk result (λ made. length made.0.circuits.items ≡ length config.now.circuits) }
-    ensures relays { IfOk result (λ made. length made.0.relays.items ≡ length config.now.relays) }
-    ensures behind { IfOk result (λ made. All (λ circuit. circuit.relay < length config.now.relays) made.0.circuits.items) }
-    ensures bound { IfOk result (λ made. AreBound (topology_of config.now) port history.old.id made.0) }
+    ensures bound { IfOk result (λ made. AreSocketsOf config.now port history.old.id made.0) }
     ensures same { history.new.id ≡ history.old.id }
     ensures silent { IfOk result (λ _. history.new.entries ≡ history.old.entries) }
     ensures refused { IfErr result (Refuses (λ at. IsSocket config.now port at × WasRefused history.old.entries history.new.entries at)) }
@@ -189,10 +179,8 @@ fn bind_sockets<R: Net>(
     let Ok(mut waiter) = Waiter::new(net, alloc, MAX_SOCKETS) else {
         return Err(SocketFault::Memory);
     };
-    match Sockets::bind(net, alloc, config, port, &mut waiter, history) {
-        Ok(sockets) => Ok((sockets, waiter)),
-        Err(why) => Err(why),
-    }
+    let sockets = Sockets::bind(net, alloc, config, port, &mut waiter, history)?;
+    Ok((sockets, waiter))
 }
 
 /// Whether the system binds each socket of a configuration now; all are given back at once. More than 16 circuits are refused
@@ -355,12 +343,7 @@ impl Access {
     fn format_of(&self, circuit: Circuit) -> Option<u8>
         ensures { result ≡ found_format (slice_get self.now.formats circuit) }
     {
-        let index = circuit.index();
-        if index < self.formats.len() {
-            self.formats[index]
-        } else {
-            None
-        }
+        *self.formats.get(circuit.index())?
     }
 
     /// The server that answers over these sockets.
@@ -383,29 +366,12 @@ impl Access {
         &self.by_circuit
     }
 
-    /// Where the server receives datagrams of a protocol.
-    fn listen(&self, proto: Proto) -> Source
-        ensures { result ≡ listen self.now.topology proto }
-    {
-        match proto {
-            Proto::V4 => self.listen4,
-            Proto::V6 => self.listen6,
-        }
-    }
-
-    /// Has the system tell at which sockets datagrams arrived.
-    fn look(&mut self)
-        ensures { self.new ≡ self.old }
-    {
-        self.waiter.poll();
-    }
-
     /// Takes a frame from each of the circuits' sockets to its relay.
     fn take_from_circuits(&mut self) -> u32
         ensures most { result ≤ 32 }
         ensures carried { HasCarried (CircuitsSockets self.old.topology) result self.old self.new }
     {
-        self.look();
+        self.waiter.poll();
         let mut taken = 0;
         'circuits: for index in 0..self.sockets.circuits.len() {
             taken += self.take_frames(index);
@@ -450,20 +416,19 @@ impl Access {
         ensures most { result ≤ 1 }
         ensures carried { HasCarried (CircuitSocket self.old.topology index proto) result self.old self.new }
     {
-        let to = self.listen(proto);
+        let to = match proto {
+            Proto::V4 => self.listen4,
+            Proto::V6 => self.listen6,
+        };
         let sockets = &self.sockets.circuits[index];
         let socket = sockets.socket(proto);
-        let Attempt::Took(len, _) = socket.take_if_ready(
-            &mut self.buffer,
-            &mut self.waiter,
-            &mut self.history,
-        ) else {
+        let (buffer, waiter, history) = (&mut self.buffer, &mut self.waiter, &mut self.history);
+        let Attempt::Took(len, _) = socket.take_if_ready(buffer, waiter, history) else {
             return 0;
         };
         let frame = &self.buffer[..len];
-        let made = self
-            .relays
-            .up(Circuit::at(index), proto, frame, &mut self.out);
+        let circuit = Circuit::at(index);
+        let made = self.relays.up(circuit, proto, frame, &mut self.out);
         let from = &self.sockets.relays[self.sockets.circuits[index].relay];
         let out = self.out.as_slice();
         let outcome = send_on(made, from, to, out, Fate::Relayed, &mut self.history);
@@ -482,9 +447,9 @@ impl Access {
         let (server, disk) = (&mut self.server, &mut self.disk);
         self.batch.poll(sockets, &mut self.waiter, history);
         self.batch.receive(now, server, disk);
-        self.batch.reply(sockets, counts, history);
         let by_circuit = &mut self.by_circuit;
-        self.batch.count_dropped(server, by_circuit);
+        self.batch
+            .reply(sockets, server, counts, by_circuit, history);
         self.batch
             .receive_again(now, sockets, server, disk, counts, by_circuit, history);
         expect_answers(&self.batch, &sockets.relays, &mut self.waiter);
@@ -524,9 +489,8 @@ impl Access {
                 let from = self.sockets.circuits[sent.0.index()].socket(proto);
                 let to = client(self.port, sent.0, proto);
                 let (made, bytes) = (Ok(()), frame.as_slice());
-                let circuit = sent.0.index();
                 let outcome = send_on(made, from, to, bytes, Fate::Delivered, &mut self.history);
-                self.by_circuit.count_for(circuit, outcome);
+                self.by_circuit.count_for(sent.0.index(), outcome);
                 outcome
             }
             Err(why) => Fate::Dropped(why),

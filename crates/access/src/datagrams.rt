@@ -18,18 +18,6 @@ pub(crate) struct Datagram {
 }
 
 impl Datagram {
-    /// What a buffer holds before a datagram was received in it.
-    fn none() -> Datagram
-        ensures { result.len ≡ 0 }
-    {
-        Datagram {
-            proto: Proto::V4,
-            source: Source::UNSPECIFIED,
-            len: 0,
-            buffer: [0; BUFFER_LEN],
-        }
-    }
-
     pub(crate) fn bytes(&self) -> &[u8]
         requires { self.now.len ≤ 1281 }
         ensures { result.now ≡ take self.now.len self.now.buffer }
@@ -61,9 +49,15 @@ impl Datagrams {
     pub(crate) fn new() -> Datagrams
         ensures { result ≡ [] }
     {
+        let none = Datagram {
+            proto: Proto::V4,
+            source: Source::UNSPECIFIED,
+            len: 0,
+            buffer: [0; BUFFER_LEN],
+        };
         Datagrams {
             count: 0,
-            slots: [Datagram::none(); MAX_BATCH],
+            slots: [none; MAX_BATCH],
         }
     }
 

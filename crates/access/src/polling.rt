@@ -1,8 +1,10 @@
 //! In which order datagrams are taken from the server's two sockets.
 ghost use Rattle.std.specs.Prelude.{◌≡◌, ◌<◌};
-ghost use Rattle.access.specs.Polling.{after_take, again, begun, may_wait, next_of, other, waiting_at, with_waiting};
+ghost use Rattle.access.specs.Polling.{again, may_wait, next_of, other, waiting_at};
+ghost use Rattle.access.specs.Taken.{after_attempt};
 
 use types::Proto;
+use udp::Attempt;
 
 /// Whether a datagram may wait at one of the server's sockets, as far as a turn knows.
 #[derive(Clone, Copy, PartialEq, Eq)]
@@ -18,11 +20,11 @@ pub enum Waiting {
 #[derive(Clone, Copy, PartialEq, Eq)]
 pub struct Polling {
     /// How many more it takes.
-    left: usize,
+    pub(crate) left: usize,
     /// Which socket it tries first.
     pub(crate) first: Proto,
-    v4: Waiting,
-    v6: Waiting,
+    pub(crate) v4: Waiting,
+    pub(crate) v6: Waiting,
 }
 
 /// The other protocol.
@@ -36,15 +38,6 @@ fn other(proto: Proto) -> Proto
 }
 
 impl Waiting {
-    fn may_wait(self) -> bool
-        ensures { result ≡ may_wait self }
-    {
-        match self {
-            Waiting::Perhaps => true,
-            Waiting::No | Waiting::Lost => false,
-        }
-    }
-
     /// What is known of a socket after a datagram was taken from either of the two.
     fn again(self) -> Waiting
         ensures { result ≡ again self }
@@ -57,24 +50,13 @@ impl Waiting {
 }
 
 impl Polling {
-    /// A turn begins, which takes so many at most and tries this socket first.
-    pub(crate) fn begin(most: usize, first: Proto) -> Polling
-        ensures { result ≡ begun most first }
-    {
-        Polling {
-            left: most,
-            first,
-            v4: Waiting::Perhaps,
-            v6: Waiting::Perhaps,
-        }
-    }
-
-    fn waiting_at(&self, proto: Proto) -> Waiting
-        ensures { result ≡ waiting_at proto self.now }
+    /// Whether a datagram may wait at this socket.
+    fn may_wait_at(&self, proto: Proto) -> bool
+        ensures { result ≡ may_wait (waiting_at proto self.now) }
     {
         match proto {
-            Proto::V4 => self.v4,
-            Proto::V6 => self.v6,
+            Proto::V4 => matches!(self.v4, Waiting::Perhaps),
+            Proto::V6 => matches!(self.v6, Waiting::Perhaps),
         }
     }
 
@@ -85,33 +67,30 @@ impl Polling {
         let (first, second) = (self.first, other(self.first));
         if self.left == 0 {
             None
-        } else if self.waiting_at(first).may_wait() {
+        } else if self.may_wait_at(first) {
             Some(first)
-        } else if self.waiting_at(second).may_wait() {
+        } else if self.may_wait_at(second) {
             Some(second)
         } else {
             None
         }
     }
 
-    /// A datagram was taken from this socket.
-    pub(crate) fn took(&mut self, proto: Proto)
+    /// This came of a try of this socket.
+    pub(crate) fn tried(&mut self, proto: Proto, attempt: Attempt)
         requires { 0 < self.old.left }
-        ensures { self.new ≡ after_take proto self.old }
+        ensures { self.new ≡ after_attempt proto attempt self.old }
     {
-        self.left -= 1;
-        self.first = other(proto);
-        self.v4 = self.v4.again();
-        self.v6 = self.v6.again();
-    }
-
-    /// None was taken from this socket.
-    pub(crate) fn passed(&mut self, proto: Proto, waiting: Waiting)
-        ensures { self.new ≡ with_waiting proto waiting self.old }
-    {
-        match proto {
-            Proto::V4 => self.v4 = waiting,
-            Proto::V6 => self.v6 = waiting,
+        match (attempt, proto) {
+            (Attempt::Took(..), _) => {
+                self.left -= 1;
+                self.first = other(proto);
+                (self.v4, self.v6) = (self.v4.again(), self.v6.again());
+            }
+            (Attempt::Empty, Proto::V4) => self.v4 = Waiting::No,
+            (Attempt::Empty, Proto::V6) => self.v6 = Waiting::No,
+            (Attempt::Failed, Proto::V4) => self.v4 = Waiting::Lost,
+            (Attempt::Failed, Proto::V6) => self.v6 = Waiting::Lost,
         }
     }
 }

@@ -14,15 +14,16 @@ use Rattle.access.proofs.access.Access.open.Goals as goal
 pub invariant_of-result : goal.invariant_of-result
 invariant_of-result g c =
     let config = c.args.config.now in
-    let topology = c.in_ok-engine.ensures.topology in
-    let bound = c.in-Ok.ensures in (
+    let engine = c.in_ok-engine.ensures.engine in
+    let topology = engine.topology in
+    let bound = c.in-Ok.ensures.bound in (
       bound.circuits ∙ sym (ap (λ (t : Topology). length t.circuits) topology ∙ length-map config.circuits _),
       search rules,
       search rules,
       bound.relays ∙ sym (ap (λ (t : Topology). length t.relays) topology ∙ length-map config.relays _),
       search rules,
-      subst (λ (t : Topology). HasRegions t.circuits c.in_ok-engine.engine.disk.regions) (sym c.in_ok-engine.ensures.served) c.in_ok-engine.ensures.large,
-      subst (λ (h : ℕ). AreBound c.in_ok-engine.engine.relays.topology c.args.port h c.in-Ok.bound.0) (sym (ap (λ (h : HistoryValue). h.id) c.replace.ensures.value ∙ bound.same))
+      subst (λ (t : Topology). HasRegions t.circuits c.in_ok-engine.engine.disk.regions) (sym engine.served) engine.large,
+      subst (λ (h : ℕ). AreBound c.in_ok-engine.engine.relays.topology c.args.port h c.in-Ok.bound.0) (sym (ap (λ (h : HistoryValue). h.id) c.replace.ensures.value ∙ c.in-Ok.ensures.same))
           (subst (λ (t : Topology). AreBound t c.args.port c.args.opening.now.id c.in-Ok.bound.0) (sym topology) bound.bound),
       subst ServesEach (sym topology) (serves_each config),
       search rules,
@@ -35,7 +36,7 @@ invariant_of-result g c =
 pub returns-in-Err-clause-socket : goal.returns-in-Err-clause-socket
 returns-in-Err-clause-socket g c =
     let config = c.args.config.now in
-    let engine = c.in_ok-engine.ensures in
+    let engine = c.in_ok-engine.ensures.engine in
     let regions = subst (HasRegions (parts_of config)) engine.count engine.large in
     let Bound = λ (at : Source). IsSocket config c.args.port at × WasRefused c.args.opening.now.entries c.bind_sockets.new.history.entries at in
     let Socket = λ (at : Source). IsSocket config c.args.port at × HasRegions (parts_of config) c.args.disk.regions × WasRefused c.args.opening.now.entries c.bind_sockets.new.history.entries at in

@@ -6,6 +6,7 @@ use Rattle.access.specs.Access.{AccessValue, HasServed}
 use Rattle.access.specs.Batch.{AreReceived, AreReceivedAgain, AreReplied, HasTried, serving}
 use Rattle.access.specs.Taken.{all_delivered, delivered}
 use Rattle.access.specs.Polling.{IsPolled, deliveries_in}
+use Rattle.access.specs.declared.batch.Batch.{Batch}
 use Rattle.access.specs.contracts.access.Access.{the_view}
 use Rattle.access.proofs.ServedLemmas.{access_kept, all_stays, received_stays}
 use Rattle.access.proofs.access.Access.take_at_server.Goals as goal
@@ -22,7 +23,7 @@ invariant_of-self c =
     let stays = all_stays (all_delivered c.args.now c.poll.new.self.taken) (all_delivered c.args.now c.receive.new.self.taken) c.receive.new.self.answers (length c.receive.new.self.taken) _ _ _
     c.reply.new.counts c.reply.new.history.entries (c.receive.ensures.received inside.counts c.poll.new.history.entries) c.receive_again.ensures.again in
     access_kept inside.relays.topology inside.sockets inside.server c.receive_again.new.server inside.disk.regions c.receive_again.new.disk.regions inside.port inside.batch.most c.receive.new.self.most
-    inside.history.id c.receive_again.new.history.id inside.listen4 inside.listen6 c.self.invariant stays.topology stays.regions (c.receive.ensures.most ∙ c.poll.ensures.most)
+    inside.history.id c.receive_again.new.history.id inside.listen4 inside.listen6 c.self.invariant stays.topology stays.regions (ap (λ (b : Batch). b.most) c.receive.ensures.rest ∙ c.poll.ensures.most)
     (c.receive_again.ensures.same ∙ c.reply.ensures.same ∙ c.poll.ensures.same)
 
 pub returns-clause-served : goal.returns-clause-served
@@ -31,6 +32,7 @@ returns-clause-served c =
     let inside = c.self.inside in
     let polled = c.poll.ensures.taken in
     let entries = polled.entries in
+    let taken = ap (λ (b : Batch). b.taken) c.receive.ensures.rest in
     let datagrams = deliveries_in now entries in
     let items = c.receive.new.self.taken in
     let answers = c.receive.new.self.answers in
@@ -38,11 +40,11 @@ returns-clause-served c =
     let saved = serving c.receive.new.server c.receive.new.disk inside.counts c.poll.new.history.entries in
     let sent = serving c.receive.new.server c.receive.new.disk c.reply.new.counts c.reply.new.history.entries in
     let new = serving c.receive_again.new.server c.receive_again.new.disk c.receive_again.new.counts c.receive_again.new.history.entries in
-    let all : all_delivered now items ≡ datagrams = ap (λ t. all_delivered now t) c.receive.ensures.taken ∙ polled.datagrams now in
+    let all : all_delivered now items ≡ datagrams = ap (λ t. all_delivered now t) taken ∙ polled.datagrams now in
     let many : length items ≡ length datagrams = sym (length-map items (delivered now)) ∙ ap length all in
     let count : c.len.result ≡ length datagrams = c.len.ensures ∙ many in
     let size : length items ≡ c.len.result = sym c.len.ensures in
-    let answered : length answers ≡ length items = c.receive.ensures.count ∙ sym (ap length c.receive.ensures.taken) in
+    let answered : length answers ≡ length items = c.receive.ensures.count ∙ sym (ap length taken) in
     let least : min (length items) (length answers) ≡ c.len.result = omega (arith, answered, size) in
     let received = subst (λ ds. AreReceived ds answers start saved) (polled.datagrams now)
     (subst (λ h. AreReceived (all_delivered now c.poll.new.self.taken) answers (serving inside.server inside.disk inside.counts h) saved) polled.history (c.receive.ensures.received inside.counts c.poll.new.history.entries)) in
@@ -57,7 +59,7 @@ returns-clause-served c =
       saved = saved;
       counts = c.reply.new.counts;
       history = c.reply.new.history.entries;
-      polled = subst (λ next. IsPolled inside.batch.most inside.batch.first next entries) (sym c.receive.ensures.first) polled.polled;
+      polled = subst (λ next. IsPolled inside.batch.most inside.batch.first next entries) (sym (ap (λ (b : Batch). b.first) c.receive.ensures.rest)) polled.polled;
       many = count;
       received = received;
       replied = replied;
@@ -68,7 +70,7 @@ returns-clause-served c =
         regions = stays.regions;
         formats = refl;
         port = refl;
-        batch = c.receive.ensures.most ∙ c.poll.ensures.most;
+        batch = ap (λ (b : Batch). b.most) c.receive.ensures.rest ∙ c.poll.ensures.most;
         turns = refl;
       };
     })

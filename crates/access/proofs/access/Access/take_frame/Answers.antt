@@ -11,6 +11,7 @@ use Rattle.counts.specs.declared.counts.Fate.TheVariants as outcome
 use Rattle.access.proofs.AnswerLemmas.{went}
 use Rattle.access.proofs.CarryLemmas.{carried_idle, carried_taken, idle_attempt}
 use Rattle.access.proofs.UpLemmas.{circuits_own, own_sockets, relays_own, up_answer}
+use Rattle.access.proofs.access.Access.take_frame.Goals.{in-V4, in-V6}
 use Rattle.access.proofs.access.Access.take_frame.Goals as goal
 
 pub take_if_ready-requires : goal.take_if_ready-requires
@@ -70,8 +71,11 @@ returns-clause-carried c =
     let sender = (relays_own topology inside.port inside.history.id inside.sockets c.self.invariant.6 relay (subst (λ n. relay < n) c.self.invariant.3 its_relay) its_relay c.index-from.result.now c.index-from.ensures).1.role in
     let frame = take c.in-Took.len c.take_if_ready.new.buffer in
     let took = subst (λ r. c.take_if_ready.new.history.entries ≡ with_entry (Took r c.in-Took.field-1 frame) inside.history.entries) its c.in-Took.ensures.entries in
-    let to = c.listen-to.ensures ∙ ap (λ (s : AccessValue). listen s.topology proto) (sym c.self.view_is) in
-    let answer = up_answer topology.circuits c.at.result relays.0 proto frame c.up-made.result c.up-made.new.out (subst (λ n. slice_get topology.circuits n ≡ Some relays.0) (sym c.at.ensures) relays.1)
+    let to : c.match-proto.to ≡ listen topology proto = elim c.match-proto.branch [
+      | in-V4 w ↦ w.to-is ∙ c.self.invariant.8 ∙ ap (listen topology) (sym w.in-V4.is)
+      | in-V6 w ↦ w.to-is ∙ c.self.invariant.9 ∙ ap (listen topology) (sym w.in-V6.is)
+    ] in
+    let answer = up_answer topology.circuits c.at-circuit.result relays.0 proto frame c.up-made.result c.up-made.new.out (subst (λ n. slice_get topology.circuits n ≡ Some relays.0) (sym c.at-circuit.ensures) relays.1)
     c.up-made.ensures.ok c.up-made.ensures.err c.up-made.ensures.empty in
     let w = went _ (role.Relay relay) _ (listen topology proto) outcome.Relayed (relayed_up relays.0 proto frame) c.up-made.result _ c.up-made.new.out c.take_if_ready.new.history.entries c.send_on-outcome.new.history.entries c.send_on-outcome.result
     sender to c.as_slice-out.ensures.value answer c.send_on-outcome.ensures.sent in

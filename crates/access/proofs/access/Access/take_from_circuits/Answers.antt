@@ -12,8 +12,8 @@ circuits-init c = record {
   end = search rules;
   few = search rules;
   taken = search rules;
-  same = ap (λ (s : AccessValue). s.topology) c.look.ensures;
-  so_far = subst (λ (s : AccessValue). HasCarried (InOrder (λ k. Both (CircuitSocket c.args.self.now.topology k V4) (CircuitSocket c.args.self.now.topology k V6)) 0) 0 c.args.self.now s) (sym c.look.ensures) (carried_none c.args.self.now _ (refl, refl));
+  same = ap (λ (s : AccessValue). s.topology) c.self.view_is;
+  so_far = subst (λ (s : AccessValue). HasCarried (InOrder (λ k. Both (CircuitSocket c.args.self.now.topology k V4) (CircuitSocket c.args.self.now.topology k V6)) 0) 0 c.args.self.now s) (sym c.self.view_is) (carried_none c.args.self.now _ (refl, refl));
 }
 
 pub circuits-preserved : goal.circuits-preserved

@@ -1,5 +1,5 @@
 use Rattle.std.proofs.Common.{◌≡◌, ◌≤◌, ◌<◌, List, [], ◌∷◌, length, slice_index_or, refl, sym, ap, subst, ◌∙◌, arith, rules}
-use Rattle.types.specs.Delivery.{DeliveryValue}
+use Rattle.types.specs.Delivery.{DeliveryValue, delivery}
 use Rattle.circuit_server.specs.Calls.{IsCalledToSave}
 use Rattle.dispatch.specs.Batch.{IsBatch, batch_saves}
 use Rattle.dispatch.specs.ServerValue.{books_in}
@@ -26,7 +26,8 @@ returns-in-len1-clause-received c = λ counts history.
     let answers = c.receive_batch.new.answers in
     let xs = c.as_slice-taken.result.now in
     let is : c.args.self.now.taken ≡ slice_index_or xs 0 no_datagram ∷ [] = sym c.as_slice-taken.ensures.value ∙ only_one xs c.in-len1.len_at_least c.in-len1.len_below in
-    let same = ap (λ (d : DeliveryValue). d ∷ []) (c.part_of.ensures c.args.now) in
+    let d = slice_index_or xs 0 no_datagram in
+    let same = ap (λ bytes. delivery d.proto d.source c.args.now bytes ∷ []) c.bytes.ensures in
     subst (λ (taken : List Datagram). AreReceived (all_delivered c.args.now taken) answers (serving old c.args.disk.now counts history) (serving new c.receive_batch.new.disk counts history)) (sym is)
     (record {
       batch = subst (λ (ds : List DeliveryValue). IsBatch old.topology ds (has_failed before after) (books_in old) (books_in new) answers) same c.receive_batch.ensures.answers;

@@ -1,6 +1,7 @@
-use Rattle.std.proofs.Common.{◌≡◌, ◌∙◌, ◌+◌, ◌<◌, List, length, sym, subst, rules}
+use Rattle.std.proofs.Common.{◌≡◌, ◌∙◌, ◌+◌, ◌<◌, List, false, length, sym, subst, rules}
 use Rattle.std.specs.Prelude.{slice_index_or}
-use Rattle.lease_disk.specs.FileDisk.{FileDiskValue}
+use Rattle.lease_disk.proofs.Frames.{writes_count}
+use Rattle.lease_disk.specs.FileDisk.{FileDiskValue, device_of}
 use Rattle.dispatch.specs.Answers.{answer_of}
 use Rattle.dispatch.specs.ServerValue.{ServerValue}
 use Rattle.udp.specs.History.{HistoryValue}
@@ -8,8 +9,8 @@ use Rattle.counts.specs.declared.counts.Counts.{Counts}
 use Rattle.access.specs.declared.datagrams.Datagram.{Datagram}
 use Rattle.access.specs.Batch.{AreReceivedAgain, serving}
 use Rattle.access.specs.Taken.{all_delivered, delivered}
-use Rattle.access.proofs.AgainLemmas.{again_more, answered_before, received_again}
-use Rattle.access.proofs.ReplyLemmas.{answer_at, delivered_in, no_datagram}
+use Rattle.access.proofs.AgainLemmas.{again_more, answered_alone, answered_before, received_again}
+use Rattle.access.proofs.ReplyLemmas.{answer_at, delivered_in, no_datagram, servers_role}
 use Rattle.access.proofs.batch.Batch.receive_again.Goals as goal
 use Rattle.access.proofs.batch.Batch.receive_again.Goals.{then-again, else-again}
 
@@ -35,10 +36,16 @@ parts-preserved c =
       | then-again w ↦
           let d = slice_index_or slice index no_datagram in
           let there = delivered_in now items slice index c.as_slice-taken.ensures.value within in
-          let answered = w.receive_alone.ensures.answered in
-          let new = serving w.receive_alone.new.server w.receive_alone.new.disk w.receive_alone.new.counts w.receive_alone.new.history.entries in
+          let made = w.receive-made in
+          let bound = c.requires.bound in
+          let role = servers_role d.proto w.server-socket.result.now c.args.sockets.now.listen4 c.args.sockets.now.listen6 bound.listen4.role bound.listen6.role w.server-socket.ensures.v4 w.server-socket.ensures.v6 in
+          let new = serving made.new.self made.new.disk w.count_at_server.new.counts w.send_on-outcome.new.history.entries in
+          let kept = writes_count false _ (device_of c.parts.disk) (device_of made.new.disk) made.ensures.frame in
+          let answered = answered_alone now d c.parts.server made.new.self c.parts.disk made.new.disk c.parts.counts w.count_at_server.new.counts c.parts.history.entries w.send_on-outcome.new.history.entries made.result w.bytes-bytes.result.now made.new.out
+          w.as_slice-reply.result.now w.server-socket.result.now.role w.send_on-outcome.result w.bytes-bytes.ensures made.ensures.answer made.ensures.books made.ensures.calls made.ensures.topology kept role w.as_slice-reply.ensures.value
+          w.send_on-outcome.ensures.sent w.count_at_server.ensures.counted in
           subst Done (sym (λ i. (w.server-is i, w.disk-is i, w.counts-is i, w.history-is i))) (
-            w.receive_alone.ensures.same ∙ was.same,
+            w.send_on-outcome.ensures.same ∙ was.same,
             answered.stays.topology ∙ was.topology,
             answered.stays.regions ∙ was.regions,
             again_more taken answers index start before new was.again
