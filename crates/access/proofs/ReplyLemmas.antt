@@ -93,14 +93,20 @@ dropped_on socket to answer why history is =
     record { rest = []; history = sym (append-nil history); goes_on = subst (λ made. GoesOn socket to outcome.Answered made [] (outcome.Dropped why)) (sym is) (refl, refl) }
 
 -- what is counted for the circuit
-pub counted_ok : (b : Bool) (circuit : Result ℕ Discard) (answer : Result (List ℕ) Discard) (bytes : List ℕ) (counts : List Counts) → b ≡ false → answer ≡ Ok bytes → counts ≡ counted_answer b circuit answer counts
-counted_ok true circuit answer bytes counts first is = absurd cc
-counted_ok false circuit answer bytes counts first is = subst (λ a. counts ≡ counted_answer false circuit a counts) (sym is) refl
+pub counted_sent : (b : Bool) (circuit : Result ℕ Discard) (socket : Role) (to : Source) (answer : Result (List ℕ) Discard) (rest : List Entry) (became : Fate) (counts : List Counts) → b ≡ false
+    → GoesOn socket to outcome.Answered answer rest became → counted_if_dropped circuit became counts ≡ counted_answer b circuit answer counts
+counted_sent true circuit socket to answer rest became counts first sent = absurd cc
+counted_sent false circuit socket to (Err why) rest became counts first (_, became_is) = ap (λ one. counted_if_dropped circuit one counts) became_is
+counted_sent false circuit socket to (Ok bytes) rest became counts first (accepted, _, became_is) = ap (λ one. counted_if_dropped circuit one counts) became_is ∙ not_dropped circuit accepted where
+  not_dropped : (circuit : Result ℕ Discard) (accepted : Bool) → counted_if_dropped circuit (if accepted then outcome.Answered else outcome.Unsent) counts ≡ counts
+  not_dropped (Ok c) true = refl
+  not_dropped (Ok c) false = refl
+  not_dropped (Err why) true = refl
+  not_dropped (Err why) false = refl
 
-pub counted_dropped : (b : Bool) (circuit : Result ℕ Discard) (answer : Result (List ℕ) Discard) (why : Discard) (counts : List Counts) → b ≡ false → answer ≡ Err why
-    → counted_if_dropped circuit (outcome.Dropped why) counts ≡ counted_answer b circuit answer counts
-counted_dropped true circuit answer why counts first is = absurd cc
-counted_dropped false circuit answer why counts first is = subst (λ a. counted_if_dropped circuit (outcome.Dropped why) counts ≡ counted_answer false circuit a counts) (sym is) refl
+pub counted_later : (b : Bool) (circuit : Result ℕ Discard) (answer : Result (List ℕ) Discard) (counts : List Counts) → b ≡ true → counts ≡ counted_answer b circuit answer counts
+counted_later true circuit answer counts later = refl
+counted_later false circuit answer counts later = absurd cc
 
 counted_at_last : (topology : Topology) (taken : List DeliveryValue) (answers : List (Result (List ℕ) Discard)) (n : ℕ) (d : DeliveryValue) (answer : Result (List ℕ) Discard) (counts : List Counts) → slice_get taken n ≡ Some d → slice_get answers n ≡ Some answer
     → counted_answers topology (take (suc n) taken) (take (suc n) answers) counts ≡ counted_answer (is_repeated answer) (addressee topology d) answer (counted_answers topology (take n taken) (take n answers) counts)

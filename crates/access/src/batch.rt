@@ -1,6 +1,6 @@
 //! The datagrams that the server takes in a turn: received together, and answered one after the other.
 ghost use Rattle.std.specs.Prelude.{◌≡◌, ◌≤◌, ◌+◌, ℕ, List, All, length, map, min, take, Some};
-ghost use Rattle.access.specs.Batch.{AreReceived, AreReceivedAgain, AreReplied, HasTried, IsReplied, counted_answer};
+ghost use Rattle.access.specs.Batch.{AreReceived, AreReceivedAgain, AreReplied, HasTried};
 ghost use Rattle.access.specs.Batch.{counted_answers, counted_if_dropped, is_repeated, serving};
 ghost use Rattle.access.specs.Taken.{AreBoundFor, HasTaken, all_delivered, delivered};
 ghost use Rattle.counts.specs.Counts.{counted};
@@ -11,7 +11,6 @@ ghost use Rattle.requests.specs.Addressee.{addressee};
 ghost use Rattle.sockets.specs.Sockets.{IsBound};
 ghost use Rattle.types.specs.Delivery.{delivery};
 ghost use Rattle.udp.specs.History as entry;
-ghost use Rattle.udp.specs.declared.history.Role.TheVariants as role;
 
 use crate::datagrams::{Datagram, Datagrams};
 use crate::polling::{Polling, Waiting};
@@ -21,7 +20,7 @@ use dispatch::{Answer, BatchAnswers, Server};
 use lease_disk::FileDisk;
 use sockets::Sockets;
 use types::{Delivery, Discard, MAX_BATCH, Moment, Proto, Source};
-use udp::{DatagramSocket, History, Waiter};
+use udp::{History, Waiter};
 use wire::PacketBuf;
 
 /// The datagrams of a turn, and the answers to them. The room for sixteen lies in the value.
@@ -130,11 +129,16 @@ impl Batch {
             let Some(answer) = self.answers.get(index) else {
                 return;
             };
-            let datagram = &taken[index];
-            let socket = sockets.server(datagram.proto);
-            reply_to(
-                datagram, answer, server, socket, counts, by_circuit, history,
-            );
+            let again = is_repeated(answer);
+            if !again {
+                let datagram = &taken[index];
+                let socket = sockets.server(datagram.proto);
+                let outcome = match answer.reply() {
+                    Ok(reply) => Fate::Answered.if_sent(socket.send(reply.as_slice(), datagram.source, history)),
+                    Err(why) => Fate::Dropped(why),
+                };
+                count_at_server(datagram, outcome, server, counts, by_circuit);
+            }
         }
     }
 
@@ -223,40 +227,5 @@ fn count_at_server(
         && let Ok(circuit) = server.addressee(&delivery)
     {
         by_circuit.count_for(circuit.index(), became);
-    }
-}
-
-/// Sends an answer from this socket to where its datagram came from, and counts what became of that, unless it is repeated.
-fn reply_to(
-    datagram: &Datagram,
-    answer: &Answer,
-    server: &Server,
-    socket: &DatagramSocket,
-    counts: &mut Counts,
-    by_circuit: &mut CircuitCounts,
-    history: &mut History,
-)
-    requires fits { datagram.now.len ≤ 1281 }
-    requires history { history.old.id ≡ socket.now.history }
-    ensures same { history.new.id ≡ history.old.id }
-    ensures replied { (now : ℕ) → socket.now.role ≡ role.Server datagram.now.proto
-        → HasTried (IsReplied (is_repeated (answer_of answer.now)) (delivered now datagram.now) (answer_of answer.now))
-        counts.old counts.new history.old.entries history.new.entries }
-    ensures circuit { by_circuit.new.circuits
-        ≡ counted_answer (is_repeated (answer_of answer.now)) (addressee server.now.topology (delivered 0 datagram.now))
-        (answer_of answer.now) by_circuit.old.circuits }
-{
-    if is_repeated(answer) {
-        return;
-    }
-    match answer.reply() {
-        Ok(reply) => {
-            let sent = socket.send(reply.as_slice(), datagram.source, history);
-            counts.count(Fate::Answered.if_sent(sent));
-        }
-        Err(why) => {
-            let dropped = Fate::Dropped(why);
-            count_at_server(datagram, dropped, server, counts, by_circuit);
-        }
     }
 }
