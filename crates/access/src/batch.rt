@@ -134,7 +134,10 @@ impl Batch {
                 let datagram = &taken[index];
                 let socket = sockets.server(datagram.proto);
                 let outcome = match answer.reply() {
-                    Ok(reply) => Fate::Answered.if_sent(socket.send(reply.as_slice(), datagram.source, history)),
+                    Ok(reply) => {
+                        let sent = socket.send(reply.as_slice(), datagram.source, history);
+                        Fate::Answered.if_sent(sent)
+                    }
                     Err(why) => Fate::Dropped(why),
                 };
                 count_at_server(datagram, outcome, server, counts, by_circuit);

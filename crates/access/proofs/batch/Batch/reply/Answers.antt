@@ -45,8 +45,8 @@ parts-preserved c =
           let sent : IsSent (w.match-reply.outcome, w.match-reply.history) = elim w.match-reply.branch [
             | in-Ok u ↦
                 subst IsSent (sym (λ i. (u.outcome-is i, u.history-is i))) (
-                  u.send.ensures.same,
-                  sent_ok socket d.source answer u.in-Ok.reply.now u.as_slice.result.now u.send.result _ _ u.if_sent-outcome.result u.in-Ok.ensures.ok u.as_slice.ensures.value u.send.ensures.entries u.if_sent-outcome.ensures,
+                  u.send-sent.ensures.same,
+                  sent_ok socket d.source answer u.in-Ok.reply.now u.as_slice.result.now u.send-sent.result _ _ u.if_sent-outcome.result u.in-Ok.ensures.ok u.as_slice.ensures.value u.send-sent.ensures.entries u.if_sent-outcome.ensures,
                 )
             | in-Err u ↦
                 subst IsSent (sym (λ i. (u.outcome-is i, u.history-is i))) (refl, dropped_on socket d.source answer u.in-Err.why c.parts.history.entries u.in-Err.ensures.err)
