@@ -30,11 +30,6 @@ impl Model for CircuitPart {
     ghost invariant = { λ p. IsPart (part_of p.circuit p.relay p.listen4 p.listen6 p.duid.items) };
 }
 
-/// For its contract: a link's address has 16 bytes.
-fn has_sixteen_bytes(address: Addr6)
-    ensures { length address.0 ≡ 16 }
-{}
-
 impl CircuitPart {
     /// The part of a circuit of the configuration.
     pub fn of(config: &Config, circuit: Circuit) -> CircuitPart
@@ -46,7 +41,7 @@ impl CircuitPart {
         let relay = config.relay(values.relay);
         let server = config.server();
         prove!(!values.gateway4.is_unspecified());
-        has_sixteen_bytes(values.link6);
+        types::laws::has_sixteen_bytes(values.link6);
         CircuitPart {
             circuit: values.copy(),
             relay: relay.source,

@@ -1,6 +1,6 @@
 //! Laws of the definitions alone: all circuits together do what each does alone, and a server can read
 //! what a relay sends.
-ghost use Rattle.std.specs.Prelude.{◌≡◌, ◌≢◌, ℕ, List, [], ◌∷◌, take, drop, Some, Ok, true, slice_get};
+ghost use Rattle.std.specs.Prelude.{◌≡◌, ◌≢◌, ◌<◌, ℕ, List, [], ◌∷◌, take, drop, Some, Ok, true, length, slice_get};
 ghost use Rattle.types.specs.declared.addr.Source.{Source};
 ghost use Rattle.types.specs.declared.dest.Proto.{Proto};
 ghost use Rattle.types.specs.declared.dest.Proto.TheVariants.{V4, V6};
@@ -16,6 +16,9 @@ ghost use Rattle.v6_message.specs.RelayReading.{relay_of};
 ghost use Rattle.relay.specs.Up6.{relay_forward, relayed_up6};
 ghost use Rattle.relay.specs.Down4.{is_named};
 ghost use Rattle.relay.specs.Relays.{CircuitFrame, for_circuit, proto_of, relayed_down, relayed_down_in};
+
+use crate::relays::Relays;
+use types::Circuit;
 
 /// A frame for a circuit is the one that the circuit's own part makes of the datagram, in the protocol
 /// that the source decides.
@@ -76,4 +79,12 @@ pub fn forward_is_read()
         → look_up RELAY_MESSAGE (relay_forward part peer message).options ≡ Some message }
 {
     v6_message::laws::written_relay_is_read();
+}
+
+/// Each circuit has its counter.
+pub fn has_counter(relays: &Relays, circuit: Circuit)
+    requires { circuit < length relays.now.topology.circuits }
+    ensures { circuit < length relays.now.discarded }
+{
+    let _ = relays.discarded(circuit);
 }

@@ -4,10 +4,9 @@
 
 mod cursor;
 mod framed_buf;
-mod numbers;
+pub mod laws;
 mod packet_buf;
 
 pub use cursor::{Cursor, Short};
 pub use framed_buf::FramedBuf;
-pub use numbers::{bytes_again, number_again};
 pub use packet_buf::{Full, PacketBuf};

@@ -2,12 +2,11 @@
 //! circuit.
 #![tactic(auto)]
 
-mod addressed;
+pub mod laws;
 mod machine;
 mod sink;
 mod world;
 
-pub use addressed::{comes_to_its_circuit, reply_comes_to_its_circuit};
 pub use dispatch::OpenFault;
 pub use events::{BatchPart, Event, Outcome, PartOutcome};
 pub use machine::{Machine, run};

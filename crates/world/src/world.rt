@@ -19,11 +19,10 @@ ghost use Rattle.world.specs.Start.{Starts};
 ghost use Rattle.events.specs.Stray.{stray_outcome, stray_down_outcome, stray_up_outcome};
 ghost use Rattle.world.specs.StepsAs.{AllMove, IsWorld, Moves, turns_off};
 ghost use Rattle.world.specs.World.{states};
-ghost use Rattle.wire.specs.Bytes.{AreBytes};
 
 mod batch;
 
-use crate::addressed::{comes_to_its_circuit, reply_comes_to_its_circuit};
+use crate::laws;
 use crate::machine::{Machine, run};
 use crate::sink::Sink;
 use config::{Config, Plans};
@@ -66,19 +65,6 @@ fn gone(out: &mut PacketBuf) -> Outcome
 {
     out.clear();
     Outcome::Gone
-}
-
-/// For its contract: what a slice of bytes holds are bytes.
-fn are_bytes(bytes: &[u8])
-    ensures { AreBytes bytes.now }
-{}
-
-/// For its contract: each circuit has its counter.
-fn has_counter(relays: &Relays, circuit: Circuit)
-    requires { circuit < length relays.now.topology.circuits }
-    ensures { circuit < length relays.now.discarded }
-{
-    let _ = relays.discarded(circuit);
 }
 
 /// Each circuit's region becomes what its image says, and the call of the disk that fails in its move is set.
@@ -275,8 +261,8 @@ impl World {
         ensures topology { self.new.relays.topology ≡ self.old.relays.topology }
         ensures disk { self.new.disk ≡ self.old.disk }
     {
-        comes_to_its_circuit();
-        has_counter(&self.relays, circuit);
+        laws::comes_to_its_circuit();
+        relay::laws::has_counter(&self.relays, circuit);
         if !self.relays.serves(circuit) {
             return gone(out);
         }
@@ -305,7 +291,7 @@ impl World {
         ensures topology { self.new.relays.topology ≡ self.old.relays.topology }
         ensures others { KeepsOthers self.old.relays.topology.circuits (device_of self.old.disk) (device_of self.new.disk) }
     {
-        reply_comes_to_its_circuit();
+        laws::reply_comes_to_its_circuit();
         if !self.relays.serves(circuit) {
             return gone(out);
         }
@@ -315,7 +301,7 @@ impl World {
         let Some((proto, datagram)) = self.net.deliver(circuit, Dir::Up, number) else {
             return Outcome::Gone;
         };
-        are_bytes(datagram);
+        wire::laws::are_bytes(datagram);
         self.disk.fail_at(region, fault);
         let result = self
             .server

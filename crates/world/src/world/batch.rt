@@ -73,7 +73,7 @@ fn waiting_of(
     let Some((proto, datagram)) = net.deliver(circuit, Dir::Up, part.number) else {
         return None;
     };
-    super::are_bytes(datagram);
+    wire::laws::are_bytes(datagram);
     let its = server.part(circuit);
     Some(Waiting {
         circuit,
@@ -280,7 +280,7 @@ impl World {
         ensures others { KeepsOthers self.old.relays.topology.circuits (device_of self.old.disk) (device_of self.new.disk) }
     {
         batch_saves::laws::meets_each_fault();
-        super::reply_comes_to_its_circuit();
+        crate::laws::reply_comes_to_its_circuit();
         out.clear();
         if !is_batch(parts) {
             return Outcome::NotABatch;

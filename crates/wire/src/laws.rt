@@ -1,7 +1,12 @@
-//! Big-endian numbers: what is written reads back.
+//! What holds of bytes and of big-endian numbers: functions that do nothing, for their contracts.
 ghost use Rattle.std.specs.Prelude.{◌≡◌, ◌^◌, ◌<◌, ℕ, List, ◌++◌, length};
 ghost use Rattle.std.specs.Int.{w16, w32, w64, from_be_bytes, to_be_bytes};
 ghost use Rattle.wire.specs.Bytes.{AreBytes};
+
+/// What a slice of bytes holds are bytes.
+pub fn are_bytes(bytes: &[u8])
+    ensures { AreBytes bytes.now }
+{}
 
 /// A number's bytes read as that number, whatever follows them.
 pub fn number_again()

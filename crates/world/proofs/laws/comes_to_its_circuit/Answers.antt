@@ -1,5 +1,5 @@
 use Rattle.world.proofs.AddressedLemmas.{relayed_is_addressed}
-use Rattle.world.proofs.addressed.comes_to_its_circuit.Goals as goal
+use Rattle.world.proofs.laws.comes_to_its_circuit.Goals as goal
 
 pub returns : goal.returns
 returns x topology c part proto now frame datagram there served alone known sound fits sent =

@@ -1,4 +1,4 @@
-//! Where what is sent arrives, among any circuits and relays.
+//! Where what is sent arrives, among any circuits and relays: functions that do nothing, for their contracts.
 ghost use Rattle.std.specs.Prelude.{◌≡◌, ◌≢◌, ℕ, List, Some, Ok, true, slice_get};
 ghost use Rattle.types.specs.Delivery.{DeliveryValue, delivery};
 ghost use Rattle.types.specs.declared.dest.Proto.{Proto};

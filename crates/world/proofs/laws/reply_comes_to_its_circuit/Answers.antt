@@ -19,7 +19,7 @@ use Rattle.relay.specs.Relays.{for_circuit, relayed_down, relayed_down_in}
 use Rattle.replies.specs.Reply4.{reply_message, yiaddr_in}
 use Rattle.replies.specs.Reply6.{relay_reply}
 use Rattle.world.proofs.ReturnLemmas.{is_of, is_reply, bears}
-use Rattle.world.proofs.addressed.reply_comes_to_its_circuit.Goals as goal
+use Rattle.world.proofs.laws.reply_comes_to_its_circuit.Goals as goal
 
 whole : (x : goal.After-exact_reading) (part : CircuitPart) (b : Book) (request : Request4) (reply : Reply4) → (answer4 (pool4_of part) b.clock b.four request).answer ≡ Ok reply → length (yiaddr_in reply) ≡ 4
 whole x part b request (Offer address) is = x.gives_whole_addresses.ensures.offered (pool4_of part) b.clock b.four request address is

@@ -1,5 +1,5 @@
 use Rattle.std.proofs.lemmas.Option.{slice_get_within}
-use Rattle.world.proofs.world.has_counter.Goals as goal
+use Rattle.relay.proofs.laws.has_counter.Goals as goal
 
 pub returns : goal.returns
 returns c = slice_get_within c.args.relays.now.discarded c.args.circuit c.discarded.result c.discarded.ensures
