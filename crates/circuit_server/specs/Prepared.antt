@@ -47,8 +47,8 @@ pub record IsApplied (part : CircuitPart) (decision : CircuitDecision) (before :
   pub means : (kept : ℕ × Content) → kept_in decision ≡ Some kept → book_in part (kept_slots after) ≡ kept_book (open_book after)
 
 -- The device is ready for the save of whatever a decision of this circuit calls for.
-abbrev pub CanSave : Bool → Device → CircuitPart → CircuitDecision → Option OpenCircuitValue → Type 0
-CanSave tells device part decision old =
+abbrev pub CanSaveDecision : Bool → Device → CircuitPart → CircuitDecision → Option OpenCircuitValue → Type 0
+CanSaveDecision tells device part decision old =
     (new : Option OpenCircuitValue) (saving : Option Saving) → HasPools part new → ((before : OpenCircuitValue) → old ≡ Some before → IsApplied part decision before new saving) → IfSome saving (IsReady tells device)
 
 -- An open circuit decided on a datagram: its books have the decision's changes, and this is to be saved.

@@ -7,7 +7,7 @@ ghost use Rattle.circuit_server.specs.Restarted.{IsRestarted};
 ghost use Rattle.circuit_server.specs.Served.{IsServed};
 ghost use Rattle.timers.specs.Deadlines.{DeadlinesValue, deadline};
 ghost use Rattle.requests.specs.RelayedMessage.{IsRelayedMessage};
-ghost use Rattle.circuit_server.specs.Prepared.{CanSave, IsApplied, IsAppliedAndSaved, IsDecided, IsDropped, IsPrepared};
+ghost use Rattle.circuit_server.specs.Prepared.{CanSaveDecision, IsApplied, IsAppliedAndSaved, IsDecided, IsDropped, IsPrepared};
 ghost use Rattle.circuit_server.specs.Prepared.{IsDecisionSettled, IsSettled, with_marks};
 ghost use Rattle.circuit_server.specs.CircuitDecision.{FitsCircuit, with_decision};
 ghost use Rattle.circuit_server.specs.CircuitServerValue.{HasPools, IsReadyFor, OpenCircuitValue, kept_slots, open_book};
@@ -168,7 +168,7 @@ impl CircuitServer {
         requires entries { HasEntries table.old circuit self.old }
         requires pools { HasPools part.now self.old }
         requires fits { IfSome self.old (FitsCircuit (C.decision decision.now)) }
-        requires ready { CanSave D.tells (D.device disk.old) part.now (C.decision decision.now) self.old }
+        requires ready { CanSaveDecision D.tells (D.device disk.old) part.now (C.decision decision.now) self.old }
         ensures later { (moment : ℕ) → IsLater moment self.old → IsLater moment self.new }
         ensures pools { HasPools part.now self.new }
         ensures entries { KeepsEntries circuit table.old table.new self.new }
