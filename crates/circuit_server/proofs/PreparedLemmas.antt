@@ -277,9 +277,6 @@ was_ticked {seen} {d} {old} {before} {now} same was at later book ready = record
 }
 
 module _ {d : DeliveryValue} {old : Option OpenCircuitValue} {before now : OpenCircuitValue} (ticked : WasTicked d old before now) where
-  pub later_now : (moment : ℕ) → IsLater moment old → IsLater moment (Some now)
-  later_now moment later = let was : moment ≤ before.clock = subst (IsLater moment) ticked.was later in omega (arith, was, ticked.later)
-
   pub pools_now : (part : CircuitPart) → HasPools part old → HasPools part (Some now)
   pools_now part pools = subst (λ (o : OpenCircuitValue). HasPools part (Some o)) (sym ticked.at) (subst (HasPools part) ticked.was pools)
 

@@ -5,7 +5,7 @@ ghost use Rattle.config.specs.CircuitPart.{IsPart};
 ghost use Rattle.circuit_server.specs.Deadlines.{HasEntries, KeepsEntries, held_in};
 ghost use Rattle.circuit_server.specs.Restarted.{IsRestarted};
 ghost use Rattle.circuit_server.specs.Served.{IsServed};
-ghost use Rattle.timers.specs.Deadlines.{DeadlinesValue, deadline};
+ghost use Rattle.timers.specs.Deadlines.{deadline};
 ghost use Rattle.requests.specs.RelayedMessage.{IsRelayedMessage};
 ghost use Rattle.circuit_server.specs.Prepared.{CanSaveDecision, IsApplied, IsAppliedAndSaved, IsDropped, IsPrepared};
 ghost use Rattle.circuit_server.specs.Prepared.{IsDecisionSettled, IsSettled, with_marks};
