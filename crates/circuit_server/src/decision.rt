@@ -107,7 +107,7 @@ impl<'a> Decide for CircuitDecision4<'a> {
 
     ghost relayed = { λ message. relayed_message.V4 message };
 
-    // inlined, as is all that hands the decision on: to move it three times takes longer than to decide
+    // inlined: to move what was decided takes longer than to decide
     #[inline(always)]
     fn decide(
         circuit: &OpenCircuit,
