@@ -14,8 +14,8 @@ use Rattle.batch_saves.specs.Batch.{first_of, shared_fault}
 use Rattle.config.specs.CircuitPart.{CircuitPart}
 use Rattle.config.specs.Topology.{Topology}
 use Rattle.requests.specs.Addressee.{addressee}
-use Rattle.circuit_server.specs.Answered.{IsAnswer, circuit_saves, fails_at}
-use Rattle.circuit_server.specs.Calls.{IsCalledToSave, IsCalledToSaveAt}
+use Rattle.circuit_server.specs.Answered.{circuit_saves, fails_at}
+use Rattle.circuit_server.specs.Calls.{IsCalledToSave}
 use Rattle.circuit_server.specs.CircuitServerValue.{CircuitServerValue, server_book, leases_of}
 use Rattle.circuit_server.specs.Leases.{Leases, after_datagram, after_saving, kept, served_leases}
 use Rattle.circuit_server.specs.Server.{Book, Served, served}
@@ -25,7 +25,7 @@ use Rattle.dispatch.specs.OneByOne.{AreOfOthers}
 use Rattle.dispatch.specs.Parts.{IsReceivedBatch}
 use Rattle.dispatch.specs.ReceivedAlone.{IsReceived}
 use Rattle.dispatch.specs.Received.{addressee_leases, addressee_saves, leases_with, received, received_leases, received_saves}
-use Rattle.dispatch.specs.ServerValue.{AreReady, ServerValue, books_in, circuits_in, leases_in}
+use Rattle.dispatch.specs.ServerValue.{ServerValue, books_in, circuits_in, leases_in}
 use Rattle.dispatch.proofs.BatchLemmas.{answer_is}
 use Rattle.dispatch.proofs.OneByOne.{batch_back, set_elsewhere}
 use Rattle.dispatch.proofs.PartLemmas.{not_both, same_number}

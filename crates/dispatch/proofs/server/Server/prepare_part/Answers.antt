@@ -1,5 +1,5 @@
-use Rattle.std.proofs.Common.{inr, ◌≡◌, ◌∙◌, ◌<◌, ◌==◌, ℕ, List, false, Ok, map, set, sym, ap, subst}
-use Rattle.std.specs.Prelude.{IfOk, Option, Result, Some}
+use Rattle.std.proofs.Common.{inr, ◌≡◌, ◌∙◌, ℕ, List, false, Ok, map, set, sym, ap, subst}
+use Rattle.std.specs.Prelude.{IfOk, Option, Result}
 use Rattle.types.specs.Delivery.{DeliveryValue}
 use Rattle.types.specs.declared.discard.Discard.{Discard}
 use Rattle.config.specs.Topology.{Topology}

@@ -1,9 +1,9 @@
-use Rattle.std.proofs.Common.{inl, Bor, ◌≡◌, ◌+◌, ◌<◌, ◌||◌, ◌∙◌, ◌++◌, ◌∷◌, ℕ, List, [], length, map, take, refl, sym, ap, subst, arith}
+use Rattle.std.proofs.Common.{inl, Bor, ◌≡◌, ◌+◌, ◌<◌, ◌||◌, ◌∙◌, ◌++◌, ℕ, List, [], length, take, refl, sym, ap, subst, arith}
 use Rattle.std.specs.Prelude.{Option, Result, Some, option_map, slice_get}
 use Rattle.std.specs.List.{cons_option, list_any}
 use Rattle.std.proofs.lemmas.List.{length-map, take_all}
 use Rattle.std.proofs.lemmas.Option.{slice_get-get_or, slice_get-map}
-use Rattle.types.specs.Delivery.{DeliveryValue, delivery}
+use Rattle.types.specs.Delivery.{delivery}
 use Rattle.types.specs.declared.addr.Source.{Source}
 use Rattle.types.specs.declared.dest.Proto.{Proto}
 use Rattle.types.specs.declared.discard.Discard.{Discard}
