@@ -27,7 +27,7 @@ use Rattle.world.proofs.SetupLemmas.{its_part, setup_at}
 use Rattle.lab_text.specs.declared.parse_line.Preparation.{Preparation}
 use Rattle.streams.specs.declared.line.LineEnd.{LineEnd}
 use Rattle.streams.specs.declared.line.LineEnd.TheVariants.{Newline, EndOfInput, TooLong}
-use Rattle.lab_engine.specs.Preparations.{IsReady, IsReadyFor, AreReady, AreWithin, IsOpening, AreOver, ArePrepared, PreparedSoFar, StaysReady}
+use Rattle.lab_engine.specs.Preparations.{IsReady, IsDiskReadyFor, AreReady, AreWithin, IsOpening, AreOver, ArePrepared, PreparedSoFar, StaysReady}
 use Rattle.lab_engine.specs.Next.{IsHeld}
 use Rattle.lab_engine.specs.Progress.{AllRepresent, SoFar}
 use Rattle.lab_engine.specs.declared.buffers.Buffers.{Buffers}
@@ -80,7 +80,7 @@ pub ready_twice : (old between new : ModelDiskValue) → StaysReady old between 
 ready_twice old between new first second = record { regions = second.regions ∙ first.regions; ready = second.ready }
 
 -- it is ready for the same circuits
-pub ready_for : (settings : Settings) (old new : ModelDiskValue) → AreWithin settings (length old.regions) → StaysReady old new → IsReadyFor settings new
+pub ready_for : (settings : Settings) (old new : ModelDiskValue) → AreWithin settings (length old.regions) → StaysReady old new → IsDiskReadyFor settings new
 ready_for settings old new within stays = record { regions = subst (AreWithin settings) (sym stays.regions) within; ready = stays.ready }
 
 -- the line that was read, which was not parsed

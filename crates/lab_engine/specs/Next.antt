@@ -17,7 +17,7 @@ pub record IsHeld (plans : PlansValue) (buffers : Buffers) (bytes : List ℕ) (e
   pub parsed : IfSome known (IsParsedIn plans buffers (take (len_of end) bytes))
 
 -- This is the next line, where this is left to read. Fewer than 2^64 - 1 bytes were read, each earlier line and what is held among them.
-pub record IsNext (plans : PlansValue) (buffers : Buffers) (ahead : ReadAhead) (left : Option (List ℕ)) (next : NextLine) : Type 0 where
+pub record IsNextLine (plans : PlansValue) (buffers : Buffers) (ahead : ReadAhead) (left : Option (List ℕ)) (next : NextLine) : Type 0 where
   pub end : IsLineEnd (held ahead) left next.end
   pub line : IsHeld plans buffers (held ahead) next.end next.parsed
   pub lines : next.earlier + length (held ahead) ≤ ahead.count

@@ -26,7 +26,7 @@ abbrev pub AreWithin : Settings → ℕ → Type 0
 AreWithin settings count = (c : ℕ) (circuit : CircuitConfig) → slice_get settings.circuits c ≡ Some circuit → circuit.region < count
 
 -- Each circuit's region is one of the disk's, which are all ready.
-pub record IsReadyFor (settings : Settings) (disk : ModelDiskValue) : Type 0 where
+pub record IsDiskReadyFor (settings : Settings) (disk : ModelDiskValue) : Type 0 where
   pub regions : AreWithin settings (length disk.regions)
   pub ready : AreReady (length disk.regions) (disk_region disk)
 
@@ -36,7 +36,7 @@ pub record StaysReady (old new : ModelDiskValue) : Type 0 where
   pub ready : AreReady (length new.regions) (disk_region new)
 
 -- Every region was just formatted, and no call fails.
-pub record IsFormatted (disk : ModelDiskValue) : Type 0 where
+pub record IsDiskFormatted (disk : ModelDiskValue) : Type 0 where
   pub formatted : (q : ℕ) → q < length disk.regions → disk_region disk q ≡ formatted_region
   pub sound : (q : ℕ) → q < length disk.regions → failing_call_of disk q ≡ 0
 

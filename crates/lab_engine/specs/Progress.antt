@@ -58,7 +58,7 @@ abbrev pub IsParsedIn : PlansValue → Buffers → List ℕ → Parsed → Type 
 IsParsedIn plans buffers line parsed = IsParsed plans buffers.bytes buffers.comebacks buffers.parts line parsed
 
 -- A line was applied, and its output was written.
-pub record IsApplied (plans : PlansValue) (quota : ℕ) (written : List ℕ) (machines : ℕ → Alone) (states : List CircuitState) (held holds : Option (List ℕ)) : Type 0 where
+pub record IsLineApplied (plans : PlansValue) (quota : ℕ) (written : List ℕ) (machines : ℕ → Alone) (states : List CircuitState) (held holds : Option (List ℕ)) : Type 0 where
   pub appended : Appends held holds written
   pub represents : AllRepresent plans quota states machines
 
@@ -70,7 +70,7 @@ IsRefusal number held holds status =
 -- World and writer follow the result of a line: the run goes on where no status is returned, and else
 -- it ends.
 abbrev pub HasResult : PlansValue → ℕ → ℕ → LineResult → List CircuitState → Option (List ℕ) → Option (List ℕ) → Option ℕ → Type 0
-HasResult plans quota number (Applied written machines) states held holds None = IsApplied plans quota written machines states held holds
+HasResult plans quota number (Applied written machines) states held holds None = IsLineApplied plans quota written machines states held holds
 HasResult plans quota number (Applied written machines) states held holds (Some status) = (status ≡ 6) × AppendsPrefix held holds written
 HasResult plans quota number Refused states held holds None = ⊥
 HasResult plans quota number Refused states held holds (Some status) = IsRefusal number held holds status

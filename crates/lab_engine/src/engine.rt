@@ -4,7 +4,7 @@ ghost use Rattle.std.specs.Io.KnownBytes.{Appends, prepend_known};
 ghost use Rattle.world.specs.Alone.{Alone};
 ghost use Rattle.lab_engine.specs.Lab.{Output, events_output};
 ghost use Rattle.lab_engine.specs.Progress.{AllRepresent, Ends, KnowsPlans, SoFar};
-ghost use Rattle.lab_engine.specs.Next.{IsNext};
+ghost use Rattle.lab_engine.specs.Next.{IsNextLine};
 ghost use Rattle.streams.specs.LineEnd.{Fits, IsCounted};
 ghost use Rattle.streams.specs.ReadAhead.{held};
 ghost use Rattle.lab_engine.specs.Run.{IsPartial, IsStatus, HasCause, HasNoCause};
@@ -27,7 +27,7 @@ pub(crate) fn apply_lines<M: Machine, R: ByteReader, W: ByteWriter>(
     reader: &mut R,
     writer: &mut W,
 ) -> u8
-    requires next { IsNext plans.now buffers.old ahead.old (R.remaining reader.old) next }
+    requires next { IsNextLine plans.now buffers.old ahead.old (R.remaining reader.old) next }
     ensures ends { (quota : ℕ) (output : List ℕ → Output) (given holds : Option (List ℕ))
         → SoFar plans.now quota (next.earlier + 1) output given
         (prepend_known (held ahead.old) (R.remaining reader.old)) holds (W.contents writer.old)

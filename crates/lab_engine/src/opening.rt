@@ -5,7 +5,7 @@ ghost use Rattle.dispatch.specs.declared.server.OpenFault.TheVariants as fault;
 ghost use Rattle.lab_engine.specs.Lab.{first_machines, lab_output};
 ghost use Rattle.lab_engine.specs.Run.{IsPartial, IsStatus, HasCause, HasNoCause};
 ghost use Rattle.config.specs.Topology.{plans_topology};
-ghost use Rattle.lab_engine.specs.Preparations.{AreOver, IsReadyFor};
+ghost use Rattle.lab_engine.specs.Preparations.{AreOver, IsDiskReadyFor};
 ghost use Rattle.lab_engine.specs.Progress.{AllRepresent};
 ghost use Rattle.lease_disk.specs.Model.{device_of};
 ghost use Rattle.world.specs.Start.{Opening};
@@ -27,7 +27,7 @@ use world::{OpenFault, World};
 fn opened(alloc: Global, plans: &Plans, disk: ModelDisk, quota: u16) -> Result<World, OpenFault>
     requires some { 1 ≤ quota }
     requires most { quota ≤ 256 }
-    requires disk { IsReadyFor plans.now.union disk }
+    requires disk { IsDiskReadyFor plans.now.union disk }
     ensures represents { IfOk result (λ world. (openings : ℕ → Opening)
         → AreOver plans.now quota (device_of disk) openings
         → AllRepresent plans.now quota (states world) (first_machines plans.now quota openings)) }

@@ -8,8 +8,9 @@ ghost use Rattle.lease_disk.specs.Model.{device_of, failing_call_of, disk_region
 ghost use Rattle.world.specs.Start.{Opening};
 ghost use Rattle.lab_engine.specs.Progress.{IsParsedIn};
 ghost use Rattle.lab_engine.specs.Lab.{prepared};
-ghost use Rattle.lab_engine.specs.Next.{IsHeld, IsNext};
-ghost use Rattle.lab_engine.specs.Preparations.{AreOver, ArePrepared, AreWithin, IsFormatted, IsReadyFor, PreparedSoFar, StaysReady};
+ghost use Rattle.lab_engine.specs.Next.{IsHeld, IsNextLine};
+ghost use Rattle.lab_engine.specs.Preparations.{AreOver, ArePrepared, AreWithin, IsDiskFormatted, IsDiskReadyFor};
+ghost use Rattle.lab_engine.specs.Preparations.{PreparedSoFar, StaysReady};
 ghost use Rattle.lab_text.specs.Line.{line_of_text};
 ghost use Rattle.streams.specs.LineEnd.{Fits, HoldsLast, IsCounted, IsLineEnd};
 ghost use Rattle.lab_text.specs.ParsedLine.{IsPreparationWithin, line_of_preparation};
@@ -45,7 +46,7 @@ fn prepare_region(
     bytes: &[u8; MAX_BYTES],
 )
     requires named { IsPreparationWithin plans.now.union preparation }
-    requires disk { IsReadyFor plans.now.union disk.old }
+    requires disk { IsDiskReadyFor plans.now.union disk.old }
     ensures prepared { (quota : ℕ) (openings : ℕ → Opening) → AreOver plans.now quota (device_of disk.old) openings
         → ArePrepared plans.now quota (device_of disk.new) (prepared (line_of_preparation preparation bytes.now) openings) }
     ensures disk { StaysReady disk.old disk.new }
@@ -78,7 +79,7 @@ fn prepare(
     buffers: &mut Buffers,
 ) -> Option<Parsed>
     requires short { length line.now ≤ 8192 }
-    requires disk { IsReadyFor plans.now.union disk.old }
+    requires disk { IsDiskReadyFor plans.now.union disk.old }
     ensures event { IfSome result (λ _. (openings : ℕ → Opening)
         → prepared (line_of_text plans.now.union plans.now.count line.now) openings ≡ None) }
     ensures parsed { IfSome result (IsParsedIn plans.now buffers.new line.now) }
@@ -111,7 +112,7 @@ fn prepare_last(
 ) -> (LineEnd, Option<Parsed>)
     requires short { len ≤ 8192 }
     requires inside { len ≤ length (held ahead.old) }
-    requires disk { IsReadyFor plans.now.union disk.old }
+    requires disk { IsDiskReadyFor plans.now.union disk.old }
     ensures prepared { (quota number : ℕ) (given left : Option (List ℕ)) → HoldsLast (held ahead.old) left len
         → PreparedSoFar plans.now quota number false given (prepend_known (held ahead.old) left) (device_of disk.old)
         (λ rest. ⊤)
@@ -141,14 +142,14 @@ pub(crate) fn prepare_all<R: ByteReader>(
     reader: &mut R,
 ) -> Result<NextLine, Failed>
     requires regions { AreWithin plans.now.union (length disk.old.regions) }
-    requires formatted { IsFormatted disk.old }
+    requires formatted { IsDiskFormatted disk.old }
     requires held { held ahead.old ≡ [] }
     requires count { ahead.old.count ≡ 0 }
     ensures prepared { IfOk result (λ next. (quota : ℕ)
         → PreparedSoFar plans.now quota (next.earlier + 1) true (R.remaining reader.old)
         (prepend_known (held ahead.new) (R.remaining reader.new)) (device_of disk.new)
         (Fits (held ahead.new) next.end)) }
-    ensures next { IfOk result (IsNext plans.now buffers.new ahead.new (R.remaining reader.new)) }
+    ensures next { IfOk result (IsNextLine plans.now buffers.new ahead.new (R.remaining reader.new)) }
     ensures disk { StaysReady disk.old disk.new }
     ensures counted { IsCounted (R.remaining reader.old) (R.remaining reader.new) 0 ahead.new.count }
     ensures quiet { OnOk result (R.failures reader.new ≡ R.failures reader.old) }

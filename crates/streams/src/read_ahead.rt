@@ -43,7 +43,7 @@ fn read_between<R: ByteReader>(
 }
 
 impl ReadAhead {
-    ghost use Rattle.streams.specs.ReadAhead.{IsFilled, held};
+    ghost use Rattle.streams.specs.ReadAhead.{IsReadAheadFilled, held};
 
     /// Nothing was read yet.
     pub fn new() -> ReadAhead
@@ -100,7 +100,7 @@ impl ReadAhead {
         ensures kept { Keeps (prepend_known (held self.old) (R.remaining reader.old))
             (prepend_known (held self.new) (R.remaining reader.new)) }
         ensures grown { length (held self.old) + self.new.count ≡ length (held self.new) + self.old.count }
-        ensures filled { IfOk result (IsFilled self.old self.new (R.remaining reader.new)) }
+        ensures filled { IfOk result (IsReadAheadFilled self.old self.new (R.remaining reader.new)) }
         ensures counted { IsCounted (R.remaining reader.old) (R.remaining reader.new) self.old.count self.new.count }
         ensures below { OnOk result (self.new.count < 18446744073709551615) }
         ensures quiet { OnOk result (R.failures reader.new ≡ R.failures reader.old) }
