@@ -27,19 +27,9 @@ pub struct Saving {
 }
 
 impl Saving {
-    /// What came of a save together with others.
-    pub fn outcome(&self) -> Result<(), Fault>
-        ensures { is_ok result ≡ (self.now.failed == 0) }
-    {
-        if self.failed != 0 {
-            return Err(Fault);
-        }
-        Ok(())
-    }
-
     /// Saves the slot alone, by six calls of the device, and makes none after one that fails. After Ok the mark of the slot is
-    /// turned. After an error the region is not written to again until a crash has settled what is in doubt. Which call failed
-    /// is not noted.
+    /// turned. After an error the region is not written to again until a crash has settled what is in doubt. `failed`
+    /// stays as it is: that it failed is said by the error.
     pub fn save<D: Disk>(&mut self, disk: &mut D) -> Result<(), Fault>
         requires { CanSave D.tells (D.device disk.old) self.old }
         ensures part { self.new ≡ record self.old { marks = self.new.marks } }

@@ -78,7 +78,9 @@ impl Savings {
             return Ok(None);
         }
         let saving = self.get(place);
-        saving.outcome()?;
+        if saving.failed != 0 {
+            return Err(Fault);
+        }
         Ok(Some(saving.marks))
     }
 
